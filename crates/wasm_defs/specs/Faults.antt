@@ -1,0 +1,152 @@
+-- The faults of a module, and its verdict.
+use Rattle.std.specs.Prelude.{◌≡◌, ◌<◌, ◌≤◌, ◌⊎◌, ℕ, suc, ◌+◌, List, [], ◌∷◌, ◌++◌, length, map, Bool, Option, None, Some, if◌then◌else◌}
+use Rattle.wasm_defs.specs.declared.fault.Kind.{Kind}
+use Rattle.wasm_defs.specs.declared.fault.Kind.TheVariants.{Malformed, Unsupported, Limit, Invalid, Ended}
+use Rattle.wasm_defs.specs.declared.fault.Refusal.{Refusal}
+use Rattle.wasm_defs.specs.declared.item.Item.{Item}
+use Rattle.wasm_defs.specs.declared.token.Token.{Token}
+use Rattle.wasm_defs.specs.Outside.{Part, Section, Listed, Coded, Body, Ending, Whole, Refused, Owed, module_run}
+use Rattle.wasm_defs.specs.Bodies.{BodyRead, body_read}
+use Rattle.wasm_defs.specs.Context.{context_of, import_count, body_context, type_of_function}
+use Rattle.wasm_defs.specs.Supported.{is_compiled_section, is_compiled_opcode}
+use Rattle.wasm_defs.specs.Trees.{Seq, Tree}
+use Rattle.wasm_defs.specs.Typing.{Context, IsBody}
+use Rattle.wasm_defs.specs.Viable.{IsViable, IsFaulty}
+
+-- ---- the order of faults: by the place, and at one place by the kind
+
+abbrev pub rank : Kind → ℕ
+rank Malformed = 0
+rank Unsupported = 1
+rank Limit = 2
+rank Invalid = 3
+rank Ended = 4
+
+abbrev pub IsNoLater : Refusal → Refusal → Type 0
+IsNoLater r s = (r.offset < s.offset) ⊎ ((r.offset ≡ s.offset) × (rank r.kind ≤ rank s.kind))
+
+-- r is one of these, and none of them comes before it
+abbrev pub IsFirst : (Refusal → Type 0) → Refusal → Type 0
+IsFirst P r = P r × ((s : Refusal) → P s → IsNoLater r s)
+
+-- what isn't compiled is unsupported at its byte, the first of it
+abbrev pub first_outside : (ℕ → Bool) → List (ℕ × ℕ) → Option Refusal
+first_outside compiled [] = None
+first_outside compiled (x ∷ xs) =
+    if compiled x.1 then first_outside compiled xs else Some (record { offset = x.0; kind = Unsupported })
+
+-- ---- outside bodies
+
+-- where the bytes end too soon, the fault stands at their number
+abbrev pub ending_fault : ℕ → Ending → Option Refusal
+ending_fault len (Whole seen) = None
+ending_fault len (Refused r) = Some r
+ending_fault len Owed = Some (record { offset = len; kind = Ended })
+
+abbrev pub sections_of : List Part → List (ℕ × ℕ)
+sections_of [] = []
+sections_of (Section at id ∷ parts) = (at, id) ∷ sections_of parts
+sections_of (Listed x ∷ parts) = sections_of parts
+sections_of (Coded b ∷ parts) = sections_of parts
+
+abbrev pub IsOutsideFault : List ℕ → Refusal → Type 0
+IsOutsideFault bytes =
+    let run = module_run bytes in
+    IsFirst (λ r. (ending_fault (length bytes) run.ending ≡ Some r) ⊎ (first_outside is_compiled_section (sections_of run.parts) ≡ Some r))
+
+-- ---- in a body
+
+abbrev pub tokens_of : List (ℕ × Token) → List Token
+tokens_of [] = []
+tokens_of (t ∷ ts) = t.1 ∷ tokens_of ts
+
+-- the first token that no others complete to a valid body
+pub record IsTokenFault (c : Context) (tokens : List (ℕ × Token)) (r : Refusal) : Type 0 where
+  pub before : List (ℕ × Token)
+  pub at : ℕ
+  pub token : Token
+  pub after : List (ℕ × Token)
+  pub parts : tokens ≡ before ++ (at, token) ∷ after
+  pub viable : IsViable c (tokens_of before)
+  pub faulty : IsFaulty c (tokens_of before ++ token ∷ []) r.kind
+  pub place : r.offset ≡ at
+
+-- or, where all its tokens may begin a valid body, what stops its reading
+pub record IsSpellingFault (c : Context) (tokens : List (ℕ × Token)) (fault : Option Refusal) (r : Refusal) : Type 0 where
+  pub viable : IsViable c (tokens_of tokens)
+  pub is : fault ≡ Some r
+
+abbrev pub IsBodyFault : Context → BodyRead → Refusal → Type 0
+IsBodyFault c b =
+    IsFirst (λ r. IsTokenFault c b.code.tokens r ⊎ IsSpellingFault c b.code.tokens b.code.fault r ⊎ (first_outside is_compiled_opcode b.code.opcodes ≡ Some r))
+
+-- what is read of a body, and its context: it is the k-th of a module with these items before it
+abbrev pub read_of : Body → BodyRead
+read_of b = body_read b.first b.bytes
+
+abbrev pub context_at : List Item → ℕ → Body → Context
+context_at items k b =
+    let c = context_of items in
+    body_context c (type_of_function c (import_count items + k)) (read_of b).groups
+
+-- a fault of one of the bodies, after these items and k bodies
+abbrev pub IsFaultInside : List Item → ℕ → List Part → Refusal → Type 0
+IsFaultInside items k [] r = ⊥
+IsFaultInside items k (Section at id ∷ parts) r = IsFaultInside items k parts r
+IsFaultInside items k (Listed x ∷ parts) r = IsFaultInside (items ++ x ∷ []) k parts r
+IsFaultInside items k (Coded b ∷ parts) r = IsBodyFault (context_at items k b) (read_of b) r ⊎ IsFaultInside items (suc k) parts r
+
+-- ---- the module
+
+abbrev pub IsFault : List ℕ → Refusal → Type 0
+IsFault bytes r = IsOutsideFault bytes r ⊎ IsFaultInside [] 0 (module_run bytes).parts r
+
+-- a valid body, which is compiled
+pub record IsValidBody (c : Context) (b : BodyRead) (tree : Seq) : Type 0 where
+  pub whole : b.code.fault ≡ None
+  pub tree_is : Tree (tokens_of b.code.tokens) tree
+  pub typed : IsBody c tree
+  pub compiled : first_outside is_compiled_opcode b.code.opcodes ≡ None
+
+-- the bodies are valid, with these trees
+abbrev pub AreValid : List Item → ℕ → List Part → List Seq → Type 0
+AreValid items k [] [] = Unit {0}
+AreValid items k [] (tree ∷ trees) = ⊥
+AreValid items k (Section at id ∷ parts) trees = AreValid items k parts trees
+AreValid items k (Listed x ∷ parts) trees = AreValid (items ++ x ∷ []) k parts trees
+AreValid items k (Coded b ∷ parts) [] = ⊥
+AreValid items k (Coded b ∷ parts) (tree ∷ trees) = IsValidBody (context_at items k b) (read_of b) tree × AreValid items (suc k) parts trees
+
+abbrev pub items_of : List Part → List Item
+items_of [] = []
+items_of (Section at id ∷ parts) = items_of parts
+items_of (Listed x ∷ parts) = x ∷ items_of parts
+items_of (Coded b ∷ parts) = items_of parts
+
+abbrev pub bodies_of : List Part → List Body
+bodies_of [] = []
+bodies_of (Section at id ∷ parts) = bodies_of parts
+bodies_of (Listed x ∷ parts) = bodies_of parts
+bodies_of (Coded b ∷ parts) = b ∷ bodies_of parts
+
+-- a module: its items, its bodies and their trees
+pub record Module : Type 0 where
+  pub items : List Item
+  pub bodies : List Body
+  pub trees : List Seq
+
+pub record IsModule (bytes : List ℕ) (m : Module) : Type 0 where
+  pub whole : ending_fault (length bytes) (module_run bytes).ending ≡ None
+  pub compiled : first_outside is_compiled_section (sections_of (module_run bytes).parts) ≡ None
+  pub items : m.items ≡ items_of (module_run bytes).parts
+  pub bodies : m.bodies ≡ bodies_of (module_run bytes).parts
+  pub valid : AreValid [] 0 (module_run bytes).parts m.trees
+
+pub data Verdict : Type 0 where
+  Accepted : (m : Module) → Verdict
+  Rejected : (r : Refusal) → Verdict
+
+-- the module that the bytes are, or the fault of least offset
+abbrev pub IsVerdict : List ℕ → Verdict → Type 0
+IsVerdict bytes (Accepted m) = IsModule bytes m
+IsVerdict bytes (Rejected r) = IsFault bytes r × ((s : Refusal) → IsFault bytes s → r.offset ≤ s.offset)

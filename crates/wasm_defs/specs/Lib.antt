@@ -1,0 +1,15 @@
+pub mod Numbers
+pub mod Text
+pub mod Limits
+pub mod Fields
+pub mod Entries
+pub mod Outside
+pub mod Opcodes
+pub mod Supported
+pub mod Trees
+pub mod Typing
+pub mod Places
+pub mod Viable
+pub mod Bodies
+pub mod Context
+pub mod Faults

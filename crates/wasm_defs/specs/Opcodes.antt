@@ -1,0 +1,169 @@
+-- The opcodes of operations, loads and stores, a row for each (WebAssembly Core 1.0, 5.4.4 and 5.4.5).
+use Rattle.std.specs.Prelude.{List, [], ◌∷◌, Option, None, Some}
+use Rattle.wasm_defs.specs.declared.types.ValType.TheVariants.{I32, I64}
+use Rattle.wasm_defs.specs.declared.operation.UnaryOp.TheVariants.{Clz, Ctz, Popcnt}
+use Rattle.wasm_defs.specs.declared.operation.BinaryOp.TheVariants.{Add, Sub, Mul, DivS, DivU, RemS, RemU, And, Or, Xor, Shl, ShrS, ShrU, Rotl, Rotr}
+use Rattle.wasm_defs.specs.declared.operation.CompareOp.TheVariants.{Eq, Ne, LtS, LtU, GtS, GtU, LeS, LeU, GeS, GeU}
+use Rattle.wasm_defs.specs.declared.operation.ConvertOp.TheVariants.{Wrap, ExtendS, ExtendU}
+use Rattle.wasm_defs.specs.declared.operation.Operation.{Operation}
+use Rattle.wasm_defs.specs.declared.operation.Operation.TheVariants.{Unary, Test, Binary, Compare, Convert}
+use Rattle.wasm_defs.specs.declared.operation.LoadOp.TheVariants.{I32Load, I64Load, I32Load8S, I32Load8U, I32Load16S, I32Load16U, I64Load8S, I64Load8U, I64Load16S, I64Load16U, I64Load32S, I64Load32U}
+use Rattle.wasm_defs.specs.declared.operation.StoreOp.TheVariants.{I32Store, I64Store, I32Store8, I32Store16, I64Store8, I64Store16, I64Store32}
+use Rattle.wasm_defs.specs.declared.operation.Access.{Access}
+use Rattle.wasm_defs.specs.declared.operation.Access.TheVariants.{Load, Store}
+
+-- the operations of the opcodes from 0x45 to 0xBF; none where the opcode is one of floats
+abbrev pub operations : List (Option Operation)
+operations =
+    Some (Test I32) ∷
+    Some (Compare I32 Eq) ∷
+    Some (Compare I32 Ne) ∷
+    Some (Compare I32 LtS) ∷
+    Some (Compare I32 LtU) ∷
+    Some (Compare I32 GtS) ∷
+    Some (Compare I32 GtU) ∷
+    Some (Compare I32 LeS) ∷
+    Some (Compare I32 LeU) ∷
+    Some (Compare I32 GeS) ∷
+    Some (Compare I32 GeU) ∷
+    Some (Test I64) ∷
+    Some (Compare I64 Eq) ∷
+    Some (Compare I64 Ne) ∷
+    Some (Compare I64 LtS) ∷
+    Some (Compare I64 LtU) ∷
+    Some (Compare I64 GtS) ∷
+    Some (Compare I64 GtU) ∷
+    Some (Compare I64 LeS) ∷
+    Some (Compare I64 LeU) ∷
+    Some (Compare I64 GeS) ∷
+    Some (Compare I64 GeU) ∷
+    None ∷
+    None ∷
+    None ∷
+    None ∷
+    None ∷
+    None ∷
+    None ∷
+    None ∷
+    None ∷
+    None ∷
+    None ∷
+    None ∷
+    Some (Unary I32 Clz) ∷
+    Some (Unary I32 Ctz) ∷
+    Some (Unary I32 Popcnt) ∷
+    Some (Binary I32 Add) ∷
+    Some (Binary I32 Sub) ∷
+    Some (Binary I32 Mul) ∷
+    Some (Binary I32 DivS) ∷
+    Some (Binary I32 DivU) ∷
+    Some (Binary I32 RemS) ∷
+    Some (Binary I32 RemU) ∷
+    Some (Binary I32 And) ∷
+    Some (Binary I32 Or) ∷
+    Some (Binary I32 Xor) ∷
+    Some (Binary I32 Shl) ∷
+    Some (Binary I32 ShrS) ∷
+    Some (Binary I32 ShrU) ∷
+    Some (Binary I32 Rotl) ∷
+    Some (Binary I32 Rotr) ∷
+    Some (Unary I64 Clz) ∷
+    Some (Unary I64 Ctz) ∷
+    Some (Unary I64 Popcnt) ∷
+    Some (Binary I64 Add) ∷
+    Some (Binary I64 Sub) ∷
+    Some (Binary I64 Mul) ∷
+    Some (Binary I64 DivS) ∷
+    Some (Binary I64 DivU) ∷
+    Some (Binary I64 RemS) ∷
+    Some (Binary I64 RemU) ∷
+    Some (Binary I64 And) ∷
+    Some (Binary I64 Or) ∷
+    Some (Binary I64 Xor) ∷
+    Some (Binary I64 Shl) ∷
+    Some (Binary I64 ShrS) ∷
+    Some (Binary I64 ShrU) ∷
+    Some (Binary I64 Rotl) ∷
+    Some (Binary I64 Rotr) ∷
+    None ∷
+    None ∷
+    None ∷
+    None ∷
+    None ∷
+    None ∷
+    None ∷
+    None ∷
+    None ∷
+    None ∷
+    None ∷
+    None ∷
+    None ∷
+    None ∷
+    None ∷
+    None ∷
+    None ∷
+    None ∷
+    None ∷
+    None ∷
+    None ∷
+    None ∷
+    None ∷
+    None ∷
+    None ∷
+    None ∷
+    None ∷
+    None ∷
+    Some (Convert Wrap) ∷
+    None ∷
+    None ∷
+    None ∷
+    None ∷
+    Some (Convert ExtendS) ∷
+    Some (Convert ExtendU) ∷
+    None ∷
+    None ∷
+    None ∷
+    None ∷
+    None ∷
+    None ∷
+    None ∷
+    None ∷
+    None ∷
+    None ∷
+    None ∷
+    None ∷
+    None ∷
+    None ∷
+    None ∷
+    None ∷
+    None ∷
+    None ∷
+    []
+
+-- the loads and stores of the opcodes from 0x28 to 0x3E; none where the opcode is one of floats
+abbrev pub accesses : List (Option Access)
+accesses =
+    Some (Load I32Load) ∷
+    Some (Load I64Load) ∷
+    None ∷
+    None ∷
+    Some (Load I32Load8S) ∷
+    Some (Load I32Load8U) ∷
+    Some (Load I32Load16S) ∷
+    Some (Load I32Load16U) ∷
+    Some (Load I64Load8S) ∷
+    Some (Load I64Load8U) ∷
+    Some (Load I64Load16S) ∷
+    Some (Load I64Load16U) ∷
+    Some (Load I64Load32S) ∷
+    Some (Load I64Load32U) ∷
+    Some (Store I32Store) ∷
+    Some (Store I64Store) ∷
+    None ∷
+    None ∷
+    Some (Store I32Store8) ∷
+    Some (Store I32Store16) ∷
+    Some (Store I64Store8) ∷
+    Some (Store I64Store16) ∷
+    Some (Store I64Store32) ∷
+    []

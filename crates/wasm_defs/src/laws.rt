@@ -1,0 +1,9 @@
+//! Laws of the definitions.
+
+ghost use Rattle.std.specs.Prelude.{◌≡◌, ℕ, ℤ, Bool, List, ◌++◌};
+ghost use Rattle.wasm_defs.specs.Numbers.{Spells};
+
+/// No spelling of a number begins another, and one spelling spells one number.
+pub fn numbers_are_prefix_free()
+    ensures { (signed : Bool) (bits : ℕ) (a b x y : List ℕ) (m n : ℤ) → Spells m bits signed a → Spells n bits signed b → a ++ x ≡ b ++ y → (a ≡ b) × (m ≡ n) }
+{}

@@ -1,0 +1,30 @@
+//! What a WebAssembly module is (WebAssembly Core 1.0, without floats): its types, its limits, and in `specs/` the
+//! definitions that every contract above cites.
+#![tactic(auto)]
+
+mod context;
+mod fault;
+mod item;
+mod laws;
+mod limits;
+mod lists;
+mod operation;
+mod supported;
+mod text;
+mod token;
+mod types;
+
+pub use context::GlobalType;
+pub use fault::{Kind, Refusal};
+pub use item::{Constant, Extern, Item, Limits};
+pub use laws::numbers_are_prefix_free;
+pub use limits::{
+    MAX_BODY, MAX_ENTRIES, MAX_LOCALS, MAX_MODULE, MAX_NAME, MAX_PAGES, MAX_PARAMS, MAX_TABLE,
+    TOP_PAGES,
+};
+pub use lists::{Bytes, Indices, Labels, Name, ValTypes};
+pub use operation::{Access, BinaryOp, CompareOp, ConvertOp, LoadOp, Operation, StoreOp, UnaryOp};
+pub use supported::{is_compiled_opcode, is_compiled_section};
+pub use text::Inside;
+pub use token::{BlockType, MemArg, Plain, Token};
+pub use types::{FuncType, ValType};

@@ -1,0 +1,18 @@
+//! What of WebAssembly 1.0 is compiled so far. Nothing else knows of it.
+
+ghost use Rattle.std.specs.Prelude.{◌≡◌};
+ghost use Rattle.wasm_defs.specs.Supported.{is_compiled_section, is_compiled_opcode};
+
+/// Whether sections of the id are compiled.
+pub fn is_compiled_section(id: u8) -> bool
+    ensures { result ≡ is_compiled_section id }
+{
+    matches!(id, 1 | 3 | 7 | 10)
+}
+
+/// Whether the instruction of the opcode is compiled.
+pub fn is_compiled_opcode(opcode: u8) -> bool
+    ensures { result ≡ is_compiled_opcode opcode }
+{
+    matches!(opcode, 0x0B | 0x20 | 0x41 | 0x6A)
+}

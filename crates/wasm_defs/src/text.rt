@@ -1,0 +1,9 @@
+//! UTF-8 (Core 5.2.4), byte by byte.
+
+/// Where reading stands inside a character: how many bytes are due, and between which two the next one lies.
+#[derive(Clone, Copy, Debug, PartialEq, Eq)]
+pub struct Inside {
+    pub due: u8,
+    pub least: u8,
+    pub most: u8,
+}
