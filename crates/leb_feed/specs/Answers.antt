@@ -1,0 +1,11 @@
+-- What a reading of a slice is told as.
+use Rattle.std.specs.Prelude.{ℕ, ◌+◌}
+use Rattle.leb_feed.specs.declared.number.ReadAt.{ReadAt}
+use Rattle.leb_feed.specs.declared.number.ReadAt.TheVariants as answers
+use Rattle.wasm_defs.specs.Numbers.{Reading, Number, CutOff, Bad}
+
+-- the answer at a place, where a number's bytes end at `next`
+abbrev pub answer : ℕ → Reading → ReadAt
+answer place (Number n len) = answers.Number n (place + len)
+answer place CutOff = answers.CutOff
+answer place Bad = answers.Bad

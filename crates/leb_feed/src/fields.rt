@@ -1,0 +1,343 @@
+//! Fields, read from a slice of a module's bytes. A field's value comes with its offset. Each method does what the reader of
+//! the same name in `wasm_defs` defines: a field that isn't whole stops reading as malformed where its section's end cuts
+//! it off, and else wants more bytes.
+
+ghost use Rattle.std.specs.Prelude.{◌≡◌, ◌≤◌, ◌<◌, ◌+◌, ◌*◌, ◌^◌, ℕ, length, false, true, IfOk, List, drop, take};
+ghost use Rattle.wasm_defs.specs.Numbers.{Spells};
+ghost use Rattle.wasm_defs.specs.Fields.{Cursor, window, past, cut, room_of, byte, number, u32, count, run, room, here, stop, counted_bytes, text_after, least, length_owed, name, fixed};
+ghost use Rattle.wasm_defs.specs.Fields.{agree};
+ghost use Rattle.wasm_defs.specs.Entries.{value_type};
+ghost use Rattle.wasm_defs.specs.Outside.{inside, no_end};
+ghost use Rattle.leb_feed.specs.Reads.{Reads, Stops};
+
+use crate::number::{ReadAt, read_at};
+use crate::stop::Stop;
+use crate::text::completes;
+use std::alloc::Global;
+use std::marker::Model;
+use wasm_defs::{Bytes, Kind, MAX_NAME, Name, Refusal, ValType};
+
+/// Where reading stands in a slice whose first byte has the offset `base`; the section ends at the offset `end`.
+#[derive(Drop)]
+pub struct Fields<'a> {
+    bytes: &'a [u8],
+    base: u64,
+    place: usize,
+    end: u64,
+}
+
+impl<'a> Model for Fields<'a> {
+    ghost use Rattle.std.specs.Prelude.{◌≤◌, ◌<◌, ◌+◌, ◌^◌, length, drop};
+    ghost use Rattle.wasm_defs.specs.Fields.{Cursor};
+
+    ghost Value = { Cursor };
+
+    ghost view = { λ f. record { at = f.base + f.place; rest = drop f.place f.bytes.now; end = f.end } };
+
+    ghost invariant = { λ f. (f.place ≤ length f.bytes.now) × (f.base + length f.bytes.now < 2 ^ 64) × (f.base + f.place ≤ f.end) };
+}
+
+impl<'a> Fields<'a> {
+    /// Reads from the slice's first byte on, whose offset is `base`.
+    pub fn new(bytes: &'a [u8], base: u64, end: u64) -> Self
+        requires fits { base + length bytes.now < 2 ^ 64 }
+        requires ahead { base ≤ end }
+        ensures { result ≡ record { at = base; rest = bytes.now; end = end } }
+    {
+        Fields {
+            bytes,
+            base,
+            place: 0,
+            end,
+        }
+    }
+
+    /// The offset of the next byte.
+    pub fn offset(&self) -> u64
+        ensures { result ≡ self.now.at }
+    {
+        self.base + self.place as u64
+    }
+
+    /// Where the section ends.
+    pub fn end(&self) -> u64
+        ensures value { result ≡ self.now.end }
+        ensures ahead { self.now.at ≤ result }
+    {
+        self.end
+    }
+
+    /// Ends the section: outside sections no end is near.
+    pub fn leave(&mut self)
+        ensures { self.new ≡ inside self.old no_end }
+    {
+        self.end = u64::MAX;
+    }
+
+    /// A section that ends there begins.
+    pub fn enter(&mut self, end: u64)
+        requires { self.old.at ≤ end }
+        ensures { self.new ≡ inside self.old end }
+    {
+        self.end = end;
+    }
+
+    /// How many bytes the section has left.
+    pub fn room(&self) -> u64
+        ensures { result ≡ room_of self.now }
+    {
+        self.end - (self.base + self.place as u64)
+    }
+
+    /// The bytes that aren't read yet, those behind the section's end too.
+    pub fn rest(&self) -> &'a [u8]
+        ensures { result.now ≡ self.now.rest }
+    {
+        &self.bytes[self.place..]
+    }
+
+    /// The bytes of the section that are there.
+    fn window(&self) -> &'a [u8]
+        ensures { result.now ≡ window self.now }
+    {
+        let room = self.room();
+        let rest = self.rest();
+        if (rest.len() as u64) < room {
+            return rest;
+        }
+        &rest[..room as usize]
+    }
+
+    fn advance(&mut self, len: usize)
+        requires { len ≤ length (window self.old) }
+        ensures { self.new ≡ past self.old len }
+    {
+        self.place += len;
+    }
+
+    /// The stop that a fault is.
+    pub fn refused(kind: Kind, offset: u64) -> Stop
+        ensures { result ≡ Stop.Refused (record { offset = offset; kind = kind }) }
+    {
+        Stop::Refused(Refusal { offset, kind })
+    }
+
+    /// Why a field isn't whole.
+    fn cut<T>(&self) -> Result<T, Stop>
+        ensures { Reads cut (λ n. n) result self.now self.now }
+    {
+        if self.room() <= self.rest().len() as u64 {
+            Err(Self::refused(Kind::Malformed, self.offset()))
+        } else {
+            Err(Stop::Wants)
+        }
+    }
+
+    /// One byte.
+    #[tactic(auto, unfolding(wasm_defs::specs::Fields::byte))]
+    pub fn byte(&mut self) -> Result<(u64, u8), Stop>
+        ensures { Reads byte (λ n. n) result self.old self.new }
+    {
+        let at = self.offset();
+        match self.window() {
+            [] => self.cut(),
+            [byte, ..] => {
+                let byte = *byte;
+                self.advance(1);
+                Ok((at, byte))
+            }
+        }
+    }
+
+    /// A LEB128 number of so many bits (Core 5.2.2).
+    #[tactic(auto, unfolding(wasm_defs::specs::Fields::number))]
+    pub fn number(&mut self, signed: bool, bits: u32) -> Result<(u64, i128), Stop>
+        requires some_bits { 1 ≤ bits }
+        requires few_bits { bits ≤ 64 }
+        ensures read { Reads (number signed bits) (λ n. n) result self.old self.new }
+        ensures spelled { IfOk result (λ n. (bytes : List ℕ) × Spells n.1 bits signed bytes) }
+    {
+        let at = self.offset();
+        match read_at(self.window(), 0, bits, signed) {
+            ReadAt::Number(n, len) => {
+                self.advance(len);
+                Ok((at, n))
+            }
+            ReadAt::CutOff => self.cut(),
+            ReadAt::Bad => Err(Self::refused(Kind::Malformed, at)),
+        }
+    }
+
+    /// An unsigned number of 32 bits.
+    #[tactic(auto, unfolding(wasm_defs::specs::Fields::u32))]
+    pub fn u32(&mut self) -> Result<(u64, u32), Stop>
+        ensures { Reads u32 (λ n. n) result self.old self.new }
+    {
+        let (at, n) = self.number(false, 32)?;
+        Ok((at, n as u32))
+    }
+
+    /// A signed number of 32 or 64 bits.
+    pub fn signed(&mut self, bits: u32) -> Result<(u64, i64), Stop>
+        requires some_bits { 1 ≤ bits }
+        requires few_bits { bits ≤ 64 }
+        ensures { Reads (number true bits) (λ n. n) result self.old self.new }
+    {
+        let (at, n) = self.number(true, bits)?;
+        Ok((at, n as i64))
+    }
+
+    /// A count, judged where it stands.
+    #[tactic(auto, unfolding(wasm_defs::specs::Fields::count))]
+    pub fn count(&mut self, most: u32) -> Result<(u64, u32), Stop>
+        ensures { Reads (count most) (λ n. n) result self.old self.new }
+    {
+        let (at, n) = self.u32()?;
+        if most < n {
+            return Err(Self::refused(Kind::Limit, at));
+        }
+        Ok((at, n))
+    }
+
+    /// So many bytes of the section.
+    #[tactic(auto, unfolding(wasm_defs::specs::Fields::run))]
+    pub fn run(&mut self, len: u64) -> Result<&'a [u8], Stop>
+        ensures { Reads (run len) (λ bytes. bytes.now) result self.old self.new }
+    {
+        let window = self.window();
+        if (window.len() as u64) < len {
+            return self.cut();
+        }
+        let bytes = &window[..len as usize];
+        self.advance(len as usize);
+        Ok(bytes)
+    }
+
+    /// A length, and so many bytes.
+    #[tactic(auto, unfolding(wasm_defs::specs::Fields::counted_bytes, wasm_defs::specs::Fields::room))]
+    pub fn counted_bytes(&mut self, alloc: Global) -> Result<(u64, Bytes), Stop>
+        ensures { Reads counted_bytes (λ n. n) result self.old self.new }
+    {
+        let (at, len) = self.u32()?;
+        if self.room() < u64::from(len) {
+            return Err(Self::refused(Kind::Malformed, at));
+        }
+        let bytes = self.run(u64::from(len))?;
+        Ok((at, Bytes::new(Vec::from_slice(alloc, bytes)?)))
+    }
+
+    /// A value type (Core 5.3.1).
+    #[tactic(auto, unfolding(wasm_defs::specs::Entries::value_type))]
+    pub fn value_type(&mut self) -> Result<(u64, ValType), Stop>
+        ensures { Reads value_type (λ n. n) result self.old self.new }
+    {
+        let (at, byte) = self.byte()?;
+        match byte {
+            0x7F => Ok((at, ValType::I32)),
+            0x7E => Ok((at, ValType::I64)),
+            0x7D | 0x7C => Err(Self::refused(Kind::Unsupported, at)),
+            _ => Err(Self::refused(Kind::Malformed, at)),
+        }
+    }
+
+    /// A name: its length and its text are one field.
+    #[tactic(auto, unfolding(wasm_defs::specs::Fields::name))]
+    pub fn name(&mut self, alloc: Global) -> Result<(u64, Name), Stop>
+        ensures { Reads name (λ n. n) result self.old self.new }
+    {
+        let at = self.offset();
+        match read_at(self.window(), 0, 32, false) {
+            ReadAt::Number(n, len) => self.text_after(alloc, len, n as u32),
+            ReadAt::CutOff => self.length_owed(),
+            ReadAt::Bad => Err(Self::refused(Kind::Malformed, at)),
+        }
+    }
+
+    fn text_after(&mut self, alloc: Global, len: usize, n: u32) -> Result<(u64, Name), Stop>
+        requires { len ≤ length (window self.old) }
+        ensures { Reads (text_after len n) (λ n. n) result self.old self.new }
+    {
+        let at = self.offset();
+        let window = self.window();
+        if self.room() < len as u64 + u64::from(n) {
+            return Err(Self::refused(Kind::Malformed, at));
+        }
+        let text = first_of(&window[len..], n as usize);
+        if !completes(n, text) {
+            return Err(Self::refused(Kind::Malformed, at));
+        }
+        if text.len() < n as usize {
+            return Err(Stop::Wants);
+        }
+        if MAX_NAME < n {
+            return Err(Self::refused(Kind::Limit, at));
+        }
+        let name = Name::new(Vec::from_slice(alloc, text)?);
+        self.advance(len + n as usize);
+        Ok((at, name))
+    }
+
+    /// Why a name whose length is cut off isn't whole: the shortest one that begins so has to lie in the section.
+    fn length_owed(&self) -> Result<(u64, Name), Stop>
+        requires { length (window self.now) ≤ 5 }
+        ensures { Reads length_owed (λ n. n) result self.now self.now }
+    {
+        let window = self.window();
+        if self.room() < window.len() as u64 + 1 + least(window) {
+            Err(Self::refused(Kind::Malformed, self.offset()))
+        } else {
+            Err(Stop::Wants)
+        }
+    }
+
+    /// Bytes that are given.
+    #[tactic(auto, unfolding(wasm_defs::specs::Fields::fixed))]
+    pub fn fixed(&mut self, bytes: &[u8]) -> Result<u64, Stop>
+        ensures { Reads (fixed bytes.now) (λ n. n) result self.old self.new }
+    {
+        let at = self.offset();
+        let window = self.window();
+        if !agree(bytes, window) {
+            return Err(Self::refused(Kind::Malformed, at));
+        }
+        if window.len() < bytes.len() {
+            return self.cut();
+        }
+        self.advance(bytes.len());
+        Ok(at)
+    }
+}
+
+fn first_of(bytes: &[u8], most: usize) -> &[u8]
+    ensures { result.now ≡ take most bytes.now }
+{
+    if bytes.len() < most {
+        return bytes;
+    }
+    &bytes[..most]
+}
+
+/// The least number whose spelling begins so.
+fn least(bytes: &[u8]) -> u64
+    requires { length bytes.now ≤ 5 }
+    ensures exact { result ≡ least bytes.now }
+    ensures small { result < 2 ^ (7 * length bytes.now) }
+{
+    match bytes {
+        [] => 0,
+        [byte, rest @ ..] => u64::from(byte.saturating_sub(128)) + 128 * least(rest),
+    }
+}
+
+/// Whether one slice begins as the other, as far as both go.
+fn agree(bytes: &[u8], others: &[u8]) -> bool
+    ensures { result ≡ agree bytes.now others.now }
+{
+    match bytes {
+        [] => true,
+        [x, xs @ ..] => match others {
+            [] => true,
+            [y, ys @ ..] => *x == *y && agree(xs, ys),
+        },
+    }
+}

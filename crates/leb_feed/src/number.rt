@@ -1,0 +1,77 @@
+//! LEB128 numbers (Core 5.2.2), read from a slice.
+
+ghost use Rattle.std.specs.Prelude.{◌≡◌, ◌↔◌, ℕ, ℤ, ◌+◌, ◌-◌, ◌≤◌, ◌<◌, length, drop, slice_range};
+ghost use Rattle.wasm_defs.specs.Numbers.{BeginsWithNumber, IsCutOff, IsNoNumber, IsSmall, number_at, last_byte};
+ghost use Rattle.leb_feed.specs.Answers.{answer};
+
+/// What stands at a place of a slice.
+#[derive(Clone, Copy, Debug, PartialEq, Eq)]
+pub enum ReadAt {
+    /// A number, and the place after it.
+    Number(i128, usize),
+    /// The slice ends inside a number's spelling, or before it.
+    CutOff,
+    /// No number's spelling begins so.
+    Bad,
+}
+
+/// The number of 1 to 64 bits at a place of a slice, signed or unsigned.
+pub fn read_at(bytes: &[u8], place: usize, bits: u32, signed: bool) -> ReadAt
+    requires some_bits { 1 ≤ bits }
+    requires few_bits { bits ≤ 64 }
+    requires inside { place ≤ length bytes.now }
+    ensures number { (n : ℤ) (next : ℕ) → (result ≡ ReadAt.Number n next)
+        ↔ ((len : ℕ) × (next ≡ place + len) × BeginsWithNumber signed bits (drop place bytes.now) n len) }
+    ensures cut_off { (result ≡ ReadAt.CutOff) ↔ IsCutOff signed bits (drop place bytes.now) }
+    ensures bad { (result ≡ ReadAt.Bad) ↔ IsNoNumber signed bits (drop place bytes.now) }
+    ensures exact { result ≡ answer place (number_at signed bits (drop place bytes.now)) }
+{
+    number_from(bytes, place, bits, signed)
+}
+
+#[tactic(auto, unfolding(wasm_defs::specs::Numbers::number_at))]
+fn number_from(bytes: &[u8], place: usize, bits: u32, signed: bool) -> ReadAt
+    requires few_bits { bits ≤ 64 }
+    requires inside { place ≤ length bytes.now }
+    ensures exact { result ≡ answer place (number_at signed bits (drop place bytes.now)) }
+{
+    if place == bytes.len() {
+        return ReadAt::CutOff;
+    }
+    let byte = bytes[place];
+    if byte < 128 {
+        return last_byte(byte, place + 1, bits, signed);
+    }
+    if bits <= 7 {
+        return ReadAt::Bad;
+    }
+    match number_from(bytes, place + 1, bits - 7, signed) {
+        ReadAt::Number(high, next) => { ReadAt::Number(i128::from(byte - 128) + 128 * high, next) }
+        other => other,
+    }
+}
+
+// A byte below 128, after which the number ends.
+fn last_byte(byte: u8, next: usize, bits: u32, signed: bool) -> ReadAt
+    requires low { byte < 128 }
+    requires ends { 1 ≤ next }
+    requires few_bits { bits ≤ 64 }
+    ensures exact { result ≡ answer (next - 1) (last_byte signed bits byte) }
+{
+    let byte = i128::from(byte);
+    if !signed {
+        let limit = 1i128 << bits;
+        return if byte < limit {
+            ReadAt::Number(byte, next)
+        } else {
+            ReadAt::Bad
+        };
+    }
+    let limit = 1i128 << bits.saturating_sub(1);
+    let value = if byte < 64 { byte } else { byte - 128 };
+    if -limit <= value && value < limit {
+        ReadAt::Number(value, next)
+    } else {
+        ReadAt::Bad
+    }
+}

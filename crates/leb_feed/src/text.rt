@@ -1,0 +1,62 @@
+//! UTF-8 (WebAssembly Core 1.0, 5.2.4), read from the left.
+
+ghost use Rattle.std.specs.Prelude.{◌≡◌, ◌≤◌, length, Some};
+ghost use Rattle.wasm_defs.specs.Text.{between, first_byte, next_byte, completes};
+
+use wasm_defs::Inside;
+
+fn due(due: u8, least: u8, most: u8) -> Option<Inside>
+    ensures { result ≡ Some (record { due = due; least = least; most = most }) }
+{
+    Some(Inside { due, least, most })
+}
+
+/// After a character's first byte (Unicode's table of well-formed sequences).
+fn first_byte(byte: u8) -> Option<Inside>
+    ensures { result ≡ first_byte byte }
+{
+    match byte {
+        0x00..=0x7F => due(0, 0, 0),
+        0x80..=0xC1 => None,
+        0xC2..=0xDF => due(1, 0x80, 0xBF),
+        0xE0 => due(2, 0xA0, 0xBF),
+        0xED => due(2, 0x80, 0x9F),
+        0xE1..=0xEF => due(2, 0x80, 0xBF),
+        0xF0 => due(3, 0x90, 0xBF),
+        0xF1..=0xF3 => due(3, 0x80, 0xBF),
+        0xF4 => due(3, 0x80, 0x8F),
+        0xF5..=0xFF => None,
+    }
+}
+
+fn next_byte(inside: Inside, byte: u8) -> Option<Inside>
+    ensures { result ≡ next_byte inside byte }
+{
+    if inside.due == 0 {
+        return first_byte(byte);
+    }
+    if byte < inside.least || inside.most < byte {
+        return None;
+    }
+    due(inside.due - 1, 0x80, 0xBF)
+}
+
+/// Whether some bytes after these complete a text of so many bytes.
+pub fn completes(room: u32, text: &[u8]) -> bool
+    ensures { result ≡ completes room between text.now }
+{
+    let mut left = room;
+    let mut inside = Inside {
+        due: 0,
+        least: 0,
+        most: 0,
+    };
+    for byte in text {
+        match next_byte(inside, *byte) {
+            None => return false,
+            Some(next) => inside = next,
+        }
+        left = left.saturating_sub(1);
+    }
+    u32::from(inside.due) <= left
+}
