@@ -1,3 +1,4 @@
 pub mod Readings
 pub mod Casts
 pub mod Readers
+pub mod Loops

@@ -18,7 +18,7 @@ use Rattle.wasm_defs.specs.declared.token.Token.TheVariants as token
 use Rattle.wasm_defs.specs.Limits.{max_locals}
 use Rattle.wasm_defs.specs.Opcodes.{operations, accesses}
 use Rattle.wasm_defs.specs.Fields.{Cursor, Read, Got, Fault, Wants, Reader, ◌>>=◌, done, refused, byte, number, u32, vector}
-use Rattle.wasm_defs.specs.Entries.{value_type, within}
+use Rattle.wasm_defs.specs.Entries.{value_type, within, bits_of}
 use Rattle.wasm_defs.specs.Outside.{Nothing}
 
 -- ---- locals (5.5.13)
@@ -113,9 +113,9 @@ with_mem_arg op = do
   m ← mem_arg
   plain (accessed op m)
 
-unfoldable pub constant : ValType → ℕ → Reader Token
-constant ty bits = do
-  n ← number true bits
+unfoldable pub constant : ValType → Reader Token
+constant ty = do
+  n ← number true (bits_of ty)
   plain (Const ty n.1)
 
 -- ---- instructions, after an opcode b at an offset
@@ -174,8 +174,8 @@ operated_at at b (Some (Some op)) = plain (Operate op)
 -- numeric instructions (5.4.5)
 unfoldable pub numeric : ℕ → ℕ → Reader Token
 numeric at b =
-    if b == 0x41 then constant I32 32
-    else if b == 0x42 then constant I64 64
+    if b == 0x41 then constant I32
+    else if b == 0x42 then constant I64
     else if nat_lt b 0x45 then refused Unsupported at
     else operated_at at b (slice_get operations (b - 0x45))
 

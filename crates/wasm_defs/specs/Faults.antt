@@ -6,7 +6,7 @@ use Rattle.wasm_defs.specs.declared.fault.Refusal.{Refusal}
 use Rattle.wasm_defs.specs.declared.item.Item.{Item}
 use Rattle.wasm_defs.specs.declared.token.Token.{Token}
 use Rattle.wasm_defs.specs.Outside.{Part, Section, Listed, Coded, Body, Ending, Whole, Refused, Owed, module_run}
-use Rattle.wasm_defs.specs.Bodies.{BodyRead, body_read}
+use Rattle.wasm_defs.specs.Bodies.{Spelled, BodyRead, body_read}
 use Rattle.wasm_defs.specs.Context.{context_of, import_count, body_context, type_of_function}
 use Rattle.wasm_defs.specs.Supported.{is_compiled_section, is_compiled_opcode}
 use Rattle.wasm_defs.specs.Trees.{Seq, Tree}
@@ -76,9 +76,9 @@ pub record IsSpellingFault (c : Context) (tokens : List (ℕ × Token)) (fault :
   pub viable : IsViable c (tokens_of tokens)
   pub is : fault ≡ Some r
 
-abbrev pub IsBodyFault : Context → BodyRead → Refusal → Type 0
-IsBodyFault c b =
-    IsFirst (λ r. IsTokenFault c b.code.tokens r ⊎ IsSpellingFault c b.code.tokens b.code.fault r ⊎ (first_outside is_compiled_opcode b.code.opcodes ≡ Some r))
+abbrev pub IsCodeFault : Context → Spelled → Refusal → Type 0
+IsCodeFault c code =
+    IsFirst (λ r. IsTokenFault c code.tokens r ⊎ IsSpellingFault c code.tokens code.fault r ⊎ (first_outside is_compiled_opcode code.opcodes ≡ Some r))
 
 -- what is read of a body, and its context: it is the k-th of a module with these items before it
 abbrev pub read_of : Body → BodyRead
@@ -94,19 +94,19 @@ abbrev pub IsFaultInside : List Item → ℕ → List Part → Refusal → Type 
 IsFaultInside items k [] r = ⊥
 IsFaultInside items k (Section at id ∷ parts) r = IsFaultInside items k parts r
 IsFaultInside items k (Listed x ∷ parts) r = IsFaultInside (items ++ x ∷ []) k parts r
-IsFaultInside items k (Coded b ∷ parts) r = IsBodyFault (context_at items k b) (read_of b) r ⊎ IsFaultInside items (suc k) parts r
+IsFaultInside items k (Coded b ∷ parts) r = IsCodeFault (context_at items k b) (read_of b).code r ⊎ IsFaultInside items (suc k) parts r
 
 -- ---- the module
 
 abbrev pub IsFault : List ℕ → Refusal → Type 0
 IsFault bytes r = IsOutsideFault bytes r ⊎ IsFaultInside [] 0 (module_run bytes).parts r
 
--- a valid body, which is compiled
-pub record IsValidBody (c : Context) (b : BodyRead) (tree : Seq) : Type 0 where
-  pub whole : b.code.fault ≡ None
-  pub tree_is : Tree (tokens_of b.code.tokens) tree
+-- the code of a valid body, which is compiled
+pub record IsValidCode (c : Context) (code : Spelled) (tree : Seq) : Type 0 where
+  pub whole : code.fault ≡ None
+  pub tree_is : Tree (tokens_of code.tokens) tree
   pub typed : IsBody c tree
-  pub compiled : first_outside is_compiled_opcode b.code.opcodes ≡ None
+  pub compiled : first_outside is_compiled_opcode code.opcodes ≡ None
 
 -- the bodies are valid, with these trees
 abbrev pub AreValid : List Item → ℕ → List Part → List Seq → Type 0
@@ -115,7 +115,7 @@ AreValid items k [] (tree ∷ trees) = ⊥
 AreValid items k (Section at id ∷ parts) trees = AreValid items k parts trees
 AreValid items k (Listed x ∷ parts) trees = AreValid (items ++ x ∷ []) k parts trees
 AreValid items k (Coded b ∷ parts) [] = ⊥
-AreValid items k (Coded b ∷ parts) (tree ∷ trees) = IsValidBody (context_at items k b) (read_of b) tree × AreValid items (suc k) parts trees
+AreValid items k (Coded b ∷ parts) (tree ∷ trees) = IsValidCode (context_at items k b) (read_of b).code tree × AreValid items (suc k) parts trees
 
 abbrev pub items_of : List Part → List Item
 items_of [] = []

@@ -1,0 +1,1 @@
+//! A body's declared locals (Core 5.5.13).
