@@ -1,0 +1,126 @@
+//! The real input and output, whose bytes no contract knows.
+
+ghost use Rattle.std.specs.Prelude.{◌≡◌, ◌≤◌, ◌<◌, None, length};
+ghost use Rattle.std.specs.Io.{ReadsAtMost, WritesAtMost};
+ghost use Rattle.io_edges.specs.Causes.{one_more};
+ghost use Rattle.io_edges.specs.Streams.{Reads, ReadCounts, Writes, WriteCounts};
+
+use crate::sink::{Put, Sink};
+use crate::source::{Got, Source};
+use std::io;
+use std::io::{ErrorKind, Read, Write};
+use std::marker::Model;
+
+/// A source over a reader, as standard input is.
+///
+/// It counts the reader's errors. A read that a signal interrupted is no fault: it is made again, as
+/// std's own calls do. A contract sees the count of faults alone.
+#[derive(Debug, Drop)]
+pub struct InputEdge<R> {
+    inner: R,
+    faults: u64,
+}
+
+impl<R> Model for InputEdge<R> {
+    ghost use Rattle.std.specs.Prelude.{ℕ};
+
+    ghost Value = { ℕ };
+
+    ghost view = { λ e. e.faults };
+}
+
+impl<R: Read> InputEdge<R> {
+    /// A source over this reader. Its count of faults is 0.
+    pub fn new(inner: R) -> Self
+        ensures { result ≡ 0 }
+    {
+        InputEdge { inner, faults: 0 }
+    }
+}
+
+impl<R: Read> Source for InputEdge<R> {
+    ghost left = { λ _. None };
+
+    ghost faults = { λ e. e };
+
+    fn read(&mut self, buf: &mut [u8]) -> Got {
+        match read_uninterrupted(&mut self.inner, buf) {
+            Ok(0) => Got::End,
+            Ok(count) => Got::Bytes(count),
+            Err(_) => {
+                self.faults = self.faults.saturating_add(1);
+                Got::Failed
+            }
+        }
+    }
+}
+
+// One read, made again where a signal interrupted it.
+fn read_uninterrupted<R: Read>(reader: &mut R, buf: &mut [u8]) -> io::Result<usize>
+    ensures { ReadsAtMost result buf.new }
+{
+    for _ in 0..u64::MAX {
+        match reader.read(buf) {
+            Err(error) if error.kind() == ErrorKind::Interrupted => {}
+            answer => return answer,
+        }
+    }
+    reader.read(buf)
+}
+
+/// A sink over a writer, as standard output is.
+///
+/// It counts the writer's errors, and a write that takes nothing as one. A write that a signal
+/// interrupted is no fault: it is made again, as std's own calls do. A contract sees the count of
+/// faults alone.
+#[derive(Debug, Drop)]
+pub struct OutputEdge<W> {
+    inner: W,
+    faults: u64,
+}
+
+impl<W> Model for OutputEdge<W> {
+    ghost use Rattle.std.specs.Prelude.{ℕ};
+
+    ghost Value = { ℕ };
+
+    ghost view = { λ e. e.faults };
+}
+
+impl<W: Write> OutputEdge<W> {
+    /// A sink over this writer. Its count of faults is 0.
+    pub fn new(inner: W) -> Self
+        ensures { result ≡ 0 }
+    {
+        OutputEdge { inner, faults: 0 }
+    }
+}
+
+impl<W: Write> Sink for OutputEdge<W> {
+    ghost written = { λ _. None };
+
+    ghost faults = { λ e. e };
+
+    fn write(&mut self, piece: &[u8]) -> Put {
+        match write_uninterrupted(&mut self.inner, piece) {
+            Ok(count) if 0 < count => Put::Took(count),
+            _ => {
+                self.faults = self.faults.saturating_add(1);
+                Put::Failed
+            }
+        }
+    }
+}
+
+// One write, made again where a signal interrupted it.
+fn write_uninterrupted<W: Write>(writer: &mut W, piece: &[u8]) -> io::Result<usize>
+    ensures { WritesAtMost result piece.now }
+{
+    for _ in 0..u64::MAX {
+        match writer.write(piece) {
+            Err(error) if error.kind() == ErrorKind::Interrupted => {}
+            answer => return answer,
+        }
+    }
+    writer.write(piece)
+}
