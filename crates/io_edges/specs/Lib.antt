@@ -3,3 +3,4 @@ pub mod Streams
 pub mod Stops
 pub mod PageState
 pub mod PiecesState
+pub mod EdgeState
