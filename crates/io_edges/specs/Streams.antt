@@ -1,0 +1,30 @@
+-- What a read and a write do to the bytes left, the bytes written and the count of faults.
+use Rattle.std.specs.Prelude.{◌≡◌, ℕ, ◌<◌, ◌≤◌, List, length, take, Option}
+use Rattle.std.specs.Io.KnownBytes.{prepend_known, append_known, IsAtEnd}
+use Rattle.io_edges.specs.Causes.{Rose}
+use Rattle.io_edges.specs.declared.source.Got.{Got}
+use Rattle.io_edges.specs.declared.source.Got.TheVariants as got
+use Rattle.io_edges.specs.declared.sink.Put.{Put}
+use Rattle.io_edges.specs.declared.sink.Put.TheVariants as put
+
+-- What a read took from the bytes left, where they are told: the answer, the buffer afterwards, the bytes left before and after.
+abbrev pub Reads : Got → List ℕ → Option (List ℕ) → Option (List ℕ) → Type 0
+Reads (got.Bytes n) buf old new = (0 < n) × (n ≤ length buf) × (old ≡ prepend_known (take n buf) new)
+Reads got.End buf old new = IsAtEnd old × (new ≡ old)
+Reads got.Failed buf old new = new ≡ old
+
+-- over a read the count of faults rose at `Failed`, and is the same at any other answer
+abbrev pub ReadCounts : Got → ℕ → ℕ → Type 0
+ReadCounts (got.Bytes n) before now = now ≡ before
+ReadCounts got.End before now = now ≡ before
+ReadCounts got.Failed before now = Rose before now
+
+-- What a write added to the bytes written, where they are told: the answer, the piece, the bytes written before and after.
+abbrev pub Writes : Put → List ℕ → Option (List ℕ) → Option (List ℕ) → Type 0
+Writes (put.Took n) piece old new = (0 < n) × (n ≤ length piece) × (new ≡ append_known old (take n piece))
+Writes put.Failed piece old new = new ≡ old
+
+-- over a write the count of faults rose at `Failed`, and is the same at any other answer
+abbrev pub WriteCounts : Put → ℕ → ℕ → Type 0
+WriteCounts (put.Took n) before now = now ≡ before
+WriteCounts put.Failed before now = Rose before now

@@ -1,0 +1,71 @@
+ghost use Rattle.std.specs.Prelude.{◌≡◌, ◌≤◌, length, IfOk, OnErr, vec_len};
+ghost use Rattle.std.specs.Io.KnownBytes.{prepend_known};
+ghost use Rattle.io_edges.specs.Stops.{StopsFor};
+
+use crate::source::{Got, Source};
+use std::alloc::{AllocError, Global};
+
+/// Why reading stopped.
+#[derive(Debug, Clone, Copy, PartialEq, Eq)]
+pub enum Stop {
+    /// Nothing is left.
+    End,
+    /// The source failed.
+    Failed,
+    /// As many bytes were read as may be. There may be more.
+    Full,
+}
+
+/// What was read, and why reading stopped.
+#[derive(Debug, Drop)]
+pub struct Input {
+    pub bytes: Vec<u8>,
+    pub stop: Stop,
+}
+
+/// How many bytes are asked for at a time.
+const CHUNK: usize = 65_536;
+
+/// Reads to the source's end, to its fault, or to `limit` bytes. No read follows these.
+///
+/// After an `Err` the bytes that came are lost, and the count of faults hasn't changed.
+#[tactic(auto, using(crate::proofs::Known::prepend_more, crate::proofs::Known::prepend_nothing))]
+pub fn read_all<S: Source>(alloc: Global, source: &mut S, limit: usize) -> Result<Input, AllocError>
+    ensures took { IfOk result (λ input. S.left source.old ≡ prepend_known input.bytes.items (S.left source.new)) }
+    ensures most { IfOk result (λ input. length input.bytes.items ≤ limit) }
+    ensures stop { IfOk result (λ input. StopsFor input.stop (S.left source.new) (S.faults source.old) (S.faults source.new) (length input.bytes.items) limit) }
+    ensures err { OnErr result (S.faults source.new ≡ S.faults source.old) }
+{
+    let mut bytes = Vec::new(alloc);
+    let mut chunk = buffer_of(alloc, CHUNK)?;
+    let buf = chunk.as_mut_slice();
+    while bytes.len() < limit {
+        let room = (limit - bytes.len()).min(buf.len());
+        match source.read(&mut buf[..room]) {
+            Got::Bytes(count) => bytes.extend_from_slice(&buf[..count])?,
+            Got::End => {
+                return Ok(Input {
+                    bytes,
+                    stop: Stop::End,
+                });
+            }
+            Got::Failed => {
+                return Ok(Input {
+                    bytes,
+                    stop: Stop::Failed,
+                });
+            }
+        }
+    }
+    Ok(Input {
+        bytes,
+        stop: Stop::Full,
+    })
+}
+
+// A buffer to read into.
+fn buffer_of(alloc: Global, len: usize) -> Result<Vec<u8>, AllocError>
+    ensures { IfOk result (λ buffer. vec_len buffer ≡ len) }
+{
+    vec![in alloc; 0; len]
+}

@@ -1,0 +1,35 @@
+ghost use Rattle.std.specs.Prelude.{◌<◌, ◌≤◌, ℕ, List, Option, length};
+ghost use Rattle.io_edges.specs.Streams.{Writes, WriteCounts};
+
+/// What a write did.
+#[derive(Debug, Clone, Copy, PartialEq, Eq)]
+pub enum Put {
+    /// The first so many bytes of the piece are written: from 1 to the piece's length.
+    Took(usize),
+    /// The sink failed, and its count of faults rose. No write follows this answer.
+    Failed,
+}
+
+/// A sink of bytes.
+///
+/// It has a count of faults, which begins at 0 and never falls, and the bytes that were written. A
+/// sink in memory tells which bytes these are; one over the outside world doesn't.
+pub trait Sink {
+    /// The bytes written, where they are told.
+    ghost written: { Self → Option (List ℕ) };
+
+    /// How often it has failed.
+    ghost faults: { Self → ℕ };
+
+    /// Writes some bytes of a piece that isn't empty.
+    ///
+    /// `Took(n)` appends the first n bytes of the piece and leaves the count of faults as it is.
+    /// `Failed` comes only where that count rose, and appends nothing.
+    ///
+    /// A caller doesn't write on after `Failed`.
+    fn write(&mut self, piece: &[u8]) -> Put
+        requires { 0 < length piece.now }
+        ensures bytes { Writes result piece.now (written self.old) (written self.new) }
+        ensures cause { WriteCounts result (faults self.old) (faults self.new) }
+        ensures never_falls { faults self.old ≤ faults self.new };
+}

@@ -1,0 +1,38 @@
+ghost use Rattle.std.specs.Prelude.{◌<◌, ◌≤◌, ℕ, List, Option, length};
+ghost use Rattle.io_edges.specs.Streams.{Reads, ReadCounts};
+
+/// What a read gave.
+#[derive(Debug, Clone, Copy, PartialEq, Eq)]
+pub enum Got {
+    /// So many bytes, which stand at the buffer's start: from 1 to the buffer's length.
+    Bytes(usize),
+    /// Nothing is left. No read follows this answer.
+    End,
+    /// The source failed, and its count of faults rose. No read follows this answer.
+    Failed,
+}
+
+/// A source of bytes.
+///
+/// It has a count of faults, which begins at 0 and never falls, and bytes that are left. A source
+/// in memory tells which bytes these are; one over the outside world doesn't.
+pub trait Source {
+    /// The bytes left, where they are told.
+    ghost left: { Self → Option (List ℕ) };
+
+    /// How often it has failed.
+    ghost faults: { Self → ℕ };
+
+    /// Reads some bytes into a buffer that isn't empty.
+    ///
+    /// `Bytes(n)` hands over the first n bytes left, `End` comes only where nothing is left, and
+    /// `Failed` only where the count of faults rose; the bytes left stay then. Any other answer
+    /// leaves the count as it is. What stands in the buffer after the bytes handed over is open.
+    ///
+    /// A caller doesn't read on after `End` or `Failed`.
+    fn read(&mut self, buf: &mut [u8]) -> Got
+        requires { 0 < length buf.old }
+        ensures bytes { Reads result buf.new (left self.old) (left self.new) }
+        ensures cause { ReadCounts result (faults self.old) (faults self.new) }
+        ensures never_falls { faults self.old ≤ faults self.new };
+}
