@@ -1,0 +1,59 @@
+-- What the program answers and writes.
+use Rattle.std.specs.Prelude.{◌≡◌, ◌⊎◌, ℕ, Bool, true, false, List, [], ◌∷◌, ◌++◌, length, take, Option, None, Some, codes, String, string_bytes}
+use Rattle.std.specs.Fmt.{decimal}
+use Rattle.std.specs.Str.{bytes_eq}
+use Rattle.std.specs.Global.{Global}
+use Rattle.std.specs.Io.KnownBytes.{append_known}
+use Rattle.wasm_defs.specs.Context.{declared_count}
+use Rattle.wasm_defs.specs.Faults.{Verdict, Accepted, Rejected, IsVerdict}
+
+-- a status, and what is written
+pub record Outcome : Type 0 where
+  pub status : ℕ
+  pub text : List ℕ
+
+-- the words are outside the command grammar
+abbrev pub usage : Outcome
+usage = record { status = 1; text = codes "usage: wstream check, compile, run EXPORT ARGS, exec EXPORT ARGS or drill N\n" }
+
+abbrev pub read_fault : Outcome
+read_fault = record { status = 6; text = codes "read fault\n" }
+
+-- so many functions that a module declares, and so many bytes that it has
+abbrev pub accepted : ℕ → ℕ → Outcome
+accepted functions bytes = record { status = 0; text = codes "ok " ++ decimal functions ++ codes " functions " ++ decimal bytes ++ codes " bytes\n" }
+
+abbrev pub rejected : Outcome
+rejected = record { status = 2; text = codes "refused\n" }
+
+abbrev pub of_verdict : ℕ → Verdict → Outcome
+of_verdict bytes (Accepted m) = accepted (declared_count m.items) bytes
+of_verdict bytes (Rejected r) = rejected
+
+-- two words, and the second is the command
+abbrev pub is_check : List (String Global) → Bool
+is_check (program ∷ command ∷ []) = bytes_eq (string_bytes command) (codes "check")
+is_check words = false
+
+-- by the words, whether the source failed, and the bytes that came
+abbrev pub IsOutcome : Bool → Bool → List ℕ → Outcome → Type 0
+IsOutcome false failed bytes o = o ≡ usage
+IsOutcome true true bytes o = o ≡ read_fault
+IsOutcome true false bytes o = (v : Verdict) × IsVerdict bytes v × (o ≡ of_verdict (length bytes) v)
+
+-- these bytes came from the source: all that was left, or, where it failed, a front of it
+abbrev pub Came : Option (List ℕ) → Bool → List ℕ → Type 0
+Came None failed bytes = Unit {0}
+Came (Some left) false bytes = bytes ≡ left
+Came (Some left) true bytes = (rest : List ℕ) × (left ≡ bytes ++ rest)
+
+-- what was answered and written of an outcome: where the sink failed, a front of its text; else its status and its text
+abbrev pub Told : ℕ → Outcome → Bool → Option (List ℕ) → Option (List ℕ) → Type 0
+Told status o true old new = (status ≡ 7) × (n : ℕ) × (new ≡ append_known old (take n o.text))
+Told status o false old new = (status ≡ o.status) × (new ≡ append_known old o.text)
+
+-- what a call answered and wrote: want of memory, and nothing; else what the words and the bytes come to
+abbrev pub Answers : Bool → Bool → Option (List ℕ) → ℕ → Bool → Option (List ℕ) → Option (List ℕ) → Type 0
+Answers check source_failed left status sink_failed old new =
+    ((status ≡ 8) × (sink_failed ≡ false) × (new ≡ old))
+    ⊎ ((bytes : List ℕ) × (o : Outcome) × Came left source_failed bytes × IsOutcome check source_failed bytes o × Told status o sink_failed old new)
