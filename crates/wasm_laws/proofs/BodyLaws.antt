@@ -1,0 +1,112 @@
+-- What a body is read by is steady: its locals, and an instruction behind its opcode.
+use Rattle.std.proofs.Common.{ℕ, zero, suc, ◌+◌, List, ◌∷◌, Option, Some, None}
+use Rattle.wasm_defs.specs.declared.fault.Kind.{Kind}
+use Rattle.wasm_defs.specs.declared.operation.Access.{Access}
+use Rattle.wasm_defs.specs.declared.operation.Operation.{Operation}
+use Rattle.wasm_defs.specs.declared.token.BlockType.{BlockType}
+use Rattle.wasm_defs.specs.declared.token.Plain.{Plain}
+use Rattle.wasm_defs.specs.declared.token.Token.{Token}
+use Rattle.wasm_defs.specs.declared.types.ValType.{ValType}
+use Rattle.wasm_defs.specs.Fields.{u32, byte}
+use Rattle.wasm_defs.specs.Bodies.{groups, local_groups, with_index, block_type, with_type, label, branch_table, zero_byte, indirect, with_zero, mem_arg, with_mem_arg, constant, control, variable, accessed_at, memory, operated_at, numeric, instruction}
+use Rattle.wasm_laws.specs.Steadiness.{token}
+use Rattle.wasm_laws.proofs.Steady.{Steady, In, here_in, bind, bind_field, either, done_steady, refused_steady}
+use Rattle.wasm_laws.proofs.Windows.{byte_field}
+use Rattle.wasm_laws.proofs.FieldLaws.{u32_field}
+use Rattle.wasm_laws.proofs.EntryLaws.{steady, value_type_steady}
+
+-- ---- locals
+
+pub groups_steady : (marks : List ℕ) (n declared : ℕ) → Steady marks (groups n declared)
+groups_steady marks zero declared = done_steady marks _
+groups_steady marks (suc n) declared =
+    bind_field marks u32 _ u32_field (λ count. either _ _ _ _ (refused_steady _ _ _ here_in)
+    (bind _ _ _ (value_type_steady _) (λ ty. bind _ _ _ (groups_steady _ n (declared + count.1)) (λ rest. done_steady _ _))))
+
+pub local_groups_steady : (marks : List ℕ) → Steady marks local_groups
+unfolding local_groups
+local_groups_steady marks = search (groups_steady, steady) depth 40
+
+-- ---- immediates
+
+pub with_index_steady : (marks : List ℕ) (make : ℕ → Plain) → Steady marks (with_index make)
+unfolding with_index
+with_index_steady marks make = search steady depth 40
+
+pub block_type_steady : (marks : List ℕ) → Steady marks block_type
+unfolding block_type
+block_type_steady marks = search steady depth 40
+
+pub with_type_steady : (marks : List ℕ) (make : BlockType → Token) → Steady marks (with_type make)
+unfolding with_type
+with_type_steady marks make = search (block_type_steady, steady) depth 40
+
+pub label_steady : (marks : List ℕ) → Steady marks label
+unfolding label
+label_steady marks = search steady depth 40
+
+pub branch_table_steady : (marks : List ℕ) → Steady marks branch_table
+unfolding branch_table
+branch_table_steady marks = search (label_steady, steady) depth 40
+
+pub zero_byte_steady : (marks : List ℕ) (kind : Kind) → Steady marks (zero_byte kind)
+unfolding zero_byte
+zero_byte_steady marks kind = search steady depth 40
+
+pub indirect_steady : (marks : List ℕ) → Steady marks indirect
+unfolding indirect
+indirect_steady marks = search (zero_byte_steady, steady) depth 40
+
+pub with_zero_steady : (marks : List ℕ) (p : Plain) → Steady marks (with_zero p)
+unfolding with_zero
+with_zero_steady marks p = search (zero_byte_steady, steady) depth 40
+
+pub mem_arg_steady : (marks : List ℕ) → Steady marks mem_arg
+unfolding mem_arg
+mem_arg_steady marks = search steady depth 40
+
+pub with_mem_arg_steady : (marks : List ℕ) (op : Access) → Steady marks (with_mem_arg op)
+unfolding with_mem_arg
+with_mem_arg_steady marks op = search (mem_arg_steady, steady) depth 40
+
+pub constant_steady : (marks : List ℕ) (ty : ValType) (bits : ℕ) → Steady marks (constant ty bits)
+unfolding constant
+constant_steady marks ty bits = search steady depth 40
+
+pub ruleset immediates = (with_index_steady, with_type_steady, branch_table_steady, indirect_steady, with_zero_steady, with_mem_arg_steady, constant_steady, steady)
+
+-- ---- instructions, whose opcode is a mark
+
+pub control_steady : (marks : List ℕ) (at b : ℕ) → In at marks → Steady marks (control at b)
+unfolding control
+control_steady marks at b i = search immediates depth 40
+
+pub variable_steady : (marks : List ℕ) (at b : ℕ) → In at marks → Steady marks (variable at b)
+unfolding variable
+variable_steady marks at b i = search immediates depth 40
+
+pub accessed_at_steady : (marks : List ℕ) (at : ℕ) (row : Option (Option Access)) → In at marks → Steady marks (accessed_at at row)
+accessed_at_steady marks at None i = refused_steady marks _ at i
+accessed_at_steady marks at (Some None) i = refused_steady marks _ at i
+accessed_at_steady marks at (Some (Some op)) i = with_mem_arg_steady marks op
+
+pub memory_steady : (marks : List ℕ) (at b : ℕ) → In at marks → Steady marks (memory at b)
+unfolding memory
+memory_steady marks at b i = search (accessed_at_steady, immediates) depth 40
+
+pub operated_at_steady : (marks : List ℕ) (at b : ℕ) (row : Option (Option Operation)) → In at marks → Steady marks (operated_at at b row)
+operated_at_steady marks at b None i = either marks _ _ _ (refused_steady marks _ at i) (refused_steady marks _ at i)
+operated_at_steady marks at b (Some None) i = refused_steady marks _ at i
+operated_at_steady marks at b (Some (Some op)) i = done_steady marks _
+
+pub numeric_steady : (marks : List ℕ) (at b : ℕ) → In at marks → Steady marks (numeric at b)
+unfolding numeric
+numeric_steady marks at b i = search (operated_at_steady, immediates) depth 40
+
+pub instruction_steady : (marks : List ℕ) (at b : ℕ) → In at marks → Steady marks (instruction at b)
+unfolding instruction
+instruction_steady marks at b i = search (control_steady, variable_steady, memory_steady, numeric_steady, immediates) depth 40
+
+-- an opcode and its instruction
+pub token_steady : (marks : List ℕ) → Steady marks token
+token_steady marks = bind_field marks byte _ byte_field (λ b. instruction_steady (b.0 ∷ marks) b.0 b.1 here_in)

@@ -1,0 +1,9 @@
+pub mod Steady
+pub mod Windows
+pub mod FieldLaws
+pub mod Names
+pub mod EntryLaws
+pub mod BodyLaws
+pub mod RowLaws
+pub mod Takes
+pub mod Runs

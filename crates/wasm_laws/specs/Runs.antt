@@ -1,0 +1,12 @@
+-- What more bytes make of a module's run (WebAssembly Core 1.0, 5.5).
+use Rattle.std.specs.Prelude.{◌≡◌, List, ◌++◌}
+use Rattle.wasm_defs.specs.Outside.{Part, Ending, Whole, Refused, Owed, Run}
+
+-- a refused run stays as it is, with all its parts; the parts of any other are the first ones of what it becomes
+abbrev pub Becomes : List Part → Ending → Run → Type 0
+Becomes parts (Refused r) later = later ≡ record { parts = parts; ending = Refused r }
+Becomes parts (Whole seen) later = (tail : List Part) × (later.parts ≡ parts ++ tail)
+Becomes parts Owed later = (tail : List Part) × (later.parts ≡ parts ++ tail)
+
+abbrev pub GoesOn : Run → Run → Type 0
+GoesOn r later = Becomes r.parts r.ending later

@@ -1,0 +1,30 @@
+//! The laws of how a module's bytes are read.
+
+ghost use Rattle.std.specs.Prelude.{ℕ, List, [], ◌∷◌, ◌++◌};
+ghost use Rattle.wasm_defs.specs.Bodies.{instruction, local_groups};
+ghost use Rattle.wasm_defs.specs.Entries.{Seen};
+ghost use Rattle.wasm_defs.specs.Outside.{header, module_run, preamble, row, section_end};
+ghost use Rattle.wasm_laws.specs.Runs.{GoesOn};
+ghost use Rattle.wasm_laws.specs.Steadiness.{Steady, SteadyEnd, SteadyRow, Takes, token};
+
+/// The fields outside bodies are steady (Core 5.5): the preamble, the header of each section, what each section holds, and
+/// its end. A header takes a byte at least.
+pub fn sections_are_steady()
+    ensures preamble { Steady [] preamble }
+    ensures header { (seen : Seen) → Steady [] (header seen) × Takes (header seen) }
+    ensures row { (id : ℕ) → SteadyRow (row id) }
+    ensures end { SteadyEnd section_end }
+{}
+
+/// The fields of bodies are steady (Core 5.4 and 5.5.13): the locals, and each instruction, whose fault may stand at its
+/// opcode.
+pub fn bodies_are_steady()
+    ensures locals { Steady [] local_groups }
+    ensures instruction { (at b : ℕ) → Steady (at ∷ []) (instruction at b) }
+    ensures token { Steady [] token }
+{}
+
+/// More bytes change no part and no refusal of a module: a refused run stays as it is, and any other goes on.
+pub fn more_bytes_change_nothing()
+    ensures { (bytes more : List ℕ) → GoesOn (module_run bytes) (module_run (bytes ++ more)) }
+{}

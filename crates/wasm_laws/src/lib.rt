@@ -1,0 +1,7 @@
+//! Laws of how a module's bytes are read: what more bytes change, how far reading goes, and where its parts and its first
+//! fault stand. The definitions are those of `wasm_defs`.
+#![tactic(auto)]
+
+mod laws;
+
+pub use laws::{bodies_are_steady, more_bytes_change_nothing, sections_are_steady};
