@@ -13,8 +13,8 @@ use Rattle.wasm_defs.specs.Bodies.{Spelled, stops, malformed_at, after_opcode, a
 use Rattle.wasm_defs.specs.Supported.{is_compiled_opcode}
 use Rattle.wasm_defs.specs.Faults.{rank, IsNoLater, IsFirst, first_outside, tokens_of, IsTokenFault, IsSpellingFault, IsCodeFault, IsValidCode}
 use Rattle.body_compiler.specs.Judged.{joined, earlier, unsupported_at}
-use Rattle.body_compiler.proofs.Faulty.{tokens_of-append, faulty_front, faulty_once, viable_front, IsLater, token_later}
-use Rattle.body_compiler.proofs.Places.{AllFrom, Places}
+use Rattle.wasm_laws.proofs.Faulty.{tokens_of-append, faulty_front, faulty_once, viable_front, IsLater, token_later}
+use Rattle.wasm_laws.proofs.Spelling.{AllWithin, Places}
 
 -- ---- the order of faults
 
@@ -60,17 +60,17 @@ outside_append (x ∷ ops) rest e =
       | inr h ↦ let t = rw h at e in absurd cc
     ]
 
-outside_from : (low : ℕ) (ops : List (ℕ × ℕ)) (r : Refusal) → AllFrom low ops → first_outside is_compiled_opcode ops ≡ Some r → low ≤ r.offset
-outside_from low [] r p e = absurd cc
-outside_from low (x ∷ ops) r p e =
+outside_from : (low high : ℕ) (ops : List (ℕ × ℕ)) (r : Refusal) → AllWithin low high ops → first_outside is_compiled_opcode ops ≡ Some r → low ≤ r.offset
+outside_from low high [] r p e = absurd cc
+outside_from low high (x ∷ ops) r p e =
     elim (cases_Bool (is_compiled_opcode x.1)) [
-      | inl h ↦ let t : first_outside is_compiled_opcode ops ≡ Some r = rw h at e in outside_from low ops r p.1 t
+      | inl h ↦ let t : first_outside is_compiled_opcode ops ≡ Some r = rw h at e in outside_from low high ops r p.2 t
       | inr h ↦ let t = rw h at e in let k : x.0 ≡ r.offset = cc in omega (arith, p.0)
     ]
 
-tokens_from : (low : ℕ) (between after : List (ℕ × Token)) (x : ℕ × Token) → AllFrom low (between ++ x ∷ after) → low ≤ x.0
-tokens_from low [] after x p = p.0
-tokens_from low (y ∷ between) after x p = tokens_from low between after x p.1
+tokens_from : (low high : ℕ) (between after : List (ℕ × Token)) (x : ℕ × Token) → AllWithin low high (between ++ x ∷ after) → low ≤ x.0
+tokens_from low high [] after x p = p.0
+tokens_from low high (y ∷ between) after x p = tokens_from low high between after x p.2
 
 -- ---- candidates
 
@@ -197,14 +197,14 @@ compiled_then x rest e = rw e refl
 outside_then : (x : ℕ × ℕ) (rest : List (ℕ × ℕ)) → is_compiled_opcode x.1 ≡ false → first_outside is_compiled_opcode (x ∷ rest) ≡ Some (unsupported_at x.0)
 outside_then x rest e = rw e refl
 
-pub refused_within : (c : Context) (ops : List (ℕ × ℕ)) (toks : List (ℕ × Token)) (at b : ℕ) (t : Token) (kind : Kind) (s : Spelled) → IsGood c ops toks → is_compiled_opcode b ≡ true
-    → IsFaulty c (tokens_of toks ++ t ∷ []) kind → AllFrom (at + 1) s.opcodes
+pub refused_within : (c : Context) (ops : List (ℕ × ℕ)) (toks : List (ℕ × Token)) (at b high : ℕ) (t : Token) (kind : Kind) (s : Spelled) → IsGood c ops toks → is_compiled_opcode b ≡ true
+    → IsFaulty c (tokens_of toks ++ t ∷ []) kind → AllWithin (at + 1) high s.opcodes
     → IsCodeFault c (joined ops toks (after_opcode (at, b) (after_token at t s))) (record { offset = at; kind = kind })
-refused_within c ops toks at b t kind s good e faulty places =
+refused_within c ops toks at b high t kind s good e faulty places =
     (inl (token_fault_here c toks at t kind s good.viable faulty),
     λ r p. elim (refused_candidates c (ops ++ (at, b) ∷ s.opcodes) toks at t kind s r good.viable faulty p) [
       | inl k ↦ equal_is_no_later (record { offset = at; kind = kind }) r (sym k)
-      | inr u ↦ inl (let later = outside_from (at + 1) s.opcodes r places (sym (compiled_then (at, b) s.opcodes e) ∙ sym (outside_append ops ((at, b) ∷ s.opcodes) good.compiled) ∙ u) in omega arith)
+      | inr u ↦ inl (let later = outside_from (at + 1) high s.opcodes r places (sym (compiled_then (at, b) s.opcodes e) ∙ sym (outside_append ops ((at, b) ∷ s.opcodes) good.compiled) ∙ u) in omega arith)
     ])
 
 pub refused_outside : (c : Context) (ops : List (ℕ × ℕ)) (toks : List (ℕ × Token)) (at b : ℕ) (t : Token) (kind : Kind) (s : Spelled) → IsGood c ops toks → is_compiled_opcode b ≡ false
@@ -225,33 +225,33 @@ refused_outside c ops toks at b t kind s good e faulty =
 
 -- ---- a token is taken whose opcode isn't compiled
 
-later_token_fault : (c : Context) (toks later : List (ℕ × Token)) (at : ℕ) (t : Token) (r : Refusal) → IsViable c (tokens_of toks ++ t ∷ []) → AllFrom (at + 1) later
+later_token_fault : (c : Context) (toks later : List (ℕ × Token)) (at high : ℕ) (t : Token) (r : Refusal) → IsViable c (tokens_of toks ++ t ∷ []) → AllWithin (at + 1) high later
     → IsTokenFault c (toks ++ (at, t) ∷ later) r → at < r.offset
-later_token_fault c toks later at t r viable places f =
+later_token_fault c toks later at high t r viable places f =
     let front : toks ++ (at, t) ∷ later ≡ (toks ++ (at, t) ∷ []) ++ later = sym (append_assoc toks ((at, t) ∷ []) later) in
     let v : IsViable c (tokens_of (toks ++ (at, t) ∷ [])) = rw (tokens_of-append toks ((at, t) ∷ [])) viable in
     let g : IsTokenFault c ((toks ++ (at, t) ∷ []) ++ later) r = rw (← front) f in
     let l = token_later c (toks ++ (at, t) ∷ []) later r v g in
-    let low = tokens_from (at + 1) l.between l.after (r.offset, l.token) (rw l.parts at places) in
+    let low = tokens_from (at + 1) high l.between l.after (r.offset, l.token) (rw l.parts at places) in
     omega arith
 
 -- more of the body follows, or its end
-pub taken_outside : (c : Context) (ops : List (ℕ × ℕ)) (toks : List (ℕ × Token)) (at b last : ℕ) (t : Token) (s : Spelled) → IsGood c ops toks → is_compiled_opcode b ≡ false
-    → IsViable c (tokens_of toks ++ t ∷ []) → Places (at + 1) last s → at < last ⊎ (s.fault ≡ None)
+pub taken_outside : (c : Context) (ops : List (ℕ × ℕ)) (toks : List (ℕ × Token)) (at b high last : ℕ) (t : Token) (s : Spelled) → IsGood c ops toks → is_compiled_opcode b ≡ false
+    → IsViable c (tokens_of toks ++ t ∷ []) → Places (at + 1) high last s → at < last ⊎ (s.fault ≡ None)
     → IsCodeFault c (joined ops toks (after_opcode (at, b) (after_token at t s))) (unsupported_at at)
-taken_outside c ops toks at b last t s good e viable places more =
+taken_outside c ops toks at b high last t s good e viable places more =
     let own : first_outside is_compiled_opcode (ops ++ (at, b) ∷ s.opcodes) ≡ Some (unsupported_at at) = outside_append ops ((at, b) ∷ s.opcodes) good.compiled ∙ outside_then (at, b) s.opcodes e in
     (inr (inr own), λ r p. no_earlier r p)
   where
     spelled_later : (r : Refusal) → s.fault ≡ Some r → (at < last) ⊎ (s.fault ≡ None) → at < r.offset
-    spelled_later r k (inl lt) = elim (places.fault r k) [ inl h ↦ omega arith | inr h ↦ omega arith ]
+    spelled_later r k (inl lt) = elim (places.fault r k) [ inl h ↦ omega (arith, h.0) | inr h ↦ omega arith ]
     spelled_later r k (inr none) = absurd (none_is_some s.fault r none k)
 
     own_again : (r : Refusal) → first_outside is_compiled_opcode (ops ++ (at, b) ∷ s.opcodes) ≡ Some r → unsupported_at at ≡ r
     own_again r u = let k : Some (unsupported_at at) ≡ Some r = sym (outside_append ops ((at, b) ∷ s.opcodes) good.compiled ∙ outside_then (at, b) s.opcodes e) ∙ u in cc
 
     no_earlier : (r : Refusal) → IsCandidate c (joined ops toks (after_opcode (at, b) (after_token at t s))) r → IsNoLater (unsupported_at at) r
-    no_earlier r (inl f) = inl (later_token_fault c toks s.tokens at t r viable places.tokens f)
+    no_earlier r (inl f) = inl (later_token_fault c toks s.tokens at high t r viable places.tokens f)
     no_earlier r (inr (inl f)) = inl (spelled_later r f.is more)
     no_earlier r (inr (inr u)) = equal_is_no_later (unsupported_at at) r (own_again r u)
 
@@ -263,7 +263,7 @@ taken_last c ops toks at b t good e viable =
     (inr (inl (record { viable = rw (tokens_of-append toks ((at, t) ∷ [])) viable; is = refl })), λ r p. no_earlier r p)
   where
     no_earlier : (r : Refusal) → IsCandidate c (joined ops toks (after_opcode (at, b) (after_token at t (malformed_at at)))) r → IsNoLater (record { offset = at; kind = Malformed }) r
-    no_earlier r (inl f) = inl (later_token_fault c toks [] at t r viable tt f)
+    no_earlier r (inl f) = inl (later_token_fault c toks [] at 0 t r viable tt f)
     no_earlier r (inr (inl f)) = equal_is_no_later (record { offset = at; kind = Malformed }) r (let k = f.is in cc)
     no_earlier r (inr (inr u)) =
         let own : first_outside is_compiled_opcode (ops ++ (at, b) ∷ []) ≡ Some (unsupported_at at) = outside_append ops ((at, b) ∷ []) good.compiled ∙ outside_then (at, b) [] e in

@@ -69,9 +69,9 @@ pub with_mem_arg_steady : (marks : List ℕ) (op : Access) → Steady marks (wit
 unfolding with_mem_arg
 with_mem_arg_steady marks op = search (mem_arg_steady, steady) depth 40
 
-pub constant_steady : (marks : List ℕ) (ty : ValType) (bits : ℕ) → Steady marks (constant ty bits)
+pub constant_steady : (marks : List ℕ) (ty : ValType) → Steady marks (constant ty)
 unfolding constant
-constant_steady marks ty bits = search steady depth 40
+constant_steady marks ty = search steady depth 40
 
 pub ruleset immediates = (with_index_steady, with_type_steady, branch_table_steady, indirect_steady, with_zero_steady, with_mem_arg_steady, constant_steady, steady)
 

@@ -7,3 +7,6 @@ pub mod BodyLaws
 pub mod RowLaws
 pub mod Takes
 pub mod Runs
+pub mod Spelling
+pub mod Faulty
+pub mod Verdicts
