@@ -4,7 +4,8 @@ use Rattle.std.proofs.Common.{length-append}
 use Rattle.wasm_defs.specs.declared.item.Item.{Item}
 use Rattle.wasm_defs.specs.declared.item.Item.TheVariants.{Signature, Imported, Function, Table, Memory, Global, Exported, Start, Element, Code, Segment}
 use Rattle.wasm_defs.specs.Context.{types_of, functions_of, import_count, declared_count, tables_of, memories_of, globals_of}
-use Rattle.index_spaces.specs.Spaces.{spaces_of, with_item}
+use Rattle.wasm_defs.specs.Context.{context_of}
+use Rattle.index_spaces.specs.Spaces.{context_in, spaces_of, with_item}
 
 pub types_of-append : (xs ys : List Item) → types_of (xs ++ ys) ≡ types_of xs ++ types_of ys
 types_of-append [] ys = refl
@@ -64,3 +65,6 @@ spaces_of-append items (Start index) = simp appends
 spaces_of-append items (Element table place functions) = simp appends
 spaces_of-append items (Code count end) = simp appends
 spaces_of-append items (Segment memory place bytes) = simp appends
+
+pub context_of-append : (items : List Item) (x : Item) → context_of (items ++ x ∷ []) ≡ context_in (with_item (spaces_of items) x)
+context_of-append items x = ap context_in (spaces_of-append items x)

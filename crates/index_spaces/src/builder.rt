@@ -1,7 +1,7 @@
 //! Gathers the context of a module from its items.
 
-ghost use Rattle.std.specs.Prelude.{◌≡◌, OnOk, OnErr, IfOk};
-ghost use Rattle.index_spaces.specs.Spaces.{no_spaces, with_item};
+ghost use Rattle.std.specs.Prelude.{◌≡◌, [], OnOk, OnErr, IfOk};
+ghost use Rattle.index_spaces.specs.Spaces.{spaces_of, with_item};
 
 use crate::context::Context;
 use std::alloc::{AllocError, Global};
@@ -40,7 +40,7 @@ impl Model for ContextBuilder {
 impl ContextBuilder {
     /// The context of no items.
     pub fn new(alloc: Global) -> Self
-        ensures { result ≡ no_spaces }
+        ensures { result ≡ spaces_of [] }
     {
         ContextBuilder {
             alloc,

@@ -2,7 +2,7 @@
 
 ghost use Rattle.std.specs.Prelude.{◌≡◌, ◌+◌, ◌^◌, ◌<◌, ◌↔◌, [], ◌∷◌, ◌++◌, length, IsTrue, IsSome, is_some, Some, OnOk, OnErr, slice_get};
 ghost use Rattle.wasm_defs.specs.Typing.{function_type};
-ghost use Rattle.index_spaces.specs.Spaces.{no_spaces, with_type, with_imported, with_function, with_table, with_memory, with_global};
+ghost use Rattle.index_spaces.specs.Spaces.{context_in, spaces_of, with_type, with_imported, with_function, with_table, with_memory, with_global};
 
 use std::alloc::{AllocError, Global};
 use std::marker::Model;
@@ -21,12 +21,12 @@ pub struct Context {
 }
 
 impl Model for Context {
-    ghost use Rattle.std.specs.Prelude.{◌-◌, ◌≤◌, [], length};
+    ghost use Rattle.std.specs.Prelude.{◌-◌, ◌≤◌, length};
     ghost use Rattle.index_spaces.specs.Spaces.{Spaces};
 
     ghost Value = { Spaces };
 
-    ghost view = { λ c. record { context = record { types = c.types.items; functions = c.functions.items; tables = length c.tables.items; memories = length c.memories.items; globals = c.globals.items; locals = []; results = []; labels = [] }; tables = c.tables.items; memories = c.memories.items; imported = c.imported; declared = length c.functions.items - c.imported } };
+    ghost view = { λ c. record { types = c.types.items; functions = c.functions.items; tables = c.tables.items; memories = c.memories.items; globals = c.globals.items; imported = c.imported; declared = length c.functions.items - c.imported } };
 
     ghost invariant = { λ c. c.imported ≤ length c.functions.items };
 }
@@ -34,7 +34,7 @@ impl Model for Context {
 impl Context {
     /// The index spaces of a module without items.
     pub(crate) fn new(alloc: Global) -> Self
-        ensures { result ≡ no_spaces }
+        ensures { result ≡ spaces_of [] }
     {
         Context {
             types: Vec::new(alloc),
@@ -98,14 +98,14 @@ impl Context {
 
     /// The types by their indices (Core 2.5.2).
     pub fn types(&self) -> &[FuncType]
-        ensures { result.now ≡ self.now.context.types }
+        ensures { result.now ≡ self.now.types }
     {
         self.types.as_slice()
     }
 
     /// The functions by their indices (Core 2.5.3), imported ones first: of each the index of its type.
     pub fn type_indices(&self) -> &[u32]
-        ensures { result.now ≡ self.now.context.functions }
+        ensures { result.now ≡ self.now.functions }
     {
         self.functions.as_slice()
     }
@@ -126,15 +126,15 @@ impl Context {
 
     /// The globals by their indices (Core 2.5.6).
     pub fn globals(&self) -> &[GlobalType]
-        ensures { result.now ≡ self.now.context.globals }
+        ensures { result.now ≡ self.now.globals }
     {
         self.globals.as_slice()
     }
 
     /// How many functions there are, imported and declared ones together.
     pub fn functions(&self) -> u32
-        requires { length self.now.context.functions < 2 ^ 32 }
-        ensures { result ≡ length self.now.context.functions }
+        requires { length self.now.functions < 2 ^ 32 }
+        ensures { result ≡ length self.now.functions }
     {
         self.functions.len() as u32
     }
@@ -149,21 +149,21 @@ impl Context {
 
     /// Whether there is a type of the index.
     pub fn has_type(&self, index: u32) -> bool
-        ensures { IsTrue result ↔ (index < length self.now.context.types) }
+        ensures { IsTrue result ↔ (index < length self.now.types) }
     {
         (index as usize) < self.types.len()
     }
 
     /// Whether there is a function of the index.
     pub fn has_function(&self, index: u32) -> bool
-        ensures { IsTrue result ↔ (index < length self.now.context.functions) }
+        ensures { IsTrue result ↔ (index < length self.now.functions) }
     {
         (index as usize) < self.functions.len()
     }
 
     /// Whether there are a function of the index and its type.
     pub fn has_type_of_function(&self, index: u32) -> bool
-        ensures { result ≡ is_some (function_type self.now.context index) }
+        ensures { result ≡ is_some (function_type (context_in self.now) index) }
     {
         match self.functions.get(index as usize) {
             Some(type_index) => (*type_index as usize) < self.types.len(),
@@ -173,45 +173,45 @@ impl Context {
 
     /// Whether there is a table.
     pub fn has_table(&self) -> bool
-        ensures { IsTrue result ↔ (0 < self.now.context.tables) }
+        ensures { IsTrue result ↔ (0 < length self.now.tables) }
     {
         !self.tables.is_empty()
     }
 
     /// Whether there is a memory.
     pub fn has_memory(&self) -> bool
-        ensures { IsTrue result ↔ (0 < self.now.context.memories) }
+        ensures { IsTrue result ↔ (0 < length self.now.memories) }
     {
         !self.memories.is_empty()
     }
 
     /// Whether there is a global of the index.
     pub fn has_global(&self, index: u32) -> bool
-        ensures { IsTrue result ↔ (index < length self.now.context.globals) }
+        ensures { IsTrue result ↔ (index < length self.now.globals) }
     {
         (index as usize) < self.globals.len()
     }
 
     /// The type of the index.
     pub fn type_at(&self, index: u32) -> &FuncType
-        requires { index < length self.now.context.types }
-        ensures { slice_get self.now.context.types index ≡ Some result.now }
+        requires { index < length self.now.types }
+        ensures { slice_get self.now.types index ≡ Some result.now }
     {
         &self.types[index as usize]
     }
 
     /// The type of the function of the index, where both are there.
     pub fn type_of_function(&self, index: u32) -> &FuncType
-        requires { IsSome (function_type self.now.context index) }
-        ensures { function_type self.now.context index ≡ Some result.now }
+        requires { IsSome (function_type (context_in self.now) index) }
+        ensures { function_type (context_in self.now) index ≡ Some result.now }
     {
         &self.types[self.functions[index as usize] as usize]
     }
 
     /// The type of the global of the index.
     pub fn global(&self, index: u32) -> &GlobalType
-        requires { index < length self.now.context.globals }
-        ensures { slice_get self.now.context.globals index ≡ Some result.now }
+        requires { index < length self.now.globals }
+        ensures { slice_get self.now.globals index ≡ Some result.now }
     {
         &self.globals[index as usize]
     }

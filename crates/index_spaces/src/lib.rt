@@ -7,4 +7,4 @@ mod laws;
 
 pub use builder::ContextBuilder;
 pub use context::Context;
-pub use laws::items_are_added;
+pub use laws::{contexts_are_of_items, items_are_added};
