@@ -1,0 +1,285 @@
+-- The frames of a flat stack.
+use Rattle.std.proofs.Common.{◌≡◌, ℕ, zero, suc, ◌-◌, ◌<◌, ◌≤◌, Bool, true, false, List, [], ◌∷◌, ◌++◌, length, get_or, set, take, drop, map, Option, None, Some, Result, Ok, Err, refl, sym, ap, ◌∙◌, subst, arith}
+use Rattle.std.specs.Prelude.{reverse, is_some, slice_get}
+use Rattle.std.proofs.lemmas.List.{reverse-append, length-reverse, length-take-le, length-drop, length-append, drop_all, drop_at, take_at, take-take, take-append-le, take_rest, set_split, drop-append-le, get_or-reverse}
+use Rattle.body_validator.specs.declared.stack.Frame.{Frame as Flat}
+use Rattle.wasm_defs.specs.declared.types.ValType.TheVariants.{I32}
+use Rattle.body_validator.specs.declared.stack.Opening.{Opening}
+use Rattle.body_validator.specs.declared.stack.Opening.TheVariants.{Else as Elses}
+use Rattle.body_validator.specs.declared.operands.Stop.TheVariants.{Refused, NoMemory}
+use Rattle.wasm_defs.specs.Typing.{Types, Signature, Fixed, Stops, Discards, Selects}
+use Rattle.body_validator.specs.Checking.{Operand, Operands, Frames, ◌>>=◌, guarded, known, take_all as taken_all, is_of, Taken, take_any, joined, any_at, selected_of, label_of, labels, put, apply, applied, enter, turned, ended, fresh, height, none_left, closes, may_end, takes_else, starts_live, receive}
+use Rattle.body_validator.specs.Stacks.{own_of, signature, frame_of, frames_of, IsLaid, HasLast, is_live_in}
+use Rattle.body_validator.specs.Exchange.{Exchanges, Steps}
+use Rattle.body_validator.proofs.Options.{through, some_inside, and_true}
+use Rattle.body_validator.proofs.Flat.{take_all-drop, known-reverse, put_own, some_or_none}
+
+pub height-frames_of : (fs : List Flat) (items : List Operand) → IsLaid fs items → height (frames_of fs items) ≡ length items
+height-frames_of [] items h = ap length (sym h)
+height-frames_of (f ∷ fs) items h =
+    let below = height-frames_of fs (take f.base items) h.1 in
+    let a = length-reverse (drop f.base items) in
+    let b = length-drop f.base items in
+    let d = length-take-le f.base items h.0 in
+    omega arith
+
+-- the innermost frame's operands change, and nothing below them
+pub exchange_steps : (f : Flat) (fs : List Flat) (params results : Types) (r : Result (Unit {0}) _) (old new : List Operand) → Exchanges f.unknown f.base params results r old new → take f.base new ≡ take f.base old
+    → Steps (applied (Fixed params results) (frames_of (f ∷ fs) old)) r (frames_of (f ∷ fs) old) (frames_of (f ∷ fs) new)
+exchange_steps f fs params results (Ok done) old new h e =
+    let s = through (taken_all f.unknown params (own_of old f.base)) (λ left. Some (known results ++ left)) (own_of new f.base) h in
+    let o = (frame_of f old).operands in
+    let own = some_inside (known results ++ s.value) (own_of new f.base) s.then in
+    let make : List Operand → List Operand → Frames = λ x y. record (frame_of f old) { operands = put o x } ∷ frames_of fs y in
+    ap (λ (x : Option (List Operand)). (x >>= λ own. Some (put o (known results ++ own))) >>= λ o. Some (record (frame_of f old) { operands = o } ∷ frames_of fs (take f.base old))) s.is
+    ∙ ap (λ (x : List Operand). Some (make x (take f.base old))) own ∙ ap (λ (x : List Operand). Some (make (own_of new f.base) x)) (sym e)
+exchange_steps f fs params results (Err Refused) old new h e =
+    let o = (frame_of f old).operands in (
+      ap (λ (x : Option (List Operand)). (x >>= λ own. Some (put o (known results ++ own))) >>= λ o. Some (record (frame_of f old) { operands = o } ∷ frames_of fs (take f.base old))) h.0,
+      ap (frames_of (f ∷ fs)) h.1,
+    )
+exchange_steps f fs params results (Err NoMemory) old new h e = ap (frames_of (f ∷ fs)) h
+
+pub reverse-set_last : {A : Type 0} (xs : List A) (n : ℕ) (x : A) → n ≡ length xs → 0 < n → reverse (set xs (n - 1) x) ≡ x ∷ reverse (take (length xs - 1) xs)
+reverse-set_last xs n x e h =
+    let none : length xs ≤ suc (n - 1) = omega arith in
+    let m : n - 1 ≡ length xs - 1 = omega arith in
+    ap reverse (set_split xs (n - 1) x (omega arith) ∙ ap (λ ys. take (n - 1) xs ++ x ∷ ys) (drop_all (suc (n - 1)) xs none))
+    ∙ reverse-append (take (n - 1) xs) (x ∷ []) ∙ ap (λ (k : ℕ). x ∷ reverse (take k xs)) m
+
+own_of-base : (items : List Operand) (base : ℕ) → base ≤ length items → own_of (take base items) base ≡ []
+own_of-base items base h = ap reverse (drop_all base (take base items) (omega (arith, length-take-le base items h)))
+
+any_left : (unknown : Bool) (own : List Operand) → (own ≡ [] → unknown ≡ true) → (x : Taken) × (take_any unknown own ≡ Some x) × (x.left ≡ drop 1 own)
+any_left unknown [] h = (record { operand = None; left = [] }, ap (λ (b : Bool). guarded b (record { operand = None; left = [] })) (h refl), refl)
+any_left unknown (o ∷ own) h = (record { operand = o; left = own }, refl, refl)
+
+pub discard_steps : (all : List Flat) (f : Flat) (rest : List Flat) (old new : List Operand) → all ≡ f ∷ rest → (length old ≡ f.base → f.unknown ≡ true) → f.base ≤ length old
+    → own_of new f.base ≡ drop 1 (own_of old f.base) → take f.base new ≡ take f.base old → applied Discards (frames_of all old) ≡ Some (frames_of all new)
+discard_steps all f rest old new is some within own below =
+    let o = (frame_of f old).operands in
+    let own_length = length-reverse (drop f.base old) in
+    let dropped = length-drop f.base old in
+    let x = any_left f.unknown (own_of old f.base) (λ e. let none = ap length e in some (omega arith)) in
+    let make : List Operand → List Operand → Frames = λ y z. record (frame_of f old) { operands = put o y } ∷ frames_of rest z in
+    subst (λ (y : List Flat). applied Discards (frames_of y old) ≡ Some (frames_of y new)) (sym is)
+    (ap (λ (y : Option Taken). (y >>= λ x. Some (put o x.left)) >>= λ o. Some (record (frame_of f old) { operands = o } ∷ frames_of rest (take f.base old))) x.1
+    ∙ ap (λ (y : List Operand). Some (make y (take f.base old))) (x.2 ∙ sym own) ∙ ap (λ (z : List Operand). Some (make (own_of new f.base) z)) (sym below))
+
+abbrev stopped : Flat → Flat
+stopped f = record f { unknown = true; live = false }
+
+pub stop_steps : (all after : List Flat) (f : Flat) (rest : List Flat) (params : Types) (old : List Operand) → all ≡ f ∷ rest → after ≡ stopped f ∷ rest → f.base ≤ length old
+    → is_some (taken_all f.unknown params (own_of old f.base)) ≡ true → applied (Stops params) (frames_of all old) ≡ Some (frames_of after (take f.base old))
+stop_steps all after f rest params old is later within found =
+    let o : Operands = record { own = []; unknown = true; live = false } in
+    let own = own_of-base old f.base within in
+    let below = take-take f.base f.base old (omega arith) in
+    let make : List Operand → List Operand → Frames = λ y z. record (frame_of f old) { operands = record { own = y; unknown = true; live = false } } ∷ frames_of rest z in
+    ap (λ (y : List Flat). applied (Stops params) (frames_of y old)) is
+    ∙ ap (λ (y : Option (List Operand)). (y >>= λ own. Some o) >>= λ o. Some (record (frame_of f old) { operands = o } ∷ frames_of rest (take f.base old))) (take_all-drop f.unknown params (own_of old f.base) found)
+    ∙ ap (λ (z : List Operand). Some (make [] z)) (sym below) ∙ ap (λ (y : List Operand). Some (make y (take f.base (take f.base old)))) (sym own)
+    ∙ ap (λ (y : List Flat). Some (frames_of y (take f.base old))) (sym later)
+
+-- what lies on top of some operands
+laid_on : (items : List Operand) (types : Types) (base : ℕ) → base ≡ length items → own_of (items ++ map Some types) base ≡ known (reverse types)
+laid_on items types base e = ap reverse (drop_at items (map Some types) base (sym e)) ∙ sym (known-reverse types)
+
+pub enter_steps : (all after : List Flat) (f g : Flat) (rest : List Flat) (params : Types) (old left new : List Operand) → all ≡ f ∷ rest → after ≡ g ∷ f ∷ rest
+    → is_some (taken_all f.unknown params (own_of old f.base)) ≡ true → own_of left f.base ≡ drop (length params) (own_of old f.base) → take f.base left ≡ take f.base old
+    → new ≡ left ++ map Some g.params.now → g.base ≡ length left → g.unknown ≡ false → g.live ≡ f.live
+    → enter g.opening (signature g.params.now g.results.now) params (frames_of all old) ≡ Some (frames_of after new)
+enter_steps all after f g rest params old left new is later found own below laid base known_all live =
+    let type = signature g.params.now g.results.now in
+    let o = (frame_of f old).operands in
+    let front : take g.base new ≡ left = ap (take g.base) laid ∙ take_at left (map Some g.params.now) g.base (sym base) in
+    let top : own_of new g.base ≡ known type.params = ap (λ (x : List Operand). own_of x g.base) laid ∙ laid_on left g.params.now g.base base in
+    let make : Bool → Bool → List Operand → List Operand → List Operand → Frames =
+    λ unknown live x y z. record { opening = g.opening; type = type; operands = record { own = x; unknown = unknown; live = live } } ∷ record (frame_of f old) { operands = put o y } ∷ frames_of rest z in
+    ap (λ (y : List Flat). enter g.opening type params (frames_of y old)) is
+    ∙ ap (λ (y : Option (List Operand)). y >>= λ own. Some (make false f.live (known type.params) own (take f.base old))) (take_all-drop f.unknown params (own_of old f.base) found)
+    ∙ ap (λ (y : List Operand). Some (make false f.live (known type.params) y (take f.base old))) (sym own ∙ ap (λ (x : List Operand). own_of x f.base) (sym front))
+    ∙ ap (λ (z : List Operand). Some (make false f.live (known type.params) (own_of (take g.base new) f.base) z)) (sym below ∙ ap (take f.base) (sym front))
+    ∙ ap (λ (x : List Operand). Some (make false f.live x (own_of (take g.base new) f.base) (take f.base (take g.base new)))) (sym top)
+    ∙ ap (λ (b : Bool). Some (make false b (own_of new g.base) (own_of (take g.base new) f.base) (take f.base (take g.base new)))) (sym live)
+    ∙ ap (λ (b : Bool). Some (make b g.live (own_of new g.base) (own_of (take g.base new) f.base) (take f.base (take g.base new)))) (sym known_all)
+    ∙ ap (λ (y : List Flat). Some (frames_of y new)) (sym later)
+
+starts_live-frames_of : (fs : List Flat) (items : List Operand) → starts_live (frames_of fs items) ≡ is_live_in fs
+starts_live-frames_of [] items = refl
+starts_live-frames_of (f ∷ fs) items = refl
+
+abbrev turned_over : Flat → Bool → Flat
+turned_over f live = record f { opening = Elses; unknown = false; live = live }
+
+pub turn_steps : (all after : List Flat) (f : Flat) (rest : List Flat) (live : Bool) (old new : List Operand) → all ≡ f ∷ rest → after ≡ turned_over f live ∷ rest → f.base ≤ length old
+    → takes_else f.opening ≡ true → closes (frame_of f old) ≡ true → live ≡ is_live_in rest → new ≡ take f.base old ++ map Some f.params.now
+    → turned (frames_of all old) ≡ Some (frames_of after new)
+turn_steps all after f rest live old new is later within opening just lives laid =
+    let type = signature f.params.now f.results.now in
+    let under = take f.base old in
+    let long = length-take-le f.base old within in
+    let front : take f.base new ≡ under = ap (take f.base) laid ∙ take_at under (map Some f.params.now) f.base long in
+    let top : own_of new f.base ≡ known type.params = ap (λ (x : List Operand). own_of x f.base) laid ∙ laid_on under f.params.now f.base (sym long) in
+    let make : Bool → List Operand → List Operand → Frames = λ l x z. record { opening = Elses; type = type; operands = record { own = x; unknown = false; live = l } } ∷ frames_of rest z in
+    ap (λ (y : List Flat). turned (frames_of y old)) is
+    ∙ ap (λ (b : Bool). guarded b (make (starts_live (frames_of rest under)) (known type.params) under)) (and_true (takes_else f.opening) (closes (frame_of f old)) opening just)
+    ∙ ap (λ (l : Bool). Some (make l (known type.params) under)) (starts_live-frames_of rest under ∙ sym lives)
+    ∙ ap (λ (x : List Operand). Some (make live x under)) (sym top) ∙ ap (λ (z : List Operand). Some (make live (own_of new f.base) z)) (sym front)
+    ∙ ap (λ (y : List Flat). Some (frames_of y new)) (sym later)
+
+received : (rest : List Flat) (results : Types) (items new : List Operand) → IsLaid rest items → (rest ≡ [] → ⊥) → new ≡ items ++ map Some results
+    → receive (reverse results) (frames_of rest items) ≡ frames_of rest new
+received [] results items new laid some e = absurd (some refl)
+received (g ∷ gs) results items new laid some e =
+    let own = ap (λ (x : List Operand). own_of x g.base) e ∙ put_own items results g.base laid.0 in
+    let below = ap (take g.base) e ∙ take-append-le g.base items (map Some results) laid.0 in
+    let make : List Operand → List Operand → Frames = λ x z. record (frame_of g items) { operands = put (frame_of g items).operands x } ∷ frames_of gs z in
+    ap (λ (x : List Operand). make x (take g.base items)) (sym own) ∙ ap (make (own_of new g.base)) (sym below)
+
+pub leave_steps : (all : List Flat) (f : Flat) (rest : List Flat) (old new : List Operand) → all ≡ f ∷ rest → IsLaid all old → closes (frame_of f old) ≡ true
+    → may_end f.opening (signature f.params.now f.results.now) ≡ true → (rest ≡ [] → ⊥) → new ≡ take f.base old ++ map Some f.results.now → ended (frames_of all old) ≡ Some (frames_of rest new)
+leave_steps all f rest old new is laid just may some e =
+    let inside = subst (λ (y : List Flat). IsLaid y old) is laid in
+    ap (λ (y : List Flat). ended (frames_of y old)) is
+    ∙ ap (λ (b : Bool). guarded b (receive (reverse f.results.now) (frames_of rest (take f.base old)))) (and_true (closes (frame_of f old)) (may_end f.opening (signature f.params.now f.results.now)) just may)
+    ∙ ap (λ (x : Frames). Some x) (received rest f.results.now (take f.base old) new inside.1 some e)
+
+pub last_steps : (all : List Flat) (f : Flat) (rest : List Flat) (old : List Operand) (new : List Operand) → all ≡ f ∷ rest → closes (frame_of f old) ≡ true
+    → may_end f.opening (signature f.params.now f.results.now) ≡ true → rest ≡ [] → ended (frames_of all old) ≡ Some (frames_of rest new)
+last_steps all f rest old new is just may none =
+    ap (λ (y : List Flat). ended (frames_of y old)) is
+    ∙ ap (λ (b : Bool). guarded b (receive (reverse f.results.now) (frames_of rest (take f.base old)))) (and_true (closes (frame_of f old)) (may_end f.opening (signature f.params.now f.results.now)) just may)
+    ∙ ap (λ (y : List Flat). Some (receive (reverse f.results.now) (frames_of y (take f.base old)))) none ∙ ap (λ (y : List Flat). Some (frames_of y new)) (sym none)
+
+-- ---- facts as the calls give them
+
+-- the part of a slice from the base on
+pub part_own : (slice items : List Operand) (base : ℕ) → slice ≡ items → reverse (take (length slice - base) (drop base slice)) ≡ own_of items base
+part_own slice items base e = ap reverse (take_rest slice base) ∙ ap (λ (x : List Operand). own_of x base) e
+
+pub part_found : (unknown : Bool) (params : Types) (slice items : List Operand) (base : ℕ) (r b : Bool) → slice ≡ items
+    → r ≡ is_some (taken_all unknown params (reverse (take (length slice - base) (drop base slice)))) → r ≡ b → is_some (taken_all unknown params (own_of items base)) ≡ b
+part_found unknown params slice items base r b e f g =
+    sym (f ∙ ap (λ (x : List Operand). is_some (taken_all unknown params x)) (part_own slice items base e)) ∙ g
+
+pub part_just : (unknown : Bool) (params : Types) (slice items : List Operand) (base : ℕ) (r b : Bool) → slice ≡ items
+    → r ≡ none_left (taken_all unknown params (reverse (take (length slice - base) (drop base slice)))) → r ≡ b → none_left (taken_all unknown params (own_of items base)) ≡ b
+part_just unknown params slice items base r b e f g =
+    sym (f ∙ ap (λ (x : List Operand). none_left (taken_all unknown params x)) (part_own slice items base e)) ∙ g
+
+pub last_in : (slice items : List Flat) (f : Flat) → slice ≡ items → HasLast slice f → reverse items ≡ f ∷ reverse (take (length items - 1) items)
+last_in slice items f e h = subst (λ (x : List Flat). HasLast x f) e h
+
+pub base_within : (all : List Flat) (f : Flat) (rest : List Flat) (items : List Operand) → all ≡ f ∷ rest → IsLaid all items → f.base ≤ length items
+base_within all f rest items e h = (subst (λ (x : List Flat). IsLaid x items) e h).0
+
+not_taken : (unknown : Bool) (params : Types) (own : List Operand) → is_some (taken_all unknown params own) ≡ false → taken_all unknown params own ≡ None
+not_taken unknown params own e = some_or_none (taken_all unknown params own) e
+
+pub enter_refuses : (all : List Flat) (f : Flat) (rest : List Flat) (opening : Opening) (type : Signature) (params : Types) (old : List Operand) → all ≡ f ∷ rest
+    → is_some (taken_all f.unknown params (own_of old f.base)) ≡ false → enter opening type params (frames_of all old) ≡ None
+enter_refuses all f rest opening type params old is missed =
+    let o = (frame_of f old).operands in
+    ap (λ (y : List Flat). enter opening type params (frames_of y old)) is
+    ∙ ap (λ (y : Option (List Operand)). y >>= λ own. Some (record { opening = opening; type = type; operands = fresh type f.live } ∷ record (frame_of f old) { operands = put o own } ∷ frames_of rest (take f.base old)))
+    (not_taken f.unknown params (own_of old f.base) missed)
+
+pub pushed_first : (items old : List Flat) (g : Flat) → old ≡ items → reverse (old ++ g ∷ []) ≡ g ∷ reverse items
+pushed_first items old g e = reverse-append old (g ∷ []) ∙ ap (λ (x : List Flat). g ∷ reverse x) e
+
+pub some_below : (items : List Flat) → 0 < length items - 1 → reverse (take (length items - 1) items) ≡ [] → ⊥
+some_below items h e =
+    let none = ap length e in
+    let long = length-reverse (take (length items - 1) items) in
+    let part = length-take-le (length items - 1) items (omega arith) in
+    omega arith
+
+pub none_below : (items : List Flat) → ¬ (0 < length items - 1) → reverse (take (length items - 1) items) ≡ []
+none_below items h = let e : length items - 1 ≡ 0 = omega arith in ap (λ (n : ℕ). reverse (take n items)) e
+
+-- more on top of some frames changes nothing below
+pub laid_more : (fs : List Flat) (items more : List Operand) → (fs ≡ [] → ⊥) → IsLaid fs items → IsLaid fs (items ++ more)
+laid_more [] items more some h = absurd (some refl)
+laid_more (f ∷ fs) items more some h =
+    (omega (arith, h.0, length-append items more), subst (λ (x : List Operand). IsLaid fs x) (sym (take-append-le f.base items more h.0)) h.1)
+
+pub laid_below : (all : List Flat) (f : Flat) (rest : List Flat) (items : List Operand) → all ≡ f ∷ rest → IsLaid all items → IsLaid rest (take f.base items)
+laid_below all f rest items e h = (subst (λ (x : List Flat). IsLaid x items) e h).1
+
+-- ---- select, labels
+
+same_test : {A B C D : Type 0} (b : Bool) (x : A) (y : B) (f : A → Option D) (g : Option C) (h : C → Option D) → f x ≡ (g >>= h) → (guarded b x >>= f) ≡ ((guarded b y >>= λ _. g) >>= h)
+same_test true x y f g h e = e
+same_test false x y f g h e = refl
+
+two_taken : (o : Operands) (a : Operand) (own : List Operand) → (take_any o.unknown own >>= λ x. take_any o.unknown x.left >>= λ y. joined x.operand y.operand >>= λ t. Some (put o (t ∷ y.left)))
+    ≡ ((any_at o.unknown (a ∷ own) 1 >>= λ left. any_at o.unknown (a ∷ own) 2 >>= λ right. joined left right) >>= λ t. Some (put o (t ∷ drop 3 (a ∷ own))))
+two_taken o a own = by_parts o.unknown own
+  where
+    last : (p : Option Operand) (rest : List Operand) → (p >>= λ t. Some (put o (t ∷ rest))) ≡ (p >>= λ t. Some (put o (t ∷ rest)))
+    last p rest = refl
+
+    by_parts : (unknown : Bool) (own : List Operand) → (take_any unknown own >>= λ x. take_any unknown x.left >>= λ y. joined x.operand y.operand >>= λ t. Some (put o (t ∷ y.left)))
+        ≡ ((any_at unknown (a ∷ own) 1 >>= λ left. any_at unknown (a ∷ own) 2 >>= λ right. joined left right) >>= λ t. Some (put o (t ∷ drop 3 (a ∷ own))))
+    by_parts true [] = refl
+    by_parts false [] = refl
+    by_parts true (b ∷ []) = refl
+    by_parts false (b ∷ []) = refl
+    by_parts unknown (b ∷ d ∷ rest) = refl
+
+select_applied : (o : Operands) → apply Selects o ≡ (selected_of o.unknown o.own >>= λ t. Some (put o (t ∷ drop 3 o.own)))
+select_applied o = by_parts o.own o.unknown o.live
+  where
+    by_parts : (own : List Operand) (unknown live : Bool) → apply Selects (record { own = own; unknown = unknown; live = live })
+        ≡ (selected_of unknown own >>= λ t. Some (record { own = t ∷ drop 3 own; unknown = unknown; live = live }))
+    by_parts [] true live = refl
+    by_parts [] false live = refl
+    by_parts (a ∷ own) unknown live =
+        let o : Operands = record { own = a ∷ own; unknown = unknown; live = live } in
+        same_test (is_of a I32) own a (λ own. take_any unknown own >>= λ x. take_any unknown x.left >>= λ y. joined x.operand y.operand >>= λ t. Some (put o (t ∷ y.left)))
+        (any_at unknown (a ∷ own) 1 >>= λ left. any_at unknown (a ∷ own) 2 >>= λ right. joined left right) (λ t. Some (put o (t ∷ drop 3 (a ∷ own)))) (two_taken o a own)
+
+pub select_refuses : (all : List Flat) (f : Flat) (rest : List Flat) (old : List Operand) → all ≡ f ∷ rest → selected_of f.unknown (own_of old f.base) ≡ None → applied Selects (frames_of all old) ≡ None
+select_refuses all f rest old is missed =
+    let o = (frame_of f old).operands in
+    ap (λ (y : List Flat). applied Selects (frames_of y old)) is
+    ∙ ap (λ (y : Option Operands). y >>= λ o. Some (record (frame_of f old) { operands = o } ∷ frames_of rest (take f.base old)))
+    (select_applied o ∙ ap (λ (y : Option Operand). y >>= λ t. Some (put o (t ∷ drop 3 o.own))) missed)
+
+pub select_steps : (all : List Flat) (f : Flat) (rest : List Flat) (t : Operand) (old left new : List Operand) → all ≡ f ∷ rest → selected_of f.unknown (own_of old f.base) ≡ Some t
+    → own_of left f.base ≡ drop 3 (own_of old f.base) → take f.base left ≡ take f.base old → f.base ≤ length left → new ≡ left ++ t ∷ []
+    → applied Selects (frames_of all old) ≡ Some (frames_of all new)
+select_steps all f rest t old left new is found own below within laid =
+    let o = (frame_of f old).operands in
+    let make : List Operand → List Operand → Frames = λ y z. record (frame_of f old) { operands = put o y } ∷ frames_of rest z in
+    let top : own_of new f.base ≡ t ∷ drop 3 o.own = ap (λ (x : List Operand). own_of x f.base) laid ∙ ap reverse (drop-append-le f.base left (t ∷ []) within) ∙ reverse-append (drop f.base left) (t ∷ [])
+    ∙ ap (λ (x : List Operand). t ∷ x) own in
+    let front : take f.base new ≡ take f.base old = ap (take f.base) laid ∙ take-append-le f.base left (t ∷ []) within ∙ below in
+    ap (λ (y : List Flat). applied Selects (frames_of y old)) is
+    ∙ ap (λ (y : Option Operands). y >>= λ o. Some (record (frame_of f old) { operands = o } ∷ frames_of rest (take f.base old)))
+    (select_applied o ∙ ap (λ (y : Option Operand). y >>= λ t. Some (put o (t ∷ drop 3 o.own))) found)
+    ∙ ap (λ (y : List Operand). Some (make y (take f.base old))) (sym top) ∙ ap (λ (z : List Operand). Some (make (own_of new f.base) z)) (sym front)
+    ∙ ap (λ (y : List Flat). Some (frames_of y new)) (sym is)
+
+abbrev pub flat_label : Flat → Types
+flat_label f = label_of f.opening (signature f.params.now f.results.now)
+
+labels_get : (fs : List Flat) (items : List Operand) (k : ℕ) (d : Flat) → k < length fs → slice_get (labels (frames_of fs items)) k ≡ Some (flat_label (get_or fs k d))
+labels_get [] items k d h = absurd (omega arith)
+labels_get (f ∷ fs) items zero d h = refl
+labels_get (f ∷ fs) items (suc k) d h = labels_get fs (take f.base items) k d (omega arith)
+
+labels_past : (fs : List Flat) (items : List Operand) (k : ℕ) → length fs ≤ k → slice_get (labels (frames_of fs items)) k ≡ None
+labels_past [] items k h = refl
+labels_past (f ∷ fs) items zero h = absurd (omega arith)
+labels_past (f ∷ fs) items (suc k) h = labels_past fs (take f.base items) k (omega arith)
+
+pub label_found : (frames : List Flat) (items : List Operand) (k n : ℕ) (f : Flat) → k < n → n ≡ length frames → f ≡ get_or frames (n - 1 - k) f
+    → slice_get (labels (frames_of (reverse frames) items)) k ≡ Some (flat_label f)
+label_found frames items k n f h e is =
+    labels_get (reverse frames) items k f (omega (arith, length-reverse frames))
+    ∙ ap (λ (x : Flat). Some (flat_label x)) (get_or-reverse frames k f (omega arith) ∙ ap (λ (m : ℕ). get_or frames (m - 1 - k) f) (sym e) ∙ sym is)
+
+pub label_missing : (frames : List Flat) (items : List Operand) (k n : ℕ) → n ≤ k → n ≡ length frames → slice_get (labels (frames_of (reverse frames) items)) k ≡ None
+label_missing frames items k n h e = labels_past (reverse frames) items k (omega (arith, length-reverse frames))

@@ -1,0 +1,14 @@
+pub mod Options
+pub mod OperandLaws
+pub mod PlaceLaws
+pub mod Complete
+pub mod Sound
+pub mod Nesting
+pub mod Exact
+pub mod Heights
+pub mod Flat
+pub mod Frames
+pub mod Taking
+pub mod Answering
+pub mod TreeLaws
+pub mod Groups

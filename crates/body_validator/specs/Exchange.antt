@@ -1,0 +1,31 @@
+-- Operands that are taken from a flat stack, and others that are put in their place.
+use Rattle.std.specs.Prelude.{◌≡◌, ℕ, Bool, true, false, List, ◌∷◌, ◌++◌, reverse, Option, None, Some, Result, Ok, Err}
+use Rattle.wasm_defs.specs.declared.types.ValType.TheVariants.{I32}
+use Rattle.body_validator.specs.declared.operands.Stop.{Stop}
+use Rattle.body_validator.specs.declared.operands.Stop.TheVariants.{Refused, NoMemory}
+use Rattle.body_validator.specs.declared.operands.Taken.{Taken}
+use Rattle.wasm_defs.specs.Typing.{Types}
+use Rattle.body_validator.specs.Checking.{Operand, Frames, ◌>>=◌, known, take_all}
+use Rattle.body_validator.specs.Stacks.{own_of}
+
+abbrev pub with_condition : Bool → Types → Types
+with_condition false types = types
+with_condition true types = I32 ∷ types
+
+abbrev pub taken_types : Taken → Types
+taken_types taken = with_condition taken.condition (reverse taken.types.now)
+
+-- what the operands above the base come to
+abbrev pub exchanged : Bool → Types → Types → List Operand → Option (List Operand)
+exchanged unknown params results own = take_all unknown params own >>= λ left. Some (known results ++ left)
+
+abbrev pub Exchanges : Bool → ℕ → Types → Types → Result (Unit {0}) Stop → List Operand → List Operand → Type 0
+Exchanges unknown base params results (Ok done) old new = exchanged unknown params results (own_of old base) ≡ Some (own_of new base)
+Exchanges unknown base params results (Err Refused) old new = (take_all unknown params (own_of old base) ≡ None) × (new ≡ old)
+Exchanges unknown base params results (Err NoMemory) old new = new ≡ old
+
+-- a step of the frames that was taken, or why not
+abbrev pub Steps : Option Frames → Result (Unit {0}) Stop → Frames → Frames → Type 0
+Steps answer (Ok done) old new = answer ≡ Some new
+Steps answer (Err Refused) old new = (answer ≡ None) × (new ≡ old)
+Steps answer (Err NoMemory) old new = new ≡ old

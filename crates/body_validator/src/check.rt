@@ -1,0 +1,178 @@
+//! The check of a function's body, token by token.
+
+ghost use Rattle.std.specs.Prelude.{◌≡◌, ◌<◌, ◌↔◌, IsTrue, IsSome, List, [], ◌∷◌, ◌++◌, IfOk, OnOk};
+ghost use Rattle.wasm_defs.specs.declared.token.Token.{Token as TokenGiven};
+ghost use Rattle.wasm_defs.specs.declared.types.FuncType.{FuncType as FuncTypeGiven};
+ghost use Rattle.wasm_defs.specs.Bodies.{Group};
+ghost use Rattle.wasm_defs.specs.Context.{type_of_function};
+ghost use Rattle.wasm_defs.specs.Trees.{Seq, Tree};
+ghost use Rattle.wasm_defs.specs.Typing.{Context as ContextGiven, IsBody, function_type};
+ghost use Rattle.wasm_defs.specs.Places.{places_of, greatest};
+ghost use Rattle.index_spaces.specs.Spaces.{context_in};
+ghost use Rattle.body_validator.specs.Checks.{Answered, IsAnswered, IsPlaced, IsGrouped, IsCounted, before_code, IsReached};
+ghost use Rattle.body_validator.specs.Checking.{start_checker};
+
+use crate::operands::Stop;
+use crate::scope::Scope;
+use crate::stack::Stack;
+use crate::steps::{kind_of_fault, take};
+use index_spaces::Context;
+use std::alloc::{AllocError, Global};
+use std::marker::Model;
+use wasm_defs::{Kind, MAX_LOCALS, Refusal, Token, ValType};
+
+/// Where a token stands: whether the place before it is live, and the numbers of operands before and after it, those of the
+/// enclosing blocks among them. They count where their places are live: what follows `unreachable`, `br`, `br_table` or
+/// `return` in a block is not.
+#[derive(Clone, Copy, Debug, PartialEq, Eq)]
+pub struct Step {
+    pub live: bool,
+    pub height_before: usize,
+    pub height_after: usize,
+}
+
+/// Why a token or a group of locals isn't taken.
+#[derive(Clone, Copy, Debug, PartialEq, Eq)]
+pub enum TokenStop {
+    Refused(Refusal),
+    NoMemory,
+}
+
+/// What a body needs: its greatest live number of operands, and how many parameters and declared locals it has.
+#[derive(Clone, Copy, Debug, PartialEq, Eq)]
+pub struct Shape {
+    pub greatest: usize,
+    pub params: usize,
+    pub locals: usize,
+}
+
+/// The check of one body (Core 3.4.1 and 5.5.13), which its groups of locals and then its tokens are given to in order. It goes
+/// over each token once, with two vectors that grow: the open frames, and their operands.
+#[derive(Drop)]
+pub struct Check<'a> {
+    scope: Scope<'a>,
+    stack: Stack<'a>,
+    params: usize,
+    greatest: usize,
+}
+
+impl<'a> Model for Check<'a> {
+    ghost use Rattle.body_validator.specs.Checks.{Checked};
+    ghost use Rattle.std.specs.Prelude.{◌≤◌, length};
+    ghost use Rattle.body_validator.specs.Scopes.{unlabelled};
+
+    ghost Value = { Checked };
+
+    ghost view = { λ c. record { context = unlabelled c.scope; params = c.params; checker = record { frames = c.stack; greatest = c.greatest } } };
+
+    ghost invariant = { λ c. c.params ≤ length c.scope.locals };
+}
+
+impl<'a> Check<'a> {
+    /// Begins the body of the function of that index, whose type the context has.
+    pub fn new(alloc: Global, context: &'a Context, index: u32) -> Result<Self, AllocError>
+        requires { IsSome (function_type (context_in context.now) index) }
+        ensures { let c = context_in context.now in IfOk result (λ check. check ≡ before_code c (type_of_function c index) []) }
+    {
+        let function = context.type_of_function(index);
+        let locals = Vec::from_slice(alloc, function.params.as_slice())?;
+        let params = locals.len();
+        let results = function.results.as_slice();
+        let stack = Stack::new(alloc, results)?;
+        let scope = Scope {
+            context,
+            results,
+            locals,
+        };
+        Ok(Check {
+            scope,
+            stack,
+            params,
+            greatest: 0,
+        })
+    }
+
+    /// Takes a group of declared locals of one type, whose count stands at the offset, before the first token. It is refused
+    /// where the declared locals pass their limit. The check is then as before, as it is where memory is wanting.
+    pub fn local_group(&mut self, offset: u64, count: u32, t: ValType) -> Result<(), TokenStop>
+        requires { self.old.checker ≡ start_checker self.old.context }
+        ensures answer { IsGrouped offset count t result self.old self.new }
+        ensures groups { (c : ContextGiven) (f : FuncTypeGiven) (groups : List Group) → self.old ≡ before_code c f groups → OnOk result (self.new ≡ before_code c f (groups ++ record { count = count; ty = t } ∷ [])) }
+    {
+        self.declare(offset, count, t)
+    }
+
+    fn declare(&mut self, offset: u64, count: u32, t: ValType) -> Result<(), TokenStop>
+        ensures { IsGrouped offset count t result self.old self.new }
+    {
+        let declared = self.scope.local_count() - self.params;
+        let most = MAX_LOCALS as usize;
+        if most < declared || most - declared < count as usize {
+            return Err(TokenStop::Refused(Refusal {
+                offset,
+                kind: Kind::Limit,
+            }));
+        }
+        match self.scope.declare(count, t) {
+            Ok(()) => Ok(()),
+            Err(_) => Err(TokenStop::NoMemory),
+        }
+    }
+
+    /// Takes the next token, which stands at the offset. It is refused exactly where no tokens behind it make a valid
+    /// body: as malformed where none make a grammatical one, and else as invalid. The check is then as before, as it is where
+    /// memory is wanting.
+    pub fn token(&mut self, offset: u64, token: &Token) -> Result<Step, TokenStop>
+        ensures steps { Answered offset token.now result self.old self.new }
+        ensures exact { (tokens : List TokenGiven) → IsReached tokens self.old → IsAnswered tokens token.now result self.old self.new }
+        ensures places { (tokens : List TokenGiven) → IsReached tokens self.old → IsPlaced self.old.context tokens token.now result }
+    {
+        self.answer(offset, token)
+    }
+
+    fn answer(&mut self, offset: u64, token: &Token) -> Result<Step, TokenStop>
+        ensures { Answered offset token.now result self.old self.new }
+    {
+        let live = self.stack.is_live();
+        let height_before = self.stack.height();
+        match take(&self.scope, &mut self.stack, token) {
+            Ok(()) => {}
+            Err(Stop::Refused) => {
+                return Err(TokenStop::Refused(Refusal {
+                    offset,
+                    kind: kind_of_fault(&self.stack, token),
+                }));
+            }
+            Err(Stop::NoMemory) => return Err(TokenStop::NoMemory),
+        }
+        let height_after = self.stack.height();
+        if self.stack.is_live() && self.greatest < height_after {
+            self.greatest = height_after;
+        }
+        Ok(Step {
+            live,
+            height_before,
+            height_after,
+        })
+    }
+
+    /// Whether the body's last `end` was taken.
+    pub fn is_over(&self) -> bool
+        ensures { IsTrue result ↔ (self.now.checker.frames ≡ []) }
+    {
+        !self.stack.is_open()
+    }
+
+    /// Ends the check of a body whose last `end` was taken.
+    pub fn end(self) -> Shape
+        requires { self.checker.frames ≡ [] }
+        ensures counts { IsCounted result self.entry }
+        ensures greatest { (tokens : List TokenGiven) (tree : Seq) → IsReached tokens self.entry → Tree tokens tree → IsBody self.entry.context tree → result.greatest ≡ greatest (places_of self.entry.context tree) }
+    {
+        Shape {
+            greatest: self.greatest,
+            params: self.params,
+            locals: self.scope.local_count() - self.params,
+        }
+    }
+}

@@ -1,0 +1,205 @@
+//! The operands of the innermost frame, as a flat stack keeps them.
+
+ghost use Rattle.std.specs.Prelude.{◌≡◌, ◌+◌, ◌^◌, ◌<◌, ◌≤◌, [], ◌∷◌, ◌++◌, length, map, reverse, take, drop, is_some, Some, vec_len, vec_capacity};
+ghost use Rattle.body_validator.specs.Checking.{is_of, joined, take_all, any_at, selected_of};
+ghost use Rattle.wasm_defs.specs.Typing.{same_types};
+ghost use Rattle.body_validator.specs.Stacks.{own_of};
+ghost use Rattle.body_validator.specs.Exchange.{taken_types, with_condition, Exchanges};
+
+use wasm_defs::ValType;
+
+/// The type of an operand, where it is known.
+pub type Operand = Option<ValType>;
+
+fn is_same(t: ValType, u: ValType) -> bool
+    ensures { result ≡ is_of (Some t) u }
+{
+    match (t, u) {
+        (ValType::I32, ValType::I32) => true,
+        (ValType::I64, ValType::I64) => true,
+        _ => false,
+    }
+}
+
+/// Whether two lists of types are the same.
+pub fn are_same(left: &[ValType], right: &[ValType]) -> bool
+    ensures { result ≡ same_types (reverse left.now) (reverse right.now) }
+{
+    if left.len() != right.len() {
+        return false;
+    }
+    let mut owed = left.len();
+    while 0 < owed {
+        owed -= 1;
+        if !is_same(left[owed], right[owed]) {
+            return false;
+        }
+    }
+    true
+}
+
+fn is_of_type(operand: Operand, t: ValType) -> bool
+    ensures { result ≡ is_of operand t }
+{
+    match operand {
+        Some(u) => is_same(u, t),
+        None => true,
+    }
+}
+
+/// Whether the topmost operands are of the types; where that is unknown, any others may lie below these.
+pub fn fits(own: &[Operand], unknown: bool, types: &[ValType]) -> bool
+    ensures { result ≡ is_some (take_all unknown (reverse types.now) (reverse own.now)) }
+{
+    let mut owed = types.len();
+    let mut left = own.len();
+    while 0 < owed {
+        if left == 0 {
+            return unknown;
+        }
+        owed -= 1;
+        left -= 1;
+        if !is_of_type(own[left], types[owed]) {
+            return false;
+        }
+    }
+    true
+}
+
+/// Takes so many operands, or all that lie above the base.
+pub fn remove(operands: &mut Vec<Operand>, base: usize, count: usize)
+    requires { base ≤ vec_len operands.old }
+    ensures own { own_of operands.new.items base ≡ drop count (own_of operands.old.items base) }
+    ensures below { take base operands.new.items ≡ take base operands.old.items }
+    ensures above { base ≤ vec_len operands.new }
+    ensures room { vec_capacity operands.new ≡ vec_capacity operands.old }
+    ensures fewer { vec_len operands.new ≤ vec_len operands.old }
+{
+    let height = operands.len();
+    if height - base < count {
+        operands.truncate(base);
+    } else {
+        operands.truncate(height - count);
+    }
+}
+
+/// Puts operands of the types on top, for which there is room.
+pub fn put_all(operands: &mut Vec<Operand>, types: &[ValType])
+    requires { vec_len operands.old + length types.now ≤ vec_capacity operands.old }
+    ensures { operands.new.items ≡ operands.old.items ++ map Some types.now }
+{
+    for t in types {
+        match operands.push(Some(*t)) {
+            Ok(()) => {}
+            Err(_) => unreachable!(),
+        }
+    }
+}
+
+/// What an instruction takes from the operands: values of these types and, where it has a condition, an i32 on top.
+#[derive(Clone, Copy)]
+pub struct Taken<'a> {
+    pub types: &'a [ValType],
+    pub condition: bool,
+}
+
+/// How many operands these are.
+pub fn count_of(types: &[ValType], condition: bool) -> usize
+    ensures { result ≡ length (with_condition condition (reverse types.now)) }
+{
+    if condition {
+        types.len() + 1
+    } else {
+        types.len()
+    }
+}
+
+/// Whether an instruction finds what it takes.
+pub fn finds(own: &[Operand], unknown: bool, taken: Taken<'_>) -> bool
+    ensures { result ≡ is_some (take_all unknown (taken_types taken.entry) (reverse own.now)) }
+{
+    if !taken.condition {
+        return fits(own, unknown, taken.types);
+    }
+    if own.len() == 0 {
+        return unknown;
+    }
+    let top = own.len() - 1;
+    is_of_type(own[top], ValType::I32) && fits(&own[..top], unknown, taken.types)
+}
+
+/// Why operands stay as they are.
+#[derive(Clone, Copy, Debug, PartialEq, Eq)]
+pub enum Stop {
+    /// They aren't of the types that are taken.
+    Refused,
+    NoMemory,
+}
+
+/// Takes operands from those above the base, and puts others in their place.
+pub fn exchange(
+    operands: &mut Vec<Operand>,
+    base: usize,
+    unknown: bool,
+    taken: Taken<'_>,
+    given: &[ValType],
+) -> Result<(), Stop>
+    requires { base ≤ vec_len operands.old }
+    ensures own { Exchanges unknown base (taken_types taken.entry) (reverse given.now) result operands.old.items operands.new.items }
+    ensures below { take base operands.new.items ≡ take base operands.old.items }
+    ensures above { base ≤ vec_len operands.new }
+{
+    if !finds(&operands[base..], unknown, taken) {
+        return Err(Stop::Refused);
+    }
+    if operands.reserve(given.len()).is_err() {
+        return Err(Stop::NoMemory);
+    }
+    remove(operands, base, count_of(taken.types, taken.condition));
+    put_all(operands, given);
+    Ok(())
+}
+
+/// Puts an operand on top, for which there is room.
+pub fn put(operands: &mut Vec<Operand>, operand: Operand)
+    requires { vec_len operands.old < vec_capacity operands.old }
+    ensures { operands.new.items ≡ operands.old.items ++ operand ∷ [] }
+{
+    match operands.push(operand) {
+        Ok(()) => {}
+        Err(_) => unreachable!(),
+    }
+}
+
+/// The operand so far below the topmost one.
+fn operand_at(own: &[Operand], unknown: bool, depth: usize) -> Option<Operand>
+    ensures { result ≡ any_at unknown (reverse own.now) depth }
+{
+    if depth < own.len() {
+        return Some(own[own.len() - 1 - depth]);
+    }
+    if unknown { Some(None) } else { None }
+}
+
+fn joined_type(left: Operand, right: Operand) -> Option<Operand>
+    ensures { result ≡ joined left right }
+{
+    match (left, right) {
+        (None, _) => Some(right),
+        (_, None) => Some(left),
+        (Some(t), Some(u)) => { if is_same(t, u) { Some(left) } else { None } }
+    }
+}
+
+/// What `select` leaves in the place of a condition and two operands of one type.
+pub fn selected(own: &[Operand], unknown: bool) -> Option<Operand>
+    ensures { result ≡ selected_of unknown (reverse own.now) }
+{
+    let condition = operand_at(own, unknown, 0)?;
+    if !is_of_type(condition, ValType::I32) {
+        return None;
+    }
+    let left = operand_at(own, unknown, 1)?;
+    let right = operand_at(own, unknown, 2)?;
+    joined_type(left, right)
+}

@@ -1,0 +1,110 @@
+//! What the instructions of a body may name.
+
+ghost use Rattle.std.specs.Prelude.{◌≡◌, ◌+◌, ◌≤◌, ◌<◌, ◌↔◌, ◌++◌, length, replicate, nat_lt, IsTrue, None, Some, slice_get, MatchOption, OnOk, OnErr, vec_len, vec_capacity};
+ghost use Rattle.wasm_defs.specs.Typing.{accesses, function_type};
+ghost use Rattle.body_validator.specs.Scopes.{with_locals};
+
+use index_spaces::Context;
+use std::alloc::AllocError;
+use std::marker::Model;
+use wasm_defs::{FuncType, GlobalType, MemArg, ValType};
+
+/// The context of a module, and the locals and results of one of its functions.
+#[derive(Drop)]
+pub struct Scope<'a> {
+    pub context: &'a Context,
+    pub results: &'a [ValType],
+    pub locals: Vec<ValType>,
+}
+
+impl<'a> Model for Scope<'a> {
+    ghost use Rattle.std.specs.Prelude.{reverse};
+    ghost use Rattle.wasm_defs.specs.Typing.{Context};
+    ghost use Rattle.index_spaces.specs.Spaces.{context_in};
+
+    ghost Value = { Context };
+
+    ghost view = { λ s. record (context_in s.context.now) { locals = s.locals.items; results = reverse s.results.now } };
+}
+
+fn push_copies(types: &mut Vec<ValType>, count: u32, t: ValType)
+    requires { vec_len types.old + count ≤ vec_capacity types.old }
+    ensures { types.new.items ≡ types.old.items ++ replicate count t }
+{
+    for _index in 0..count {
+        match types.push(t) {
+            Ok(()) => {}
+            Err(_) => unreachable!(),
+        }
+    }
+}
+
+impl<'a> Scope<'a> {
+    /// How many locals there are, the parameters among them.
+    pub fn local_count(&self) -> usize
+        ensures { result ≡ length self.now.locals }
+    {
+        let _ = &self.context;
+        self.locals.len()
+    }
+
+    /// Declares locals of one type.
+    pub fn declare(&mut self, count: u32, t: ValType) -> Result<(), AllocError>
+        ensures ok { OnOk result (self.new ≡ with_locals self.old (self.old.locals ++ replicate count t)) }
+        ensures err { OnErr result (self.new ≡ self.old) }
+    {
+        self.locals.reserve(count as usize)?;
+        push_copies(&mut self.locals, count, t);
+        Ok(())
+    }
+
+    /// The type of a local.
+    pub fn local(&self, index: u32) -> Option<ValType>
+        ensures { result ≡ slice_get self.now.locals index }
+    {
+        self.locals.get(index as usize).copied()
+    }
+
+    /// The type of a global.
+    pub fn global(&self, index: u32) -> Option<GlobalType>
+        ensures { result ≡ slice_get self.now.globals index }
+    {
+        self.context.globals().get(index as usize).copied()
+    }
+
+    /// A type of the module.
+    pub fn type_at(&self, index: u32) -> Option<&'a FuncType>
+        ensures { MatchOption result (slice_get self.now.types index ≡ None) (λ f. slice_get self.now.types index ≡ Some f.now) }
+    {
+        self.context.types().get(index as usize)
+    }
+
+    /// The type of a function.
+    pub fn type_of_function(&self, index: u32) -> Option<&'a FuncType>
+        ensures { MatchOption result (function_type self.now index ≡ None) (λ f. function_type self.now index ≡ Some f.now) }
+    {
+        let type_index = self.context.type_indices().get(index as usize)?;
+        self.type_at(*type_index)
+    }
+
+    /// Whether there is a table.
+    pub fn has_table(&self) -> bool
+        ensures { result ≡ nat_lt 0 self.now.tables }
+    {
+        self.context.has_table()
+    }
+
+    /// Whether there is a memory.
+    pub fn has_memory(&self) -> bool
+        ensures { result ≡ nat_lt 0 self.now.memories }
+    {
+        self.context.has_memory()
+    }
+
+    /// Whether there is a memory that may be accessed there, with an alignment of at most that.
+    pub fn can_access(&self, place: MemArg, most: u32) -> bool
+        ensures { result ≡ accesses self.now place.align most }
+    {
+        self.has_memory() && place.align <= most
+    }
+}

@@ -1,0 +1,365 @@
+//! The open frames of a body, and their operands.
+
+ghost use Rattle.std.specs.Prelude.{◌≡◌, ◌+◌, ◌-◌, ◌^◌, ◌<◌, [], ◌∷◌, ◌++◌, length, reverse, take, Some, None, slice_get, MatchOption, IfOk, vec_len, vec_capacity};
+ghost use Rattle.body_validator.specs.Checking.{height, body_frames, label_of, is_open, is_live, may_turn, labels, may_end, takes_else, applied, enter, turned, ended, none_left, take_all};
+ghost use Rattle.wasm_defs.specs.Typing.{Stops, Fixed, Discards, Selects};
+ghost use Rattle.body_validator.specs.Exchange.{taken_types, with_condition, Steps};
+ghost use Rattle.body_validator.specs.Stacks.{HasLast, is_live_in, signature};
+
+use crate::operands::{
+    Operand, Stop, Taken, are_same, count_of, exchange, finds, fits, put, put_all, remove, selected,
+};
+use std::alloc::{AllocError, Global};
+use std::marker::Model;
+use wasm_defs::ValType;
+
+/// What opened a frame: the body is a block of its own, and `Else` is an `if` that had its `else`.
+#[derive(Clone, Copy, Debug, PartialEq, Eq)]
+pub enum Opening {
+    Block,
+    Loop,
+    If,
+    Else,
+}
+
+/// A frame: what opened it, its type, and where its operands begin.
+#[derive(Clone, Copy)]
+pub struct Frame<'a> {
+    pub opening: Opening,
+    pub params: &'a [ValType],
+    pub results: &'a [ValType],
+    pub base: usize,
+    pub unknown: bool,
+    pub live: bool,
+}
+
+fn innermost<'a>(frames: &[Frame<'a>]) -> Option<Frame<'a>>
+    ensures { MatchOption result (frames.now ≡ []) (HasLast frames.now) }
+{
+    let n = frames.len();
+    if n == 0 {
+        return None;
+    }
+    Some(frames[n - 1])
+}
+
+fn replace_innermost<'a>(frames: &mut Vec<Frame<'a>>, frame: Frame<'a>)
+    requires { 0 < vec_len frames.old }
+    ensures { reverse frames.new.items ≡ frame.entry ∷ reverse (take (length frames.old.items - 1) frames.old.items) }
+{
+    let n = frames.len();
+    frames[n - 1] = frame;
+}
+
+fn push_frame<'a>(frames: &mut Vec<Frame<'a>>, frame: Frame<'a>)
+    requires { vec_len frames.old < vec_capacity frames.old }
+    ensures { frames.new.items ≡ frames.old.items ++ frame.entry ∷ [] }
+{
+    match frames.push(frame) {
+        Ok(()) => {}
+        Err(_) => unreachable!(),
+    }
+}
+
+/// Whether what begins inside these frames is live.
+fn is_live_inside(frames: &[Frame<'_>]) -> bool
+    ensures { result ≡ is_live_in (reverse frames.now) }
+{
+    match innermost(frames) {
+        Some(frame) => frame.live,
+        None => true,
+    }
+}
+
+fn awaits_else(opening: Opening) -> bool
+    ensures { result ≡ takes_else opening }
+{
+    match opening {
+        Opening::If => true,
+        _ => false,
+    }
+}
+
+/// Whether a frame may end here: an `if` without an `else` gives back what it took.
+fn can_end(frame: Frame<'_>) -> bool
+    ensures { result ≡ may_end frame.entry.opening (signature frame.entry.params.now frame.entry.results.now) }
+{
+    match frame.opening {
+        Opening::If => are_same(frame.params, frame.results),
+        _ => true,
+    }
+}
+
+/// Whether the operands are just those of the types.
+fn are_just(own: &[Operand], unknown: bool, types: &[ValType]) -> bool
+    ensures { result ≡ none_left (take_all unknown (reverse types.now) (reverse own.now)) }
+{
+    own.len() <= types.len() && fits(own, unknown, types)
+}
+
+/// The types that a frame's label takes (Core 3.3.5.3 and 3.3.5.4).
+fn taken_by_label<'a>(frame: Frame<'a>) -> &'a [ValType]
+    ensures { reverse result.now ≡ label_of frame.entry.opening (signature frame.entry.params.now frame.entry.results.now) }
+{
+    match frame.opening {
+        Opening::Loop => frame.params,
+        _ => frame.results,
+    }
+}
+
+/// The frames that are open, none once the body has ended.
+#[derive(Drop)]
+pub struct Stack<'a> {
+    frames: Vec<Frame<'a>>,
+    operands: Vec<Operand>,
+}
+
+impl<'a> Model for Stack<'a> {
+    ghost use Rattle.std.specs.Prelude.{reverse};
+    ghost use Rattle.body_validator.specs.Checking.{Frames};
+
+    ghost Value = { Frames };
+
+    ghost use Rattle.body_validator.specs.Stacks.{frames_of, IsLaid};
+
+    ghost view = { λ s. frames_of (reverse s.frames.items) s.operands.items };
+
+    ghost invariant = { λ s. IsLaid (reverse s.frames.items) s.operands.items };
+}
+
+impl<'a> Stack<'a> {
+    /// The frame of a body of these results.
+    pub fn new(alloc: Global, results: &'a [ValType]) -> Result<Self, AllocError>
+        ensures { IfOk result (λ s. s ≡ body_frames (reverse results.now)) }
+    {
+        let mut frames = Vec::new(alloc);
+        if frames.reserve(1).is_err() {
+            return Err(AllocError);
+        }
+        push_frame(
+            &mut frames,
+            Frame {
+                opening: Opening::Block,
+                params: &[],
+                results,
+                base: 0,
+                unknown: false,
+                live: true,
+            },
+        );
+        Ok(Stack {
+            frames,
+            operands: Vec::new(alloc),
+        })
+    }
+
+    /// How many operands there are.
+    pub fn height(&self) -> usize
+        ensures { result ≡ height self.now }
+    {
+        let _ = &self.frames;
+        self.operands.len()
+    }
+
+    /// Whether the body goes on.
+    pub fn is_open(&self) -> bool
+        ensures { result ≡ is_open self.now }
+    {
+        match innermost(&self.frames) {
+            Some(_) => true,
+            None => false,
+        }
+    }
+
+    /// Whether the place here is live.
+    pub fn is_live(&self) -> bool
+        ensures { result ≡ is_live self.now }
+    {
+        match innermost(&self.frames) {
+            Some(frame) => frame.live,
+            None => false,
+        }
+    }
+
+    /// Whether an `else` closes the innermost frame.
+    pub fn awaits_else(&self) -> bool
+        ensures { result ≡ may_turn self.now }
+    {
+        match innermost(&self.frames) {
+            Some(frame) => awaits_else(frame.opening),
+            None => false,
+        }
+    }
+
+    /// The types that a label takes, 0 being the innermost.
+    pub fn label(&self, index: u32) -> Option<&'a [ValType]>
+        ensures { MatchOption result (slice_get (labels self.now) index ≡ None) (λ types. slice_get (labels self.now) index ≡ Some (reverse types.now)) }
+    {
+        let count = self.frames.len();
+        let depth = index as usize;
+        if count <= depth {
+            return None;
+        }
+        Some(taken_by_label(self.frames[count - 1 - depth]))
+    }
+
+    /// Takes operands from the innermost frame, and puts others in their place.
+    pub fn exchange(&mut self, taken: Taken<'_>, given: &[ValType]) -> Result<(), Stop>
+        ensures { Steps (applied (Fixed (taken_types taken.entry) (reverse given.now)) self.old) result self.old self.new }
+    {
+        let Some(frame) = innermost(&self.frames) else {
+            return Err(Stop::Refused);
+        };
+        exchange(&mut self.operands, frame.base, frame.unknown, taken, given)
+    }
+
+    /// Takes operands, after which the place isn't live.
+    pub fn stop(&mut self, taken: Taken<'_>) -> Result<(), Stop>
+        ensures { Steps (applied (Stops (taken_types taken.entry)) self.old) result self.old self.new }
+    {
+        let Some(frame) = innermost(&self.frames) else {
+            return Err(Stop::Refused);
+        };
+        if !finds(&self.operands[frame.base..], frame.unknown, taken) {
+            return Err(Stop::Refused);
+        }
+        self.operands.truncate(frame.base);
+        let stopped = Frame {
+            unknown: true,
+            live: false,
+            ..frame
+        };
+        replace_innermost(&mut self.frames, stopped);
+        Ok(())
+    }
+
+    /// Takes an operand of any type.
+    pub fn discard(&mut self) -> Result<(), Stop>
+        ensures { Steps (applied Discards self.old) result self.old self.new }
+    {
+        let Some(frame) = innermost(&self.frames) else {
+            return Err(Stop::Refused);
+        };
+        if self.operands.len() == frame.base && !frame.unknown {
+            return Err(Stop::Refused);
+        }
+        remove(&mut self.operands, frame.base, 1);
+        Ok(())
+    }
+
+    /// Takes a condition and two operands of one type, and leaves one.
+    pub fn select(&mut self) -> Result<(), Stop>
+        ensures { Steps (applied Selects self.old) result self.old self.new }
+    {
+        let Some(frame) = innermost(&self.frames) else {
+            return Err(Stop::Refused);
+        };
+        let Some(operand) = selected(&self.operands[frame.base..], frame.unknown) else {
+            return Err(Stop::Refused);
+        };
+        if self.operands.reserve(1).is_err() {
+            return Err(Stop::NoMemory);
+        }
+        remove(&mut self.operands, frame.base, 3);
+        put(&mut self.operands, operand);
+        Ok(())
+    }
+
+    /// Opens a block, which takes its parameters along.
+    pub fn enter(
+        &mut self,
+        opening: Opening,
+        params: &'a [ValType],
+        results: &'a [ValType],
+        condition: bool,
+    ) -> Result<(), Stop>
+        ensures { Steps (enter opening (signature params.now results.now) (with_condition condition (reverse params.now)) self.old) result self.old self.new }
+    {
+        let Some(frame) = innermost(&self.frames) else {
+            return Err(Stop::Refused);
+        };
+        let taken = Taken {
+            types: params,
+            condition,
+        };
+        if !finds(&self.operands[frame.base..], frame.unknown, taken) {
+            return Err(Stop::Refused);
+        }
+        if self.operands.reserve(params.len()).is_err() {
+            return Err(Stop::NoMemory);
+        }
+        if self.frames.reserve(1).is_err() {
+            return Err(Stop::NoMemory);
+        }
+        remove(&mut self.operands, frame.base, count_of(params, condition));
+        let base = self.operands.len();
+        put_all(&mut self.operands, params);
+        push_frame(
+            &mut self.frames,
+            Frame {
+                opening,
+                params,
+                results,
+                base,
+                unknown: false,
+                live: frame.live,
+            },
+        );
+        Ok(())
+    }
+
+    /// Goes over to the `else` of an `if`.
+    pub fn turn(&mut self) -> Result<(), Stop>
+        ensures { Steps (turned self.old) result self.old self.new }
+    {
+        let Some(frame) = innermost(&self.frames) else {
+            return Err(Stop::Refused);
+        };
+        if !awaits_else(frame.opening) {
+            return Err(Stop::Refused);
+        }
+        if !are_just(&self.operands[frame.base..], frame.unknown, frame.results) {
+            return Err(Stop::Refused);
+        }
+        if self.operands.reserve(frame.params.len()).is_err() {
+            return Err(Stop::NoMemory);
+        }
+        let outer = self.frames.len() - 1;
+        let live = is_live_inside(&self.frames[..outer]);
+        self.operands.truncate(frame.base);
+        put_all(&mut self.operands, frame.params);
+        let other = Frame {
+            opening: Opening::Else,
+            unknown: false,
+            live,
+            ..frame
+        };
+        replace_innermost(&mut self.frames, other);
+        Ok(())
+    }
+
+    /// Closes a frame, and leaves its results to the one around it.
+    pub fn leave(&mut self) -> Result<(), Stop>
+        ensures { Steps (ended self.old) result self.old self.new }
+    {
+        let Some(frame) = innermost(&self.frames) else {
+            return Err(Stop::Refused);
+        };
+        if !are_just(&self.operands[frame.base..], frame.unknown, frame.results) {
+            return Err(Stop::Refused);
+        }
+        if !can_end(frame) {
+            return Err(Stop::Refused);
+        }
+        if self.operands.reserve(frame.results.len()).is_err() {
+            return Err(Stop::NoMemory);
+        }
+        let outer = self.frames.len() - 1;
+        self.frames.truncate(outer);
+        self.operands.truncate(frame.base);
+        if 0 < outer {
+            put_all(&mut self.operands, frame.results);
+        }
+        Ok(())
+    }
+}

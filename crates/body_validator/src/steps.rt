@@ -1,0 +1,76 @@
+//! One token's step of the open frames.
+
+ghost use Rattle.std.specs.Prelude.{◌≡◌};
+ghost use Rattle.body_validator.specs.Checking.{applied, step, fault_kind};
+ghost use Rattle.body_validator.specs.Exchange.{Steps};
+ghost use Rattle.body_validator.specs.Scopes.{rule_meant, unlabelled, begun};
+
+use crate::instruction_types::{Rule, block_types, rule_for};
+use crate::operands::Stop;
+use crate::scope::Scope;
+use crate::stack::{Opening, Stack};
+use wasm_defs::{BlockType, Kind, Token};
+
+fn apply<'a>(stack: &mut Stack<'a>, rule: Option<Rule<'a>>) -> Result<(), Stop>
+    ensures { Steps (applied (rule_meant rule.entry) stack.old) result stack.old stack.new }
+{
+    match rule {
+        Some(Rule::Fixed(taken, given)) => stack.exchange(taken, given),
+        Some(Rule::Stops(taken)) => stack.stop(taken),
+        Some(Rule::Discards) => stack.discard(),
+        Some(Rule::Selects) => stack.select(),
+        None => Err(Stop::Refused),
+    }
+}
+
+fn begin<'a>(
+    scope: &Scope<'a>,
+    stack: &mut Stack<'a>,
+    opening: Opening,
+    block: BlockType,
+    condition: bool,
+) -> Result<(), Stop>
+    ensures { Steps (begun scope.now opening block condition stack.old) result stack.old stack.new }
+{
+    let Some((params, results)) = block_types(scope, block) else {
+        return Err(Stop::Refused);
+    };
+    stack.enter(opening, params, results, condition)
+}
+
+/// Takes one more token.
+pub fn take<'a>(scope: &Scope<'a>, stack: &mut Stack<'a>, token: &Token) -> Result<(), Stop>
+    ensures { Steps (step (unlabelled scope.now) token.now stack.old) result stack.old stack.new }
+{
+    match token {
+        Token::Plain(plain) => {
+            let rule = rule_for(scope, stack, plain);
+            apply(stack, rule)
+        }
+        Token::Block(block) => begin(scope, stack, Opening::Block, *block, false),
+        Token::Loop(block) => begin(scope, stack, Opening::Loop, *block, false),
+        Token::If(block) => begin(scope, stack, Opening::If, *block, true),
+        Token::Else => stack.turn(),
+        Token::End => stack.leave(),
+    }
+}
+
+/// The kind of the fault of a token that isn't taken: no tokens make an `else` that closes no `if`, or anything behind
+/// the body's own `end`, grammatical.
+pub fn kind_of_fault(stack: &Stack<'_>, token: &Token) -> Kind
+    ensures { result ≡ fault_kind token.now stack.now }
+{
+    if !stack.is_open() {
+        return Kind::Malformed;
+    }
+    match token {
+        Token::Else => {
+            if stack.awaits_else() {
+                Kind::Invalid
+            } else {
+                Kind::Malformed
+            }
+        }
+        _ => Kind::Invalid,
+    }
+}

@@ -1,0 +1,10 @@
+//! The index spaces of a module (WebAssembly Core 1.0, 2.5.1 and 3.1): what its functions may name, and by which indices.
+#![tactic(auto)]
+
+mod builder;
+mod context;
+mod laws;
+
+pub use builder::ContextBuilder;
+pub use context::Context;
+pub use laws::{contexts_are_of_items, items_are_added};
