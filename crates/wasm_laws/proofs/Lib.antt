@@ -7,3 +7,5 @@ pub mod BodyLaws
 pub mod RowLaws
 pub mod Takes
 pub mod Runs
+pub mod Comes
+pub mod Bounded
