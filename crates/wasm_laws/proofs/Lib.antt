@@ -10,3 +10,5 @@ pub mod Runs
 pub mod Spelling
 pub mod Faulty
 pub mod Verdicts
+pub mod Comes
+pub mod Bounded

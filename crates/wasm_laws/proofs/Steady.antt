@@ -3,7 +3,7 @@ use Rattle.std.proofs.Common.{◌≡◌, ◌≤◌, ◌<◌, ℕ, zero, suc, ◌
 use Rattle.wasm_defs.specs.declared.fault.Kind.{Kind}
 use Rattle.wasm_defs.specs.declared.fault.Refusal.{Refusal}
 use Rattle.wasm_defs.specs.Fields.{Cursor, Read, Got, Fault, Wants, Reader, then_go, ◌>>=◌, done, refused, repeated, room_of}
-pub use Rattle.wasm_laws.specs.Steadiness.{with_more, Extends, got, faulty, owed, Advance, Advances, Stands, StandsIn, AreBehind, IsThere, IsDecided, Steady}
+pub use Rattle.wasm_laws.specs.Steadiness.{IfGot, with_more, Extends, got, faulty, owed, Advance, Advances, Stands, StandsIn, AreBehind, IsThere, IsDecided, Steady}
 
 -- ---- bytes that are taken
 
@@ -33,6 +33,9 @@ moves_of c d p = record {
   at = p.at;
   room = omega (arith, p.at, p.end, p.fits);
 }
+
+pub moves_then : (c d e : Cursor) → Moves c d → Moves d e → Moves c e
+moves_then c d e p q = record { by = p.by + q.by; rest = omega (arith, p.rest, q.rest); at = omega (arith, p.at, q.at); room = omega (arith, p.room, q.room) }
 
 -- ---- places
 
@@ -66,12 +69,6 @@ then_advances : {A B : Type 0} (c : Cursor) (x : Read A) (f : A → Reader B) �
 then_advances c (Got a d) f h p = advances_on c d (f a d) p (h a d)
 then_advances c (Fault r) f h p = tt
 then_advances c Wants f h p = tt
-
--- a fact of the value that was got, and of what follows it
-abbrev pub IfGot : {A : Type 0} → (A → Cursor → Type 0) → Read A → Type 0
-IfGot P (Got x d) = P x d
-IfGot P (Fault r) = Unit {0}
-IfGot P Wants = Unit {0}
 
 always : {A : Type 0} (x : Read A) → IfGot (λ a d. Unit {0}) x
 always (Got x d) = tt

@@ -1,5 +1,7 @@
 -- What more bytes make of a module's run (WebAssembly Core 1.0, 5.5).
-use Rattle.std.specs.Prelude.{◌≡◌, List, ◌++◌}
+use Rattle.std.specs.Prelude.{◌≡◌, ℕ, ◌+◌, List, ◌++◌}
+use Rattle.wasm_defs.specs.declared.fault.Refusal.{Refusal}
+use Rattle.wasm_defs.specs.Limits.{max_module}
 use Rattle.wasm_defs.specs.Outside.{Part, Ending, Whole, Refused, Owed, Run}
 
 -- a refused run stays as it is, with all its parts; the parts of any other are the first ones of what it becomes
@@ -10,3 +12,10 @@ Becomes parts Owed later = (tail : List Part) × (later.parts ≡ parts ++ tail)
 
 abbrev pub GoesOn : Run → Run → Type 0
 GoesOn r later = Becomes r.parts r.ending later
+
+-- so many bytes decide about any module: the last size begins at the limit on a module's bytes at most, and has five bytes
+abbrev pub deciding_length : ℕ
+deciding_length = max_module + 5
+
+abbrev pub IsRefused : Ending → Type 0
+IsRefused ending = (r : Refusal) × (ending ≡ Refused r)

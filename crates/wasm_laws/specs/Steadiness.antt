@@ -9,6 +9,12 @@ use Rattle.wasm_defs.specs.Entries.{Seen}
 use Rattle.wasm_defs.specs.Outside.{Nothing, Row, inside, no_end}
 use Rattle.wasm_defs.specs.Bodies.{instruction}
 
+-- a fact of the value that was got, and of what follows it
+abbrev pub IfGot : {A : Type 0} → (A → Cursor → Type 0) → Read A → Type 0
+IfGot P (Got x d) = P x d
+IfGot P (Fault r) = Unit {0}
+IfGot P Wants = Unit {0}
+
 -- ---- more bytes
 
 abbrev pub with_more : Cursor → List ℕ → Cursor
@@ -31,9 +37,7 @@ pub record Advance (c d : Cursor) : Type 0 where
   pub fits : length taken ≤ room_of c
 
 abbrev pub Advances : {A : Type 0} → Cursor → Read A → Type 0
-Advances c (Got x d) = Advance c d
-Advances c (Fault r) = Unit {0}
-Advances c Wants = Unit {0}
+Advances c = IfGot (λ x d. Advance c d)
 
 -- ---- places of faults
 
@@ -76,9 +80,7 @@ pub record Steady {A : Type 0} (marks : List ℕ) (p : Reader A) : Type 0 where
 
 -- a reader that takes a byte at least
 abbrev pub LeavesFewer : {A : Type 0} → Cursor → Read A → Type 0
-LeavesFewer c (Got x d) = length d.rest < length c.rest
-LeavesFewer c (Fault r) = Unit {0}
-LeavesFewer c Wants = Unit {0}
+LeavesFewer c = IfGot (λ x d. length d.rest < length c.rest)
 
 pub record Takes {A : Type 0} (p : Reader A) : Type 0 where
   pub some : (c : Cursor) → LeavesFewer c (p c)
@@ -91,9 +93,7 @@ pub record SteadyRow (r : Row) : Type 0 where
 
 -- the end of a section takes nothing, and is met where nothing of the section is left
 abbrev pub Leaves : Cursor → Read Nothing → Type 0
-Leaves c (Got x d) = (room_of c ≡ 0) × (d ≡ inside c no_end)
-Leaves c (Fault r) = Unit {0}
-Leaves c Wants = Unit {0}
+Leaves c = IfGot (λ x d. (room_of c ≡ 0) × (d ≡ inside c no_end))
 
 pub record SteadyEnd (p : Reader Nothing) : Type 0 where
   pub by : (c : Cursor) (more : List ℕ) → Extends Nothing more (p c) (p (with_more c more))

@@ -1,10 +1,10 @@
 //! The laws of how a module's bytes are read.
 
-ghost use Rattle.std.specs.Prelude.{ℕ, List, [], ◌∷◌, ◌++◌};
+ghost use Rattle.std.specs.Prelude.{◌≡◌, ◌≤◌, ℕ, length, List, [], ◌∷◌, ◌++◌};
 ghost use Rattle.wasm_defs.specs.Bodies.{instruction, local_groups};
 ghost use Rattle.wasm_defs.specs.Entries.{Seen};
 ghost use Rattle.wasm_defs.specs.Outside.{header, module_run, preamble, row, section_end};
-ghost use Rattle.wasm_laws.specs.Runs.{GoesOn};
+ghost use Rattle.wasm_laws.specs.Runs.{deciding_length, GoesOn, IsRefused};
 ghost use Rattle.wasm_laws.specs.Steadiness.{Steady, SteadyEnd, SteadyRow, Takes, token};
 
 /// The fields outside bodies are steady (Core 5.5): the preamble, the header of each section, what each section holds, and
@@ -27,4 +27,10 @@ pub fn bodies_are_steady()
 /// More bytes change no part and no refusal of a module: a refused run stays as it is, and any other goes on.
 pub fn more_bytes_change_nothing()
     ensures { (bytes more : List ℕ) → GoesOn (module_run bytes) (module_run (bytes ++ more)) }
+{}
+
+/// Reading is bounded: where so many bytes are there, the module is refused, and more bytes change nothing.
+pub fn reading_is_bounded()
+    ensures refused { (bytes : List ℕ) → deciding_length ≤ length bytes → IsRefused (module_run bytes).ending }
+    ensures stays { (bytes more : List ℕ) → deciding_length ≤ length bytes → module_run (bytes ++ more) ≡ module_run bytes }
 {}

@@ -4,4 +4,6 @@
 
 mod laws;
 
-pub use laws::{bodies_are_steady, more_bytes_change_nothing, sections_are_steady};
+pub use laws::{
+    bodies_are_steady, more_bytes_change_nothing, reading_is_bounded, sections_are_steady,
+};
