@@ -28,15 +28,20 @@ pub record Group : Type 0 where
   pub count : ℕ
   pub ty : ValType
 
--- so many groups, after that many locals were declared; a count that passes the limit is refused before its type is read
-abbrev pub groups : ℕ → ℕ → Reader (List Group)
-groups zero declared = done []
-groups (suc n) declared = do
+-- a group, after that many locals were declared; a count that passes the limit is refused before its type is read
+unfoldable pub group : ℕ → Reader Group
+group declared = do
   count ← u32
   if nat_lt max_locals (declared + count.1) then refused Limit count.0 else (do
     ty ← value_type
-    rest ← groups n (declared + count.1)
-    done (record { count = count.1; ty = ty.1 } ∷ rest))
+    done (record { count = count.1; ty = ty.1 }))
+
+abbrev pub groups : ℕ → ℕ → Reader (List Group)
+groups zero declared = done []
+groups (suc n) declared = do
+  g ← group declared
+  gs ← groups n (declared + g.count)
+  done (g ∷ gs)
 
 unfoldable pub local_groups : Reader (List Group)
 local_groups = do

@@ -8,7 +8,7 @@ use Rattle.wasm_defs.specs.declared.token.Plain.{Plain}
 use Rattle.wasm_defs.specs.declared.token.Token.{Token}
 use Rattle.wasm_defs.specs.declared.types.ValType.{ValType}
 use Rattle.wasm_defs.specs.Fields.{u32, byte}
-use Rattle.wasm_defs.specs.Bodies.{groups, local_groups, with_index, block_type, with_type, label, branch_table, zero_byte, indirect, with_zero, mem_arg, with_mem_arg, constant, control, variable, accessed_at, memory, operated_at, numeric, instruction}
+use Rattle.wasm_defs.specs.Bodies.{group, groups, local_groups, with_index, block_type, with_type, label, branch_table, zero_byte, indirect, with_zero, mem_arg, with_mem_arg, constant, control, variable, accessed_at, memory, operated_at, numeric, instruction}
 use Rattle.wasm_laws.specs.Steadiness.{token}
 use Rattle.wasm_laws.proofs.Steady.{Steady, In, here_in, bind, bind_field, either, done_steady, refused_steady}
 use Rattle.wasm_laws.proofs.Windows.{byte_field}
@@ -17,11 +17,16 @@ use Rattle.wasm_laws.proofs.EntryLaws.{steady, value_type_steady}
 
 -- ---- locals
 
+pub group_steady : (marks : List ℕ) (declared : ℕ) → Steady marks (group declared)
+unfolding group
+group_steady marks declared =
+    bind_field marks u32 _ u32_field (λ count. either _ _ _ _ (refused_steady _ _ _ here_in)
+    (bind _ _ _ (value_type_steady _) (λ ty. done_steady _ _)))
+
 pub groups_steady : (marks : List ℕ) (n declared : ℕ) → Steady marks (groups n declared)
 groups_steady marks zero declared = done_steady marks _
 groups_steady marks (suc n) declared =
-    bind_field marks u32 _ u32_field (λ count. either _ _ _ _ (refused_steady _ _ _ here_in)
-    (bind _ _ _ (value_type_steady _) (λ ty. bind _ _ _ (groups_steady _ n (declared + count.1)) (λ rest. done_steady _ _))))
+    bind marks _ _ (group_steady marks declared) (λ g. bind _ _ _ (groups_steady _ n (declared + g.count)) (λ gs. done_steady _ _))
 
 pub local_groups_steady : (marks : List ℕ) → Steady marks local_groups
 unfolding local_groups
