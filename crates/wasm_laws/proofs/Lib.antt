@@ -9,3 +9,5 @@ pub mod Takes
 pub mod Runs
 pub mod Comes
 pub mod Bounded
+pub mod Parts
+pub mod Order
