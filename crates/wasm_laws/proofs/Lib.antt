@@ -12,3 +12,5 @@ pub mod Faulty
 pub mod Verdicts
 pub mod Comes
 pub mod Bounded
+pub mod Parts
+pub mod Order

@@ -1,9 +1,12 @@
 //! The laws of how a module's bytes are read.
 
-ghost use Rattle.std.specs.Prelude.{◌≡◌, ◌≤◌, ℕ, length, List, [], ◌∷◌, ◌++◌};
+ghost use Rattle.std.specs.Prelude.{◌≡◌, ◌≤◌, ℕ, length, List, [], Some, suc, ◌∷◌, ◌++◌};
 ghost use Rattle.wasm_defs.specs.Bodies.{instruction, local_groups};
 ghost use Rattle.wasm_defs.specs.Entries.{Seen};
-ghost use Rattle.wasm_defs.specs.Outside.{header, module_run, preamble, row, section_end};
+ghost use Rattle.wasm_defs.specs.Faults.{ending_fault};
+ghost use Rattle.wasm_defs.specs.Outside.{Body, Coded, header, module_run, Part, preamble, row, Section, section_end};
+ghost use Rattle.wasm_defs.specs.declared.fault.Refusal.{Refusal};
+ghost use Rattle.wasm_laws.specs.Order.{AreOrdered, BodyStands, end_of, first_section};
 ghost use Rattle.wasm_laws.specs.Runs.{deciding_length, GoesOn, IsRefused};
 ghost use Rattle.wasm_laws.specs.Steadiness.{Steady, SteadyEnd, SteadyRow, Takes, token};
 
@@ -27,6 +30,15 @@ pub fn bodies_are_steady()
 /// More bytes change no part and no refusal of a module: a refused run stays as it is, and any other goes on.
 pub fn more_bytes_change_nothing()
     ensures { (bytes more : List ℕ) → GoesOn (module_run bytes) (module_run (bytes ++ more)) }
+{}
+
+/// The parts of a module stand in order, each behind the one before, and no later than the fault that ends reading (Core
+/// 5.5): sections begin no later, and bodies end before it. Around a body or a section the others stand on either side.
+pub fn parts_are_in_order()
+    ensures before_fault { (bytes : List ℕ) (r : Refusal) → ending_fault (length bytes) (module_run bytes).ending ≡ Some r → AreOrdered first_section r.offset (module_run bytes).parts × (r.offset ≤ length bytes) }
+    ensures in_module { (bytes : List ℕ) → AreOrdered first_section (length bytes) (module_run bytes).parts }
+    ensures around_body { (low last : ℕ) (front : List Part) (b : Body) (back : List Part) → AreOrdered low last (front ++ Coded b ∷ back) → AreOrdered low b.size front × BodyStands low last b × AreOrdered (end_of b) last back }
+    ensures around_section { (low last : ℕ) (front : List Part) (at id : ℕ) (back : List Part) → AreOrdered low last (front ++ Section at id ∷ back) → AreOrdered low at front × (low ≤ at) × (at ≤ last) × AreOrdered (suc at) last back }
 {}
 
 /// Reading is bounded: where so many bytes are there, the module is refused, and more bytes change nothing.

@@ -1,0 +1,10 @@
+use Rattle.wasm_laws.proofs.Order.{around_body, around_section, parts_before_fault, parts_in_module}
+use Rattle.wasm_laws.proofs.laws.parts_are_in_order.Goals as goal
+
+pub returns : goal.returns
+returns c = record {
+  before_fault = parts_before_fault;
+  in_module = parts_in_module;
+  around_body = around_body;
+  around_section = around_section;
+}

@@ -1,0 +1,40 @@
+-- Where the parts of a module stand: one behind the other, before the fault that ends reading (WebAssembly Core 1.0, 5.5).
+use Rattle.std.specs.Prelude.{◌≡◌, ◌≤◌, ◌<◌, ℕ, suc, ◌+◌, List, [], ◌∷◌, length}
+use Rattle.wasm_defs.specs.Limits.{max_body}
+use Rattle.wasm_defs.specs.Outside.{Body, Part, Section, Listed, Coded, Ending, Whole, Refused, Owed, Run}
+
+-- the offset behind a body
+abbrev pub end_of : Body → ℕ
+end_of b = b.first + length b.bytes
+
+-- a body from low on, and before last: its size, then its first byte, and as many bytes as a body may have
+pub record BodyStands (low last : ℕ) (b : Body) : Type 0 where
+  pub from : low ≤ b.size
+  pub sized : b.size < b.first
+  pub least : 2 ≤ length b.bytes
+  pub most : length b.bytes ≤ max_body
+  pub before : end_of b ≤ last
+
+-- the parts stand from low on, each behind the one before: sections no later than last, and bodies before it. Items aren't
+-- asked about here: they stand behind the id of their section
+abbrev pub AreOrdered : ℕ → ℕ → List Part → Type 0
+AreOrdered low last [] = Unit {0}
+AreOrdered low last (Section at id ∷ parts) = (low ≤ at) × (at ≤ last) × AreOrdered (suc at) last parts
+AreOrdered low last (Listed x ∷ parts) = AreOrdered low last parts
+AreOrdered low last (Coded b ∷ parts) = BodyStands low last b × AreOrdered (end_of b) last parts
+
+-- where reading so many bytes ends: at the fault, or at their number
+abbrev pub ending_place : ℕ → Ending → ℕ
+ending_place len (Whole seen) = len
+ending_place len (Refused r) = r.offset
+ending_place len Owed = len
+
+-- the parts of a run of so many bytes, from low on, and where it ends, from from on
+pub record IsOrdered (low from len : ℕ) (r : Run) : Type 0 where
+  pub parts : AreOrdered low (ending_place len r.ending) r.parts
+  pub after : from ≤ ending_place len r.ending
+  pub within : ending_place len r.ending ≤ len
+
+-- a module's sections begin behind its magic and version
+abbrev pub first_section : ℕ
+first_section = 8
