@@ -1,2 +1,4 @@
 pub mod Outcomes
 pub mod LocalLaws
+pub mod Depths
+pub mod Going

@@ -1,6 +1,7 @@
 //! One function body: its fields, and whether it is valid (WebAssembly Core 1.0, 3.3, 5.4 and 5.5.13).
 #![tactic(auto)]
 
+mod code;
 mod immediates;
 mod instructions;
 mod locals;

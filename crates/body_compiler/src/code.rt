@@ -1,0 +1,153 @@
+//! A body's code: its tokens are read one after the other, checked, and compared with what is compiled so far.
+
+ghost use Rattle.std.specs.Prelude.{◌≡◌, ◌≢◌, ◌≤◌, [], length, OnOk, if◌then◌else◌};
+ghost use Rattle.wasm_defs.specs.Bodies.{Spelled as SpelledGiven};
+ghost use Rattle.wasm_defs.specs.Fields.{Cursor as CursorGiven, Got, byte};
+ghost use Rattle.wasm_defs.specs.Typing.{Context as ContextGiven};
+ghost use Rattle.wasm_defs.specs.Faults.{rank};
+ghost use Rattle.body_compiler.specs.Judged.{earlier, unsupported_at};
+ghost use Rattle.body_compiler.specs.Going.{IsGoing, Goes, Judges, Taken, without_opcode};
+
+use crate::instructions::instruction;
+use body_validator::{Check, TokenStop};
+use leb_feed::{Fields, Stop};
+use std::alloc::Global;
+use wasm_defs::{Kind, Refusal, is_compiled_opcode};
+
+/// Why a body isn't judged to its end.
+#[derive(Clone, Copy, Debug, PartialEq, Eq)]
+pub enum BodyStop {
+    /// Its first fault.
+    Refused(Refusal),
+    NoMemory,
+}
+
+fn rank(kind: Kind) -> u8
+    ensures { result ≡ rank kind }
+{
+    match kind {
+        Kind::Malformed => 0,
+        Kind::Unsupported => 1,
+        Kind::Limit => 2,
+        Kind::Invalid => 3,
+        Kind::Ended => 4,
+    }
+}
+
+/// Which of two faults comes first.
+fn earlier(first: Refusal, second: Refusal) -> Refusal
+    ensures { result ≡ earlier first second }
+{
+    if first.offset < second.offset {
+        first
+    } else if second.offset < first.offset {
+        second
+    } else if rank(first.kind) <= rank(second.kind) {
+        first
+    } else {
+        second
+    }
+}
+
+/// A fault of an instruction whose opcode stands at an offset: what isn't compiled is unsupported there.
+fn fault_of(compiled: bool, at: u64, refusal: Refusal) -> Refusal
+    ensures { result ≡ (if compiled then refusal else earlier refusal (unsupported_at at)) }
+{
+    if compiled {
+        return refusal;
+    }
+    let unsupported = Refusal {
+        offset: at,
+        kind: Kind::Unsupported,
+    };
+    earlier(refusal, unsupported)
+}
+
+fn malformed(offset: u64) -> Refusal
+    ensures { result ≡ record { offset = offset; kind = Kind.Malformed } }
+{
+    Refusal {
+        offset,
+        kind: Kind::Malformed,
+    }
+}
+
+/// What follows an instruction that was taken.
+fn after_token(check: &Check<'_>, compiled: bool, at: u64, last: u64) -> Result<(), BodyStop>
+    ensures { Taken compiled at last check.now result }
+{
+    if compiled {
+        return Ok(());
+    }
+    let refusal = if at == last && !check.is_over() {
+        malformed(last)
+    } else {
+        Refusal {
+            offset: at,
+            kind: Kind::Unsupported,
+        }
+    };
+    Err(BodyStop::Refused(refusal))
+}
+
+/// Reads and checks the instruction behind an opcode at an offset, in a body whose last byte has the offset `last`.
+fn take_instruction(
+    alloc: Global,
+    fields: &mut Fields<'_>,
+    check: &mut Check<'_>,
+    last: u64,
+    at: u64,
+    opcode: u8,
+) -> Result<(), BodyStop>
+    ensures shrinks { OnOk result (length fields.new.rest ≤ length fields.old.rest) }
+    ensures goes { (c : ContextGiven) (code : SpelledGiven) (before : CursorGiven) → IsGoing c last before check.old code → byte before ≡ Got (at, opcode) fields.old → check.old.checker.frames ≢ [] → Goes c last code result fields.new check.new }
+{
+    let compiled = is_compiled_opcode(opcode);
+    match instruction(fields, alloc, at, opcode) {
+        Ok(token) => match check.token(at, &token) {
+            Ok(_) => after_token(check, compiled, at, last),
+            Err(TokenStop::Refused(refusal)) => {
+                Err(BodyStop::Refused(fault_of(compiled, at, refusal)))
+            }
+            Err(TokenStop::NoMemory) => Err(BodyStop::NoMemory),
+        },
+        Err(Stop::Refused(refusal)) => Err(BodyStop::Refused(fault_of(compiled, at, refusal))),
+        Err(Stop::Wants) => Err(BodyStop::Refused(fault_of(compiled, at, malformed(last)))),
+        Err(Stop::NoMemory) => Err(BodyStop::NoMemory),
+    }
+}
+
+/// Why a body's reading stops where no opcode is read.
+fn stop_of(stop: Stop, last: u64) -> BodyStop
+    ensures { result ≡ without_opcode last stop }
+{
+    match stop {
+        Stop::Refused(refusal) => BodyStop::Refused(refusal),
+        Stop::Wants => BodyStop::Refused(malformed(last)),
+        Stop::NoMemory => BodyStop::NoMemory,
+    }
+}
+
+/// Judges the code of a body whose last byte has the offset `last`.
+pub fn judge_code(
+    alloc: Global,
+    fields: &mut Fields<'_>,
+    check: &mut Check<'_>,
+    last: u64,
+) -> Result<(), BodyStop>
+    ensures { (c : ContextGiven) (code : SpelledGiven) → IsGoing c last fields.old check.old code → Judges c code result }
+{
+    while !check.is_over() {
+        match fields.byte() {
+            Ok((at, opcode)) => match take_instruction(alloc, fields, check, last, at, opcode) {
+                Ok(()) => {}
+                Err(stop) => return Err(stop),
+            },
+            Err(stop) => return Err(stop_of(stop, last)),
+        }
+    }
+    if fields.rest().is_empty() {
+        return Ok(());
+    }
+    Err(BodyStop::Refused(malformed(fields.offset())))
+}
