@@ -11,3 +11,6 @@ pub mod Comes
 pub mod Bounded
 pub mod Parts
 pub mod Order
+pub mod Sorts
+pub mod Headers
+pub mod Counts

@@ -1,3 +1,4 @@
 pub mod Steadiness
 pub mod Runs
 pub mod Order
+pub mod Counts

@@ -2,10 +2,12 @@
 
 ghost use Rattle.std.specs.Prelude.{◌≡◌, ◌≤◌, ℕ, length, List, [], Some, suc, ◌∷◌, ◌++◌};
 ghost use Rattle.wasm_defs.specs.Bodies.{instruction, local_groups};
+ghost use Rattle.wasm_defs.specs.Context.{declared_count};
 ghost use Rattle.wasm_defs.specs.Entries.{Seen};
-ghost use Rattle.wasm_defs.specs.Faults.{ending_fault};
-ghost use Rattle.wasm_defs.specs.Outside.{Body, Coded, header, module_run, Part, preamble, row, Section, section_end};
+ghost use Rattle.wasm_defs.specs.Faults.{bodies_of, ending_fault, items_of};
+ghost use Rattle.wasm_defs.specs.Outside.{Body, Coded, header, module_run, Part, preamble, row, Section, section_end, Whole};
 ghost use Rattle.wasm_defs.specs.declared.fault.Refusal.{Refusal};
+ghost use Rattle.wasm_laws.specs.Counts.{AreDeclared};
 ghost use Rattle.wasm_laws.specs.Order.{AreOrdered, BodyStands, end_of, first_section};
 ghost use Rattle.wasm_laws.specs.Runs.{deciding_length, GoesOn, IsRefused};
 ghost use Rattle.wasm_laws.specs.Steadiness.{Steady, SteadyEnd, SteadyRow, Takes, token};
@@ -45,4 +47,11 @@ pub fn parts_are_in_order()
 pub fn reading_is_bounded()
     ensures refused { (bytes : List ℕ) → deciding_length ≤ length bytes → IsRefused (module_run bytes).ending }
     ensures stays { (bytes more : List ℕ) → deciding_length ≤ length bytes → module_run (bytes ++ more) ≡ module_run bytes }
+{}
+
+/// A body belongs to a declared function (Core 5.5.13): more functions are declared before a body than bodies stand there,
+/// none is declared behind it, and a whole module has as many bodies as functions.
+pub fn bodies_match_functions()
+    ensures declared { (bytes : List ℕ) → AreDeclared 0 0 (module_run bytes).parts }
+    ensures whole { (bytes : List ℕ) (seen : Seen) → (module_run bytes).ending ≡ Whole seen → length (bodies_of (module_run bytes).parts) ≡ declared_count (items_of (module_run bytes).parts) }
 {}
