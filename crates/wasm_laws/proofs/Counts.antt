@@ -1,16 +1,16 @@
 -- A module has a body for each function that it declares.
-use Rattle.std.proofs.Common.{◌≡◌, ◌≢◌, ℕ, zero, suc, ◌+◌, ◌-◌, ◌≤◌, ◌<◌, Bool, true, false, List, [], ◌∷◌, length, refl, sym, ap, subst, ◌∙◌, arith, add-one, inl, inr}
+use Rattle.std.proofs.Common.{◌≡◌, ◌≢◌, ℕ, zero, suc, ◌+◌, ◌≤◌, ◌<◌, true, false, List, [], ◌∷◌, length, refl, sym, subst, ◌∙◌, arith, add-one, inl, inr}
 use Rattle.std.proofs.lemmas.Bool.{cases_Bool, cases_eq, cases_lt}
 use Rattle.wasm_defs.specs.declared.item.Item.{Item}
-use Rattle.wasm_defs.specs.declared.item.Item.TheVariants.{Signature, Imported, Function, Table, Memory, Global, Exported, Start, Element, Code, Segment}
+use Rattle.wasm_defs.specs.declared.item.Item.TheVariants.{Function, Code}
 use Rattle.wasm_defs.specs.Fields.{Cursor, Read, Got, Fault, Wants}
 use Rattle.wasm_defs.specs.Entries.{Seen, nothing, note, code}
 use Rattle.wasm_defs.specs.Outside.{Body, Part, Section, Listed, Coded, listed, body, code_entry, Row, row, header, entered, noted, inside, section_end, Ending, Whole, Refused, Owed, Run, ends, after_part, runs_on, Next, finish, entries, contents, section, owes_code, at_the_end, or_section, sections_up_to, preamble, beginning, module_run}
 use Rattle.wasm_defs.specs.Context.{declared_count}
 use Rattle.wasm_defs.specs.Faults.{items_of, bodies_of}
-use Rattle.wasm_laws.specs.Counts.{IsDeclared, AreDeclared}
+use Rattle.wasm_laws.specs.Counts.{AreDeclared}
 use Rattle.wasm_laws.proofs.Steady.{IfGot, always}
-use Rattle.wasm_laws.proofs.Sorts.{IsPlain, IsFunction, IsCode, IsItem, IsBody, Yields, listed_yields, function_yields, code_yields, body_yields, PlainRow, row_is_plain, count_cons, Notes, notes, plain_keeps}
+use Rattle.wasm_laws.proofs.Sorts.{IsPlain, IsFunction, IsCode, IsItem, IsBody, Yields, listed_yields, function_yields, code_yields, body_yields, row_is_plain, count_cons, notes, plain_keeps}
 use Rattle.wasm_laws.proofs.Parts.{got_map, either_got}
 use Rattle.wasm_laws.proofs.Headers.{Follows, header_tells, entered_as, owes_none}
 

@@ -1,6 +1,6 @@
 -- Which section may follow which.
-use Rattle.std.proofs.Common.{◌≡◌, ◌≢◌, ℕ, ◌+◌, ◌≤◌, ◌<◌, Bool, true, false, cond, not, ◌||◌, ◌&&◌, eqb, leb, ltb, refl, arith, inl, inr, ◌⊎◌}
-use Rattle.std.proofs.lemmas.Bool.{cases_Bool, cases_eq, or_parts, eq-eqb, ne_eqb, eqb-true, leb-false, ltb-false, lt-ltb}
+use Rattle.std.proofs.Common.{◌≡◌, ◌≢◌, ℕ, ◌+◌, ◌<◌, true, false, not, ◌&&◌, eqb, leb, ltb, refl, arith, inl, inr, ◌⊎◌}
+use Rattle.std.proofs.lemmas.Bool.{cases_Bool, cases_eq, or_parts, eq-eqb, ne_eqb, leb-false, ltb-false, lt-ltb}
 use Rattle.wasm_defs.specs.Limits.{max_module}
 use Rattle.wasm_defs.specs.Fields.{Cursor, byte, u32, here}
 use Rattle.wasm_defs.specs.Entries.{Seen}

@@ -14,3 +14,5 @@ pub mod Order
 pub mod Sorts
 pub mod Headers
 pub mod Counts
+pub mod Cuts
+pub mod BodyOrder

@@ -2,3 +2,4 @@ pub mod Steadiness
 pub mod Runs
 pub mod Order
 pub mod Counts
+pub mod BodyOrder

@@ -1,5 +1,5 @@
 -- Where the parts of a module stand: one behind the other, before the fault that ends reading (WebAssembly Core 1.0, 5.5).
-use Rattle.std.specs.Prelude.{◌≡◌, ◌≤◌, ◌<◌, ℕ, suc, ◌+◌, List, [], ◌∷◌, length}
+use Rattle.std.specs.Prelude.{◌≡◌, ◌≤◌, ◌<◌, ℕ, suc, ◌+◌, List, [], ◌∷◌, length, take, drop}
 use Rattle.wasm_defs.specs.Limits.{max_body}
 use Rattle.wasm_defs.specs.Outside.{Body, Part, Section, Listed, Coded, Ending, Whole, Refused, Owed, Run}
 
@@ -22,6 +22,14 @@ AreOrdered low last [] = Unit {0}
 AreOrdered low last (Section at id ∷ parts) = (low ≤ at) × (at ≤ last) × AreOrdered (suc at) last parts
 AreOrdered low last (Listed x ∷ parts) = AreOrdered low last parts
 AreOrdered low last (Coded b ∷ parts) = BodyStands low last b × AreOrdered (end_of b) last parts
+
+-- the parts are cut from the module's bytes: a section's id is the byte where it stands, and a body has as many bytes as it
+-- has from its first one on
+abbrev pub AreCutFrom : List ℕ → List Part → Type 0
+AreCutFrom bytes [] = Unit {0}
+AreCutFrom bytes (Section at id ∷ parts) = (take 1 (drop at bytes) ≡ id ∷ []) × AreCutFrom bytes parts
+AreCutFrom bytes (Listed x ∷ parts) = AreCutFrom bytes parts
+AreCutFrom bytes (Coded b ∷ parts) = (take (length b.bytes) (drop b.first bytes) ≡ b.bytes) × AreCutFrom bytes parts
 
 -- where reading so many bytes ends: at the fault, or at their number
 abbrev pub ending_place : ℕ → Ending → ℕ
