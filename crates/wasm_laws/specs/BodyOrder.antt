@@ -14,9 +14,10 @@ abbrev pub stop_of : ℕ → Option Refusal → ℕ
 stop_of last None = last
 stop_of last (Some r) = r.offset
 
--- opcodes and tokens stand from low on, spelling stops from from on, and all of that at bytes up to last
-pub record IsSpelledIn (low from last : ℕ) (s : Spelled) : Type 0 where
-  pub opcodes : AreRising low (stop_of last s.fault) s.opcodes
-  pub tokens : AreRising low (stop_of last s.fault) s.tokens
-  pub after : from ≤ stop_of last s.fault
+-- what is spelled from first on, in a body whose last byte stands at last: opcodes and tokens stand up to where spelling
+-- stops
+pub record IsSpelledIn (first last : ℕ) (s : Spelled) : Type 0 where
+  pub opcodes : AreRising first (stop_of last s.fault) s.opcodes
+  pub tokens : AreRising first (stop_of last s.fault) s.tokens
+  pub after : first ≤ stop_of last s.fault
   pub within : stop_of last s.fault ≤ last

@@ -69,7 +69,7 @@ pub fn others_stand_around()
 /// stands at a byte of the body (Core 5.4).
 pub fn bodies_are_in_order()
     ensures { (first : ℕ) (bytes : List ℕ) → 0 < length bytes →
-        IsSpelledIn first first (last_of first bytes) (body_read first bytes).code }
+        IsSpelledIn first (last_of first bytes) (body_read first bytes).code }
 {}
 
 /// A body belongs to a declared function (Core 5.5.13): more functions are declared before a body than bodies stand there,
