@@ -1,19 +1,17 @@
 -- Reading goes no further than the limit on a module's bytes.
-use Rattle.std.proofs.Common.{◌≡◌, ℕ, zero, suc, ◌+◌, ◌-◌, ◌≤◌, ◌<◌, Bool, true, false, cond, leb, ltb, eqb, List, [], ◌∷◌, ◌++◌, length, take, drop, refl, sym, ap, ◌∙◌, arith, length-append, length-drop, length-take, inl, inr}
+use Rattle.std.proofs.Common.{◌≡◌, ℕ, zero, suc, ◌+◌, ◌-◌, ◌≤◌, ◌<◌, eqb, List, [], ◌∷◌, ◌++◌, length, drop, refl, sym, ap, ◌∙◌, arith, length-drop, length-take, inl, inr}
 use Rattle.std.specs.Prelude.{nat_lt, if◌then◌else◌}
 use Rattle.std.proofs.lemmas.Bool.{cases_Bool, cases_lt, lt-ltb, le-ltb, le-leb, lt-leb}
 use Rattle.wasm_defs.specs.declared.fault.Kind.TheVariants.{Limit}
-use Rattle.wasm_defs.specs.declared.fault.Refusal.{Refusal}
 use Rattle.wasm_defs.specs.Limits.{max_module}
-use Rattle.wasm_defs.specs.Fields.{Cursor, Read, Got, Fault, Wants, Reader, then_go, ◌>>=◌, done, refused, past, room_of, window, byte, u32, here, fixed}
+use Rattle.wasm_defs.specs.Fields.{Cursor, Read, Got, Fault, Wants, Reader, ◌>>=◌, done, refused, past, room_of, window, byte, u32, here, fixed}
 use Rattle.wasm_defs.specs.Entries.{Seen, nothing}
-use Rattle.wasm_defs.specs.Outside.{Part, Section, Nothing, Row, row, header, is_misplaced, entered, noted, inside, no_end, section_end, Ending, Whole, Refused, Owed, Run, after_part, runs_on, Next, finish, entries, contents, section, at_the_end, or_section, sections_up_to, sections, magic, version, preamble, beginning, module_run}
-use Rattle.wasm_laws.specs.Runs.{Becomes, GoesOn, deciding_length, IsRefused}
-use Rattle.wasm_laws.proofs.Steady.{IfGot, Advance, Advances, Moves, moves_of, moves_then, IsThere, IsDecided, Steady}
-use Rattle.wasm_laws.proofs.EntryLaws.{header_steady}
+use Rattle.wasm_defs.specs.Outside.{Row, row, header, is_misplaced, entered, noted, inside, no_end, Ending, Refused, Run, runs_on, Next, finish, entries, contents, section, or_section, sections_up_to, magic, version, preamble, beginning, module_run}
+use Rattle.wasm_laws.specs.Runs.{GoesOn, deciding_length, IsRefused}
+use Rattle.wasm_laws.proofs.Steady.{IfGot, Advance, Moves, moves_of, moves_then, IsThere}
 use Rattle.wasm_laws.proofs.FieldLaws.{u32_field}
-use Rattle.wasm_laws.proofs.Takes.{LeavesFewer, header_takes}
-use Rattle.wasm_laws.proofs.RowLaws.{SteadyRow, Leaves, row_steady, end_steady}
+use Rattle.wasm_laws.proofs.Takes.{header_takes}
+use Rattle.wasm_laws.proofs.RowLaws.{SteadyRow, row_steady, end_steady}
 use Rattle.wasm_laws.proofs.Windows.{past_advance}
 use Rattle.wasm_laws.proofs.Comes.{Comes, comes_of, then_comes, byte_comes, u32_is_decided, fixed_comes}
 use Rattle.wasm_laws.proofs.Runs.{module_goes_on}

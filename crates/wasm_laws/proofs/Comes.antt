@@ -1,10 +1,9 @@
 -- What reading comes to where more bytes are there than a field can want.
-use Rattle.std.proofs.Common.{◌≡◌, ◌≢◌, ℕ, zero, suc, ◌+◌, ◌-◌, ◌*◌, ◌^◌, ◌≤◌, ◌<◌, Bool, true, false, cond, ltb, List, [], ◌∷◌, length, take, drop, refl, ap, arith, length-drop, length-take, inl, inr}
+use Rattle.std.proofs.Common.{◌≡◌, ℕ, ◌+◌, ◌-◌, ◌*◌, ◌^◌, ◌≤◌, ◌<◌, Bool, true, false, ltb, List, [], ◌∷◌, length, refl, arith, inl, inr}
 use Rattle.std.proofs.lemmas.Bool.{cases_lt, cases_Bool, lt-ltb, le-ltb}
 use Rattle.wasm_defs.specs.Numbers.{Reading, Number, CutOff, Bad, number_at, last_byte, after_byte}
-use Rattle.wasm_defs.specs.Fields.{Cursor, Read, Got, Fault, Wants, Reader, then_go, past, room_of, window, first_of, byte, from_reading, number, u32, agree, fixed}
-use Rattle.wasm_laws.proofs.Steady.{IfGot, IsDecided, Steady}
-use Rattle.wasm_laws.proofs.FieldLaws.{u32_field}
+use Rattle.wasm_defs.specs.Fields.{Cursor, Read, Got, Fault, Wants, Reader, then_go, past, window, first_of, byte, from_reading, number, u32, agree, fixed}
+use Rattle.wasm_laws.proofs.Steady.{IfGot, IsDecided}
 
 -- a value of which the fact holds, or a fault
 abbrev pub Comes : {A : Type 0} → (A → Cursor → Type 0) → Read A → Type 0

@@ -14,3 +14,8 @@ pub mod Comes
 pub mod Bounded
 pub mod Parts
 pub mod Order
+pub mod Sorts
+pub mod Headers
+pub mod Counts
+pub mod Cuts
+pub mod BodyOrder

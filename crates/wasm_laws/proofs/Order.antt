@@ -1,18 +1,30 @@
 -- The parts of a module stand one behind the other, before the fault that ends reading.
-use Rattle.std.proofs.Common.{◌≡◌, ℕ, zero, suc, ◌+◌, ◌-◌, ◌≤◌, ◌<◌, Bool, true, false, List, [], ◌∷◌, ◌++◌, length, Option, Some, refl, sym, ap, arith, inl, inr}
+use Rattle.std.proofs.Common.{◌≡◌, ℕ, zero, suc, ◌+◌, ◌≤◌, ◌<◌, List, [], ◌∷◌, ◌++◌, length, Some, ap, arith, inl, inr}
 use Rattle.std.proofs.lemmas.Bool.{cases_Bool}
 use Rattle.wasm_defs.specs.declared.fault.Refusal.{Refusal}
 use Rattle.wasm_defs.specs.declared.fault.Kind.TheVariants.{Ended}
 use Rattle.wasm_defs.specs.Fields.{Cursor, Read, Got, Fault, Wants, room_of, fixed}
 use Rattle.wasm_defs.specs.Entries.{Seen, nothing}
-use Rattle.wasm_defs.specs.Outside.{Body, Part, Section, Listed, Coded, Row, row, header, entered, noted, inside, no_end, section_end, Ending, Whole, Refused, Owed, Run, after_part, runs_on, Next, finish, entries, contents, section, owes_code, at_the_end, or_section, sections_up_to, sections, magic, version, preamble, beginning, module_run}
+use Rattle.wasm_defs.specs.Outside.{Body, Part, Section, Listed, Coded, Row, row, entered, noted, inside, no_end, Ending, Whole, Refused, Owed, Run, after_part, runs_on, Next, finish, entries, contents, section, owes_code, at_the_end, or_section, sections_up_to, magic, version, preamble, beginning, module_run}
 use Rattle.wasm_defs.specs.Faults.{ending_fault}
-use Rattle.wasm_laws.specs.Order.{end_of, BodyStands, AreOrdered, ending_place, IsOrdered, first_section}
-use Rattle.wasm_laws.proofs.Steady.{IfGot, Advance, Advances, moves_of, StandsIn, Steady}
+use Rattle.wasm_laws.specs.Order.{end_of, BodyStands, AreOrdered, first_section}
+use Rattle.wasm_laws.proofs.Steady.{IfGot, Advance, moves_of, StandsIn}
 use Rattle.wasm_laws.proofs.EntryLaws.{header_steady, preamble_steady}
-use Rattle.wasm_laws.proofs.Takes.{LeavesFewer, header_takes}
+use Rattle.wasm_laws.proofs.Takes.{header_takes}
 use Rattle.wasm_laws.proofs.RowLaws.{SteadyRow, row_steady, end_steady}
-use Rattle.wasm_laws.proofs.Parts.{then_got, got_both, got_map, fixed_got, Lies, PartLies, LyingRow, row_lies}
+use Rattle.wasm_laws.proofs.Parts.{then_got, got_both, got_map, fixed_got, PartLies, LyingRow, row_lies}
+
+-- where reading so many bytes ends: at the fault, or at their number
+abbrev pub ending_place : ℕ → Ending → ℕ
+ending_place len (Whole seen) = len
+ending_place len (Refused r) = r.offset
+ending_place len Owed = len
+
+-- a run of so many bytes: its parts from low on, and its end, at from or behind
+pub record IsOrdered (low from len : ℕ) (r : Run) : Type 0 where
+  pub parts : AreOrdered low (ending_place len r.ending) r.parts
+  pub after : from ≤ ending_place len r.ending
+  pub within : ending_place len r.ending ≤ len
 
 -- ---- parts in order
 

@@ -1,10 +1,10 @@
 -- What an entry of a section is: an item, or in the code section a body that lies in what was taken.
-use Rattle.std.proofs.Common.{◌≡◌, ℕ, ◌+◌, ◌≤◌, ◌<◌, Bool, true, false, cond, ltb, ◌||◌, eqb, List, [], ◌∷◌, length, take, refl, ap, arith, length-take, inl, inr}
+use Rattle.std.proofs.Common.{◌≡◌, ℕ, ◌+◌, ◌≤◌, ◌<◌, Bool, true, false, cond, ltb, ◌||◌, eqb, List, length, refl, ap, arith, length-take, inl, inr}
 use Rattle.std.proofs.lemmas.Bool.{cases_Bool, cases_lt, lt-ltb, le-ltb, or_parts, ltb-false}
 use Rattle.wasm_defs.specs.declared.item.Item.{Item}
 use Rattle.wasm_defs.specs.Limits.{max_body}
-use Rattle.wasm_defs.specs.Fields.{Cursor, Read, Got, Fault, Wants, Reader, then_go, past, room_of, window, cut, u32, room, here, run, agree, fixed}
-use Rattle.wasm_defs.specs.Entries.{Seen}
+use Rattle.wasm_defs.specs.Fields.{Cursor, Read, Got, Fault, Wants, Reader, then_go, past, room_of, window, u32, room, here, run, agree, fixed}
+use Rattle.wasm_defs.specs.Entries.{Seen, code}
 use Rattle.wasm_defs.specs.Outside.{Body, Part, Section, Listed, Coded, listed, body, entries_of, code_entry, Row, row}
 use Rattle.wasm_laws.specs.Order.{end_of}
 use Rattle.wasm_laws.proofs.Steady.{IfGot, IsMarked}
@@ -25,6 +25,10 @@ pub got_map : {A : Type 0} (P Q : A → Cursor → Type 0) (x : Read A) → ((a 
 got_map P Q (Got a d) h p = h a d p
 got_map P Q (Fault r) h p = tt
 got_map P Q Wants h p = tt
+
+pub either_got : {A : Type 0} (P : A → Cursor → Type 0) (b : Bool) (p q : Reader A) (c : Cursor) → (b ≡ true → IfGot P (p c)) → (b ≡ false → IfGot P (q c)) → IfGot P (cond b p q c)
+either_got P true p q c hp hq = hp refl
+either_got P false p q c hp hq = hq refl
 
 pub fixed_got : (bytes : List ℕ) (c : Cursor) → IfGot (λ v d. d.at ≡ c.at + length bytes) (fixed bytes c)
 unfolding fixed
@@ -100,11 +104,7 @@ items_lie : (front : Seen → Reader ℕ) (entry : Seen → Reader Item) → Lyi
 items_lie front entry = record { entry = λ seen c. listed_lies c (entry seen c) }
 
 code_lies : (seen : Seen) (c : Cursor) → IfGot (PartLies c) (code_entry seen c)
-code_lies seen c =
-    elim (cases_Bool seen.counted) [
-      | inl behind ↦ rw behind (body_lies c)
-      | inr first ↦ rw first (listed_lies c _)
-    ]
+code_lies seen c = either_got (PartLies c) seen.counted body (listed (code seen)) c (λ e. body_lies c) (λ e. listed_lies c (code seen c))
 
 pub row_lies : (id : ℕ) → LyingRow (row id)
 row_lies id =

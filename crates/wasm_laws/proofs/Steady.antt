@@ -70,7 +70,7 @@ then_advances c (Got a d) f h p = advances_on c d (f a d) p (h a d)
 then_advances c (Fault r) f h p = tt
 then_advances c Wants f h p = tt
 
-always : {A : Type 0} (x : Read A) → IfGot (λ a d. Unit {0}) x
+pub always : {A : Type 0} (x : Read A) → IfGot (λ a d. Unit {0}) x
 always (Got x d) = tt
 always (Fault r) = tt
 always Wants = tt

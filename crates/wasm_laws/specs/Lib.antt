@@ -1,3 +1,5 @@
 pub mod Steadiness
 pub mod Runs
 pub mod Order
+pub mod Counts
+pub mod BodyOrder

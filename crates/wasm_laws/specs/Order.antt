@@ -1,7 +1,7 @@
 -- Where the parts of a module stand: one behind the other, before the fault that ends reading (WebAssembly Core 1.0, 5.5).
-use Rattle.std.specs.Prelude.{◌≡◌, ◌≤◌, ◌<◌, ℕ, suc, ◌+◌, List, [], ◌∷◌, length}
+use Rattle.std.specs.Prelude.{◌≡◌, ◌≤◌, ◌<◌, ℕ, suc, ◌+◌, List, [], ◌∷◌, length, take, drop}
 use Rattle.wasm_defs.specs.Limits.{max_body}
-use Rattle.wasm_defs.specs.Outside.{Body, Part, Section, Listed, Coded, Ending, Whole, Refused, Owed, Run}
+use Rattle.wasm_defs.specs.Outside.{Body, Part, Section, Listed, Coded}
 
 -- the offset behind a body
 abbrev pub end_of : Body → ℕ
@@ -23,17 +23,13 @@ AreOrdered low last (Section at id ∷ parts) = (low ≤ at) × (at ≤ last) ×
 AreOrdered low last (Listed x ∷ parts) = AreOrdered low last parts
 AreOrdered low last (Coded b ∷ parts) = BodyStands low last b × AreOrdered (end_of b) last parts
 
--- where reading so many bytes ends: at the fault, or at their number
-abbrev pub ending_place : ℕ → Ending → ℕ
-ending_place len (Whole seen) = len
-ending_place len (Refused r) = r.offset
-ending_place len Owed = len
-
--- the parts of a run of so many bytes, from low on, and where it ends, from from on
-pub record IsOrdered (low from len : ℕ) (r : Run) : Type 0 where
-  pub parts : AreOrdered low (ending_place len r.ending) r.parts
-  pub after : from ≤ ending_place len r.ending
-  pub within : ending_place len r.ending ≤ len
+-- the parts are cut from the module's bytes: a section's id is the byte at its offset, and a body's bytes are those from the
+-- offset of its first one on
+abbrev pub AreCutFrom : List ℕ → List Part → Type 0
+AreCutFrom bytes [] = Unit {0}
+AreCutFrom bytes (Section at id ∷ parts) = (take 1 (drop at bytes) ≡ id ∷ []) × AreCutFrom bytes parts
+AreCutFrom bytes (Listed x ∷ parts) = AreCutFrom bytes parts
+AreCutFrom bytes (Coded b ∷ parts) = (take (length b.bytes) (drop b.first bytes) ≡ b.bytes) × AreCutFrom bytes parts
 
 -- a module's sections begin behind its magic and version
 abbrev pub first_section : ℕ

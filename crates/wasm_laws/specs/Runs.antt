@@ -13,7 +13,8 @@ Becomes parts Owed later = (tail : List Part) × (later.parts ≡ parts ++ tail)
 abbrev pub GoesOn : Run → Run → Type 0
 GoesOn r later = Becomes r.parts r.ending later
 
--- so many bytes decide about any module: the last size begins at the limit on a module's bytes at most, and has five bytes
+-- so many bytes decide about any module: the size of its last section begins at the limit on a module's bytes at most, and
+-- has five bytes at most
 abbrev pub deciding_length : ℕ
 deciding_length = max_module + 5
 

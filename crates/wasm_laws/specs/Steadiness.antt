@@ -41,8 +41,8 @@ Advances c = IfGot (λ x d. Advance c d)
 
 -- ---- places of faults
 
--- a fault that is met from the cursor on, and tells of no place before low: where the section's end isn't near, the bytes
--- that are there have it
+-- a fault that reading meets from the cursor on: no earlier than low, and no later than where the bytes that are there end;
+-- where they end before the section does, it stands at one of them
 pub record Stands (low : ℕ) (c : Cursor) (r : Refusal) : Type 0 where
   pub from : low ≤ r.offset
   pub within : r.offset ≤ c.at + length c.rest
@@ -53,7 +53,7 @@ StandsIn low c (Got x d) = Unit {0}
 StandsIn low c (Fault r) = Stands low c r
 StandsIn low c Wants = Unit {0}
 
--- the offsets of fields that were read before, from low on
+-- marks, the offsets of fields that were read before: from low on, and before the cursor
 abbrev pub AreBehind : ℕ → Cursor → List ℕ → Type 0
 AreBehind low c [] = Unit {0}
 AreBehind low c (mark ∷ marks) = (low ≤ mark) × (mark < c.at) × AreBehind low c marks
@@ -71,20 +71,21 @@ IsDecided Wants = ⊥
 
 -- ---- steady readers
 
--- a reader, which may find its faults at the marks too: fields before it
+-- a reader whose faults may stand at the marks too: at fields before it, which it was given
 pub record Steady {A : Type 0} (marks : List ℕ) (p : Reader A) : Type 0 where
   pub by : (c : Cursor) (more : List ℕ) → Extends A more (p c) (p (with_more c more))
   pub moves : (c : Cursor) → Advances c (p c)
   pub place : (low : ℕ) (c : Cursor) → low ≤ c.at → AreBehind low c marks → StandsIn low c (p c)
   pub decides : (c : Cursor) → IsThere c → IsDecided (p c)
 
--- a reader that takes a byte at least
+-- a byte at least is taken
 abbrev pub LeavesFewer : {A : Type 0} → Cursor → Read A → Type 0
 LeavesFewer c = IfGot (λ x d. length d.rest < length c.rest)
 
 pub record Takes {A : Type 0} (p : Reader A) : Type 0 where
   pub some : (c : Cursor) → LeavesFewer c (p c)
 
+-- a section's row: what stands before its entries, each of them, and what stands behind
 pub record SteadyRow (r : Row) : Type 0 where
   pub front : (seen : Seen) → Steady [] (r.front seen)
   pub entry : (seen : Seen) → Steady [] (r.entry seen)

@@ -1,12 +1,15 @@
 //! The laws of how a module's bytes are read.
 
-ghost use Rattle.std.specs.Prelude.{◌≡◌, ◌≤◌, ℕ, length, List, [], Some, suc, ◌∷◌, ◌++◌};
-ghost use Rattle.wasm_defs.specs.Bodies.{instruction, local_groups};
+ghost use Rattle.std.specs.Prelude.{◌≡◌, ◌≤◌, ◌<◌, ℕ, length, List, [], Some, suc, ◌∷◌, ◌++◌};
+ghost use Rattle.wasm_defs.specs.Bodies.{body_read, instruction, last_of, local_groups};
+ghost use Rattle.wasm_defs.specs.Context.{declared_count};
 ghost use Rattle.wasm_defs.specs.Entries.{Seen};
-ghost use Rattle.wasm_defs.specs.Faults.{ending_fault};
-ghost use Rattle.wasm_defs.specs.Outside.{Body, Coded, header, module_run, Part, preamble, row, Section, section_end};
+ghost use Rattle.wasm_defs.specs.Faults.{bodies_of, ending_fault, items_of};
+ghost use Rattle.wasm_defs.specs.Outside.{Body, Coded, header, module_run, Part, preamble, row, Section, section_end, Whole};
 ghost use Rattle.wasm_defs.specs.declared.fault.Refusal.{Refusal};
-ghost use Rattle.wasm_laws.specs.Order.{AreOrdered, BodyStands, end_of, first_section};
+ghost use Rattle.wasm_laws.specs.BodyOrder.{IsSpelledIn};
+ghost use Rattle.wasm_laws.specs.Counts.{AreDeclared};
+ghost use Rattle.wasm_laws.specs.Order.{AreCutFrom, AreOrdered, BodyStands, end_of, first_section};
 ghost use Rattle.wasm_laws.specs.Runs.{deciding_length, GoesOn, IsRefused};
 ghost use Rattle.wasm_laws.specs.Steadiness.{Steady, SteadyEnd, SteadyRow, Takes, token};
 
@@ -32,17 +35,49 @@ pub fn more_bytes_change_nothing()
     ensures { (bytes more : List ℕ) → GoesOn (module_run bytes) (module_run (bytes ++ more)) }
 {}
 
-/// The parts of a module stand in order, each behind the one before, and no later than the fault that ends reading (Core
-/// 5.5): sections begin no later, and bodies end before it. Around a body or a section the others stand on either side.
-pub fn parts_are_in_order()
-    ensures before_fault { (bytes : List ℕ) (r : Refusal) → ending_fault (length bytes) (module_run bytes).ending ≡ Some r → AreOrdered first_section r.offset (module_run bytes).parts × (r.offset ≤ length bytes) }
-    ensures in_module { (bytes : List ℕ) → AreOrdered first_section (length bytes) (module_run bytes).parts }
-    ensures around_body { (low last : ℕ) (front : List Part) (b : Body) (back : List Part) → AreOrdered low last (front ++ Coded b ∷ back) → AreOrdered low b.size front × BodyStands low last b × AreOrdered (end_of b) last back }
-    ensures around_section { (low last : ℕ) (front : List Part) (at id : ℕ) (back : List Part) → AreOrdered low last (front ++ Section at id ∷ back) → AreOrdered low at front × (low ≤ at) × (at ≤ last) × AreOrdered (suc at) last back }
-{}
-
 /// Reading is bounded: where so many bytes are there, the module is refused, and more bytes change nothing.
 pub fn reading_is_bounded()
-    ensures refused { (bytes : List ℕ) → deciding_length ≤ length bytes → IsRefused (module_run bytes).ending }
-    ensures stays { (bytes more : List ℕ) → deciding_length ≤ length bytes → module_run (bytes ++ more) ≡ module_run bytes }
+    ensures refused { (bytes : List ℕ) →
+        deciding_length ≤ length bytes → IsRefused (module_run bytes).ending }
+    ensures stays { (bytes more : List ℕ) →
+        deciding_length ≤ length bytes → module_run (bytes ++ more) ≡ module_run bytes }
+{}
+
+/// The parts of a module stand in order, each behind the one before, and no later than the fault that ends reading (Core
+/// 5.5): sections begin no later, and bodies end before it. They are cut from the module's bytes.
+pub fn parts_are_in_order()
+    ensures before_fault { (bytes : List ℕ) (r : Refusal) →
+        let run = module_run bytes in
+        ending_fault (length bytes) run.ending ≡ Some r →
+        AreOrdered first_section r.offset run.parts × (r.offset ≤ length bytes) }
+    ensures in_module { (bytes : List ℕ) →
+        AreOrdered first_section (length bytes) (module_run bytes).parts }
+    ensures cut { (bytes : List ℕ) → AreCutFrom bytes (module_run bytes).parts }
+{}
+
+/// Of parts in order, those in front of one stand before it, and those behind it from its end on.
+pub fn others_stand_around()
+    ensures body { (low last : ℕ) (front : List Part) (b : Body) (back : List Part) →
+        AreOrdered low last (front ++ Coded b ∷ back) →
+        AreOrdered low b.size front × BodyStands low last b × AreOrdered (end_of b) last back }
+    ensures section { (low last : ℕ) (front : List Part) (at id : ℕ) (back : List Part) →
+        AreOrdered low last (front ++ Section at id ∷ back) →
+        AreOrdered low at front × (low ≤ at) × (at ≤ last) × AreOrdered (suc at) last back }
+{}
+
+/// A body's opcodes and tokens stand in order, each behind the one before, and no later than the fault of spelling, which
+/// stands at a byte of the body (Core 5.4).
+pub fn bodies_are_in_order()
+    ensures { (first : ℕ) (bytes : List ℕ) → 0 < length bytes →
+        IsSpelledIn first (last_of first bytes) (body_read first bytes).code }
+{}
+
+/// A body belongs to a declared function (Core 5.5.13): more functions are declared before a body than bodies stand there,
+/// none is declared behind it, and a whole module has as many bodies as functions.
+pub fn bodies_match_functions()
+    ensures declared { (bytes : List ℕ) → AreDeclared 0 0 (module_run bytes).parts }
+    ensures whole { (bytes : List ℕ) (seen : Seen) →
+        let run = module_run bytes in
+        run.ending ≡ Whole seen →
+        length (bodies_of run.parts) ≡ declared_count (items_of run.parts) }
 {}
