@@ -1,3 +1,3 @@
 pub mod Known
-pub mod Parts
-pub mod PieceEnds
+mod Parts
+mod PieceEnds

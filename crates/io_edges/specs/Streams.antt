@@ -1,5 +1,5 @@
 -- What a read and a write do to the bytes left, the bytes written and the count of faults.
-use Rattle.std.specs.Prelude.{◌≡◌, ℕ, ◌<◌, ◌≤◌, List, length, take, Option}
+use Rattle.std.specs.Prelude.{◌≡◌, ℕ, ◌<◌, ◌≤◌, List, length, take, Option, Bool, true, false}
 use Rattle.std.specs.Io.KnownBytes.{prepend_known, append_known, IsAtEnd}
 use Rattle.io_edges.specs.Causes.{Rose}
 use Rattle.io_edges.specs.declared.source.Got.{Got}
@@ -28,3 +28,8 @@ Writes put.Failed piece old new = new ≡ old
 abbrev pub WriteCounts : Put → ℕ → ℕ → Type 0
 WriteCounts (put.Took n) before now = now ≡ before
 WriteCounts put.Failed before now = Rose before now
+
+-- What the writing of a whole text did: whether the sink took it, the text, the bytes written before and after, and the count of faults before and now.
+abbrev pub WritesText : Bool → List ℕ → Option (List ℕ) → Option (List ℕ) → ℕ → ℕ → Type 0
+WritesText true text old new before now = (new ≡ append_known old text) × (now ≡ before)
+WritesText false text old new before now = (n : ℕ) × (new ≡ append_known old (take n text)) × Rose before now × (n < length text)

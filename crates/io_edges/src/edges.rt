@@ -55,7 +55,8 @@ impl<R: Read> Source for InputEdge<R> {
         ensures once { result ≡ Got.Failed → self.new.faults ≡ one_more self.old.faults }
 
         // Where the reader's bytes are known, they are passed on.
-        ensures passes { PassesRead result buf.new (R.remaining self.old.inner) (R.remaining self.new.inner) }
+        ensures passes { PassesRead result buf.new
+            (R.remaining self.old.inner) (R.remaining self.new.inner) }
     {
         match read_uninterrupted(&mut self.inner, buf) {
             Ok(0) => Got::End,
@@ -68,7 +69,8 @@ impl<R: Read> Source for InputEdge<R> {
     }
 }
 
-// One read, made again where a signal interrupted it.
+// One read, made again where a signal interrupted it. The loop ends, since each loop has to: after
+// 2^64 tries an interrupt is an error as any other.
 fn read_uninterrupted<R: Read>(reader: &mut R, buf: &mut [u8]) -> io::Result<usize>
     ensures bound { ReadsAtMost result buf.new }
     ensures bytes { ReadConsumes (R.remaining reader.old) (R.remaining reader.new) result buf.new }
@@ -126,7 +128,8 @@ impl<W: Write> Sink for OutputEdge<W> {
         ensures once { result ≡ Put.Failed → self.new.faults ≡ one_more self.old.faults }
 
         // Where the writer's bytes are known, they are passed on.
-        ensures passes { PassesWrite result piece.now (W.contents self.old.inner) (W.contents self.new.inner) }
+        ensures passes { PassesWrite result piece.now
+            (W.contents self.old.inner) (W.contents self.new.inner) }
     {
         match write_uninterrupted(&mut self.inner, piece) {
             Ok(count) if 0 < count => Put::Took(count),
@@ -138,7 +141,7 @@ impl<W: Write> Sink for OutputEdge<W> {
     }
 }
 
-// One write, made again where a signal interrupted it.
+// One write, made again where a signal interrupted it, as often as a read is.
 fn write_uninterrupted<W: Write>(writer: &mut W, piece: &[u8]) -> io::Result<usize>
     ensures bound { WritesAtMost result piece.now }
     ensures bytes { WriteAppends (W.contents writer.old) (W.contents writer.new) result piece.now }

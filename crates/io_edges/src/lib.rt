@@ -31,3 +31,6 @@ pub use reading::{Input, Stop, read_all};
 pub use sink::{Put, Sink};
 pub use source::{Got, Source};
 pub use writing::write_all;
+
+#[cfg(test)]
+mod tests;

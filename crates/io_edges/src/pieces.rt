@@ -88,8 +88,8 @@ impl Source for Pieces {
         ensures limit { IfSome self.new.fails_at (λ most. self.new.given ≤ most) }
 
         // No read goes past the end of a piece.
-        ensures piece { EachIndex self.old.ends
-            (λ k. self.old.given < slice_index self.old.ends k → self.new.given ≤ slice_index self.old.ends k) }
+        ensures piece { EachIndex self.old.ends (λ k.
+            self.old.given < slice_index self.old.ends k → self.new.given ≤ slice_index self.old.ends k) }
     {
         if self.fails_at == Some(self.given) {
             self.faults = self.faults.saturating_add(1);
@@ -99,7 +99,7 @@ impl Source for Pieces {
             return Got::End;
         }
         self.piece = piece_behind(&self.ends, self.piece, self.given);
-        let end = self.ends[self.piece].min(self.fails_at.unwrap_or(usize::MAX));
+        let end = self.ends[self.piece].min(self.fails_at.unwrap_or(self.whole.len()));
         let count = (end - self.given).min(buf.len());
         buf[..count].copy_from_slice(&self.whole[self.given..self.given + count]);
         self.given += count;

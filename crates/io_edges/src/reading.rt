@@ -1,4 +1,4 @@
-ghost use Rattle.std.specs.Prelude.{◌≡◌, ◌≤◌, length, IfOk, OnErr, vec_len};
+ghost use Rattle.std.specs.Prelude.{◌≡◌, ◌≤◌, ◌↔◌, length, IfOk, OnErr, vec_len};
 ghost use Rattle.std.specs.Io.KnownBytes.{prepend_known};
 ghost use Rattle.io_edges.specs.Stops.{StopsFor};
 
@@ -12,28 +12,36 @@ pub enum Stop {
     End,
     /// The source failed.
     Failed,
-    /// As many bytes were read as may be. There may be more.
+    /// As many bytes came as may be read. More may be left.
     Full,
 }
 
-/// What was read, and why reading stopped.
+/// What was read from a source.
 #[derive(Debug, Drop)]
 pub struct Input {
+    /// The bytes that came, in order.
     pub bytes: Vec<u8>,
+    /// Why no more were read.
     pub stop: Stop,
 }
 
 /// How many bytes are asked for at a time.
 const CHUNK: usize = 65_536;
 
-/// Reads to the source's end, to its fault, or to `limit` bytes. No read follows these.
+/// Reads to the source's end, to its fault, or to `limit` bytes, whichever comes first.
+///
+/// It asks for no byte beyond the limit, so at `Full` the source may be at its end.
 ///
 /// After an `Err` the bytes that came are lost, and the count of faults hasn't changed.
 #[tactic(auto, using(crate::proofs::Known::prepend_more, crate::proofs::Known::prepend_nothing))]
 pub fn read_all<S: Source>(alloc: Global, source: &mut S, limit: usize) -> Result<Input, AllocError>
-    ensures took { IfOk result (λ input. S.left source.old ≡ prepend_known input.bytes.items (S.left source.new)) }
+    ensures took { IfOk result (λ input.
+        S.left source.old ≡ prepend_known input.bytes.items (S.left source.new)) }
     ensures most { IfOk result (λ input. length input.bytes.items ≤ limit) }
-    ensures stop { IfOk result (λ input. StopsFor input.stop (S.left source.new) (S.faults source.old) (S.faults source.new) (length input.bytes.items) limit) }
+    ensures stop { IfOk result (λ input. StopsFor input.stop (S.left source.new)
+        (S.faults source.old) (S.faults source.new) (length input.bytes.items) limit) }
+    ensures full { IfOk result (λ input.
+        (input.stop ≡ Stop.Full) ↔ (length input.bytes.items ≡ limit)) }
     ensures err { OnErr result (S.faults source.new ≡ S.faults source.old) }
 {
     let mut bytes = Vec::new(alloc);

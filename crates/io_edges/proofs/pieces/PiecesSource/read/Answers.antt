@@ -7,7 +7,7 @@ pub overflow_sub-end : goal.overflow_sub-end
 overflow_sub-end c =
     let here : c.self.inside.fails_at ≡ Some c.self.inside.given → ⊥ = search rules in
     let next = c.piece_behind-self-inside in
-    let stop = stops_behind next.result c.index.result.now 18446744073709551615 c.deref.result.now c.deref.ensures.value c.self.invariant (omega arith) here (omega arith) next.ensures.passed next.ensures.behind c.index.ensures in
+    let stop = stops_behind next.result c.index.result.now c.len-2.result c.deref.result.now c.deref.ensures.value c.self.invariant (omega arith) here (omega arith) next.ensures.passed next.ensures.behind c.index.ensures in
     omega (arith, stop, c.unwrap_or.ensures, c.min-end.ensures)
 
 abbrev some : List ℕ → Option (List ℕ)
@@ -19,7 +19,7 @@ returns-clause-bytes c =
     let n = c.min-count.result in
     let here : p.fails_at ≡ Some p.given → ⊥ = search rules in
     let next = c.piece_behind-self-inside in
-    let stop = stops_behind next.result c.index.result.now 18446744073709551615 c.deref.result.now c.deref.ensures.value c.self.invariant (omega arith) here (omega arith) next.ensures.passed next.ensures.behind c.index.ensures in
+    let stop = stops_behind next.result c.index.result.now c.len-2.result c.deref.result.now c.deref.ensures.value c.self.invariant (omega arith) here (omega arith) next.ensures.passed next.ensures.behind c.index.ensures in
     let d = c.deref-2.ensures.value in
     let count : (0 < n) × (p.given + n < length p.whole.items + 1) = (omega (arith, stop), omega (arith, stop)) in
     let e : p.given + n - p.given ≡ n = omega arith in
