@@ -52,6 +52,18 @@ impl<'a> Fields<'a> {
         }
     }
 
+    /// A second reader at the same place: what one of them reads leaves the other where it is.
+    pub fn fork(&self) -> Self
+        ensures { result ≡ self.now }
+    {
+        Fields {
+            bytes: self.bytes,
+            base: self.base,
+            place: self.place,
+            end: self.end,
+        }
+    }
+
     /// The offset of the next byte.
     pub fn offset(&self) -> u64
         ensures { result ≡ self.now.at }

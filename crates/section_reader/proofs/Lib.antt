@@ -1,0 +1,7 @@
+pub mod Loops
+pub mod NameMaps
+pub mod Takes
+pub mod LeafTakes
+pub mod EntryTakes
+pub mod Runs
+pub mod Walk

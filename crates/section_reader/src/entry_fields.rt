@@ -1,0 +1,135 @@
+//! Fields that entries of several sections share (WebAssembly Core 1.0, 5.3 and 5.4).
+
+ghost use Rattle.std.specs.Prelude.{◌≡◌};
+ghost use Rattle.wasm_defs.specs.Fields.{repeated};
+ghost use Rattle.wasm_defs.specs.Entries.{index, listed_index, listed_type, limits, wrong_opcode, constant, sole};
+ghost use Rattle.leb_feed.specs.Reads.{Reads};
+
+use leb_feed::{Fields, Stop};
+use std::alloc::Global;
+use wasm_defs::{Constant, Indices, Kind, Limits, ValType, ValTypes};
+
+/// An index into so many.
+#[tactic(auto, unfolding(wasm_defs::specs::Entries::index))]
+pub fn index(fields: &mut Fields<'_>, most: u64) -> Result<(u64, u32), Stop>
+    ensures { Reads (index most) (λ n. n) result fields.old fields.new }
+{
+    let (at, i) = fields.u32()?;
+    if u64::from(i) < most {
+        return Ok((at, i));
+    }
+    Err(Fields::refused(Kind::Invalid, at))
+}
+
+/// An index that can only be 0, of what has to be there.
+#[tactic(auto, unfolding(wasm_defs::specs::Entries::sole))]
+pub fn sole(fields: &mut Fields<'_>, there: u64) -> Result<(u64, u32), Stop>
+    ensures { Reads (sole there) (λ n. n) result fields.old fields.new }
+{
+    let (at, i) = fields.u32()?;
+    if i == 0 && 0 < there {
+        return Ok((at, i));
+    }
+    Err(Fields::refused(Kind::Invalid, at))
+}
+
+#[tactic(auto, unfolding(wasm_defs::specs::Entries::listed_index))]
+fn listed_index(fields: &mut Fields<'_>, most: u64) -> Result<u32, Stop>
+    ensures { Reads (listed_index most) (λ n. n) result fields.old fields.new }
+{
+    let (_, i) = index(fields, most)?;
+    Ok(i)
+}
+
+/// So many indices into so many.
+pub fn indices(fields: &mut Fields<'_>, alloc: Global, n: u32, most: u64) -> Result<Indices, Stop>
+    ensures { Reads (repeated n (listed_index most)) (λ n. n) result fields.old fields.new }
+{
+    let mut indices = Vec::new(alloc);
+    for _ in 0..n {
+        indices.push(listed_index(fields, most)?)?;
+    }
+    Ok(Indices::new(indices))
+}
+
+#[tactic(auto, unfolding(wasm_defs::specs::Entries::listed_type))]
+fn listed_type(fields: &mut Fields<'_>) -> Result<ValType, Stop>
+    ensures { Reads listed_type (λ n. n) result fields.old fields.new }
+{
+    let (_, ty) = fields.value_type()?;
+    Ok(ty)
+}
+
+/// So many value types.
+pub fn value_types(fields: &mut Fields<'_>, alloc: Global, n: u32) -> Result<ValTypes, Stop>
+    ensures { Reads (repeated n listed_type) (λ n. n) result fields.old fields.new }
+{
+    let mut types = Vec::new(alloc);
+    for _ in 0..n {
+        types.push(listed_type(fields)?)?;
+    }
+    Ok(ValTypes::new(types))
+}
+
+/// Limits (Core 5.3.4): `most` is this implementation's limit on the minimum, `top` the standard's on the maximum.
+#[tactic(auto, unfolding(wasm_defs::specs::Entries::limits))]
+pub fn limits(fields: &mut Fields<'_>, most: u32, top: u32) -> Result<Limits, Stop>
+    ensures { Reads (limits most top) (λ n. n) result fields.old fields.new }
+{
+    let (flag, kind) = fields.byte()?;
+    if 1 < kind {
+        return Err(Fields::refused(Kind::Malformed, flag));
+    }
+    let min = fields.u32()?;
+    if most < min.1 {
+        return Err(Fields::refused(Kind::Limit, min.0));
+    }
+    if kind == 0 {
+        return Ok(Limits {
+            flag,
+            min,
+            max: None,
+        });
+    }
+    let max = fields.u32()?;
+    if top < max.1 || max.1 < min.1 {
+        return Err(Fields::refused(Kind::Invalid, max.0));
+    }
+    Ok(Limits {
+        flag,
+        min,
+        max: Some(max),
+    })
+}
+
+/// What an opcode is that stands in a constant expression in place of the right one.
+fn wrong_opcode(byte: u8) -> Kind
+    ensures { result ≡ wrong_opcode byte }
+{
+    match byte {
+        0x43..=0x44 | 0xC0..=0xC4 | 0xFC => Kind::Unsupported,
+        0x00..=0x05 | 0x0B..=0x11 | 0x1A..=0x1B | 0x20..=0x24 | 0x28..=0xBF => Kind::Invalid,
+        _ => Kind::Malformed,
+    }
+}
+
+/// A constant expression of a type (Core 3.3.7, 5.4.6).
+#[tactic(auto, unfolding(wasm_defs::specs::Entries::constant))]
+pub fn constant(fields: &mut Fields<'_>, ty: ValType) -> Result<Constant, Stop>
+    ensures { Reads (constant ty) (λ n. n) result fields.old fields.new }
+{
+    let (opcode, byte) = fields.byte()?;
+    let (wanted, bits) = match ty {
+        ValType::I32 => (0x41, 32),
+        ValType::I64 => (0x42, 64),
+    };
+    if byte != wanted {
+        return Err(Fields::refused(wrong_opcode(byte), opcode));
+    }
+    let value = fields.signed(bits)?;
+    let (end, byte) = fields.byte()?;
+    if byte != 0x0B {
+        return Err(Fields::refused(wrong_opcode(byte), end));
+    }
+    Ok(Constant { opcode, value, end })
+}

@@ -1,0 +1,25 @@
+//! Where reading stands in a module.
+//!
+//! ```text
+//!                     +------- a section's end ---------------------------+
+//!                     v                                                    |
+//! Preamble ------> Between --id--> Begun ---> Contents(id) ---> Entries(id, 0)
+//!                                                   |                ^
+//!                                                   v                |
+//!                                             Entries(id, n) --part--> Entries(id, n - 1)
+//! ```
+
+/// Where reading stands.
+#[derive(Clone, Copy, Debug, PartialEq, Eq)]
+pub enum Place {
+    /// Before the magic bytes.
+    Preamble,
+    /// Between two sections.
+    Between,
+    /// Before a section's id, which was told.
+    Begun,
+    /// After a section's size.
+    Contents(u8),
+    /// Before so many entries of a section.
+    Entries(u8, u64),
+}
