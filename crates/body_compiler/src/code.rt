@@ -118,7 +118,7 @@ fn take_instruction(
 }
 
 /// Why a body's reading stops where no opcode is read.
-fn stop_of(stop: Stop, last: u64) -> BodyStop
+pub(crate) fn stop_of(stop: Stop, last: u64) -> BodyStop
     ensures { result ≡ without_opcode last stop }
 {
     match stop {

@@ -4,4 +4,8 @@
 mod code;
 mod immediates;
 mod instructions;
+mod judge;
 mod locals;
+
+pub use code::BodyStop;
+pub use judge::judge_body;

@@ -1,0 +1,72 @@
+-- The beginning of a body: its locals, and where its code begins.
+use Rattle.std.proofs.Common.{◌≡◌, ◌≤◌, ◌<◌, ℕ, ◌+◌, ◌-◌, List, [], ◌∷◌, length, Option, None, Some, Result, Ok, Err, refl, sym, ap, ◌∙◌, subst, arith}
+use Rattle.wasm_defs.specs.declared.fault.Kind.TheVariants.{Malformed}
+use Rattle.wasm_defs.specs.declared.types.FuncType.{FuncType}
+use Rattle.wasm_defs.specs.declared.token.Token.{Token}
+use Rattle.wasm_defs.specs.Fields.{Cursor, Read, Got, Fault, Wants, u32}
+use Rattle.wasm_defs.specs.Typing.{Context}
+use Rattle.wasm_defs.specs.Context.{body_context}
+use Rattle.wasm_defs.specs.Viable.{IsViable}
+use Rattle.wasm_defs.specs.Bodies.{Group, local_groups, groups, body_cursor, last_of, body_read, read_code, stops, malformed_at}
+use Rattle.wasm_defs.specs.Faults.{IsCodeFault}
+use Rattle.wasm_laws.specs.Steadiness.{Advance, Advances, LeavesFewer, Takes}
+use Rattle.wasm_laws.proofs.Takes.{from_field}
+use Rattle.wasm_laws.proofs.FieldLaws.{u32_field}
+use Rattle.wasm_laws.proofs.BodyLaws.{local_groups_steady, groups_steady}
+use Rattle.wasm_laws.proofs.Steady.{moves_of}
+use Rattle.wasm_laws.proofs.Spelling.{IsOpen, open_later}
+use Rattle.leb_feed.specs.declared.stop.Stop.{Stop}
+use Rattle.leb_feed.specs.declared.stop.Stop.TheVariants as stop
+use Rattle.leb_feed.specs.Reads.{Stops}
+use Rattle.body_validator.specs.Checking.{start_checker, run_checker}
+use Rattle.body_validator.specs.Checks.{Checked, before_code, IsReached}
+use Rattle.body_validator.proofs.Answering.{reached-viable}
+use Rattle.body_compiler.specs.declared.code.BodyStop.{BodyStop}
+use Rattle.body_compiler.specs.declared.code.BodyStop.TheVariants.{Refused, NoMemory}
+use Rattle.body_compiler.specs.Going.{IsGoing, Judges, without_opcode}
+use Rattle.body_compiler.specs.LocalGroups.{Declares}
+use Rattle.body_compiler.proofs.Outcomes.{stopped}
+
+locals_take : Takes local_groups
+unfolding local_groups
+locals_take = from_field u32 _ u32_field (λ n. groups_steady (n.0 ∷ []) n.1 0)
+
+-- nothing of the code was read yet
+begins : (c : Context) (f : FuncType) (first : ℕ) (bytes : List ℕ) (gs : List Group) (d : Cursor) (check : Checked) → local_groups (body_cursor first bytes) ≡ Got gs d → check ≡ before_code c f gs
+    → IsGoing (body_context c f (body_read first bytes).groups) (last_of first bytes) d check (body_read first bytes).code
+begins c f first bytes gs d check is known =
+    let cursor = body_cursor first bytes in
+    let s = local_groups_steady [] in
+    let adv : Advance cursor d = subst (λ (x : Read (List Group)). Advances cursor x) is (s.moves cursor) in
+    let fewer : length d.rest < length bytes = subst (λ (x : Read (List Group)). LeavesFewer cursor x) is (locals_take.some cursor) in
+    let opens = open_later (first + length bytes) cursor d adv (record { far = omega arith; high_is = refl }) in
+    rw (is, known) (record {
+      opcodes = [];
+      tokens = [];
+      most = length bytes + 1;
+      is = refl;
+      context = refl;
+      reached = refl;
+      compiled = refl;
+      enough = omega (arith, fewer);
+      ends = omega (arith, opens.high_is, fewer);
+      far = opens.far;
+    })
+
+nothing_viable : (c : Context) (f : FuncType) → IsViable (body_context c f []) []
+nothing_viable c f = reached-viable (before_code c f []) [] refl
+
+-- the locals stop reading
+stops_there : (c : Context) (f : FuncType) (first : ℕ) (bytes : List ℕ) (s : Stop) → Stops s (local_groups (body_cursor first bytes))
+    → Judges (body_context c f (body_read first bytes).groups) (body_read first bytes).code (Err (without_opcode (last_of first bytes) s))
+stops_there c f first bytes (stop.Refused r) h = rw h (stopped (body_context c f []) [] [] r (record { viable = nothing_viable c f; compiled = refl }))
+stops_there c f first bytes stop.Wants h = rw h (stopped (body_context c f []) [] [] (record { offset = last_of first bytes; kind = Malformed }) (record { viable = nothing_viable c f; compiled = refl }))
+stops_there c f first bytes stop.NoMemory h = tt
+
+pub code_begins : (c : Context) (f : FuncType) (first last : ℕ) (bytes : List ℕ) (d : Cursor) (check : Checked) → last ≡ last_of first bytes → Declares c f local_groups (Ok tt) (body_cursor first bytes) d check
+    → IsGoing (body_context c f (body_read first bytes).groups) last d check (body_read first bytes).code
+code_begins c f first last bytes d check e h = rw e (begins c f first bytes h.0 d check h.1 h.2)
+
+pub locals_stop : (c : Context) (f : FuncType) (first last : ℕ) (bytes : List ℕ) (d : Cursor) (check : Checked) (s : Stop) → last ≡ last_of first bytes → Declares c f local_groups (Err s) (body_cursor first bytes) d check
+    → Judges (body_context c f (body_read first bytes).groups) (body_read first bytes).code (Err (without_opcode last s))
+locals_stop c f first last bytes d check s e h = rw e (stops_there c f first bytes s h)
