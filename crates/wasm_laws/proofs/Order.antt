@@ -34,7 +34,7 @@ stands_wider low low' last last' b le ge p = record { from = omega (arith, p.fro
 pub ordered_wider : (low low' last last' : ℕ) (parts : List Part) → low' ≤ low → last ≤ last' → AreOrdered low last parts → AreOrdered low' last' parts
 ordered_wider low low' last last' [] le ge p = tt
 ordered_wider low low' last last' (Section at id ∷ parts) le ge p = (omega (arith, p.0), omega (arith, p.1), ordered_wider (suc at) (suc at) last last' parts (omega arith) ge p.2)
-ordered_wider low low' last last' (Listed x ∷ parts) le ge p = ordered_wider low low' last last' parts le ge p
+ordered_wider low low' last last' (Listed x ∷ parts) le ge p = (omega (arith, p.0), ordered_wider low low' last last' parts le ge p.1)
 ordered_wider low low' last last' (Coded b ∷ parts) le ge p = (stands_wider low low' last last' b le ge p.0, ordered_wider (end_of b) (end_of b) last last' parts (omega arith) ge p.1)
 
 -- what stands before a body, and what behind it
@@ -44,7 +44,10 @@ around_body low last (Section at id ∷ front) b back p =
     let q = around_body (suc at) last front b back p.2 in
     let body = q.1 in
     ((p.0, omega (arith, body.from), q.0), stands_wider (suc at) low last last b (omega (arith, p.0)) (omega arith) body, q.2)
-around_body low last (Listed x ∷ front) b back p = around_body low last front b back p
+around_body low last (Listed x ∷ front) b back p =
+    let q = around_body low last front b back p.1 in
+    let body = q.1 in
+    ((body.from, q.0), body, q.2)
 around_body low last (Coded a ∷ front) b back p =
     let q = around_body (end_of a) last front b back p.1 in
     let first = p.0 in
@@ -58,7 +61,9 @@ around_section low last [] at id back p = (tt, p.0, p.1, p.2)
 around_section low last (Section first one ∷ front) at id back p =
     let q = around_section (suc first) last front at id back p.2 in
     ((p.0, omega (arith, q.1), q.0), omega (arith, p.0, q.1), q.2, q.3)
-around_section low last (Listed x ∷ front) at id back p = around_section low last front at id back p
+around_section low last (Listed x ∷ front) at id back p =
+    let q = around_section low last front at id back p.1 in
+    ((q.1, q.0), q.1, q.2, q.3)
 around_section low last (Coded a ∷ front) at id back p =
     let q = around_section (end_of a) last front at id back p.1 in
     let first = p.0 in
@@ -82,7 +87,7 @@ runs_ordered P low len c Wants f e p q h = record { parts = tt; after = omega ar
 -- a part that was taken stands before what comes next
 part_ordered : (c d : Cursor) (len : ℕ) (x : Part) (r : Run) → c.at ≤ d.at → PartLies c x d → IsOrdered d.at d.at len r → IsOrdered c.at c.at len (after_part x r)
 part_ordered c d len (Section at id) r le p q = absurd p
-part_ordered c d len (Listed x) r le p q = let w = run_wider d.at c.at d.at c.at len r le le q in record { parts = w.parts; after = w.after; within = w.within }
+part_ordered c d len (Listed x) r le p q = let w = run_wider d.at c.at d.at c.at len r le le q in record { parts = (w.after, w.parts); after = w.after; within = w.within }
 part_ordered c d len (Coded b) r le p q = record {
   parts = (record { from = p.from; sized = p.sized; least = p.least; most = p.most; before = omega (arith, p.taken, q.after) }, ordered_wider d.at (end_of b) (ending_place len r.ending) (ending_place len r.ending) r.parts p.taken (omega arith) q.parts);
   after = omega (arith, q.after);

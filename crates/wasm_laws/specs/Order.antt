@@ -15,12 +15,12 @@ pub record BodyStands (low last : ℕ) (b : Body) : Type 0 where
   pub most : length b.bytes ≤ max_body
   pub before : end_of b ≤ last
 
--- the parts stand from low on, each behind the one before: sections no later than last, and bodies before it. Items aren't
--- asked about here: they stand behind the id of their section
+-- the parts stand from low on, each behind the one before: sections and items no later than last, and bodies before it. Items
+-- stand behind what was read before them
 abbrev pub AreOrdered : ℕ → ℕ → List Part → Type 0
 AreOrdered low last [] = Unit {0}
 AreOrdered low last (Section at id ∷ parts) = (low ≤ at) × (at ≤ last) × AreOrdered (suc at) last parts
-AreOrdered low last (Listed x ∷ parts) = AreOrdered low last parts
+AreOrdered low last (Listed x ∷ parts) = (low ≤ last) × AreOrdered low last parts
 AreOrdered low last (Coded b ∷ parts) = BodyStands low last b × AreOrdered (end_of b) last parts
 
 -- the parts are cut from the module's bytes: a section's id is the byte at its offset, and a body's bytes are those from the
