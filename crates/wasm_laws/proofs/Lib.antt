@@ -19,3 +19,4 @@ pub mod Headers
 pub mod Counts
 pub mod Cuts
 pub mod BodyOrder
+pub mod Typed
