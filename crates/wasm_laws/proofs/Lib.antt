@@ -20,3 +20,4 @@ pub mod Counts
 pub mod Cuts
 pub mod BodyOrder
 pub mod Few
+pub mod Typed

@@ -3,3 +3,4 @@ pub mod Runs
 pub mod Order
 pub mod Counts
 pub mod BodyOrder
+pub mod Typed

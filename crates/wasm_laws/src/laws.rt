@@ -12,6 +12,7 @@ ghost use Rattle.wasm_laws.specs.Counts.{AreDeclared};
 ghost use Rattle.wasm_laws.specs.Order.{AreCutFrom, AreOrdered, BodyStands, end_of, first_section};
 ghost use Rattle.wasm_laws.specs.Runs.{deciding_length, GoesOn, IsRefused};
 ghost use Rattle.wasm_laws.specs.Steadiness.{Steady, SteadyEnd, SteadyRow, Takes, token};
+ghost use Rattle.wasm_laws.specs.Typed.{AreTyped};
 
 /// The fields outside bodies are steady (Core 5.5): the preamble, the header of each section, what each section holds, and
 /// its end. A header takes a byte at least.
@@ -80,4 +81,10 @@ pub fn bodies_match_functions()
         let run = module_run bytes in
         run.ending ≡ Whole seen →
         length (bodies_of run.parts) ≡ declared_count (items_of run.parts) }
+{}
+
+/// A body's function has a type (Core 2.5.1 and 3.4.1): the function whose index counts the imported functions and the bodies
+/// before this one stands among the items before it, and so does the type that the function names.
+pub fn functions_have_types()
+    ensures { (bytes : List ℕ) → AreTyped [] 0 (module_run bytes).parts }
 {}
