@@ -97,6 +97,7 @@ impl<'a> Check<'a> {
     pub fn local_group(&mut self, offset: u64, count: u32, t: ValType) -> Result<(), TokenStop>
         requires { self.old.checker ≡ start_checker self.old.context }
         ensures answer { IsGrouped offset count t result self.old self.new }
+        ensures before_tokens { self.new.checker ≡ start_checker self.new.context }
         ensures groups { (c : ContextGiven) (f : FuncTypeGiven) (groups : List Group) → self.old ≡ before_code c f groups → OnOk result (self.new ≡ before_code c f (groups ++ record { count = count; ty = t } ∷ [])) }
     {
         self.declare(offset, count, t)

@@ -141,7 +141,7 @@ impl Context {
 
     /// How many functions are imported: so many indices come before that of the first declared function.
     pub fn imported(&self) -> u32
-        requires { self.now.imported < 2 ^ 32 }
+        requires { length self.now.functions < 2 ^ 32 }
         ensures { result ≡ self.now.imported }
     {
         self.imported as u32

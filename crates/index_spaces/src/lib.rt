@@ -4,6 +4,8 @@
 mod builder;
 mod context;
 mod laws;
+#[cfg(test)]
+mod tests;
 
 pub use builder::ContextBuilder;
 pub use context::Context;
