@@ -30,7 +30,8 @@ use Rattle.body_validator.specs.Checks.{Checked, IsReached}
 use Rattle.body_validator.proofs.Answering.{reached-viable, reached-body}
 use Rattle.body_compiler.specs.declared.code.BodyStop.{BodyStop}
 use Rattle.body_compiler.specs.declared.code.BodyStop.TheVariants.{Refused, NoMemory}
-use Rattle.body_compiler.specs.Judged.{joined, earlier, unsupported_at}
+use Rattle.body_compiler.specs.Judged.{joined}
+use Rattle.wasm_defs.specs.Faults.{earlier, unsupported_at}
 use Rattle.body_compiler.specs.Going.{IsGoing, Goes, Judges, Taken, without_opcode}
 use Rattle.body_compiler.proofs.Depths.{checker_depth}
 use Rattle.body_compiler.proofs.Outcomes.{IsGood, stopped, stopped_within, stopped_outside, refused_within, refused_outside, taken_outside, taken_last, joined_more, outside_append, good_more, whole}

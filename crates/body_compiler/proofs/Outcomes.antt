@@ -12,7 +12,8 @@ use Rattle.wasm_defs.specs.Viable.{IsViable, IsFaulty}
 use Rattle.wasm_defs.specs.Bodies.{Spelled, stops, malformed_at, after_opcode, after_token}
 use Rattle.wasm_defs.specs.Supported.{is_compiled_opcode}
 use Rattle.wasm_defs.specs.Faults.{rank, IsNoLater, IsFirst, first_outside, tokens_of, IsTokenFault, IsSpellingFault, IsCodeFault, IsValidCode}
-use Rattle.body_compiler.specs.Judged.{joined, earlier, unsupported_at}
+use Rattle.body_compiler.specs.Judged.{joined}
+use Rattle.wasm_defs.specs.Faults.{earlier, unsupported_at}
 use Rattle.wasm_laws.proofs.Faulty.{tokens_of-append, faulty_front, faulty_once, viable_front, IsLater, token_later}
 use Rattle.wasm_laws.proofs.Spelling.{AllWithin, Places}
 

@@ -12,7 +12,8 @@ use Rattle.leb_feed.specs.declared.stop.Stop.TheVariants as stop
 use Rattle.body_validator.specs.Checks.{Checked, IsReached}
 use Rattle.body_compiler.specs.declared.code.BodyStop.{BodyStop}
 use Rattle.body_compiler.specs.declared.code.BodyStop.TheVariants.{Refused, NoMemory}
-use Rattle.body_compiler.specs.Judged.{joined, unsupported_at}
+use Rattle.body_compiler.specs.Judged.{joined}
+use Rattle.wasm_defs.specs.Faults.{unsupported_at}
 use Rattle.wasm_defs.specs.declared.fault.Kind.TheVariants.{Malformed}
 
 -- these opcodes and tokens were read, and are right; what is still read makes the rest of the code

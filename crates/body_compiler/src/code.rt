@@ -4,15 +4,14 @@ ghost use Rattle.std.specs.Prelude.{◌≡◌, ◌≢◌, ◌≤◌, [], length,
 ghost use Rattle.wasm_defs.specs.Bodies.{Spelled as SpelledGiven};
 ghost use Rattle.wasm_defs.specs.Fields.{Cursor as CursorGiven, Got, byte};
 ghost use Rattle.wasm_defs.specs.Typing.{Context as ContextGiven};
-ghost use Rattle.wasm_defs.specs.Faults.{rank};
-ghost use Rattle.body_compiler.specs.Judged.{earlier, unsupported_at};
+ghost use Rattle.wasm_defs.specs.Faults.{earlier, unsupported_at};
 ghost use Rattle.body_compiler.specs.Going.{IsGoing, Goes, Judges, Taken, without_opcode};
 
 use crate::instructions::instruction;
 use body_validator::{Check, TokenStop};
 use leb_feed::{Fields, Stop};
 use std::alloc::Global;
-use wasm_defs::{Kind, Refusal, is_compiled_opcode};
+use wasm_defs::{Kind, Refusal, earlier, is_compiled_opcode};
 
 /// Why a body isn't judged to its end.
 #[derive(Clone, Copy, Debug, PartialEq, Eq)]
@@ -20,33 +19,6 @@ pub enum BodyStop {
     /// Its first fault.
     Refused(Refusal),
     NoMemory,
-}
-
-fn rank(kind: Kind) -> u8
-    ensures { result ≡ rank kind }
-{
-    match kind {
-        Kind::Malformed => 0,
-        Kind::Unsupported => 1,
-        Kind::Limit => 2,
-        Kind::Invalid => 3,
-        Kind::Ended => 4,
-    }
-}
-
-/// Which of two faults comes first.
-fn earlier(first: Refusal, second: Refusal) -> Refusal
-    ensures { result ≡ earlier first second }
-{
-    if first.offset < second.offset {
-        first
-    } else if second.offset < first.offset {
-        second
-    } else if rank(first.kind) <= rank(second.kind) {
-        first
-    } else {
-        second
-    }
 }
 
 /// A fault of an instruction whose opcode stands at an offset: what isn't compiled is unsupported there.

@@ -67,6 +67,13 @@ impl ContextBuilder {
         }
     }
 
+    /// The context of the items that were added so far.
+    pub fn context(&self) -> &Context
+        ensures { result.now ≡ self.now }
+    {
+        &self.context
+    }
+
     /// The context of all items that were added.
     pub fn finish(self) -> Context
         ensures { result ≡ self }

@@ -147,6 +147,13 @@ impl Context {
         self.imported as u32
     }
 
+    /// How many functions are declared, those that are imported not counted.
+    pub fn declared(&self) -> usize
+        ensures { result ≡ self.now.declared }
+    {
+        self.functions.len() - self.imported
+    }
+
     /// Whether there is a type of the index.
     pub fn has_type(&self, index: u32) -> bool
         ensures { IsTrue result ↔ (index < length self.now.types) }

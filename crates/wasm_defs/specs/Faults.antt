@@ -1,5 +1,5 @@
 -- The faults of a module, and its verdict.
-use Rattle.std.specs.Prelude.{◌≡◌, ◌<◌, ◌≤◌, ◌⊎◌, ℕ, suc, ◌+◌, List, [], ◌∷◌, ◌++◌, length, map, Bool, Option, None, Some, if◌then◌else◌}
+use Rattle.std.specs.Prelude.{◌≡◌, ◌<◌, ◌≤◌, ◌⊎◌, ℕ, suc, ◌+◌, List, [], ◌∷◌, ◌++◌, length, map, Bool, Option, None, Some, nat_lt, nat_le, if◌then◌else◌}
 use Rattle.wasm_defs.specs.declared.fault.Kind.{Kind}
 use Rattle.wasm_defs.specs.declared.fault.Kind.TheVariants.{Malformed, Unsupported, Limit, Invalid, Ended}
 use Rattle.wasm_defs.specs.declared.fault.Refusal.{Refusal}
@@ -25,15 +25,27 @@ rank Ended = 4
 abbrev pub IsNoLater : Refusal → Refusal → Type 0
 IsNoLater r s = (r.offset < s.offset) ⊎ ((r.offset ≡ s.offset) × (rank r.kind ≤ rank s.kind))
 
+-- the one of two that comes first
+abbrev pub earlier : Refusal → Refusal → Refusal
+earlier r s =
+    if nat_lt r.offset s.offset then r
+    else if nat_lt s.offset r.offset then s
+    else if nat_le (rank r.kind) (rank s.kind) then r
+    else s
+
+-- what isn't compiled is unsupported at its byte
+abbrev pub unsupported_at : ℕ → Refusal
+unsupported_at at = record { offset = at; kind = Unsupported }
+
 -- r is one of these, and none of them comes before it
 abbrev pub IsFirst : (Refusal → Type 0) → Refusal → Type 0
 IsFirst P r = P r × ((s : Refusal) → P s → IsNoLater r s)
 
--- what isn't compiled is unsupported at its byte, the first of it
+-- the first of what isn't compiled
 abbrev pub first_outside : (ℕ → Bool) → List (ℕ × ℕ) → Option Refusal
 first_outside compiled [] = None
 first_outside compiled (x ∷ xs) =
-    if compiled x.1 then first_outside compiled xs else Some (record { offset = x.0; kind = Unsupported })
+    if compiled x.1 then first_outside compiled xs else Some (unsupported_at x.0)
 
 -- ---- outside bodies
 

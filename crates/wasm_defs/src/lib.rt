@@ -15,7 +15,7 @@ mod token;
 mod types;
 
 pub use context::GlobalType;
-pub use fault::{Kind, Refusal};
+pub use fault::{Kind, Refusal, earlier};
 pub use item::{Constant, Extern, Item, Limits};
 pub use laws::numbers_are_prefix_free;
 pub use limits::{
