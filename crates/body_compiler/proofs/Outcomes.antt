@@ -14,42 +14,9 @@ use Rattle.wasm_defs.specs.Supported.{is_compiled_opcode}
 use Rattle.wasm_defs.specs.Faults.{rank, IsNoLater, IsFirst, first_outside, tokens_of, IsTokenFault, IsSpellingFault, IsCodeFault, IsValidCode}
 use Rattle.body_compiler.specs.Judged.{joined}
 use Rattle.wasm_defs.specs.Faults.{earlier, unsupported_at}
+use Rattle.wasm_laws.proofs.Earlier.{equal_is_no_later, earlier_is}
 use Rattle.wasm_laws.proofs.Faulty.{tokens_of-append, faulty_front, faulty_once, viable_front, IsLater, token_later}
 use Rattle.wasm_laws.proofs.Spelling.{AllWithin, Places}
-
--- ---- the order of faults
-
-same_is_no_later : (r : Refusal) → IsNoLater r r
-same_is_no_later r = inr (refl, omega arith)
-
-equal_is_no_later : (r s : Refusal) → r ≡ s → IsNoLater r s
-equal_is_no_later r s e = rw (← e) (same_is_no_later r)
-
-no_later_then : (r s t : Refusal) → IsNoLater r s → IsNoLater s t → IsNoLater r t
-no_later_then r s t (inl p) (inl q) = inl (omega arith)
-no_later_then r s t (inl p) (inr q) = inl (omega (arith, q.0))
-no_later_then r s t (inr p) (inl q) = inl (omega (arith, p.0))
-no_later_then r s t (inr p) (inr q) = inr (p.0 ∙ q.0, omega (arith, p.1, q.1))
-
-pub record IsEarlier (r s t : Refusal) : Type 0 where
-  pub is : (t ≡ r) ⊎ (t ≡ s)
-  pub first : IsNoLater t r
-  pub second : IsNoLater t s
-
-pub earlier_is : (r s : Refusal) → IsEarlier r s (earlier r s)
-earlier_is r s =
-    elim (cases_lt r.offset s.offset) [
-      | inl lt ↦ rw (lt-ltb r.offset s.offset lt) (record { is = inl refl; first = same_is_no_later r; second = inl lt })
-      | inr ge ↦ rw (le-ltb r.offset s.offset ge) (elim (cases_lt s.offset r.offset) [
-        | inl lt ↦ rw (lt-ltb s.offset r.offset lt) (record { is = inr refl; first = inl lt; second = same_is_no_later s })
-        | inr le ↦
-          let e : r.offset ≡ s.offset = omega arith in
-          rw (le-ltb s.offset r.offset le) (elim (cases_Bool (leb (rank r.kind) (rank s.kind))) [
-            | inl h ↦ rw h (record { is = inl refl; first = same_is_no_later r; second = inr (e, leb-true (rank r.kind) (rank s.kind) h) })
-            | inr h ↦ let k = leb-false (rank r.kind) (rank s.kind) h in rw h (record { is = inr refl; first = inr (sym e, omega arith); second = same_is_no_later s })
-          ])
-      ])
-    ]
 
 -- ---- opcodes
 

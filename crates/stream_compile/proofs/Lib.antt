@@ -1,2 +1,4 @@
 pub mod Joins
 pub mod Settling
+pub mod Judging
+pub mod Taking
