@@ -3,7 +3,7 @@
 ghost use Rattle.std.specs.Prelude.{◌≡◌, ◌+◌, ◌-◌, ◌^◌, ◌<◌, [], ◌∷◌, ◌++◌, length, reverse, take, Some, None, slice_get, MatchOption, IfOk, vec_len, vec_capacity};
 ghost use Rattle.body_validator.specs.Checking.{height, body_frames, label_of, is_open, is_live, may_turn, labels, may_end, takes_else, applied, enter, turned, ended, none_left, take_all};
 ghost use Rattle.wasm_defs.specs.Typing.{Stops, Fixed, Discards, Selects};
-ghost use Rattle.body_validator.specs.Exchange.{taken_types, with_condition, Steps};
+ghost use Rattle.body_validator.specs.Exchange.{taken_types, Steps};
 ghost use Rattle.body_validator.specs.Stacks.{HasLast, is_live_in, signature};
 
 use crate::operands::{
@@ -269,36 +269,32 @@ impl<'a> Stack<'a> {
     pub fn enter(
         &mut self,
         opening: Opening,
-        params: &'a [ValType],
+        taken: Taken<'a>,
         results: &'a [ValType],
-        condition: bool,
     ) -> Result<(), Stop>
-        ensures { Steps (enter opening (signature params.now results.now) (with_condition condition (reverse params.now)) self.old) result self.old self.new }
+        ensures { Steps (enter opening (signature taken.entry.types.now results.now) (taken_types taken.entry) self.old) result self.old self.new }
     {
         let Some(frame) = innermost(&self.frames) else {
             return Err(Stop::Refused);
         };
-        let taken = Taken {
-            types: params,
-            condition,
-        };
         if !finds(&self.operands[frame.base..], frame.unknown, taken) {
             return Err(Stop::Refused);
         }
-        if self.operands.reserve(params.len()).is_err() {
+        if self.operands.reserve(taken.types.len()).is_err() {
             return Err(Stop::NoMemory);
         }
         if self.frames.reserve(1).is_err() {
             return Err(Stop::NoMemory);
         }
-        remove(&mut self.operands, frame.base, count_of(params, condition));
+        let count = count_of(taken.types, taken.condition);
+        remove(&mut self.operands, frame.base, count);
         let base = self.operands.len();
-        put_all(&mut self.operands, params);
+        put_all(&mut self.operands, taken.types);
         push_frame(
             &mut self.frames,
             Frame {
                 opening,
-                params,
+                params: taken.types,
                 results,
                 base,
                 unknown: false,
