@@ -211,7 +211,7 @@ is_refused bytes left spaces bodies total r j len none fault =
 
 -- ---- order
 
-fault_after : (low last : ℕ) (items : List Item) (k : ℕ) (parts : List Part) (r : Refusal) → AreOrdered low last parts → IsFaultInside items k parts r → low ≤ r.offset
+pub fault_after : (low last : ℕ) (items : List Item) (k : ℕ) (parts : List Part) (r : Refusal) → AreOrdered low last parts → IsFaultInside items k parts r → low ≤ r.offset
 fault_after low last items k [] r o f = absurd f
 fault_after low last items k (Section at id ∷ parts) r o f = let h = fault_after (suc at) last items k parts r o.2 f in omega (arith, o.0)
 fault_after low last items k (Listed x ∷ parts) r o f = fault_after low last (items ++ x ∷ []) k parts r o.1 f
@@ -224,7 +224,7 @@ fault_after low last items k (Coded b ∷ parts) r o (inr f) =
     let h = fault_after (end_of b) last items (suc k) parts r o.1 f in
     omega (arith, stands.from, stands.sized)
 
-section_after : (low last : ℕ) (parts : List Part) (r : Refusal) → AreOrdered low last parts → first_outside is_compiled_section (sections_of parts) ≡ Some r → low ≤ r.offset
+pub section_after : (low last : ℕ) (parts : List Part) (r : Refusal) → AreOrdered low last parts → first_outside is_compiled_section (sections_of parts) ≡ Some r → low ≤ r.offset
 section_after low last [] r o e = absurd cc
 section_after low last (Section at id ∷ parts) r o e =
     elim (cases_Bool (is_compiled_section id)) [
