@@ -189,25 +189,30 @@ outside_rest bytes left spaces bodies j =
 pub is_module : (bytes : List ℕ) (left : Run) (spaces : Spaces) (bodies : ℕ) (seen : Seen) (functions : ℕ) → IsJudging bytes left spaces bodies → left ≡ ends (Whole seen) → functions ≡ spaces.declared → (m : Module) × IsVerdict bytes (Accepted m) × (functions ≡ declared_count m.items)
 is_module bytes left spaces bodies seen functions j whole counted =
     let all : (module_run bytes).parts ≡ j.front = j.parts ∙ ap (λ (r : Run). j.front ++ r.parts) whole ∙ append-nil j.front in
-    let m : Module = record { items = items_of (module_run bytes).parts; bodies = bodies_of (module_run bytes).parts; trees = j.trees } in
-    (m, record {
-      whole = ap (ending_fault (length bytes)) (j.ending ∙ ap (λ (r : Run). r.ending) whole);
-      compiled = outside_rest bytes left spaces bodies j ∙ ap (λ (r : Run). first_outside is_compiled_section (sections_of r.parts)) whole;
-      items = refl;
-      bodies = refl;
-      valid = rw all j.valid;
-    }, counted ∙ ap (λ (s : Spaces). s.declared) j.spaces_are ∙ ap (λ (l : List Part). declared_count (items_of l)) (sym all))
+    let m : Module = record { items = items_of (module_run bytes).parts; bodies = bodies_of (module_run bytes).parts; trees = j.trees } in (
+      m,
+      record {
+        whole = ap (ending_fault (length bytes)) (j.ending ∙ ap (λ (r : Run). r.ending) whole);
+        compiled = outside_rest bytes left spaces bodies j ∙ ap (λ (r : Run). first_outside is_compiled_section (sections_of r.parts)) whole;
+        items = refl;
+        bodies = refl;
+        valid = rw all j.valid;
+      },
+      counted ∙ ap (λ (s : Spaces). s.declared) j.spaces_are ∙ ap (λ (l : List Part). declared_count (items_of l)) (sym all),
+    )
 
 -- no part is left, and the module has this fault
 pub is_refused : (bytes : List ℕ) (left : Run) (spaces : Spaces) (bodies total : ℕ) (r : Refusal) → IsJudging bytes left spaces bodies → total ≡ length bytes → left.parts ≡ [] → ending_fault total left.ending ≡ Some r → IsVerdict bytes (Rejected r)
 is_refused bytes left spaces bodies total r j len none fault =
     let ends : ending_fault (length bytes) (module_run bytes).ending ≡ Some r = ap (ending_fault (length bytes)) j.ending ∙ ap (λ (n : ℕ). ending_fault n left.ending) (sym len) ∙ fault in
     let no_section : first_outside is_compiled_section (sections_of (module_run bytes).parts) ≡ None = outside_rest bytes left spaces bodies j ∙ ap (λ (l : List Part). first_outside is_compiled_section (sections_of l)) none in
-    let outside : IsOutsideFault bytes r = (inl ends, λ s p. elim p [ inl e ↦ equal_is_no_later r s (let k : Some r ≡ Some s = sym ends ∙ e in cc) | inr e ↦ absurd (none_is_some _ s no_section e) ]) in
-    (inl outside, λ s f. elim f [
-      | inl o ↦ no_later_offset r s (outside.1 s o.0)
-      | inr i ↦ absurd (nothing_left _ _ left.parts s none (inside_rest bytes left spaces bodies s j i))
-    ])
+    let outside : IsOutsideFault bytes r = (inl ends, λ s p. elim p [ inl e ↦ equal_is_no_later r s (let k : Some r ≡ Some s = sym ends ∙ e in cc) | inr e ↦ absurd (none_is_some _ s no_section e) ]) in (
+      inl outside,
+      λ s f. elim f [
+        | inl o ↦ no_later_offset r s (outside.1 s o.0)
+        | inr i ↦ absurd (nothing_left _ _ left.parts s none (inside_rest bytes left spaces bodies s j i))
+      ],
+    )
 
 -- ---- order
 

@@ -30,10 +30,10 @@ told_module r bytes v functions is judges e = of r (rw is at judges) e
     of (Ok a) j e = (Accepted j.0, j.1, e ∙ ap (λ (n : ℕ). accepted n (length bytes)) j.2)
     of (Err x) j e = tt
 
-pub told_refused : (r : Result Answer AllocError) (bytes : List ℕ) (v : Given) (refusal : Refusal) → v ≡ given.Refused refusal → Judges bytes v → IfOk r (λ a. view a ≡ rejected) → IfOk r (λ a. IsOutcome true false bytes (view a))
+pub told_refused : (r : Result Answer AllocError) (bytes : List ℕ) (v : Given) (refusal : Refusal) → v ≡ given.Refused refusal → Judges bytes v → IfOk r (λ a. view a ≡ rejected refusal) → IfOk r (λ a. IsOutcome true false bytes (view a))
 told_refused r bytes v refusal is judges e = of r (rw is at judges) e
   where
-    of : (r : Result Answer AllocError) → Judges bytes (given.Refused refusal) → IfOk r (λ a. view a ≡ rejected) → IfOk r (λ a. IsOutcome true false bytes (view a))
+    of : (r : Result Answer AllocError) → Judges bytes (given.Refused refusal) → IfOk r (λ a. view a ≡ rejected refusal) → IfOk r (λ a. IsOutcome true false bytes (view a))
     of (Ok a) j e = (Rejected refusal, j, e)
     of (Err x) j e = tt
 

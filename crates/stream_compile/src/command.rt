@@ -48,7 +48,7 @@ fn of_bytes(alloc: Global, bytes: &[u8]) -> Result<Answer, AllocError>
     let verdict = verdict_of(alloc, bytes)?;
     match verdict {
         Verdict::Module { functions } => accepted(alloc, functions, bytes.len()),
-        Verdict::Refused(_) => rejected(alloc),
+        Verdict::Refused(refusal) => rejected(alloc, refusal),
     }
 }
 

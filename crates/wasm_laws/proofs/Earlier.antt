@@ -23,14 +23,13 @@ earlier_is r s =
       | inr ge ↦ rw (le-ltb r.offset s.offset ge) (elim (cases_lt s.offset r.offset) [
         | inl lt ↦ rw (lt-ltb s.offset r.offset lt) (record { is = inr refl; first = inl lt; second = same_is_no_later s })
         | inr le ↦
-          let e : r.offset ≡ s.offset = omega arith in
-          rw (le-ltb s.offset r.offset le) (elim (cases_Bool (leb (rank r.kind) (rank s.kind))) [
-            | inl h ↦ rw h (record { is = inl refl; first = same_is_no_later r; second = inr (e, leb-true (rank r.kind) (rank s.kind) h) })
-            | inr h ↦ let k = leb-false (rank r.kind) (rank s.kind) h in rw h (record { is = inr refl; first = inr (sym e, omega arith); second = same_is_no_later s })
-          ])
+            let e : r.offset ≡ s.offset = omega arith in
+            rw (le-ltb s.offset r.offset le) (elim (cases_Bool (leb (rank r.kind) (rank s.kind))) [
+              | inl h ↦ rw h (record { is = inl refl; first = same_is_no_later r; second = inr (e, leb-true (rank r.kind) (rank s.kind) h) })
+              | inr h ↦ let k = leb-false (rank r.kind) (rank s.kind) h in rw h (record { is = inr refl; first = inr (sym e, omega arith); second = same_is_no_later s })
+            ])
       ])
     ]
-
 
 pub no_later_offset : (r s : Refusal) → IsNoLater r s → r.offset ≤ s.offset
 no_later_offset r s (inl p) = omega arith
