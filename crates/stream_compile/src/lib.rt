@@ -8,3 +8,6 @@ mod verdict;
 
 pub use command::top;
 pub use laws::{faults_share_no_offset, verdicts_are_one};
+
+#[cfg(test)]
+mod tests;
