@@ -1,28 +1,22 @@
 -- The beginning of a body: its locals, and where its code begins.
-use Rattle.std.proofs.Common.{◌≡◌, ◌≤◌, ◌<◌, ℕ, ◌+◌, ◌-◌, List, [], ◌∷◌, length, Option, None, Some, Result, Ok, Err, refl, sym, ap, ◌∙◌, subst, arith}
+use Rattle.std.proofs.Common.{◌≡◌, ◌<◌, ℕ, ◌+◌, List, [], ◌∷◌, length, Ok, Err, refl, subst, arith}
 use Rattle.wasm_defs.specs.declared.fault.Kind.TheVariants.{Malformed}
 use Rattle.wasm_defs.specs.declared.types.FuncType.{FuncType}
-use Rattle.wasm_defs.specs.declared.token.Token.{Token}
-use Rattle.wasm_defs.specs.Fields.{Cursor, Read, Got, Fault, Wants, u32}
+use Rattle.wasm_defs.specs.Fields.{Cursor, Read, Got, u32}
 use Rattle.wasm_defs.specs.Typing.{Context}
 use Rattle.wasm_defs.specs.Context.{body_context}
 use Rattle.wasm_defs.specs.Viable.{IsViable}
-use Rattle.wasm_defs.specs.Bodies.{Group, local_groups, groups, body_cursor, last_of, body_read, read_code, stops, malformed_at}
-use Rattle.wasm_defs.specs.Faults.{IsCodeFault}
+use Rattle.wasm_defs.specs.Bodies.{Group, local_groups, body_cursor, last_of, body_read}
 use Rattle.wasm_laws.specs.Steadiness.{Advance, Advances, LeavesFewer, Takes}
 use Rattle.wasm_laws.proofs.Takes.{from_field}
 use Rattle.wasm_laws.proofs.FieldLaws.{u32_field}
 use Rattle.wasm_laws.proofs.BodyLaws.{local_groups_steady, groups_steady}
-use Rattle.wasm_laws.proofs.Steady.{moves_of}
-use Rattle.wasm_laws.proofs.Spelling.{IsOpen, open_later}
+use Rattle.wasm_laws.proofs.Spelling.{open_later}
 use Rattle.leb_feed.specs.declared.stop.Stop.{Stop}
 use Rattle.leb_feed.specs.declared.stop.Stop.TheVariants as stop
 use Rattle.leb_feed.specs.Reads.{Stops}
-use Rattle.body_validator.specs.Checking.{start_checker, run_checker}
-use Rattle.body_validator.specs.Checks.{Checked, before_code, IsReached}
+use Rattle.body_validator.specs.Checks.{Checked, before_code}
 use Rattle.body_validator.proofs.Answering.{reached-viable}
-use Rattle.body_compiler.specs.declared.code.BodyStop.{BodyStop}
-use Rattle.body_compiler.specs.declared.code.BodyStop.TheVariants.{Refused, NoMemory}
 use Rattle.body_compiler.specs.Going.{IsGoing, Judges, without_opcode}
 use Rattle.body_compiler.specs.LocalGroups.{Declares}
 use Rattle.body_compiler.proofs.Outcomes.{stopped}

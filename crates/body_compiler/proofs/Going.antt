@@ -1,8 +1,8 @@
 -- The judging of a body's code goes on, or ends.
-use Rattle.std.proofs.Common.{◌≡◌, ◌≤◌, ◌<◌, ℕ, zero, suc, ◌+◌, ◌-◌, ◌⊎◌, inl, inr, Bool, true, false, cond, List, [], ◌∷◌, ◌++◌, length, Option, None, Some, Result, Ok, Err, refl, sym, ap, ◌∙◌, subst, arith, leb, ltb, eqb}
+use Rattle.std.proofs.Common.{◌≡◌, ◌≤◌, ◌<◌, ℕ, zero, suc, ◌+◌, ◌-◌, ◌⊎◌, inl, inr, Bool, true, false, cond, List, [], ◌∷◌, ◌++◌, length, None, Some, Result, Ok, Err, refl, sym, ap, ◌∙◌, subst, arith, leb, eqb}
 use Rattle.std.proofs.lemmas.Bool.{cases_Bool, cases_lt, leb-true, eqb-true, eqb-false}
 use Rattle.std.specs.Prelude.{OnOk, IsTrue, ◌↔◌}
-use Rattle.std.proofs.lemmas.List.{append-nil, nil_from_length}
+use Rattle.std.proofs.lemmas.List.{nil_from_length}
 use Rattle.wasm_defs.specs.declared.fault.Kind.{Kind}
 use Rattle.wasm_defs.specs.declared.fault.Kind.TheVariants.{Malformed}
 use Rattle.wasm_defs.specs.declared.fault.Refusal.{Refusal}
@@ -13,9 +13,9 @@ use Rattle.wasm_defs.specs.Trees.{Seq}
 use Rattle.wasm_defs.specs.Viable.{IsViable, IsFaulty}
 use Rattle.wasm_defs.specs.Bodies.{Spelled, stops, malformed_at, closed, after_opcode, after_token, goes_on, spelled_from, instruction, depth_after}
 use Rattle.wasm_defs.specs.Supported.{is_compiled_opcode}
-use Rattle.wasm_defs.specs.Faults.{first_outside, tokens_of, IsCodeFault, IsValidCode}
+use Rattle.wasm_defs.specs.Faults.{tokens_of, IsCodeFault, IsValidCode}
 use Rattle.wasm_laws.specs.Steadiness.{Advance, Advances}
-use Rattle.wasm_laws.proofs.Steady.{here_in, advance_then, moves_of}
+use Rattle.wasm_laws.proofs.Steady.{here_in, moves_of}
 use Rattle.wasm_laws.proofs.Windows.{window_short, past_advance}
 use Rattle.wasm_laws.proofs.BodyLaws.{instruction_steady}
 use Rattle.wasm_laws.proofs.Faulty.{tokens_of-append}
@@ -23,9 +23,7 @@ use Rattle.wasm_laws.proofs.Spelling.{Places, places_lower, IsOpen, open_later, 
 use Rattle.leb_feed.specs.declared.stop.Stop.{Stop}
 use Rattle.leb_feed.specs.declared.stop.Stop.TheVariants as stop
 use Rattle.leb_feed.specs.Reads.{Stops}
-use Rattle.body_validator.specs.declared.check.Step.{Step}
-use Rattle.body_validator.specs.declared.check.TokenStop.{TokenStop}
-use Rattle.body_validator.specs.Checking.{Frames, Checker, step_checker}
+use Rattle.body_validator.specs.Checking.{Frames, step_checker}
 use Rattle.body_validator.specs.Checks.{Checked, IsReached}
 use Rattle.body_validator.proofs.Answering.{reached-viable, reached-body}
 use Rattle.body_compiler.specs.declared.code.BodyStop.{BodyStop}
@@ -34,7 +32,7 @@ use Rattle.body_compiler.specs.Judged.{joined}
 use Rattle.wasm_defs.specs.Faults.{earlier, unsupported_at}
 use Rattle.body_compiler.specs.Going.{IsGoing, Goes, Judges, Taken, without_opcode}
 use Rattle.body_compiler.proofs.Depths.{checker_depth}
-use Rattle.body_compiler.proofs.Outcomes.{IsGood, stopped, stopped_within, stopped_outside, refused_within, refused_outside, taken_outside, taken_last, joined_more, outside_append, good_more, whole}
+use Rattle.body_compiler.proofs.Outcomes.{IsGood, stopped, stopped_within, stopped_outside, refused_within, refused_outside, taken_outside, taken_last, joined_more, good_more, whole}
 
 -- ---- a byte
 

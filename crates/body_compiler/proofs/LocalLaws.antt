@@ -6,7 +6,6 @@ use Rattle.leb_feed.specs.declared.stop.Stop.{Stop}
 use Rattle.leb_feed.specs.declared.stop.Stop.TheVariants as stop
 use Rattle.leb_feed.specs.Reads.{Stops}
 use Rattle.leb_feed.proofs.Readers.{stops_same}
-use Rattle.wasm_defs.specs.declared.types.ValType.{ValType}
 use Rattle.wasm_defs.specs.declared.types.FuncType.{FuncType}
 use Rattle.wasm_defs.specs.Bodies.{Group, group, groups}
 use Rattle.wasm_defs.specs.Context.{declared_types}

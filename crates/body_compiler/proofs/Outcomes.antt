@@ -1,9 +1,9 @@
 -- Which fault of a body is the first, by what its reading and its checking met so far.
-use Rattle.std.proofs.Common.{◌≡◌, ◌≤◌, ◌<◌, ℕ, suc, ◌+◌, ◌⊎◌, inl, inr, Bool, true, false, List, [], ◌∷◌, ◌++◌, Option, None, Some, refl, sym, ap, ◌∙◌, append_assoc, arith, ltb, leb}
+use Rattle.std.proofs.Common.{◌≡◌, ◌≤◌, ◌<◌, ℕ, ◌+◌, ◌⊎◌, inl, inr, true, false, List, [], ◌∷◌, ◌++◌, Option, None, Some, refl, sym, ap, ◌∙◌, append_assoc, arith}
 use Rattle.std.proofs.lemmas.List.{append-nil}
-use Rattle.std.proofs.lemmas.Bool.{cases_Bool, cases_lt, lt-ltb, le-ltb, leb-true, leb-false}
+use Rattle.std.proofs.lemmas.Bool.{cases_Bool}
 use Rattle.wasm_defs.specs.declared.fault.Kind.{Kind}
-use Rattle.wasm_defs.specs.declared.fault.Kind.TheVariants.{Malformed, Unsupported}
+use Rattle.wasm_defs.specs.declared.fault.Kind.TheVariants.{Malformed}
 use Rattle.wasm_defs.specs.declared.fault.Refusal.{Refusal}
 use Rattle.wasm_defs.specs.declared.token.Token.{Token}
 use Rattle.wasm_defs.specs.Typing.{Context, IsBody}
@@ -11,11 +11,11 @@ use Rattle.wasm_defs.specs.Trees.{Seq, Tree}
 use Rattle.wasm_defs.specs.Viable.{IsViable, IsFaulty}
 use Rattle.wasm_defs.specs.Bodies.{Spelled, stops, malformed_at, after_opcode, after_token}
 use Rattle.wasm_defs.specs.Supported.{is_compiled_opcode}
-use Rattle.wasm_defs.specs.Faults.{rank, IsNoLater, IsFirst, first_outside, tokens_of, IsTokenFault, IsSpellingFault, IsCodeFault, IsValidCode}
+use Rattle.wasm_defs.specs.Faults.{IsNoLater, first_outside, tokens_of, IsTokenFault, IsSpellingFault, IsCodeFault, IsValidCode}
 use Rattle.body_compiler.specs.Judged.{joined}
 use Rattle.wasm_defs.specs.Faults.{earlier, unsupported_at}
 use Rattle.wasm_laws.proofs.Earlier.{equal_is_no_later, earlier_is}
-use Rattle.wasm_laws.proofs.Faulty.{tokens_of-append, faulty_front, faulty_once, viable_front, IsLater, token_later}
+use Rattle.wasm_laws.proofs.Faulty.{tokens_of-append, faulty_front, faulty_once, IsLater, token_later}
 use Rattle.wasm_laws.proofs.Spelling.{AllWithin, Places}
 
 -- ---- opcodes

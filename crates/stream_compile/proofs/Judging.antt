@@ -1,18 +1,18 @@
 -- How far the judging of a module came, and what follows from it.
-use Rattle.std.proofs.Common.{◌≡◌, ◌≤◌, ◌<◌, ◌⊎◌, inl, inr, ℕ, zero, suc, ◌+◌, ◌^◌, List, [], ◌∷◌, ◌++◌, length, Bool, true, false, Option, Some, None, refl, sym, ap, ◌∙◌, subst, append_assoc, arith, length-append, Result, Ok, Err}
+use Rattle.std.proofs.Common.{◌≡◌, ◌≤◌, ◌<◌, ◌⊎◌, inl, inr, ℕ, suc, ◌+◌, List, [], ◌∷◌, ◌++◌, length, true, false, Option, Some, None, refl, sym, ap, ◌∙◌, append_assoc, arith, length-append}
 use Rattle.std.specs.Prelude.{IsSome}
 use Rattle.std.proofs.lemmas.List.{append-nil}
 use Rattle.std.proofs.lemmas.Bool.{cases_Bool}
 use Rattle.wasm_defs.specs.declared.fault.Refusal.{Refusal}
 use Rattle.wasm_defs.specs.declared.item.Item.{Item}
-use Rattle.wasm_defs.specs.Typing.{Context, function_type}
+use Rattle.wasm_defs.specs.Typing.{function_type}
 use Rattle.wasm_defs.specs.Trees.{Seq}
 use Rattle.wasm_defs.specs.declared.item.Item.TheVariants.{Signature, Imported, Function, Table, Memory, Global, Exported, Start, Element, Code, Segment}
 use Rattle.wasm_defs.specs.Entries.{Seen}
-use Rattle.wasm_defs.specs.Context.{context_of, import_count, declared_count, functions_of, body_context, type_of_function}
-use Rattle.wasm_defs.specs.Outside.{Part, Section, Listed, Coded, Body, Run, Ending, Whole, after_part, ends, module_run}
+use Rattle.wasm_defs.specs.Context.{import_count, declared_count, functions_of}
+use Rattle.wasm_defs.specs.Outside.{Part, Section, Listed, Coded, Body, Run, Whole, after_part, ends, module_run}
 use Rattle.wasm_defs.specs.Supported.{is_compiled_section}
-use Rattle.wasm_defs.specs.Faults.{IsNoLater, IsFirst, first_outside, ending_fault, sections_of, items_of, bodies_of, earlier, unsupported_at, IsCodeFault, IsValidCode, read_of, context_at, IsFaultInside, AreValid, IsOutsideFault, IsFault, Module, IsModule, Accepted, Rejected, IsVerdict}
+use Rattle.wasm_defs.specs.Faults.{IsNoLater, first_outside, ending_fault, sections_of, items_of, bodies_of, earlier, unsupported_at, IsCodeFault, IsValidCode, read_of, context_at, IsFaultInside, AreValid, IsOutsideFault, IsFault, Module, Accepted, Rejected, IsVerdict}
 use Rattle.wasm_laws.specs.Order.{AreOrdered, BodyStands, end_of, first_section}
 use Rattle.wasm_laws.specs.Typed.{AreTyped}
 use Rattle.wasm_laws.proofs.Typed.{functions_have_types}

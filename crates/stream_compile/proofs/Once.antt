@@ -1,13 +1,13 @@
 -- Bytes have one verdict.
-use Rattle.std.proofs.Common.{◌≡◌, ◌≤◌, ◌<◌, ◌⊎◌, inl, inr, ℕ, suc, ◌+◌, List, [], ◌∷◌, ◌++◌, length, Option, None, Some, refl, sym, ap, ◌∙◌, arith}
+use Rattle.std.proofs.Common.{◌≡◌, ◌<◌, ◌⊎◌, inl, inr, ℕ, suc, List, [], ◌∷◌, ◌++◌, length, Some, refl, sym, ap, ◌∙◌, arith}
 use Rattle.std.proofs.lemmas.Bool.{cases_Bool}
 use Rattle.wasm_defs.specs.declared.fault.Refusal.{Refusal}
 use Rattle.wasm_defs.specs.declared.item.Item.{Item}
 use Rattle.wasm_defs.specs.Trees.{Seq}
 use Rattle.wasm_defs.specs.Outside.{Part, Section, Listed, Coded, Body, module_run}
 use Rattle.wasm_defs.specs.Supported.{is_compiled_section}
-use Rattle.wasm_defs.specs.Faults.{IsFirst, first_outside, ending_fault, sections_of, tokens_of, read_of, context_at, IsCodeFault, IsOutsideFault, IsFaultInside, IsFault, AreValid, Module, IsModule, Verdict, Accepted, Rejected, IsVerdict}
-use Rattle.wasm_laws.specs.Order.{AreOrdered, BodyStands, end_of, first_section}
+use Rattle.wasm_defs.specs.Faults.{first_outside, ending_fault, sections_of, tokens_of, read_of, context_at, IsOutsideFault, IsFaultInside, IsFault, AreValid, Module, IsModule, Verdict, Accepted, Rejected, IsVerdict}
+use Rattle.wasm_laws.specs.Order.{AreOrdered, end_of, first_section}
 use Rattle.wasm_laws.proofs.Order.{parts_before_fault, parts_in_module}
 use Rattle.wasm_laws.proofs.Verdicts.{first_once, code_fault_inside, module_has_no_fault}
 use Rattle.body_validator.proofs.TreeLaws.{trees_one}

@@ -8,7 +8,7 @@ use Rattle.std.proofs.lemmas.List.{append-nil}
 use Rattle.wasm_defs.specs.declared.fault.Refusal.{Refusal}
 use Rattle.wasm_defs.specs.Outside.{Run, Ending, Refused, module_run}
 use Rattle.wasm_defs.specs.Supported.{is_compiled_section}
-use Rattle.wasm_defs.specs.Faults.{Verdict, Accepted, Rejected, IsVerdict, IsFirst, IsFaultInside, IsModule, ending_fault, first_outside, sections_of}
+use Rattle.wasm_defs.specs.Faults.{Accepted, Rejected, IsFirst, IsFaultInside, ending_fault, first_outside, sections_of}
 use Rattle.wasm_laws.proofs.Bounded.{module_is_refused, module_stays}
 use Rattle.io_edges.specs.declared.reading.Input.{Input}
 use Rattle.io_edges.specs.declared.reading.Stop.{Stop}
@@ -18,7 +18,7 @@ use Rattle.stream_compile.specs.declared.answer.Answer.{Answer}
 use Rattle.stream_compile.specs.declared.verdict.Verdict.{Verdict as Given}
 use Rattle.stream_compile.specs.declared.verdict.Verdict.TheVariants as given
 use Rattle.stream_compile.specs.Reading.{is_failed, Settles, view}
-use Rattle.stream_compile.specs.Texts.{Outcome, IsOutcome, Came, accepted, rejected, of_verdict}
+use Rattle.stream_compile.specs.Texts.{Outcome, IsOutcome, Came, accepted, rejected}
 use Rattle.stream_compile.specs.Verdicts.{Judges}
 
 -- ---- texts of verdicts

@@ -1,17 +1,12 @@
 -- What taking a part comes to.
-use Rattle.std.proofs.Common.{◌≡◌, ◌≤◌, ◌<◌, ◌+◌, ◌^◌, ◌⊎◌, inl, inr, ℕ, List, [], length, Bool, true, false, Option, Some, None, Result, Ok, Err, sym, ap, ◌∙◌, subst, arith}
-use Rattle.std.specs.Prelude.{OnOk}
-use Rattle.wasm_defs.specs.declared.fault.Refusal.{Refusal}
-use Rattle.wasm_defs.specs.declared.item.Item.{Item}
-use Rattle.wasm_defs.specs.Typing.{Context}
+use Rattle.std.proofs.Common.{◌≡◌, ◌≤◌, ◌<◌, ◌+◌, ◌^◌, inl, inr, ℕ, List, length, false, Ok, Err, ap, ◌∙◌, subst, arith}
 use Rattle.wasm_defs.specs.Bodies.{body_read}
 use Rattle.body_compiler.specs.Going.{Judges as Judged}
 use Rattle.wasm_defs.specs.Outside.{Body, Run, Part, after_part}
 use Rattle.wasm_defs.specs.Outside as outside
 use Rattle.wasm_defs.specs.Supported.{is_compiled_section}
-use Rattle.wasm_defs.specs.Faults.{ending_fault, earlier, unsupported_at, Rejected, IsVerdict}
 use Rattle.wasm_defs.specs.Context.{body_context, type_of_function}
-use Rattle.index_spaces.specs.Spaces.{Spaces, context_in, with_item}
+use Rattle.index_spaces.specs.Spaces.{Spaces, context_in}
 use Rattle.body_compiler.specs.declared.code.BodyStop.{BodyStop}
 use Rattle.body_compiler.specs.declared.code.BodyStop.TheVariants as body
 use Rattle.section_reader.specs.declared.part.Body.{Body as GivenBody}
@@ -24,7 +19,7 @@ use Rattle.section_reader.specs.Left.{State, left, total}
 use Rattle.section_reader.specs.Advances.{Advances}
 use Rattle.stream_compile.specs.Verdicts.{Decides, Uncompiled, CanTake, TakesBody, front_stop}
 use Rattle.stream_compile.specs.Progress.{IsJudging, CanTakePart, TakesPart, body_of_spaces}
-use Rattle.stream_compile.proofs.Judging.{after_section, after_item, after_body, body_refused, section_refused, header_refused, typed_there, few_functions, few_bodies, few_imports, is_refused}
+use Rattle.stream_compile.proofs.Judging.{after_body, body_refused, section_refused, header_refused, typed_there, few_functions, few_bodies, few_imports, is_refused}
 
 -- a section that isn't compiled
 pub uncompiled_taken : (bytes : List ℕ) (left : Run) (spaces : Spaces) (bodies at id total : ℕ) (s : FrontStop) → IsJudging bytes (after_part (outside.Section at id) left) spaces bodies → total ≡ length bytes → is_compiled_section id ≡ false → Uncompiled at total left s → TakesPart bytes (Err s) left spaces

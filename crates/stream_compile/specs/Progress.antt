@@ -3,7 +3,7 @@ use Rattle.std.specs.Prelude.{◌≡◌, ◌<◌, ◌+◌, ◌^◌, ℕ, List, [
 use Rattle.wasm_defs.specs.Typing.{Context}
 use Rattle.wasm_defs.specs.Trees.{Seq}
 use Rattle.wasm_defs.specs.Context.{body_context, type_of_function}
-use Rattle.wasm_defs.specs.Outside.{Part, Body, Run, module_run, after_part}
+use Rattle.wasm_defs.specs.Outside.{Part, Body, Run, module_run}
 use Rattle.wasm_defs.specs.Supported.{is_compiled_section}
 use Rattle.wasm_defs.specs.Faults.{first_outside, sections_of, items_of, bodies_of, read_of, AreValid, Rejected, IsVerdict}
 use Rattle.index_spaces.specs.Spaces.{Spaces, spaces_of, context_in}
@@ -11,8 +11,6 @@ use Rattle.section_reader.specs.declared.part.Part.{Part as Given}
 use Rattle.section_reader.specs.declared.part.Part.TheVariants.{Section, Listed, Coded}
 use Rattle.section_reader.specs.declared.front_stop.FrontStop.{FrontStop}
 use Rattle.section_reader.specs.declared.front_stop.FrontStop.TheVariants.{Refused, NoMemory}
-use Rattle.section_reader.specs.Left.{State, left, total}
-use Rattle.section_reader.specs.PartOf.{part_of}
 use Rattle.stream_compile.specs.Verdicts.{CanTake}
 
 -- these parts of the module were read and are right, and this is left

@@ -1,5 +1,5 @@
 -- What was read, and what it settles.
-use Rattle.std.specs.Prelude.{◌≡◌, ℕ, Bool, true, false, List, Option, nat_lt, String, string_bytes, ◌⊎◌}
+use Rattle.std.specs.Prelude.{◌≡◌, ℕ, Bool, true, false, List, Option, nat_lt, string_bytes}
 use Rattle.io_edges.specs.declared.reading.Stop.{Stop}
 use Rattle.io_edges.specs.declared.reading.Stop.TheVariants.{End, Failed, Full}
 use Rattle.stream_compile.specs.declared.answer.Answer.{Answer}

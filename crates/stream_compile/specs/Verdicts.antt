@@ -1,11 +1,11 @@
 -- The code's verdicts.
-use Rattle.std.specs.Prelude.{◌≡◌, ◌≤◌, ◌<◌, ◌⊎◌, ◌+◌, ◌^◌, ℕ, List, [], length, IsSome, Some, None, Result, Ok, Err}
+use Rattle.std.specs.Prelude.{◌≡◌, ◌<◌, ◌⊎◌, ◌+◌, ◌^◌, ℕ, List, [], length, IsSome, Some, None, Result, Ok, Err}
 use Rattle.wasm_defs.specs.declared.fault.Refusal.{Refusal}
 use Rattle.wasm_defs.specs.Context.{declared_count, body_context, type_of_function}
-use Rattle.wasm_defs.specs.Typing.{Context, function_type}
+use Rattle.wasm_defs.specs.Typing.{function_type}
 use Rattle.wasm_defs.specs.Trees.{Seq}
 use Rattle.wasm_defs.specs.Bodies.{body_read}
-use Rattle.wasm_defs.specs.Outside.{Run, ends, Whole}
+use Rattle.wasm_defs.specs.Outside.{Run}
 use Rattle.wasm_defs.specs.Faults.{ending_fault, earlier, unsupported_at, Module, Accepted, Rejected, IsVerdict, IsCodeFault, IsValidCode}
 use Rattle.index_spaces.specs.Spaces.{Spaces, context_in}
 use Rattle.body_compiler.specs.declared.code.BodyStop.{BodyStop}

@@ -11,14 +11,16 @@ use std::thread::Threads;
 const HEADER: &str = "00 61 73 6D 01 00 00 00";
 
 /// What follows the header of a module that exports `add`, the sum of its two parameters.
-const ADD: &str = "01 07 01 60 02 7F 7F 01 7F 03 02 01 00 07 07 01 03 61 64 64 00 00 0A 09 01 07 00 20 00 20 01 6A 0B";
+const ADD: &str =
+    "01 07 01 60 02 7F 7F 01 7F 03 02 01 00 07 07 01 03 61 64 64 00 00 0A 09 01 07 00 20 00 20 01 6A 0B";
 
 /// A type without parameters and results, and a function of it.
 const FUNCTION: &str = "01 04 01 60 00 00 03 02 01 00";
 
 const OK: &str = "0 ok 1 functions 41 bytes\n";
 
-const USAGE: &str = "1 usage: wstream check, compile, run EXPORT ARGS, exec EXPORT ARGS or drill N\n";
+const USAGE: &str =
+    "1 usage: wstream check, compile, run EXPORT ARGS, exec EXPORT ARGS or drill N\n";
 
 /// The bytes that stand there in hexadecimal digits, one after the other.
 fn bytes_of(alloc: Global, texts: &[&str]) -> Result<Vec<u8>, Fail> {
@@ -56,7 +58,14 @@ fn answer<R: Threads + Wait + Sync>(
 ) -> Result<String, Fail> {
     let words = words_of(alloc, words)?;
     let mut page = Page::new(alloc, 4096)?;
-    let status = top(rt, alloc, &words, &mut Flat::new(bytes), &mut page, &OpenGate);
+    let status = top(
+        rt,
+        alloc,
+        &words,
+        &mut Flat::new(bytes),
+        &mut page,
+        &OpenGate,
+    );
     told(alloc, status, &page)
 }
 
@@ -82,7 +91,10 @@ fn answer_bytewise<R: Threads + Wait + Sync>(
 fn words_outside_the_grammar_are_told_the_usage(rt: HostRuntime) -> Result<(), Fail> {
     let alloc = rt.alloc();
     let bytes = bytes_of(alloc, &[HEADER, ADD])?;
-    assert_eq!(rt; answer(&rt, alloc, &["wstream", "check"], &bytes)?.as_str(), OK);
+    assert_eq!(rt;
+        answer(&rt, alloc, &["wstream", "check"], &bytes)?.as_str(),
+        OK
+    );
     for words in [
         [].as_slice(),
         &["wstream"],
@@ -92,7 +104,11 @@ fn words_outside_the_grammar_are_told_the_usage(rt: HostRuntime) -> Result<(), F
         &["wstream", "check", ""],
         &["wstream", "check", "check"],
     ] {
-        assert_eq!(rt; answer(&rt, alloc, words, &bytes)?.as_str(), USAGE, "{words:?}");
+        assert_eq!(rt;
+            answer(&rt, alloc, words, &bytes)?.as_str(),
+            USAGE,
+            "{words:?}"
+        );
     }
     Ok(())
 }
@@ -108,7 +124,10 @@ fn each_cut_of_a_module_has_its_answer(rt: HostRuntime) -> Result<(), Fail> {
             41 => String::from_str(alloc, OK)?,
             _ => format!(in alloc; "2 refused ended at {len}\n")?,
         };
-        assert_eq!(rt; answer(&rt, alloc, &["wstream", "check"], &bytes[..len])?, want);
+        assert_eq!(rt;
+            answer(&rt, alloc, &["wstream", "check"], &bytes[..len])?,
+            want
+        );
         assert_eq!(rt; answer_bytewise(&rt, alloc, &bytes[..len], None)?, want);
     }
     Ok(())
@@ -126,9 +145,20 @@ fn a_source_or_a_sink_that_fails_is_told(rt: HostRuntime) -> Result<(), Fail> {
     let text = OK.as_bytes();
     for fails_at in 0..text.len() - 2 {
         let mut page = Page::new(alloc, fails_at)?;
-        let status = top(&rt, alloc, &words, &mut Flat::new(&bytes), &mut page, &OpenGate);
+        let status = top(
+            &rt,
+            alloc,
+            &words,
+            &mut Flat::new(&bytes),
+            &mut page,
+            &OpenGate,
+        );
         assert_eq!(rt; status, 7);
-        assert_eq!(rt; page.bytes(), &text[2..2 + fails_at], "after {fails_at} bytes");
+        assert_eq!(rt;
+            page.bytes(),
+            &text[2..2 + fails_at],
+            "after {fails_at} bytes"
+        );
     }
     Ok(())
 }
@@ -180,7 +210,11 @@ fn modules_are_refused_with_their_first_fault(rt: HostRuntime) -> Result<(), Fai
     for (text, fault) in rows {
         let bytes = bytes_of(alloc, &[HEADER, text])?;
         let want = format!(in alloc; "2 refused {fault}\n")?;
-        assert_eq!(rt; answer(&rt, alloc, &["wstream", "check"], &bytes)?, want, "{text}");
+        assert_eq!(rt;
+            answer(&rt, alloc, &["wstream", "check"], &bytes)?,
+            want,
+            "{text}"
+        );
         assert_eq!(rt; answer_bytewise(&rt, alloc, &bytes, None)?, want, "{text}");
     }
     Ok(())
@@ -217,7 +251,11 @@ fn bodies_are_refused_with_their_first_fault(rt: HostRuntime) -> Result<(), Fail
     for (text, fault) in rows {
         let bytes = bytes_of(alloc, &[HEADER, FUNCTION, "0A", text])?;
         let want = format!(in alloc; "2 refused {fault}\n")?;
-        assert_eq!(rt; answer(&rt, alloc, &["wstream", "check"], &bytes)?, want, "{text}");
+        assert_eq!(rt;
+            answer(&rt, alloc, &["wstream", "check"], &bytes)?,
+            want,
+            "{text}"
+        );
     }
     Ok(())
 }
@@ -236,7 +274,11 @@ fn the_fault_of_least_offset_is_told(rt: HostRuntime) -> Result<(), Fail> {
     for (text, fault) in rows {
         let bytes = bytes_of(alloc, &[HEADER, two, text])?;
         let want = format!(in alloc; "2 refused {fault}\n")?;
-        assert_eq!(rt; answer(&rt, alloc, &["wstream", "check"], &bytes)?, want, "{text}");
+        assert_eq!(rt;
+            answer(&rt, alloc, &["wstream", "check"], &bytes)?,
+            want,
+            "{text}"
+        );
     }
     Ok(())
 }

@@ -3,10 +3,10 @@ use Rattle.std.proofs.Common.{◌≡◌, ℕ, zero, suc, ◌+◌, ◌≤◌, ◌
 use Rattle.std.proofs.lemmas.Bool.{cases_Bool}
 use Rattle.wasm_defs.specs.Fields.{Cursor, Read, Got, Fault, Wants}
 use Rattle.wasm_defs.specs.Entries.{Seen, nothing}
-use Rattle.wasm_defs.specs.Outside.{Part, Section, Row, row, header, entered, noted, inside, section_end, Run, after_part, runs_on, Next, finish, entries, contents, section, owes_code, at_the_end, or_section, sections_up_to, preamble, beginning, module_run}
+use Rattle.wasm_defs.specs.Outside.{Part, Section, Row, row, header, entered, noted, inside, Run, after_part, runs_on, Next, finish, entries, contents, section, owes_code, at_the_end, or_section, sections_up_to, preamble, beginning, module_run}
 use Rattle.wasm_laws.specs.Steadiness.{Advances, LeavesFewer, Leaves, SteadyRow}
 use Rattle.wasm_laws.proofs.Steady.{moves_of}
-use Rattle.wasm_laws.proofs.EntryLaws.{header_steady, preamble_steady}
+use Rattle.wasm_laws.proofs.EntryLaws.{preamble_steady}
 use Rattle.wasm_laws.proofs.Takes.{header_takes}
 use Rattle.wasm_laws.proofs.RowLaws.{row_steady, end_steady}
 

@@ -1,5 +1,5 @@
 -- The offsets of a body's opcodes and tokens, and of the fault that stops its reading.
-use Rattle.std.proofs.Common.{◌≡◌, ◌≤◌, ◌<◌, ℕ, zero, suc, ◌+◌, ◌⊎◌, inl, inr, List, [], ◌∷◌, length, Option, None, Some, refl, ap, arith, length-drop, leb}
+use Rattle.std.proofs.Common.{◌≡◌, ◌≤◌, ◌<◌, ℕ, zero, suc, ◌+◌, ◌⊎◌, inl, inr, List, [], ◌∷◌, length, None, Some, refl, ap, arith, leb}
 use Rattle.std.proofs.lemmas.Bool.{leb-true}
 use Rattle.std.proofs.lemmas.Bool.{cases_Bool}
 use Rattle.wasm_defs.specs.declared.fault.Kind.TheVariants.{Malformed}
@@ -7,8 +7,8 @@ use Rattle.wasm_defs.specs.declared.fault.Refusal.{Refusal}
 use Rattle.wasm_defs.specs.declared.token.Token.{Token}
 use Rattle.wasm_defs.specs.Fields.{Cursor, Read, Got, Fault, Wants, byte, first_of, window, room_of, past, cut}
 use Rattle.wasm_defs.specs.Bodies.{Spelled, stops, malformed_at, closed, after_opcode, after_token, goes_on, spelled_from, instruction, depth_after}
-use Rattle.wasm_laws.specs.Steadiness.{Steady, Advance, Advances, StandsIn}
-use Rattle.wasm_laws.proofs.Steady.{Moves, moves_of, here_in}
+use Rattle.wasm_laws.specs.Steadiness.{Advance, Advances, StandsIn}
+use Rattle.wasm_laws.proofs.Steady.{moves_of, here_in}
 use Rattle.wasm_laws.proofs.Windows.{window_short, past_advance}
 use Rattle.wasm_laws.proofs.BodyLaws.{instruction_steady}
 

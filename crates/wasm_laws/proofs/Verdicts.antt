@@ -1,23 +1,22 @@
 -- A module has one verdict.
-use Rattle.std.proofs.Common.{◌≡◌, ◌≤◌, ◌<◌, ◌⊎◌, inl, inr, ℕ, suc, ◌+◌, ◌-◌, Bool, true, false, cond, List, [], ◌∷◌, ◌++◌, length, Option, None, Some, refl, sym, ap, ◌∙◌, append_assoc, arith}
+use Rattle.std.proofs.Common.{◌≡◌, ◌≤◌, ◌<◌, ◌⊎◌, inl, inr, ℕ, suc, ◌+◌, Bool, List, [], ◌∷◌, ◌++◌, length, Option, None, Some, refl, sym, ap, ◌∙◌, append_assoc, arith}
 use Rattle.std.proofs.lemmas.Bool.{cases_Bool}
 use Rattle.std.proofs.lemmas.List.{append-nil}
 use Rattle.wasm_defs.specs.declared.fault.Kind.{Kind}
 use Rattle.wasm_defs.specs.declared.fault.Kind.TheVariants.{Malformed, Unsupported, Limit, Invalid, Ended}
 use Rattle.wasm_defs.specs.declared.fault.Refusal.{Refusal}
 use Rattle.wasm_defs.specs.declared.item.Item.{Item}
-use Rattle.wasm_defs.specs.declared.token.Token.{Token}
 use Rattle.wasm_defs.specs.Fields.{Read, Got, Fault, Wants}
-use Rattle.wasm_defs.specs.Bodies.{Group, Spelled, BodyRead, stops, malformed_at, read_code, spelled_from, local_groups, body_cursor, last_of, body_read}
+use Rattle.wasm_defs.specs.Bodies.{Group, Spelled, read_code, local_groups, body_cursor, last_of, body_read}
 use Rattle.wasm_defs.specs.Outside.{Part, Section, Listed, Coded, Body, module_run}
 use Rattle.wasm_defs.specs.Typing.{Context}
 use Rattle.wasm_defs.specs.Trees.{Seq}
 use Rattle.wasm_defs.specs.Viable.{IsViable}
 use Rattle.wasm_defs.specs.Supported.{is_compiled_section, is_compiled_opcode}
-use Rattle.wasm_defs.specs.Faults.{rank, IsNoLater, IsFirst, first_outside, ending_fault, sections_of, IsOutsideFault, tokens_of, IsTokenFault, IsSpellingFault, IsCodeFault, IsValidCode, read_of, context_at, IsFaultInside, IsFault, AreValid, IsModule}
+use Rattle.wasm_defs.specs.Faults.{rank, IsNoLater, IsFirst, first_outside, ending_fault, sections_of, tokens_of, IsTokenFault, IsSpellingFault, IsCodeFault, IsValidCode, read_of, context_at, IsFaultInside, IsFault, AreValid}
 use Rattle.wasm_laws.specs.Steadiness.{Advances, StandsIn}
 use Rattle.wasm_laws.proofs.Faulty.{tokens_of-append, faulty_front}
-use Rattle.wasm_laws.proofs.Spelling.{AllWithin, StandsWithin, Places, places_lower, stops_at, missing, IsOpen, open_later, spelled_places}
+use Rattle.wasm_laws.proofs.Spelling.{AllWithin, Places, places_lower, stops_at, missing, IsOpen, open_later, spelled_places}
 use Rattle.wasm_laws.proofs.BodyLaws.{local_groups_steady}
 
 -- ---- the first of some faults is one

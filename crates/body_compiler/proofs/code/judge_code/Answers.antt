@@ -1,4 +1,4 @@
-use Rattle.std.proofs.Common.{length, ◌≤◌, ◌<◌, ◌≡◌, [], arith, ap, ◌∙◌}
+use Rattle.std.proofs.Common.{arith}
 use Rattle.body_compiler.proofs.Going.{byte_shrinks, isnt_over, is_over, stop_judges, goes_judges, is_valid, has_more, tested_empty, tested_some}
 use Rattle.body_compiler.proofs.code.judge_code.Goals as goal
 

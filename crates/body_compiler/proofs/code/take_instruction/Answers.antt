@@ -1,4 +1,4 @@
-use Rattle.std.proofs.Common.{sym, ap, length, ◌≤◌, ◌≡◌}
+use Rattle.std.proofs.Common.{sym, ap}
 use Rattle.wasm_defs.specs.Faults.{tokens_of}
 use Rattle.body_compiler.proofs.Going.{on_any, instruction_shrinks, token_goes, refused_token, faulty_instruction, cut_instruction}
 use Rattle.body_compiler.proofs.code.take_instruction.Goals as goal

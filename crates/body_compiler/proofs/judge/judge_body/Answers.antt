@@ -1,4 +1,4 @@
-use Rattle.std.proofs.Common.{length, ◌+◌, ◌-◌, ◌≡◌, arith, ap}
+use Rattle.std.proofs.Common.{◌+◌, ◌≡◌, arith}
 use Rattle.wasm_defs.specs.Bodies.{body_read, last_of}
 use Rattle.wasm_defs.specs.Context.{body_context, type_of_function}
 use Rattle.index_spaces.specs.Spaces.{context_in}

@@ -1,7 +1,7 @@
-use Rattle.std.proofs.Common.{◌≡◌, ◌+◌, ◌≤◌, ◌<◌, arith}
+use Rattle.std.proofs.Common.{arith}
 use Rattle.wasm_defs.specs.Bodies.{groups}
 use Rattle.body_compiler.specs.LocalGroups.{view}
-use Rattle.body_compiler.proofs.LocalLaws.{knows_none, knows_more, knows_stop, knows_all, no_memory_stops}
+use Rattle.body_compiler.proofs.LocalLaws.{knows_more, knows_stop, knows_all, no_memory_stops}
 use Rattle.body_compiler.proofs.locals.declare_groups.Goals as goal
 
 pub loop-preserved : goal.loop-preserved

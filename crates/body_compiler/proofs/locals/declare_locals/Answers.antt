@@ -1,5 +1,5 @@
-use Rattle.std.proofs.Common.{ap, ℕ}
-use Rattle.wasm_defs.specs.Fields.{then_go, ◌>>=◌}
+use Rattle.std.proofs.Common.{ap}
+use Rattle.wasm_defs.specs.Fields.{then_go}
 use Rattle.wasm_defs.specs.Bodies.{local_groups, groups}
 use Rattle.body_compiler.proofs.LocalLaws.{declares_same}
 use Rattle.body_compiler.proofs.locals.declare_locals.Goals as goal
