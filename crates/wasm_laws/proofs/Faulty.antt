@@ -77,16 +77,16 @@ pub token_later : (c : Context) (toks rest : List (ℕ × Token)) (r : Refusal) 
 token_later c toks rest r viable f =
     elim (split toks rest f.before f.after (f.at, f.token) f.parts) [
       | inl p ↦
-        let e : tokens_of toks ≡ (tokens_of f.before ++ f.token ∷ []) ++ tokens_of p.rest = ap tokens_of p.is ∙ tokens_of-append f.before ((f.at, f.token) ∷ p.rest) ∙ sym (append_assoc (tokens_of f.before) (f.token ∷ []) (tokens_of p.rest)) in
-        absurd (faulty_front c (tokens_of f.before ++ f.token ∷ []) (tokens_of p.rest) r.kind f.faulty (rw (← e) viable))
+          let e : tokens_of toks ≡ (tokens_of f.before ++ f.token ∷ []) ++ tokens_of p.rest = ap tokens_of p.is ∙ tokens_of-append f.before ((f.at, f.token) ∷ p.rest) ∙ sym (append_assoc (tokens_of f.before) (f.token ∷ []) (tokens_of p.rest)) in
+          absurd (faulty_front c (tokens_of f.before ++ f.token ∷ []) (tokens_of p.rest) r.kind f.faulty (rw (← e) viable))
       | inr p ↦
-        let e : tokens_of f.before ≡ tokens_of toks ++ tokens_of p.between = ap tokens_of p.front ∙ tokens_of-append toks p.between in
-        record {
-          between = p.between;
-          token = f.token;
-          after = f.after;
-          parts = p.is ∙ ap (λ (n : ℕ). p.between ++ (n, f.token) ∷ f.after) (sym f.place);
-          viable = rw (← e) f.viable;
-          faulty = rw (← e) f.faulty;
-        }
+          let e : tokens_of f.before ≡ tokens_of toks ++ tokens_of p.between = ap tokens_of p.front ∙ tokens_of-append toks p.between in
+          record {
+            between = p.between;
+            token = f.token;
+            after = f.after;
+            parts = p.is ∙ ap (λ (n : ℕ). p.between ++ (n, f.token) ∷ f.after) (sym f.place);
+            viable = rw (← e) f.viable;
+            faulty = rw (← e) f.faulty;
+          }
     ]

@@ -94,7 +94,7 @@ opcode_places high last c (b ∷ w) k o is h =
     let here = open_later high c d (past_advance c 1 some) o in
     let s = instruction_steady (c.at ∷ []) c.at b here_in in
     with_opcode c.at high last b _ lt (goes_on_places c.at high last d (instruction c.at b d) _ here (s.moves d) (s.place c.at d (omega arith) (omega arith, omega arith, tt))
-      (λ t e p. with_token c.at high last t _ lt (places_lower c.at e.at high last (k t e) (omega (arith, p.at)) (h t e (open_later high d e p here)))))
+    (λ t e p. with_token c.at high last t _ lt (places_lower c.at e.at high last (k t e) (omega (arith, p.at)) (h t e (open_later high d e p here)))))
 
 pub spelled_places : (n depth high last : ℕ) (c : Cursor) → IsOpen high c → Places c.at high last (spelled_from n depth last c)
 unfolding spelled_from byte
