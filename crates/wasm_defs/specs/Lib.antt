@@ -13,3 +13,5 @@ pub mod Viable
 pub mod Bodies
 pub mod Context
 pub mod Faults
+pub mod Items
+pub mod Rules

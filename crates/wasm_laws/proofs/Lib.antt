@@ -21,3 +21,4 @@ pub mod Cuts
 pub mod BodyOrder
 pub mod Few
 pub mod Typed
+pub mod Spelt

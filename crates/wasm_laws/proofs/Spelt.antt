@@ -1,0 +1,107 @@
+-- Readers that read what a grammar spells: a value that is got was spelled and keeps its rule, and a spelling that keeps the
+-- rule is read as its value, whatever follows.
+use Rattle.std.proofs.Common.{◌≡◌, ◌≤◌, ℕ, zero, suc, ◌+◌, Bool, true, false, cond, List, [], ◌∷◌, ◌++◌, length, refl, sym, ap, subst, ◌∙◌, append_assoc, arith, length-append}
+use Rattle.wasm_defs.proofs.NumberLaws.{AreBytes}
+use Rattle.wasm_defs.specs.declared.fault.Kind.{Kind}
+use Rattle.wasm_defs.specs.Fields.{Cursor, Read, Got, Fault, Wants, Reader, then_go, ◌>>=◌, done, refused, repeated}
+use Rattle.wasm_defs.specs.Items.{Spelling, Joined, ◌then◌, exactly, each_is}
+use Rattle.wasm_laws.proofs.Steady.{IfGot, Advance, no_advance, advance_then}
+
+abbrev pub cursor : ℕ → List ℕ → ℕ → Cursor
+cursor at rest end = record { at = at; rest = rest; end = end }
+
+-- reading stands before the section's end, or at it, and all bytes are bytes
+pub record Ready (c : Cursor) : Type 0 where
+  pub low : c.at ≤ c.end
+  pub bytes : AreBytes c.rest
+
+-- the bytes that were taken are such a spelling, and that holds of what they spell
+pub record Found (s : Spelling) (K : Type 0) (c d : Cursor) : Type 0 where
+  pub taken : List ℕ
+  pub parts : c.rest ≡ taken ++ d.rest
+  pub at : d.at ≡ c.at + length taken
+  pub end : d.end ≡ c.end
+  pub fits : c.at + length taken ≤ c.end
+  pub spelled : s c.at taken
+  pub kept : K
+
+-- such a spelling is read as x, where it fits before the section's end
+pub record Reads {A : Type 0} (p : Reader A) (x : A) (s : Spelling) : Type 0 where
+  pub by : (at end : ℕ) (front back : List ℕ) → at + length front ≤ end → s at front → p (cursor at (front ++ back) end) ≡ Got x (cursor (at + length front) back end)
+
+pub record Spelt {A : Type 0} (S : A → Spelling) (K : A → Type 0) (p : Reader A) : Type 0 where
+  pub sound : (c : Cursor) → Ready c → IfGot (λ x d. Found (S x) (K x) c d) (p c)
+  pub complete : (x : A) → K x → Reads p x (S x)
+
+-- ---- sound
+
+pub bytes_behind : (front back : List ℕ) → AreBytes (front ++ back) → AreBytes back
+bytes_behind [] back h = h
+bytes_behind (b ∷ front) back h = bytes_behind front back h.1
+
+pub later : {s : Spelling} {K : Type 0} (c d : Cursor) → Found s K c d → Ready c → Ready d
+later c d p h = record { low = omega (arith, p.at, p.end, p.fits); bytes = bytes_behind p.taken d.rest (subst AreBytes p.parts h.bytes) }
+
+pub found_by : (s : Spelling) (K : Type 0) (c d : Cursor) (p : Advance c d) → Ready c → s c.at p.taken → K → Found s K c d
+found_by s K c d p ready h k = record { taken = p.taken; parts = p.parts; at = p.at; end = p.end; fits = omega (arith, p.fits, ready.low); spelled = h; kept = k }
+
+-- one behind the other
+pub found_then : {s t : Spelling} {K L : Type 0} (M : Type 0) (c d e : Cursor) → Found s K c d → Found t L d e → M → Found (s then t) M c e
+found_then {s} {t} M c d e p q h = record {
+  taken = p.taken ++ q.taken;
+  parts = p.parts ∙ ap (λ (l : List ℕ). p.taken ++ l) q.parts ∙ sym (append_assoc p.taken q.taken e.rest);
+  at = omega (arith, p.at, q.at, length-append p.taken q.taken);
+  end = q.end ∙ p.end;
+  fits = omega (arith, p.at, p.end, q.fits, length-append p.taken q.taken);
+  spelled = record { front = p.taken; back = q.taken; parts = refl; first = p.spelled; second = subst (λ (at : ℕ). t at q.taken) p.at q.spelled };
+  kept = h;
+}
+
+pub found_as : {s : Spelling} {K : Type 0} (t : Spelling) (M : Type 0) (c d : Cursor) → Found s K c d → ((at : ℕ) (bytes : List ℕ) → s at bytes → t at bytes) → M → Found t M c d
+found_as t M c d p f h = record { taken = p.taken; parts = p.parts; at = p.at; end = p.end; fits = p.fits; spelled = f c.at p.taken p.spelled; kept = h }
+
+pub then_got : {A B : Type 0} (P : A → Cursor → Type 0) (Q : B → Cursor → Type 0) (x : Read A) (f : A → Reader B) → IfGot P x → ((a : A) (d : Cursor) → P a d → IfGot Q (f a d)) → IfGot Q (then_go x f)
+then_got P Q (Got a d) f p h = h a d p
+then_got P Q (Fault r) f p h = tt
+then_got P Q Wants f p h = tt
+
+-- what is read next, and what was found of it
+pub read : {A B : Type 0} (S : A → Spelling) (K : A → Type 0) (p : Reader A) (f : A → Reader B) (Q : B → Cursor → Type 0) (c : Cursor) → Spelt S K p → Ready c
+    → ((x : A) (d : Cursor) → Found (S x) (K x) c d → Ready d → IfGot Q (f x d)) → IfGot Q ((p >>= f) c)
+read S K p f Q c h ready g = then_got (λ x d. Found (S x) (K x) c d) Q (p c) f (h.sound c ready) (λ x d found. g x d found (later c d found ready))
+
+-- past a test
+pub unless : {A : Type 0} (Q : A → Cursor → Type 0) (b : Bool) (kind : Kind) (at : ℕ) (q : Reader A) (c : Cursor) → (b ≡ false → IfGot Q (q c)) → IfGot Q (cond b (refused kind at) q c)
+unless Q true kind at q c h = tt
+unless Q false kind at q c h = h refl
+
+pub provided : {A : Type 0} (Q : A → Cursor → Type 0) (b : Bool) (kind : Kind) (at : ℕ) (q : Reader A) (c : Cursor) → (b ≡ true → IfGot Q (q c)) → IfGot Q (cond b q (refused kind at) c)
+provided Q true kind at q c h = h refl
+provided Q false kind at q c h = tt
+
+-- ---- complete
+
+pub reads_then : {A B : Type 0} (p : Reader A) (f : A → Reader B) (x : A) (y : B) (s t : Spelling) → Reads p x s → Reads (f x) y t → Reads (p >>= f) y (s then t)
+reads_then {A} p f x y s t h k = record { by = λ at end bytes back fits j. joined at end bytes back fits j }
+  where
+    one : (at end : ℕ) (l r back : List ℕ) → at + length l + length r ≤ end → s at l → t (at + length l) r → then_go (p (cursor at (l ++ (r ++ back)) end)) f ≡ Got y (cursor (at + length l + length r) back end)
+    one at end l r back fits first second =
+        ap (λ (z : Read A). then_go z f) (h.by at end l (r ++ back) (omega arith) first) ∙ k.by (at + length l) end r back fits second
+
+    joined : (at end : ℕ) (bytes back : List ℕ) → at + length bytes ≤ end → Joined s t at bytes → then_go (p (cursor at (bytes ++ back) end)) f ≡ Got y (cursor (at + length bytes) back end)
+    joined at end bytes back fits j =
+        let len : length bytes ≡ length j.front + length j.back = ap length j.parts ∙ length-append j.front j.back in
+        let place : at + length bytes ≡ at + length j.front + length j.back = omega arith in
+        let whole : bytes ++ back ≡ j.front ++ (j.back ++ back) = ap (λ (l : List ℕ). l ++ back) j.parts ∙ append_assoc j.front j.back back in
+        rw (whole, place) (one at end j.front j.back back (omega arith) j.first j.second)
+
+pub reads_last : {A B : Type 0} (p : Reader A) (g : A → B) (x : A) (s : Spelling) → Reads p x s → Reads (p >>= (λ z. done (g z))) (g x) s
+reads_last {A} p g x s h = record { by = λ at end front back fits k. ap (λ (z : Read A). then_go z (λ y. done (g y))) (h.by at end front back fits k) }
+
+pub reads_if : {A : Type 0} (b : Bool) (p q : Reader A) (x : A) (s : Spelling) → b ≡ true → Reads p x s → Reads (cond b p q) x s
+reads_if true p q x s e h = h
+reads_if false p q x s e h = absurd cc
+
+pub reads_else : {A : Type 0} (b : Bool) (p q : Reader A) (x : A) (s : Spelling) → b ≡ false → Reads q x s → Reads (cond b p q) x s
+reads_else true p q x s e h = absurd cc
+reads_else false p q x s e h = h
