@@ -22,3 +22,5 @@ pub mod BodyOrder
 pub mod Few
 pub mod Typed
 pub mod Spelt
+pub mod SpeltFields
+pub mod SpeltLists

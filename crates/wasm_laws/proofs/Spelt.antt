@@ -45,6 +45,9 @@ later c d p h = record { low = omega (arith, p.at, p.end, p.fits); bytes = bytes
 pub found_by : (s : Spelling) (K : Type 0) (c d : Cursor) (p : Advance c d) → Ready c → s c.at p.taken → K → Found s K c d
 found_by s K c d p ready h k = record { taken = p.taken; parts = p.parts; at = p.at; end = p.end; fits = omega (arith, p.fits, ready.low); spelled = h; kept = k }
 
+pub found_nothing : (c : Cursor) (K : Type 0) → Ready c → K → Found (exactly []) K c c
+found_nothing c K ready h = record { taken = []; parts = refl; at = omega arith; end = refl; fits = omega (arith, ready.low); spelled = refl; kept = h }
+
 -- one behind the other
 pub found_then : {s t : Spelling} {K L : Type 0} (M : Type 0) (c d e : Cursor) → Found s K c d → Found t L d e → M → Found (s then t) M c e
 found_then {s} {t} M c d e p q h = record {
@@ -95,8 +98,12 @@ reads_then {A} p f x y s t h k = record { by = λ at end bytes back fits j. join
         let whole : bytes ++ back ≡ j.front ++ (j.back ++ back) = ap (λ (l : List ℕ). l ++ back) j.parts ∙ append_assoc j.front j.back back in
         rw (whole, place) (one at end j.front j.back back (omega arith) j.first j.second)
 
+-- what is left takes nothing
+pub reads_on : {A B : Type 0} (p : Reader A) (f : A → Reader B) (x : A) (y : B) (s : Spelling) → Reads p x s → ((c : Cursor) → f x c ≡ Got y c) → Reads (p >>= f) y s
+reads_on {A} p f x y s h e = record { by = λ at end front back fits k. ap (λ (z : Read A). then_go z f) (h.by at end front back fits k) ∙ e (cursor (at + length front) back end) }
+
 pub reads_last : {A B : Type 0} (p : Reader A) (g : A → B) (x : A) (s : Spelling) → Reads p x s → Reads (p >>= (λ z. done (g z))) (g x) s
-reads_last {A} p g x s h = record { by = λ at end front back fits k. ap (λ (z : Read A). then_go z (λ y. done (g y))) (h.by at end front back fits k) }
+reads_last p g x s h = reads_on p (λ z. done (g z)) x (g x) s h (λ c. refl)
 
 pub reads_if : {A : Type 0} (b : Bool) (p q : Reader A) (x : A) (s : Spelling) → b ≡ true → Reads p x s → Reads (cond b p q) x s
 reads_if true p q x s e h = h
