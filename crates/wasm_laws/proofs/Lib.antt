@@ -24,3 +24,5 @@ pub mod Typed
 pub mod Spelt
 pub mod SpeltFields
 pub mod SpeltLists
+pub mod Utf8
+pub mod SpeltNames
