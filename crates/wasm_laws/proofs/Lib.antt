@@ -26,3 +26,4 @@ pub mod SpeltFields
 pub mod SpeltLists
 pub mod Utf8
 pub mod SpeltNames
+pub mod SpeltParts
