@@ -27,3 +27,4 @@ pub mod SpeltLists
 pub mod Utf8
 pub mod SpeltNames
 pub mod SpeltParts
+pub mod SpeltItems

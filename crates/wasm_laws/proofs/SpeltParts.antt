@@ -62,8 +62,8 @@ placed_spelt {A} S K p h = record {
   complete = λ x k. record { by = λ at end front back fits s. ap (λ (z : Read (ℕ × A)). then_go z (λ y. done y.1)) ((h.complete (at, x) k).by at end front back fits (refl, s)) };
 }
 
-pub always_spelt : {A : Type 0} (S : A → Spelling) (K L : A → Type 0) (p : Reader A) → ((x : A) → K x → L x) → ((x : A) → L x → K x) → Spelt S K p → Spelt S L p
-always_spelt S K L p to from h = record {
+pub ruled_spelt : {A : Type 0} (S : A → Spelling) (K L : A → Type 0) (p : Reader A) → ((x : A) → K x → L x) → ((x : A) → L x → K x) → Spelt S K p → Spelt S L p
+ruled_spelt S K L p to from h = record {
   sound = λ c ready. kept c (p c) (h.sound c ready);
   complete = λ x k. h.complete x (from x k);
 }
@@ -75,7 +75,7 @@ always_spelt S K L p to from h = record {
 
 pub listed_index_spelt : (most : ℕ) → Spelt listed_index_is (λ i. i < most) (listed_index most)
 unfolding listed_index
-listed_index_spelt most = placed_spelt (λ i bytes. Spells (pos i) 32 false bytes) (λ i. i < most) (index most) (always_spelt u32_is (λ i. Always i × (i.1 < most)) (λ i. i.1 < most) (index most) (λ i k. k.1) (λ i k. (tt, k)) (index_spelt most))
+listed_index_spelt most = placed_spelt (λ i bytes. Spells (pos i) 32 false bytes) (λ i. i < most) (index most) (ruled_spelt u32_is (λ i. Always i × (i.1 < most)) (λ i. i.1 < most) (index most) (λ i k. k.1) (λ i k. (tt, k)) (index_spelt most))
 
 -- ---- codes
 
