@@ -28,3 +28,4 @@ pub mod Utf8
 pub mod SpeltNames
 pub mod SpeltParts
 pub mod SpeltItems
+pub mod SpeltRows

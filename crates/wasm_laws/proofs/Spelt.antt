@@ -60,8 +60,12 @@ found_then {s} {t} M c d e p q h = record {
   kept = h;
 }
 
+-- the same bytes, as another spelling
+pub found_here : {s : Spelling} {K : Type 0} (t : Spelling) (M : Type 0) (c d : Cursor) (p : Found s K c d) → t c.at p.taken → M → Found t M c d
+found_here t M c d p h k = record { taken = p.taken; parts = p.parts; at = p.at; end = p.end; fits = p.fits; spelled = h; kept = k }
+
 pub found_as : {s : Spelling} {K : Type 0} (t : Spelling) (M : Type 0) (c d : Cursor) → Found s K c d → ((at : ℕ) (bytes : List ℕ) → s at bytes → t at bytes) → M → Found t M c d
-found_as t M c d p f h = record { taken = p.taken; parts = p.parts; at = p.at; end = p.end; fits = p.fits; spelled = f c.at p.taken p.spelled; kept = h }
+found_as t M c d p f h = found_here t M c d p (f c.at p.taken p.spelled) h
 
 pub then_got : {A B : Type 0} (P : A → Cursor → Type 0) (Q : B → Cursor → Type 0) (x : Read A) (f : A → Reader B) → IfGot P x → ((a : A) (d : Cursor) → P a d → IfGot Q (f a d)) → IfGot Q (then_go x f)
 then_got P Q (Got a d) f p h = h a d p
