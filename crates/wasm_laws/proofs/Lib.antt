@@ -29,3 +29,6 @@ pub mod SpeltNames
 pub mod SpeltParts
 pub mod SpeltItems
 pub mod SpeltRows
+pub mod Lasts
+pub mod Describing
+pub mod Described

@@ -60,6 +60,20 @@ found_then {s} {t} M c d e p q h = record {
   kept = h;
 }
 
+-- nothing behind it
+pub found_alone : {s : Spelling} {K L : Type 0} (M : Type 0) (c d e : Cursor) → Found s K c d → Found (exactly []) L d e → M → Found s M c e
+found_alone M c d e p q h =
+    let none : length q.taken ≡ 0 = ap length q.spelled in
+    record {
+      taken = p.taken;
+      parts = p.parts ∙ ap (λ (l : List ℕ). p.taken ++ l) (q.parts ∙ ap (λ (l : List ℕ). l ++ e.rest) q.spelled);
+      at = omega (arith, p.at, q.at);
+      end = q.end ∙ p.end;
+      fits = p.fits;
+      spelled = p.spelled;
+      kept = h;
+    }
+
 -- the same bytes, as another spelling
 pub found_here : {s : Spelling} {K : Type 0} (t : Spelling) (M : Type 0) (c d : Cursor) (p : Found s K c d) → t c.at p.taken → M → Found t M c d
 found_here t M c d p h k = record { taken = p.taken; parts = p.parts; at = p.at; end = p.end; fits = p.fits; spelled = h; kept = k }
