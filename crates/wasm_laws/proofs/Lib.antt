@@ -32,3 +32,5 @@ pub mod SpeltRows
 pub mod Lasts
 pub mod Describing
 pub mod Described
+pub mod Rereading
+pub mod WholeModules
