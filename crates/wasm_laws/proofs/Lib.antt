@@ -34,3 +34,4 @@ pub mod Describing
 pub mod Described
 pub mod Rereading
 pub mod WholeModules
+pub mod OneReading
