@@ -1,5 +1,5 @@
 -- A module that is read whole is spelled by sections that keep the rules.
-use Rattle.std.proofs.Common.{◌≡◌, ◌≤◌, ◌<◌, ℕ, zero, suc, ◌+◌, List, [], ◌∷◌, ◌++◌, length, map, refl, sym, ap, subst, ◌∙◌, append_assoc, arith, length-append}
+use Rattle.std.proofs.Common.{◌≡◌, ◌≤◌, ◌<◌, ℕ, zero, suc, ◌+◌, List, [], ◌∷◌, ◌++◌, length, map, None, refl, sym, ap, subst, ◌∙◌, append_assoc, arith, length-append}
 use Rattle.wasm_defs.proofs.NumberLaws as numbers
 use Rattle.wasm_defs.specs.declared.item.Item.{Item}
 use Rattle.wasm_defs.specs.declared.item.Item.TheVariants.{Code}
@@ -7,11 +7,11 @@ use Rattle.wasm_defs.specs.Limits.{max_module}
 use Rattle.wasm_defs.specs.Context.{declared_count}
 use Rattle.wasm_defs.specs.Fields.{Cursor, fixed}
 use Rattle.wasm_defs.specs.Entries.{Seen, nothing}
-use Rattle.wasm_defs.specs.Outside.{Body, Part, Listed, Coded, no_end, Whole, Run, sections, sections_up_to, magic, version, preamble, beginning, module_run}
-use Rattle.wasm_defs.specs.Faults.{items_of, bodies_of}
+use Rattle.wasm_defs.specs.Outside.{Body, Part, Listed, Coded, no_end, Ending, Whole, Refused, Owed, Run, sections, sections_up_to, magic, version, preamble, beginning, module_run}
+use Rattle.wasm_defs.specs.Faults.{items_of, bodies_of, ending_fault, Module, IsModule}
 use Rattle.wasm_defs.specs.Items.{◌then◌, exactly, each_is, Section, Payload, Custom, Vector, Starting, Bodies, section_is, payload_items, payload_bodies, items_in, bodies_in, Items}
 use Rattle.wasm_defs.specs.Rules.{RulesAreKept}
-use Rattle.wasm_laws.specs.Sections.{parts_of, parts_in, Describes}
+use Rattle.wasm_laws.specs.Sections.{parts_of, parts_in, IsModuleOf}
 use Rattle.wasm_laws.proofs.Steady.{IfGot}
 use Rattle.wasm_laws.proofs.Counts.{bodies_match}
 use Rattle.wasm_laws.proofs.Spelt.{Ready, Found, found_then, later, then_got}
@@ -82,7 +82,7 @@ module_found bytes fits =
     let between : Between nothing d = record { ready = later (beginning bytes) d found ready; low = omega (arith, found.at); far = found.end; uncounted = λ lt. refl } in
     whole_as (Rest nothing d) (Behind bytes) (sections nothing d) (λ parts rest. record { stop = d; found = found; rest = rest }) (up_to_found (length d.rest + 1) nothing d between))
 
-described : (bytes : List ℕ) (parts : List Part) → Behind bytes parts → length (bodies_of parts) ≡ declared_count (items_of parts) → (sections : List Section) × Describes bytes sections × (parts ≡ parts_in sections)
+described : (bytes : List ℕ) (parts : List Part) → Behind bytes parts → length (bodies_of parts) ≡ declared_count (items_of parts) → (sections : List Section) × IsModuleOf sections bytes × (parts ≡ parts_in sections)
 described bytes parts b match =
     let s = b.found.spelled in
     let rest = b.rest in
@@ -108,8 +108,26 @@ described bytes parts b match =
     )
 
 -- a run that is whole describes its module
-pub whole_is_described : (bytes : List ℕ) (parts : List Part) → numbers.AreBytes bytes → (seen : Seen) → module_run bytes ≡ record { parts = parts; ending = Whole seen } → (sections : List Section) × Describes bytes sections × (parts ≡ parts_in sections)
+pub whole_is_described : (bytes : List ℕ) (parts : List Part) → numbers.AreBytes bytes → (seen : Seen) → module_run bytes ≡ record { parts = parts; ending = Whole seen } → (sections : List Section) × IsModuleOf sections bytes × (parts ≡ parts_in sections)
 whole_is_described bytes parts fits seen e =
     let same : (module_run bytes).parts ≡ parts = ap (λ (r : Run). r.parts) e in
     let ends : (module_run bytes).ending ≡ Whole seen = ap (λ (r : Run). r.ending) e in
     described bytes parts (subst (Behind bytes) same (module_found bytes fits seen ends)) (subst (λ (l : List Part). length (bodies_of l) ≡ declared_count (items_of l)) same (bodies_match bytes seen ends))
+
+no_fault : (len : ℕ) (ending : Ending) → ending_fault len ending ≡ None → (seen : Seen) × (ending ≡ Whole seen)
+no_fault len (Whole seen) e = (seen, refl)
+no_fault len (Refused r) e = absurd cc
+no_fault len Owed e = absurd cc
+
+-- the items and bodies of a module
+pub module_is_described : (bytes : List ℕ) (m : Module) → numbers.AreBytes bytes → IsModule bytes m → (sections : List Section) × IsModuleOf sections bytes × (m.items ≡ items_in sections) × (m.bodies ≡ bodies_in sections)
+module_is_described bytes m fits is =
+    let run = module_run bytes in
+    let whole = no_fault (length bytes) run.ending is.whole in
+    let d = whole_is_described bytes run.parts fits whole.0 (ap (λ (z : Ending). record { parts = run.parts; ending = z }) whole.1) in
+    (
+      d.0,
+      d.1,
+      is.items ∙ ap items_of d.2 ∙ items_of_parts d.0,
+      is.bodies ∙ ap bodies_of d.2 ∙ bodies_of_parts d.0,
+    )
