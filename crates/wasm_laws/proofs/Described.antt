@@ -1,22 +1,22 @@
 -- A module that is read whole is spelled by sections that keep the rules.
-use Rattle.std.proofs.Common.{◌≡◌, ◌≤◌, ◌<◌, ℕ, zero, suc, ◌+◌, List, [], ◌∷◌, ◌++◌, length, map, None, refl, sym, ap, subst, ◌∙◌, append_assoc, arith, length-append}
+use Rattle.std.proofs.Common.{◌≡◌, ℕ, ◌+◌, List, [], ◌∷◌, ◌++◌, length, map, None, refl, sym, ap, subst, ◌∙◌, append_assoc, arith, length-append}
 use Rattle.wasm_defs.proofs.NumberLaws as numbers
 use Rattle.wasm_defs.specs.declared.item.Item.{Item}
 use Rattle.wasm_defs.specs.declared.item.Item.TheVariants.{Code}
-use Rattle.wasm_defs.specs.Limits.{max_module}
 use Rattle.wasm_defs.specs.Context.{declared_count}
 use Rattle.wasm_defs.specs.Fields.{Cursor, fixed}
 use Rattle.wasm_defs.specs.Entries.{Seen, nothing}
-use Rattle.wasm_defs.specs.Outside.{Body, Part, Listed, Coded, no_end, Ending, Whole, Refused, Owed, Run, sections, sections_up_to, magic, version, preamble, beginning, module_run}
+use Rattle.wasm_defs.specs.Outside.{Body, Part, Listed, Coded, Ending, Whole, Refused, Owed, Run, sections, magic, version, preamble, beginning, module_run}
 use Rattle.wasm_defs.specs.Faults.{items_of, bodies_of, ending_fault, Module, IsModule}
-use Rattle.wasm_defs.specs.Items.{◌then◌, exactly, each_is, Section, Payload, Custom, Vector, Starting, Bodies, section_is, payload_items, payload_bodies, items_in, bodies_in, Items}
-use Rattle.wasm_defs.specs.Rules.{RulesAreKept}
+use Rattle.wasm_defs.specs.Items.{◌then◌, exactly, each_is, Section, Payload, Custom, Vector, Starting, Bodies, section_is, payload_items, payload_bodies, items_in, bodies_in}
 use Rattle.wasm_laws.specs.Sections.{parts_of, parts_in, IsModuleOf}
 use Rattle.wasm_laws.proofs.Steady.{IfGot}
+use Rattle.wasm_laws.proofs.Parts.{then_got}
 use Rattle.wasm_laws.proofs.Counts.{bodies_match}
-use Rattle.wasm_laws.proofs.Spelt.{Ready, Found, found_then, later, then_got}
+use Rattle.wasm_laws.proofs.Spelt.{Ready, Found, found_then, later}
 use Rattle.wasm_laws.proofs.SpeltFields.{fixed_found}
-use Rattle.wasm_laws.proofs.Describing.{IfWhole, whole_on, whole_as, Rest, Between, up_to_found}
+use Rattle.wasm_laws.proofs.Describing.{IfWhole, whole_on, whole_as, Rest, Between}
+use Rattle.wasm_laws.proofs.Contents.{up_to_found}
 
 -- ---- items and bodies among parts
 
@@ -124,8 +124,7 @@ pub module_is_described : (bytes : List ℕ) (m : Module) → numbers.AreBytes b
 module_is_described bytes m fits is =
     let run = module_run bytes in
     let whole = no_fault (length bytes) run.ending is.whole in
-    let d = whole_is_described bytes run.parts fits whole.0 (ap (λ (z : Ending). record { parts = run.parts; ending = z }) whole.1) in
-    (
+    let d = whole_is_described bytes run.parts fits whole.0 (ap (λ (z : Ending). record { parts = run.parts; ending = z }) whole.1) in (
       d.0,
       d.1,
       is.items ∙ ap items_of d.2 ∙ items_of_parts d.0,

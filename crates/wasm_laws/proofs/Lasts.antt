@@ -1,5 +1,5 @@
 -- The rules don't ask which section came last, nor do items change that.
-use Rattle.std.proofs.Common.{◌≡◌, ◌≤◌, ◌<◌, ℕ, suc, ◌+◌, List, [], ◌∷◌, ◌++◌, length, refl, ap, ◌∙◌, subst, sym, arith}
+use Rattle.std.proofs.Common.{◌≡◌, ℕ, ◌+◌, List, [], ◌∷◌, refl, ap, ◌∙◌, sym, arith}
 use Rattle.wasm_defs.specs.declared.item.Extern.{Extern}
 use Rattle.wasm_defs.specs.declared.item.Extern.TheVariants as extern
 use Rattle.wasm_defs.specs.declared.item.Item.{Item}

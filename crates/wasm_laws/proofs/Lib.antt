@@ -31,6 +31,7 @@ pub mod SpeltItems
 pub mod SpeltRows
 pub mod Lasts
 pub mod Describing
+pub mod Contents
 pub mod Described
 pub mod Rereading
 pub mod WholeModules

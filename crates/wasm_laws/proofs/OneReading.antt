@@ -1,20 +1,18 @@
 -- The grammar has one reading of any bytes.
-use Rattle.std.proofs.Common.{◌≡◌, ◌≢◌, ◌⊎◌, inl, inr, ◌≤◌, ◌<◌, ℕ, zero, suc, ◌+◌, ℤ, pos, Bool, true, false, List, [], ◌∷◌, ◌++◌, length, take, Option, Some, None, refl, sym, ap, subst, ◌∙◌, append_assoc, arith, length-append}
+use Rattle.std.proofs.Common.{◌≡◌, ◌≢◌, ◌⊎◌, inl, inr, ◌≤◌, ℕ, ◌+◌, ℤ, pos, Bool, true, false, List, [], ◌∷◌, ◌++◌, length, take, Option, Some, None, refl, sym, ap, subst, ◌∙◌, append_assoc, arith, length-append}
 use Rattle.std.proofs.lemmas.List.{append_cancel_left, take_at}
 use Rattle.wasm_defs.proofs.NumberLaws.{prefix_free}
 use Rattle.wasm_defs.specs.declared.types.ValType.{ValType}
 use Rattle.wasm_defs.specs.declared.types.ValType.TheVariants.{I32, I64}
-use Rattle.wasm_defs.specs.declared.types.FuncType.{FuncType}
 use Rattle.wasm_defs.specs.declared.item.Extern.{Extern}
 use Rattle.wasm_defs.specs.declared.item.Extern.TheVariants as extern
 use Rattle.wasm_defs.specs.declared.item.Limits.{Limits}
 use Rattle.wasm_defs.specs.declared.item.Constant.{Constant}
 use Rattle.wasm_defs.specs.declared.item.Item.{Item}
 use Rattle.wasm_defs.specs.declared.item.Item.TheVariants.{Signature, Imported, Function, Table, Memory, Global, Exported, Start, Element, Code, Segment}
-use Rattle.wasm_defs.specs.Numbers.{Spells}
 use Rattle.wasm_defs.specs.Entries.{const_opcode, bits_of}
-use Rattle.wasm_defs.specs.Outside.{Body, magic, version}
-use Rattle.wasm_defs.specs.Items.{Spelling, Joined, ◌then◌, exactly, each_is, byte_is, number_is, u32_is, vector_is, Sized, bytes_are, name_is, type_code, type_is, listed_type_is, bounds_are, limits_are, mutability_code, listed_index_is, constant_is, extern_code, item_is, section_of, body_is, AllOf, Section, Payload, Custom, Vector, Starting, Bodies, payload_id, HoldsVector, payload_is, section_is, Items}
+use Rattle.wasm_defs.specs.Outside.{Body}
+use Rattle.wasm_defs.specs.Items.{Spelling, Joined, ◌then◌, exactly, each_is, byte_is, number_is, u32_is, vector_is, Sized, bytes_are, name_is, type_code, listed_type_is, bounds_are, limits_are, mutability_code, listed_index_is, constant_is, extern_code, item_is, section_of, body_is, AllOf, Section, Payload, Custom, Vector, Starting, Bodies, payload_id, HoldsVector, payload_is, section_is, Items}
 
 -- two things that bytes begin with are one, and so is what is left
 record Same {A : Type 0} (x y : A) (f g b c : List ℕ) : Type 0 where
@@ -115,7 +113,6 @@ sized_one m n p q at f g b c s t e =
       front = s.parts ∙ ap (λ (z : List ℕ). z ++ s.content) h.front ∙ ap (λ (z : List ℕ). t.front ++ z) l.0 ∙ sym t.parts;
       back = l.1;
     }
-
 
 bytes_one : (m n : ℕ × List ℕ) (at : ℕ) (f g b c : List ℕ) → bytes_are m at f → bytes_are n at g → f ++ b ≡ g ++ c → Same m n f g b c
 bytes_one m n at f g b c s t e =

@@ -1,26 +1,22 @@
 -- Sections that keep the rules are read whole, with their parts.
-use Rattle.std.proofs.Common.{◌≡◌, ◌≢◌, ◌≤◌, ◌<◌, ℕ, zero, suc, ◌+◌, ◌-◌, Bool, true, false, not, ◌&&◌, ◌||◌, ltb, leb, eqb, cond, if◌then◌else◌, List, [], ◌∷◌, ◌++◌, length, map, refl, sym, ap, subst, ◌∙◌, append_assoc, add-one, arith, length-append, inl, inr}
+use Rattle.std.proofs.Common.{◌≡◌, ◌≤◌, ◌<◌, ℕ, suc, ◌+◌, ◌-◌, Bool, true, false, not, ◌&&◌, ltb, leb, eqb, cond, if◌then◌else◌, List, [], ◌∷◌, ◌++◌, length, map, refl, sym, ap, ◌∙◌, append_assoc, add-one, arith, length-append, inl, inr}
 use Rattle.std.specs.List.{All}
-use Rattle.std.proofs.lemmas.Bool.{cases_Bool, cases_eq, cases_lt, eq-eqb, ne_eqb, le-ltb, lt-ltb, lt-leb}
+use Rattle.std.proofs.lemmas.Bool.{cases_eq, eq-eqb, ne_eqb, le-ltb, lt-leb}
 use Rattle.std.proofs.lemmas.List.Elements.{All-head, All-tail}
 use Rattle.wasm_defs.specs.declared.fault.Kind.TheVariants.{Malformed, Unsupported, Limit}
 use Rattle.wasm_defs.specs.declared.item.Item.{Item}
-use Rattle.wasm_defs.specs.declared.item.Item.TheVariants.{Signature, Imported, Function, Table, Memory, Global, Exported, Start, Element, Code, Segment}
+use Rattle.wasm_defs.specs.declared.item.Item.TheVariants.{Start, Code}
 use Rattle.wasm_defs.specs.Limits.{max_module, max_body}
-use Rattle.wasm_defs.specs.Context.{declared_count}
-use Rattle.wasm_defs.specs.Fields.{Cursor, Read, Got, Fault, Wants, Reader, then_go, ◌>>=◌, done, refused, byte, u32, here, room_of}
-use Rattle.wasm_defs.specs.Entries.{Seen, nothing, note, code, start}
-use Rattle.wasm_defs.specs.Outside as outside
-use Rattle.wasm_defs.specs.Outside.{Body, Part, Listed, Coded, Nothing, listed, body, custom_name, rest_of_section, code_entry, Row, entries_of, row, is_misplaced, header, entered, noted, inside, no_end, section_end, Ending, Whole, Run, after_part, runs_on, Next, finish, entries, contents, section, owes_code, at_the_end, or_section, sections_up_to}
-use Rattle.wasm_defs.specs.Items.{Spelling, Joined, ◌then◌, exactly, each_is, byte_is, u32_is, vector_is, Sized, name_is, body_is, listed_index_is, item_is, section_of, AllOf, Section, Payload, Custom, Vector, Starting, Bodies, payload_id, HoldsVector, payload_is, section_is, payload_items, payload_bodies, items_in, bodies_in, StandsBehind, last_with, AreInOrder}
-use Rattle.wasm_defs.specs.Rules.{AllKeep, all_noted, IsSmall, SectionsKeep}
-use Rattle.wasm_laws.specs.Sections.{parts_of, parts_in}
-use Rattle.wasm_laws.proofs.Headers.{Follows, entered_as}
-use Rattle.wasm_laws.proofs.Sorts.{count_cons}
-use Rattle.wasm_laws.proofs.Spelt.{cursor, Reads, reads_on}
+use Rattle.wasm_defs.specs.Fields.{Cursor, Read, Got, Reader, then_go, ◌>>=◌, done, refused, u32, here}
+use Rattle.wasm_defs.specs.Entries.{Seen, nothing, note, code}
+use Rattle.wasm_defs.specs.Outside.{Body, Part, Listed, Coded, Nothing, listed, body, code_entry, Row, entries_of, row, is_misplaced, header, noted, no_end, section_end, Run, after_part, runs_on, Next, finish, entries, contents, owes_code}
+use Rattle.wasm_defs.specs.Items.{Spelling, Joined, ◌then◌, each_is, u32_is, name_is, body_is, item_is, AllOf, Custom, Vector, Bodies, payload_is}
+use Rattle.wasm_defs.specs.Rules.{AllKeep, all_noted, IsSmall}
+use Rattle.wasm_laws.specs.Sections.{parts_of}
+use Rattle.wasm_laws.proofs.Headers.{Follows}
+use Rattle.wasm_laws.proofs.Spelt.{cursor, reads_on}
 use Rattle.wasm_laws.proofs.SpeltFields.{byte_spelt, u32_spelt}
-use Rattle.wasm_laws.proofs.SpeltRows.{VectorRow, vector_row, start_read, custom_read, rest_read, code_read, body_read}
-use Rattle.wasm_laws.proofs.Lasts.{all_keep_last, all_noted_last, small_last, sections_keep_last, all_last, all_declared, all_counted}
+use Rattle.wasm_laws.proofs.SpeltRows.{VectorRow, start_read, custom_read, rest_read, code_read, body_read}
 
 -- parts before those of a run
 abbrev pub prepend : List Part → Run → Run

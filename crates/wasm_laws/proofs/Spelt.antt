@@ -1,11 +1,12 @@
 -- Readers that read what a grammar spells: a value that is got was spelled and keeps its rule, and a spelling that keeps the
 -- rule is read as its value, whatever follows.
-use Rattle.std.proofs.Common.{◌≡◌, ◌≤◌, ℕ, zero, suc, ◌+◌, Bool, true, false, cond, List, [], ◌∷◌, ◌++◌, length, refl, sym, ap, subst, ◌∙◌, append_assoc, arith, length-append}
+use Rattle.std.proofs.Common.{◌≡◌, ◌≤◌, ℕ, ◌+◌, Bool, true, false, cond, List, [], ◌∷◌, ◌++◌, length, refl, sym, ap, subst, ◌∙◌, append_assoc, arith, length-append}
 use Rattle.wasm_defs.proofs.NumberLaws.{AreBytes}
 use Rattle.wasm_defs.specs.declared.fault.Kind.{Kind}
-use Rattle.wasm_defs.specs.Fields.{Cursor, Read, Got, Fault, Wants, Reader, then_go, ◌>>=◌, done, refused, repeated}
-use Rattle.wasm_defs.specs.Items.{Spelling, Joined, ◌then◌, exactly, each_is}
-use Rattle.wasm_laws.proofs.Steady.{IfGot, Advance, no_advance, advance_then}
+use Rattle.wasm_defs.specs.Fields.{Cursor, Read, Got, Reader, then_go, ◌>>=◌, done, refused}
+use Rattle.wasm_defs.specs.Items.{Spelling, Joined, ◌then◌, exactly}
+use Rattle.wasm_laws.proofs.Steady.{IfGot}
+use Rattle.wasm_laws.proofs.Parts.{then_got}
 
 abbrev pub cursor : ℕ → List ℕ → ℕ → Cursor
 cursor at rest end = record { at = at; rest = rest; end = end }
@@ -42,9 +43,6 @@ bytes_behind (b ∷ front) back h = bytes_behind front back h.1
 pub later : {s : Spelling} {K : Type 0} (c d : Cursor) → Found s K c d → Ready c → Ready d
 later c d p h = record { low = omega (arith, p.at, p.end, p.fits); bytes = bytes_behind p.taken d.rest (subst AreBytes p.parts h.bytes) }
 
-pub found_by : (s : Spelling) (K : Type 0) (c d : Cursor) (p : Advance c d) → Ready c → s c.at p.taken → K → Found s K c d
-found_by s K c d p ready h k = record { taken = p.taken; parts = p.parts; at = p.at; end = p.end; fits = omega (arith, p.fits, ready.low); spelled = h; kept = k }
-
 pub found_nothing : (c : Cursor) (K : Type 0) → Ready c → K → Found (exactly []) K c c
 found_nothing c K ready h = record { taken = []; parts = refl; at = omega arith; end = refl; fits = omega (arith, ready.low); spelled = refl; kept = h }
 
@@ -80,11 +78,6 @@ found_here t M c d p h k = record { taken = p.taken; parts = p.parts; at = p.at;
 
 pub found_as : {s : Spelling} {K : Type 0} (t : Spelling) (M : Type 0) (c d : Cursor) → Found s K c d → ((at : ℕ) (bytes : List ℕ) → s at bytes → t at bytes) → M → Found t M c d
 found_as t M c d p f h = found_here t M c d p (f c.at p.taken p.spelled) h
-
-pub then_got : {A B : Type 0} (P : A → Cursor → Type 0) (Q : B → Cursor → Type 0) (x : Read A) (f : A → Reader B) → IfGot P x → ((a : A) (d : Cursor) → P a d → IfGot Q (f a d)) → IfGot Q (then_go x f)
-then_got P Q (Got a d) f p h = h a d p
-then_got P Q (Fault r) f p h = tt
-then_got P Q Wants f p h = tt
 
 -- what is read next, and what was found of it
 pub read : {A B : Type 0} (S : A → Spelling) (K : A → Type 0) (p : Reader A) (f : A → Reader B) (Q : B → Cursor → Type 0) (c : Cursor) → Spelt S K p → Ready c

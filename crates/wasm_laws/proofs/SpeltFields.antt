@@ -1,15 +1,15 @@
 -- Bytes, numbers and runs of bytes are read as they are spelled.
-use Rattle.std.proofs.Common.{◌≡◌, ◌≤◌, ◌<◌, ◌⊎◌, inl, inr, ℕ, zero, suc, ◌+◌, ◌-◌, ◌*◌, ◌^◌, ℤ, pos, ◌+ℤ◌, Bool, true, false, List, [], ◌∷◌, ◌++◌, length, take, drop, refl, sym, ap, subst, ◌∙◌, add-one, arith, length-append, length-take, ltb, eqb}
-use Rattle.std.specs.Prelude.{◌*ℤ◌, negsuc, nat_lt}
+use Rattle.std.proofs.Common.{◌≡◌, ◌≤◌, inl, inr, ℕ, zero, suc, ◌+◌, ◌-◌, ◌*◌, ◌^◌, ℤ, pos, ◌+ℤ◌, Bool, true, false, List, [], ◌∷◌, ◌++◌, length, take, drop, refl, sym, ap, subst, ◌∙◌, add-one, arith, length-append, length-take, eqb}
+use Rattle.std.specs.Prelude.{◌*ℤ◌}
 use Rattle.std.proofs.lemmas.Bool.{cases_Bool, cases_lt, lt-ltb, le-ltb, eq-eqb, eqb-true, and_from, and_parts}
-use Rattle.std.proofs.lemmas.List.{take-take, take-append-drop, drop_at, take_at, append-nil}
+use Rattle.std.proofs.lemmas.List.{take-take, take-append-drop, drop_at, take_at}
 use Rattle.wasm_defs.proofs.NumberLaws.{AreBytes, reading_means, last_below}
-use Rattle.wasm_defs.specs.Numbers.{IsLastByte, Spells, BeginsWithNumber, Reading, Number, CutOff, Bad, Means, last_byte, after_byte, number_at}
-use Rattle.wasm_defs.specs.Fields.{Cursor, Read, Got, Fault, Wants, Reader, then_go, done, nat_of, past, room_of, window, cut, first_of, byte, from_reading, number, u32, run, fixed, agree}
+use Rattle.wasm_defs.specs.Numbers.{IsLastByte, Spells, Reading, Number, CutOff, Bad, Means, last_byte, after_byte, number_at}
+use Rattle.wasm_defs.specs.Fields.{Cursor, Read, Got, Fault, Wants, then_go, done, nat_of, past, window, first_of, byte, from_reading, number, u32, run, fixed, agree}
 use Rattle.wasm_defs.specs.Items.{Spelling, exactly, byte_is, number_is, u32_is}
 use Rattle.wasm_laws.proofs.Steady.{IfGot}
 use Rattle.wasm_laws.proofs.Windows.{window_short, take_over, cut_got}
-use Rattle.wasm_laws.proofs.Spelt.{cursor, Ready, Found, found_as, Reads, reads_last, Spelt, then_got}
+use Rattle.wasm_laws.proofs.Spelt.{cursor, Ready, Found, found_as, reads_last, Spelt}
 
 abbrev pub Always : {A : Type 0} → A → Type 0
 Always x = Unit {0}

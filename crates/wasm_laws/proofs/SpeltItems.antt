@@ -1,20 +1,20 @@
 -- Items are read as they are spelled, and keep their rules.
-use Rattle.std.proofs.Common.{◌≡◌, ◌≤◌, ◌<◌, ℕ, ◌+◌, Bool, true, false, ltb, eqb, if◌then◌else◌, List, [], ◌∷◌, length, Option, Some, None, is_some, refl, sym, ap, subst, ◌∙◌, arith}
+use Rattle.std.proofs.Common.{◌≡◌, ◌≤◌, ◌<◌, ℕ, ltb, eqb, List, length, is_some, refl, arith}
 use Rattle.std.specs.List.{All}
 use Rattle.std.specs.FinMap as map
-use Rattle.std.proofs.lemmas.Bool.{le-ltb, lt-ltb, ltb-false, eqb-true}
+use Rattle.std.proofs.lemmas.Bool.{ltb-false, eqb-true}
 use Rattle.wasm_defs.specs.declared.fault.Kind.TheVariants.{Malformed, Unsupported, Invalid}
 use Rattle.wasm_defs.specs.declared.types.ValType.{ValType}
 use Rattle.wasm_defs.specs.declared.types.ValType.TheVariants.{I32}
 use Rattle.wasm_defs.specs.declared.item.Item.{Item}
-use Rattle.wasm_defs.specs.declared.item.Item.TheVariants.{Signature, Imported, Function, Table, Memory, Global, Exported, Start, Element, Code, Segment}
+use Rattle.wasm_defs.specs.declared.item.Item.TheVariants.{Signature, Imported, Function, Table, Memory, Global, Exported, Element, Segment}
 use Rattle.wasm_defs.specs.Limits.{max_params, max_table, max_pages, top_pages, top_rows}
 use Rattle.wasm_defs.specs.Fields.{Cursor, Reader, byte, u32, count, vector, counted_bytes, name}
-use Rattle.wasm_defs.specs.Entries.{Seen, space, index, value_type, listed_type, limits, constant, results, signature, imported, function, table, memory, mutability, global, extern_kind, exported, start, sole, listed_index, element, segment}
-use Rattle.wasm_defs.specs.Items.{Spelling, ◌then◌, byte_is, u32_is, vector_is, name_is, listed_type_is, listed_index_is, bytes_are, constant_is, type_is, limits_are, mutability_code, extern_code, item_is, section_of}
+use Rattle.wasm_defs.specs.Entries.{Seen, space, index, value_type, listed_type, limits, constant, results, signature, imported, function, table, memory, mutability, global, extern_kind, exported, sole, listed_index, element, segment}
+use Rattle.wasm_defs.specs.Items.{u32_is, vector_is, listed_type_is, listed_index_is, limits_are, item_is, section_of}
 use Rattle.wasm_defs.specs.Rules.{Keeps}
 use Rattle.wasm_laws.proofs.Steady.{IfGot}
-use Rattle.wasm_laws.proofs.Spelt.{Ready, Found, found_then, found_as, read, unless, provided, Reads, reads_then, reads_on, reads_last, reads_if, reads_else, Spelt}
+use Rattle.wasm_laws.proofs.Spelt.{Ready, Found, found_then, found_as, read, unless, provided, Reads, reads_then, reads_on, reads_else, Spelt}
 use Rattle.wasm_laws.proofs.SpeltFields.{Always, byte_spelt, u32_spelt}
 use Rattle.wasm_laws.proofs.SpeltLists.{vector_spelt, counted_bytes_spelt}
 use Rattle.wasm_laws.proofs.SpeltNames.{name_spelt}

@@ -1,14 +1,14 @@
 -- What stands behind its count or its size is read as it is spelled.
-use Rattle.std.proofs.Common.{◌≡◌, ◌≤◌, ◌<◌, ℕ, zero, suc, ◌+◌, ◌-◌, Bool, true, false, ltb, if◌then◌else◌, List, [], ◌∷◌, ◌++◌, length, refl, sym, ap, subst, ◌∙◌, append_assoc, arith, length-append}
+use Rattle.std.proofs.Common.{◌≡◌, ◌≤◌, ℕ, zero, suc, ◌+◌, ◌-◌, Bool, false, ltb, if◌then◌else◌, List, [], ◌∷◌, ◌++◌, length, refl, sym, ap, subst, ◌∙◌, append_assoc, arith, length-append}
 use Rattle.std.specs.List.{All}
-use Rattle.std.proofs.lemmas.Bool.{cases_Bool, le-ltb, ltb-false}
+use Rattle.std.proofs.lemmas.Bool.{le-ltb}
 use Rattle.std.proofs.lemmas.List.Elements.{All-nil, All-cons, All-head, All-tail}
 use Rattle.wasm_defs.specs.declared.fault.Kind.{Kind}
-use Rattle.wasm_defs.specs.declared.fault.Kind.TheVariants.{Malformed, Limit}
-use Rattle.wasm_defs.specs.Fields.{Cursor, Read, Got, Fault, Wants, Reader, then_go, ◌>>=◌, done, refused, repeated, room_of, u32, count, vector, run, room, counted_bytes}
-use Rattle.wasm_defs.specs.Items.{Spelling, Joined, ◌then◌, exactly, each_is, u32_is, vector_is, Sized, bytes_are}
+use Rattle.wasm_defs.specs.declared.fault.Kind.TheVariants.{Malformed}
+use Rattle.wasm_defs.specs.Fields.{Cursor, Read, Got, Fault, Wants, Reader, then_go, ◌>>=◌, done, refused, repeated, room_of, u32, vector, run, room, counted_bytes}
+use Rattle.wasm_defs.specs.Items.{Spelling, ◌then◌, exactly, each_is, u32_is, vector_is, Sized, bytes_are}
 use Rattle.wasm_laws.proofs.Steady.{IfGot}
-use Rattle.wasm_laws.proofs.Spelt.{cursor, Ready, Found, found_nothing, found_then, found_as, read, unless, Reads, reads_then, reads_on, reads_last, reads_else, Spelt}
+use Rattle.wasm_laws.proofs.Spelt.{cursor, Ready, Found, found_nothing, found_then, found_as, read, unless, Reads, reads_then, reads_on, reads_last, Spelt}
 use Rattle.wasm_laws.proofs.SpeltFields.{Always, u32_spelt, run_spelt}
 
 -- ---- one after the other

@@ -1,5 +1,5 @@
 -- Names are read as they are spelled.
-use Rattle.std.proofs.Common.{◌≡◌, ◌≤◌, ◌<◌, ℕ, ◌+◌, ◌-◌, ℤ, pos, Bool, true, false, ltb, List, [], ◌∷◌, ◌++◌, length, take, drop, refl, sym, ap, subst, ◌∙◌, append_assoc, arith, length-append, length-take, length-drop, inl, inr}
+use Rattle.std.proofs.Common.{◌≡◌, ◌≤◌, ℕ, ◌+◌, ◌-◌, ℤ, pos, true, false, ltb, List, ◌++◌, length, take, drop, refl, sym, ap, subst, ◌∙◌, append_assoc, arith, length-append, length-take, length-drop, inl, inr}
 use Rattle.std.proofs.lemmas.Bool.{cases_Bool, cases_lt, lt-ltb, le-ltb, ltb-false}
 use Rattle.std.proofs.lemmas.List.{take-take, take-append-drop, drop_at, take_at, drop-take}
 use Rattle.wasm_defs.proofs.NumberLaws.{reading_means}
@@ -7,7 +7,7 @@ use Rattle.wasm_defs.specs.Numbers.{Spells, Reading, Number, CutOff, Bad, Means,
 use Rattle.wasm_defs.specs.Limits.{max_name}
 use Rattle.wasm_defs.specs.Text.{between, completes}
 use Rattle.wasm_defs.specs.Fields.{Cursor, Got, nat_of, past, room_of, window, text_after, least, length_owed, name_from, name}
-use Rattle.wasm_defs.specs.Items.{Spelling, exactly, u32_is, Sized, bytes_are, name_is}
+use Rattle.wasm_defs.specs.Items.{u32_is, name_is}
 use Rattle.wasm_laws.proofs.Steady.{IfGot}
 use Rattle.wasm_laws.proofs.Utf8.{utf8_completes, completes_utf8}
 use Rattle.wasm_laws.proofs.Spelt.{cursor, Ready, Found, Spelt}

@@ -1,22 +1,19 @@
 -- Parts of entries are read as they are spelled.
-use Rattle.std.proofs.Common.{inl, inr, ◌≡◌, ◌≤◌, ◌<◌, ℕ, ◌+◌, ℤ, Bool, true, false, ltb, eqb, ◌||◌, ◌&&◌, cond, ◌==◌, pos, if◌then◌else◌, List, [], ◌∷◌, length, Option, Some, None, refl, sym, ap, subst, ◌∙◌, arith}
-use Rattle.std.specs.List.{All}
+use Rattle.std.proofs.Common.{inl, inr, ◌≡◌, ◌≤◌, ◌<◌, ℕ, Bool, true, false, ltb, eqb, ◌||◌, ◌&&◌, pos, if◌then◌else◌, List, [], ◌∷◌, Option, Some, None, refl, sym, ap, subst, ◌∙◌, arith}
 use Rattle.std.proofs.lemmas.Bool.{cases_Bool, cases_eq, le-ltb, lt-ltb, ltb-true, ltb-false, eqb-true, eqb-false, eq-eqb, ne_eqb, or_parts, or_from, and_parts, and_from}
 use Rattle.wasm_defs.specs.declared.fault.Kind.{Kind}
-use Rattle.wasm_defs.specs.declared.fault.Kind.TheVariants.{Malformed, Unsupported, Limit, Invalid}
+use Rattle.wasm_defs.specs.declared.fault.Kind.TheVariants.{Malformed, Limit, Invalid}
 use Rattle.wasm_defs.specs.declared.types.ValType.{ValType}
 use Rattle.wasm_defs.specs.declared.types.ValType.TheVariants.{I32, I64}
-use Rattle.wasm_defs.specs.declared.item.Extern.{Extern}
 use Rattle.wasm_defs.specs.declared.item.Extern.TheVariants as extern
-use Rattle.wasm_defs.specs.declared.item.Limits.{Limits}
 use Rattle.wasm_defs.specs.declared.item.Constant.{Constant}
 use Rattle.wasm_defs.specs.Numbers.{Spells}
 use Rattle.wasm_defs.specs.Fields.{Cursor, Read, Got, Fault, Wants, Reader, then_go, ◌>>=◌, done, refused, byte, number, u32, count}
-use Rattle.wasm_defs.specs.Entries.{index, value_type, listed_type, limits, const_opcode, bits_of, wrong_opcode, constant, results, mutability, extern_kind, sole, listed_index}
-use Rattle.wasm_defs.specs.Items.{Spelling, ◌then◌, exactly, byte_is, number_is, u32_is, type_code, type_is, listed_type_is, bounds_are, limits_are, mutability_code, listed_index_is, constant_is, extern_code}
+use Rattle.wasm_defs.specs.Entries.{index, value_type, listed_type, limits, const_opcode, bits_of, constant, results, mutability, extern_kind, sole, listed_index}
+use Rattle.wasm_defs.specs.Items.{Spelling, ◌then◌, byte_is, u32_is, type_code, type_is, listed_type_is, bounds_are, limits_are, mutability_code, listed_index_is, constant_is, extern_code}
 use Rattle.wasm_defs.specs.Rules.{IsUpTo, LimitsKeep, IsSole}
 use Rattle.wasm_laws.proofs.Steady.{IfGot}
-use Rattle.wasm_laws.proofs.Spelt.{Ready, Found, found_then, found_as, read, unless, provided, Reads, reads_then, reads_on, reads_last, reads_if, reads_else, Spelt}
+use Rattle.wasm_laws.proofs.Spelt.{Ready, Found, found_then, found_as, read, unless, provided, Reads, reads_then, reads_on, reads_if, reads_else, Spelt}
 use Rattle.wasm_laws.proofs.SpeltFields.{Always, byte_spelt, number_spelt, u32_spelt}
 use Rattle.wasm_laws.proofs.SpeltLists.{checked_spelt}
 use Rattle.wasm_laws.proofs.Parts.{either_got}

@@ -1,6 +1,6 @@
 -- What stands in a section is read as it is spelled: counts, bodies, and the rows of the sections that hold vectors.
-use Rattle.std.proofs.Common.{◌≡◌, ◌≢◌, ◌≤◌, ◌<◌, ℕ, ◌+◌, ◌-◌, pos, Bool, true, false, ltb, eqb, ◌||◌, if◌then◌else◌, List, [], ◌∷◌, ◌++◌, length, refl, sym, ap, subst, ◌∙◌, arith, inl, inr}
-use Rattle.std.proofs.lemmas.Bool.{cases_eq, le-ltb, lt-ltb, ltb-false, eqb-true, eq-eqb, ne_eqb, or_parts, or_from}
+use Rattle.std.proofs.Common.{◌≡◌, ◌≢◌, ◌≤◌, ◌<◌, ℕ, ◌+◌, ◌-◌, pos, Bool, false, ltb, eqb, ◌||◌, if◌then◌else◌, List, ◌++◌, length, refl, sym, ap, subst, ◌∙◌, arith, inl, inr}
+use Rattle.std.proofs.lemmas.Bool.{cases_eq, le-ltb, ltb-false, eq-eqb, ne_eqb, or_parts, or_from}
 use Rattle.wasm_defs.specs.declared.fault.Kind.{Kind}
 use Rattle.wasm_defs.specs.declared.fault.Kind.TheVariants.{Malformed, Limit, Invalid}
 use Rattle.wasm_defs.specs.declared.item.Item.{Item}
@@ -9,11 +9,11 @@ use Rattle.wasm_defs.specs.Limits.{max_entries, max_body}
 use Rattle.wasm_defs.specs.Numbers.{Spells}
 use Rattle.wasm_defs.specs.Fields.{Cursor, Read, Got, Fault, Wants, Reader, then_go, ◌>>=◌, done, refused, room_of, u32, count, run, room, here, stop, name}
 use Rattle.wasm_defs.specs.Entries.{Seen, index, signature, imported, function, table, memory, global, exported, start, element, code, segment}
-use Rattle.wasm_defs.specs.Outside.{Body, Part, Listed, Coded, listed, body, number_of, at_most_one, function_count, custom_name, rest_of_section, Row, entries_of, row}
-use Rattle.wasm_defs.specs.Items.{Spelling, exactly, u32_is, Sized, body_is, listed_index_is, name_is, item_is, HoldsVector}
+use Rattle.wasm_defs.specs.Outside.{Body, Part, Listed, Coded, listed, body, number_of, at_most_one, function_count, custom_name, rest_of_section, entries_of, row}
+use Rattle.wasm_defs.specs.Items.{Spelling, exactly, u32_is, body_is, listed_index_is, name_is, HoldsVector}
 use Rattle.wasm_defs.specs.Rules.{most_of}
 use Rattle.wasm_laws.proofs.Steady.{IfGot}
-use Rattle.wasm_laws.proofs.Spelt.{cursor, Ready, Found, found_here, found_as, read, unless, provided, Reads, reads_on, Spelt}
+use Rattle.wasm_laws.proofs.Spelt.{cursor, Ready, Found, found_here, found_as, read, unless, Reads, reads_on, Spelt}
 use Rattle.wasm_laws.proofs.SpeltFields.{Always, u32_spelt, run_spelt}
 use Rattle.wasm_laws.proofs.SpeltLists.{found_sized, ReadsContent, reads_sized}
 use Rattle.wasm_laws.proofs.SpeltNames.{IsShort, name_spelt}
@@ -73,48 +73,22 @@ limited_row id entry is most other spelt = record { front = λ s. number_of max_
 one_row : (id : ℕ) (entry : Seen → Reader Item) → row id ≡ entries_of (λ s. at_most_one) entry → most_of id ≡ 1 → id ≢ 3 → SpeltEntry id entry → VectorRow id
 one_row id entry is most other spelt = record { front = λ s. at_most_one; entry = entry; is = is; few = one_few id most other; spelt = spelt }
 
-at_id : (id k : ℕ) → id ≡ k → VectorRow k → VectorRow id
-at_id id k e r = subst VectorRow (sym e) r
+-- that row, or another one
+row_or : (id k : ℕ) → VectorRow k → (id ≢ k → VectorRow id) → VectorRow id
+row_or id k r other = elim (cases_eq id k) [ inl e ↦ subst VectorRow (sym e) r | inr n ↦ other n ]
 
 pub vector_row : (id : ℕ) → HoldsVector id → VectorRow id
 vector_row id h =
-    elim (cases_eq id 1) [
-      | inl e ↦ at_id id 1 e (limited_row 1 signature refl refl (λ t. omega arith) signature_spelt)
-      | inr n1 ↦
-          elim (cases_eq id 2) [
-            | inl e ↦ at_id id 2 e (limited_row 2 imported refl refl (λ t. omega arith) imported_spelt)
-            | inr n2 ↦
-                elim (cases_eq id 3) [
-                  | inl e ↦ at_id id 3 e (record { front = function_count; entry = function; is = refl; few = function_few; spelt = function_spelt })
-                  | inr n3 ↦
-                      elim (cases_eq id 4) [
-                        | inl e ↦ at_id id 4 e (one_row 4 table refl refl (λ t. omega arith) table_spelt)
-                        | inr n4 ↦
-                            elim (cases_eq id 5) [
-                              | inl e ↦ at_id id 5 e (one_row 5 memory refl refl (λ t. omega arith) memory_spelt)
-                              | inr n5 ↦
-                                  elim (cases_eq id 6) [
-                                    | inl e ↦ at_id id 6 e (limited_row 6 global refl refl (λ t. omega arith) global_spelt)
-                                    | inr n6 ↦
-                                        elim (cases_eq id 7) [
-                                          | inl e ↦ at_id id 7 e (limited_row 7 exported refl refl (λ t. omega arith) exported_spelt)
-                                          | inr n7 ↦
-                                              elim (cases_eq id 9) [
-                                                | inl e ↦ at_id id 9 e (limited_row 9 element refl refl (λ t. omega arith) element_spelt)
-                                                | inr n9 ↦
-                                                    elim (cases_eq id 11) [
-                                                      | inl e ↦ at_id id 11 e (limited_row 11 segment refl refl (λ t. omega arith) segment_spelt)
-                                                      | inr n11 ↦
-                                                          absurd (let le = h.0 in let ge = h.1 in let a = h.2 in let b = h.3 in omega arith)
-                                                    ]
-                                              ]
-                                        ]
-                                  ]
-                            ]
-                      ]
-                ]
-          ]
-    ]
+    row_or id 1 (limited_row 1 signature refl refl (λ t. omega arith) signature_spelt) (λ n1.
+    row_or id 2 (limited_row 2 imported refl refl (λ t. omega arith) imported_spelt) (λ n2.
+    row_or id 3 (record { front = function_count; entry = function; is = refl; few = function_few; spelt = function_spelt }) (λ n3.
+    row_or id 4 (one_row 4 table refl refl (λ t. omega arith) table_spelt) (λ n4.
+    row_or id 5 (one_row 5 memory refl refl (λ t. omega arith) memory_spelt) (λ n5.
+    row_or id 6 (limited_row 6 global refl refl (λ t. omega arith) global_spelt) (λ n6.
+    row_or id 7 (limited_row 7 exported refl refl (λ t. omega arith) exported_spelt) (λ n7.
+    row_or id 9 (limited_row 9 element refl refl (λ t. omega arith) element_spelt) (λ n9.
+    row_or id 11 (limited_row 11 segment refl refl (λ t. omega arith) segment_spelt) (λ n11.
+    absurd (let low = h.0 in let high = h.1 in let not_start = h.2 in let not_code = h.3 in omega arith))))))))))
 
 -- ---- the start function
 

@@ -1,24 +1,24 @@
 -- Modules of sections that keep the rules are read whole.
-use Rattle.std.proofs.Common.{◌≡◌, ◌≢◌, ◌≤◌, ◌<◌, ℕ, zero, suc, ◌+◌, ◌-◌, Bool, true, false, ◌&&◌, ltb, List, [], ◌∷◌, ◌++◌, length, map, refl, sym, ap, subst, ◌∙◌, append_assoc, arith, length-append, inl, inr}
-use Rattle.std.proofs.lemmas.Bool.{cases_Bool, cases_eq, cases_lt, eq-eqb, ne_eqb, le-ltb, lt-ltb}
+use Rattle.std.proofs.Common.{◌≡◌, ◌≢◌, ◌≤◌, ◌<◌, ℕ, zero, suc, ◌+◌, true, false, ltb, List, [], ◌∷◌, ◌++◌, length, map, refl, sym, ap, subst, ◌∙◌, append_assoc, arith, length-append, inl, inr}
+use Rattle.std.proofs.lemmas.Bool.{cases_Bool, cases_lt, ne_eqb, le-ltb}
 use Rattle.wasm_defs.specs.declared.item.Item.{Item}
-use Rattle.wasm_defs.specs.declared.item.Item.TheVariants.{Signature, Imported, Function, Table, Memory, Global, Exported, Start, Element, Code, Segment}
+use Rattle.wasm_defs.specs.declared.item.Item.TheVariants.{Function}
 use Rattle.wasm_defs.specs.Limits.{max_module}
 use Rattle.wasm_defs.specs.Context.{declared_count}
-use Rattle.wasm_defs.specs.Fields.{Cursor, Read, Got, then_go, done, fixed}
+use Rattle.wasm_defs.specs.Fields.{Read, Got, then_go, done, fixed}
 use Rattle.wasm_defs.specs.Entries.{Seen, nothing}
 use Rattle.wasm_defs.specs.Outside as outside
 use Rattle.wasm_defs.specs.Outside.{Body, Part, Row, row, header, entered, inside, no_end, Ending, Whole, Run, after_part, runs_on, Next, contents, section, owes_code, at_the_end, or_section, sections_up_to, sections, magic, version, preamble, beginning, module_run}
-use Rattle.wasm_defs.specs.Items.{Spelling, Joined, ◌then◌, exactly, each_is, byte_is, u32_is, Sized, AllOf, section_of, Section, Payload, Custom, Vector, Starting, Bodies, payload_id, payload_is, section_is, payload_items, payload_bodies, items_in, bodies_in, StandsBehind, last_with, AreInOrder}
+use Rattle.wasm_defs.specs.Items.{each_is, u32_is, AllOf, section_of, Section, Payload, Custom, Vector, Starting, Bodies, payload_id, payload_is, section_is, payload_items, payload_bodies, items_in, bodies_in, StandsBehind, last_with, AreInOrder}
 use Rattle.wasm_defs.specs.Rules.{AllKeep, all_noted, IsSmall, SectionsKeep}
 use Rattle.wasm_laws.specs.Sections.{parts_of, parts_in, IsModuleOf}
 use Rattle.wasm_laws.proofs.Headers.{Follows}
 use Rattle.wasm_laws.proofs.Sorts.{count_cons}
 use Rattle.wasm_laws.proofs.Spelt.{cursor}
 use Rattle.wasm_laws.proofs.SpeltFields.{fixed_read}
-use Rattle.wasm_laws.proofs.SpeltRows.{VectorRow, vector_row}
-use Rattle.wasm_laws.proofs.Lasts.{all_keep_last, all_noted_last, small_last, sections_keep_last, all_last, all_declared, all_counted}
-use Rattle.wasm_laws.proofs.Rereading.{prepend, Behind, joined_behind, header_read, vector_read, custom_read_whole, start_read_whole, code_read_whole}
+use Rattle.wasm_laws.proofs.SpeltRows.{vector_row}
+use Rattle.wasm_laws.proofs.Lasts.{all_keep_last, all_noted_last, sections_keep_last, all_last, all_declared, all_counted}
+use Rattle.wasm_laws.proofs.Rereading.{prepend, header_read, vector_read, custom_read_whole, start_read_whole, code_read_whole}
 
 -- ---- what stands behind a section
 
