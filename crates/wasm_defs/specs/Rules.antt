@@ -1,5 +1,5 @@
--- What a module keeps to outside its bodies besides its grammar: validation (WebAssembly Core 1.0, 3.4), and the limits of
--- this implementation.
+-- What a module keeps to outside its bodies besides its grammar: validation (WebAssembly Core 1.0, 3.4), but for the type of
+-- the start function (3.4.5), and the limits of this implementation.
 use Rattle.std.specs.Prelude.{◌≡◌, ◌<◌, ◌≤◌, ℕ, ◌+◌, ◌||◌, ◌==◌, false, List, [], ◌∷◌, length, Option, Some, None, is_some, if◌then◌else◌}
 use Rattle.std.specs.List.{All}
 use Rattle.std.specs.FinMap as map
@@ -24,8 +24,8 @@ LimitsKeep l most top = (l.min.1 ≤ most) × IsUpTo l.max l.min top
 abbrev pub IsSole : ℕ × ℕ → ℕ → Type 0
 IsSole index there = (index.1 ≡ 0) × (0 < there)
 
--- an item behind those that were seen: a type has one result at most (3.2.2); an index is one of what it counts, and an
--- export's name is new (3.4.10)
+-- an item behind those that were seen: a type has one result at most (3.2.2), limits are within their range (3.4.2, 3.4.3), an
+-- index is one of what it counts (3.4.1, 3.4.5 to 3.4.9), and an export's name is new (3.4.10)
 abbrev pub Keeps : Seen → Item → Type 0
 Keeps s (Signature form params results ty) = (length ty.params ≤ max_params) × (length ty.results ≤ 1)
 Keeps s (Imported from what kind type_index) = (length from.1 ≤ max_name) × (length what.1 ≤ max_name) × (type_index.1 < s.types)
@@ -39,6 +39,7 @@ Keeps s (Element table place functions) = IsSole table s.tables × All (λ i. i 
 Keeps s (Code count end) = Unit {0}
 Keeps s (Segment memory place bytes) = IsSole memory s.memories
 
+-- each behind those before it
 abbrev pub AllKeep : Seen → List Item → Type 0
 AllKeep s [] = Unit {0}
 AllKeep s (x ∷ xs) = Keeps s x × AllKeep (note s x) xs
@@ -54,18 +55,19 @@ abbrev pub most_of : ℕ → ℕ
 most_of id = if id == 4 || id == 5 then 1 else max_entries
 
 -- the limits on what a section holds; imports and functions together have one
-abbrev pub IsSmall : Seen → Payload → Type 0
-IsSmall s (Custom name) = length name.1 ≤ max_name
-IsSmall s (Vector id count items) = (length items ≤ most_of id) × (id ≡ 3 → s.functions + length items ≤ max_entries)
-IsSmall s (Starting index) = Unit {0}
-IsSmall s (Bodies count end bodies) = All (λ b. length b.bytes ≤ max_body) bodies
+abbrev pub MayHold : Seen → Payload → Type 0
+MayHold s (Custom name) = length name.1 ≤ max_name
+MayHold s (Vector id count items) = (length items ≤ most_of id) × (id ≡ 3 → s.functions + length items ≤ max_entries)
+MayHold s (Starting index) = Unit {0}
+MayHold s (Bodies count end bodies) = All (λ b. length b.bytes ≤ max_body) bodies
 
 abbrev pub SectionsKeep : Seen → List Section → Type 0
 SectionsKeep s [] = Unit {0}
-SectionsKeep s (x ∷ xs) = IsSmall s x.payload × AllKeep s (payload_items x.payload) × SectionsKeep (all_noted s (payload_items x.payload)) xs
+SectionsKeep s (x ∷ xs) = MayHold s x.payload × AllKeep s (payload_items x.payload) × SectionsKeep (all_noted s (payload_items x.payload)) xs
 
 -- ---- modules
 
+-- the bytes are as few as the limit says, and each section keeps the rules
 pub record RulesAreKept (bytes : List ℕ) (sections : List Section) : Type 0 where
   pub short : length bytes ≤ max_module
   pub each : SectionsKeep nothing sections

@@ -8,7 +8,7 @@ use Rattle.wasm_defs.specs.Entries.{Seen}
 use Rattle.wasm_defs.specs.Outside as outside
 use Rattle.wasm_defs.specs.Outside.{Body, Part, Listed, Coded, Nothing, listed, body, custom_name, rest_of_section, code_entry, Row, entries_of, row, is_misplaced, header, entered, noted, inside, no_end, left_over, section_end, Ending, Whole, Refused, Owed, Run, ends, after_part, runs_on, Next, finish, entries, contents, section, owes_code, at_the_end, or_section, sections_up_to}
 use Rattle.wasm_defs.specs.Items.{◌then◌, each_is, byte_is, u32_is, Section, Payload, Custom, Vector, Starting, Bodies, payload_id, payload_is, section_is, payload_items, StandsBehind, last_with, AreInOrder}
-use Rattle.wasm_defs.specs.Rules.{AllKeep, all_noted, IsSmall, SectionsKeep}
+use Rattle.wasm_defs.specs.Rules.{AllKeep, all_noted, MayHold, SectionsKeep}
 use Rattle.wasm_laws.specs.Sections.{parts_of, parts_in}
 use Rattle.wasm_laws.proofs.Steady.{IfGot}
 use Rattle.wasm_laws.proofs.Headers.{Follows, entered_as}
@@ -83,7 +83,7 @@ pub record Content (seen : Seen) (id : ℕ) (c : Cursor) (parts : List Part) : T
   pub found : Found (payload_is payload) (Unit {0}) c stop
   pub over : room_of stop ≡ 0
   pub id_is : payload_id payload ≡ id
-  pub small : IsSmall seen payload
+  pub small : MayHold seen payload
   pub kept : AllKeep seen (payload_items payload)
   pub tail : List Part
   pub is : parts ≡ parts_of payload ++ tail
@@ -112,7 +112,7 @@ module _ (c d : Cursor) (h : ℕ × ℕ) (hf : HeaderFound c d h) where
 
   -- with what follows it
   section_rest : (p : Payload) (K : Type 0) (f : Cursor) (seen next : Seen) (tail : List Part) → payload_id p ≡ h.0 → (pf : Found (payload_is p) K (inside d h.1) f) → room_of f ≡ 0
-      → StandsBehind seen.last p → IsSmall seen p → AllKeep seen (payload_items p) → next.last ≡ last_with seen.last p
+      → StandsBehind seen.last p → MayHold seen p → AllKeep seen (payload_items p) → next.last ≡ last_with seen.last p
       → ((xs : List Section) → SectionsKeep next xs → SectionsKeep (all_noted seen (payload_items p)) xs)
       → Rest next (inside f no_end) tail → Rest seen c (outside.Section c.at h.0 ∷ (parts_of p ++ tail))
   section_rest p K f seen next tail id pf over order small kept last keep rest =
@@ -168,7 +168,7 @@ content_rest c d h seen parts hf follows x =
         let t = entered seen h.0 in
         subst (λ (l : List Part). Rest seen c (outside.Section c.at h.0 ∷ l)) (sym x.is)
         (section_rest c d h hf x.payload (Unit {0}) x.stop seen (all_noted t (payload_items x.payload)) x.tail x.id_is x.found x.over k.0
-        (subst (λ (s : Seen). IsSmall s x.payload) same x.small)
+        (subst (λ (s : Seen). MayHold s x.payload) same x.small)
         (subst (λ (s : Seen). AllKeep s (payload_items x.payload)) same x.kept)
         (all_last t (payload_items x.payload) ∙ ap (λ (s : Seen). s.last) same ∙ sym k.1)
         (λ xs m. subst (λ (s : Seen). SectionsKeep (all_noted s (payload_items x.payload)) xs) same m)
@@ -182,7 +182,7 @@ content_rest c d h seen parts hf follows x =
         subst (λ (l : List Part). Rest seen c (outside.Section c.at h.0 ∷ l)) (sym x.is)
         (section_rest c d h hf x.payload (Unit {0}) x.stop seen (all_noted (entered seen h.0) items) x.tail x.id_is x.found x.over
         (behind_zero seen.last x.payload some_id (omega (arith, follows.later some, x.id_is)))
-        (small_last t seen.last x.payload (subst (λ (s : Seen). IsSmall s x.payload) same x.small))
+        (small_last t seen.last x.payload (subst (λ (s : Seen). MayHold s x.payload) same x.small))
         (all_keep_last t seen.last items (subst (λ (s : Seen). AllKeep s items) same x.kept))
         (all_last (entered seen h.0) items ∙ ap (λ (s : Seen). s.last) same ∙ sym x.id_is ∙ sym (last_some seen.last x.payload some_id))
         (λ xs m. unlast (all_noted seen items) h.0 xs (subst (λ (s : Seen). SectionsKeep s xs) (ap (λ (s : Seen). all_noted s items) same ∙ all_noted_last seen h.0 items) m))

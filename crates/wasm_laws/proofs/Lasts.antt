@@ -7,7 +7,7 @@ use Rattle.wasm_defs.specs.declared.item.Item.TheVariants.{Signature, Imported, 
 use Rattle.wasm_defs.specs.Context.{declared_count}
 use Rattle.wasm_defs.specs.Entries.{Seen, note, space}
 use Rattle.wasm_defs.specs.Items.{section_of, AllOf, Section, Payload, Custom, Vector, Starting, Bodies, payload_items}
-use Rattle.wasm_defs.specs.Rules.{Keeps, AllKeep, all_noted, IsSmall, SectionsKeep}
+use Rattle.wasm_defs.specs.Rules.{Keeps, AllKeep, all_noted, MayHold, SectionsKeep}
 use Rattle.wasm_laws.proofs.Sorts.{notes, count_cons}
 
 -- ---- rules
@@ -52,7 +52,7 @@ pub all_noted_last : (s : Seen) (l : ℕ) (xs : List Item) → all_noted (record
 all_noted_last s l [] = refl
 all_noted_last s l (x ∷ xs) = ap (λ (t : Seen). all_noted t xs) (note_last s l x) ∙ all_noted_last (note s x) l xs
 
-pub small_last : (s : Seen) (l : ℕ) (p : Payload) → IsSmall s p → IsSmall (record s { last = l }) p
+pub small_last : (s : Seen) (l : ℕ) (p : Payload) → MayHold s p → MayHold (record s { last = l }) p
 small_last s l (Custom name) h = h
 small_last s l (Vector id count items) h = h
 small_last s l (Starting index) h = h

@@ -11,7 +11,7 @@ use Rattle.wasm_defs.specs.Fields.{Cursor, Read, Got, Reader, then_go, ◌>>=◌
 use Rattle.wasm_defs.specs.Entries.{Seen, nothing, note, code}
 use Rattle.wasm_defs.specs.Outside.{Body, Part, Listed, Coded, Nothing, listed, body, code_entry, Row, entries_of, row, is_misplaced, header, noted, no_end, section_end, Run, after_part, runs_on, Next, finish, entries, contents, owes_code}
 use Rattle.wasm_defs.specs.Items.{Spelling, Joined, ◌then◌, each_is, u32_is, name_is, body_is, item_is, AllOf, Custom, Vector, Bodies, payload_is}
-use Rattle.wasm_defs.specs.Rules.{AllKeep, all_noted, IsSmall}
+use Rattle.wasm_defs.specs.Rules.{AllKeep, all_noted, MayHold}
 use Rattle.wasm_laws.specs.Sections.{parts_of}
 use Rattle.wasm_laws.proofs.Headers.{Follows}
 use Rattle.wasm_laws.proofs.Spelt.{cursor, reads_on}
@@ -107,7 +107,7 @@ module _ (id : ℕ) (r : VectorRow id) (next : Next) where
       ∙ ap (λ (z : Read Part). runs_on z (λ y d. after_part y (entries (length xs) (entries_of r.front r.entry) next (noted seen y) d))) first
       ∙ ap (after_part (Listed x)) rest
 
-  pub vector_read : (count : ℕ) (items : List Item) (seen : Seen) (at end : ℕ) (front back : List ℕ) → at + length front ≡ end → payload_is (Vector id count items) at front → IsSmall seen (Vector id count items) → AllKeep seen items
+  pub vector_read : (count : ℕ) (items : List Item) (seen : Seen) (at end : ℕ) (front back : List ℕ) → at + length front ≡ end → payload_is (Vector id count items) at front → MayHold seen (Vector id count items) → AllKeep seen items
       → contents (entries_of r.front r.entry) next seen (cursor at (front ++ back) end) ≡ prepend (map Listed items) (next (all_noted seen items) (cursor end back no_end))
   vector_read count items seen at end front back e s small k =
       let j = joined_behind (u32_is (count, length items)) (each_is item_is items) at front back s.2 in
@@ -119,7 +119,7 @@ module _ (id : ℕ) (r : VectorRow id) (next : Next) where
 
 -- ---- custom sections, and the start function
 
-pub custom_read_whole : (name : ℕ × List ℕ) (next : Next) (seen : Seen) (at end : ℕ) (front back : List ℕ) → at + length front ≡ end → payload_is (Custom name) at front → IsSmall seen (Custom name)
+pub custom_read_whole : (name : ℕ × List ℕ) (next : Next) (seen : Seen) (at end : ℕ) (front back : List ℕ) → at + length front ≡ end → payload_is (Custom name) at front → MayHold seen (Custom name)
     → contents (row 0) next seen (cursor at (front ++ back) end) ≡ next seen (cursor end back no_end)
 custom_read_whole name next seen at end front back e s small =
     let j = joined_behind (name_is name) (λ at bytes. Unit {0}) at front back s in

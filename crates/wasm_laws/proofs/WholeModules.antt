@@ -10,7 +10,7 @@ use Rattle.wasm_defs.specs.Entries.{Seen, nothing}
 use Rattle.wasm_defs.specs.Outside as outside
 use Rattle.wasm_defs.specs.Outside.{Body, Part, Row, row, header, entered, inside, no_end, Ending, Whole, Run, after_part, runs_on, Next, contents, section, owes_code, at_the_end, or_section, sections_up_to, sections, magic, version, preamble, beginning, module_run}
 use Rattle.wasm_defs.specs.Items.{each_is, u32_is, AllOf, section_of, Section, Payload, Custom, Vector, Starting, Bodies, payload_id, payload_is, section_is, payload_items, payload_bodies, items_in, bodies_in, StandsBehind, last_with, AreInOrder}
-use Rattle.wasm_defs.specs.Rules.{AllKeep, all_noted, IsSmall, SectionsKeep}
+use Rattle.wasm_defs.specs.Rules.{AllKeep, all_noted, MayHold, SectionsKeep}
 use Rattle.wasm_laws.specs.Sections.{parts_of, parts_in, IsModuleOf}
 use Rattle.wasm_laws.proofs.Headers.{Follows}
 use Rattle.wasm_laws.proofs.Sorts.{count_cons}
@@ -129,7 +129,7 @@ counts_bodies seen (Starting index) at bytes xs s b o m = tt
 counts_bodies seen (Bodies count end bodies) at bytes xs s b o m =
     (m.uncounted b, omega (arith, m.same b, late_functions 10 at bytes xs s o (omega arith), ap length (late_bodies 10 xs o (omega arith)), length-append bodies (bodies_in xs)))
 
-payload_read : (next : Next) (seen : Seen) (p : Payload) (at end : ℕ) (content back : List ℕ) → at + length content ≡ end → payload_is p at content → IsSmall seen p → AllKeep seen (payload_items p) → CountsBodies seen p
+payload_read : (next : Next) (seen : Seen) (p : Payload) (at end : ℕ) (content back : List ℕ) → at + length content ≡ end → payload_is p at content → MayHold seen p → AllKeep seen (payload_items p) → CountsBodies seen p
     → contents (row (payload_id p)) next (entered seen (payload_id p)) (cursor at (content ++ back) end) ≡ prepend (parts_of p) (next (after seen p) (cursor end back no_end))
 payload_read next seen (Custom name) at end content back e s small k bodies = custom_read_whole name next seen at end content back e s small
 payload_read next seen (Vector id count items) at end content back e s small k bodies =
@@ -147,7 +147,7 @@ payload_read next seen (Bodies count stop listed) at end content back e s small 
     (code_read_whole count stop listed next (record seen { last = 10 }) at content back s small bodies.0 bodies.1)
 
 -- a section's header, and what it holds
-section_read_at : (next : Next) (seen : Seen) (p : Payload) (offset at : ℕ) (f content back : List ℕ) → Follows seen (payload_id p) → u32_is (offset, length content) (at + 1) f → payload_is p (at + 1 + length f) content → IsSmall seen p → AllKeep seen (payload_items p) → CountsBodies seen p → at + 1 + length f + length content ≤ max_module
+section_read_at : (next : Next) (seen : Seen) (p : Payload) (offset at : ℕ) (f content back : List ℕ) → Follows seen (payload_id p) → u32_is (offset, length content) (at + 1) f → payload_is p (at + 1 + length f) content → MayHold seen p → AllKeep seen (payload_items p) → CountsBodies seen p → at + 1 + length f + length content ≤ max_module
     → section next seen (cursor at (payload_id p ∷ (f ++ (content ++ back))) no_end) ≡ prepend (parts_of p) (next (after seen p) (cursor (at + 1 + length f + length content) back no_end))
 section_read_at next seen p offset at f content back follows size s small k bodies fits =
     let end = at + 1 + length f + length content in
