@@ -1,5 +1,6 @@
 -- Which bytes are a module outside its bodies (WebAssembly Core 1.0, 5.5): spellings joined one behind the other, with no
--- reader. What the items must keep to besides is said in Rules.
+-- reader. Nothing spells what is left out: float types, imports other than functions, and constant expressions other than
+-- integer constants. What a module keeps to besides is said in Rules.
 use Rattle.std.specs.Prelude.{◌≡◌, ◌≢◌, ◌<◌, ◌≤◌, ℕ, ◌+◌, ℤ, pos, Bool, true, false, List, [], ◌∷◌, ◌++◌, length, Option, Some, None}
 use Rattle.std.specs.Str.{IsUtf8}
 use Rattle.wasm_defs.specs.declared.types.ValType.{ValType}
@@ -33,11 +34,11 @@ infixr 10 ◌then◌
 abbrev pub ◌then◌ : Spelling → Spelling → Spelling
 p then q = Joined p q
 
--- these bytes and no others
+-- those bytes and no others
 abbrev pub exactly : List ℕ → Spelling
 exactly run = λ at bytes. bytes ≡ run
 
--- so many spellings, one behind the other
+-- what each of them spells, one behind the other
 abbrev pub each_is : {A : Type 0} → (A → Spelling) → List A → Spelling
 each_is p [] = exactly []
 each_is p (x ∷ xs) = p x then each_is p xs
@@ -147,11 +148,12 @@ section_of (Element table place functions) = 9
 section_of (Code count end) = 10
 section_of (Segment memory place bytes) = 11
 
+-- all of one section
 abbrev pub AllOf : ℕ → List Item → Type 0
 AllOf id [] = Unit {0}
 AllOf id (x ∷ xs) = (section_of x ≡ id) × AllOf id xs
 
--- a body (5.5.13): its size, and its bytes, which are two at least, the count of its locals and the `end` of its code
+-- a body (5.5.13): its size, and its bytes: two at least, since its locals have a count and its code an `end`
 abbrev pub body_is : Body → Spelling
 body_is b = Sized b.size (λ at bytes. (b.first ≡ at) × (bytes ≡ b.bytes) × (2 ≤ length bytes))
 
