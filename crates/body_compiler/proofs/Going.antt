@@ -115,7 +115,7 @@ pub faulty_instruction : (c : Context) (last at b : ℕ) (before d : Cursor) (ch
 faulty_instruction c last at b before d check code r compiled g h more e is =
     let o = opened c last at b before d check code g h more in
     fault_there_of c code g.opcodes g.tokens at b r compiled
-      (o.code_is ∙ ap (λ (x : Read Token). joined g.opcodes g.tokens (after_opcode (at, b) (goes_on last x (λ t e. after_token at t (spelled_from (g.most - 1) (depth_after t (length check.checker.frames)) last e))))) is) e o.good
+    (o.code_is ∙ ap (λ (x : Read Token). joined g.opcodes g.tokens (after_opcode (at, b) (goes_on last x (λ t e. after_token at t (spelled_from (g.most - 1) (depth_after t (length check.checker.frames)) last e))))) is) e o.good
 
 -- or cut off
 pub cut_instruction : (c : Context) (last at b : ℕ) (before d : Cursor) (check : Checked) (code : Spelled) (compiled : Bool) → IsGoing c last before check code → byte before ≡ Got (at, b) d → (check.checker.frames ≡ [] → ⊥)
@@ -123,7 +123,7 @@ pub cut_instruction : (c : Context) (last at b : ℕ) (before d : Cursor) (check
 cut_instruction c last at b before d check code compiled g h more e is =
     let o = opened c last at b before d check code g h more in
     fault_there_of c code g.opcodes g.tokens at b (record { offset = last; kind = Malformed }) compiled
-      (o.code_is ∙ ap (λ (x : Read Token). joined g.opcodes g.tokens (after_opcode (at, b) (goes_on last x (λ t e. after_token at t (spelled_from (g.most - 1) (depth_after t (length check.checker.frames)) last e))))) is) e o.good
+    (o.code_is ∙ ap (λ (x : Read Token). joined g.opcodes g.tokens (after_opcode (at, b) (goes_on last x (λ t e. after_token at t (spelled_from (g.most - 1) (depth_after t (length check.checker.frames)) last e))))) is) e o.good
 
 -- ---- a whole instruction
 

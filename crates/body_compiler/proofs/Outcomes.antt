@@ -14,42 +14,9 @@ use Rattle.wasm_defs.specs.Supported.{is_compiled_opcode}
 use Rattle.wasm_defs.specs.Faults.{rank, IsNoLater, IsFirst, first_outside, tokens_of, IsTokenFault, IsSpellingFault, IsCodeFault, IsValidCode}
 use Rattle.body_compiler.specs.Judged.{joined}
 use Rattle.wasm_defs.specs.Faults.{earlier, unsupported_at}
+use Rattle.wasm_laws.proofs.Earlier.{equal_is_no_later, earlier_is}
 use Rattle.wasm_laws.proofs.Faulty.{tokens_of-append, faulty_front, faulty_once, viable_front, IsLater, token_later}
 use Rattle.wasm_laws.proofs.Spelling.{AllWithin, Places}
-
--- ---- the order of faults
-
-same_is_no_later : (r : Refusal) → IsNoLater r r
-same_is_no_later r = inr (refl, omega arith)
-
-equal_is_no_later : (r s : Refusal) → r ≡ s → IsNoLater r s
-equal_is_no_later r s e = rw (← e) (same_is_no_later r)
-
-no_later_then : (r s t : Refusal) → IsNoLater r s → IsNoLater s t → IsNoLater r t
-no_later_then r s t (inl p) (inl q) = inl (omega arith)
-no_later_then r s t (inl p) (inr q) = inl (omega (arith, q.0))
-no_later_then r s t (inr p) (inl q) = inl (omega (arith, p.0))
-no_later_then r s t (inr p) (inr q) = inr (p.0 ∙ q.0, omega (arith, p.1, q.1))
-
-pub record IsEarlier (r s t : Refusal) : Type 0 where
-  pub is : (t ≡ r) ⊎ (t ≡ s)
-  pub first : IsNoLater t r
-  pub second : IsNoLater t s
-
-pub earlier_is : (r s : Refusal) → IsEarlier r s (earlier r s)
-earlier_is r s =
-    elim (cases_lt r.offset s.offset) [
-      | inl lt ↦ rw (lt-ltb r.offset s.offset lt) (record { is = inl refl; first = same_is_no_later r; second = inl lt })
-      | inr ge ↦ rw (le-ltb r.offset s.offset ge) (elim (cases_lt s.offset r.offset) [
-        | inl lt ↦ rw (lt-ltb s.offset r.offset lt) (record { is = inr refl; first = inl lt; second = same_is_no_later s })
-        | inr le ↦
-          let e : r.offset ≡ s.offset = omega arith in
-          rw (le-ltb s.offset r.offset le) (elim (cases_Bool (leb (rank r.kind) (rank s.kind))) [
-            | inl h ↦ rw h (record { is = inl refl; first = same_is_no_later r; second = inr (e, leb-true (rank r.kind) (rank s.kind) h) })
-            | inr h ↦ let k = leb-false (rank r.kind) (rank s.kind) h in rw h (record { is = inr refl; first = inr (sym e, omega arith); second = same_is_no_later s })
-          ])
-      ])
-    ]
 
 -- ---- opcodes
 
@@ -110,12 +77,13 @@ stop_candidates c ops toks f r viable (inr (inl s)) = inl (let e = s.is in cc)
 stop_candidates c ops toks f r viable (inr (inr u)) = inr u
 
 pub stopped : (c : Context) (ops : List (ℕ × ℕ)) (toks : List (ℕ × Token)) (f : Refusal) → IsGood c ops toks → IsCodeFault c (joined ops toks (stops (Some f))) f
-stopped c ops toks f good =
-    (inr (inl (record { viable = all_viable c toks good.viable; is = refl })),
-    λ s p. elim (stop_candidates c (ops ++ []) toks f s good.viable p) [
-      | inl e ↦ equal_is_no_later f s (sym e)
-      | inr u ↦ absurd (none_is_some _ s good.compiled (rw append-nil at u))
-    ])
+stopped c ops toks f good = (
+  inr (inl (record { viable = all_viable c toks good.viable; is = refl })),
+  λ s p. elim (stop_candidates c (ops ++ []) toks f s good.viable p) [
+    | inl e ↦ equal_is_no_later f s (sym e)
+    | inr u ↦ absurd (none_is_some _ s good.compiled (rw append-nil at u))
+  ],
+)
 
 -- the opcode's own candidate
 abbrev of_opcode : ℕ × ℕ → Option Refusal
@@ -130,27 +98,29 @@ none_outside x e = rw e refl
 -- after an opcode that is compiled
 pub stopped_within : (c : Context) (ops : List (ℕ × ℕ)) (toks : List (ℕ × Token)) (x : ℕ × ℕ) (f : Refusal) → IsGood c ops toks → is_compiled_opcode x.1 ≡ true
     → IsCodeFault c (joined ops toks (after_opcode x (stops (Some f)))) f
-stopped_within c ops toks x f good e =
-    (inr (inl (record { viable = all_viable c toks good.viable; is = refl })),
-    λ s p. elim (stop_candidates c (ops ++ x ∷ []) toks f s good.viable p) [
-      | inl k ↦ equal_is_no_later f s (sym k)
-      | inr u ↦ absurd (none_is_some _ s (outside_append ops (x ∷ []) good.compiled ∙ none_outside x e) u)
-    ])
+stopped_within c ops toks x f good e = (
+  inr (inl (record { viable = all_viable c toks good.viable; is = refl })),
+  λ s p. elim (stop_candidates c (ops ++ x ∷ []) toks f s good.viable p) [
+    | inl k ↦ equal_is_no_later f s (sym k)
+    | inr u ↦ absurd (none_is_some _ s (outside_append ops (x ∷ []) good.compiled ∙ none_outside x e) u)
+  ],
+)
 
 -- after one that isn't
 pub stopped_outside : (c : Context) (ops : List (ℕ × ℕ)) (toks : List (ℕ × Token)) (x : ℕ × ℕ) (f : Refusal) → IsGood c ops toks → is_compiled_opcode x.1 ≡ false
     → IsCodeFault c (joined ops toks (after_opcode x (stops (Some f)))) (earlier f (unsupported_at x.0))
 stopped_outside c ops toks x f good e =
     let h = earlier_is f (unsupported_at x.0) in
-    let own : first_outside is_compiled_opcode (ops ++ x ∷ []) ≡ Some (unsupported_at x.0) = outside_append ops (x ∷ []) good.compiled ∙ one_outside x e in
-    (elim h.is [
-      | inl k ↦ inr (inl (record { viable = all_viable c toks good.viable; is = ap (λ (r : Refusal). Some r) (sym k) }))
-      | inr k ↦ inr (inr (own ∙ ap (λ (r : Refusal). Some r) (sym k)))
-    ],
-    λ s p. elim (stop_candidates c (ops ++ x ∷ []) toks f s good.viable p) [
-      | inl k ↦ rw k h.first
-      | inr u ↦ let k : unsupported_at x.0 ≡ s = cc in rw (← k) h.second
-    ])
+    let own : first_outside is_compiled_opcode (ops ++ x ∷ []) ≡ Some (unsupported_at x.0) = outside_append ops (x ∷ []) good.compiled ∙ one_outside x e in (
+      elim h.is [
+        | inl k ↦ inr (inl (record { viable = all_viable c toks good.viable; is = ap (λ (r : Refusal). Some r) (sym k) }))
+        | inr k ↦ inr (inr (own ∙ ap (λ (r : Refusal). Some r) (sym k)))
+      ],
+      λ s p. elim (stop_candidates c (ops ++ x ∷ []) toks f s good.viable p) [
+        | inl k ↦ rw k h.first
+        | inr u ↦ let k : unsupported_at x.0 ≡ s = cc in rw (← k) h.second
+      ],
+    )
 
 -- ---- a token is at fault
 
@@ -201,12 +171,13 @@ outside_then x rest e = rw e refl
 pub refused_within : (c : Context) (ops : List (ℕ × ℕ)) (toks : List (ℕ × Token)) (at b high : ℕ) (t : Token) (kind : Kind) (s : Spelled) → IsGood c ops toks → is_compiled_opcode b ≡ true
     → IsFaulty c (tokens_of toks ++ t ∷ []) kind → AllWithin (at + 1) high s.opcodes
     → IsCodeFault c (joined ops toks (after_opcode (at, b) (after_token at t s))) (record { offset = at; kind = kind })
-refused_within c ops toks at b high t kind s good e faulty places =
-    (inl (token_fault_here c toks at t kind s good.viable faulty),
-    λ r p. elim (refused_candidates c (ops ++ (at, b) ∷ s.opcodes) toks at t kind s r good.viable faulty p) [
-      | inl k ↦ equal_is_no_later (record { offset = at; kind = kind }) r (sym k)
-      | inr u ↦ inl (let later = outside_from (at + 1) high s.opcodes r places (sym (compiled_then (at, b) s.opcodes e) ∙ sym (outside_append ops ((at, b) ∷ s.opcodes) good.compiled) ∙ u) in omega arith)
-    ])
+refused_within c ops toks at b high t kind s good e faulty places = (
+  inl (token_fault_here c toks at t kind s good.viable faulty),
+  λ r p. elim (refused_candidates c (ops ++ (at, b) ∷ s.opcodes) toks at t kind s r good.viable faulty p) [
+    | inl k ↦ equal_is_no_later (record { offset = at; kind = kind }) r (sym k)
+    | inr u ↦ inl (let later = outside_from (at + 1) high s.opcodes r places (sym (compiled_then (at, b) s.opcodes e) ∙ sym (outside_append ops ((at, b) ∷ s.opcodes) good.compiled) ∙ u) in omega arith)
+  ],
+)
 
 pub refused_outside : (c : Context) (ops : List (ℕ × ℕ)) (toks : List (ℕ × Token)) (at b : ℕ) (t : Token) (kind : Kind) (s : Spelled) → IsGood c ops toks → is_compiled_opcode b ≡ false
     → IsFaulty c (tokens_of toks ++ t ∷ []) kind
@@ -214,15 +185,16 @@ pub refused_outside : (c : Context) (ops : List (ℕ × ℕ)) (toks : List (ℕ 
 refused_outside c ops toks at b t kind s good e faulty =
     let f : Refusal = record { offset = at; kind = kind } in
     let h = earlier_is f (unsupported_at at) in
-    let own : first_outside is_compiled_opcode (ops ++ (at, b) ∷ s.opcodes) ≡ Some (unsupported_at at) = outside_append ops ((at, b) ∷ s.opcodes) good.compiled ∙ outside_then (at, b) s.opcodes e in
-    (elim h.is [
-      | inl k ↦ inl (rw k (token_fault_here c toks at t kind s good.viable faulty))
-      | inr k ↦ inr (inr (own ∙ ap (λ (r : Refusal). Some r) (sym k)))
-    ],
-    λ r p. elim (refused_candidates c (ops ++ (at, b) ∷ s.opcodes) toks at t kind s r good.viable faulty p) [
-      | inl k ↦ rw k h.first
-      | inr u ↦ let k : unsupported_at at ≡ r = cc in rw (← k) h.second
-    ])
+    let own : first_outside is_compiled_opcode (ops ++ (at, b) ∷ s.opcodes) ≡ Some (unsupported_at at) = outside_append ops ((at, b) ∷ s.opcodes) good.compiled ∙ outside_then (at, b) s.opcodes e in (
+      elim h.is [
+        | inl k ↦ inl (rw k (token_fault_here c toks at t kind s good.viable faulty))
+        | inr k ↦ inr (inr (own ∙ ap (λ (r : Refusal). Some r) (sym k)))
+      ],
+      λ r p. elim (refused_candidates c (ops ++ (at, b) ∷ s.opcodes) toks at t kind s r good.viable faulty p) [
+        | inl k ↦ rw k h.first
+        | inr u ↦ let k : unsupported_at at ≡ r = cc in rw (← k) h.second
+      ],
+    )
 
 -- ---- a token is taken whose opcode isn't compiled
 

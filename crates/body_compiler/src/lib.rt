@@ -9,3 +9,6 @@ mod locals;
 
 pub use code::BodyStop;
 pub use judge::judge_body;
+
+#[cfg(test)]
+mod tests;

@@ -30,13 +30,6 @@ one_fits unknown types own n left t o r e f p q h g =
     ends_taken unknown types own n left t o p q h g
     ∙ ap (λ (b : Bool). guarded b (reverse (take (left - 1) own)) >>= take_all unknown (reverse (take (n - 1) types))) (sym e ∙ f)
 
-pub one_differs : (unknown : Bool) (types : Types) (own : List Operand) (n left : ℕ) (t : ValType) (o : Operand) (r : Bool) → r ≡ is_of (get_or own (left - 1) o) (get_or types (n - 1) t) → r ≡ false
-    → 0 < n → 0 < left → n ≤ length types → left ≤ length own
-    → take_all unknown (reverse (take n types)) (reverse (take left own)) ≡ None
-one_differs unknown types own n left t o r e f p q h g =
-    ends_taken unknown types own n left t o p q h g
-    ∙ ap (λ (b : Bool). guarded b (reverse (take (left - 1) own)) >>= take_all unknown (reverse (take (n - 1) types))) (sym e ∙ f)
-
 pub all_unknown : (types : Types) → is_some (take_all true types []) ≡ true
 all_unknown [] = refl
 all_unknown (t ∷ types) = all_unknown types
@@ -61,14 +54,6 @@ taken_above items base count h =
     let e : length items - count ≡ base + m = omega arith in
     let f : m + count ≡ length (drop base items) = omega (arith, length-drop base items) in
     ap (λ (n : ℕ). reverse (drop base (take n items))) e ∙ ap reverse (drop-take base m items) ∙ reverse-take (drop base items) m count f
-
--- all of it is taken
-pub all_above : {A : Type 0} (items : List A) (base count : ℕ) → length items < base + count → base ≤ length items
-    → reverse (drop base (take base items)) ≡ drop count (reverse (drop base items))
-all_above items base count h g =
-    let few : length (reverse (drop base items)) ≤ count = omega (arith, length-reverse (drop base items), length-drop base items) in
-    let front : length (take base items) ≤ base = omega (arith, length-take-le base items g) in
-    ap reverse (drop_all base (take base items) front) ∙ sym (drop_all count (reverse (drop base items)) few)
 
 pub reverse-length : {A : Type 0} (xs : List A) (n : ℕ) → 0 < n → n ≤ length xs → 0 < length (reverse (take n xs))
 reverse-length xs n h g = omega (arith, length-reverse (take n xs), length-take-le n xs g)

@@ -1,17 +1,15 @@
 -- The frames of a flat stack.
-use Rattle.std.proofs.Common.{◌≡◌, ℕ, zero, suc, ◌-◌, ◌<◌, ◌≤◌, Bool, true, false, List, [], ◌∷◌, ◌++◌, length, get_or, set, take, drop, map, Option, None, Some, Result, Ok, Err, refl, sym, ap, ◌∙◌, subst, arith}
+use Rattle.std.proofs.Common.{◌≡◌, ℕ, zero, suc, ◌-◌, ◌<◌, ◌≤◌, Bool, true, false, List, [], ◌∷◌, ◌++◌, length, get_or, set, take, drop, map, Option, None, Some, refl, sym, ap, ◌∙◌, subst, arith}
 use Rattle.std.specs.Prelude.{reverse, is_some, slice_get}
-use Rattle.std.proofs.lemmas.List.{reverse-append, length-reverse, length-take-le, length-drop, length-append, drop_all, drop_at, take_at, take-take, take-append-le, take_rest, set_split, drop-append-le, get_or-reverse}
+use Rattle.std.proofs.lemmas.List.{reverse-append, length-reverse, length-take-le, length-drop, length-append, drop_all, drop_at, take_at, take-append-le, take_rest, set_split, get_or-reverse}
 use Rattle.body_validator.specs.declared.stack.Frame.{Frame as Flat}
 use Rattle.wasm_defs.specs.declared.types.ValType.TheVariants.{I32}
 use Rattle.body_validator.specs.declared.stack.Opening.{Opening}
 use Rattle.body_validator.specs.declared.stack.Opening.TheVariants.{Else as Elses}
-use Rattle.body_validator.specs.declared.operands.Stop.TheVariants.{Refused, NoMemory}
-use Rattle.wasm_defs.specs.Typing.{Types, Signature, Fixed, Stops, Discards, Selects}
+use Rattle.wasm_defs.specs.Typing.{Types, Signature, Discards, Selects}
 use Rattle.body_validator.specs.Checking.{Operand, Operands, Frames, ◌>>=◌, guarded, known, take_all as taken_all, is_of, Taken, take_any, joined, any_at, selected_of, label_of, labels, put, apply, applied, enter, turned, ended, fresh, height, none_left, closes, may_end, takes_else, starts_live, receive}
 use Rattle.body_validator.specs.Stacks.{own_of, signature, frame_of, frames_of, IsLaid, HasLast, is_live_in}
-use Rattle.body_validator.specs.Exchange.{Exchanges, Steps}
-use Rattle.body_validator.proofs.Options.{through, some_inside, and_true}
+use Rattle.body_validator.proofs.Options.{and_true}
 use Rattle.body_validator.proofs.Flat.{take_all-drop, known-reverse, put_own, some_or_none}
 
 pub height-frames_of : (fs : List Flat) (items : List Operand) → IsLaid fs items → height (frames_of fs items) ≡ length items
@@ -24,31 +22,12 @@ height-frames_of (f ∷ fs) items h =
     omega arith
 
 -- the innermost frame's operands change, and nothing below them
-pub exchange_steps : (f : Flat) (fs : List Flat) (params results : Types) (r : Result (Unit {0}) _) (old new : List Operand) → Exchanges f.unknown f.base params results r old new → take f.base new ≡ take f.base old
-    → Steps (applied (Fixed params results) (frames_of (f ∷ fs) old)) r (frames_of (f ∷ fs) old) (frames_of (f ∷ fs) new)
-exchange_steps f fs params results (Ok done) old new h e =
-    let s = through (taken_all f.unknown params (own_of old f.base)) (λ left. Some (known results ++ left)) (own_of new f.base) h in
-    let o = (frame_of f old).operands in
-    let own = some_inside (known results ++ s.value) (own_of new f.base) s.then in
-    let make : List Operand → List Operand → Frames = λ x y. record (frame_of f old) { operands = put o x } ∷ frames_of fs y in
-    ap (λ (x : Option (List Operand)). (x >>= λ own. Some (put o (known results ++ own))) >>= λ o. Some (record (frame_of f old) { operands = o } ∷ frames_of fs (take f.base old))) s.is
-    ∙ ap (λ (x : List Operand). Some (make x (take f.base old))) own ∙ ap (λ (x : List Operand). Some (make (own_of new f.base) x)) (sym e)
-exchange_steps f fs params results (Err Refused) old new h e =
-    let o = (frame_of f old).operands in (
-      ap (λ (x : Option (List Operand)). (x >>= λ own. Some (put o (known results ++ own))) >>= λ o. Some (record (frame_of f old) { operands = o } ∷ frames_of fs (take f.base old))) h.0,
-      ap (frames_of (f ∷ fs)) h.1,
-    )
-exchange_steps f fs params results (Err NoMemory) old new h e = ap (frames_of (f ∷ fs)) h
-
 pub reverse-set_last : {A : Type 0} (xs : List A) (n : ℕ) (x : A) → n ≡ length xs → 0 < n → reverse (set xs (n - 1) x) ≡ x ∷ reverse (take (length xs - 1) xs)
 reverse-set_last xs n x e h =
     let none : length xs ≤ suc (n - 1) = omega arith in
     let m : n - 1 ≡ length xs - 1 = omega arith in
     ap reverse (set_split xs (n - 1) x (omega arith) ∙ ap (λ ys. take (n - 1) xs ++ x ∷ ys) (drop_all (suc (n - 1)) xs none))
     ∙ reverse-append (take (n - 1) xs) (x ∷ []) ∙ ap (λ (k : ℕ). x ∷ reverse (take k xs)) m
-
-own_of-base : (items : List Operand) (base : ℕ) → base ≤ length items → own_of (take base items) base ≡ []
-own_of-base items base h = ap reverse (drop_all base (take base items) (omega (arith, length-take-le base items h)))
 
 any_left : (unknown : Bool) (own : List Operand) → (own ≡ [] → unknown ≡ true) → (x : Taken) × (take_any unknown own ≡ Some x) × (x.left ≡ drop 1 own)
 any_left unknown [] h = (record { operand = None; left = [] }, ap (λ (b : Bool). guarded b (record { operand = None; left = [] })) (h refl), refl)
@@ -68,18 +47,6 @@ discard_steps all f rest old new is some within own below =
 
 abbrev stopped : Flat → Flat
 stopped f = record f { unknown = true; live = false }
-
-pub stop_steps : (all after : List Flat) (f : Flat) (rest : List Flat) (params : Types) (old : List Operand) → all ≡ f ∷ rest → after ≡ stopped f ∷ rest → f.base ≤ length old
-    → is_some (taken_all f.unknown params (own_of old f.base)) ≡ true → applied (Stops params) (frames_of all old) ≡ Some (frames_of after (take f.base old))
-stop_steps all after f rest params old is later within found =
-    let o : Operands = record { own = []; unknown = true; live = false } in
-    let own = own_of-base old f.base within in
-    let below = take-take f.base f.base old (omega arith) in
-    let make : List Operand → List Operand → Frames = λ y z. record (frame_of f old) { operands = record { own = y; unknown = true; live = false } } ∷ frames_of rest z in
-    ap (λ (y : List Flat). applied (Stops params) (frames_of y old)) is
-    ∙ ap (λ (y : Option (List Operand)). (y >>= λ own. Some o) >>= λ o. Some (record (frame_of f old) { operands = o } ∷ frames_of rest (take f.base old))) (take_all-drop f.unknown params (own_of old f.base) found)
-    ∙ ap (λ (z : List Operand). Some (make [] z)) (sym below) ∙ ap (λ (y : List Operand). Some (make y (take f.base (take f.base old)))) (sym own)
-    ∙ ap (λ (y : List Flat). Some (frames_of y (take f.base old))) (sym later)
 
 -- what lies on top of some operands
 laid_on : (items : List Operand) (types : Types) (base : ℕ) → base ≡ length items → own_of (items ++ map Some types) base ≡ known (reverse types)
@@ -145,13 +112,6 @@ leave_steps all f rest old new is laid just may some e =
     ∙ ap (λ (b : Bool). guarded b (receive (reverse f.results.now) (frames_of rest (take f.base old)))) (and_true (closes (frame_of f old)) (may_end f.opening (signature f.params.now f.results.now)) just may)
     ∙ ap (λ (x : Frames). Some x) (received rest f.results.now (take f.base old) new inside.1 some e)
 
-pub last_steps : (all : List Flat) (f : Flat) (rest : List Flat) (old : List Operand) (new : List Operand) → all ≡ f ∷ rest → closes (frame_of f old) ≡ true
-    → may_end f.opening (signature f.params.now f.results.now) ≡ true → rest ≡ [] → ended (frames_of all old) ≡ Some (frames_of rest new)
-last_steps all f rest old new is just may none =
-    ap (λ (y : List Flat). ended (frames_of y old)) is
-    ∙ ap (λ (b : Bool). guarded b (receive (reverse f.results.now) (frames_of rest (take f.base old)))) (and_true (closes (frame_of f old)) (may_end f.opening (signature f.params.now f.results.now)) just may)
-    ∙ ap (λ (y : List Flat). Some (receive (reverse f.results.now) (frames_of y (take f.base old)))) none ∙ ap (λ (y : List Flat). Some (frames_of y new)) (sym none)
-
 -- ---- facts as the calls give them
 
 -- the part of a slice from the base on
@@ -194,9 +154,6 @@ some_below items h e =
     let long = length-reverse (take (length items - 1) items) in
     let part = length-take-le (length items - 1) items (omega arith) in
     omega arith
-
-pub none_below : (items : List Flat) → ¬ (0 < length items - 1) → reverse (take (length items - 1) items) ≡ []
-none_below items h = let e : length items - 1 ≡ 0 = omega arith in ap (λ (n : ℕ). reverse (take n items)) e
 
 -- more on top of some frames changes nothing below
 pub laid_more : (fs : List Flat) (items more : List Operand) → (fs ≡ [] → ⊥) → IsLaid fs items → IsLaid fs (items ++ more)
@@ -246,21 +203,6 @@ select_refuses all f rest old is missed =
     ap (λ (y : List Flat). applied Selects (frames_of y old)) is
     ∙ ap (λ (y : Option Operands). y >>= λ o. Some (record (frame_of f old) { operands = o } ∷ frames_of rest (take f.base old)))
     (select_applied o ∙ ap (λ (y : Option Operand). y >>= λ t. Some (put o (t ∷ drop 3 o.own))) missed)
-
-pub select_steps : (all : List Flat) (f : Flat) (rest : List Flat) (t : Operand) (old left new : List Operand) → all ≡ f ∷ rest → selected_of f.unknown (own_of old f.base) ≡ Some t
-    → own_of left f.base ≡ drop 3 (own_of old f.base) → take f.base left ≡ take f.base old → f.base ≤ length left → new ≡ left ++ t ∷ []
-    → applied Selects (frames_of all old) ≡ Some (frames_of all new)
-select_steps all f rest t old left new is found own below within laid =
-    let o = (frame_of f old).operands in
-    let make : List Operand → List Operand → Frames = λ y z. record (frame_of f old) { operands = put o y } ∷ frames_of rest z in
-    let top : own_of new f.base ≡ t ∷ drop 3 o.own = ap (λ (x : List Operand). own_of x f.base) laid ∙ ap reverse (drop-append-le f.base left (t ∷ []) within) ∙ reverse-append (drop f.base left) (t ∷ [])
-    ∙ ap (λ (x : List Operand). t ∷ x) own in
-    let front : take f.base new ≡ take f.base old = ap (take f.base) laid ∙ take-append-le f.base left (t ∷ []) within ∙ below in
-    ap (λ (y : List Flat). applied Selects (frames_of y old)) is
-    ∙ ap (λ (y : Option Operands). y >>= λ o. Some (record (frame_of f old) { operands = o } ∷ frames_of rest (take f.base old)))
-    (select_applied o ∙ ap (λ (y : Option Operand). y >>= λ t. Some (put o (t ∷ drop 3 o.own))) found)
-    ∙ ap (λ (y : List Operand). Some (make y (take f.base old))) (sym top) ∙ ap (λ (z : List Operand). Some (make (own_of new f.base) z)) (sym front)
-    ∙ ap (λ (y : List Flat). Some (frames_of y new)) (sym is)
 
 abbrev pub flat_label : Flat → Types
 flat_label f = label_of f.opening (signature f.params.now f.results.now)

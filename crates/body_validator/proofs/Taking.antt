@@ -4,12 +4,10 @@ use Rattle.wasm_defs.specs.declared.types.ValType.TheVariants.{I32}
 use Rattle.wasm_defs.specs.declared.token.BlockType.{BlockType}
 use Rattle.wasm_defs.specs.declared.token.BlockType.TheVariants.{Empty, Value, Index}
 use Rattle.wasm_defs.specs.declared.token.Plain.{Plain}
-use Rattle.wasm_defs.specs.declared.token.Token.{Token}
 use Rattle.wasm_defs.specs.declared.token.Token.TheVariants as token
-use Rattle.wasm_defs.specs.declared.fault.Kind.TheVariants.{Malformed}
 use Rattle.body_validator.specs.declared.stack.Opening.TheVariants.{Block as Blocks, Loop as Loops, If as Ifs}
-use Rattle.wasm_defs.specs.Typing.{Types, Signature, Context, inside, Untyped, rule_of, block_type}
-use Rattle.body_validator.specs.Checking.{Frames, ◌>>=◌, applied, enter, turned, ended, at, label_of, labels, step, fault_kind, is_open}
+use Rattle.wasm_defs.specs.Typing.{Types, Signature, Context, inside, rule_of, block_type}
+use Rattle.body_validator.specs.Checking.{Frames, ◌>>=◌, applied, enter, at, label_of, labels, step}
 use Rattle.body_validator.specs.Scopes.{with_labels, unlabelled, begun}
 
 at-labels : (c : Context) (fs : Frames) → at (unlabelled c) fs ≡ with_labels c (labels fs)
@@ -46,21 +44,3 @@ loop_step c type (f ∷ fs) = ap (λ (o : Option Signature). o >>= λ s. enter L
 pub if_step : (c : Context) (type : BlockType) (fs : Frames) → begun c Ifs type true fs ≡ step (unlabelled c) (token.If type) fs
 if_step c type [] = never (block_type c type)
 if_step c type (f ∷ fs) = ap (λ (o : Option Signature). o >>= λ s. enter Ifs s (I32 ∷ s.params) (f ∷ fs)) (sym (block_type-at c (f ∷ fs) type))
-
-pub else_step : (c : Context) (fs : Frames) → turned fs ≡ step c token.Else fs
-else_step c [] = refl
-else_step c (f ∷ fs) = refl
-
-pub end_step : (c : Context) (fs : Frames) → ended fs ≡ step c token.End fs
-end_step c [] = refl
-end_step c (f ∷ fs) = refl
-
-pub untyped_step : (fs : Frames) → applied Untyped fs ≡ None
-untyped_step [] = refl
-untyped_step (f ∷ fs) = refl
-
--- ---- kinds of faults
-
-pub closed_fault : (t : Token) (fs : Frames) → is_open fs ≡ false → fault_kind t fs ≡ Malformed
-closed_fault t [] e = refl
-closed_fault t (f ∷ fs) e = absurd (cc)

@@ -1,6 +1,6 @@
 //! The check of a function's body, token by token.
 
-ghost use Rattle.std.specs.Prelude.{◌≡◌, ◌<◌, ◌↔◌, IsTrue, IsSome, List, [], ◌∷◌, ◌++◌, IfOk, OnOk};
+ghost use Rattle.std.specs.Prelude.{◌≡◌, ◌↔◌, IsTrue, IsSome, List, [], ◌∷◌, ◌++◌, IfOk, OnOk};
 ghost use Rattle.wasm_defs.specs.declared.token.Token.{Token as TokenGiven};
 ghost use Rattle.wasm_defs.specs.declared.types.FuncType.{FuncType as FuncTypeGiven};
 ghost use Rattle.wasm_defs.specs.Bodies.{Group};
@@ -63,7 +63,11 @@ impl<'a> Model for Check<'a> {
 
     ghost Value = { Checked };
 
-    ghost view = { λ c. record { context = unlabelled c.scope; params = c.params; checker = record { frames = c.stack; greatest = c.greatest } } };
+    ghost view = { λ c. record {
+      context = unlabelled c.scope;
+      params = c.params;
+      checker = record { frames = c.stack; greatest = c.greatest };
+    } };
 
     ghost invariant = { λ c. c.params ≤ length c.scope.locals };
 }
@@ -72,7 +76,8 @@ impl<'a> Check<'a> {
     /// Begins the body of the function of that index, whose type the context has.
     pub fn new(alloc: Global, context: &'a Context, index: u32) -> Result<Self, AllocError>
         requires { IsSome (function_type (context_in context.now) index) }
-        ensures { let c = context_in context.now in IfOk result (λ check. check ≡ before_code c (type_of_function c index) []) }
+        ensures { let c = context_in context.now in
+            IfOk result (λ check. check ≡ before_code c (type_of_function c index) []) }
     {
         let function = context.type_of_function(index);
         let locals = Vec::from_slice(alloc, function.params.as_slice())?;
@@ -98,7 +103,9 @@ impl<'a> Check<'a> {
         requires { self.old.checker ≡ start_checker self.old.context }
         ensures answer { IsGrouped offset count t result self.old self.new }
         ensures before_tokens { self.new.checker ≡ start_checker self.new.context }
-        ensures groups { (c : ContextGiven) (f : FuncTypeGiven) (groups : List Group) → self.old ≡ before_code c f groups → OnOk result (self.new ≡ before_code c f (groups ++ record { count = count; ty = t } ∷ [])) }
+        ensures groups { (c : ContextGiven) (f : FuncTypeGiven) (groups : List Group)
+            → self.old ≡ before_code c f groups
+            → OnOk result (self.new ≡ before_code c f (groups ++ record { count = count; ty = t } ∷ [])) }
     {
         self.declare(offset, count, t)
     }
@@ -125,8 +132,10 @@ impl<'a> Check<'a> {
     /// memory is wanting.
     pub fn token(&mut self, offset: u64, token: &Token) -> Result<Step, TokenStop>
         ensures steps { Answered offset token.now result self.old self.new }
-        ensures exact { (tokens : List TokenGiven) → IsReached tokens self.old → IsAnswered tokens token.now result self.old self.new }
-        ensures places { (tokens : List TokenGiven) → IsReached tokens self.old → IsPlaced self.old.context tokens token.now result }
+        ensures exact { (tokens : List TokenGiven) → IsReached tokens self.old
+            → IsAnswered tokens token.now result self.old self.new }
+        ensures places { (tokens : List TokenGiven) → IsReached tokens self.old
+            → IsPlaced self.old.context tokens token.now result }
     {
         self.answer(offset, token)
     }
@@ -168,7 +177,8 @@ impl<'a> Check<'a> {
     pub fn end(self) -> Shape
         requires { self.checker.frames ≡ [] }
         ensures counts { IsCounted result self.entry }
-        ensures greatest { (tokens : List TokenGiven) (tree : Seq) → IsReached tokens self.entry → Tree tokens tree → IsBody self.entry.context tree → result.greatest ≡ greatest (places_of self.entry.context tree) }
+        ensures greatest { (tokens : List TokenGiven) (tree : Seq) → IsReached tokens self.entry → Tree tokens tree
+            → IsBody self.entry.context tree → result.greatest ≡ greatest (places_of self.entry.context tree) }
     {
         Shape {
             greatest: self.greatest,

@@ -1,6 +1,6 @@
 //! The types of instructions: what each takes from the operands, and what it leaves in their place.
 
-ghost use Rattle.std.specs.Prelude.{◌≡◌, [], ◌∷◌, reverse, None, Some, slice_get, MatchOption};
+ghost use Rattle.std.specs.Prelude.{◌≡◌, [], ◌∷◌, reverse, None, slice_get, MatchOption};
 ghost use Rattle.wasm_defs.specs.Typing.{Fixed, Stops, with_type, are_labels, only_if, called, converted, operated, rule_of, block_type};
 ghost use Rattle.body_validator.specs.Checking.{labels};
 ghost use Rattle.body_validator.specs.Exchange.{taken_types};
@@ -138,7 +138,8 @@ fn branch_if<'a>(types: &'a [ValType]) -> Option<Rule<'a>>
 }
 
 fn branch_table<'a>(stack: &Stack<'a>, indices: &[u32], last: u32) -> Option<Rule<'a>>
-    ensures { rule_meant result ≡ with_type (slice_get (labels stack.now) last) (λ types. only_if (are_labels (labels stack.now) types indices.now) (Stops (ValType.I32 ∷ types))) }
+    ensures { rule_meant result ≡ with_type (slice_get (labels stack.now) last)
+        (λ types. only_if (are_labels (labels stack.now) types indices.now) (Stops (ValType.I32 ∷ types))) }
 {
     let types = stack.label(last)?;
     only_if(

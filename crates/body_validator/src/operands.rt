@@ -1,6 +1,6 @@
 //! The operands of the innermost frame, as a flat stack keeps them.
 
-ghost use Rattle.std.specs.Prelude.{◌≡◌, ◌+◌, ◌^◌, ◌<◌, ◌≤◌, [], ◌∷◌, ◌++◌, length, map, reverse, take, drop, is_some, Some, vec_len, vec_capacity};
+ghost use Rattle.std.specs.Prelude.{◌≡◌, ◌+◌, ◌<◌, ◌≤◌, [], ◌∷◌, ◌++◌, length, map, reverse, take, drop, is_some, Some, vec_len, vec_capacity};
 ghost use Rattle.body_validator.specs.Checking.{is_of, joined, take_all, any_at, selected_of};
 ghost use Rattle.wasm_defs.specs.Typing.{same_types};
 ghost use Rattle.body_validator.specs.Stacks.{own_of};
@@ -145,7 +145,8 @@ pub fn exchange(
     given: &[ValType],
 ) -> Result<(), Stop>
     requires { base ≤ vec_len operands.old }
-    ensures own { Exchanges unknown base (taken_types taken.entry) (reverse given.now) result operands.old.items operands.new.items }
+    ensures own { Exchanges unknown base (taken_types taken.entry) (reverse given.now) result
+        operands.old.items operands.new.items }
     ensures below { take base operands.new.items ≡ take base operands.old.items }
     ensures above { base ≤ vec_len operands.new }
 {

@@ -1,6 +1,6 @@
 //! What the instructions of a body may name.
 
-ghost use Rattle.std.specs.Prelude.{◌≡◌, ◌+◌, ◌≤◌, ◌<◌, ◌↔◌, ◌++◌, length, replicate, nat_lt, IsTrue, None, Some, slice_get, MatchOption, OnOk, OnErr, vec_len, vec_capacity};
+ghost use Rattle.std.specs.Prelude.{◌≡◌, ◌+◌, ◌≤◌, ◌++◌, length, replicate, nat_lt, None, Some, slice_get, MatchOption, OnOk, OnErr, vec_len, vec_capacity};
 ghost use Rattle.wasm_defs.specs.Typing.{accesses, function_type};
 ghost use Rattle.body_validator.specs.Scopes.{with_locals};
 
@@ -24,7 +24,10 @@ impl<'a> Model for Scope<'a> {
 
     ghost Value = { Context };
 
-    ghost view = { λ s. record (context_in s.context.now) { locals = s.locals.items; results = reverse s.results.now } };
+    ghost view = { λ s. record (context_in s.context.now) {
+      locals = s.locals.items;
+      results = reverse s.results.now;
+    } };
 }
 
 fn push_copies(types: &mut Vec<ValType>, count: u32, t: ValType)
@@ -74,14 +77,16 @@ impl<'a> Scope<'a> {
 
     /// A type of the module.
     pub fn type_at(&self, index: u32) -> Option<&'a FuncType>
-        ensures { MatchOption result (slice_get self.now.types index ≡ None) (λ f. slice_get self.now.types index ≡ Some f.now) }
+        ensures { MatchOption result (slice_get self.now.types index ≡ None)
+            (λ f. slice_get self.now.types index ≡ Some f.now) }
     {
         self.context.types().get(index as usize)
     }
 
     /// The type of a function.
     pub fn type_of_function(&self, index: u32) -> Option<&'a FuncType>
-        ensures { MatchOption result (function_type self.now index ≡ None) (λ f. function_type self.now index ≡ Some f.now) }
+        ensures { MatchOption result (function_type self.now index ≡ None)
+            (λ f. function_type self.now index ≡ Some f.now) }
     {
         let type_index = self.context.type_indices().get(index as usize)?;
         self.type_at(*type_index)

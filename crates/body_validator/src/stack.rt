@@ -1,9 +1,9 @@
 //! The open frames of a body, and their operands.
 
-ghost use Rattle.std.specs.Prelude.{◌≡◌, ◌+◌, ◌-◌, ◌^◌, ◌<◌, [], ◌∷◌, ◌++◌, length, reverse, take, Some, None, slice_get, MatchOption, IfOk, vec_len, vec_capacity};
+ghost use Rattle.std.specs.Prelude.{◌≡◌, ◌-◌, ◌<◌, [], ◌∷◌, ◌++◌, length, reverse, take, Some, None, slice_get, MatchOption, IfOk, vec_len, vec_capacity};
 ghost use Rattle.body_validator.specs.Checking.{height, body_frames, label_of, is_open, is_live, may_turn, labels, may_end, takes_else, applied, enter, turned, ended, none_left, take_all};
 ghost use Rattle.wasm_defs.specs.Typing.{Stops, Fixed, Discards, Selects};
-ghost use Rattle.body_validator.specs.Exchange.{taken_types, with_condition, Steps};
+ghost use Rattle.body_validator.specs.Exchange.{taken_types, Steps};
 ghost use Rattle.body_validator.specs.Stacks.{HasLast, is_live_in, signature};
 
 use crate::operands::{
@@ -45,7 +45,8 @@ fn innermost<'a>(frames: &[Frame<'a>]) -> Option<Frame<'a>>
 
 fn replace_innermost<'a>(frames: &mut Vec<Frame<'a>>, frame: Frame<'a>)
     requires { 0 < vec_len frames.old }
-    ensures { reverse frames.new.items ≡ frame.entry ∷ reverse (take (length frames.old.items - 1) frames.old.items) }
+    ensures { reverse frames.new.items
+        ≡ frame.entry ∷ reverse (take (length frames.old.items - 1) frames.old.items) }
 {
     let n = frames.len();
     frames[n - 1] = frame;
@@ -82,7 +83,8 @@ fn awaits_else(opening: Opening) -> bool
 
 /// Whether a frame may end here: an `if` without an `else` gives back what it took.
 fn can_end(frame: Frame<'_>) -> bool
-    ensures { result ≡ may_end frame.entry.opening (signature frame.entry.params.now frame.entry.results.now) }
+    ensures { result
+        ≡ may_end frame.entry.opening (signature frame.entry.params.now frame.entry.results.now) }
 {
     match frame.opening {
         Opening::If => are_same(frame.params, frame.results),
@@ -99,7 +101,8 @@ fn are_just(own: &[Operand], unknown: bool, types: &[ValType]) -> bool
 
 /// The types that a frame's label takes (Core 3.3.5.3 and 3.3.5.4).
 fn taken_by_label<'a>(frame: Frame<'a>) -> &'a [ValType]
-    ensures { reverse result.now ≡ label_of frame.entry.opening (signature frame.entry.params.now frame.entry.results.now) }
+    ensures { reverse result.now
+        ≡ label_of frame.entry.opening (signature frame.entry.params.now frame.entry.results.now) }
 {
     match frame.opening {
         Opening::Loop => frame.params,
@@ -193,7 +196,8 @@ impl<'a> Stack<'a> {
 
     /// The types that a label takes, 0 being the innermost.
     pub fn label(&self, index: u32) -> Option<&'a [ValType]>
-        ensures { MatchOption result (slice_get (labels self.now) index ≡ None) (λ types. slice_get (labels self.now) index ≡ Some (reverse types.now)) }
+        ensures { MatchOption result (slice_get (labels self.now) index ≡ None)
+            (λ types. slice_get (labels self.now) index ≡ Some (reverse types.now)) }
     {
         let count = self.frames.len();
         let depth = index as usize;
@@ -205,7 +209,8 @@ impl<'a> Stack<'a> {
 
     /// Takes operands from the innermost frame, and puts others in their place.
     pub fn exchange(&mut self, taken: Taken<'_>, given: &[ValType]) -> Result<(), Stop>
-        ensures { Steps (applied (Fixed (taken_types taken.entry) (reverse given.now)) self.old) result self.old self.new }
+        ensures { Steps (applied (Fixed (taken_types taken.entry) (reverse given.now)) self.old) result
+            self.old self.new }
     {
         let Some(frame) = innermost(&self.frames) else {
             return Err(Stop::Refused);
@@ -269,36 +274,33 @@ impl<'a> Stack<'a> {
     pub fn enter(
         &mut self,
         opening: Opening,
-        params: &'a [ValType],
+        taken: Taken<'a>,
         results: &'a [ValType],
-        condition: bool,
     ) -> Result<(), Stop>
-        ensures { Steps (enter opening (signature params.now results.now) (with_condition condition (reverse params.now)) self.old) result self.old self.new }
+        ensures { Steps (enter opening (signature taken.entry.types.now results.now) (taken_types taken.entry) self.old)
+            result self.old self.new }
     {
         let Some(frame) = innermost(&self.frames) else {
             return Err(Stop::Refused);
         };
-        let taken = Taken {
-            types: params,
-            condition,
-        };
         if !finds(&self.operands[frame.base..], frame.unknown, taken) {
             return Err(Stop::Refused);
         }
-        if self.operands.reserve(params.len()).is_err() {
+        if self.operands.reserve(taken.types.len()).is_err() {
             return Err(Stop::NoMemory);
         }
         if self.frames.reserve(1).is_err() {
             return Err(Stop::NoMemory);
         }
-        remove(&mut self.operands, frame.base, count_of(params, condition));
+        let count = count_of(taken.types, taken.condition);
+        remove(&mut self.operands, frame.base, count);
         let base = self.operands.len();
-        put_all(&mut self.operands, params);
+        put_all(&mut self.operands, taken.types);
         push_frame(
             &mut self.frames,
             Frame {
                 opening,
-                params,
+                params: taken.types,
                 results,
                 base,
                 unknown: false,

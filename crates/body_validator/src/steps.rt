@@ -6,7 +6,7 @@ ghost use Rattle.body_validator.specs.Exchange.{Steps};
 ghost use Rattle.body_validator.specs.Scopes.{rule_meant, unlabelled, begun};
 
 use crate::instruction_types::{Rule, block_types, rule_for};
-use crate::operands::Stop;
+use crate::operands::{Stop, Taken};
 use crate::scope::Scope;
 use crate::stack::{Opening, Stack};
 use wasm_defs::{BlockType, Kind, Token};
@@ -35,7 +35,11 @@ fn begin<'a>(
     let Some((params, results)) = block_types(scope, block) else {
         return Err(Stop::Refused);
     };
-    stack.enter(opening, params, results, condition)
+    let taken = Taken {
+        types: params,
+        condition,
+    };
+    stack.enter(opening, taken, results)
 }
 
 /// Takes one more token.

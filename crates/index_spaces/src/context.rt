@@ -1,6 +1,6 @@
 //! The context of a module.
 
-ghost use Rattle.std.specs.Prelude.{◌≡◌, ◌+◌, ◌^◌, ◌<◌, ◌↔◌, [], ◌∷◌, ◌++◌, length, IsTrue, IsSome, is_some, Some, OnOk, OnErr, slice_get};
+ghost use Rattle.std.specs.Prelude.{◌≡◌, ◌^◌, ◌<◌, ◌↔◌, [], length, IsTrue, IsSome, is_some, Some, OnOk, OnErr, slice_get};
 ghost use Rattle.wasm_defs.specs.Typing.{function_type};
 ghost use Rattle.index_spaces.specs.Spaces.{context_in, spaces_of, with_type, with_imported, with_function, with_table, with_memory, with_global};
 
@@ -26,7 +26,15 @@ impl Model for Context {
 
     ghost Value = { Spaces };
 
-    ghost view = { λ c. record { types = c.types.items; functions = c.functions.items; tables = c.tables.items; memories = c.memories.items; globals = c.globals.items; imported = c.imported; declared = length c.functions.items - c.imported } };
+    ghost view = { λ c. record {
+      types = c.types.items;
+      functions = c.functions.items;
+      tables = c.tables.items;
+      memories = c.memories.items;
+      globals = c.globals.items;
+      imported = c.imported;
+      declared = length c.functions.items - c.imported;
+    } };
 
     ghost invariant = { λ c. c.imported ≤ length c.functions.items };
 }

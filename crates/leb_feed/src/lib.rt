@@ -9,3 +9,6 @@ mod text;
 pub use fields::Fields;
 pub use number::{ReadAt, read_at};
 pub use stop::Stop;
+
+#[cfg(test)]
+mod tests;

@@ -1,12 +1,12 @@
 -- What entries and the parts of sections take: each entry a byte at least.
-use Rattle.std.proofs.Common.{◌≡◌, ℕ, ◌≤◌, Bool, true, false, cond, eqb, List, [], ◌∷◌, arith, refl, inl, inr}
+use Rattle.std.proofs.Common.{ℕ, ◌≤◌, Bool, true, false, cond, eqb, List, [], ◌∷◌, arith, refl, inl, inr}
 use Rattle.std.proofs.lemmas.Bool.{cases_Bool}
 use Rattle.wasm_defs.specs.declared.types.ValType.{ValType}
 use Rattle.wasm_defs.specs.declared.item.Item.{Item}
-use Rattle.wasm_defs.specs.Fields.{Cursor, Reader, room_of, number, u32, count, vector, counted_bytes, name}
+use Rattle.wasm_defs.specs.Fields.{Cursor, Reader, room_of, u32, count, vector, counted_bytes, name}
 use Rattle.wasm_defs.specs.Entries.{Seen, index, value_type, listed_type, limits, constant, results, signature, imported, function, table, memory, mutability, global, extern_kind, exported, start, sole, listed_index, element, code, segment}
-use Rattle.wasm_defs.specs.Outside.{rest_of_section, number_of, at_most_one, function_count, custom_name, body, listed, code_entry, Row, entries_of, row, header, section_end, left_over, inside, no_end, preamble}
-use Rattle.section_reader.proofs.Takes.{Moved, Taken, Takes, bind, done_takes, refused_takes, either, repeated_takes}
+use Rattle.wasm_defs.specs.Outside.{rest_of_section, number_of, at_most_one, function_count, custom_name, body, listed, code_entry, Row, entries_of, row, header, section_end, left_over, preamble}
+use Rattle.section_reader.proofs.Takes.{Taken, Takes, bind, done_takes, refused_takes, either, repeated_takes}
 use Rattle.section_reader.proofs.LeafTakes.{byte_takes, number_takes, room_takes, here_takes, stop_takes, run_takes, name_takes, fixed_takes}
 
 ruleset leaves = (arith, bind, done_takes, refused_takes, either, repeated_takes, byte_takes, number_takes, room_takes, here_takes, stop_takes, run_takes, name_takes, fixed_takes)

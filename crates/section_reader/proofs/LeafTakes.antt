@@ -1,10 +1,10 @@
 -- What readers of one field take.
-use Rattle.std.proofs.Common.{◌≡◌, ℕ, suc, ◌+◌, ◌-◌, ◌^◌, ◌<◌, ◌≤◌, Bool, true, false, ltb, leb, eqb, List, [], ◌∷◌, length, take, drop, refl, ap, arith, length-take, length-drop, inl, inr}
-use Rattle.std.proofs.lemmas.Bool.{cases_lt, cases_Bool, lt-ltb, le-ltb, le-leb, lt-leb}
+use Rattle.std.proofs.Common.{◌≡◌, ℕ, suc, ◌+◌, ◌-◌, ◌^◌, ◌≤◌, Bool, true, false, ltb, leb, List, [], ◌∷◌, length, take, drop, refl, ap, arith, length-take, length-drop, inl, inr}
+use Rattle.std.proofs.lemmas.Bool.{cases_lt, cases_Bool, lt-ltb, le-ltb}
 use Rattle.wasm_defs.specs.Numbers.{Reading, Number, CutOff, Bad, number_at, last_byte, after_byte}
 use Rattle.wasm_defs.specs.Text.{between, completes}
 use Rattle.wasm_defs.specs.Limits.{max_name}
-use Rattle.wasm_defs.specs.Fields.{Cursor, Read, Got, Fault, Wants, Reader, then_go, past, room_of, window, cut, first_of, byte, from_reading, number, nat_of, run, room, here, stop, text_after, least, length_owed, name_from, name, agree, fixed}
+use Rattle.wasm_defs.specs.Fields.{Cursor, Read, Got, Fault, Wants, past, room_of, window, cut, first_of, byte, from_reading, number, nat_of, run, room, here, stop, text_after, least, length_owed, name_from, name, agree, fixed}
 use Rattle.section_reader.proofs.Takes.{Moved, Taken, Takes}
 
 window_short : (c : Cursor) → length (window c) ≤ length c.rest

@@ -1,10 +1,10 @@
 -- Sections, one after the other: each takes a byte, so as many as there are bytes are enough.
-use Rattle.std.proofs.Common.{◌≡◌, ℕ, zero, suc, ◌+◌, ◌-◌, ◌≤◌, ◌<◌, eqb, List, [], ◌∷◌, length, refl, ap, ◌∙◌, arith, add-one, inl, inr}
+use Rattle.std.proofs.Common.{◌≡◌, ℕ, zero, suc, ◌+◌, ◌-◌, ◌≤◌, ◌<◌, List, [], ◌∷◌, length, refl, ap, ◌∙◌, arith, add-one, inl, inr}
 use Rattle.std.proofs.lemmas.Bool.{cases_eq}
 use Rattle.wasm_defs.specs.Fields.{Cursor, Read, Got, Fault, Wants}
 use Rattle.wasm_defs.specs.Entries.{Seen}
-use Rattle.wasm_defs.specs.Outside.{Row, row, header, entered, noted, inside, Section, section_end, Run, after_part, runs_on, Next, finish, entries, contents, section, or_section, sections_up_to, sections}
-use Rattle.section_reader.proofs.Takes.{Moved, Taken, Takes}
+use Rattle.wasm_defs.specs.Outside.{Row, row, entered, noted, inside, Section, Run, after_part, runs_on, Next, finish, entries, contents, section, or_section, sections_up_to, sections}
+use Rattle.section_reader.proofs.Takes.{Taken}
 use Rattle.section_reader.proofs.EntryTakes.{header_takes, section_end_takes, TakingRow, row_takes}
 
 -- what two continuations say where so many bytes are left at most

@@ -1,10 +1,9 @@
 -- Steps from place to place.
-use Rattle.std.proofs.Common.{◌≡◌, ℕ, suc, ◌+◌, ◌-◌, ◌<◌, ◌≤◌, ◌^◌, if◌then◌else◌, Bool, true, false, List, [], ◌∷◌, length, drop, get_or, Option, Some, None, Result, Ok, Err, refl, sym, ap, subst, ◌∙◌, arith, eqb, inl, inr}
+use Rattle.std.proofs.Common.{◌≡◌, ℕ, suc, ◌+◌, ◌-◌, ◌<◌, ◌≤◌, if◌then◌else◌, Bool, true, false, List, [], ◌∷◌, length, drop, get_or, Option, Some, None, Result, Ok, Err, refl, sym, ap, subst, ◌∙◌, arith, eqb, inl, inr}
 use Rattle.std.proofs.lemmas.Bool.{cases_Bool}
-use Rattle.wasm_defs.specs.declared.fault.Refusal.{Refusal}
 use Rattle.wasm_defs.specs.declared.item.Item.{Item}
 use Rattle.wasm_defs.specs.declared.item.Item.TheVariants as item
-use Rattle.wasm_defs.specs.Fields.{Cursor, Read, Got, Fault, Wants, Reader}
+use Rattle.wasm_defs.specs.Fields.{Cursor, Read, Got}
 use Rattle.wasm_defs.specs.Entries.{Seen, nothing, note}
 use Rattle.wasm_defs.specs.Outside as outside
 use Rattle.wasm_defs.specs.Outside.{row, Run, Whole, Refused, Owed, ends, after_part, runs_on, preamble, header, entered, noted, inside, section, sections, contents, entries, section_end, owes_code, at_the_end, or_section, module_run, beginning}
@@ -20,8 +19,8 @@ use Rattle.section_reader.specs.PartOf.{part_of, IsSized, LiesBefore}
 use Rattle.section_reader.specs.Left.{State, left, total, IsSound}
 use Rattle.section_reader.specs.Advances.{Advances}
 use Rattle.section_reader.specs.Goes.{Halts, Follows, IsGood, Goes}
-use Rattle.section_reader.proofs.Takes.{Moved, Takes, moved, moved_then}
-use Rattle.section_reader.proofs.EntryTakes.{header_takes, preamble_takes, section_end_takes, TakingRow, row_takes}
+use Rattle.section_reader.proofs.Takes.{Moved, moved}
+use Rattle.section_reader.proofs.EntryTakes.{header_takes, preamble_takes, section_end_takes, row_takes}
 use Rattle.section_reader.proofs.Runs.{sections_are}
 
 -- ---- answers after a step

@@ -1,7 +1,7 @@
 -- What a step of reading does.
 use Rattle.std.specs.Prelude.{◌≡◌, ℕ, Option, Some, None, Result, Ok, Err}
 use Rattle.wasm_defs.specs.Entries.{Seen}
-use Rattle.wasm_defs.specs.Outside.{Run, Ending, Whole, Refused, Owed, after_part, ends}
+use Rattle.wasm_defs.specs.Outside.{Run, Whole, Refused, Owed, after_part, ends}
 use Rattle.leb_feed.specs.declared.stop.Stop.{Stop}
 use Rattle.leb_feed.specs.declared.stop.Stop.TheVariants as stop
 use Rattle.section_reader.specs.declared.part.Part.{Part}

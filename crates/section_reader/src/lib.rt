@@ -11,6 +11,8 @@ mod reader;
 mod rows;
 mod sections;
 mod seen;
+#[cfg(test)]
+mod tests;
 
 pub use front_stop::FrontStop;
 pub use part::{Body, Part};

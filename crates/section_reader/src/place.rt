@@ -1,12 +1,9 @@
 //! Where reading stands in a module.
 //!
 //! ```text
-//!                     +------- a section's end ---------------------------+
-//!                     v                                                    |
-//! Preamble ------> Between --id--> Begun ---> Contents(id) ---> Entries(id, 0)
-//!                                                   |                ^
-//!                                                   v                |
-//!                                             Entries(id, n) --part--> Entries(id, n - 1)
+//! Preamble ---> Between ---id---> Begun ---> Contents(id) ---> Entries(id, n) ---part---> Entries(id, n - 1)
+//!                  ^                                                 |
+//!                  +--------------- section's end ------------ Entries(id, 0)
 //! ```
 
 /// Where reading stands.

@@ -67,7 +67,7 @@ impl<'a> SectionReader<'a> {
         ensures sized { IfOk result (λ part. IfSome part IsSized) }
 
         // Offsets of parts, and sums of a body's offset and length, are no more than the number of the module's bytes.
-        ensures lies { IfOk result (λ part. IfSome part (LiesBefore (total self.old))) }
+        ensures within { IfOk result (λ part. IfSome part (LiesBefore (total self.old))) }
         ensures kept { total self.new ≡ total self.old }
     {
         match self.step() {

@@ -1,2 +1,5 @@
 pub mod Joins
 pub mod Settling
+pub mod Judging
+pub mod Once
+pub mod Taking

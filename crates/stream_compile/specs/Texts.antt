@@ -4,6 +4,9 @@ use Rattle.std.specs.Fmt.{decimal}
 use Rattle.std.specs.Str.{bytes_eq}
 use Rattle.std.specs.Global.{Global}
 use Rattle.std.specs.Io.KnownBytes.{append_known}
+use Rattle.wasm_defs.specs.declared.fault.Kind.{Kind}
+use Rattle.wasm_defs.specs.declared.fault.Kind.TheVariants.{Malformed, Unsupported, Limit, Invalid, Ended}
+use Rattle.wasm_defs.specs.declared.fault.Refusal.{Refusal}
 use Rattle.wasm_defs.specs.Context.{declared_count}
 use Rattle.wasm_defs.specs.Faults.{Verdict, Accepted, Rejected, IsVerdict}
 
@@ -23,12 +26,20 @@ read_fault = record { status = 6; text = codes "read fault\n" }
 abbrev pub accepted : ℕ → ℕ → Outcome
 accepted functions bytes = record { status = 0; text = codes "ok " ++ decimal functions ++ codes " functions " ++ decimal bytes ++ codes " bytes\n" }
 
-abbrev pub rejected : Outcome
-rejected = record { status = 2; text = codes "refused\n" }
+abbrev pub kind_name : Kind → List ℕ
+kind_name Malformed = codes "malformed"
+kind_name Unsupported = codes "unsupported"
+kind_name Limit = codes "limit"
+kind_name Invalid = codes "invalid"
+kind_name Ended = codes "ended"
+
+-- what is wrong, and the offset of the byte where it stands
+abbrev pub rejected : Refusal → Outcome
+rejected r = record { status = 2; text = codes "refused " ++ kind_name r.kind ++ codes " at " ++ decimal r.offset ++ codes "\n" }
 
 abbrev pub of_verdict : ℕ → Verdict → Outcome
 of_verdict bytes (Accepted m) = accepted (declared_count m.items) bytes
-of_verdict bytes (Rejected r) = rejected
+of_verdict bytes (Rejected r) = rejected r
 
 -- two words, and the second is the command
 abbrev pub is_check : List (String Global) → Bool

@@ -2,9 +2,10 @@
 
 ghost use Rattle.std.specs.Prelude.{◌≡◌, IfOk, length};
 ghost use Rattle.stream_compile.specs.Reading.{view};
-ghost use Rattle.stream_compile.specs.Texts.{usage, read_fault, accepted, rejected};
+ghost use Rattle.stream_compile.specs.Texts.{usage, read_fault, accepted, kind_name, rejected};
 
 use std::alloc::{AllocError, Global};
+use wasm_defs::{Kind, Refusal};
 
 /// A status and what is written.
 #[derive(Drop)]
@@ -46,12 +47,26 @@ pub fn accepted(alloc: Global, functions: usize, bytes: usize) -> Result<Answer,
     })
 }
 
-/// The bytes are no module.
-pub fn rejected(alloc: Global) -> Result<Answer, AllocError>
-    ensures { IfOk result (λ a. view a ≡ rejected) }
+fn kind_name(kind: Kind) -> &'static str
+    ensures { result.now ≡ kind_name kind }
 {
+    match kind {
+        Kind::Malformed => "malformed",
+        Kind::Unsupported => "unsupported",
+        Kind::Limit => "limit",
+        Kind::Invalid => "invalid",
+        Kind::Ended => "ended",
+    }
+}
+
+/// The bytes are no module: this is its fault of least offset.
+pub fn rejected(alloc: Global, refusal: Refusal) -> Result<Answer, AllocError>
+    ensures { IfOk result (λ a. view a ≡ rejected refusal) }
+{
+    let kind = kind_name(refusal.kind);
+    let offset = refusal.offset;
     Ok(Answer {
         status: 2,
-        text: String::from_str(alloc, "refused\n")?,
+        text: format!(in alloc; "refused {kind} at {offset}\n")?,
     })
 }

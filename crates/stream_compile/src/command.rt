@@ -1,6 +1,6 @@
 //! The commands of the program.
 
-ghost use Rattle.std.specs.Prelude.{◌≡◌, ◌<◌, ◌^◌, ◌-◌, true, false, nat_lt, IfOk, length};
+ghost use Rattle.std.specs.Prelude.{◌≡◌, ◌<◌, ◌≤◌, ◌^◌, ◌-◌, true, false, nat_lt, IfOk, length};
 ghost use Rattle.stream_compile.specs.Reading.{Settles, view, is_failed};
 ghost use Rattle.stream_compile.specs.Texts.{is_check, IsOutcome, Answers};
 
@@ -27,7 +27,8 @@ fn is_check(words: &Vec<String>) -> bool
 /// The bytes to judge: where the words ask for none, none is read.
 fn gather<S: Source>(alloc: Global, check: bool, source: &mut S) -> Result<Input, AllocError>
     requires { S.faults source.old < 2 ^ 64 - 1 }
-    ensures { IfOk result (λ input. Settles check input.bytes.items (is_failed input.stop) (S.left source.old) (S.faults source.old) (S.faults source.new)) }
+    ensures most { IfOk result (λ input. length input.bytes.items ≤ 67108869) }
+    ensures settles { IfOk result (λ input. Settles check input.bytes.items (is_failed input.stop) (S.left source.old) (S.faults source.old) (S.faults source.new)) }
 {
     if check {
         read_all(alloc, source, MOST_READ)
@@ -39,18 +40,21 @@ fn gather<S: Source>(alloc: Global, check: bool, source: &mut S) -> Result<Input
     }
 }
 
+/// Of the bytes that came.
 fn of_bytes(alloc: Global, bytes: &[u8]) -> Result<Answer, AllocError>
+    requires { length bytes.now ≤ 67108869 }
     ensures { IfOk result (λ a. IsOutcome true false bytes.now (view a)) }
 {
     let verdict = verdict_of(alloc, bytes)?;
     match verdict {
         Verdict::Module { functions } => accepted(alloc, functions, bytes.len()),
-        Verdict::Refused(_) => rejected(alloc),
+        Verdict::Refused(refusal) => rejected(alloc, refusal),
     }
 }
 
 /// By the words, whether the source failed, and the bytes that came.
 fn answer_to(alloc: Global, check: bool, failed: bool, bytes: &[u8]) -> Result<Answer, AllocError>
+    requires { length bytes.now ≤ 67108869 }
     ensures { IfOk result (λ a. IsOutcome check failed bytes.now (view a)) }
 {
     if !check {

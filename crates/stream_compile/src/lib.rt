@@ -3,6 +3,11 @@
 
 mod answer;
 mod command;
+mod laws;
 mod verdict;
 
 pub use command::top;
+pub use laws::{faults_share_no_offset, verdicts_are_one};
+
+#[cfg(test)]
+mod tests;

@@ -1,5 +1,5 @@
 -- The faults of a module, and its verdict.
-use Rattle.std.specs.Prelude.{◌≡◌, ◌<◌, ◌≤◌, ◌⊎◌, ℕ, suc, ◌+◌, List, [], ◌∷◌, ◌++◌, length, map, Bool, Option, None, Some, nat_lt, nat_le, if◌then◌else◌}
+use Rattle.std.specs.Prelude.{◌≡◌, ◌<◌, ◌≤◌, ◌⊎◌, ℕ, suc, ◌+◌, List, [], ◌∷◌, ◌++◌, length, Bool, Option, None, Some, nat_lt, nat_le, if◌then◌else◌}
 use Rattle.wasm_defs.specs.declared.fault.Kind.{Kind}
 use Rattle.wasm_defs.specs.declared.fault.Kind.TheVariants.{Malformed, Unsupported, Limit, Invalid, Ended}
 use Rattle.wasm_defs.specs.declared.fault.Refusal.{Refusal}

@@ -28,3 +28,6 @@ pub use supported::{is_compiled_opcode, is_compiled_section};
 pub use text::Inside;
 pub use token::{BlockType, MemArg, Plain, Token};
 pub use types::{FuncType, ValType};
+
+#[cfg(test)]
+mod tests;

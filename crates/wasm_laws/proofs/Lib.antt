@@ -36,3 +36,4 @@ pub mod Described
 pub mod Rereading
 pub mod WholeModules
 pub mod OneReading
+pub mod Earlier

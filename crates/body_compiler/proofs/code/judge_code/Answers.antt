@@ -15,7 +15,7 @@ loop-alloc-preserved c = λ c' code g.
 pub returns-in-Err-take_instruction : goal.returns-in-Err-take_instruction
 returns-in-Err-take_instruction c = λ c' code g.
     goes_judges c' c.args.last c.take_instruction.new.fields c.take_instruction.new.check code c.in-Err-take_instruction.stop
-      (c.in-Err-take_instruction.ensures.goes c' code c.loop-alloc.fields (c.loop-alloc.invariant c' code g) c.in-Ok.ensures (isnt_over c.is_over.result c.loop-alloc-test.true c.is_over.ensures))
+    (c.in-Err-take_instruction.ensures.goes c' code c.loop-alloc.fields (c.loop-alloc.invariant c' code g) c.in-Ok.ensures (isnt_over c.is_over.result c.loop-alloc-test.true c.is_over.ensures))
 
 pub returns-in-Err : goal.returns-in-Err
 returns-in-Err c = λ c' code g.
@@ -24,9 +24,9 @@ returns-in-Err c = λ c' code g.
 pub returns-then-is_empty : goal.returns-then-is_empty
 returns-then-is_empty c = λ c' code g.
     is_valid c' c.args.last c.loop-alloc.fields c.loop-alloc.check code (c.loop-alloc.invariant c' code g) (is_over c.is_over.result c.loop-alloc-test.false c.is_over.ensures)
-      (tested_empty c.loop-alloc.fields.rest c.rest.result.now c.is_empty.result c.rest.ensures c.is_empty.ensures c.if-is_empty.true)
+    (tested_empty c.loop-alloc.fields.rest c.rest.result.now c.is_empty.result c.rest.ensures c.is_empty.ensures c.if-is_empty.true)
 
 pub returns : goal.returns
 returns c = λ c' code g.
     rw (c.malformed.ensures, c.offset.ensures) (has_more c' c.args.last c.loop-alloc.fields c.loop-alloc.check code (c.loop-alloc.invariant c' code g) (is_over c.is_over.result c.loop-alloc-test.false c.is_over.ensures)
-      (tested_some c.loop-alloc.fields.rest c.rest.result.now c.is_empty.result c.rest.ensures c.is_empty.ensures c.if-is_empty.false))
+    (tested_some c.loop-alloc.fields.rest c.rest.result.now c.is_empty.result c.rest.ensures c.is_empty.ensures c.if-is_empty.false))

@@ -9,8 +9,8 @@ loop-preserved c = record {
   few = omega (arith, c.in-Ok.ensures.few);
   unbegun = c.in-Ok-declare.ensures.unbegun;
   knows = λ c' f same.
-    let k = c.loop.invariant.knows c' f same in
-    knows_more c' f c.args.n c.loop.counter c.loop.declared c.loop.fields c.group.new.fields c.loop.check c.declare.new.check (groups c.args.n 0 c.args.fields.now) (view c.in-Ok.group) k c.loop-test.true c.in-Ok.ensures.read (c.in-Ok-declare.ensures.groups c' f k.front k.known (omega (arith, k.counted, c.in-Ok.ensures.few)));
+      let k = c.loop.invariant.knows c' f same in
+      knows_more c' f c.args.n c.loop.counter c.loop.declared c.loop.fields c.group.new.fields c.loop.check c.declare.new.check (groups c.args.n 0 c.args.fields.now) (view c.in-Ok.group) k c.loop-test.true c.in-Ok.ensures.read (c.in-Ok-declare.ensures.groups c' f k.front k.known (omega (arith, k.counted, c.in-Ok.ensures.few)));
 }
 
 pub returns-in-Err-declare : goal.returns-in-Err-declare

@@ -1,5 +1,5 @@
-use Rattle.std.proofs.Common.{◌≤◌, length, arith}
-use Rattle.section_reader.proofs.LeafTakes.{Ran, ran}
+use Rattle.std.proofs.Common.{arith}
+use Rattle.section_reader.proofs.LeafTakes.{ran}
 use Rattle.section_reader.proofs.rows.body.Goals as goal
 
 pub returns-clause-sized : goal.returns-clause-sized

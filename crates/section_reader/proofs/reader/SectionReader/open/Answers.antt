@@ -1,9 +1,6 @@
-use Rattle.std.proofs.Common.{subst}
 use Rattle.std.proofs.lemmas.Result.{err_from_is_err_and}
-use Rattle.wasm_defs.specs.Entries.{Seen}
-use Rattle.wasm_defs.specs.Fields.{Cursor}
 use Rattle.wasm_defs.specs.Outside.{header}
-use Rattle.section_reader.specs.declared.place.Place.TheVariants.{Begun, Contents}
+use Rattle.section_reader.specs.declared.place.Place.TheVariants.{Begun}
 use Rattle.section_reader.proofs.Takes.{moved}
 use Rattle.section_reader.proofs.EntryTakes.{header_takes}
 use Rattle.section_reader.proofs.Walk.{at, placed, steps_from, stops_from, goes_on, header_steps, header_stops, sound_moved, sound_entered}

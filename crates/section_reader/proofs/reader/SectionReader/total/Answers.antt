@@ -1,6 +1,5 @@
 use Rattle.std.proofs.Common.{rules}
 use Rattle.section_reader.specs.Left.{total}
-use Rattle.section_reader.proofs.Walk.{has_room}
 use Rattle.section_reader.proofs.reader.SectionReader.total.Goals as goal
 
 pub returns : goal.returns

@@ -1,0 +1,113 @@
+-- Bytes have one verdict.
+use Rattle.std.proofs.Common.{◌≡◌, ◌≤◌, ◌<◌, ◌⊎◌, inl, inr, ℕ, suc, ◌+◌, List, [], ◌∷◌, ◌++◌, length, Option, None, Some, refl, sym, ap, ◌∙◌, arith}
+use Rattle.std.proofs.lemmas.Bool.{cases_Bool}
+use Rattle.wasm_defs.specs.declared.fault.Refusal.{Refusal}
+use Rattle.wasm_defs.specs.declared.item.Item.{Item}
+use Rattle.wasm_defs.specs.Trees.{Seq}
+use Rattle.wasm_defs.specs.Outside.{Part, Section, Listed, Coded, Body, module_run}
+use Rattle.wasm_defs.specs.Supported.{is_compiled_section}
+use Rattle.wasm_defs.specs.Faults.{IsFirst, first_outside, ending_fault, sections_of, tokens_of, read_of, context_at, IsCodeFault, IsOutsideFault, IsFaultInside, IsFault, AreValid, Module, IsModule, Verdict, Accepted, Rejected, IsVerdict}
+use Rattle.wasm_laws.specs.Order.{AreOrdered, BodyStands, end_of, first_section}
+use Rattle.wasm_laws.proofs.Order.{parts_before_fault, parts_in_module}
+use Rattle.wasm_laws.proofs.Verdicts.{first_once, code_fault_inside, module_has_no_fault}
+use Rattle.body_validator.proofs.TreeLaws.{trees_one}
+use Rattle.stream_compile.proofs.Judging.{fault_after, section_after}
+
+-- ---- faults of bodies
+
+inside_once : (low last : ℕ) (items : List Item) (k : ℕ) (parts : List Part) (r s : Refusal) → AreOrdered low last parts → IsFaultInside items k parts r → IsFaultInside items k parts s → r.offset ≡ s.offset → r ≡ s
+inside_once low last items k [] r s o f g e = absurd f
+inside_once low last items k (Section at id ∷ parts) r s o f g e = inside_once (suc at) last items k parts r s o.2 f g e
+inside_once low last items k (Listed x ∷ parts) r s o f g e = inside_once low last (items ++ x ∷ []) k parts r s o.1 f g e
+inside_once low last items k (Coded b ∷ parts) r s o (inl f) (inl g) e = first_once _ r s f g
+inside_once low last items k (Coded b ∷ parts) r s o (inl f) (inr g) e =
+    let stands = o.0 in
+    let here = code_fault_inside (context_at items k b) b r (omega (arith, stands.least)) f in
+    let later = fault_after (end_of b) last items (suc k) parts s o.1 g in
+    absurd (omega (arith, here.1))
+inside_once low last items k (Coded b ∷ parts) r s o (inr f) (inl g) e =
+    let stands = o.0 in
+    let here = code_fault_inside (context_at items k b) b s (omega (arith, stands.least)) g in
+    let later = fault_after (end_of b) last items (suc k) parts r o.1 f in
+    absurd (omega (arith, here.1))
+inside_once low last items k (Coded b ∷ parts) r s o (inr f) (inr g) e = inside_once (end_of b) last items (suc k) parts r s o.1 f g e
+
+-- none stands at a section's id, nor where the ending's fault stands
+no_section : (low last : ℕ) (items : List Item) (k : ℕ) (parts : List Part) (r s : Refusal) → AreOrdered low last parts → IsFaultInside items k parts r → first_outside is_compiled_section (sections_of parts) ≡ Some s → r.offset ≡ s.offset → ⊥
+no_section low last items k [] r s o f g e = f
+no_section low last items k (Section at id ∷ parts) r s o f g e =
+    elim (cases_Bool (is_compiled_section id)) [
+      | inl h ↦ let t : first_outside is_compiled_section (sections_of parts) ≡ Some s = rw h at g in no_section (suc at) last items k parts r s o.2 f t e
+      | inr h ↦ let t = rw h at g in let here : at ≡ s.offset = cc in let later = fault_after (suc at) last items k parts r o.2 f in omega (arith)
+    ]
+no_section low last items k (Listed x ∷ parts) r s o f g e = no_section low last (items ++ x ∷ []) k parts r s o.1 f g e
+no_section low last items k (Coded b ∷ parts) r s o (inl f) g e =
+    let stands = o.0 in
+    let here = code_fault_inside (context_at items k b) b r (omega (arith, stands.least)) f in
+    let later = section_after (end_of b) last parts s o.1 g in
+    omega (arith, here.1)
+no_section low last items k (Coded b ∷ parts) r s o (inr f) g e = no_section (end_of b) last items (suc k) parts r s o.1 f g e
+
+before_last : (low last : ℕ) (items : List Item) (k : ℕ) (parts : List Part) (r : Refusal) → AreOrdered low last parts → IsFaultInside items k parts r → r.offset < last
+before_last low last items k [] r o f = absurd f
+before_last low last items k (Section at id ∷ parts) r o f = before_last (suc at) last items k parts r o.2 f
+before_last low last items k (Listed x ∷ parts) r o f = before_last low last (items ++ x ∷ []) k parts r o.1 f
+before_last low last items k (Coded b ∷ parts) r o (inl f) =
+    let stands = o.0 in
+    let here = code_fault_inside (context_at items k b) b r (omega (arith, stands.least)) f in
+    omega (arith, here.1, stands.before)
+before_last low last items k (Coded b ∷ parts) r o (inr f) = before_last (end_of b) last items (suc k) parts r o.1 f
+
+not_both : (bytes : List ℕ) (r s : Refusal) → IsOutsideFault bytes r → IsFaultInside [] 0 (module_run bytes).parts s → r.offset ≡ s.offset → ⊥
+not_both bytes r s f g e = of f.0
+  where
+    of : (ending_fault (length bytes) (module_run bytes).ending ≡ Some r) ⊎ (first_outside is_compiled_section (sections_of (module_run bytes).parts) ≡ Some r) → ⊥
+    of (inl h) = let k = before_last first_section r.offset [] 0 (module_run bytes).parts s (parts_before_fault bytes r h).0 g in omega arith
+    of (inr h) = no_section first_section (length bytes) [] 0 (module_run bytes).parts s r (parts_in_module bytes) g h (sym e)
+
+-- ---- no two faults share an offset
+
+pub fault_once : (bytes : List ℕ) (r s : Refusal) → IsFault bytes r → IsFault bytes s → r.offset ≡ s.offset → r ≡ s
+fault_once bytes r s (inl f) (inl g) e = first_once _ r s f g
+fault_once bytes r s (inl f) (inr g) e = absurd (not_both bytes r s f g e)
+fault_once bytes r s (inr f) (inl g) e = absurd (not_both bytes s r g f (sym e))
+fault_once bytes r s (inr f) (inr g) e = inside_once first_section (length bytes) [] 0 (module_run bytes).parts r s (parts_in_module bytes) f g e
+
+-- ---- trees
+
+same_trees : (items : List Item) (k : ℕ) (parts : List Part) (xs ys : List Seq) → AreValid items k parts xs → AreValid items k parts ys → xs ≡ ys
+same_trees items k [] [] [] v w = refl
+same_trees items k [] (x ∷ xs) ys v w = absurd v
+same_trees items k [] [] (y ∷ ys) v w = absurd w
+same_trees items k (Section at id ∷ parts) xs ys v w = same_trees items k parts xs ys v w
+same_trees items k (Listed x ∷ parts) xs ys v w = same_trees (items ++ x ∷ []) k parts xs ys v w
+same_trees items k (Coded b ∷ parts) [] ys v w = absurd v
+same_trees items k (Coded b ∷ parts) (x ∷ xs) [] v w = absurd w
+same_trees items k (Coded b ∷ parts) (x ∷ xs) (y ∷ ys) v w =
+    let first = v.0 in
+    let second = w.0 in
+    let h = trees_one (tokens_of (read_of b).code.tokens) x y first.tree_is second.tree_is in
+    let t = same_trees items (suc k) parts xs ys v.1 w.1 in
+    ap (λ (z : Seq). z ∷ xs) h ∙ ap (λ (l : List Seq). y ∷ l) t
+
+-- ---- verdicts
+
+same_module : (bytes : List ℕ) (m n : Module) → IsModule bytes m → IsModule bytes n → m ≡ n
+same_module bytes m n p q =
+    let items : m.items ≡ n.items = p.items ∙ sym q.items in
+    let bodies : m.bodies ≡ n.bodies = p.bodies ∙ sym q.bodies in
+    let trees : m.trees ≡ n.trees = same_trees [] 0 (module_run bytes).parts m.trees n.trees p.valid q.valid in
+    ap (λ (x : List Item). record { items = x; bodies = m.bodies; trees = m.trees }) items
+    ∙ ap (λ (x : List Body). record { items = n.items; bodies = x; trees = m.trees }) bodies
+    ∙ ap (λ (x : List Seq). record { items = n.items; bodies = n.bodies; trees = x }) trees
+
+no_fault : (bytes : List ℕ) (m : Module) (r : Refusal) → IsModule bytes m → IsFault bytes r → ⊥
+no_fault bytes m r p f = module_has_no_fault bytes (module_run bytes).parts m.trees r p.whole p.compiled p.valid f
+
+pub verdict_once : (bytes : List ℕ) (v w : Verdict) → IsVerdict bytes v → IsVerdict bytes w → v ≡ w
+verdict_once bytes (Accepted m) (Accepted n) p q = ap (λ (x : Module). Accepted x) (same_module bytes m n p q)
+verdict_once bytes (Accepted m) (Rejected r) p q = absurd (no_fault bytes m r p q.0)
+verdict_once bytes (Rejected r) (Accepted m) p q = absurd (no_fault bytes m r q p.0)
+verdict_once bytes (Rejected r) (Rejected s) p q =
+    let same : r.offset ≡ s.offset = omega (arith, p.1 s q.0, q.1 r p.0) in
+    ap (λ (x : Refusal). Rejected x) (fault_once bytes r s p.0 q.0 same)

@@ -1,0 +1,15 @@
+//! Laws of verdicts.
+
+ghost use Rattle.std.specs.Prelude.{◌≡◌, ℕ, List};
+ghost use Rattle.wasm_defs.specs.declared.fault.Refusal.{Refusal};
+ghost use Rattle.wasm_defs.specs.Faults.{IsFault, IsVerdict, Verdict};
+
+/// Bytes have one verdict: they are one module, or they have one fault of least offset.
+pub fn verdicts_are_one()
+    ensures { (bytes : List ℕ) (v w : Verdict) → IsVerdict bytes v → IsVerdict bytes w → v ≡ w }
+{}
+
+/// No two faults of the same bytes share an offset.
+pub fn faults_share_no_offset()
+    ensures { (bytes : List ℕ) (r s : Refusal) → IsFault bytes r → IsFault bytes s → r.offset ≡ s.offset → r ≡ s }
+{}
