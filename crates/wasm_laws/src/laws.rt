@@ -11,7 +11,6 @@ ghost use Rattle.wasm_laws.specs.BodyOrder.{IsSpelledIn};
 ghost use Rattle.wasm_laws.specs.Counts.{AreDeclared};
 ghost use Rattle.wasm_laws.specs.Order.{AreCutFrom, AreOrdered, BodyStands, end_of, first_section};
 ghost use Rattle.wasm_laws.specs.Runs.{deciding_length, GoesOn, IsRefused};
-ghost use Rattle.wasm_laws.specs.Sections.{ModulesAreSpelled, ModulesHaveSections, SectionsAreOne};
 ghost use Rattle.wasm_laws.specs.Steadiness.{Steady, SteadyEnd, SteadyRow, Takes, token};
 ghost use Rattle.wasm_laws.specs.Typed.{AreTyped};
 
@@ -88,16 +87,4 @@ pub fn bodies_match_functions()
 /// before this one stands among the items before it, and so does the type that the function names.
 pub fn functions_have_types()
     ensures { (bytes : List ℕ) → AreTyped [] 0 (module_run bytes).parts }
-{}
-
-/// Modules are what the grammar spells (Core 5.5): the run of some bytes is whole exactly where the bytes are a module of
-/// sections that keep the rules, and its parts are then those sections' ids, items and bodies in order.
-pub fn modules_are_spelled()
-    ensures runs { ModulesAreSpelled }
-    ensures modules { ModulesHaveSections }
-{}
-
-/// The grammar has one reading of any bytes (Core 5.5): sections that spell the same module are the same.
-pub fn items_are_one()
-    ensures { SectionsAreOne }
 {}
