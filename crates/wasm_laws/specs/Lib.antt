@@ -4,3 +4,4 @@ pub mod Order
 pub mod Counts
 pub mod BodyOrder
 pub mod Typed
+pub mod Sections

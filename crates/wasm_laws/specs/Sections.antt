@@ -1,0 +1,32 @@
+-- What the sections of a module come to in its run (WebAssembly Core 1.0, 5.5).
+use Rattle.std.specs.Prelude.{◌≡◌, ◌<◌, ℕ, List, [], ◌∷◌, ◌++◌, length, map}
+use Rattle.std.specs.List.{All}
+use Rattle.wasm_defs.specs.declared.item.Item.TheVariants.{Start, Code}
+use Rattle.wasm_defs.specs.Entries.{Seen}
+use Rattle.wasm_defs.specs.Outside as outside
+use Rattle.wasm_defs.specs.Outside.{Part, Listed, Coded, Whole, module_run}
+use Rattle.wasm_defs.specs.Items.{Section, Payload, Custom, Vector, Starting, Bodies, payload_id, Items}
+use Rattle.wasm_defs.specs.Rules.{RulesAreKept}
+
+-- the parts of a section behind its id: its items, or the code's count and its bodies
+abbrev pub parts_of : Payload → List Part
+parts_of (Custom name) = []
+parts_of (Vector id count items) = map Listed items
+parts_of (Starting index) = Listed (Start index) ∷ []
+parts_of (Bodies count end bodies) = Listed (Code (count, length bodies) end) ∷ map Coded bodies
+
+abbrev pub parts_in : List Section → List Part
+parts_in [] = []
+parts_in (s ∷ sections) = outside.Section s.id (payload_id s.payload) ∷ (parts_of s.payload ++ parts_in sections)
+
+-- the bytes are a module of these sections, which keep the rules
+pub record IsModuleOf (sections : List Section) (bytes : List ℕ) : Type 0 where
+  pub spelled : Items bytes sections
+  pub kept : RulesAreKept bytes sections
+
+abbrev pub AreBytes : List ℕ → Type 0
+AreBytes = All (λ b. b < 256)
+
+-- the bytes are read whole, with these parts
+abbrev pub IsReadAs : List Part → List ℕ → Type 0
+IsReadAs parts bytes = (seen : Seen) × (module_run bytes ≡ record { parts = parts; ending = Whole seen })
