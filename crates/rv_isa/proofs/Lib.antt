@@ -7,3 +7,4 @@ pub mod AccessLaws
 pub mod SizeLaws
 pub mod ValueLaws
 pub mod SoundLaws
+pub mod OffsetLaws

@@ -1,6 +1,6 @@
 //! Laws of the step table, for the proofs of other crates. Each function does nothing: its contract is the law, which
 //! `specs/Laws.antt` states.
-ghost use Rattle.rv_isa.specs.Laws.{RunsGoOn, CallsStay, FaultsStay, StepsKeepSizes, RunsKeepSizes, StepsStaySound, RunsStaySound, WordsStand, BlocksRun, BlocksKeep, LoadsAreExact, StoresAreExact, WrittenIsRead, AboveStays, BelowStays};
+ghost use Rattle.rv_isa.specs.Laws.{RunsGoOn, CallsStay, FaultsStay, StepsKeepSizes, RunsKeepSizes, StepsStaySound, RunsStaySound, WordsStand, BlocksRun, BlocksKeep, LoadsAreExact, StoresAreExact, WrittenIsRead, AboveStays, BelowStays, WrittenRegisterIsRead, OtherRegistersStay, PartsMeet, PartsMeetDown, LoadsBehind, StoresBehind};
 
 /// Runs compose, and one that is over stays over.
 pub fn run_law()
@@ -43,4 +43,18 @@ pub fn size_law()
 pub fn range_law()
     ensures step { StepsStaySound }
     ensures run { RunsStaySound }
+{}
+
+/// A register that was written has what was written, unless it is x0, and the others stay.
+pub fn register_law()
+    ensures same { WrittenRegisterIsRead }
+    ensures others { OtherRegistersStay }
+{}
+
+/// An offset's parts add up to it, and three words load or store a doubleword at an offset behind a register.
+pub fn offset_law()
+    ensures parts { PartsMeet }
+    ensures parts_down { PartsMeetDown }
+    ensures load { LoadsBehind }
+    ensures store { StoresBehind }
 {}
