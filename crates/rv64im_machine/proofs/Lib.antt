@@ -1,0 +1,4 @@
+pub mod RegisterLaws
+pub mod FetchLaws
+pub mod WindowLaws
+pub mod Underway

@@ -1,0 +1,10 @@
+pub mod Contents
+pub mod Flows
+pub mod Instructions
+pub mod Outcomes
+pub mod Lending
+pub use Rattle.rv_isa.specs.Words
+pub use Rattle.rv_isa.specs.Values
+pub use Rattle.rv_isa.specs.Steps
+pub use Rattle.rv_isa.specs.Runs
+pub use Rattle.rv_isa.specs.Laws

@@ -1,0 +1,10 @@
+pub mod ByteLaws
+pub mod CodeLaws
+pub mod Formats
+pub mod Inverse
+pub mod RunLaws
+pub mod AccessLaws
+pub mod SizeLaws
+pub mod ValueLaws
+pub mod SoundLaws
+pub mod OffsetLaws

@@ -1,0 +1,5 @@
+pub mod Words
+pub mod Values
+pub mod Steps
+pub mod Runs
+pub mod Laws

@@ -1,0 +1,80 @@
+//! Words that grow.
+ghost use Rattle.std.specs.Prelude.{◌≡◌, ◌<◌, [], ◌∷◌, ◌++◌, length, slice_set, IfOk, OnOk, OnErr};
+
+use crate::compiled::Words;
+use std::alloc::{AllocError, Global};
+use std::marker::Model;
+
+/// Room for the words of a small function.
+const FIRST_CAPACITY: usize = 64;
+
+/// Words to which more are appended, and of which each can be replaced. Contracts see the list of the words.
+#[derive(Drop)]
+pub struct WordBuffer {
+    words: Vec<u32>,
+}
+
+impl Model for WordBuffer {
+    ghost use Rattle.std.specs.Prelude.{ℕ, List};
+
+    ghost Value = { List ℕ };
+
+    ghost view = { λ b. b.words.items };
+}
+
+impl WordBuffer {
+    /// A buffer with no words.
+    pub fn new(alloc: Global) -> Result<Self, AllocError>
+        ensures { IfOk result (λ b. b ≡ []) }
+    {
+        Ok(WordBuffer {
+            words: Vec::with_capacity(alloc, FIRST_CAPACITY)?,
+        })
+    }
+
+    /// The place of the word that is appended next: the number of words.
+    pub fn place(&self) -> usize
+        ensures { result ≡ length self.now }
+    {
+        self.words.len()
+    }
+
+    /// Appends a word.
+    pub fn push(&mut self, word: u32) -> Result<(), AllocError>
+        ensures ok { OnOk result (self.new ≡ self.old ++ word ∷ []) }
+        ensures err { OnErr result (self.new ≡ self.old) }
+    {
+        self.words.push(word)?;
+        Ok(())
+    }
+
+    /// Appends some words, or none of them.
+    pub fn append(&mut self, words: &[u32]) -> Result<(), AllocError>
+        ensures ok { OnOk result (self.new ≡ self.old ++ words.now) }
+        ensures err { OnErr result (self.new ≡ self.old) }
+    {
+        self.words.extend_from_slice(words)
+    }
+
+    /// Replaces the word at a place.
+    pub fn patch(&mut self, place: usize, word: u32)
+        requires { place < length self.old }
+        ensures { self.new ≡ slice_set self.old place word }
+    {
+        self.words[place] = word;
+    }
+
+    /// The words.
+    pub fn as_slice(&self) -> &[u32]
+        ensures { result.now ≡ self.now }
+    {
+        self.words.as_slice()
+    }
+
+    /// The words, to be kept. It takes no memory.
+    pub fn finish(self) -> Words
+        ensures { result ≡ self }
+    {
+        Words::from_vec(self.words)
+    }
+}
