@@ -3,9 +3,11 @@
 
 mod argument;
 mod command;
+mod laws;
 
 pub use argument::{Argument, argument_of};
 pub use command::{Command, Options, WordsStop, command_of};
+pub use laws::commands_are_one;
 
 #[cfg(test)]
 mod tests;
