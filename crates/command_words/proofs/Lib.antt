@@ -1,3 +1,4 @@
 pub mod Numbers
 pub mod Commands
 pub mod Readings
+pub mod Passing

@@ -1,6 +1,6 @@
 -- The grammar of the program's words, over clap's model of simple commands: what a parse makes of the words
 -- (`subcommand_of`), and the faults that it finds in them (`fault_of`).
-use Rattle.std.specs.Prelude.{◌≡◌, ◌&&◌, nat_le, ℕ, Bool, true, List, [], ◌∷◌, Option, None, Some, Result, Ok, Err, codes, if◌then◌else◌, option_map, option_and_then}
+use Rattle.std.specs.Prelude.{◌≡◌, ◌≢◌, ◌&&◌, nat_le, ℕ, Bool, true, List, [], ◌∷◌, Option, None, Some, Result, Ok, Err, codes, if◌then◌else◌, option_map, option_and_then}
 use Rattle.std.specs.Str.{bytes_eq}
 use Rattle.std.specs.Str.Parse.{digits_value, without_leading_plus}
 use Rattle.clap.specs.Walk.{Row, Rule, Text, one_of}
@@ -70,8 +70,9 @@ command_in words = command_without (fault_of program words) (subcommand_of progr
 abbrev pub IsCommand : List Text → Command → Type 0
 IsCommand words c = command_in words ≡ Some c
 
+-- clap's model finds a fault
 abbrev pub IsOutside : List Text → Type 0
-IsOutside words = command_in words ≡ None
+IsOutside words = fault_of program words ≢ []
 
 -- the command, or why there is none; memory may run out at any words
 abbrev pub Reads : List Text → Result Command WordsStop → Type 0
