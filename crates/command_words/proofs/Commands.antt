@@ -1,9 +1,9 @@
 -- The command that is read is the one that clap's model reads.
-use Rattle.std.proofs.Common.{◌≡◌, ◌∙◌, ◌⊎◌, Bool, true, false, List, [], ◌∷◌, Option, Some, None, refl, ap, ap₂, sym, subst, inl, inr}
+use Rattle.std.proofs.Common.{◌≡◌, ◌∙◌, true, List, [], ◌∷◌, Option, Some, None, refl, ap, ap₂, sym, subst, inl, inr}
 use Rattle.std.specs.Prelude.{option_and_then, ok_or, Result}
-use Rattle.clap.specs.Walk.{Row, Text, is_empty}
-use Rattle.clap.specs.Simple.{App, app_of, subcommand_of, subcommand_rows_of, HasMatchesOf, is_simple}
-use Rattle.clap.specs.Kinds.{Kinds, HasKind, IsAmong}
+use Rattle.clap.specs.Walk.{Text}
+use Rattle.clap.specs.Simple.{App, subcommand_of, subcommand_rows_of, HasMatchesOf, is_simple}
+use Rattle.clap.specs.Kinds.{Kinds, HasKind}
 use Rattle.clap.specs.Values.{kind_of}
 use Rattle.clap.specs.Faults.{fault_of, is_simple_and_free}
 use Rattle.clap.specs.declared.error.Error.{Error}

@@ -1,13 +1,12 @@
 -- Where clap's model finds no fault, both options of `check` have numbers in their ranges.
 use Rattle.std.proofs.Common.{◌≡◌, ◌∙◌, ◌⊎◌, ◌++◌, ℕ, Bool, true, false, List, [], ◌∷◌, length, zero, suc, Option, Some, None, refl, ap, ap₂, sym, subst, true≢false, inl, inr}
-use Rattle.std.specs.Prelude.{◌≢◌, ◌==◌, ◌||◌, codes, cond, drop, encode_utf8, fold, find, is_some, not, ◌&&◌, option_and_then, option_map, slice_get}
-use Rattle.std.specs.List.{list_any}
+use Rattle.std.specs.Prelude.{◌≢◌, ◌||◌, codes, cond, drop, encode_utf8, fold, find, is_some, not, ◌&&◌, option_and_then, option_map, slice_get}
 use Rattle.std.specs.Option.{option_map_or}
 use Rattle.std.specs.Str.{bytes_eq, chars}
 use Rattle.clap.specs.Lexer.{long_of, short_of}
 use Rattle.clap.specs.Kinds.{Kinds, or_else, value_kinds}
-use Rattle.clap.specs.Walk.{Held, Outcome, Row, Rule, Step, Text, Waiting, Walk, after_flag, after_step, arg_by_id, arg_by_long, at_row, bundle_met, done, flag_met, has_row, idle, long_met, long_or_other}
-use Rattle.clap.specs.Walk.{Names, answers_to, finished, nothing_held, rows_after, stronger, subcommand_or_other, walk, walk_from, walked_from, bundle, bundle_step, has_long, option_met, option_word, subcommand_met, used_by_id, more_values, next, option, plain, plain_word, positional, refused, row_text, settled, settled_rows, short_or_plain, subcommand, trailing, used, value, waits, walked, with_default, with_values, without, word_met}
+use Rattle.clap.specs.Walk.{Held, Outcome, Row, Rule, Step, Text, Waiting, Walk, after_flag, after_step, arg_by_id, arg_by_long, at_row, bundle_met, done, has_row, idle, long_met, long_or_other}
+use Rattle.clap.specs.Walk.{Names, answers_to, finished, nothing_held, rows_after, stronger, subcommand_or_other, walk, walk_from, walked_from, bundle, bundle_step, has_long, option_met, option_word, used_by_id, more_values, next, option, plain, plain_word, positional, refused, row_text, settled, settled_rows, short_or_plain, subcommand, trailing, used, value, waits, walked, with_default, with_values, without, word_met}
 use Rattle.clap.specs.Simple.{Shape, subcommand_of, argument_words, built, built_leaf, entered, filled, filled_from, inherited, label_of, marked_built, names_of, rows_at, with_index, with_leaf_noted}
 use Rattle.clap.specs.Facts.{parser_of_value}
 use Rattle.clap.specs.declared.builder.value_parser.ValueParser.TheVariants as parser

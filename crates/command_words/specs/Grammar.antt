@@ -1,6 +1,6 @@
 -- The grammar of the program's words, over clap's model of simple commands: what a parse makes of the words
 -- (`subcommand_of`), and the faults that it finds in them (`fault_of`).
-use Rattle.std.specs.Prelude.{◌≡◌, ◌≢◌, ◌&&◌, nat_le, ℕ, Bool, true, List, [], ◌∷◌, Option, None, Some, Result, Ok, Err, codes, if◌then◌else◌, option_map, option_and_then}
+use Rattle.std.specs.Prelude.{◌≡◌, ◌≢◌, ◌&&◌, nat_le, ℕ, true, List, [], ◌∷◌, Option, None, Some, Result, Ok, Err, codes, if◌then◌else◌, option_map, option_and_then}
 use Rattle.std.specs.Str.{bytes_eq}
 use Rattle.std.specs.Str.Parse.{digits_value, without_leading_plus}
 use Rattle.clap.specs.Walk.{Row, Rule, Text, one_of}

@@ -1,7 +1,6 @@
 //! The commands of the program and their options.
 
-ghost use Rattle.std.specs.Prelude.{◌≡◌, IfOk, map, string_bytes};
-ghost use Rattle.std.specs.Prelude.{false, option_and_then};
+ghost use Rattle.std.specs.Prelude.{◌≡◌, IfOk, false, map, option_and_then, string_bytes};
 ghost use Rattle.clap.specs.Words.{app_of, found_of, one_of, rows_of, rule_of, subcommand_rows_of};
 ghost use Rattle.clap.specs.declared.builder.command.Command.TheViews.{out-Command};
 ghost use Rattle.command_words.specs.Grammar.{Reads, batch, check, command_named, in_range, number_in, options_in, program, workers};
@@ -35,6 +34,7 @@ pub enum WordsStop {
     NoMemory,
 }
 
+/// `--workers N`.
 fn workers<'a>(alloc: Global) -> Arg<'a>
     ensures rule { rule_of result ≡ workers }
     ensures local { result.global ≡ false }
@@ -45,6 +45,7 @@ fn workers<'a>(alloc: Global) -> Arg<'a>
         .default_value("4")
 }
 
+/// `--batch N`.
 fn batch<'a>(alloc: Global) -> Arg<'a>
     ensures rule { rule_of result ≡ batch }
     ensures local { result.global ≡ false }
@@ -55,6 +56,7 @@ fn batch<'a>(alloc: Global) -> Arg<'a>
         .default_value("4096")
 }
 
+/// The subcommand `check`.
 fn check<'a>(alloc: Global) -> Result<Parser<'a>, AllocError>
     ensures app { IfOk result (λ p. app_of p ≡ check) }
     ensures local { IfOk result (λ p. (out-Command p).has_globals ≡ false) }
@@ -75,6 +77,7 @@ fn program<'a>(alloc: Global) -> Result<Parser<'a>, AllocError>
         .subcommand(check(alloc)?)
 }
 
+/// The number, where it is in the range. Clap keeps to the range by itself; that it is tested here too says so of the options.
 fn in_range(number: Option<u64>, least: u64, most: u64) -> Option<u64>
     ensures { result ≡ option_and_then (in_range least most) number }
 {
@@ -112,8 +115,11 @@ fn command_in(matches: &ArgMatches<'_>) -> Option<Command>
 
 /// Reads the command that the words give, of which the first is the program's name.
 ///
-/// The words are a subcommand, which is `check`, with its options: `--workers N` and `--batch N` (or `--workers=N` and
-/// `--batch=N`), each once at most. Words that ask for help are outside the grammar.
+/// After it comes the subcommand `check`, and then its options: `--workers N` and `--batch N`, or `--workers=N` and
+/// `--batch=N`, in any order and each once at most. N is decimal digits, before which a plus may stand. Nothing but one `--`
+/// may follow. Words that ask for help are outside the grammar.
+///
+/// `Outside` says that the words are outside the grammar, and `NoMemory`, which may come at any words, that memory ran out.
 pub fn command_of(alloc: Global, words: &Vec<String>) -> Result<Command, WordsStop>
     ensures { Reads (map string_bytes words.now.items) result }
 {
