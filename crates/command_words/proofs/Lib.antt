@@ -2,3 +2,4 @@ pub mod Numbers
 pub mod Commands
 pub mod Readings
 pub mod Passing
+pub mod Arguments

@@ -7,7 +7,7 @@ mod laws;
 
 pub use argument::{Argument, argument_of};
 pub use command::{Command, Options, WordsStop, command_of};
-pub use laws::commands_are_one;
+pub use laws::{arguments_are_one, commands_are_one};
 
 #[cfg(test)]
 mod tests;
