@@ -1,0 +1,81 @@
+-- The grammar of the program's words, over clap's model of simple commands: what a parse makes of the words
+-- (`subcommand_of`), and the faults that it finds in them (`fault_of`).
+use Rattle.std.specs.Prelude.{◌≡◌, ◌≢◌, ◌&&◌, nat_le, ℕ, true, List, [], ◌∷◌, Option, None, Some, Result, Ok, Err, codes, if◌then◌else◌, option_map, option_and_then}
+use Rattle.std.specs.Str.{bytes_eq}
+use Rattle.std.specs.Str.Parse.{digits_value, without_leading_plus}
+use Rattle.clap.specs.Walk.{Row, Rule, Text, one_of}
+use Rattle.clap.specs.Simple.{App, new_app, new_rule, on_top, subcommand_of, with_rule, with_subcommand}
+use Rattle.clap.specs.ValueTests.{is_unsigned_in}
+use Rattle.clap.specs.Kinds.{Kinds}
+use Rattle.clap.specs.Faults.{fault_of}
+use Rattle.clap.specs.declared.builder.value_parser.ValueParser.TheVariants as parser
+use Rattle.command_words.specs.declared.command.Command.{Command}
+use Rattle.command_words.specs.declared.command.Command.TheVariants.{Check}
+use Rattle.command_words.specs.declared.command.Options.{Options}
+use Rattle.command_words.specs.declared.command.WordsStop.{WordsStop}
+use Rattle.command_words.specs.declared.command.WordsStop.TheVariants.{Outside, NoMemory}
+
+-- `--name N`, once at most, for a number from `least` to `most`
+abbrev pub number_option : Text → Text → ℕ → ℕ → Rule
+number_option name default least most = record (new_rule name) {
+  long = Some name;
+  defaults = default ∷ [];
+  parser = Some (parser.Unsigned least most);
+}
+
+abbrev pub workers : Rule
+workers = number_option (codes "workers") (codes "4") 0 64
+
+abbrev pub batch : Rule
+batch = number_option (codes "batch") (codes "4096") 1 1048576
+
+abbrev pub check : App
+check = with_rule (with_rule (new_app (codes "check")) workers) batch
+
+-- the program: a subcommand is wanted, and no word asks for help
+abbrev pub program : App
+program = with_subcommand (on_top (λ s. record s {
+  disable_help_flag = true;
+  disable_help_subcommand = true;
+  subcommand_required = true;
+}) (new_app (codes "wstream"))) check.top
+
+abbrev pub in_range : ℕ → ℕ → ℕ → Option ℕ
+in_range least most n = if nat_le least n && nat_le n most then Some n else None
+
+-- the number that a text spells, where it is in the range
+abbrev pub number_in : ℕ → ℕ → Text → Option ℕ
+number_in least most text = if is_unsigned_in least most text then Some (digits_value 10 (without_leading_plus text)) else None
+
+abbrev pub options_of : Option ℕ → Option ℕ → Option Options
+options_of (Some w) (Some b) = Some (record { workers = w; batch = b })
+options_of _ _ = None
+
+-- the numbers of what was found for the options
+abbrev pub options_in : List Row → Option Options
+options_in rows = options_of (option_and_then (number_in 0 64) (one_of (codes "workers") rows))
+    (option_and_then (number_in 1 1048576) (one_of (codes "batch") rows))
+
+abbrev pub command_named : Text × List Row → Option Command
+command_named p = if bytes_eq p.0 (codes "check") then option_map Check (options_in p.1) else None
+
+-- the command that clap's model reads, where it finds no fault
+abbrev pub command_without : Kinds → Option (Text × List Row) → Option Command
+command_without [] named = option_and_then command_named named
+command_without (fault ∷ faults) named = None
+
+abbrev pub command_in : List Text → Option Command
+command_in words = command_without (fault_of program words) (subcommand_of program words)
+
+abbrev pub IsCommand : List Text → Command → Type 0
+IsCommand words c = command_in words ≡ Some c
+
+-- clap's model finds a fault
+abbrev pub IsOutside : List Text → Type 0
+IsOutside words = fault_of program words ≢ []
+
+-- the command, or why there is none; memory may run out at any words
+abbrev pub Reads : List Text → Result Command WordsStop → Type 0
+Reads words (Ok c) = IsCommand words c
+Reads words (Err Outside) = IsOutside words
+Reads words (Err NoMemory) = Unit {0}
