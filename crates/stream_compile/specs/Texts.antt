@@ -1,9 +1,9 @@
 -- What the program answers and writes.
-use Rattle.std.specs.Prelude.{◌≡◌, ◌⊎◌, ℕ, Bool, true, false, List, [], ◌∷◌, ◌++◌, length, take, Option, None, Some, codes, String, string_bytes}
+use Rattle.std.specs.Prelude.{◌≡◌, ◌⊎◌, ℕ, Bool, true, false, List, ◌++◌, length, take, Option, None, Some, codes, String, string_bytes, is_some, map}
 use Rattle.std.specs.Fmt.{decimal}
-use Rattle.std.specs.Str.{bytes_eq}
 use Rattle.std.specs.Global.{Global}
 use Rattle.std.specs.Io.KnownBytes.{append_known}
+use Rattle.command_words.specs.Grammar.{command_in}
 use Rattle.wasm_defs.specs.declared.fault.Kind.{Kind}
 use Rattle.wasm_defs.specs.declared.fault.Kind.TheVariants.{Malformed, Unsupported, Limit, Invalid, Ended}
 use Rattle.wasm_defs.specs.declared.fault.Refusal.{Refusal}
@@ -41,10 +41,9 @@ abbrev pub of_verdict : ℕ → Verdict → Outcome
 of_verdict bytes (Accepted m) = accepted (declared_count m.items) bytes
 of_verdict bytes (Rejected r) = rejected r
 
--- two words, and the second is the command
-abbrev pub is_check : List (String Global) → Bool
-is_check (program ∷ command ∷ []) = bytes_eq (string_bytes command) (codes "check")
-is_check words = false
+-- the words, of which the first is the program's name, are a command; else they are outside the command grammar
+abbrev pub is_command : List (String Global) → Bool
+is_command words = is_some (command_in (map string_bytes words))
 
 -- by the words, whether the source failed, and the bytes that came
 abbrev pub IsOutcome : Bool → Bool → List ℕ → Outcome → Type 0

@@ -2,10 +2,11 @@
 
 ghost use Rattle.std.specs.Prelude.{◌≡◌, ◌<◌, ◌≤◌, ◌^◌, ◌-◌, true, false, nat_lt, IfOk, length};
 ghost use Rattle.stream_compile.specs.Reading.{Settles, view, is_failed};
-ghost use Rattle.stream_compile.specs.Texts.{is_check, IsOutcome, Answers};
+ghost use Rattle.stream_compile.specs.Texts.{is_command, IsOutcome, Answers};
 
 use crate::answer::{Answer, accepted, read_fault, rejected, usage};
 use crate::verdict::{Verdict, verdict_of};
+use command_words::{Command, WordsStop, command_of};
 use io_edges::{Gate, Input, Sink, Source, Stop, read_all, write_all};
 use std::alloc::{AllocError, Global};
 use std::sync::Wait;
@@ -14,13 +15,14 @@ use std::thread::Threads;
 /// The most bytes that are read: a section's size that begins at the limit on a module's bytes has at most five.
 const MOST_READ: usize = 67_108_869;
 
-/// Whether the words are the command `check`: there are two, the program's name being the first.
-fn is_check(words: &Vec<String>) -> bool
-    ensures { result ≡ is_check words.now.items }
+/// Whether the words are a command: else they are outside the command grammar. Its options have no effect yet.
+fn is_command(alloc: Global, words: &Vec<String>) -> Result<bool, AllocError>
+    ensures { IfOk result (λ known. known ≡ is_command words.now.items) }
 {
-    match words.as_slice() {
-        [_, command] => command.as_str() == "check",
-        _ => false,
+    match command_of(alloc, words) {
+        Ok(Command::Check(_)) => Ok(true),
+        Err(WordsStop::Outside) => Ok(false),
+        Err(WordsStop::NoMemory) => Err(AllocError),
     }
 }
 
@@ -81,12 +83,14 @@ pub fn top<R: Threads + Wait + Sync, S: Source, O: Sink, G: Gate>(
 ) -> u8
     requires source_count { S.faults source.old < 2 ^ 64 - 1 }
     requires sink_count { O.faults out.old < 2 ^ 64 - 1 }
-    ensures answer { Answers (is_check words.now.items) (nat_lt (S.faults source.old) (S.faults source.new)) (S.left source.old) result
+    ensures answer { Answers (is_command words.now.items) (nat_lt (S.faults source.old) (S.faults source.new)) (S.left source.old) result
         (nat_lt (O.faults out.old) (O.faults out.new)) (O.written out.old) (O.written out.new) }
 {
     let _ = rt;
     let _ = gate;
-    let check = is_check(words);
+    let Ok(check) = is_command(alloc, words) else {
+        return 8;
+    };
     let Ok(input) = gather(alloc, check, source) else {
         return 8;
     };

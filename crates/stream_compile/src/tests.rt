@@ -103,6 +103,10 @@ fn words_outside_the_grammar_are_told_the_usage(rt: HostRuntime) -> Result<(), F
         &["wstream", "Check"],
         &["wstream", "check", ""],
         &["wstream", "check", "check"],
+        &["wstream", "check", "--workers", "65"],
+        &["wstream", "check", "--batch=0"],
+        &["wstream", "check", "--help"],
+        &["wstream", "help"],
     ] {
         assert_eq!(rt;
             answer(&rt, alloc, words, &bytes)?.as_str(),
