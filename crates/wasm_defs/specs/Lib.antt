@@ -15,3 +15,12 @@ pub mod Context
 pub mod Faults
 pub mod Items
 pub mod Rules
+pub mod Values
+pub mod Integers
+pub mod Memory
+pub mod Host
+pub mod Configurations
+pub mod Effects
+pub mod Reductions
+pub mod Instances
+pub mod ModuleRun

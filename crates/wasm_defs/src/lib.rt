@@ -13,6 +13,7 @@ mod supported;
 mod text;
 mod token;
 mod types;
+mod value;
 
 pub use context::GlobalType;
 pub use fault::{Kind, Refusal, earlier};
@@ -28,6 +29,7 @@ pub use supported::{is_compiled_opcode, is_compiled_section};
 pub use text::Inside;
 pub use token::{BlockType, MemArg, Plain, Token};
 pub use types::{FuncType, ValType};
+pub use value::{TrapKind, Value};
 
 #[cfg(test)]
 mod tests;

@@ -1,0 +1,5 @@
+pub mod Slots
+pub mod Macros
+pub mod Bodies
+pub mod Templates
+pub mod Functions
