@@ -3,3 +3,4 @@ pub mod Macros
 pub mod Bodies
 pub mod Templates
 pub mod Functions
+pub mod Laws

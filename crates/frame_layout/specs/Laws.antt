@@ -1,0 +1,127 @@
+-- What the machine does where the words of a template stand: how many steps it makes, and which slots and registers change.
+use Rattle.std.specs.Prelude.{◌≡◌, ℕ, ◌+◌, ◌-◌, ◌*◌, ◌^◌, ◌<◌, ◌≤◌, ◌==◌, ◌||◌, ◌%◌, Bool, false, List, length, Option, if◌then◌else◌}
+use Rattle.rv_isa.specs.declared.operations.Op.{Op}
+use Rattle.rv_isa.specs.declared.stepping.Region.TheVariants.{Stack}
+use Rattle.rv_isa.specs.Steps.{reg, Bytes, State, le_bytes, value_at, put, region_base, exec, Called}
+use Rattle.rv_isa.specs.Runs.{place, HasAt, Reaches, FitWindows}
+use Rattle.wasm_defs.specs.declared.types.ValType.{ValType}
+use Rattle.wasm_defs.specs.declared.types.ValType.TheVariants.{I32}
+use Rattle.wasm_defs.specs.declared.operation.Operation.TheVariants.{Binary}
+use Rattle.wasm_defs.specs.declared.operation.BinaryOp.TheVariants.{Add}
+use Rattle.wasm_defs.specs.Values.{modulus, word}
+use Rattle.wasm_defs.specs.Integers.{iadd}
+use Rattle.wasm_defs.specs.Configurations.{max_slots}
+use Rattle.frame_layout.specs.declared.layout.Layout.{Layout}
+use Rattle.frame_layout.specs.Slots.{link, operand, need}
+use Rattle.frame_layout.specs.Macros.{ra, t0, t1, t2, t3, s0, s5, a0, a7}
+use Rattle.frame_layout.specs.Templates.{Around, const_words, local_get_words, operate_words, prologue, epilogue, exit_stub}
+
+-- ---- slots of the stack, counted from its beginning
+
+abbrev pub slot_at : Bytes → ℕ → ℕ
+slot_at b i = value_at 8 (8 * i) b.stack
+
+abbrev pub with_slot : Bytes → (i value : ℕ) → Bytes
+with_slot b i value = record b { stack = put 8 (8 * i) b.stack (le_bytes 8 value) }
+
+-- ---- states of compiled code
+
+-- the frame's first slot is `base`, and the stack is whole
+pub record IsFrame (base : ℕ) (s : State) : Type 0 where
+  pub first : reg s.registers s0 ≡ region_base Stack + 8 * base
+  pub end : reg s.registers s5 ≡ region_base Stack + 8 * max_slots
+  pub size : length s.bytes.stack ≡ 8 * max_slots
+  pub windows : FitWindows s.bytes
+
+-- registers that instructions use for themselves
+abbrev pub is_scratch : ℕ → Bool
+is_scratch r = r == t0 || r == t1 || r == t2 || r == t3
+
+-- so many steps lead behind so many words, with these bytes; other registers stay
+pub record Does (code : List (Option Op)) (steps words : ℕ) (s : State) (bytes : Bytes) : Type 0 where
+  pub end : State
+  pub reaches : Reaches code steps s end
+  pub pc_is : end.pc ≡ s.pc + 4 * words
+  pub bytes_are : end.bytes ≡ bytes
+  pub others : (r : ℕ) → is_scratch r ≡ false → reg end.registers r ≡ reg s.registers r
+
+-- so many steps lead to a call of the environment with this number in a7
+pub record Asks (code : List (Option Op)) (steps number : ℕ) (s : State) : Type 0 where
+  pub end : State
+  pub by : (n : ℕ) → exec code (steps + n) s ≡ Called n end
+  pub number_is : reg end.registers a7 ≡ number
+  pub bytes_are : end.bytes ≡ s.bytes
+
+-- and to a trap of that kind
+pub record TrapsAt (code : List (Option Op)) (steps kind : ℕ) (s : State) : Type 0 where
+  pub asks : Asks code steps 1 s
+  pub kind_is : reg asks.end.registers a0 ≡ kind
+
+-- ---- instructions
+
+-- a constant of a type, below its modulus
+abbrev pub ConstLaw : Type 0
+ConstLaw =
+    (w : Around) (code : List (Option Op)) (s : State) (i base h : ℕ) (t : ValType) (n : ℕ) → HasAt code i (const_words w h t n) → s.pc ≡ place i
+    → IsFrame base s → n < modulus t → base + operand w.layout h < max_slots
+    → Does code (length (const_words w h t n)) (length (const_words w h t n)) s (with_slot s.bytes (base + operand w.layout h) (word t n))
+
+abbrev pub LocalGetLaw : Type 0
+LocalGetLaw =
+    (w : Around) (code : List (Option Op)) (s : State) (i base h x : ℕ) → HasAt code i (local_get_words w h x) → s.pc ≡ place i
+    → IsFrame base s → base + x < max_slots → base + operand w.layout h < max_slots
+    → Does code (length (local_get_words w h x)) (length (local_get_words w h x)) s (with_slot s.bytes (base + operand w.layout h) (slot_at s.bytes (base + x)))
+
+-- the sum of two i32, in the place of the first one
+abbrev pub AddLaw : Type 0
+AddLaw =
+    (w : Around) (code : List (Option Op)) (s : State) (i base h a b : ℕ) → HasAt code i (operate_words w h (Binary I32 Add)) → s.pc ≡ place i
+    → IsFrame base s → 2 ≤ h → base + operand w.layout (h - 1) < max_slots → a < 2 ^ 32 → b < 2 ^ 32
+    → slot_at s.bytes (base + operand w.layout (h - 2)) ≡ word I32 a → slot_at s.bytes (base + operand w.layout (h - 1)) ≡ word I32 b
+    → Does code (length (operate_words w h (Binary I32 Add))) (length (operate_words w h (Binary I32 Add))) s
+        (with_slot s.bytes (base + operand w.layout (h - 2)) (word I32 (iadd I32 a b)))
+
+-- ---- functions
+
+-- where there is room, the place to return to stands in its slot, and the declared locals are zero
+pub record Enters (code : List (Option Op)) (l : Layout) (base : ℕ) (s : State) : Type 0 where
+  pub steps : ℕ
+  pub bytes : Bytes
+  pub within : steps ≤ 24 + 3 * l.locals
+  pub does : Does code steps (length (prologue l)) s bytes
+  pub link_is : slot_at bytes (base + link l) ≡ reg s.registers ra
+  pub zeros : (k : ℕ) → k < l.locals → slot_at bytes (base + l.params + k) ≡ 0
+  pub below : (k : ℕ) → k < base + l.params → slot_at bytes k ≡ slot_at s.bytes k
+  pub size : length bytes.stack ≡ length s.bytes.stack
+  pub globals : bytes.globals ≡ s.bytes.globals
+  pub table : bytes.table ≡ s.bytes.table
+  pub memory : bytes.memory ≡ s.bytes.memory
+
+abbrev pub PrologueLaw : Type 0
+PrologueLaw =
+    (code : List (Option Op)) (s : State) (i base : ℕ) (l : Layout) → HasAt code i (prologue l) → s.pc ≡ place i → IsFrame base s
+    → reg s.registers ra < 2 ^ 64 → base + need l ≤ max_slots → Enters code l base s
+
+-- where there is none, the function traps
+abbrev pub ExhaustionLaw : Type 0
+ExhaustionLaw =
+    (code : List (Option Op)) (s : State) (i base : ℕ) (l : Layout) → HasAt code i (prologue l) → s.pc ≡ place i → IsFrame base s
+    → base ≤ max_slots → need l < 2 ^ 24 → max_slots < base + need l → TrapsAt code 10 8 s
+
+-- the result, if there is one, goes to the frame's first slot, and the machine to the place to return to
+pub record Leaves (code : List (Option Op)) (l : Layout) (results base there : ℕ) (s : State) : Type 0 where
+  pub end : State
+  pub reaches : Reaches code (length (epilogue l results)) s end
+  pub pc_is : end.pc ≡ there
+  pub bytes_are : end.bytes ≡ (if results == 0 then s.bytes else with_slot s.bytes base (slot_at s.bytes (base + operand l 0)))
+  pub others : (r : ℕ) → is_scratch r ≡ false → (r == ra) ≡ false → reg end.registers r ≡ reg s.registers r
+
+abbrev pub EpilogueLaw : Type 0
+EpilogueLaw =
+    (code : List (Option Op)) (s : State) (i base results there : ℕ) (l : Layout) → HasAt code i (epilogue l results) → s.pc ≡ place i
+    → IsFrame base s → base + need l ≤ max_slots → results ≤ l.greatest → results ≤ 1
+    → slot_at s.bytes (base + link l) ≡ there → there < 2 ^ 64 → there % 4 ≡ 0 → Leaves code l results base there s
+
+-- the function that was called from outside has ended
+abbrev pub ExitLaw : Type 0
+ExitLaw = (code : List (Option Op)) (s : State) (i : ℕ) → HasAt code i exit_stub → s.pc ≡ place i → Asks code 2 0 s

@@ -1,0 +1,155 @@
+-- The image of a module.
+use Rattle.std.specs.Prelude.{◌≡◌, ℕ, zero, suc, ◌+◌, ◌-◌, ◌*◌, ◌%◌, ◌^◌, ◌&&◌, Bool, true, false, not, List, [], ◌∷◌, ◌++◌, map, length, replicate, Option, None, Some, slice_get, slice_index, if◌then◌else◌}
+use Rattle.rv_isa.specs.declared.operations.Op.{Op}
+use Rattle.rv_isa.specs.Words.{word_of}
+use Rattle.rv_isa.specs.Steps.{text_base}
+use Rattle.wasm_defs.specs.declared.types.FuncType.{FuncType}
+use Rattle.wasm_defs.specs.declared.item.Item.{Item}
+use Rattle.wasm_defs.specs.declared.item.Item.TheVariants.{Imported, Exported}
+use Rattle.wasm_defs.specs.declared.item.Extern.TheVariants as extern
+use Rattle.wasm_defs.specs.Outside.{Body}
+use Rattle.wasm_defs.specs.Trees.{Seq}
+use Rattle.wasm_defs.specs.Typing.{Context, same_types}
+use Rattle.wasm_defs.specs.Context.{context_of, import_count, type_or_empty, type_of_function, declared_types}
+use Rattle.wasm_defs.specs.Faults.{read_of, context_at, Module}
+use Rattle.wasm_defs.specs.Values.{words_of}
+use Rattle.wasm_defs.specs.Places.{places_of, greatest}
+use Rattle.wasm_defs.specs.Instances.{rows_of, pages_of, cap_of, values_of, elements_of, segments_of, is_linkable, instance_of, start_of, exports_of, function_of}
+use Rattle.frame_layout.specs.declared.layout.Layout.{Layout}
+use Rattle.frame_layout.specs.Macros.{distance}
+use Rattle.frame_layout.specs.Templates.{Around, import_stub, exit_stub}
+use Rattle.frame_layout.specs.Functions.{function_code, function_size}
+use Rattle.image_format.specs.declared.image.Image.{Image}
+use Rattle.image_format.specs.declared.image.Row.{Row}
+use Rattle.image_format.specs.declared.image.Segment.{Segment}
+use Rattle.image_format.specs.declared.image.Import.{Import}
+use Rattle.image_format.specs.declared.image.Export.{Export}
+
+-- the least index of a type that equals the type of an index
+abbrev pub first_like : List FuncType → FuncType → ℕ
+first_like [] ty = 0
+first_like (t ∷ ts) ty = if same_types t.params ty.params && same_types t.results ty.results then 0 else suc (first_like ts ty)
+
+abbrev pub like : List FuncType → ℕ → ℕ
+like types i = first_like types (type_or_empty (slice_get types i))
+
+-- ---- the text: the exit stub, the import stubs, and the functions in the order of their indices
+
+abbrev pub layout_of : List Item → ℕ → Body → Seq → Layout
+layout_of items k b tree = record {
+  params = length (type_of_function (context_of items) (import_count items + k)).params;
+  locals = length (declared_types (read_of b).groups);
+  greatest = greatest (places_of (context_at items k b) tree);
+}
+
+-- what the words of the k-th declared function depend on; distances to other functions are given
+abbrev pub around : List Item → ℕ → Body → Seq → (ℕ → ℕ → ℕ) → Around
+around items k b tree distance_to = record {
+  layout = layout_of items k b tree;
+  rows = rows_of items;
+  like = like (context_of items).types;
+  distance_to = distance_to;
+}
+
+-- its number of words depends on no distance
+abbrev pub no_distance : ℕ → ℕ → ℕ
+no_distance here function = 0
+
+abbrev pub size_of : List Item → ℕ → Body → Seq → ℕ
+size_of items k b tree = function_size (around items k b tree no_distance) (context_at items k b) tree
+
+abbrev pub stub_size : ℕ
+stub_size = length (import_stub 0 0)
+
+-- the stubs of the imports, after so many
+abbrev pub stubs_from : Context → ℕ → List Item → List Op
+stubs_from c number [] = []
+stubs_from c number (Imported from what kind type_index ∷ xs) =
+    import_stub (length (type_or_empty (slice_get c.types type_index.1)).params) number ++ stubs_from c (suc number) xs
+stubs_from c number (_ ∷ xs) = stubs_from c number xs
+
+-- the words in front of the declared functions
+abbrev pub front_size : List Item → ℕ
+front_size items = length exit_stub + stub_size * import_count items
+
+-- the places of the stubs and of the functions, in words
+abbrev pub stub_places : (here count : ℕ) → List ℕ
+stub_places here zero = []
+stub_places here (suc n) = here ∷ stub_places (here + stub_size) n
+
+abbrev pub places_from : List Item → (here k : ℕ) → List Body → List Seq → List ℕ
+places_from items here k (b ∷ bodies) (tree ∷ trees) = here ∷ places_from items (here + size_of items k b tree) (suc k) bodies trees
+places_from items here k bodies trees = []
+
+abbrev pub places_of_functions : Module → List ℕ
+places_of_functions m =
+    stub_places (length exit_stub) (import_count m.items) ++ places_from m.items (front_size m.items) 0 m.bodies m.trees
+
+-- from a place of a function that begins at another, to the functions at their places
+abbrev pub distances : List ℕ → (begins here function : ℕ) → ℕ
+distances places begins here function = distance (begins + here) (slice_index places function)
+
+-- the k-th function's words, where it begins at a place of the text
+abbrev pub code_of_function : List Item → List ℕ → (here k : ℕ) → Body → Seq → List Op
+code_of_function items places here k b tree =
+    function_code (around items k b tree (distances places here)) (context_at items k b) tree
+
+abbrev pub code_from : List Item → List ℕ → (here k : ℕ) → List Body → List Seq → List Op
+code_from items places here k (b ∷ bodies) (tree ∷ trees) =
+    code_of_function items places here k b tree ++ code_from items places (here + size_of items k b tree) (suc k) bodies trees
+code_from items places here k bodies trees = []
+
+abbrev pub text_of : Module → List Op
+text_of m =
+    exit_stub ++ (stubs_from (context_of m.items) 0 m.items
+    ++ code_from m.items (places_of_functions m) (front_size m.items) 0 m.bodies m.trees)
+
+-- ---- what else an image has
+
+-- the offset of a function's first byte in the text
+abbrev pub offset_of : Module → ℕ → ℕ
+offset_of m f = 4 * slice_index (places_of_functions m) f
+
+abbrev pub row_of : Module → Option ℕ → Row
+row_of m None = record { code = 0; like = 0 }
+row_of m (Some f) =
+    record { code = text_base + offset_of m f; like = first_like (context_of m.items).types (type_of_function (context_of m.items) f) }
+
+abbrev pub segment_of : ℕ × List ℕ → Segment
+segment_of s = record { place = s.0; bytes = s.1 }
+
+abbrev pub imports_of : Context → List Item → List Import
+imports_of c [] = []
+imports_of c (Imported from what kind type_index ∷ xs) =
+    record { «module» = from.1; name = what.1; signature = type_or_empty (slice_get c.types type_index.1) } ∷ imports_of c xs
+imports_of c (_ ∷ xs) = imports_of c xs
+
+abbrev pub export_of : Module → List ℕ × ℕ → Export
+export_of m e = record { name = e.0; signature = type_of_function (context_of m.items) e.1; offset = offset_of m e.1 }
+
+abbrev pub start_offset : Module → Option ℕ → ℕ
+start_offset m None = 0
+start_offset m (Some f) = offset_of m f
+
+-- a module that can't be instantiated has an image without functions in its table, and without segments
+abbrev pub table_of : Module → Bool → List Row
+table_of m true = map (row_of m) (instance_of m).table
+table_of m false = replicate (rows_of m.items) (row_of m None)
+
+abbrev pub placed_segments : Module → Bool → List Segment
+placed_segments m true = map segment_of (segments_of m.items)
+placed_segments m false = []
+
+abbrev pub image_of : Module → Image
+image_of m = record {
+  text = map word_of (text_of m);
+  globals = words_of (values_of m.items);
+  table = table_of m (is_linkable m);
+  pages = pages_of m.items;
+  cap = cap_of m.items;
+  segments = placed_segments m (is_linkable m);
+  imports = imports_of (context_of m.items) m.items;
+  exports = map (export_of m) (exports_of m.items);
+  start = start_offset m (start_of m.items);
+  unlinkable = not (is_linkable m);
+}
