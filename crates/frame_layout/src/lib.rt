@@ -5,6 +5,8 @@
 //! `specs/Functions.antt` those of a function.
 #![tactic(auto)]
 
+mod laws;
 mod layout;
 
+pub use laws::{add_law, const_law, local_get_law};
 pub use layout::Layout;

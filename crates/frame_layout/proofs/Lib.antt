@@ -1,0 +1,5 @@
+pub mod Standing
+pub mod Constants
+pub mod Slots
+pub mod Steps
+pub mod Instructions

@@ -1,0 +1,18 @@
+//! Laws of the templates, for the proofs of other crates. Each function does nothing: its contract is the law, which
+//! `specs/Laws.antt` states.
+ghost use Rattle.frame_layout.specs.Laws.{ConstLaw, LocalGetLaw, AddLaw};
+
+/// A constant's words put it into the operand above those on the stack.
+pub fn const_law()
+    ensures { ConstLaw }
+{}
+
+/// The words of `local.get` copy a parameter or declared local into the operand above those on the stack.
+pub fn local_get_law()
+    ensures { LocalGetLaw }
+{}
+
+/// The words of `i32.add` put the sum of the two uppermost operands in the place of the lower one.
+pub fn add_law()
+    ensures { AddLaw }
+{}
