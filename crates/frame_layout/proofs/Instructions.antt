@@ -46,12 +46,16 @@ const_does w code s i base h I64 n has at frame small inside =
 
 -- ---- variables
 
+-- a slot is copied to another
+pub copied_does : (code : List (Option Op)) (s : State) (i base j k : ℕ) → HasAt code i (load_slot t0 j ++ store_slot t0 k) → s.pc ≡ place i → IsFrame base s → base + j < max_slots → base + k < max_slots → Does code 6 6 s (with_slot s.bytes (base + k) (slot_at s.bytes (base + j)))
+copied_does code s i base j k has at frame near inside =
+    let given = load_slot_leaves code s i base t0 j (has_first code i (load_slot t0 j) (store_slot t0 k) has) at frame (λ e. absurd cc) (λ e. absurd cc) near in
+    let pc_is = given.pc_is in
+    stored_does code s (i + 3) 3 3 base k (slot_at s.bytes (base + j)) (does_leave refl given) given.value_is (has_rest code i (load_slot t0 j) (store_slot t0 k) has) (omega arith) frame inside
+
 pub local_get_does : LocalGetLaw
 local_get_does w code s i base h x has at frame near inside =
-    let front = load_slot t0 x in
-    let given = load_slot_leaves code s i base t0 x (has_first code i front (store_operand w t0 h) has) at frame (λ e. absurd cc) (λ e. absurd cc) near in
-    let pc_is = given.pc_is in
-    stored_does code s (i + 3) 3 3 base (operand w.layout h) (slot_at s.bytes (base + x)) (does_leave refl given) given.value_is (has_rest code i front (store_operand w t0 h) has) (omega arith) frame inside
+    copied_does code s i base x (operand w.layout h) has at frame near inside
 
 -- ---- numbers
 

@@ -3,3 +3,5 @@ pub mod Constants
 pub mod Slots
 pub mod Steps
 pub mod Instructions
+pub mod Jumps
+pub mod Endings

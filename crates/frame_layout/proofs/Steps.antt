@@ -49,16 +49,36 @@ does_with {code} {k} {a} {s} {bytes} {bytes'} same does =
       others = does.others;
     }
 
+-- ---- values in a row in one register
+
+abbrev pub leaves_then : {code : List (Option Op)} {a b r v v' : ℕ} {s : State} {bytes bytes' : Bytes} → (first : Leaves code a s bytes r v) → Leaves code b first.end bytes' r v' → Leaves code (a + b) s bytes' r v'
+leaves_then {code} {a} {b} {r} {v} {v'} {s} {bytes} {bytes'} first second =
+    let here = first.pc_is in
+    let there = second.pc_is in
+    record {
+      end = second.end;
+      reaches = Reaches-then first.reaches second.reaches;
+      pc_is = omega arith;
+      bytes_are = second.bytes_are;
+      value_is = second.value_is;
+      others = λ q differs. second.others q differs ∙ first.others q differs;
+    }
+
 -- ---- the frame stays
+
+-- in every state with its registers and a whole stack
+pub frame_at : {base : ℕ} {s : State} (s' : State) → IsFrame base s → reg s'.registers s0 ≡ reg s.registers s0 → reg s'.registers s5 ≡ reg s.registers s5 → length s'.bytes.stack ≡ 8 * max_slots → FitWindows s'.bytes → IsFrame base s'
+frame_at {base} {s} s' frame same same' size fit =
+    record { first = same ∙ frame.first; end = same' ∙ frame.end; size = size; windows = fit }
+
+-- where registers changed alone
+pub frame_kept : {base : ℕ} {s : State} (s' : State) → IsFrame base s → reg s'.registers s0 ≡ reg s.registers s0 → reg s'.registers s5 ≡ reg s.registers s5 → s'.bytes ≡ s.bytes → IsFrame base s'
+frame_kept {base} {s} s' frame same same' bytes =
+    frame_at s' frame same same' (ap (λ (b : Bytes). length b.stack) bytes ∙ frame.size) (subst FitWindows (sym bytes) frame.windows)
 
 pub frame_after : {code : List (Option Op)} {k a base : ℕ} {s : State} {bytes : Bytes} → IsFrame base s → length bytes.stack ≡ 8 * max_slots → FitWindows bytes → (does : Does code k a s bytes) → IsFrame base does.end
 frame_after {code} {k} {a} {base} {s} {bytes} frame size fit does =
-    record {
-      first = does.others s0 refl ∙ frame.first;
-      end = does.others s5 refl ∙ frame.end;
-      size = ap (λ (b : Bytes). length b.stack) does.bytes_are ∙ size;
-      windows = subst FitWindows (sym does.bytes_are) fit;
-    }
+    frame_at does.end frame (does.others s0 refl) (does.others s5 refl) (ap (λ (b : Bytes). length b.stack) does.bytes_are ∙ size) (subst FitWindows (sym does.bytes_are) fit)
 
 -- where no byte changes
 pub frame_stays : {code : List (Option Op)} {k a base : ℕ} {s : State} → IsFrame base s → (does : Does code k a s s.bytes) → IsFrame base does.end
