@@ -6,7 +6,7 @@ use Rattle.rv_isa.specs.declared.operations.Op.{Op}
 use Rattle.rv_isa.specs.declared.operations.Op.TheVariants.{RegW}
 use Rattle.rv_isa.specs.Values.{extended, computed_w, computed_word}
 use Rattle.rv_isa.specs.Steps.{Registers, reg, Bytes, State}
-use Rattle.rv_isa.specs.Runs.{place, HasAt, computes, after_one}
+use Rattle.rv_isa.specs.Runs.{place, HasAt, computes, after_one, Leaves}
 use Rattle.wasm_defs.specs.declared.types.ValType.{ValType}
 use Rattle.wasm_defs.specs.declared.types.ValType.TheVariants.{I32, I64}
 use Rattle.wasm_defs.specs.declared.operation.Operation.TheVariants.{Binary}
@@ -78,17 +78,21 @@ pub record Operands (code : List (Option Op)) (s : State) (x y : ℕ) : Type 0 w
   pub first : reg does.end.registers t0 ≡ x
   pub second : reg does.end.registers t1 ≡ y
 
-pub operands_load : (code : List (Option Op)) (s : State) (i base j k : ℕ) → HasAt code i (load_slot t0 j) → HasAt code (i + 3) (load_slot t1 k) → s.pc ≡ place i → IsFrame base s → base + j < max_slots → base + k < max_slots → Operands code s (slot_at s.bytes (base + j)) (slot_at s.bytes (base + k))
-operands_load code s i base j k has has' at frame near near' =
-    let one = load_slot_leaves code s i base t0 j has at frame (λ e. absurd cc) (λ e. absurd cc) near in
+second_loads : (code : List (Option Op)) (s : State) (i base k x : ℕ) → (one : Leaves code 3 s s.bytes t0 x) → HasAt code (i + 3) (load_slot t1 k) → s.pc ≡ place i → IsFrame base s → base + k < max_slots → Operands code s x (slot_at s.bytes (base + k))
+second_loads code s i base k x one has at frame near =
     let pc_is = one.pc_is in
     let first = does_leave refl one in
-    let two = load_slot_leaves code one.end (i + 3) base t1 k has' (omega arith) (frame_stays frame first) (λ e. absurd cc) (λ e. absurd cc) near' in
+    let two = load_slot_leaves code one.end (i + 3) base t1 k has (omega arith) (frame_stays frame first) (λ e. absurd cc) (λ e. absurd cc) near in
     record {
       does = does_then first (does_with one.bytes_are (does_leave refl two));
       first = two.others t0 (λ e. absurd cc) ∙ one.value_is;
       second = two.value_is ∙ ap (λ (b : Bytes). slot_at b (base + k)) one.bytes_are;
     }
+
+pub operands_load : (code : List (Option Op)) (s : State) (i base j k : ℕ) → HasAt code i (load_slot t0 j) → HasAt code (i + 3) (load_slot t1 k) → s.pc ≡ place i → IsFrame base s → base + j < max_slots → base + k < max_slots → Operands code s (slot_at s.bytes (base + j)) (slot_at s.bytes (base + k))
+operands_load code s i base j k has has' at frame near near' =
+    let one = load_slot_leaves code s i base t0 j has at frame (λ e. absurd cc) (λ e. absurd cc) near in
+    second_loads code s i base k (slot_at s.bytes (base + j)) one has' at frame near'
 
 -- an operation on t0 and t1 into t0, and the result to a slot
 pub operated_does : (code : List (Option Op)) (s : State) (op : Op) (i base k x y v : ℕ) → Operands code s x y → HasAt code (i + 6) (op ∷ []) → HasAt code (i + 7) (store_slot t0 k) → s.pc ≡ place i → IsFrame base s → base + k < max_slots → computes (λ q. q == t0) op ≡ true → ((registers : Registers) → reg registers t0 ≡ x → reg registers t1 ≡ y → reg (after_one op registers) t0 ≡ v) → Does code 10 10 s (with_slot s.bytes (base + k) v)

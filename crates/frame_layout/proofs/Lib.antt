@@ -5,3 +5,5 @@ pub mod Steps
 pub mod Instructions
 pub mod Jumps
 pub mod Endings
+pub mod Zeroing
+pub mod Beginnings

@@ -4,8 +4,8 @@ use Rattle.std.specs.Prelude.{◌≢◌}
 use Rattle.std.proofs.lemmas.Bool.{false≢true}
 use Rattle.rv_isa.specs.declared.operations.Op.{Op}
 use Rattle.rv_isa.specs.Steps.{reg, Bytes, State}
-use Rattle.rv_isa.specs.Runs.{FitWindows, Leaves}
-use Rattle.rv_isa.proofs.RunLaws.{Reaches-then}
+use Rattle.rv_isa.specs.Runs.{Reaches, FitWindows, Leaves}
+use Rattle.rv_isa.proofs.RunLaws.{Reaches-none, Reaches-then}
 use Rattle.wasm_defs.specs.Configurations.{max_slots}
 use Rattle.frame_layout.specs.Macros.{s0, s5}
 use Rattle.frame_layout.specs.Laws.{with_slot, IsFrame, is_scratch, Does}
@@ -49,17 +49,32 @@ does_with {code} {k} {a} {s} {bytes} {bytes'} same does =
       others = does.others;
     }
 
--- ---- values in a row in one register
+-- the same numbers of steps and words, written otherwise
+abbrev pub does_count : {code : List (Option Op)} {k a : ℕ} (k' a' : ℕ) {s : State} {bytes : Bytes} → k ≡ k' → a ≡ a' → Does code k a s bytes → Does code k' a' s bytes
+does_count {code} {k} {a} k' a' {s} {bytes} steps words does =
+    let pc_is = does.pc_is in
+    record {
+      end = does.end;
+      reaches = subst (λ (n : ℕ). Reaches code n s does.end) steps does.reaches;
+      pc_is = omega arith;
+      bytes_are = does.bytes_are;
+      others = does.others;
+    }
 
-abbrev pub leaves_then : {code : List (Option Op)} {a b r v v' : ℕ} {s : State} {bytes bytes' : Bytes} → (first : Leaves code a s bytes r v) → Leaves code b first.end bytes' r v' → Leaves code (a + b) s bytes' r v'
-leaves_then {code} {a} {b} {r} {v} {v'} {s} {bytes} {bytes'} first second =
+abbrev pub does_nothing : (code : List (Option Op)) (s : State) → Does code 0 0 s s.bytes
+does_nothing code s =
+    record { end = s; reaches = Reaches-none code s; pc_is = omega arith; bytes_are = refl; others = λ q kept. refl }
+
+-- a register gets a value, and then another one
+abbrev pub leaves_then : {code : List (Option Op)} {a b r v v' : ℕ} {s : State} {bytes : Bytes} → (first : Leaves code a s bytes r v) → Leaves code b first.end first.end.bytes r v' → Leaves code (a + b) s bytes r v'
+leaves_then {code} {a} {b} {r} {v} {v'} {s} {bytes} first second =
     let here = first.pc_is in
     let there = second.pc_is in
     record {
       end = second.end;
       reaches = Reaches-then first.reaches second.reaches;
       pc_is = omega arith;
-      bytes_are = second.bytes_are;
+      bytes_are = second.bytes_are ∙ first.bytes_are;
       value_is = second.value_is;
       others = λ q differs. second.others q differs ∙ first.others q differs;
     }
