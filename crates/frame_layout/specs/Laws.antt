@@ -100,7 +100,7 @@ pub record Enters (code : List (Option Op)) (l : Layout) (base : ℕ) (s : State
 abbrev pub PrologueLaw : Type 0
 PrologueLaw =
     (code : List (Option Op)) (s : State) (i base : ℕ) (l : Layout) → HasAt code i (prologue l) → s.pc ≡ place i → IsFrame base s
-    → reg s.registers ra < 2 ^ 64 → base + need l ≤ max_slots → Enters code l base s
+    → reg s.registers ra < 2 ^ 64 → base + need l ≤ max_slots → length code ≤ 2 ^ 26 → Enters code l base s
 
 -- where there is none, the function traps
 abbrev pub ExhaustionLaw : Type 0
