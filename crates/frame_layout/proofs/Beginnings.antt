@@ -1,25 +1,24 @@
 -- The beginning of a function: the test for room, the place to return to, and the declared locals.
-use Rattle.std.proofs.Common.{◌≡◌, ℕ, zero, suc, ◌+◌, ◌-◌, ◌*◌, ◌%◌, ◌^◌, ◌<◌, ◌≤◌, true, false, List, [], ◌∷◌, ◌++◌, length, Option, Some, refl, ap, ap₂, subst, ◌∙◌, arith}
-use Rattle.std.specs.Prelude.{not, slice_get, ◌≢◌}
+use Rattle.std.proofs.Common.{◌≡◌, ℕ, zero, suc, ◌+◌, ◌*◌, ◌^◌, ◌<◌, ◌≤◌, List, [], ◌∷◌, ◌++◌, length, Option, refl, ap, ap₂, subst, ◌∙◌, arith}
+use Rattle.std.specs.Prelude.{not, ◌≢◌}
 use Rattle.std.proofs.lemmas.Bool.{lt-ltb, le-ltb, eq-eqb}
 use Rattle.std.proofs.lemmas.Option.{slice_get_within}
 use Rattle.rv_isa.specs.declared.operations.BranchOp.TheVariants.{Bgeu}
 use Rattle.rv_isa.specs.declared.operations.RegOp.TheVariants.{Add}
 use Rattle.rv_isa.specs.declared.operations.Op.{Op}
 use Rattle.rv_isa.specs.declared.operations.Op.TheVariants.{Branch, Reg}
-use Rattle.rv_isa.specs.declared.stepping.Region.TheVariants.{Stack}
 use Rattle.rv_isa.specs.Values.{plus, computed, is_taken}
-use Rattle.rv_isa.specs.Steps.{reg, Bytes, State, region_base}
+use Rattle.rv_isa.specs.Steps.{reg, Bytes, State}
 use Rattle.rv_isa.specs.Runs.{place, HasAt, Leaves}
 use Rattle.wasm_defs.specs.Configurations.{max_slots}
 use Rattle.frame_layout.specs.declared.layout.Layout.{Layout}
 use Rattle.frame_layout.specs.Slots.{link, need}
-use Rattle.frame_layout.specs.Macros.{ra, t0, t1, t3, s0, s5, forward, const_32, store_slot, trap}
+use Rattle.frame_layout.specs.Macros.{ra, t0, t1, s0, s5, forward, const_32, store_slot, trap}
 use Rattle.frame_layout.specs.Templates.{room_words, zero_locals, prologue}
-use Rattle.frame_layout.specs.Laws.{slot_at, with_slot, IsFrame, Does, TrapsAt, Enters, PrologueLaw, ExhaustionLaw}
+use Rattle.frame_layout.specs.Laws.{with_slot, IsFrame, Does, TrapsAt, Enters, PrologueLaw, ExhaustionLaw}
 use Rattle.frame_layout.proofs.Standing.{has_first, has_rest}
 use Rattle.frame_layout.proofs.Constants.{block_leaves, const_32_leaves}
-use Rattle.frame_layout.proofs.Slots.{store_slot_leaves, slot_written, slot_other, size_stays, windows_stay}
+use Rattle.frame_layout.proofs.Slots.{store_slot_leaves, slot_written, slot_other, size_stays}
 use Rattle.frame_layout.proofs.Steps.{does_leave, does_then, does_with, does_count, does_nothing, leaves_then, frame_stays, frame_written}
 use Rattle.frame_layout.proofs.Jumps.{passed_does, taken_does, trap_traps, traps_after}
 use Rattle.frame_layout.proofs.Zeroing.{zeroed, zeroed_size, zeroed_below, zeroed_above, zeroed_zero, zeroed_globals, zeroed_table, zeroed_memory, loop_words, loop_does, address}

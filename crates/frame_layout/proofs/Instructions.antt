@@ -1,5 +1,5 @@
 -- What the words of instructions do.
-use Rattle.std.proofs.Common.{◌≡◌, ℕ, suc, ◌+◌, ◌-◌, ◌*◌, ◌%◌, ◌^◌, ◌==◌, ◌<◌, Bool, true, ◌≤◌, List, [], ◌∷◌, ◌++◌, length, Option, inl, inr, refl, ap, ap₂, ◌∙◌, arith}
+use Rattle.std.proofs.Common.{◌≡◌, ℕ, ◌+◌, ◌-◌, ◌%◌, ◌^◌, ◌==◌, ◌<◌, true, List, [], ◌∷◌, ◌++◌, Option, inl, inr, refl, ap, ap₂, ◌∙◌, arith}
 use Rattle.std.proofs.lemmas.Bool.{cases_lt, lt-ltb, le-ltb}
 use Rattle.rv_isa.specs.declared.operations.RegOpW.TheVariants.{Addw}
 use Rattle.rv_isa.specs.declared.operations.Op.{Op}
@@ -7,16 +7,13 @@ use Rattle.rv_isa.specs.declared.operations.Op.TheVariants.{RegW}
 use Rattle.rv_isa.specs.Values.{extended, computed_w, computed_word}
 use Rattle.rv_isa.specs.Steps.{Registers, reg, Bytes, State}
 use Rattle.rv_isa.specs.Runs.{place, HasAt, computes, after_one, Leaves}
-use Rattle.wasm_defs.specs.declared.types.ValType.{ValType}
 use Rattle.wasm_defs.specs.declared.types.ValType.TheVariants.{I32, I64}
-use Rattle.wasm_defs.specs.declared.operation.Operation.TheVariants.{Binary}
-use Rattle.wasm_defs.specs.declared.operation.BinaryOp.TheVariants.{Add}
-use Rattle.wasm_defs.specs.Values.{modulus, word}
+use Rattle.wasm_defs.specs.Values.{word}
 use Rattle.wasm_defs.specs.Integers.{iadd}
 use Rattle.wasm_defs.specs.Configurations.{max_slots}
 use Rattle.frame_layout.specs.Slots.{operand}
-use Rattle.frame_layout.specs.Macros.{t0, t1, t3, s0, load_slot, store_slot, const_32, const_64}
-use Rattle.frame_layout.specs.Templates.{Around, load_operand, store_operand, const_words, constant, local_get_words, operate_words}
+use Rattle.frame_layout.specs.Macros.{t0, t1, load_slot, store_slot, const_32, const_64}
+use Rattle.frame_layout.specs.Templates.{load_operand, store_operand}
 use Rattle.frame_layout.specs.Laws.{slot_at, with_slot, IsFrame, Does, ConstLaw, LocalGetLaw, AddLaw}
 use Rattle.frame_layout.proofs.Standing.{has_first, has_rest}
 use Rattle.frame_layout.proofs.Constants.{block_leaves, const_word_leaves, const_64_leaves}

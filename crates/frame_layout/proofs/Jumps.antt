@@ -6,12 +6,11 @@ use Rattle.rv_isa.specs.declared.operations.ImmOp.TheVariants.{Addi}
 use Rattle.rv_isa.specs.declared.operations.Op.{Op}
 use Rattle.rv_isa.specs.declared.operations.Op.TheVariants.{Jalr, Branch, Imm, Ecall}
 use Rattle.rv_isa.specs.Values.{i_value, b_value, plus, computed, is_taken}
-use Rattle.rv_isa.specs.Steps.{reg, State, Next, act, branch, jump, exec, Called}
+use Rattle.rv_isa.specs.Steps.{reg, State, Next, act, branch, jump, exec}
 use Rattle.rv_isa.specs.Runs.{place, HasAt, Reaches, Leaves}
 use Rattle.rv_isa.proofs.RunLaws.{Reaches-then, one_step, one_call}
 use Rattle.frame_layout.specs.Macros.{x0, ra, a0, a7, trap}
 use Rattle.frame_layout.specs.Laws.{Does, Asks, TrapsAt}
-use Rattle.frame_layout.proofs.Standing.{has_first, has_rest}
 use Rattle.frame_layout.proofs.Constants.{block_leaves}
 
 module _ (code : List (Option Op)) (s : State) (i : ℕ) (at : s.pc ≡ place i) where

@@ -1,12 +1,11 @@
 -- Slots of the stack: what is written is read, nothing else changes, and three words load or store a slot of the frame.
-use Rattle.std.proofs.Common.{◌≡◌, ℕ, ◌+◌, ◌*◌, ◌^◌, ◌<◌, ◌≤◌, List, length, Option, inl, inr, refl, ap, ◌∙◌, arith}
+use Rattle.std.proofs.Common.{◌≡◌, ℕ, ◌+◌, ◌*◌, ◌^◌, ◌<◌, List, length, Option, inl, inr, refl, arith}
 use Rattle.std.specs.Prelude.{◌≢◌}
 use Rattle.std.proofs.lemmas.Bool.{cases_lt}
 use Rattle.rv_isa.specs.declared.operations.Op.{Op}
-use Rattle.rv_isa.specs.declared.stepping.Region.{Region}
 use Rattle.rv_isa.specs.declared.stepping.Region.TheVariants.{Stack, Globals, Table, Memory}
 use Rattle.rv_isa.specs.Values.{u_value, plus}
-use Rattle.rv_isa.specs.Steps.{reg, Bytes, State, le_bytes, value_at, put, region_base}
+use Rattle.rv_isa.specs.Steps.{reg, Bytes, State, le_bytes}
 use Rattle.rv_isa.specs.Runs.{place, HasAt, FitWindows, LiesIn, Leaves, hi}
 use Rattle.rv_isa.proofs.ByteLaws.{written_is_read, above_stays, below_stays, length-put, length-le_bytes}
 use Rattle.rv_isa.proofs.OffsetLaws.{loads_behind, stores_behind}

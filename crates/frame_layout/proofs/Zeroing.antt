@@ -1,5 +1,5 @@
 -- Slots that become zero one after the other, and the loop that does it.
-use Rattle.std.proofs.Common.{◌≡◌, ℕ, zero, suc, ◌+◌, ◌*◌, ◌%◌, ◌^◌, ◌<◌, ◌≤◌, true, false, List, [], ◌∷◌, length, Option, Some, refl, ap, subst, ◌∙◌, arith, lit<}
+use Rattle.std.proofs.Common.{◌≡◌, ℕ, zero, suc, ◌+◌, ◌*◌, ◌^◌, ◌<◌, ◌≤◌, List, [], ◌∷◌, length, Option, Some, refl, ap, subst, ◌∙◌, arith, lit<}
 use Rattle.std.specs.Prelude.{not, ◌≢◌}
 use Rattle.std.proofs.lemmas.Bool.{eq-eqb, ne_eqb}
 use Rattle.rv_isa.specs.declared.operations.BranchOp.TheVariants.{Bne}
@@ -16,9 +16,9 @@ use Rattle.rv_isa.proofs.AccessLaws.{stored_at}
 use Rattle.rv_isa.proofs.OffsetLaws.{other_registers_stay}
 use Rattle.wasm_defs.specs.Configurations.{max_slots}
 use Rattle.frame_layout.specs.Macros.{x0, t0, t1, backward}
-use Rattle.frame_layout.specs.Laws.{slot_at, with_slot, is_scratch, Does}
+use Rattle.frame_layout.specs.Laws.{slot_at, with_slot, Does}
 use Rattle.frame_layout.proofs.Slots.{slot_written, slot_other, size_stays, windows_stay}
-use Rattle.frame_layout.proofs.Steps.{apart, does_then, does_with}
+use Rattle.frame_layout.proofs.Steps.{apart, does_then}
 use Rattle.frame_layout.proofs.Jumps.{passed_does, taken_reaches}
 
 -- so many slots from one on are zero

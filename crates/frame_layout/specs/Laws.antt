@@ -79,7 +79,7 @@ AddLaw =
     → IsFrame base s → 2 ≤ h → base + operand w.layout (h - 1) < max_slots → a < 2 ^ 32 → b < 2 ^ 32
     → slot_at s.bytes (base + operand w.layout (h - 2)) ≡ word I32 a → slot_at s.bytes (base + operand w.layout (h - 1)) ≡ word I32 b
     → Does code (length (operate_words w h (Binary I32 Add))) (length (operate_words w h (Binary I32 Add))) s
-        (with_slot s.bytes (base + operand w.layout (h - 2)) (word I32 (iadd I32 a b)))
+    (with_slot s.bytes (base + operand w.layout (h - 2)) (word I32 (iadd I32 a b)))
 
 -- ---- functions
 

@@ -8,5 +8,7 @@
 mod laws;
 mod layout;
 
-pub use laws::{add_law, const_law, epilogue_law, exhaustion_law, exit_law, local_get_law, prologue_law};
+pub use laws::{
+    add_law, const_law, epilogue_law, exhaustion_law, exit_law, local_get_law, prologue_law,
+};
 pub use layout::Layout;
