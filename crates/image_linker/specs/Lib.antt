@@ -1,3 +1,5 @@
 pub mod ImageOf
 pub mod Same
 pub mod Judging
+pub mod Codes
+pub mod Linking
