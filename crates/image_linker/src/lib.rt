@@ -1,3 +1,7 @@
 //! One image of a module. `specs/ImageOf.antt` says which one it is, `specs/Same.antt` what it means that both behave alike, and
 //! `specs/Judging.antt` what a module's verdict is, with the limit on its text.
 #![tactic(auto)]
+
+mod linking;
+
+pub use linking::link;

@@ -16,7 +16,8 @@ fn copy_of_list(alloc: Global, types: &ValTypes) -> Result<ValTypes, AllocError>
     Ok(ValTypes::new(Vec::from_slice(alloc, types.as_slice())?))
 }
 
-fn copy_of_type(alloc: Global, ty: &FuncType) -> Result<FuncType, AllocError>
+/// A copy of a function type.
+pub fn copy_of_type(alloc: Global, ty: &FuncType) -> Result<FuncType, AllocError>
     ensures { IfOk result (λ copy. copy ≡ ty.now) }
 {
     let params = copy_of_list(alloc, &ty.params)?;
@@ -24,7 +25,8 @@ fn copy_of_type(alloc: Global, ty: &FuncType) -> Result<FuncType, AllocError>
     Ok(FuncType { params, results })
 }
 
-fn copy_of_name(alloc: Global, name: &Name) -> Result<Name, AllocError>
+/// A copy of a name.
+pub fn copy_of_name(alloc: Global, name: &Name) -> Result<Name, AllocError>
     ensures { IfOk result (λ copy. copy ≡ name.now) }
 {
     Ok(Name::new(Vec::from_slice(alloc, name.as_slice())?))

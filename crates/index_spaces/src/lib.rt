@@ -8,7 +8,7 @@ mod laws;
 #[cfg(test)]
 mod tests;
 
-pub use builder::ContextBuilder;
+pub use builder::{ContextBuilder, copy_of_name, copy_of_type};
 pub use context::Context;
 pub use entries::{ElementRow, Export, Import};
 pub use laws::{
