@@ -37,3 +37,5 @@ pub mod Rereading
 pub mod WholeModules
 pub mod OneReading
 pub mod Earlier
+pub mod Sorted
+pub mod Behind

@@ -5,3 +5,4 @@ pub mod Counts
 pub mod BodyOrder
 pub mod Typed
 pub mod Sections
+pub mod Behind

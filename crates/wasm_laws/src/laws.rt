@@ -7,6 +7,7 @@ ghost use Rattle.wasm_defs.specs.Entries.{Seen};
 ghost use Rattle.wasm_defs.specs.Faults.{bodies_of, ending_fault, items_of};
 ghost use Rattle.wasm_defs.specs.Outside.{Body, Coded, header, module_run, Part, preamble, row, Section, section_end, Whole};
 ghost use Rattle.wasm_defs.specs.declared.fault.Refusal.{Refusal};
+ghost use Rattle.wasm_laws.specs.Behind.{StandBehind};
 ghost use Rattle.wasm_laws.specs.BodyOrder.{IsSpelledIn};
 ghost use Rattle.wasm_laws.specs.Counts.{AreDeclared};
 ghost use Rattle.wasm_laws.specs.Order.{AreCutFrom, AreOrdered, BodyStands, end_of, first_section};
@@ -87,4 +88,12 @@ pub fn bodies_match_functions()
 /// before this one stands among the items before it, and so does the type that the function names.
 pub fn functions_have_types()
     ensures { (bytes : List ℕ) → AreTyped [] 0 (module_run bytes).parts }
+{}
+
+/// Behind a body no section comes but that of data segments (Core 5.5.2), so that the items before it say all that a body may
+/// name: the context of bodies, and the module's functions, tables and memories.
+pub fn bodies_stand_behind_items()
+    ensures { (bytes : List ℕ) (front : List Part) (b : Body) (back : List Part) →
+        let run = module_run bytes in
+        run.parts ≡ front ++ Coded b ∷ back → StandBehind run.parts front back }
 {}
