@@ -39,3 +39,8 @@ pub mod OneReading
 pub mod Earlier
 pub mod Sorted
 pub mod Behind
+pub mod Straight
+pub mod Ranges
+pub mod Heights
+pub mod Plain
+pub mod Bytes

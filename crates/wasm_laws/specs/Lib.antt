@@ -6,3 +6,5 @@ pub mod BodyOrder
 pub mod Typed
 pub mod Sections
 pub mod Behind
+pub mod Straight
+pub mod Plain
