@@ -44,3 +44,6 @@ pub mod Ranges
 pub mod Heights
 pub mod Plain
 pub mod Bytes
+pub mod Locals
+pub mod Kept
+pub mod Exports

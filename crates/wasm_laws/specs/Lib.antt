@@ -8,3 +8,4 @@ pub mod Sections
 pub mod Behind
 pub mod Straight
 pub mod Plain
+pub mod Kept

@@ -2,10 +2,10 @@
 
 ghost use Rattle.std.specs.Prelude.{◌≡◌, ◌≤◌, ◌<◌, ℕ, length, List, [], None, Some, suc, true, ◌∷◌, ◌++◌};
 ghost use Rattle.wasm_defs.specs.Bodies.{body_read, instruction, last_of, local_groups};
-ghost use Rattle.wasm_defs.specs.Context.{declared_count};
+ghost use Rattle.wasm_defs.specs.Context.{context_of, declared_count, functions_of, types_of};
 ghost use Rattle.wasm_defs.specs.Entries.{Seen};
 ghost use Rattle.wasm_defs.specs.Faults.{bodies_of, ending_fault, first_outside, items_of, Module, sections_of, tokens_of};
-ghost use Rattle.wasm_defs.specs.Instances.{is_linkable};
+ghost use Rattle.wasm_defs.specs.Instances.{exports_of, is_linkable, named};
 ghost use Rattle.wasm_defs.specs.Outside.{Body, Coded, header, module_run, Part, preamble, row, Section, section_end, Whole};
 ghost use Rattle.wasm_defs.specs.Places.{greatest, places_of};
 ghost use Rattle.wasm_defs.specs.Supported.{is_compiled_opcode, is_compiled_section};
@@ -17,6 +17,7 @@ ghost use Rattle.wasm_defs.specs.declared.token.Token.{Token};
 ghost use Rattle.wasm_laws.specs.Behind.{StandBehind};
 ghost use Rattle.wasm_laws.specs.BodyOrder.{IsSpelledIn};
 ghost use Rattle.wasm_laws.specs.Counts.{AreDeclared};
+ghost use Rattle.wasm_laws.specs.Kept.{AreThere, BodiesAreSmall, IsThere, LocalsAreFew, TypesAreSmall};
 ghost use Rattle.wasm_laws.specs.Order.{AreCutFrom, AreOrdered, BodyStands, end_of, first_section};
 ghost use Rattle.wasm_laws.specs.Plain.{ArePlain, HasNoMore};
 ghost use Rattle.wasm_laws.specs.Runs.{deciding_length, GoesOn, IsRefused};
@@ -134,4 +135,24 @@ pub fn compiled_code_is_straight()
     ensures height { (c : Context) (tokens : List (ℕ × Token)) (tree : Seq) →
         is_straight tree ≡ true → Tree (tokens_of tokens) tree → greatest (places_of c tree) < length tokens }
     ensures count { (first : ℕ) (bytes : List ℕ) → length (body_read first bytes).code.tokens ≤ length bytes }
+{}
+
+/// Types keep to their limits (Core 3.2.2): each has so many parameters at most, and one result at most.
+pub fn types_keep_limits()
+    ensures { (bytes : List ℕ) → TypesAreSmall (types_of (items_of (module_run bytes).parts)) }
+{}
+
+/// Bodies keep to the limits on their bytes and on the locals that they declare (Core 5.5.13).
+pub fn locals_keep_limits()
+    ensures locals { (first : ℕ) (bytes : List ℕ) → LocalsAreFew (body_read first bytes).groups }
+    ensures bodies { (bytes : List ℕ) → BodiesAreSmall (bodies_of (module_run bytes).parts) }
+{}
+
+/// The functions that exports name are there, with their types (Core 3.4.10), and so is each that is found by its name.
+pub fn exports_are_there()
+    ensures each { (bytes : List ℕ) →
+        let items = items_of (module_run bytes).parts in
+        AreThere (context_of items) (length (functions_of items)) (exports_of items) }
+    ensures named { (c : Context) (functions : ℕ) (name : List ℕ) (exports : List (List ℕ × ℕ)) (index : ℕ) →
+        AreThere c functions exports → named name exports ≡ Some index → IsThere c functions index }
 {}
