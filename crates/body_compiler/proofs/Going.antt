@@ -2,7 +2,7 @@
 use Rattle.std.proofs.Common.{◌≡◌, ◌≤◌, ◌<◌, ℕ, zero, suc, ◌+◌, ◌-◌, ◌⊎◌, inl, inr, Bool, true, false, cond, List, [], ◌∷◌, ◌++◌, length, None, Some, Result, Ok, Err, refl, sym, ap, ◌∙◌, subst, arith, leb, eqb}
 use Rattle.std.proofs.lemmas.Bool.{cases_Bool, cases_lt, leb-true, eqb-true, eqb-false}
 use Rattle.std.specs.Prelude.{OnOk, IsTrue, ◌↔◌}
-use Rattle.std.proofs.lemmas.List.{nil_from_length}
+use Rattle.std.proofs.lemmas.List.{nil_from_length, append-nil}
 use Rattle.wasm_defs.specs.declared.fault.Kind.{Kind}
 use Rattle.wasm_defs.specs.declared.fault.Kind.TheVariants.{Malformed}
 use Rattle.wasm_defs.specs.declared.fault.Refusal.{Refusal}
@@ -28,6 +28,7 @@ use Rattle.body_validator.specs.Checks.{Checked, IsReached}
 use Rattle.body_validator.proofs.Answering.{reached-viable, reached-body}
 use Rattle.body_compiler.specs.declared.code.BodyStop.{BodyStop}
 use Rattle.body_compiler.specs.declared.code.BodyStop.TheVariants.{Refused, NoMemory}
+use Rattle.frame_layout.specs.declared.layout.Layout.{Layout}
 use Rattle.body_compiler.specs.Judged.{joined}
 use Rattle.wasm_defs.specs.Faults.{earlier, unsupported_at}
 use Rattle.body_compiler.specs.Going.{IsGoing, Goes, Judges, Taken, without_opcode}
@@ -188,10 +189,15 @@ unfolding spelled_from
 over zero last e some none = absurd (omega arith)
 over (suc n) last e some none = rw none refl
 
+-- the token was read, and the check took it
+pub record Later (c : Context) (last : ℕ) (before e : Cursor) (t : Token) (check later : Checked) (code : Spelled) (g : IsGoing c last before check code) : Type 0 where
+  pub going : IsGoing c last e later code
+  pub tokens_are : tokens_of going.tokens ≡ tokens_of g.tokens ++ t ∷ []
+
 -- it is compiled: judging goes on behind it
 pub goes_behind : (c : Context) (last at b : ℕ) (before d e : Cursor) (t : Token) (check later : Checked) (code : Spelled) (g : IsGoing c last before check code) → byte before ≡ Got (at, b) d → (check.checker.frames ≡ [] → ⊥)
     → is_compiled_opcode b ≡ true → instruction at b d ≡ Got t e → step_checker check.context t check.checker ≡ Some later.checker → later.context ≡ check.context
-    → IsReached (tokens_of g.tokens ++ t ∷ []) later → IsViable check.context (tokens_of g.tokens ++ t ∷ []) → IsGoing c last e later code
+    → IsReached (tokens_of g.tokens ++ t ∷ []) later → IsViable check.context (tokens_of g.tokens ++ t ∷ []) → Later c last before e t check later code g
 goes_behind c last at b before d e t check later code g h more compiled is stepped same reached viable =
     let o = opened c last at b before d check code g h more in
     let p = behind c last at b before d e t check code g o is in
@@ -199,22 +205,25 @@ goes_behind c last at b before d e t check later code g h more compiled is stepp
     let depth : length later.checker.frames ≡ depth_after t (length check.checker.frames) = checker_depth check.context t check.checker later.checker stepped in
     let k : spelled_from (g.most - 1) (length later.checker.frames) last e ≡ p.rest = ap (λ (n : ℕ). spelled_from (g.most - 1) n last e) depth ∙ sym p.rest_is in
     record {
-      opcodes = g.opcodes ++ (at, b) ∷ [];
-      tokens = g.tokens ++ (at, t) ∷ [];
-      most = g.most - 1;
-      is = p.code_is ∙ joined_more g.opcodes g.tokens (at, b) at t p.rest ∙ ap (joined (g.opcodes ++ (at, b) ∷ []) (g.tokens ++ (at, t) ∷ [])) (sym k);
-      context = same ∙ g.context;
-      reached = rw (tokens_of-append g.tokens ((at, t) ∷ [])) reached;
-      compiled = (good_more c g.opcodes g.tokens at b t o.good compiled v).compiled;
-      enough = omega (arith, p.fewer, g.enough);
-      ends = sym p.opens.high_is;
-      far = p.opens.far;
+      tokens_are = tokens_of-append g.tokens ((at, t) ∷ []);
+      going = record {
+        opcodes = g.opcodes ++ (at, b) ∷ [];
+        tokens = g.tokens ++ (at, t) ∷ [];
+        most = g.most - 1;
+        is = p.code_is ∙ joined_more g.opcodes g.tokens (at, b) at t p.rest ∙ ap (joined (g.opcodes ++ (at, b) ∷ []) (g.tokens ++ (at, t) ∷ [])) (sym k);
+        context = same ∙ g.context;
+        reached = rw (tokens_of-append g.tokens ((at, t) ∷ [])) reached;
+        compiled = (good_more c g.opcodes g.tokens at b t o.good compiled v).compiled;
+        enough = omega (arith, p.fewer, g.enough);
+        ends = sym p.opens.high_is;
+        far = p.opens.far;
+      };
     }
 
 -- it isn't: the answer by the place
-pub ends_behind : (c : Context) (last at b : ℕ) (before d e : Cursor) (t : Token) (check later : Checked) (code : Spelled) (r : Result (Unit {0}) BodyStop) (g : IsGoing c last before check code) → byte before ≡ Got (at, b) d → (check.checker.frames ≡ [] → ⊥)
-    → is_compiled_opcode b ≡ false → instruction at b d ≡ Got t e → step_checker check.context t check.checker ≡ Some later.checker → IsViable check.context (tokens_of g.tokens ++ t ∷ []) → Taken false at last later r → Goes c last code r e later
-ends_behind c last at b before d e t check later code r g h more outside is stepped viable taken = by_place taken
+pub ends_behind : (c : Context) (last at b : ℕ) (before d e : Cursor) (t : Token) (check later : Checked) (code : Spelled) (layout : Layout) (front words : List ℕ) (r : Result (Unit {0}) BodyStop) (g : IsGoing c last before check code) → byte before ≡ Got (at, b) d → (check.checker.frames ≡ [] → ⊥)
+    → is_compiled_opcode b ≡ false → instruction at b d ≡ Got t e → step_checker check.context t check.checker ≡ Some later.checker → IsViable check.context (tokens_of g.tokens ++ t ∷ []) → Taken false at last later r → Goes c last code layout front r e later words
+ends_behind c last at b before d e t check later code layout front words r g h more outside is stepped viable taken = by_place taken
   where
     o : Opened c last at b before d check code g
     o = opened c last at b before d check code g h more
@@ -252,7 +261,7 @@ ends_behind c last at b before d e t check later code r g h more outside is step
           | inr ge ↦ inr (is_whole (omega (arith, in_body)) none)
         ]
 
-    by_place : Taken false at last later r → Goes c last code r e later
+    by_place : Taken false at last later r → Goes c last code layout front r e later words
     by_place (inl q) = rw q.0 (at_last q.1 q.2)
     by_place (inr q) = rw (q.0, p.code_is) (taken_outside c g.opcodes g.tokens at b (last + 1) last t p.rest o.good outside v p.places (before_last q.1))
 
@@ -275,6 +284,11 @@ is_valid c last cursor check code g none nothing =
     let body = reached-body check (tokens_of g.tokens) none g.reached in
     let k = closed_code c last cursor check code g none ∙ ap (λ (l : List ℕ). joined g.opcodes g.tokens (closed cursor.at l)) nothing in
     (body.0, rw k (whole c g.opcodes g.tokens body.0 (good_of c last cursor check code g) body.1 (rw (← g.context) body.2)))
+
+pub all_tokens : (c : Context) (last : ℕ) (cursor : Cursor) (check : Checked) (code : Spelled) (g : IsGoing c last cursor check code) → check.checker.frames ≡ [] → cursor.rest ≡ [] → tokens_of code.tokens ≡ tokens_of g.tokens
+all_tokens c last cursor check code g none nothing =
+    let k = closed_code c last cursor check code g none ∙ ap (λ (l : List ℕ). joined g.opcodes g.tokens (closed cursor.at l)) nothing in
+    ap (λ (s : Spelled). tokens_of s.tokens) k ∙ ap tokens_of (append-nil g.tokens)
 
 surplus : (c : Context) (last : ℕ) (cursor : Cursor) (check : Checked) (code : Spelled) (g : IsGoing c last cursor check code) (rest : List ℕ) → 0 < length rest → code ≡ joined g.opcodes g.tokens (closed cursor.at rest) → IsCodeFault c code (record { offset = cursor.at; kind = Malformed })
 surplus c last cursor check code g [] some k = absurd (omega arith)
@@ -310,20 +324,14 @@ instruction_shrinks at b d e t is =
     let m = moves_of d e adv in
     omega (arith, m.rest)
 
-pub token_goes : (c : Context) (last at b : ℕ) (before d e : Cursor) (t : Token) (check later : Checked) (code : Spelled) (r : Result (Unit {0}) BodyStop) (compiled : Bool) (g : IsGoing c last before check code) → byte before ≡ Got (at, b) d → (check.checker.frames ≡ [] → ⊥)
-    → is_compiled_opcode b ≡ compiled → instruction at b d ≡ Got t e → step_checker check.context t check.checker ≡ Some later.checker → later.context ≡ check.context
-    → IsReached (tokens_of g.tokens ++ t ∷ []) later → IsViable check.context (tokens_of g.tokens ++ t ∷ []) → Taken compiled at last later r → Goes c last code r e later
-token_goes c last at b before d e t check later code r true g h more k is stepped same reached viable taken = rw taken (goes_behind c last at b before d e t check later code g h more k is stepped same reached viable)
-token_goes c last at b before d e t check later code r false g h more k is stepped same reached viable taken = ends_behind c last at b before d e t check later code r g h more k is stepped viable taken
+pub stop_judges : (c : Context) (last : ℕ) (cursor : Cursor) (check : Checked) (code : Spelled) (layout : Layout) (front words : List ℕ) (s : Stop) → IsGoing c last cursor check code → (check.checker.frames ≡ [] → ⊥) → Stops s (byte cursor) → Judges c code layout front (Err (without_opcode last s)) check words
+stop_judges c last cursor check code layout front words (stop.Refused r) g more h = no_opcode c last cursor check code r g more (inl h)
+stop_judges c last cursor check code layout front words stop.Wants g more h = no_opcode c last cursor check code (record { offset = last; kind = Malformed }) g more (inr (h, refl))
+stop_judges c last cursor check code layout front words stop.NoMemory g more h = tt
 
-pub stop_judges : (c : Context) (last : ℕ) (cursor : Cursor) (check : Checked) (code : Spelled) (s : Stop) → IsGoing c last cursor check code → (check.checker.frames ≡ [] → ⊥) → Stops s (byte cursor) → Judges c code (Err (without_opcode last s))
-stop_judges c last cursor check code (stop.Refused r) g more h = no_opcode c last cursor check code r g more (inl h)
-stop_judges c last cursor check code stop.Wants g more h = no_opcode c last cursor check code (record { offset = last; kind = Malformed }) g more (inr (h, refl))
-stop_judges c last cursor check code stop.NoMemory g more h = tt
-
-pub goes_judges : (c : Context) (last : ℕ) (cursor : Cursor) (check : Checked) (code : Spelled) (s : BodyStop) → Goes c last code (Err s) cursor check → Judges c code (Err s)
-goes_judges c last cursor check code (Refused r) h = h
-goes_judges c last cursor check code NoMemory h = tt
+pub goes_judges : (c : Context) (last : ℕ) (cursor : Cursor) (check : Checked) (code : Spelled) (layout : Layout) (front words : List ℕ) (s : BodyStop) → Goes c last code layout front (Err s) cursor check words → Judges c code layout front (Err s) check words
+goes_judges c last cursor check code layout front words (Refused r) h = h
+goes_judges c last cursor check code layout front words NoMemory h = tt
 
 pub byte_shrinks : (c d : Cursor) (at b : ℕ) → byte c ≡ Got (at, b) d → length d.rest < length c.rest
 byte_shrinks c d at b h =

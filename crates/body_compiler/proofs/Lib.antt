@@ -2,4 +2,8 @@ pub mod Outcomes
 pub mod LocalLaws
 pub mod Depths
 pub mod Going
+pub mod Lifting
+pub mod Emission
+pub mod Compiling
 pub mod Beginning
+pub mod Whole

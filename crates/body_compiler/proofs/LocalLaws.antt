@@ -14,7 +14,7 @@ use Rattle.wasm_defs.specs.Typing.{Context}
 use Rattle.body_validator.specs.Checks.{Checked, before_code, declared_of}
 use Rattle.body_compiler.specs.LocalGroups.{total, Declares}
 
-length-declared : (gs : List Group) → length (declared_types gs) ≡ total gs
+pub length-declared : (gs : List Group) → length (declared_types gs) ≡ total gs
 length-declared [] = refl
 length-declared (g ∷ gs) = length-append (replicate g.count g.ty) (declared_types gs) ∙ (let e : length (replicate g.count g.ty) ≡ g.count = length-replicate g.count g.ty in omega (arith, e, length-declared gs))
 
@@ -97,6 +97,6 @@ pub no_memory_stops : {A : Type 0} (s : Stop) (x : Read A) → s ≡ stop.NoMemo
 no_memory_stops s x e = rw e tt
 
 -- what was declared of another reader that does the same there
-pub declares_same : (c : Context) (f : FuncType) (p q : Reader (List Group)) (r : Result (Unit {0}) Stop) (old mid new : Cursor) (check : Checked) → p old ≡ q mid → Declares c f q r mid new check → Declares c f p r old new check
-declares_same c f p q (Ok done) old mid new check e h = (h.0, e ∙ h.1, h.2)
+pub declares_same : (c : Context) (f : FuncType) (p q : Reader (List Group)) (r : Result ℕ Stop) (old mid new : Cursor) (check : Checked) → p old ≡ q mid → Declares c f q r mid new check → Declares c f p r old new check
+declares_same c f p q (Ok count) old mid new check e h = (h.0, e ∙ h.1, h.2, h.3)
 declares_same c f p q (Err s) old mid new check e h = stops_same s (p old) (q mid) e h

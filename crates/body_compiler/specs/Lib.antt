@@ -1,3 +1,5 @@
 pub mod Judged
 pub mod LocalGroups
+pub mod Emitted
 pub mod Going
+pub mod Compiled

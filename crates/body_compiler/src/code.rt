@@ -1,19 +1,21 @@
-//! A body's code: its tokens are read one after the other, checked, and compared with what is compiled so far.
+//! A body's code: its tokens are read one after the other, checked, compared with what is compiled so far, and compiled.
 
-ghost use Rattle.std.specs.Prelude.{◌≡◌, ◌≢◌, ◌≤◌, [], length, OnOk, if◌then◌else◌};
+ghost use Rattle.std.specs.Prelude.{◌≡◌, ◌≢◌, ◌≤◌, ℕ, List, [], length, OnOk, if◌then◌else◌};
 ghost use Rattle.wasm_defs.specs.Bodies.{Spelled as SpelledGiven};
 ghost use Rattle.wasm_defs.specs.Fields.{Cursor as CursorGiven, Got, byte};
 ghost use Rattle.wasm_defs.specs.Typing.{Context as ContextGiven};
 ghost use Rattle.wasm_defs.specs.Faults.{earlier, unsupported_at};
-ghost use Rattle.body_compiler.specs.Going.{IsGoing, Goes, Judges, Taken, without_opcode};
+ghost use Rattle.frame_layout.specs.Slots.{link};
+ghost use Rattle.body_compiler.specs.Going.{IsCompiling, IsWithin, Goes, Judges, Taken, without_opcode};
 
+use crate::draft::{Draft, take_step};
 use crate::instructions::instruction;
 use body_validator::{Check, TokenStop};
 use leb_feed::{Fields, Stop};
 use std::alloc::Global;
 use wasm_defs::{Kind, Refusal, earlier, is_compiled_opcode};
 
-/// Why a body isn't judged to its end.
+/// Why a body isn't compiled.
 #[derive(Clone, Copy, Debug, PartialEq, Eq)]
 pub enum BodyStop {
     /// Its first fault.
@@ -62,22 +64,34 @@ fn after_token(check: &Check<'_>, compiled: bool, at: u64, last: u64) -> Result<
     Err(BodyStop::Refused(refusal))
 }
 
-/// Reads and checks the instruction behind an opcode at an offset, in a body whose last byte has the offset `last`.
+/// Reads, checks and compiles the instruction behind an opcode at an offset, in a body whose last byte has the offset `last`.
 fn take_instruction(
     alloc: Global,
     fields: &mut Fields<'_>,
     check: &mut Check<'_>,
+    draft: &mut Draft,
     last: u64,
     at: u64,
     opcode: u8,
 ) -> Result<(), BodyStop>
+    requires within { IsWithin check.old fields.old 1 }
+    requires slots { link draft.old.layout ≤ 51000 }
     ensures shrinks { OnOk result (length fields.new.rest ≤ length fields.old.rest) }
-    ensures goes { (c : ContextGiven) (code : SpelledGiven) (before : CursorGiven) → IsGoing c last before check.old code → byte before ≡ Got (at, opcode) fields.old → check.old.checker.frames ≢ [] → Goes c last code result fields.new check.new }
+    ensures layout { draft.new.layout ≡ draft.old.layout }
+    ensures grows { OnOk result (length draft.old.words ≤ length draft.new.words) }
+    ensures within { OnOk result (IsWithin check.new fields.new 0) }
+    ensures goes { (c : ContextGiven) (code : SpelledGiven) (before : CursorGiven) (front : List ℕ) → IsCompiling c last before check.old code draft.old.layout front draft.old.words → byte before ≡ Got (at, opcode) fields.old → check.old.checker.frames ≢ [] → Goes c last code draft.old.layout front result fields.new check.new draft.new.words }
 {
     let compiled = is_compiled_opcode(opcode);
     match instruction(fields, alloc, at, opcode) {
         Ok(token) => match check.token(at, &token) {
-            Ok(_) => after_token(check, compiled, at, last),
+            Ok(step) => match after_token(check, compiled, at, last) {
+                Ok(()) => match take_step(draft, &step, &token) {
+                    Ok(()) => Ok(()),
+                    Err(_) => Err(BodyStop::NoMemory),
+                },
+                Err(stop) => Err(stop),
+            },
             Err(TokenStop::Refused(refusal)) => {
                 Err(BodyStop::Refused(fault_of(compiled, at, refusal)))
             }
@@ -100,21 +114,30 @@ pub(crate) fn stop_of(stop: Stop, last: u64) -> BodyStop
     }
 }
 
-/// Judges the code of a body whose last byte has the offset `last`.
+/// Judges and compiles the code of a body whose last byte has the offset `last`.
 pub fn judge_code(
     alloc: Global,
     fields: &mut Fields<'_>,
     check: &mut Check<'_>,
+    draft: &mut Draft,
     last: u64,
 ) -> Result<(), BodyStop>
-    ensures { (c : ContextGiven) (code : SpelledGiven) → IsGoing c last fields.old check.old code → Judges c code result }
+    requires within { IsWithin check.old fields.old 0 }
+    requires slots { link draft.old.layout ≤ 51000 }
+    ensures layout { draft.new.layout ≡ draft.old.layout }
+    ensures grows { OnOk result (length draft.old.words ≤ length draft.new.words) }
+    ensures within { OnOk result (IsWithin check.new fields.new 0) }
+    ensures over { OnOk result (check.new.checker.frames ≡ []) }
+    ensures judges { (c : ContextGiven) (code : SpelledGiven) (front : List ℕ) → IsCompiling c last fields.old check.old code draft.old.layout front draft.old.words → Judges c code draft.old.layout front result check.new draft.new.words }
 {
     while !check.is_over() {
         match fields.byte() {
-            Ok((at, opcode)) => match take_instruction(alloc, fields, check, last, at, opcode) {
-                Ok(()) => {}
-                Err(stop) => return Err(stop),
-            },
+            Ok((at, opcode)) => {
+                match take_instruction(alloc, fields, check, draft, last, at, opcode) {
+                    Ok(()) => {}
+                    Err(stop) => return Err(stop),
+                }
+            }
             Err(stop) => return Err(stop_of(stop, last)),
         }
     }

@@ -48,10 +48,12 @@ fn declare(check: &mut Check<'_>, group: LocalGroup) -> Result<(), Stop>
     }
 }
 
-/// Reads so many groups of locals, and declares them.
-fn declare_groups(fields: &mut Fields<'_>, check: &mut Check<'_>, n: u32) -> Result<(), Stop>
+/// Reads so many groups of locals and declares them, and says how many locals there are.
+fn declare_groups(fields: &mut Fields<'_>, check: &mut Check<'_>, n: u32) -> Result<u32, Stop>
     requires { check.old.checker ≡ start_checker check.old.context }
-    ensures { (c : ContextGiven) (f : FuncTypeGiven) → check.old ≡ before_code c f [] → Declares c f (groups n 0) result fields.old fields.new check.new }
+    ensures unbegun { OnOk result (check.new.checker ≡ start_checker check.new.context) }
+    ensures few { IfOk result (λ n. n ≤ 50000) }
+    ensures groups { (c : ContextGiven) (f : FuncTypeGiven) → check.old ≡ before_code c f [] → Declares c f (groups n 0) result fields.old fields.new check.new }
 {
     let mut declared = 0;
     for _ in 0..n {
@@ -66,14 +68,16 @@ fn declare_groups(fields: &mut Fields<'_>, check: &mut Check<'_>, n: u32) -> Res
             Err(stop) => return Err(stop),
         }
     }
-    Ok(())
+    Ok(declared)
 }
 
-/// Reads the groups of a body's declared locals, and declares them.
+/// Reads the groups of a body's declared locals and declares them, and says how many locals there are.
 #[tactic(auto, unfolding(wasm_defs::specs::Bodies::local_groups))]
-pub fn declare_locals(fields: &mut Fields<'_>, check: &mut Check<'_>) -> Result<(), Stop>
+pub fn declare_locals(fields: &mut Fields<'_>, check: &mut Check<'_>) -> Result<u32, Stop>
     requires { check.old.checker ≡ start_checker check.old.context }
-    ensures { (c : ContextGiven) (f : FuncTypeGiven) → check.old ≡ before_code c f [] → Declares c f local_groups result fields.old fields.new check.new }
+    ensures unbegun { OnOk result (check.new.checker ≡ start_checker check.new.context) }
+    ensures few { IfOk result (λ n. n ≤ 50000) }
+    ensures groups { (c : ContextGiven) (f : FuncTypeGiven) → check.old ≡ before_code c f [] → Declares c f local_groups result fields.old fields.new check.new }
 {
     match fields.u32() {
         Ok((_, n)) => declare_groups(fields, check, n),

@@ -22,7 +22,7 @@ step_frames c t s last e =
     let x = through (step c t s.frames) (λ fs. Some (measured s.greatest fs)) last e in
     x.is ∙ ap (λ (y : Checker). Some y.frames) (some_inside (measured s.greatest x.value) last x.then)
 
-run_frames : (c : Context) (tokens : List Token) (s last : Checker) → run_checker c tokens s ≡ Some last → run c tokens s.frames ≡ Some last.frames
+pub run_frames : (c : Context) (tokens : List Token) (s last : Checker) → run_checker c tokens s ≡ Some last → run c tokens s.frames ≡ Some last.frames
 run_frames c [] s last e = ap (λ (y : Checker). Some y.frames) (some_inside s last e)
 run_frames c (t ∷ ts) s last e =
     let x = through (step_checker c t s) (run_checker c ts) last e in

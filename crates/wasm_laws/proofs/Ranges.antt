@@ -81,7 +81,7 @@ constant_fits (negsuc n) h = omega (arith, h.sfits)
 
 -- ---- fields
 
-abbrev HasBytes : Cursor → Type 0
+abbrev pub HasBytes : Cursor → Type 0
 HasBytes c = AreBytes c.rest
 
 signed_got : (c : Cursor) (r : Reading) → IsSigned 32 r → IfGot (λ n d. FitsSigned w32 n.1) (from_reading c r)
@@ -110,7 +110,7 @@ u32_got c fits =
 
 -- ---- instructions
 
-abbrev InRange : Token → Cursor → Type 0
+abbrev pub InRange : Token → Cursor → Type 0
 InRange t d = TokenIsInRange t
 
 end_in_range : (at : ℕ) (d : Cursor) → IfGot InRange (instruction at 0x0B d)
@@ -129,7 +129,7 @@ add_in_range : (at : ℕ) (d : Cursor) → IfGot InRange (instruction at 0x6A d)
 unfolding instruction numeric
 add_in_range at d = tt
 
-instruction_in_range : (at b : ℕ) (d : Cursor) → HasBytes d → is_compiled_opcode b ≡ true → IfGot InRange (instruction at b d)
+pub instruction_in_range : (at b : ℕ) (d : Cursor) → HasBytes d → is_compiled_opcode b ≡ true → IfGot InRange (instruction at b d)
 instruction_in_range at b d fits compiled = by_opcode InRange at b d compiled (end_in_range at d) (get_in_range at d fits) (const_in_range at d fits) (add_in_range at d)
 
 -- ---- bodies

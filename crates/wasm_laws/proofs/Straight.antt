@@ -17,7 +17,7 @@ use Rattle.wasm_laws.proofs.Plain.{none_outside}
 
 -- ---- instructions
 
-abbrev IsStraightToken : Token → Cursor → Type 0
+abbrev pub IsStraightToken : Token → Cursor → Type 0
 IsStraightToken t d = is_straight_token t ≡ true
 
 end_is_straight : (at : ℕ) (d : Cursor) → IfGot IsStraightToken (instruction at 0x0B d)
@@ -55,7 +55,7 @@ by_opcode P at b d compiled closes gets gives adds =
     at_opcode : (k : ℕ) → b ≡ k → IfGot P (instruction at k d) → IfGot P (instruction at b d)
     at_opcode k e h = subst (λ (n : ℕ). IfGot P (instruction at n d)) (sym e) h
 
-instruction_is_straight : (at b : ℕ) (d : Cursor) → is_compiled_opcode b ≡ true → IfGot IsStraightToken (instruction at b d)
+pub instruction_is_straight : (at b : ℕ) (d : Cursor) → is_compiled_opcode b ≡ true → IfGot IsStraightToken (instruction at b d)
 instruction_is_straight at b d compiled = by_opcode IsStraightToken at b d compiled (end_is_straight at d) (get_is_straight at d) (const_is_straight at d) (add_is_straight at d)
 
 -- ---- bodies
