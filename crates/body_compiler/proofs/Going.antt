@@ -329,9 +329,9 @@ stop_judges c last cursor check code layout front words (stop.Refused r) g more 
 stop_judges c last cursor check code layout front words stop.Wants g more h = no_opcode c last cursor check code (record { offset = last; kind = Malformed }) g more (inr (h, refl))
 stop_judges c last cursor check code layout front words stop.NoMemory g more h = tt
 
-pub goes_judges : (c : Context) (last : ℕ) (cursor : Cursor) (check : Checked) (code : Spelled) (layout : Layout) (front words : List ℕ) (s : BodyStop) → Goes c last code layout front (Err s) cursor check words → Judges c code layout front (Err s) check words
-goes_judges c last cursor check code layout front words (Refused r) h = h
-goes_judges c last cursor check code layout front words NoMemory h = tt
+pub goes_judges : (c : Context) (last : ℕ) (cursor : Cursor) (check : Checked) (code : Spelled) (one layout : Layout) (front words : List ℕ) (s : BodyStop) → Goes c last code one front (Err s) cursor check words → Judges c code layout front (Err s) check words
+goes_judges c last cursor check code one layout front words (Refused r) h = h
+goes_judges c last cursor check code one layout front words NoMemory h = tt
 
 pub byte_shrinks : (c d : Cursor) (at b : ℕ) → byte c ≡ Got (at, b) d → length d.rest < length c.rest
 byte_shrinks c d at b h =

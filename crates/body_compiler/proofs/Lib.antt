@@ -4,6 +4,8 @@ pub mod Depths
 pub mod Going
 pub mod Lifting
 pub mod Emission
+pub mod Sharing
+pub mod Overwriting
 pub mod Compiling
 pub mod Beginning
 pub mod Whole
