@@ -1,5 +1,6 @@
 -- The beginning of a body: its locals, and where its code begins.
-use Rattle.std.proofs.Common.{◌≡◌, ◌<◌, ◌≤◌, ℕ, ◌+◌, List, [], ◌∷◌, length, Ok, Err, refl, sym, ◌∙◌, subst, arith}
+use Rattle.std.proofs.Common.{◌≡◌, ◌<◌, ◌≤◌, ℕ, ◌+◌, List, [], ◌∷◌, length, Ok, Err, refl, sym, ◌∙◌, subst, arith, get_or}
+use Rattle.std.proofs.lemmas.List.{get_or_default}
 use Rattle.wasm_defs.specs.declared.fault.Kind.TheVariants.{Malformed}
 use Rattle.wasm_defs.specs.declared.types.FuncType.{FuncType}
 use Rattle.wasm_defs.specs.Fields.{Cursor, Read, Got, u32}
@@ -59,6 +60,9 @@ begins c f first bytes gs d check is known =
         far = opens.far;
       };
     })
+
+pub bytes_are : (bytes : List ℕ) → ((i : ℕ) → get_or bytes i 0 < 256) → AreBytes bytes
+bytes_are bytes h = λ k d lt. rw (get_or_default bytes k d 0 lt) (h k)
 
 -- and its bounds hold
 pub code_within : (c : Context) (f : FuncType) (first count : ℕ) (bytes : List ℕ) (d : Cursor) (check : Checked) → AreBytes bytes → length bytes ≤ max_body → Declares c f local_groups (Ok count) (body_cursor first bytes) d check
