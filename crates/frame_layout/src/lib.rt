@@ -7,7 +7,6 @@
 
 mod laws;
 mod layout;
-pub mod macros;
 
 pub use laws::{
     add_law, const_law, epilogue_law, exhaustion_law, exit_law, local_get_law, prologue_law,
