@@ -1,0 +1,6 @@
+pub mod Slots
+pub mod Words
+pub mod Steps
+pub mod Weights
+pub mod Ends
+pub mod Values
