@@ -4,3 +4,5 @@ pub mod Steps
 pub mod Weights
 pub mod Ends
 pub mod Values
+pub mod Puts
+pub mod Instructions

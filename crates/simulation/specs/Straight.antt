@@ -10,7 +10,7 @@ use Rattle.wasm_defs.specs.declared.token.Plain.TheVariants.{LocalGet, Const, Op
 use Rattle.wasm_defs.specs.Trees.{Seq, Nothing, Simple, Block, Loop, If, IfElse}
 use Rattle.wasm_defs.specs.Typing.{Context, IsBody}
 use Rattle.wasm_defs.specs.Places.{places_of, greatest}
-use Rattle.wasm_defs.specs.Values.{Value, word_of, words_of}
+use Rattle.wasm_defs.specs.Values.{Value, unsigned, word_of, words_of}
 use Rattle.wasm_defs.specs.Host.{are_of}
 use Rattle.wasm_defs.specs.Configurations.{Func, Store}
 use Rattle.frame_layout.specs.declared.layout.Layout.{Layout}
@@ -19,9 +19,10 @@ use Rattle.frame_layout.specs.Slots.{need}
 use Rattle.frame_layout.specs.Laws.{slot_at, IsFrame}
 use Rattle.image_format.specs.ImageRun.{Running, memory_of, globals_of}
 
+-- a constant is one of its type
 abbrev pub IsStraightStep : Plain → Type 0
 IsStraightStep (LocalGet x) = Unit {0}
-IsStraightStep (Const I32 n) = Unit {0}
+IsStraightStep (Const I32 n) = unsigned I32 n < 2 ^ 32
 IsStraightStep (Operate (Binary I32 Add)) = Unit {0}
 IsStraightStep p = ⊥
 
