@@ -2,7 +2,7 @@
 use Rattle.std.proofs.Common.{◌≡◌, ℕ, zero, suc, ◌+◌, ◌-◌, ◌*◌, ◌^◌, ◌<◌, ◌≤◌, List, [], ◌∷◌, ◌++◌, length, map, Option, Some, None, refl, sym, ap, ◌∙◌, subst, arith}
 use Rattle.std.specs.Prelude.{slice_get, option_map, ℤ}
 use Rattle.std.proofs.lemmas.Option.{slice_get-map, slice_get_within}
-use Rattle.std.proofs.lemmas.List.{length-map}
+use Rattle.std.proofs.lemmas.List.{length-map, length-append}
 use Rattle.rv_isa.specs.declared.operations.Op.{Op}
 use Rattle.rv_isa.specs.Steps.{State, Bytes}
 use Rattle.rv_isa.specs.Runs.{place, HasAt, Reaches}
@@ -43,6 +43,22 @@ moves_fixed params results from to m = record {
   after = m.after ∙ ap (λ (ts : Types). ts ++ m.below) m.allowed.1;
 }
 
+fixed_height : (params results from to : Types) → Moves (Fixed params results) from to → length from - length params + length results ≡ length to
+fixed_height params results from to m =
+    let f = moves_fixed params results from to m in
+    omega (arith, ap length f.before, ap length f.after, length-append params f.below, length-append results f.below)
+
+local_height : (o : Option ValType) (from to : Types) → Moves (with_type o (λ t. Fixed [] (t ∷ []))) from to → after_rule (with_type o (λ t. Fixed [] (t ∷ []))) (Some (length from)) ≡ Some (length to)
+local_height None from to m = absurd m.allowed
+local_height (Some t) from to m = ap (λ (h : ℕ). Some h) (fixed_height [] (t ∷ []) from to m)
+
+-- the height behind an instruction is the one of its types
+pub height_after : (c : Context) (p : Plain) (from to : Types) → IsStraightStep p → Moves (rule_of c p) from to → after_rule (rule_of c p) (Some (length from)) ≡ Some (length to)
+height_after c (LocalGet x) from to h m = local_height (slice_get c.locals x) from to m
+height_after c (Const I32 n) from to h m = ap (λ (k : ℕ). Some k) (fixed_height [] (I32 ∷ []) from to m)
+height_after c (Operate (Binary I32 Add)) from to h m = ap (λ (k : ℕ). Some k) (fixed_height (I32 ∷ I32 ∷ []) (I32 ∷ []) from to m)
+height_after c p from to h m = absurd h
+
 -- a local that is read
 pub record Reads (locals : Types) (x : ℕ) (from to : Types) : Type 0 where
   pub ty : ValType
@@ -72,7 +88,6 @@ pub record Follows (code : List (Option Op)) (c : Context) (labels : List Label)
   pub after : List Value
   pub gives : effect store locals cap p operands ≡ Gives store locals after
   pub types_are : types_of_values after ≡ mid
-  pub height : after_rule (rule_of c p) (Some (length operands)) ≡ Some (length after)
   pub end : State
   pub reaches : Reaches code (length (words w c labels (length operands) here p)) s end
   pub pc_is : end.pc ≡ s.pc + 4 * length (words w c labels (length operands) here p)
@@ -88,12 +103,10 @@ module _ (const_does : ConstLaw) (local_get_does : LocalGetLaw) (add_does : AddL
       let d = const_does w code s i base (length operands) I32 (unsigned I32 n) has at m.frame small (omega arith) in
       let v = value I32 (unsigned I32 n) in
       let k = length (const_words w (length operands) I32 (unsigned I32 n)) in
-      let more : length operands - 0 + 1 ≡ suc (length operands) = omega arith in
       record {
         after = v ∷ operands;
         gives = refl;
         types_are = sym is;
-        height = ap (λ (h : ℕ). Some h) more;
         end = d.end;
         reaches = d.reaches;
         pc_is = d.pc_is;
@@ -111,12 +124,10 @@ module _ (const_does : ConstLaw) (local_get_does : LocalGetLaw) (add_does : AddL
       let within : x < length locals = slice_get_within locals x f.v f.is in
       let d = local_get_does w code s i base (length operands) x has at m.frame (omega arith) (omega arith) in
       let k = length (local_get_words w (length operands) x) in
-      let more : length operands - 0 + 1 ≡ suc (length operands) = omega arith in
       record {
         after = f.v ∷ operands;
         gives = ap (pushed store locals operands) f.is;
         types_are = ap (λ (t : ValType). t ∷ types_of_values operands) f.ty_is ∙ sym r.after;
-        height = ap (λ (o : Option ValType). after_rule (with_type o (λ t. Fixed [] (t ∷ []))) (Some (length operands))) r.is ∙ ap (λ (h : ℕ). Some h) more;
         end = d.end;
         reaches = d.reaches;
         pc_is = d.pc_is;
@@ -145,12 +156,10 @@ module _ (const_does : ConstLaw) (local_get_does : LocalGetLaw) (add_does : AddL
       (add_does w code s i base h x.number y.number has at m.frame (omega arith) (omega arith) x_small y_small x_word y_word) in
       let v = value I32 n in
       let n_small : n < 2 ^ 32 = omega arith in
-      let more : h - 2 + 1 ≡ suc (length below) = omega arith in
       record {
         after = v ∷ below;
         gives = ap (λ (t : ValType). Gives store locals (value t n ∷ below)) refl;
         types_are = sym is;
-        height = ap (λ (j : ℕ). Some j) more;
         end = d.end;
         reaches = d.reaches;
         pc_is = d.pc_is;

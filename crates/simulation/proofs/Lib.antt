@@ -6,3 +6,5 @@ pub mod Ends
 pub mod Values
 pub mod Puts
 pub mod Instructions
+pub mod Texts
+pub mod Chains
