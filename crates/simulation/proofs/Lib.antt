@@ -8,3 +8,5 @@ pub mod Puts
 pub mod Instructions
 pub mod Texts
 pub mod Chains
+pub mod Arguments
+pub mod Entries
