@@ -10,3 +10,4 @@ pub mod Texts
 pub mod Chains
 pub mod Arguments
 pub mod Entries
+pub mod Exits
