@@ -5,10 +5,12 @@ use Rattle.rv_isa.specs.Steps.{State, Stepped, step, Ran, Spent, Called, Faulted
 use Rattle.rv_isa.specs.Steps as machine
 use Rattle.rv_isa.specs.Runs.{resumed}
 use Rattle.rv_isa.proofs.RunLaws.{runs_go_on}
-use Rattle.wasm_defs.specs.ModuleRun.{End, Going}
+use Rattle.wasm_defs.specs.ModuleRun.{End}
 use Rattle.image_format.specs.declared.image.Image.{Image}
 use Rattle.image_format.specs.Environment.{code_of_image}
-use Rattle.image_format.specs.ImageRun.{Running, Stepping, To, Ended, Faulted as Broken, Waiting, environment, stepped, next, on, steps, As, ImageRun, run_of}
+use Rattle.image_format.specs.ImageRun.{Running, Stepping, To, Ended, environment, stepped, on, steps, run_of}
+use Rattle.simulation.specs.SameRuns.{as_image}
+use Rattle.simulation.proofs.Ends.{EndsAfter, going_with, ended_with}
 
 abbrev pub with_machine : Running → State → Running
 with_machine r s = record r { machine = s }
@@ -58,24 +60,20 @@ module _ (code : List (Option Op)) where
 
 -- ---- an image's run that ends after so many steps
 
-pub record ImageEnds (image : Image) (r : Running) (count : ℕ) (end : End) : Type 0 where
-  pub before : (n : ℕ) → n < count → run_of (steps image n r) ≡ record { calls = r.calls; end = As Going }
-  pub after : (n : ℕ) → count ≤ n → run_of (steps image n r) ≡ record { calls = r.calls; end = As end }
-
 module _ (image : Image) (r : Running) (count : ℕ) (end : End) (t : State) (by : (n : ℕ) → exec (code_of_image image) (count + n) r.machine ≡ Called n t)
     (answers : (pc : ℕ) → environment image (with_machine r t) pc ≡ Ended (with_machine r t) end) where
-  goes_before : (n : ℕ) → n < count → run_of (steps image n r) ≡ record { calls = r.calls; end = As Going }
+  goes_before : (n : ℕ) → n < count → run_of (steps image n r) ≡ as_image (going_with r.calls)
   goes_before n less =
       let none : count + 0 ≡ count = omega arith in
       let until = before_call (code_of_image image) count n r.machine t (ap (λ (m : ℕ). exec (code_of_image image) m r.machine) (sym none) ∙ by 0) less in
       ap run_of (spent image r n r.machine until.0 until.1)
 
-  over_after : (n : ℕ) → count ≤ n → run_of (steps image n r) ≡ record { calls = r.calls; end = As end }
+  over_after : (n : ℕ) → count ≤ n → run_of (steps image n r) ≡ as_image (ended_with r.calls end)
   over_after n more =
       let d = n - count in
       let parts : n ≡ count + d = omega arith in
       let answer = called image r (count + d) d r.machine t (by d) in
       ap (λ (m : ℕ). run_of (steps image m r)) parts ∙ ap run_of (answer.1 ∙ ap (λ (e : Stepping). on e (steps image d)) (answers answer.0))
 
-  pub image_ends : ImageEnds image r count end
+  pub image_ends : EndsAfter (as_image (going_with r.calls)) (as_image (ended_with r.calls end)) count (λ n. run_of (steps image n r))
   image_ends = record { before = goes_before; after = over_after }

@@ -2,7 +2,8 @@
 use Rattle.std.proofs.Common.{◌≡◌, ℕ, zero, suc, ◌+◌, ◌-◌, ◌<◌, ◌≤◌, refl, sym, ap, ◌∙◌, arith}
 use Rattle.wasm_defs.specs.Configurations.{Instance, Store, State, Step, To, Returned, Trapped, Stopped, Waiting, Stuck}
 use Rattle.wasm_defs.specs.Reductions.{next, on, run}
-use Rattle.wasm_defs.specs.ModuleRun.{store_in}
+use Rattle.wasm_defs.specs.ModuleRun.{End, store_in, run_of}
+use Rattle.simulation.proofs.Ends.{EndsAfter, going_with, ended_with}
 
 -- no weight leads on from there
 abbrev pub Stays : Step → Type 0
@@ -17,6 +18,15 @@ Stays Stuck = Unit {0}
 pub record ModuleEnds (inst : Instance) (store : Store) (count : ℕ) (s : State) (end : Step) : Type 0 where
   pub before : (k : ℕ) → k < count → (t : State) × (run inst k s ≡ To t) × (store_in t ≡ store)
   pub after : (k : ℕ) → count ≤ k → run inst k s ≡ end
+
+-- so its runs end
+pub module_ends : (inst : Instance) (store : Store) (count : ℕ) (s : State) (end : Step) (e : End) → run_of end ≡ ended_with store.calls e → ModuleEnds inst store count s end
+    → EndsAfter (going_with store.calls) (ended_with store.calls e) count (λ k. run_of (run inst k s))
+module_ends inst store count s end e is ends = record {
+  before = λ k less.
+      let there = ends.before k less in ap run_of there.1 ∙ ap (λ (st : Store). going_with st.calls) there.2;
+  after = λ k more. ap run_of (ends.after k more) ∙ is;
+}
 
 module _ (inst : Instance) (store : Store) (s : State) (same : store_in s ≡ store) where
   stays_on : (k : ℕ) (end : Step) → Stays end → on inst end (run inst k) ≡ end
