@@ -11,3 +11,5 @@ pub mod Chains
 pub mod Arguments
 pub mod Entries
 pub mod Exits
+pub mod Machine
+pub mod Replies
