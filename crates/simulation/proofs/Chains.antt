@@ -44,19 +44,20 @@ simple_applied inst c (Const I32 n) rest h = refl
 simple_applied inst c (Operate (Binary I32 Add)) rest h = refl
 simple_applied inst c p rest h = absurd h
 
+-- a function that was called from outside, with these operands before what is left of its body
+abbrev pub running : Func → Store → (locals operands : List Value) → Seq → Config
+running f store locals operands tree =
+    record { store = store; frame = record { function = f; locals = locals; operands = operands; code = tree; labels = [] }; callers = []; owed = 0; later = [] }
+
 module _ (const_does : ConstLaw) (local_get_does : LocalGetLaw) (add_does : AddLaw) (text : List (Option Op)) (inst : Instance) (f : Func) (c : Context) (labels : List Label) (w : Around)
     (base there : ℕ) (b : Bytes) (store : Store) (locals : List Value) (are : c.locals ≡ types_of_values locals) where
-  -- the function, which was called from outside, with these operands before what is left of its body
-  abbrev pub running : List Value → Seq → Config
-  running operands tree =
-      record { store = store; frame = record { function = f; locals = locals; operands = operands; code = tree; labels = [] }; callers = []; owed = 0; later = [] }
-
   -- the chain leads to operands of these types, in the module and on the machine
   pub record ChainEnds (operands : List Value) (tree : Seq) (to : Types) (here : ℕ) (s : State) : Type 0 where
     pub after : List Value
     pub types_are : types_of_values after ≡ to
+    pub high : length after ≤ w.layout.greatest
     pub count : ℕ
-    pub module_ends : ModuleEnds inst store (suc count) (Inside (running operands tree)) (Returned store (take (length f.ty.results) after))
+    pub module_ends : ModuleEnds inst store (suc count) (Inside (running f store locals operands tree)) (Returned store (take (length f.ty.results) after))
     pub steps : ℕ
     pub within : steps ≤ 14 * count
     pub end : State
@@ -64,12 +65,13 @@ module _ (const_does : ConstLaw) (local_get_does : LocalGetLaw) (add_does : AddL
     pub pc_is : end.pc ≡ s.pc + 4 * length (code w c labels (Some (length operands)) here tree)
     pub matches : Matches w.layout base there b locals after end
 
-  nothing_ends : (operands : List Value) (to : Types) (here : ℕ) (s : State) → types_of_values operands ≡ to → Matches w.layout base there b locals operands s → ChainEnds operands Nothing to here s
-  nothing_ends operands to here s e m = record {
+  nothing_ends : (operands : List Value) (to : Types) (here : ℕ) (s : State) → types_of_values operands ≡ to → length operands ≤ w.layout.greatest → Matches w.layout base there b locals operands s → ChainEnds operands Nothing to here s
+  nothing_ends operands to here s e high m = record {
     after = operands;
     types_are = e;
+    high = high;
     count = 0;
-    module_ends = ends_now inst store (Inside (running operands Nothing)) refl (Returned store (take (length f.ty.results) operands)) tt refl;
+    module_ends = ends_now inst store (Inside (running f store locals operands Nothing)) refl (Returned store (take (length f.ty.results) operands)) tt refl;
     steps = 0;
     within = omega arith;
     end = s;
@@ -106,12 +108,13 @@ module _ (const_does : ConstLaw) (local_get_does : LocalGetLaw) (add_does : AddL
         one.matches,
       ) in
       let rest_size : length (code w c labels place_after (here + size) rest) ≡ length (code w c labels (Some (length one.after)) (here + size) rest) = ap (λ (q : Place). length (code w c labels q (here + size) rest)) place_is in
-      let now = simple_applied inst (running operands (Simple p rest)) p rest step ∙ ap (applied (running operands (Simple p rest)) rest) one.gives in
+      let now = simple_applied inst (running f store locals operands (Simple p rest)) p rest step ∙ ap (applied (running f store locals operands (Simple p rest)) rest) one.gives in
       record {
         after = more.after;
         types_are = more.types_are;
+        high = more.high;
         count = suc more.count;
-        module_ends = ends_later inst store (Inside (running operands (Simple p rest))) refl (suc more.count) (Inside (running one.after rest)) (Returned store (take (length f.ty.results) more.after)) now more.module_ends;
+        module_ends = ends_later inst store (Inside (running f store locals operands (Simple p rest))) refl (suc more.count) (Inside (running f store locals one.after rest)) (Returned store (take (length f.ty.results) more.after)) now more.module_ends;
         steps = size + more.steps;
         within = omega (arith, one.short, more.within);
         end = more.end;
@@ -122,7 +125,7 @@ module _ (const_does : ConstLaw) (local_get_does : LocalGetLaw) (add_does : AddL
 
   pub chain_ends : (tree : Seq) (operands : List Value) (to : Types) (here i : ℕ) (s : State) → IsStraight tree → Typed c tree (types_of_values operands) to → peak c tree (Some (length operands)) ≤ w.layout.greatest
       → s.pc ≡ place i → HasAt text i (code w c labels (Some (length operands)) here tree) → Matches w.layout base there b locals operands s → ChainEnds operands tree to here s
-  chain_ends Nothing operands to here i s straight typed low at has m = nothing_ends operands to here s typed m
+  chain_ends Nothing operands to here i s straight typed low at has m = nothing_ends operands to here s typed (omega arith) m
   chain_ends (Simple p rest) operands to here i s straight typed low at has m =
       simple_ends p rest operands typed.0 to here i s straight.0 straight.1 typed.1 typed.2 low at has m
       (λ after h j t begins. chain_ends rest after to h j t straight.1 begins.0 begins.1 begins.2 begins.3 begins.4)

@@ -13,3 +13,4 @@ pub mod Entries
 pub mod Exits
 pub mod Machine
 pub mod Replies
+pub mod Functions
