@@ -14,3 +14,5 @@ pub mod Exits
 pub mod Machine
 pub mod Replies
 pub mod Functions
+pub mod Ranges
+pub mod Lengths
