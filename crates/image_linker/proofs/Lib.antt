@@ -1,2 +1,4 @@
 pub mod Items
 pub mod Placed
+pub mod Arguments
+pub mod Called
