@@ -2,3 +2,4 @@ pub mod Items
 pub mod Placed
 pub mod Arguments
 pub mod Called
+pub mod Modules
