@@ -3,3 +3,4 @@ pub mod Placed
 pub mod Arguments
 pub mod Called
 pub mod Modules
+pub mod Sections
