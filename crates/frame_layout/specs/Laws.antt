@@ -79,7 +79,7 @@ AddLaw =
     → IsFrame base s → 2 ≤ h → base + operand w.layout (h - 1) < max_slots → a < 2 ^ 32 → b < 2 ^ 32
     → slot_at s.bytes (base + operand w.layout (h - 2)) ≡ word I32 a → slot_at s.bytes (base + operand w.layout (h - 1)) ≡ word I32 b
     → Does code (length (operate_words w h (Binary I32 Add))) (length (operate_words w h (Binary I32 Add))) s
-        (with_slot s.bytes (base + operand w.layout (h - 2)) (word I32 (iadd I32 a b)))
+    (with_slot s.bytes (base + operand w.layout (h - 2)) (word I32 (iadd I32 a b)))
 
 -- ---- functions
 
@@ -100,7 +100,7 @@ pub record Enters (code : List (Option Op)) (l : Layout) (base : ℕ) (s : State
 abbrev pub PrologueLaw : Type 0
 PrologueLaw =
     (code : List (Option Op)) (s : State) (i base : ℕ) (l : Layout) → HasAt code i (prologue l) → s.pc ≡ place i → IsFrame base s
-    → reg s.registers ra < 2 ^ 64 → base + need l ≤ max_slots → Enters code l base s
+    → reg s.registers ra < 2 ^ 64 → base + need l ≤ max_slots → length code ≤ 2 ^ 26 → Enters code l base s
 
 -- where there is none, the function traps
 abbrev pub ExhaustionLaw : Type 0

@@ -5,6 +5,10 @@
 //! `specs/Functions.antt` those of a function.
 #![tactic(auto)]
 
+mod laws;
 mod layout;
 
+pub use laws::{
+    add_law, const_law, epilogue_law, exhaustion_law, exit_law, local_get_law, prologue_law,
+};
 pub use layout::Layout;

@@ -1,0 +1,9 @@
+pub mod Standing
+pub mod Constants
+pub mod Slots
+pub mod Steps
+pub mod Instructions
+pub mod Jumps
+pub mod Endings
+pub mod Zeroing
+pub mod Beginnings

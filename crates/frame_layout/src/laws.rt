@@ -1,0 +1,38 @@
+//! Laws of the templates, for the proofs of other crates. Each function does nothing: its contract is the law, which
+//! `specs/Laws.antt` states.
+ghost use Rattle.frame_layout.specs.Laws.{ConstLaw, LocalGetLaw, AddLaw, PrologueLaw, ExhaustionLaw, EpilogueLaw, ExitLaw};
+
+/// A constant's words put it into the operand above those on the stack.
+pub fn const_law()
+    ensures { ConstLaw }
+{}
+
+/// The words of `local.get` copy a parameter or declared local into the operand above those on the stack.
+pub fn local_get_law()
+    ensures { LocalGetLaw }
+{}
+
+/// The words of `i32.add` put the sum of the two uppermost operands in the place of the lower one.
+pub fn add_law()
+    ensures { AddLaw }
+{}
+
+/// Where there is room for a function's slots, its first words keep the place to return to and clear the declared locals.
+pub fn prologue_law()
+    ensures { PrologueLaw }
+{}
+
+/// Where there is none, they trap.
+pub fn exhaustion_law()
+    ensures { ExhaustionLaw }
+{}
+
+/// A function's last words bring its result, if there is one, to the frame's first slot, and lead to the place to return to.
+pub fn epilogue_law()
+    ensures { EpilogueLaw }
+{}
+
+/// The exit stub ends the run.
+pub fn exit_law()
+    ensures { ExitLaw }
+{}
