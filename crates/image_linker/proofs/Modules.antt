@@ -1,5 +1,5 @@
 -- A module of what is compiled so far behaves as its image does.
-use Rattle.std.proofs.Common.{◌≡◌, ℕ, ◌+◌, ◌*◌, ◌<◌, ◌&&◌, true, List, [], ◌∷◌, ◌++◌, map, length, replicate, Option, Some, None, refl, sym, ap, ◌∙◌, subst, arith}
+use Rattle.std.proofs.Common.{◌≡◌, ℕ, ◌+◌, ◌*◌, ◌^◌, ◌<◌, ◌≤◌, ◌&&◌, true, List, [], ◌∷◌, ◌++◌, map, length, replicate, Option, Some, None, refl, sym, ap, ◌∙◌, subst, arith}
 use Rattle.std.specs.Prelude.{not, ◌==◌, slice_get, slice_index, option_map}
 use Rattle.std.proofs.lemmas.Bool.{cond-true, eq-eqb}
 use Rattle.std.proofs.lemmas.Option.{slice_get-map}
@@ -23,16 +23,15 @@ use Rattle.image_format.specs.ImageRun.{Running, begin, first_running, steps, im
 use Rattle.image_format.specs.ImageRun as image_run
 use Rattle.simulation.specs.SameRuns.{SameRuns}
 use Rattle.simulation.specs.Straight.{IsStraightFunction}
-use Rattle.simulation.proofs.Machine.{MachineLaws}
 use Rattle.simulation.proofs.Functions.{straight_functions_run_alike}
 use Rattle.image_linker.specs.ImageOf.{around, layout_of, distances, stub_places, places_from, front_size, places_of_functions, offset_of, row_of, table_of, segment_of, placed_segments, start_offset, text_of, image_of}
 use Rattle.image_linker.specs.Same.{Same}
 use Rattle.image_linker.specs.Straight.{IsStraightBody, IsStraightModule}
 use Rattle.image_linker.proofs.Items.{no_imports, no_import_count, no_values, no_elements, no_segments, no_start, no_rows, no_pages, no_cap}
-use Rattle.image_linker.proofs.Placed.{Placed, exit_stands, function_stands}
+use Rattle.image_linker.proofs.Placed.{Placed, code_is_short, exit_stands, function_stands}
 use Rattle.image_linker.proofs.Called.{IsBare, IsEmpty, is_called}
 
-module _ (m : Module) (good : IsStraightModule m) where
+module _ (m : Module) (good : IsStraightModule m) (short : length (text_of m) ≤ 2 ^ 26) where
   linkable : is_linkable m ≡ true
   linkable =
       ap (λ (es : List (Written (Option ℕ))). all_fit (rows_of m.items) es && all_fit (page * pages_of m.items) (segments_of m.items)) (no_elements m.items good.items)
@@ -110,21 +109,21 @@ module _ (m : Module) (good : IsStraightModule m) where
         ∙ ap (λ (n : ℕ). begin (image_of m) replies (record { offset = n; arguments = arguments }, (type_of_function (context_of m.items) f).results) []) place_is
         ∙ ap (λ (ty : FuncType). begin (image_of m) replies (record { offset = 4 * there.begin; arguments = arguments }, ty.results) []) (sym type_is)
 
-    pub function_runs_alike : MachineLaws → (arguments : List Value) (replies : List Reply) → are_of (type_of_function (context_of m.items) f).params arguments ≡ true
+    pub function_runs_alike : (arguments : List Value) (replies : List Reply) → are_of (type_of_function (context_of m.items) f).params arguments ≡ true
         → SameRuns (module_run m f arguments replies) (image_run (image_of m) (offset_of m f) (type_of_function (context_of m.items) f).results arguments replies)
-    function_runs_alike laws arguments replies are =
+    function_runs_alike arguments replies are =
         let invoked : Invocation = record { function = f; arguments = arguments } in
         let store = store_of m replies in
         let typed : are_of func.ty.params arguments ≡ true = ap (λ (ty : FuncType). are_of ty.params arguments) type_is ∙ are in
         let called = is_called (image_of m) bare func there.begin store arguments replies typed there.good.few_params (empty replies) in
         let w = around m.items f there.body there.tree (distances (places_of_functions m) there.begin) in
         let r = begin (image_of m) replies (record { offset = 4 * there.begin; arguments = arguments }, func.ty.results) [] in
-        let same = straight_functions_run_alike laws (instance_of m) (image_of m) func (context_at m.items f there.body) w f there.begin store arguments r declared straight called (exit_stands m good) there.has in
+        let same = straight_functions_run_alike (instance_of m) (image_of m) func (context_at m.items f there.body) w f there.begin store arguments r declared straight called (exit_stands m good) there.has (code_is_short m short) in
         subst (λ (q : Running). SameRuns (module_run m f arguments replies) (λ n. image_run.run_of (steps (image_of m) n q))) (sym (first_is replies arguments)) (
         subst (λ (start : Option ℕ). SameRuns (λ k. module_run.run_of (run (instance_of m) k (first_state start store invoked))) (λ n. image_run.run_of (steps (image_of m) n r))) (sym (no_start m.items good.items)) same)
 
-pub straight_modules_behave_alike : MachineLaws → (m : Module) → IsStraightModule m → Same m (image_of m)
-straight_modules_behave_alike laws m good = record {
+pub straight_modules_behave_alike : (m : Module) → IsStraightModule m → length (text_of m) ≤ 2 ^ 26 → Same m (image_of m)
+straight_modules_behave_alike m good short = record {
   unlinkable = refl;
-  runs = λ can_link name f arguments replies is are. function_runs_alike m good f (good.exports name f is) laws arguments replies are;
+  runs = λ can_link name f arguments replies is are. function_runs_alike m good short f (good.exports name f is) arguments replies are;
 }

@@ -1,9 +1,9 @@
 -- Each function's words stand in the text from its place on.
-use Rattle.std.proofs.Common.{◌≡◌, ℕ, zero, suc, ◌+◌, ◌*◌, ◌<◌, ◌≤◌, List, [], ◌∷◌, ◌++◌, map, length, Option, Some, refl, sym, ap, ◌∙◌, subst, arith}
+use Rattle.std.proofs.Common.{◌≡◌, ℕ, zero, suc, ◌+◌, ◌*◌, ◌^◌, ◌<◌, ◌≤◌, List, [], ◌∷◌, ◌++◌, map, length, Option, Some, refl, sym, ap, ◌∙◌, subst, arith}
 use Rattle.std.specs.Prelude.{slice_get, slice_index}
-use Rattle.std.proofs.lemmas.List.{append-nil}
+use Rattle.std.proofs.lemmas.List.{append-nil, length-append, length-map}
 use Rattle.rv_isa.specs.declared.operations.Op.{Op}
-use Rattle.rv_isa.specs.Words.{word_of}
+use Rattle.rv_isa.specs.Words.{word_of, decoded}
 use Rattle.rv_isa.specs.Steps.{code_of}
 use Rattle.rv_isa.specs.Runs.{HasAt, AllInRange}
 use Rattle.rv_isa.proofs.RunLaws.{words_stand}
@@ -19,6 +19,7 @@ use Rattle.simulation.proofs.Texts.{has_at, has_first, has_second}
 use Rattle.simulation.proofs.Lengths.{function_length}
 use Rattle.simulation.proofs.Ranges.{both_in_range, exit_in_range, function_in_range}
 use Rattle.image_linker.specs.ImageOf.{around, no_distance, distances, size_of, stub_size, front_size, places_from, code_of_function, code_from, stubs_from, places_of_functions, text_of}
+use Rattle.image_linker.specs.Judging.{sizes}
 use Rattle.image_linker.specs.Straight.{IsStraightBody, AreStraightBodies, IsStraightModule}
 use Rattle.image_linker.proofs.Items.{no_import_count, no_stubs}
 
@@ -69,6 +70,30 @@ code_in_range items places here k (b ∷ bodies) (tree ∷ trees) good =
     (code_in_range items places (here + size_of items k b tree) (suc k) bodies trees good.1)
 
 -- ---- the text
+
+pub code_is_short : (m : Module) → length (text_of m) ≤ 2 ^ 26 → length (code_of (map word_of (text_of m))) ≤ 2 ^ 26
+code_is_short m short = omega (arith, length-map (map word_of (text_of m)) decoded, length-map (text_of m) word_of)
+
+-- its number of words is the one that verdicts speak of
+functions_length : (items : List Item) (places : List ℕ) (here k : ℕ) (bodies : List Body) (trees : List Seq) → AreStraightBodies items k bodies trees → length (code_from items places here k bodies trees) ≡ sizes items k bodies trees
+functions_length items places here k [] [] good = refl
+functions_length items places here k [] (tree ∷ trees) good = absurd good
+functions_length items places here k (b ∷ bodies) [] good = absurd good
+functions_length items places here k (b ∷ bodies) (tree ∷ trees) good =
+    let words = code_of_function items places here k b tree in
+    let behind = code_from items places (here + size_of items k b tree) (suc k) bodies trees in
+    let one = function_length (around items k b tree (distances places here)) no_distance (context_at items k b) tree good.0.straight in
+    length-append words behind ∙ omega (arith, one, functions_length items places (here + size_of items k b tree) (suc k) bodies trees good.1)
+
+pub text_length : (m : Module) → IsStraightModule m → length (text_of m) ≡ front_size m.items + sizes m.items 0 m.bodies m.trees
+text_length m good =
+    let stubs = stubs_from (context_of m.items) 0 m.items in
+    let functions = code_from m.items (places_of_functions m) (front_size m.items) 0 m.bodies m.trees in
+    let none : length stubs ≡ 0 = ap length (no_stubs m.items good.items (context_of m.items)) in
+    let no_count : stub_size * import_count m.items ≡ 0 = ap (λ (n : ℕ). stub_size * n) (no_import_count m.items good.items) in
+    let counted = functions_length m.items (places_of_functions m) (front_size m.items) 0 m.bodies m.trees good.bodies in
+    length-append exit_stub (stubs ++ functions) ∙ omega (arith, length-append stubs functions, none, no_count, counted)
+
 
 module _ (m : Module) (good : IsStraightModule m) where
   abbrev pub code : List (Option Op)

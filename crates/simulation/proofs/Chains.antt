@@ -19,7 +19,6 @@ use Rattle.wasm_defs.specs.Values.{Value, types_of_values}
 use Rattle.wasm_defs.specs.Effects.{Effect, Gives, effect}
 use Rattle.frame_layout.specs.Templates.{Label, Around, words}
 use Rattle.frame_layout.specs.Functions.{code}
-use Rattle.frame_layout.specs.Laws.{ConstLaw, LocalGetLaw, AddLaw}
 use Rattle.simulation.specs.Straight.{IsStraightStep, IsStraight}
 use Rattle.simulation.proofs.Values.{Matches}
 use Rattle.simulation.proofs.Instructions.{types_length, height_after, follows}
@@ -49,7 +48,7 @@ abbrev pub running : Func → Store → (locals operands : List Value) → Seq �
 running f store locals operands tree =
     record { store = store; frame = record { function = f; locals = locals; operands = operands; code = tree; labels = [] }; callers = []; owed = 0; later = [] }
 
-module _ (const_does : ConstLaw) (local_get_does : LocalGetLaw) (add_does : AddLaw) (text : List (Option Op)) (inst : Instance) (f : Func) (c : Context) (labels : List Label) (w : Around)
+module _ (text : List (Option Op)) (inst : Instance) (f : Func) (c : Context) (labels : List Label) (w : Around)
     (base there : ℕ) (b : Bytes) (store : Store) (locals : List Value) (are : c.locals ≡ types_of_values locals) where
   -- the chain leads to operands of these types, in the module and on the machine
   pub record ChainEnds (operands : List Value) (tree : Seq) (to : Types) (here : ℕ) (s : State) : Type 0 where
@@ -96,7 +95,7 @@ module _ (const_does : ConstLaw) (local_get_does : LocalGetLaw) (add_does : AddL
       let place_after = after_rule (rule_of c p) (Some (length operands)) in
       let high : place_after ≡ Some (length mid) = ap (λ (h : ℕ). after_rule (rule_of c p) (Some h)) (sym (types_length operands)) ∙ height_after c p (types_of_values operands) mid step moves in
       let peak_mid : peak c rest (Some (length mid)) ≤ w.layout.greatest = subst (λ (q : Place). peak c rest q ≤ w.layout.greatest) high (omega arith) in
-      let one = follows const_does local_get_does add_does text c labels w base there b store inst.cap locals here s i at p operands mid step are moves (omega arith) (omega (arith, peak_here c rest (length mid) straight))
+      let one = follows text c labels w base there b store inst.cap locals here s i at p operands mid step are moves (omega arith) (omega (arith, peak_here c rest (length mid) straight))
       (has_first text i first (code w c labels place_after (here + size) rest) has) m in
       let lengths : length mid ≡ length one.after = sym (ap length one.types_are) ∙ types_length one.after in
       let place_is : place_after ≡ Some (length one.after) = high ∙ ap (λ (h : ℕ). Some h) lengths in

@@ -12,7 +12,8 @@ use Rattle.frame_layout.specs.declared.layout.Layout.{Layout}
 use Rattle.frame_layout.specs.Macros.{a7}
 use Rattle.frame_layout.specs.Slots.{link, operand, need}
 use Rattle.frame_layout.specs.Templates.{epilogue, exit_stub}
-use Rattle.frame_layout.specs.Laws.{slot_at, with_slot, IsFrame, Leaves, EpilogueLaw, ExitLaw}
+use Rattle.frame_layout.specs.Laws.{slot_at, with_slot, IsFrame, Leaves}
+use Rattle.frame_layout.proofs.Endings.{epilogue_does, exit_does}
 use Rattle.image_format.specs.Environment.{held, word_at}
 use Rattle.image_format.specs.ImageRun.{results_at}
 use Rattle.simulation.proofs.Values.{Holds, holds_as, Operands, SameBeside, Matches}
@@ -73,7 +74,7 @@ pub record Exits (text : List (Option Op)) (rs : Types) (b : Bytes) (after : Lis
   pub beside : SameBeside b end.bytes
   pub results : results_at end.bytes.stack 0 rs ≡ take (length rs) after
 
-module _ (epilogue_does : EpilogueLaw) (exit_does : ExitLaw) (text : List (Option Op)) (l : Layout) (rs : Types) (b : Bytes) (locals after : List Value) (s : State) (i : ℕ) where
+module _ (text : List (Option Op)) (l : Layout) (rs : Types) (b : Bytes) (locals after : List Value) (s : State) (i : ℕ) where
   pub exits : length rs ≤ 1 → length rs ≤ l.greatest → types_of_values after ≡ reverse rs → s.pc ≡ place i → HasAt text i (epilogue l (length rs)) → HasAt text 0 exit_stub
       → Matches l 0 text_base b locals after s → Exits text rs b after s
   exits one high are at has stub m =

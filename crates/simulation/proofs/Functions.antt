@@ -20,6 +20,7 @@ use Rattle.frame_layout.specs.declared.layout.Layout.{Layout}
 use Rattle.frame_layout.specs.Macros.{a7}
 use Rattle.frame_layout.specs.Slots.{need}
 use Rattle.frame_layout.specs.Templates.{Label, Around, prologue, epilogue, exit_stub}
+use Rattle.frame_layout.proofs.Beginnings.{prologue_does, exhaustion_does}
 use Rattle.frame_layout.specs.Functions.{label, body_place, body_size, body_code, function_code}
 use Rattle.image_format.specs.declared.image.Image.{Image}
 use Rattle.image_format.specs.Environment.{code_of_image}
@@ -28,7 +29,6 @@ use Rattle.image_format.specs.ImageRun as image_run
 use Rattle.simulation.specs.SameRuns.{as_image, SameRuns}
 use Rattle.simulation.specs.Straight.{IsStraightFunction, IsCalled}
 use Rattle.simulation.specs.Laws.{StraightFunctionsRunAlike}
-use Rattle.simulation.proofs.Machine.{MachineLaws}
 use Rattle.simulation.proofs.Arguments.{are_of_types, types_append, types_of_zeros}
 use Rattle.simulation.proofs.Chains.{running, chain_ends}
 use Rattle.simulation.proofs.Ends.{EndsAfter, going_with, ended_with, same_ends}
@@ -54,9 +54,9 @@ owed_ends inst store (suc n) count c end same ends =
 same_bytes : (b c : Bytes) → c ≡ b → SameBeside b c
 same_bytes b c e = subst (SameBeside b) (sym e) (record { globals = refl; table = refl; memory = refl })
 
-module _ (laws : MachineLaws) (inst : Instance) (image : Image) (f : Func) (c : Context) (w : Around) (index begin : ℕ) (store : Store) (arguments : List Value) (r : Running)
+module _ (inst : Instance) (image : Image) (f : Func) (c : Context) (w : Around) (index begin : ℕ) (store : Store) (arguments : List Value) (r : Running)
     (is : slice_get inst.functions index ≡ Some (Declared f)) (good : IsStraightFunction c f w.layout) (called : IsCalled f begin store arguments r)
-    (stub : HasAt (code_of_image image) 0 exit_stub) (has : HasAt (code_of_image image) begin (function_code w c f.body)) where
+    (stub : HasAt (code_of_image image) 0 exit_stub) (has : HasAt (code_of_image image) begin (function_code w c f.body)) (short : length (code_of_image image) ≤ 2 ^ 26) where
   abbrev start : config.State
   start = Outside store (record { function = index; arguments = arguments }) []
 
@@ -81,7 +81,7 @@ module _ (laws : MachineLaws) (inst : Instance) (image : Image) (f : Func) (c : 
       let e = Traps StackExhausted store.memory (words_of store.globals) in
       let now : next inst start ≡ Trapped store StackExhausted = first ∙ cond-true _ _ _ (lt-ltb max_slots (used [] + config.need f) (omega (arith, needs))) in
       let in_module = module_ends inst store 1 start (Trapped store StackExhausted) e refl (ends_now inst store start refl (Trapped store StackExhausted) tt now) in
-      let t = laws.exhaustion_does text r.machine begin 0 w.layout (has_first text begin (prologue w.layout) _ has) called.at called.frame (omega arith) good.fits (omega arith) in
+      let t = exhaustion_does text r.machine begin 0 w.layout (has_first text begin (prologue w.layout) _ has) called.at called.frame (omega arith) good.fits (omega arith) in
       let same = same_bytes r.machine.bytes t.asks.end.bytes t.asks.bytes_are in
       let on_machine = image_ends image r 10 e t.asks.end t.asks.by (λ pc. traps_as image r t.asks.end store.memory (words_of store.globals) pc 8 StackExhausted t.asks.number_is t.kind_is refl same called.memory called.globals) in
       same_ends store.calls e tt 1 10 (omega arith) (λ k. module_run.run_of (run inst k start)) (λ n. image_run.run_of (steps image n r)) in_module (with_calls e 10 on_machine)
@@ -124,16 +124,16 @@ module _ (laws : MachineLaws) (inst : Instance) (image : Image) (f : Func) (c : 
       let size = length (prologue l) in
       let are = are_of_types f.ty.params arguments called.are_of_types in
       let return_place = called.return_place in
-      let entry = laws.prologue_does text r.machine begin 0 l (has_first text begin (prologue l) (body ++ behind) has) called.at called.frame (omega arith) (omega arith) in
+      let entry = prologue_does text r.machine begin 0 l (has_first text begin (prologue l) (body ++ behind) has) called.at called.frame (omega arith) (omega arith) short in
       let m = entry_matches text l f arguments text_base r.machine entry called.frame room good.params good.locals are called.return_place called.stand in
       let has_rest = has_second text begin (prologue l) (body ++ behind) has in
       let greatest_is : greatest (places_of c f.body) ≡ l.greatest = sym good.greatest_is ∙ sym good.greatest in
-      let chain = chain_ends laws.const_does laws.local_get_does laws.add_does text inst f (inside c c.results) labels w 0 text_base r.machine.bytes store locals locals_are f.body [] c.results
+      let chain = chain_ends text inst f (inside c c.results) labels w 0 text_base r.machine.bytes store locals locals_are f.body [] c.results
       (body_place w) (begin + size) entry.does.end good.straight good.typed (omega arith) (omega (arith, entry.does.pc_is, called.at)) (has_first text (begin + size) body behind has_rest) m in
       let results_count : length c.results ≡ length rs = ap length good.results_are ∙ length-reverse rs in
       let after_count : length chain.after ≡ length rs = sym (types_length chain.after) ∙ ap length chain.types_are ∙ results_count in
       let has_end = subst (λ (n : ℕ). HasAt text (begin + size + length body) (epilogue l n)) results_count (has_second text (begin + size) body behind has_rest) in
-      let out = exits laws.epilogue_does laws.exit_does text l rs r.machine.bytes locals chain.after chain.end (begin + size + length body) good.one_result (omega (arith, chain.high)) (chain.types_are ∙ good.results_are)
+      let out = exits text l rs r.machine.bytes locals chain.after chain.end (begin + size + length body) good.one_result (omega (arith, chain.high)) (chain.types_are ∙ good.results_are)
       (omega (arith, chain.pc_is, entry.does.pc_is, called.at)) has_end stub chain.matches in
       let none : nat_lt max_slots (used [] + config.need f) ≡ false = le-ltb max_slots (used [] + config.need f) (omega (arith, needs)) in
       let in_body = owed_ends inst store (length f.locals) (suc chain.count) (running f store locals [] f.body) (Returned store (take (length rs) chain.after)) refl chain.module_ends in
@@ -162,5 +162,5 @@ module _ (laws : MachineLaws) (inst : Instance) (image : Image) (f : Func) (c : 
           let on_machine = image_ends image r x.count e x.end x.by (λ pc. returns_as image r x.end store.memory (words_of store.globals) x.values pc called.no_more x.number_is x.beside called.memory called.globals (ap (results_at x.end.bytes.stack 0) called.results ∙ x.results)) in
           same_ends store.calls e tt x.weight x.count x.within (λ k. module_run.run_of (run inst k start)) (λ n. image_run.run_of (steps image n r)) in_module (with_calls e x.count on_machine)
 
-pub straight_functions_run_alike : MachineLaws → StraightFunctionsRunAlike
-straight_functions_run_alike laws inst image f c w index begin store arguments r is good called stub has = function_runs_alike laws inst image f c w index begin store arguments r is good called stub has
+pub straight_functions_run_alike : StraightFunctionsRunAlike
+straight_functions_run_alike inst image f c w index begin store arguments r is good called stub has short = function_runs_alike inst image f c w index begin store arguments r is good called stub has short

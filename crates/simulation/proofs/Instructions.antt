@@ -20,7 +20,8 @@ use Rattle.wasm_defs.specs.Integers.{iadd}
 use Rattle.wasm_defs.specs.Effects.{Gives, pushed, effect, value}
 use Rattle.frame_layout.specs.Slots.{operand, need}
 use Rattle.frame_layout.specs.Templates.{Label, Around, const_words, local_get_words, operate_words, words}
-use Rattle.frame_layout.specs.Laws.{slot_at, with_slot, Does, ConstLaw, LocalGetLaw, AddLaw}
+use Rattle.frame_layout.specs.Laws.{slot_at, with_slot, Does}
+use Rattle.frame_layout.proofs.Instructions.{const_does, local_get_does, add_does}
 use Rattle.simulation.specs.Straight.{IsStraightStep}
 use Rattle.simulation.proofs.Values.{Holds, Matches}
 use Rattle.simulation.proofs.Puts.{put_matches}
@@ -94,7 +95,7 @@ pub record Follows (code : List (Option Op)) (c : Context) (labels : List Label)
   pub matches : Matches w.layout base there b locals after end
   pub short : length (words w c labels (length operands) here p) ≤ 14
 
-module _ (const_does : ConstLaw) (local_get_does : LocalGetLaw) (add_does : AddLaw) (code : List (Option Op)) (c : Context) (labels : List Label) (w : Around) (base there : ℕ) (b : Bytes) (store : Store)
+module _ (code : List (Option Op)) (c : Context) (labels : List Label) (w : Around) (base there : ℕ) (b : Bytes) (store : Store)
     (cap : ℕ) (locals : List Value) (here : ℕ) (s : State) (i : ℕ) (at : s.pc ≡ place i) where
   const_follows : (operands : List Value) (mid : Types) (n : ℤ) → unsigned I32 n < 2 ^ 32 → length operands < w.layout.greatest → HasAt code i (const_words w (length operands) I32 (unsigned I32 n))
       → Matches w.layout base there b locals operands s → mid ≡ I32 ∷ types_of_values operands → Follows code c labels w base there b store cap locals operands (Const I32 n) mid here s

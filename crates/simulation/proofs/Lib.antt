@@ -11,7 +11,6 @@ pub mod Chains
 pub mod Arguments
 pub mod Entries
 pub mod Exits
-pub mod Machine
 pub mod Replies
 pub mod Functions
 pub mod Ranges
