@@ -3,3 +3,4 @@ pub mod Same
 pub mod Judging
 pub mod Codes
 pub mod Linking
+pub mod Straight
