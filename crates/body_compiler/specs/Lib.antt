@@ -1,3 +1,4 @@
 pub mod Judged
 pub mod LocalGroups
 pub mod Going
+pub mod Compiling

@@ -2,12 +2,14 @@
 #![tactic(auto)]
 
 mod code;
+mod compiling;
 mod immediates;
 mod instructions;
 mod judge;
 mod locals;
 
 pub use code::BodyStop;
+pub use compiling::compile;
 pub use judge::judge_body;
 
 #[cfg(test)]

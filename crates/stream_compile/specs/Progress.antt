@@ -1,5 +1,5 @@
 -- How far the compiling of a module came.
-use Rattle.std.specs.Prelude.{◌≡◌, ◌<◌, ◌≤◌, ◌⊎◌, ◌+◌, ◌^◌, ℕ, suc, List, [], ◌∷◌, ◌++◌, length, map, None, Some, IsSome, Result, Ok, Err}
+use Rattle.std.specs.Prelude.{◌≡◌, ◌<◌, ◌≤◌, ◌⊎◌, ◌+◌, ◌*◌, ◌^◌, ℕ, suc, List, [], ◌∷◌, ◌++◌, length, map, None, Some, IsSome, Result, Ok, Err}
 use Rattle.rv_isa.specs.Words.{word_of}
 use Rattle.rv_isa.specs.declared.compiled.Code.{Code}
 use Rattle.wasm_defs.specs.declared.fault.Refusal.{Refusal}
@@ -21,10 +21,11 @@ use Rattle.section_reader.specs.declared.front_stop.FrontStop.TheVariants.{Refus
 use Rattle.body_compiler.specs.declared.code.BodyStop.{BodyStop}
 use Rattle.body_compiler.specs.declared.code.BodyStop.TheVariants as body
 use Rattle.body_compiler.specs.Compiling.{Compiles}
-use Rattle.image_linker.specs.ImageOf.{image_of}
+use Rattle.frame_layout.specs.Templates.{exit_stub}
+use Rattle.image_linker.specs.ImageOf.{image_of, stub_size}
 use Rattle.image_linker.specs.Linking.{words_of}
 use Rattle.image_linker.specs.Codes.{IsCodeOf}
-use Rattle.image_linker.specs.Judging.{text_bytes, IsTextFault, IsModuleOf, IsVerdictOf}
+use Rattle.image_linker.specs.Judging.{text_bytes, limit_at, IsTextFault, IsModuleOf, IsVerdictOf}
 use Rattle.stream_compile.specs.declared.answer.Built.{Built}
 
 -- the codes of the bodies of these parts, behind these items and k bodies
@@ -36,20 +37,26 @@ AreCodes items k (Listed x ∷ parts) trees codes = AreCodes (items ++ x ∷ [])
 AreCodes items k (Coded b ∷ parts) (tree ∷ trees) (code ∷ codes) = IsCodeOf items k b tree code × AreCodes items (suc k) parts trees codes
 AreCodes items k (Coded b ∷ parts) trees codes = ⊥
 
--- these parts of the module were read and are right; these are the codes of their bodies, of so many words; and this is left
-pub record IsJudging (bytes : List ℕ) (left : Run) (spaces : Spaces) (codes : List Code) (words : ℕ) : Type 0 where
+-- these parts of the module were read and are right, with so many bodies, and this is left
+pub record IsJudged (bytes : List ℕ) (left : Run) (spaces : Spaces) (bodies : ℕ) : Type 0 where
   pub front : List Part
   pub parts : (module_run bytes).parts ≡ front ++ left.parts
   pub ending : (module_run bytes).ending ≡ left.ending
   pub spaces_are : spaces ≡ spaces_of (items_of front)
+  pub count : bodies ≡ length (bodies_of front)
   pub compiled : first_outside is_compiled_section (sections_of front) ≡ None
   pub trees : List Seq
   pub valid : AreValid [] 0 front trees
-  pub coded : AreCodes [] 0 front trees codes
+
+-- and these are the codes of the bodies, of so many words
+pub record IsJudging (bytes : List ℕ) (left : Run) (spaces : Spaces) (codes : List Code) (words : ℕ) : Type 0 where
+  pub judged : IsJudged bytes left spaces (length codes)
+  pub coded : AreCodes [] 0 judged.front judged.trees codes
   pub words_are : words ≡ length (words_of codes)
-  pub fits : text_bytes (items_of front) words ≤ max_text
+  pub fits : text_bytes (items_of judged.front) words ≤ max_text
   -- a fault of the text stands in what is left
-  pub text : (r : Refusal) → IsTextFault [] 0 0 (module_run bytes).parts r → IsTextFault (items_of front) (length (bodies_of front)) words left.parts r
+  pub text_left : (r : Refusal) → IsTextFault [] 0 0 (module_run bytes).parts r → IsTextFault (items_of judged.front) (length (bodies_of judged.front)) words left.parts r
+  pub text_whole : (r : Refusal) → IsTextFault (items_of judged.front) (length (bodies_of judged.front)) words left.parts r → IsTextFault [] 0 0 (module_run bytes).parts r
 
 -- what a body is judged by, before which so many bodies stand
 abbrev pub body_of_spaces : Spaces → ℕ → Body → Context
@@ -94,6 +101,21 @@ abbrev pub TakesBody : Spaces → ℕ → GivenBody → Result Code FrontStop �
 TakesBody spaces bodies b (Ok code) = Compiles (context_in spaces) (spaces.imported + bodies) (body_read b.first b.bytes.now) (Ok code)
 TakesBody spaces bodies b (Err (Refused r)) = Compiles (context_in spaces) (spaces.imported + bodies) (body_read b.first b.bytes.now) (Err (body.Refused r))
 TakesBody spaces bodies b (Err NoMemory) = Unit {0}
+
+-- the words in front of the functions' words
+abbrev pub front_of : Spaces → ℕ
+front_of s = length exit_stub + stub_size * s.imported
+
+-- a body was taken: its code stands behind the others, and there are so many words; or the body has a fault, or with it the text
+-- passes its limit
+abbrev pub TakesCode : Spaces → List Code → (words : ℕ) → GivenBody → Result ℕ FrontStop → List Code → Type 0
+TakesCode spaces codes words b (Ok more) new =
+    (code : Code) × TakesBody spaces (length codes) b (Ok code) × (new ≡ codes ++ code ∷ []) × (more ≡ words + length code.words)
+    × (4 * (front_of spaces + more) ≤ max_text)
+TakesCode spaces codes words b (Err (Refused r)) new =
+    TakesBody spaces (length codes) b (Err (Refused r))
+    ⊎ ((code : Code) × TakesBody spaces (length codes) b (Ok code) × (max_text < 4 * (front_of spaces + (words + length code.words))) × (r ≡ limit_at b.size))
+TakesCode spaces codes words b (Err NoMemory) new = Unit {0}
 
 -- the module's image, or its fault of least offset
 abbrev pub Decides : List ℕ → Result Built FrontStop → Type 0
