@@ -1,5 +1,5 @@
 -- What the environment does at a call.
-use Rattle.std.proofs.Common.{◌≡◌, ℕ, ◌==◌, List, Option, refl, sym, ap, subst}
+use Rattle.std.proofs.Common.{◌≡◌, ℕ, List, Option, refl, sym, ap, subst}
 use Rattle.std.proofs.lemmas.Bool.{eq-eqb}
 use Rattle.rv_isa.specs.Steps.{State, reg}
 use Rattle.wasm_defs.specs.declared.types.ValType.{ValType}
@@ -7,9 +7,10 @@ use Rattle.wasm_defs.specs.declared.value.Value.{Value as Given}
 use Rattle.wasm_defs.specs.Values.{Value}
 use Rattle.wasm_defs.specs.ModuleRun.{Returns}
 use Rattle.image_format.specs.declared.image.Image.{Image}
-use Rattle.image_format.specs.ImageRun.{Running, Stepping, As, environment, finish, results_at, memory_of, globals_of, run_of}
+use Rattle.image_format.specs.ImageRun.{Stepping, As, environment, finish, results_at, memory_of, globals_of, run_of}
 use Rattle.image_run.specs.declared.outcome.Outcome.TheVariants.{Returned}
-use Rattle.image_run.specs.Ends.{values_of, IsEnd, IsOver, running}
+use Rattle.image_run.specs.Ends.{values_of, IsEnd, IsOver}
+use Rattle.image_run.specs.States.{running}
 
 -- a function has ended
 pub finished : (i : Image) (s : State) (pages pc : ℕ) (results : List ValType) (v : Option Given) → reg s.registers 17 ≡ 0 → values_of v ≡ results_at s.bytes.stack 0 results

@@ -1,5 +1,5 @@
 -- The regions of an image before a call from outside.
-use Rattle.std.proofs.Common.{◌≡◌, ℕ, ◌+◌, ◌-◌, ◌*◌, ◌≤◌, List, ◌++◌, length, map, replicate, sym, ap, ◌∙◌, arith, length-append}
+use Rattle.std.proofs.Common.{◌≡◌, ℕ, ◌-◌, ◌*◌, ◌≤◌, List, ◌++◌, length, map, replicate, sym, ap, ◌∙◌, arith, length-append}
 use Rattle.std.proofs.lemmas.List.{length-map, length-replicate}
 use Rattle.rv_isa.specs.Steps.{Bytes}
 use Rattle.wasm_defs.specs.Memory.{page}
@@ -9,7 +9,7 @@ use Rattle.wasm_defs.specs.declared.value.Value.{Value as Given}
 use Rattle.image_format.specs.declared.image.Image.{Image}
 use Rattle.image_format.specs.declared.image.Row.{Row}
 use Rattle.image_format.specs.Environment.{stack_size, loaded, with_words, word_bytes, row_words, segments_of}
-use Rattle.image_run.specs.Ends.{first_bytes}
+use Rattle.image_run.specs.States.{first_bytes}
 use Rattle.image_run.proofs.WordLaws.{with_words-replicate, length-word_bytes, length-row_words}
 
 stack_is : (arguments : List Value) (stack : List ℕ) → stack ≡ word_bytes (words_of arguments) ++ replicate (1048576 - 8 * length arguments) 0 → with_words (replicate stack_size 0) 0 (words_of arguments) ≡ stack

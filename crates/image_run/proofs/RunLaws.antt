@@ -1,5 +1,5 @@
 -- A run of an image goes by runs of its machine, with a call of the environment between them.
-use Rattle.std.proofs.Common.{◌≡◌, ℕ, zero, suc, ◌+◌, ◌-◌, ◌==◌, ◌%◌, ◌<◌, ◌≤◌, Bool, true, false, if◌then◌else◌, List, [], length, Option, None, Some, refl, sym, ap, ◌∙◌, subst, arith}
+use Rattle.std.proofs.Common.{◌≡◌, ℕ, zero, suc, ◌+◌, ◌-◌, ◌==◌, ◌%◌, ◌<◌, ◌≤◌, Bool, true, false, if◌then◌else◌, List, length, Option, None, Some, refl, sym, ap, ◌∙◌, subst, arith}
 use Rattle.rv_isa.specs.declared.operations.Op.{Op}
 use Rattle.rv_isa.specs.declared.operations.Op.TheVariants.{Lui, Auipc, Jal, Jalr, Branch, Load, Store, Imm, Shift, Addiw, ShiftW, Reg, RegW, Fence, Ecall, Ebreak}
 use Rattle.rv_isa.specs.declared.stepping.FaultKind.{FaultKind}
@@ -14,7 +14,8 @@ use Rattle.image_format.specs.ImageRun.{Running, Stepping, To, environment, step
 use Rattle.image_format.specs.ImageRun as image
 use Rattle.image_run.specs.declared.outcome.Outcome.{Outcome}
 use Rattle.image_run.specs.declared.outcome.Outcome.TheVariants as outcome
-use Rattle.image_run.specs.Ends.{IsEnd, running, Answers, IsOver}
+use Rattle.image_run.specs.Ends.{IsEnd, IsOver}
+use Rattle.image_run.specs.States.{running}
 
 -- ---- a step that calls the environment leads to the next word
 

@@ -7,7 +7,8 @@ use Rattle.wasm_defs.specs.Values.{Value}
 use Rattle.image_format.specs.declared.image.Image.{Image}
 use Rattle.image_format.specs.ImageRun.{Running, steps, run_of, begin, first_running}
 use Rattle.image_run.specs.declared.outcome.Outcome.{Outcome}
-use Rattle.image_run.specs.Ends.{IsEnd, RunsTo, running, first_bytes, first_state}
+use Rattle.image_run.specs.Ends.{IsEnd, RunsTo}
+use Rattle.image_run.specs.States.{first_bytes, first_state, running}
 
 if_zero : (n : ℕ) (x y : Running) → n ≡ 0 → (if n == 0 then x else y) ≡ x
 if_zero n x y e = rw (eq-eqb n 0 e) refl

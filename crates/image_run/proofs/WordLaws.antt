@@ -1,5 +1,5 @@
 -- Words in bytes: how many there are, and what a region of zeros is with words written over its front.
-use Rattle.std.proofs.Common.{◌≡◌, ℕ, zero, suc, ◌+◌, ◌-◌, ◌*◌, ◌≤◌, List, [], ◌∷◌, ◌++◌, drop, take, length, replicate, refl, sym, ap, ◌∙◌, arith, append_assoc, length-append}
+use Rattle.std.proofs.Common.{◌≡◌, ℕ, suc, ◌+◌, ◌-◌, ◌*◌, ◌≤◌, List, [], ◌∷◌, ◌++◌, drop, take, length, replicate, refl, sym, ap, ◌∙◌, arith, append_assoc, length-append}
 use Rattle.std.proofs.lemmas.List.{drop_at, take_at, take_all, drop-replicate, append-nil}
 use Rattle.rv_isa.specs.Steps.{le_bytes, put}
 use Rattle.rv_isa.proofs.ByteLaws.{length-le_bytes}

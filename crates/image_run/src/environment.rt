@@ -3,7 +3,8 @@ ghost use Rattle.std.specs.Prelude.{◌≡◌, ◌-◌, ◌+◌, ◌*◌, ◌%�
 ghost use Rattle.rv_isa.specs.Steps.{reg};
 ghost use Rattle.rv64im_machine.specs.Contents.{state_of};
 ghost use Rattle.image_format.specs.ImageRun.{To, environment, grow as grown, results_at};
-ghost use Rattle.image_run.specs.Ends.{values_of, running, Answers};
+ghost use Rattle.image_run.specs.Ends.{values_of, Answers};
+ghost use Rattle.image_run.specs.States.{running};
 
 use crate::outcome::Outcome;
 use crate::regions::PAGE;

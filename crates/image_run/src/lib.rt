@@ -7,6 +7,8 @@ mod environment;
 mod outcome;
 mod regions;
 mod run;
+#[cfg(test)]
+mod tests;
 mod words;
 
 pub use checks::{NotRunnable, find_export, run_checks};

@@ -5,7 +5,7 @@ ghost use Rattle.wasm_defs.specs.Memory.{page};
 ghost use Rattle.wasm_defs.specs.Instances.{all_fit, all_over, over};
 ghost use Rattle.wasm_defs.specs.Values.{value_of, words_of};
 ghost use Rattle.image_format.specs.Environment.{row_words, segments_of, word_bytes};
-ghost use Rattle.image_run.specs.Ends.{first_bytes};
+ghost use Rattle.image_run.specs.States.{first_bytes};
 
 use crate::words::{push_word, word_of};
 use image_format::{Image, Row, Segment};

@@ -7,7 +7,8 @@ ghost use Rattle.wasm_defs.specs.Instances.{all_fit};
 ghost use Rattle.wasm_defs.specs.Values.{value_of};
 ghost use Rattle.image_format.specs.Environment.{segments_of, code_of_image, first_registers};
 ghost use Rattle.image_format.specs.ImageRun.{steps as steps_of, run_of};
-ghost use Rattle.image_run.specs.Ends.{IsEnd, RunsTo, running, first_state, zeros};
+ghost use Rattle.image_run.specs.Ends.{IsEnd, RunsTo};
+ghost use Rattle.image_run.specs.States.{zeros, first_state, running};
 
 use crate::environment::answer;
 use crate::outcome::Outcome;
@@ -92,10 +93,13 @@ fn run(machine: &mut Machine, image: &Image, results: &[ValType], steps: u64) ->
     }
 }
 
-/// Runs an exported function with these arguments, for at most so many steps of the machine.
+/// Runs an exported function of an image with these arguments, for at most so many steps of the machine. How it ends is how
+/// the image's run ends that `image_run` of `image_format` defines.
 ///
-/// So far images with imports or a start function aren't run, nor functions with several results. The arguments have room in
-/// the stack, and the text and the regions are within the limits of modules. A segment lies in the memory's first pages.
+/// The conditions are those of images that are run so far: without imports and without a start function; a text of at most
+/// 67,108,864 words, at most 100,000 globals and rows of the table, and at most 1,024 pages up to which the memory may grow; each
+/// segment lies in the pages that are there at first. The function has at most one result, and the words of the arguments, whose
+/// types aren't asked here, have room in the stack.
 pub fn run_export(
     alloc: Global,
     image: &Image,

@@ -1,4 +1,4 @@
-use Rattle.std.proofs.Common.{◌≡◌, ◌*◌, ◌≤◌, List, drop, length, map, ap, arith}
+use Rattle.std.proofs.Common.{◌≡◌, ◌*◌, ◌≤◌, List, length, map, ap, arith}
 use Rattle.std.proofs.lemmas.List.{drop_all, length-map}
 use Rattle.wasm_defs.specs.declared.value.Value.{Value}
 use Rattle.wasm_defs.specs.Values.{value_of, word_of, words_of}

@@ -1,4 +1,4 @@
-use Rattle.std.proofs.Common.{◌≡◌, ◌-◌, ◌<◌, ◌≤◌, ap, sym, ◌∙◌, arith}
+use Rattle.std.proofs.Common.{◌-◌, ◌∙◌, arith}
 use Rattle.rv64im_machine.specs.Contents.{state_of}
 use Rattle.image_run.proofs.RunLaws.{called_says, spent, faulted, stack_stays, goes, ends}
 use Rattle.image_run.proofs.run.run.Goals as goal

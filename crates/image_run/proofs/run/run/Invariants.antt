@@ -1,6 +1,6 @@
 use Rattle.rv64im_machine.specs.Contents.{state_of}
 use Rattle.image_format.specs.ImageRun.{steps}
-use Rattle.image_run.specs.Ends.{running}
+use Rattle.image_run.specs.States.{running}
 use Rattle.image_run.proofs.RunLaws.{Underway}
 use Rattle.image_run.proofs.run.run.Given as goal
 
