@@ -3,8 +3,13 @@
 #![tactic(auto)]
 
 mod checks;
+mod environment;
 mod outcome;
+mod regions;
 mod run;
+#[cfg(test)]
+mod tests;
+mod words;
 
 pub use checks::{NotRunnable, find_export, run_checks};
 pub use outcome::Outcome;
