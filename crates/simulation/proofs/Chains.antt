@@ -1,5 +1,5 @@
 -- A chain of instructions, and the function's end behind it.
-use Rattle.std.proofs.Common.{◌≡◌, ℕ, zero, suc, ◌+◌, ◌-◌, ◌*◌, ◌<◌, ◌≤◌, List, [], ◌∷◌, ◌++◌, length, take, max, Option, Some, None, refl, sym, ap, ◌∙◌, subst, arith}
+use Rattle.std.proofs.Common.{◌≡◌, ℕ, suc, ◌+◌, ◌*◌, ◌≤◌, List, [], ◌∷◌, length, take, Option, Some, refl, sym, ap, ◌∙◌, subst, arith}
 use Rattle.std.proofs.lemmas.List.{length-append}
 use Rattle.rv_isa.specs.declared.operations.Op.{Op}
 use Rattle.rv_isa.specs.Steps.{State, Bytes}
@@ -13,16 +13,16 @@ use Rattle.wasm_defs.specs.declared.token.Plain.TheVariants.{LocalGet, Const, Op
 use Rattle.wasm_defs.specs.Trees.{Seq, Nothing, Simple, Block, Loop, If, IfElse}
 use Rattle.wasm_defs.specs.Typing.{Types, Context, Moves, rule_of, Typed}
 use Rattle.wasm_defs.specs.Places.{Place, after_rule, end_of, places, greatest}
-use Rattle.wasm_defs.specs.Configurations.{Func, Instance, Store, Config, Inside, Step, To, Returned}
+use Rattle.wasm_defs.specs.Configurations.{Func, Instance, Store, Config, Inside, Returned}
 use Rattle.wasm_defs.specs.Reductions.{applied, simple}
 use Rattle.wasm_defs.specs.Values.{Value, types_of_values}
-use Rattle.wasm_defs.specs.Effects.{Effect, Gives, effect}
+use Rattle.wasm_defs.specs.Effects.{effect}
 use Rattle.frame_layout.specs.Templates.{Label, Around, words}
 use Rattle.frame_layout.specs.Functions.{code}
 use Rattle.simulation.specs.Straight.{IsStraightStep, IsStraight}
 use Rattle.simulation.proofs.Values.{Matches}
 use Rattle.simulation.proofs.Instructions.{types_length, height_after, follows}
-use Rattle.simulation.proofs.Texts.{has_at, has_first, has_second}
+use Rattle.simulation.proofs.Texts.{has_first, has_second}
 use Rattle.simulation.proofs.Weights.{ModuleEnds, ends_now, ends_later}
 
 -- the greatest height of a sequence that begins at a place

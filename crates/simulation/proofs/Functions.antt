@@ -1,11 +1,10 @@
 -- Whole runs of a function that is called from outside.
-use Rattle.std.proofs.Common.{◌≡◌, ℕ, zero, suc, ◌+◌, ◌*◌, ◌^◌, ◌<◌, ◌≤◌, false, ⊎_elim, List, [], ◌∷◌, ◌++◌, length, map, take, reverse, Option, Some, refl, sym, ap, ◌∙◌, subst, arith}
+use Rattle.std.proofs.Common.{◌≡◌, ℕ, zero, suc, ◌+◌, ◌*◌, ◌^◌, ◌<◌, ◌≤◌, false, ⊎_elim, List, [], ◌∷◌, ◌++◌, length, map, take, Option, Some, refl, sym, ap, ◌∙◌, subst, arith}
 use Rattle.std.specs.Prelude.{slice_get, nat_lt}
 use Rattle.std.proofs.lemmas.Bool.{cases_lt, cond-true, cond-false, lt-ltb, le-ltb}
 use Rattle.std.proofs.lemmas.List.{length-reverse}
-use Rattle.rv_isa.specs.declared.operations.Op.{Op}
 use Rattle.rv_isa.specs.Steps.{State, Bytes, reg, text_base, exec, Called}
-use Rattle.rv_isa.specs.Runs.{place, HasAt}
+use Rattle.rv_isa.specs.Runs.{HasAt}
 use Rattle.wasm_defs.specs.declared.value.TrapKind.TheVariants.{StackExhausted}
 use Rattle.wasm_defs.specs.Typing.{Types, Context, inside}
 use Rattle.wasm_defs.specs.Places.{places_of, greatest}
@@ -16,7 +15,6 @@ use Rattle.wasm_defs.specs.Host.{HostCall}
 use Rattle.wasm_defs.specs.Reductions.{enter, start_function, next, run}
 use Rattle.wasm_defs.specs.ModuleRun.{Run, Traps}
 use Rattle.wasm_defs.specs.ModuleRun as module_run
-use Rattle.frame_layout.specs.declared.layout.Layout.{Layout}
 use Rattle.frame_layout.specs.Macros.{a7}
 use Rattle.frame_layout.specs.Slots.{need}
 use Rattle.frame_layout.specs.Templates.{Label, Around, prologue, epilogue, exit_stub}
