@@ -2,46 +2,46 @@
 use Rattle.std.specs.Prelude.{◌≡◌, ◌<◌, ◌≤◌, ◌⊎◌, ℕ, suc, ◌+◌, ◌*◌, List, [], ◌∷◌, ◌++◌}
 use Rattle.wasm_defs.specs.declared.fault.Kind.TheVariants.{Limit}
 use Rattle.wasm_defs.specs.declared.fault.Refusal.{Refusal}
-use Rattle.wasm_defs.specs.Outside.{Part, Coded, Body, module_run}
-use Rattle.wasm_defs.specs.Trees.{Seq}
-use Rattle.wasm_defs.specs.Faults.{IsFault, AreValid, items_of, bodies_of, Module, IsModule, Verdict, Accepted, Rejected}
 use Rattle.wasm_defs.specs.declared.item.Item.{Item}
+use Rattle.wasm_defs.specs.Outside.{Part, Section, Listed, Coded, Body, module_run}
+use Rattle.wasm_defs.specs.Trees.{Seq}
+use Rattle.wasm_defs.specs.Faults.{IsFault, IsValidCode, read_of, context_at, Module, IsModule, Verdict, Accepted, Rejected}
 use Rattle.image_linker.specs.ImageOf.{front_size, size_of}
 
 -- bytes of a text at most: a region of the machine holds them
 abbrev pub max_text : ℕ
 max_text = 268435456
 
--- the words of bodies, of which the first is the k-th
+-- the bytes of a text with so many words of functions
+abbrev pub text_bytes : List Item → (words : ℕ) → ℕ
+text_bytes items words = 4 * (front_size items + words)
+
+-- the words of functions, of which the first is the k-th that is declared
 abbrev pub sizes : List Item → (k : ℕ) → List Body → List Seq → ℕ
 sizes items k (b ∷ bodies) (tree ∷ trees) = size_of items k b tree + sizes items (suc k) bodies trees
 sizes items k bodies trees = 0
 
--- the bytes of a text with these bodies
-abbrev pub text_bytes : List Item → List Body → List Seq → ℕ
-text_bytes items bodies trees = 4 * (front_size items + sizes items 0 bodies trees)
+abbrev pub limit_at : ℕ → Refusal
+limit_at at = record { offset = at; kind = Limit }
 
--- the body with which the text passes its limit, where it and all bodies before it are valid
-pub record IsTextFault (bytes : List ℕ) (r : Refusal) : Type 0 where
-  pub front : List Part
-  pub body : Body
-  pub back : List Part
-  pub parts : (module_run bytes).parts ≡ front ++ Coded body ∷ back
-  pub trees : List Seq
-  pub tree : Seq
-  pub valid : AreValid [] 0 (front ++ Coded body ∷ []) (trees ++ tree ∷ [])
-  pub fits : AreValid [] 0 front trees
-  pub before : text_bytes (items_of front) (bodies_of front) trees ≤ max_text
-  pub passes : max_text < text_bytes (items_of front) (bodies_of front ++ body ∷ []) (trees ++ tree ∷ [])
-  pub is : r ≡ record { offset = body.size; kind = Limit }
+-- Among the parts behind these items and k bodies, whose functions have so many words, stands the body with which the text passes
+-- its limit. All bodies before it are valid, and so is it itself; the fault stands at its size.
+abbrev pub IsTextFault : List Item → (k words : ℕ) → List Part → Refusal → Type 0
+IsTextFault items k words [] r = ⊥
+IsTextFault items k words (Section at id ∷ parts) r = IsTextFault items k words parts r
+IsTextFault items k words (Listed x ∷ parts) r = IsTextFault (items ++ x ∷ []) k words parts r
+IsTextFault items k words (Coded b ∷ parts) r =
+    (tree : Seq) × IsValidCode (context_at items k b) (read_of b).code tree
+    × (((max_text < text_bytes items (words + size_of items k b tree)) × (r ≡ limit_at b.size))
+      ⊎ ((text_bytes items (words + size_of items k b tree) ≤ max_text) × IsTextFault items (suc k) (words + size_of items k b tree) parts r))
 
 abbrev pub IsFaultOf : List ℕ → Refusal → Type 0
-IsFaultOf bytes r = IsFault bytes r ⊎ IsTextFault bytes r
+IsFaultOf bytes r = IsFault bytes r ⊎ IsTextFault [] 0 0 (module_run bytes).parts r
 
 -- a module whose text keeps the limit
 pub record IsModuleOf (bytes : List ℕ) (m : Module) : Type 0 where
   pub is : IsModule bytes m
-  pub fits : text_bytes m.items m.bodies m.trees ≤ max_text
+  pub fits : text_bytes m.items (sizes m.items 0 m.bodies m.trees) ≤ max_text
 
 -- the module that the bytes are, or the fault of least offset
 abbrev pub IsVerdictOf : List ℕ → Verdict → Type 0

@@ -1,5 +1,5 @@
 -- The outside of a run: calls of imported functions and the host's replies (WebAssembly Core 1.0, 4.4.7.3).
-use Rattle.std.specs.Prelude.{ℕ, ◌+◌, ◌^◌, ◌&&◌, Bool, true, false, List, [], ◌∷◌, ◌++◌, length, Option, None, Some, nat_lt, nat_le, if◌then◌else◌}
+use Rattle.std.specs.Prelude.{ℕ, ◌&&◌, Bool, true, false, List, [], ◌∷◌, length, Option, None, Some, nat_lt, nat_le, if◌then◌else◌}
 use Rattle.wasm_defs.specs.Typing.{Types, same_types}
 use Rattle.wasm_defs.specs.Values.{Value, modulus, types_of_values}
 use Rattle.wasm_defs.specs.Memory.{written_at}

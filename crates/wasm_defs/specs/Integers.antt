@@ -1,7 +1,7 @@
 -- Integer operations (WebAssembly Core 1.0, 4.3.2 and 4.3.3), on numbers below 2 ^ N.
-use Rattle.std.specs.Prelude.{ℕ, ◌+◌, ◌-◌, ◌*◌, ◌/◌, ◌%◌, ◌^◌, ℤ, pos, Bool, not, nat_lt, nat_le, ◌==◌, if◌then◌else◌, bit_and, bit_or, bit_xor, count_ones, int_lt, int_le, int_div, int_rem}
+use Rattle.std.specs.Prelude.{ℕ, ◌+◌, ◌-◌, ◌*◌, ◌/◌, ◌%◌, ◌^◌, pos, Bool, not, nat_lt, nat_le, ◌==◌, if◌then◌else◌, bit_and, bit_or, bit_xor, count_ones, int_lt, int_le, int_div, int_rem}
 use Rattle.std.specs.Ordering.{int_eq}
-use Rattle.std.specs.Int.{w32, w64, int_shr}
+use Rattle.std.specs.Int.{int_shr}
 use Rattle.std.specs.Int.Count.{count_leading_zeros, count_trailing_zeros}
 use Rattle.wasm_defs.specs.declared.types.ValType.{ValType}
 use Rattle.wasm_defs.specs.declared.types.ValType.TheVariants.{I32, I64}

@@ -4,16 +4,14 @@
 -- one more for each declared local.
 use Rattle.std.specs.Prelude.{ℕ, zero, suc, ◌+◌, Bool, ◌&&◌, List, [], ◌∷◌, ◌++◌, map, take, drop, reverse, length, Option, Some, None, nat_lt, if◌then◌else◌, slice_get, slice_index_or}
 use Rattle.wasm_defs.specs.declared.types.FuncType.{FuncType}
-use Rattle.wasm_defs.specs.declared.types.ValType.TheVariants.{I32}
 use Rattle.wasm_defs.specs.declared.value.TrapKind.TheVariants as trap
-use Rattle.wasm_defs.specs.declared.token.BlockType.{BlockType}
 use Rattle.wasm_defs.specs.declared.token.Plain.{Plain}
 use Rattle.wasm_defs.specs.declared.token.Plain.TheVariants.{Unreachable, Br, BrIf, BrTable, Return, Call, CallIndirect}
 use Rattle.wasm_defs.specs.Trees.{Seq, Nothing, Simple, Block, Loop, If, IfElse}
-use Rattle.wasm_defs.specs.Typing.{Types, Context, Signature, same_types}
+use Rattle.wasm_defs.specs.Typing.{Types, Signature, same_types}
 use Rattle.wasm_defs.specs.Places.{shape}
 use Rattle.wasm_defs.specs.Values.{Value, zero_of}
-use Rattle.wasm_defs.specs.Host.{HostCall, Reply, Taken, Goes, Stops, taken}
+use Rattle.wasm_defs.specs.Host.{Reply, Taken, Goes, Stops, taken}
 use Rattle.wasm_defs.specs.Configurations.{Func, Function, Imported, Declared, type_of, Instance, Store, Label, Frame, Invocation, Config, State, Outside, Inside, Step, To, Returned, Trapped, Stopped, Waiting, Stuck, used, need_of, need, max_slots}
 use Rattle.wasm_defs.specs.Effects.{Effect, Gives, Traps, Fails, effect}
 
@@ -52,8 +50,8 @@ ask number ty store arguments callers later =
     if nat_lt max_slots (used callers + need_of (length ty.params) 0 0)
     then Trapped store trap.StackExhausted
     else await_reply ty.results
-        (record store { calls = store.calls ++ record { number = number; arguments = arguments; memory = store.memory } ∷ [] })
-        store.replies callers later
+    (record store { calls = store.calls ++ record { number = number; arguments = arguments; memory = store.memory } ∷ [] })
+    store.replies callers later
 
 abbrev pub start_function : Store → Option Function → List Value → List Frame → List Invocation → Step
 start_function store None arguments callers later = Stuck
@@ -129,7 +127,7 @@ abbrev pub within : Config → List Value → Signature → (arity : ℕ) → (t
 within c operands s arity target body rest =
     let count = length s.params in
     goes_on c c.store c.frame.locals (take count operands) body
-        (record { arity = arity; target = target; below = drop count operands; after = rest } ∷ c.frame.labels)
+    (record { arity = arity; target = target; below = drop count operands; after = rest } ∷ c.frame.labels)
 
 abbrev pub choose : Config → Signature → (body other rest : Seq) → List Value → Step
 choose c s body other rest [] = Stuck

@@ -37,3 +37,13 @@ pub mod Rereading
 pub mod WholeModules
 pub mod OneReading
 pub mod Earlier
+pub mod Sorted
+pub mod Behind
+pub mod Straight
+pub mod Ranges
+pub mod Heights
+pub mod Plain
+pub mod Bytes
+pub mod Locals
+pub mod Kept
+pub mod Exports

@@ -46,20 +46,20 @@ then_yields P (Got a d) f h = (h a).got d
 then_yields P (Fault r) f h = tt
 then_yields P Wants f h = tt
 
-bind_yields : {A B : Type 0} (P : B → Type 0) (p : Reader A) (f : A → Reader B) → ((a : A) → Yields P (f a)) → Yields P (p >>= f)
+pub bind_yields : {A B : Type 0} (P : B → Type 0) (p : Reader A) (f : A → Reader B) → ((a : A) → Yields P (f a)) → Yields P (p >>= f)
 bind_yields P p f h = record { got = λ c. then_yields P (p c) f h }
 
-done_yields : {A : Type 0} (P : A → Type 0) (x : A) → P x → Yields P (done x)
+pub done_yields : {A : Type 0} (P : A → Type 0) (x : A) → P x → Yields P (done x)
 done_yields P x h = record { got = λ c. h }
 
-refused_yields : {A : Type 0} (P : A → Type 0) (kind : Kind) (at : ℕ) → Yields P (refused kind at)
+pub refused_yields : {A : Type 0} (P : A → Type 0) (kind : Kind) (at : ℕ) → Yields P (refused kind at)
 refused_yields P kind at = record { got = λ c. tt }
 
-either_yields : {A : Type 0} (P : A → Type 0) (b : Bool) (p q : Reader A) → Yields P p → Yields P q → Yields P (cond b p q)
+pub either_yields : {A : Type 0} (P : A → Type 0) (b : Bool) (p q : Reader A) → Yields P p → Yields P q → Yields P (cond b p q)
 either_yields P true p q hp hq = hp
 either_yields P false p q hp hq = hq
 
-ruleset yielding = (bind_yields, done_yields, refused_yields, either_yields)
+pub ruleset yielding = (bind_yields, done_yields, refused_yields, either_yields)
 
 signature_yields : (seen : Seen) → Yields IsPlain (signature seen)
 unfolding signature

@@ -78,7 +78,7 @@ reading_found signed bits c (Number n len) ready h = found_front (number_is sign
 reading_found signed bits c CutOff ready h = cut_got _ _ c
 reading_found signed bits c Bad ready h = tt
 
-front_bytes : (n : ℕ) (bytes : List ℕ) → AreBytes bytes → AreBytes (take n bytes)
+pub front_bytes : (n : ℕ) (bytes : List ℕ) → AreBytes bytes → AreBytes (take n bytes)
 front_bytes zero bytes h = tt
 front_bytes (suc n) [] h = tt
 front_bytes (suc n) (b ∷ bytes) h = (h.0, front_bytes n bytes h.1)

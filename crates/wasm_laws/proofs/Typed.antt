@@ -25,13 +25,13 @@ use Rattle.wasm_laws.proofs.Counts.{bodies_are_declared}
 -- ---- indices of types
 
 -- a function has a type among so many
-abbrev IsIndexed : ℕ → Item → Type 0
+abbrev pub IsIndexed : ℕ → Item → Type 0
 IsIndexed types (Imported from what kind type_index) = type_index.1 < types
 IsIndexed types (Function type_index) = type_index.1 < types
 IsIndexed types _ = Unit {0}
 
 -- so of each item, where so many types stand before the items
-abbrev AreIndexed : ℕ → List Item → Type 0
+abbrev pub AreIndexed : ℕ → List Item → Type 0
 AreIndexed types [] = Unit {0}
 AreIndexed types (x ∷ xs) = IsIndexed types x × AreIndexed (types + length (types_of (x ∷ []))) xs
 
@@ -41,7 +41,7 @@ note_types s _ = omega arith
 
 -- ---- readers
 
-index_below : (most : ℕ) (c : Cursor) → IfGot (λ i d. i.1 < most) (index most c)
+pub index_below : (most : ℕ) (c : Cursor) → IfGot (λ i d. i.1 < most) (index most c)
 unfolding index
 index_below most c =
     then_got (λ i d. Unit {0}) (λ i d. i.1 < most) (u32 c) _ (always (u32 c))
@@ -118,7 +118,7 @@ segment_indexes seen = search yielding depth 40
 
 -- ---- rows
 
-abbrev IsIndexedPart : ℕ → Part → Type 0
+abbrev pub IsIndexedPart : ℕ → Part → Type 0
 IsIndexedPart types (Section at id) = Unit {0}
 IsIndexedPart types (Listed x) = IsIndexed types x
 IsIndexedPart types (Coded b) = Unit {0}
@@ -224,7 +224,7 @@ unfolding sections_up_to
 up_to_agrees zero seen c = record { items = tt }
 up_to_agrees (suc n) seen c = or_agrees (sections_up_to n) (up_to_agrees n) seen c c.rest
 
-items_are_indexed : (bytes : List ℕ) → AreIndexed 0 (items_of (module_run bytes).parts)
+pub items_are_indexed : (bytes : List ℕ) → AreIndexed 0 (items_of (module_run bytes).parts)
 items_are_indexed bytes =
     (runs_indexed (λ v c. Unit {0}) 0 (preamble (beginning bytes)) _ (always (preamble (beginning bytes)))
     (λ v c t. up_to_agrees (length c.rest + 1) nothing c)).items
@@ -251,22 +251,22 @@ types_count : (xs ys : List Item) → length (types_of (xs ++ ys)) ≡ length (t
 types_count xs ys = ap length (types_of-append xs ys) ∙ length-append (types_of xs) (types_of ys)
 
 -- the functions are the imported and the declared ones
-functions_of-counts : (xs : List Item) → length (functions_of xs) ≡ import_count xs + declared_count xs
+pub functions_of-counts : (xs : List Item) → length (functions_of xs) ≡ import_count xs + declared_count xs
 functions_of-counts [] = omega arith
 functions_of-counts (Imported from what kind type_index ∷ xs) = omega (arith, functions_of-counts xs)
 functions_of-counts (Function type_index ∷ xs) = omega (arith, functions_of-counts xs)
 functions_of-counts (_ ∷ xs) = functions_of-counts xs
 
 -- each function has its type among so many
-record AreBelow (types : ℕ) (functions : List ℕ) : Type 0 where
-  each : All (λ i. i < types) functions
+pub record AreBelow (types : ℕ) (functions : List ℕ) : Type 0 where
+  pub each : All (λ i. i < types) functions
 
-own_below : (types : ℕ) (x : Item) → IsIndexed types x → AreBelow types (functions_of (x ∷ []))
+pub own_below : (types : ℕ) (x : Item) → IsIndexed types x → AreBelow types (functions_of (x ∷ []))
 own_below types (Imported from what kind type_index) h = record { each = All-cons (λ i. i < types) type_index.1 [] h (All-nil (λ i. i < types)) }
 own_below types (Function type_index) h = record { each = All-cons (λ i. i < types) type_index.1 [] h (All-nil (λ i. i < types)) }
 own_below types _ h = record { each = All-nil (λ i. i < types) }
 
-all_below : (types more : ℕ) (fs gs : List ℕ) → AreBelow types fs → AreBelow types gs → AreBelow (types + more) (fs ++ gs)
+pub all_below : (types more : ℕ) (fs gs : List ℕ) → AreBelow types fs → AreBelow types gs → AreBelow (types + more) (fs ++ gs)
 all_below types more fs gs p q = record {
   each = All-weaker (λ i. i < types) (λ i. i < types + more) (λ i h. omega arith) (fs ++ gs) (All-append (λ i. i < types) fs gs p.each q.each);
 }
@@ -278,7 +278,7 @@ is_found [] i h = absurd (omega arith)
 is_found (t ∷ types) zero h = refl
 is_found (t ∷ types) (suc i) h = is_found types i (omega arith)
 
-function_has_type : (c : Context) (f : ℕ) → f < length c.functions → AreBelow (length c.types) c.functions → IsSome (function_type c f)
+pub function_has_type : (c : Context) (f : ℕ) → f < length c.functions → AreBelow (length c.types) c.functions → IsSome (function_type c f)
 function_has_type c f there typed =
     let within = All-get_or (λ i. i < length c.types) c.functions f 0 there typed.each in
     rw (slice_get-get_or c.functions f 0 there) (is_found c.types (get_or c.functions f 0) within)

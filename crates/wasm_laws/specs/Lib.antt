@@ -5,3 +5,7 @@ pub mod Counts
 pub mod BodyOrder
 pub mod Typed
 pub mod Sections
+pub mod Behind
+pub mod Straight
+pub mod Plain
+pub mod Kept

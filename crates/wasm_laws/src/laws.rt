@@ -1,17 +1,29 @@
 //! The laws of how a module's bytes are read.
 
-ghost use Rattle.std.specs.Prelude.{◌≡◌, ◌≤◌, ◌<◌, ℕ, length, List, [], Some, suc, ◌∷◌, ◌++◌};
+ghost use Rattle.std.specs.Prelude.{◌≡◌, ◌≤◌, ◌<◌, ℕ, length, List, [], None, Some, suc, true, ◌∷◌, ◌++◌};
 ghost use Rattle.wasm_defs.specs.Bodies.{body_read, instruction, last_of, local_groups};
-ghost use Rattle.wasm_defs.specs.Context.{declared_count};
+ghost use Rattle.wasm_defs.specs.Context.{context_of, declared_count, functions_of, types_of};
 ghost use Rattle.wasm_defs.specs.Entries.{Seen};
-ghost use Rattle.wasm_defs.specs.Faults.{bodies_of, ending_fault, items_of};
+ghost use Rattle.wasm_defs.specs.Faults.{bodies_of, ending_fault, first_outside, items_of, Module, sections_of, tokens_of};
+ghost use Rattle.wasm_defs.specs.Instances.{exports_of, is_linkable, named};
 ghost use Rattle.wasm_defs.specs.Outside.{Body, Coded, header, module_run, Part, preamble, row, Section, section_end, Whole};
+ghost use Rattle.wasm_defs.specs.Places.{greatest, places_of};
+ghost use Rattle.wasm_defs.specs.Supported.{is_compiled_opcode, is_compiled_section};
+ghost use Rattle.wasm_defs.specs.Trees.{Seq, Tree};
+ghost use Rattle.wasm_defs.specs.Typing.{Context};
 ghost use Rattle.wasm_defs.specs.declared.fault.Refusal.{Refusal};
+ghost use Rattle.wasm_defs.specs.declared.item.Item.{Item};
+ghost use Rattle.wasm_defs.specs.declared.token.Token.{Token};
+ghost use Rattle.wasm_laws.specs.Behind.{StandBehind};
 ghost use Rattle.wasm_laws.specs.BodyOrder.{IsSpelledIn};
 ghost use Rattle.wasm_laws.specs.Counts.{AreDeclared};
+ghost use Rattle.wasm_laws.specs.Kept.{AreThere, BodiesAreSmall, IsThere, LocalsAreFew, TypesAreSmall};
 ghost use Rattle.wasm_laws.specs.Order.{AreCutFrom, AreOrdered, BodyStands, end_of, first_section};
+ghost use Rattle.wasm_laws.specs.Plain.{ArePlain, HasNoMore};
 ghost use Rattle.wasm_laws.specs.Runs.{deciding_length, GoesOn, IsRefused};
+ghost use Rattle.wasm_laws.specs.Sections.{AreBytes};
 ghost use Rattle.wasm_laws.specs.Steadiness.{Steady, SteadyEnd, SteadyRow, Takes, token};
+ghost use Rattle.wasm_laws.specs.Straight.{are_straight, is_straight, TreeIsInRange};
 ghost use Rattle.wasm_laws.specs.Typed.{AreTyped};
 
 /// The fields outside bodies are steady (Core 5.5): the preamble, the header of each section, what each section holds, and
@@ -87,4 +99,60 @@ pub fn bodies_match_functions()
 /// before this one stands among the items before it, and so does the type that the function names.
 pub fn functions_have_types()
     ensures { (bytes : List ℕ) → AreTyped [] 0 (module_run bytes).parts }
+{}
+
+/// Behind a body no section comes but that of data segments (Core 5.5.2), so that the items before it say all that a body may
+/// name: the context of bodies, and the module's functions, tables and memories.
+pub fn bodies_stand_behind_items()
+    ensures { (bytes : List ℕ) (front : List Part) (b : Body) (back : List Part) →
+        let run = module_run bytes in
+        run.parts ≡ front ++ Coded b ∷ back → StandBehind run.parts front back }
+{}
+
+/// A module of the sections that are compiled so far has no items but types, functions, exports and the code section's count:
+/// it imports nothing, has no table, memory, globals, segments and start function, and can be instantiated.
+pub fn compiled_items_are_few()
+    ensures items { (bytes : List ℕ) →
+        let run = module_run bytes in
+        first_outside is_compiled_section (sections_of run.parts) ≡ None → ArePlain (items_of run.parts) }
+    ensures rest { (items : List Item) → ArePlain items → HasNoMore items }
+    ensures linkable { (m : Module) → ArePlain m.items → is_linkable m ≡ true }
+{}
+
+/// The code of a body whose opcodes are compiled so far is straight (Core 2.4): its tokens are `local.get`, `i32.const`,
+/// `i32.add` and `end`, and so is the tree that they spell. Immediates of 32 bits are in range, operands lie no higher than
+/// there are tokens, and each token has a byte.
+pub fn compiled_code_is_straight()
+    ensures tokens { (first : ℕ) (bytes : List ℕ) →
+        let code = (body_read first bytes).code in
+        first_outside is_compiled_opcode code.opcodes ≡ None → are_straight (tokens_of code.tokens) ≡ true }
+    ensures tree { (first : ℕ) (bytes : List ℕ) (tree : Seq) →
+        let code = (body_read first bytes).code in
+        first_outside is_compiled_opcode code.opcodes ≡ None → Tree (tokens_of code.tokens) tree → is_straight tree ≡ true }
+    ensures range { (first : ℕ) (bytes : List ℕ) (tree : Seq) → AreBytes bytes →
+        let code = (body_read first bytes).code in
+        first_outside is_compiled_opcode code.opcodes ≡ None → Tree (tokens_of code.tokens) tree → TreeIsInRange tree }
+    ensures height { (c : Context) (tokens : List (ℕ × Token)) (tree : Seq) →
+        is_straight tree ≡ true → Tree (tokens_of tokens) tree → greatest (places_of c tree) < length tokens }
+    ensures count { (first : ℕ) (bytes : List ℕ) → length (body_read first bytes).code.tokens ≤ length bytes }
+{}
+
+/// Types keep to their limits (Core 3.2.2): each has so many parameters at most, and one result at most.
+pub fn types_keep_limits()
+    ensures { (bytes : List ℕ) → TypesAreSmall (types_of (items_of (module_run bytes).parts)) }
+{}
+
+/// Bodies keep to the limits on their bytes and on the locals that they declare (Core 5.5.13).
+pub fn locals_keep_limits()
+    ensures locals { (first : ℕ) (bytes : List ℕ) → LocalsAreFew (body_read first bytes).groups }
+    ensures bodies { (bytes : List ℕ) → BodiesAreSmall (bodies_of (module_run bytes).parts) }
+{}
+
+/// The functions that exports name are there, with their types (Core 3.4.10), and so is each that is found by its name.
+pub fn exports_are_there()
+    ensures each { (bytes : List ℕ) →
+        let items = items_of (module_run bytes).parts in
+        AreThere (context_of items) (length (functions_of items)) (exports_of items) }
+    ensures named { (c : Context) (functions : ℕ) (name : List ℕ) (exports : List (List ℕ × ℕ)) (index : ℕ) →
+        AreThere c functions exports → named name exports ≡ Some index → IsThere c functions index }
 {}

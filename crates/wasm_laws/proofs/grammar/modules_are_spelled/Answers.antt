@@ -1,15 +1,10 @@
-use Rattle.std.proofs.Common.{ℕ, ◌<◌, List, [], ◌∷◌, sym, subst}
-use Rattle.std.proofs.lemmas.List.Elements.{All-head, All-tail}
-use Rattle.wasm_defs.proofs.NumberLaws as numbers
+use Rattle.std.proofs.Common.{List, sym, subst}
 use Rattle.wasm_defs.specs.Outside.{Part}
-use Rattle.wasm_laws.specs.Sections.{AreBytes, IsReadAs}
+use Rattle.wasm_laws.specs.Sections.{IsReadAs}
+use Rattle.wasm_laws.proofs.Bytes.{each_byte}
 use Rattle.wasm_laws.proofs.Described.{whole_is_described, module_is_described}
 use Rattle.wasm_laws.proofs.WholeModules.{described_is_whole}
 use Rattle.wasm_laws.proofs.grammar.modules_are_spelled.Goals as goal
-
-each_byte : (bytes : List ℕ) → AreBytes bytes → numbers.AreBytes bytes
-each_byte [] h = tt
-each_byte (b ∷ bytes) h = (All-head (λ b. b < 256) b bytes h, each_byte bytes (All-tail (λ b. b < 256) b bytes h))
 
 pub returns : goal.returns
 returns c = record {

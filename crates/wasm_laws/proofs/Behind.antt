@@ -1,0 +1,119 @@
+-- Behind a body stand data segments alone, so that the items before it say all that bodies may name.
+use Rattle.std.proofs.Common.{◌≡◌, ℕ, zero, suc, ◌+◌, ◌≤◌, ◌<◌, List, [], ◌∷◌, ◌++◌, length, max, refl, ap, subst, sym, ◌∙◌, arith}
+use Rattle.wasm_defs.specs.declared.context.GlobalType.{GlobalType}
+use Rattle.wasm_defs.specs.declared.item.Item.{Item}
+use Rattle.wasm_defs.specs.declared.item.Item.TheVariants.{Signature, Imported, Function, Table, Memory, Global, Segment}
+use Rattle.wasm_defs.specs.declared.item.Limits.{Limits}
+use Rattle.wasm_defs.specs.declared.types.FuncType.{FuncType}
+use Rattle.wasm_defs.specs.Context.{types_of, functions_of, import_count, declared_count, tables_of, memories_of, globals_of, context_of}
+use Rattle.wasm_defs.specs.Faults.{items_of}
+use Rattle.wasm_defs.specs.Outside.{Body, Part, Section, Listed, Coded, module_run}
+use Rattle.wasm_defs.specs.Typing.{Context}
+use Rattle.wasm_laws.specs.Behind.{AreSegments, SayTheSame, StandBehind}
+use Rattle.wasm_laws.proofs.Sorted.{AreSorted, parts_are_sorted}
+
+-- ---- segments add nothing
+
+types_end : (xs ys : List Item) → AreSegments ys → types_of (xs ++ ys) ≡ types_of xs
+types_end [] [] h = refl
+types_end [] (Segment memory place bytes ∷ ys) h = types_end [] ys h
+types_end [] (_ ∷ ys) h = absurd h
+types_end (Signature form params results ty ∷ xs) ys h = ap (λ (l : List FuncType). ty ∷ l) (types_end xs ys h)
+types_end (_ ∷ xs) ys h = types_end xs ys h
+
+functions_end : (xs ys : List Item) → AreSegments ys → functions_of (xs ++ ys) ≡ functions_of xs
+functions_end [] [] h = refl
+functions_end [] (Segment memory place bytes ∷ ys) h = functions_end [] ys h
+functions_end [] (_ ∷ ys) h = absurd h
+functions_end (Imported from what kind i ∷ xs) ys h = ap (λ (l : List ℕ). i.1 ∷ l) (functions_end xs ys h)
+functions_end (Function i ∷ xs) ys h = ap (λ (l : List ℕ). i.1 ∷ l) (functions_end xs ys h)
+functions_end (_ ∷ xs) ys h = functions_end xs ys h
+
+imports_end : (xs ys : List Item) → AreSegments ys → import_count (xs ++ ys) ≡ import_count xs
+imports_end [] [] h = refl
+imports_end [] (Segment memory place bytes ∷ ys) h = imports_end [] ys h
+imports_end [] (_ ∷ ys) h = absurd h
+imports_end (Imported from what kind i ∷ xs) ys h = ap (λ (n : ℕ). n + 1) (imports_end xs ys h)
+imports_end (_ ∷ xs) ys h = imports_end xs ys h
+
+declared_end : (xs ys : List Item) → AreSegments ys → declared_count (xs ++ ys) ≡ declared_count xs
+declared_end [] [] h = refl
+declared_end [] (Segment memory place bytes ∷ ys) h = declared_end [] ys h
+declared_end [] (_ ∷ ys) h = absurd h
+declared_end (Function i ∷ xs) ys h = ap (λ (n : ℕ). n + 1) (declared_end xs ys h)
+declared_end (_ ∷ xs) ys h = declared_end xs ys h
+
+tables_end : (xs ys : List Item) → AreSegments ys → tables_of (xs ++ ys) ≡ tables_of xs
+tables_end [] [] h = refl
+tables_end [] (Segment memory place bytes ∷ ys) h = tables_end [] ys h
+tables_end [] (_ ∷ ys) h = absurd h
+tables_end (Table element limits ∷ xs) ys h = ap (λ (l : List Limits). limits ∷ l) (tables_end xs ys h)
+tables_end (_ ∷ xs) ys h = tables_end xs ys h
+
+memories_end : (xs ys : List Item) → AreSegments ys → memories_of (xs ++ ys) ≡ memories_of xs
+memories_end [] [] h = refl
+memories_end [] (Segment memory place bytes ∷ ys) h = memories_end [] ys h
+memories_end [] (_ ∷ ys) h = absurd h
+memories_end (Memory limits ∷ xs) ys h = ap (λ (l : List Limits). limits ∷ l) (memories_end xs ys h)
+memories_end (_ ∷ xs) ys h = memories_end xs ys h
+
+globals_end : (xs ys : List Item) → AreSegments ys → globals_of (xs ++ ys) ≡ globals_of xs
+globals_end [] [] h = refl
+globals_end [] (Segment memory place bytes ∷ ys) h = globals_end [] ys h
+globals_end [] (_ ∷ ys) h = absurd h
+globals_end (Global ty mutable init ∷ xs) ys h = ap (λ (l : List GlobalType). record { ty = ty.1; mutable = mutable.1 } ∷ l) (globals_end xs ys h)
+globals_end (_ ∷ xs) ys h = globals_end xs ys h
+
+-- a context of these lists
+abbrev made_of : List FuncType → List ℕ → List Limits → List Limits → List GlobalType → Context
+made_of types functions tables memories globals = record {
+  types = types;
+  functions = functions;
+  tables = length tables;
+  memories = length memories;
+  globals = globals;
+  locals = [];
+  results = [];
+  labels = [];
+}
+
+segments_say_nothing : (xs ys : List Item) → AreSegments ys → SayTheSame (xs ++ ys) xs
+segments_say_nothing xs ys h =
+    let types = types_end xs ys h in
+    let functions = functions_end xs ys h in
+    let tables = tables_end xs ys h in
+    let memories = memories_end xs ys h in
+    let globals = globals_end xs ys h in
+    let context : made_of (types_of (xs ++ ys)) (functions_of (xs ++ ys)) (tables_of (xs ++ ys)) (memories_of (xs ++ ys)) (globals_of (xs ++ ys)) ≡ made_of (types_of xs) (functions_of xs) (tables_of xs) (memories_of xs) (globals_of xs) = rw (types, functions, tables, memories, globals) refl in
+    record { context = context; imports = imports_end xs ys h; declared = declared_end xs ys h; tables = tables; memories = memories }
+
+-- ---- behind a body
+
+items_around : (front : List Part) (b : Body) (back : List Part) → items_of (front ++ Coded b ∷ back) ≡ items_of front ++ items_of back
+items_around [] b back = refl
+items_around (Section at id ∷ front) b back = items_around front b back
+items_around (Listed x ∷ front) b back = ap (λ (l : List Item). x ∷ l) (items_around front b back)
+items_around (Coded a ∷ front) b back = items_around front b back
+
+sorted_behind : (before id : ℕ) (front : List Part) (b : Body) (back : List Part) → AreSorted before id (front ++ Coded b ∷ back) → AreSorted 10 10 back
+sorted_behind before id [] b back h = h.2
+sorted_behind before id (Section at next ∷ front) b back h = sorted_behind (max before id) next front b back h
+sorted_behind before id (Listed x ∷ front) b back h = sorted_behind before id front b back h.2
+sorted_behind before id (Coded a ∷ front) b back h = sorted_behind 10 10 front b back h.2
+
+-- no section but that of data segments comes behind the code section
+late_are_segments : (before id : ℕ) (parts : List Part) → 10 ≤ before → AreSorted before id parts → AreSegments (items_of parts)
+late_are_segments before id [] le h = tt
+late_are_segments before id (Section at next ∷ parts) le h = late_are_segments (max before id) next parts (omega arith) h
+late_are_segments before id (Listed (Segment memory place bytes) ∷ parts) le h = late_are_segments before id parts le h.2
+late_are_segments before id (Listed x ∷ parts) le h = absurd (omega (arith, h.0, h.1))
+late_are_segments before id (Coded b ∷ parts) le h = late_are_segments 10 10 parts (omega arith) h.2
+
+pub segments_behind : (bytes : List ℕ) (front : List Part) (b : Body) (back : List Part) → (module_run bytes).parts ≡ front ++ Coded b ∷ back → AreSegments (items_of back)
+segments_behind bytes front b back e = late_are_segments 10 10 back (omega arith) (sorted_behind 0 0 front b back (subst (AreSorted 0 0) e (parts_are_sorted bytes)))
+
+pub bodies_stand_behind : (bytes : List ℕ) (front : List Part) (b : Body) (back : List Part) → (module_run bytes).parts ≡ front ++ Coded b ∷ back → StandBehind (module_run bytes).parts front back
+bodies_stand_behind bytes front b back e =
+    let segments = segments_behind bytes front b back e in
+    let items : items_of (module_run bytes).parts ≡ items_of front ++ items_of back = ap items_of e ∙ items_around front b back in
+    record { segments = segments; same = subst (λ (l : List Item). SayTheSame l (items_of front)) (sym items) (segments_say_nothing (items_of front) (items_of back) segments) }

@@ -1,0 +1,25 @@
+-- What stands behind a body: data segments, and nothing that a body may name (WebAssembly Core 1.0, 5.5.2).
+use Rattle.std.specs.Prelude.{◌≡◌, List, [], ◌∷◌}
+use Rattle.wasm_defs.specs.declared.item.Item.{Item}
+use Rattle.wasm_defs.specs.declared.item.Item.TheVariants.{Segment}
+use Rattle.wasm_defs.specs.Context.{context_of, import_count, declared_count, tables_of, memories_of}
+use Rattle.wasm_defs.specs.Outside.{Part}
+use Rattle.wasm_defs.specs.Faults.{items_of}
+
+abbrev pub AreSegments : List Item → Type 0
+AreSegments [] = Unit {0}
+AreSegments (Segment memory place bytes ∷ xs) = AreSegments xs
+AreSegments (_ ∷ xs) = ⊥
+
+-- all items of a module say the same of its bodies as the first ones
+pub record SayTheSame (all first : List Item) : Type 0 where
+  pub context : context_of all ≡ context_of first
+  pub imports : import_count all ≡ import_count first
+  pub declared : declared_count all ≡ declared_count first
+  pub tables : tables_of all ≡ tables_of first
+  pub memories : memories_of all ≡ memories_of first
+
+-- what stands in front of a body and behind it, in these parts
+pub record StandBehind (parts front back : List Part) : Type 0 where
+  pub segments : AreSegments (items_of back)
+  pub same : SayTheSame (items_of parts) (items_of front)
