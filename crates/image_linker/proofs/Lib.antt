@@ -1,6 +1,6 @@
+pub mod StraightModules
 pub mod Items
 pub mod Placed
 pub mod Arguments
 pub mod Called
 pub mod Modules
-pub mod Sections

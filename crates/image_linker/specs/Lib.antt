@@ -1,4 +1,3 @@
 pub mod ImageOf
 pub mod Same
 pub mod Judging
-pub mod Straight
