@@ -1,15 +1,16 @@
 -- Behind a body stand data segments alone, so that the items before it say all that bodies may name.
-use Rattle.std.proofs.Common.{◌≡◌, ℕ, zero, suc, ◌+◌, ◌≤◌, ◌<◌, List, [], ◌∷◌, ◌++◌, length, max, refl, ap, subst, sym, ◌∙◌, arith}
+use Rattle.std.proofs.Common.{◌≡◌, ℕ, suc, ◌+◌, ◌≤◌, List, [], ◌∷◌, ◌++◌, length, max, refl, ap, subst, sym, ◌∙◌, append_assoc, arith}
 use Rattle.wasm_defs.specs.declared.context.GlobalType.{GlobalType}
 use Rattle.wasm_defs.specs.declared.item.Item.{Item}
 use Rattle.wasm_defs.specs.declared.item.Item.TheVariants.{Signature, Imported, Function, Table, Memory, Global, Segment}
 use Rattle.wasm_defs.specs.declared.item.Limits.{Limits}
 use Rattle.wasm_defs.specs.declared.types.FuncType.{FuncType}
-use Rattle.wasm_defs.specs.Context.{types_of, functions_of, import_count, declared_count, tables_of, memories_of, globals_of, context_of}
-use Rattle.wasm_defs.specs.Faults.{items_of}
+use Rattle.wasm_defs.specs.Context.{types_of, functions_of, import_count, declared_count, tables_of, memories_of, globals_of, context_of, body_context, type_of_function}
+use Rattle.wasm_defs.specs.Faults.{items_of, bodies_of, read_of, context_at, IsValidCode, AreValid, Module, IsModule}
 use Rattle.wasm_defs.specs.Outside.{Body, Part, Section, Listed, Coded, module_run}
+use Rattle.wasm_defs.specs.Trees.{Seq}
 use Rattle.wasm_defs.specs.Typing.{Context}
-use Rattle.wasm_laws.specs.Behind.{AreSegments, SayTheSame, StandBehind}
+use Rattle.wasm_laws.specs.Behind.{AreSegments, SayTheSame, StandBehind, AreValidIn}
 use Rattle.wasm_laws.proofs.Sorted.{AreSorted, parts_are_sorted}
 
 -- ---- segments add nothing
@@ -117,3 +118,42 @@ bodies_stand_behind bytes front b back e =
     let segments = segments_behind bytes front b back e in
     let items : items_of (module_run bytes).parts ≡ items_of front ++ items_of back = ap items_of e ∙ items_around front b back in
     record { segments = segments; same = subst (λ (l : List Item). SayTheSame l (items_of front)) (sym items) (segments_say_nothing (items_of front) (items_of back) segments) }
+
+-- ---- valid bodies
+
+same_context : (all first : List Item) (k : ℕ) (b : Body) → SayTheSame all first → context_at first k b ≡ context_at all k b
+same_context all first k b h = made_at (context_of all) (context_of first) (import_count all) (import_count first) h.context h.imports
+  where
+    made_at : (c d : Context) (m n : ℕ) → c ≡ d → m ≡ n → body_context d (type_of_function d (n + k)) (read_of b).groups ≡ body_context c (type_of_function c (m + k)) (read_of b).groups
+    made_at c d m n e f = rw (e, f) refl
+
+items_with : (front : List Part) (x : Part) → items_of (front ++ x ∷ []) ≡ items_of front ++ items_of (x ∷ [])
+items_with [] x = refl
+items_with (Section at id ∷ front) x = items_with front x
+items_with (Listed y ∷ front) x = ap (λ (l : List Item). y ∷ l) (items_with front x)
+items_with (Coded a ∷ front) x = items_with front x
+
+no_items_more : (xs : List Item) → xs ++ [] ≡ xs
+no_items_more [] = refl
+no_items_more (x ∷ xs) = ap (λ (l : List Item). x ∷ l) (no_items_more xs)
+
+-- the items before a body say the same as all
+valid_in_all : (bytes : List ℕ) (front : List Part) (items : List Item) (k : ℕ) (parts : List Part) (trees : List Seq) → (module_run bytes).parts ≡ front ++ parts → items_of front ≡ items → AreValid items k parts trees → AreValidIn (items_of (module_run bytes).parts) k (bodies_of parts) trees
+valid_in_all bytes front items k [] [] e same h = tt
+valid_in_all bytes front items k [] (tree ∷ trees) e same h = absurd h
+valid_in_all bytes front items k (Section at id ∷ parts) trees e same h =
+    valid_in_all bytes (front ++ Section at id ∷ []) items k parts trees (e ∙ sym (append_assoc front (Section at id ∷ []) parts)) (items_with front (Section at id) ∙ no_items_more (items_of front) ∙ same) h
+valid_in_all bytes front items k (Listed x ∷ parts) trees e same h =
+    valid_in_all bytes (front ++ Listed x ∷ []) (items ++ x ∷ []) k parts trees (e ∙ sym (append_assoc front (Listed x ∷ []) parts)) (items_with front (Listed x) ∙ ap (λ (l : List Item). l ++ x ∷ []) same) h
+valid_in_all bytes front items k (Coded b ∷ parts) [] e same h = absurd h
+valid_in_all bytes front items k (Coded b ∷ parts) (tree ∷ trees) e same h =
+    let all = items_of (module_run bytes).parts in
+    let stands = bodies_stand_behind bytes front b parts e in
+    let here : context_at items k b ≡ context_at all k b = ap (λ (l : List Item). context_at l k b) (sym same) ∙ same_context all (items_of front) k b stands.same in (
+      subst (λ (c : Context). IsValidCode c (read_of b).code tree) here h.0,
+      valid_in_all bytes (front ++ Coded b ∷ []) items (suc k) parts trees (e ∙ sym (append_assoc front (Coded b ∷ []) parts)) (items_with front (Coded b) ∙ no_items_more (items_of front) ∙ same) h.1,
+    )
+
+pub bodies_are_valid : (bytes : List ℕ) (m : Module) → IsModule bytes m → AreValidIn m.items 0 m.bodies m.trees
+bodies_are_valid bytes m is =
+    rw (is.items, is.bodies) (valid_in_all bytes [] [] 0 (module_run bytes).parts m.trees refl refl is.valid)

@@ -1,10 +1,9 @@
 -- Types are small, and exported functions and their types are there.
-use Rattle.std.proofs.Common.{◌≡◌, ℕ, zero, suc, ◌+◌, ◌≤◌, ◌<◌, List, [], ◌∷◌, ◌++◌, length, Option, None, Some, refl, sym, subst, ap, arith, inl, inr}
-use Rattle.std.specs.Prelude.{slice_get, IsSome, All}
+use Rattle.std.proofs.Common.{◌≡◌, ℕ, zero, suc, ◌+◌, ◌≤◌, ◌<◌, List, [], ◌∷◌, ◌++◌, length, Option, None, Some, refl, subst, arith, inl, inr}
+use Rattle.std.specs.Prelude.{slice_get}
 use Rattle.std.specs.Str.{bytes_eq}
 use Rattle.std.proofs.lemmas.Bool.{cases_Bool}
 use Rattle.std.proofs.lemmas.List.Elements.{All-nil, All-append, All-weaker}
-use Rattle.wasm_defs.specs.declared.item.Extern.{Extern}
 use Rattle.wasm_defs.specs.declared.item.Extern.TheVariants as extern
 use Rattle.wasm_defs.specs.declared.item.Item.{Item}
 use Rattle.wasm_defs.specs.declared.item.Item.TheVariants.{Signature, Imported, Function, Exported}
@@ -13,9 +12,9 @@ use Rattle.wasm_defs.specs.Context.{types_of, functions_of, context_of, type_or_
 use Rattle.wasm_defs.specs.Faults.{items_of}
 use Rattle.wasm_defs.specs.Instances.{exports_of, named}
 use Rattle.wasm_defs.specs.Outside.{module_run}
-use Rattle.wasm_defs.specs.Typing.{Context, function_type}
+use Rattle.wasm_defs.specs.Typing.{Context}
 use Rattle.wasm_laws.specs.Kept.{TypeIsSmall, TypesAreSmall, IsThere, AreThere}
-use Rattle.wasm_laws.proofs.Typed.{AreIndexed, AreBelow, own_below, all_below, function_has_type, items_are_indexed}
+use Rattle.wasm_laws.proofs.Typed.{AreIndexed, AreBelow, own_below, function_has_type, items_are_indexed}
 use Rattle.wasm_laws.proofs.Kept.{AreKept, items_are_kept}
 
 -- ---- types

@@ -1,5 +1,5 @@
 -- Straight code lifts the operands by one a token at most, and each token takes a byte.
-use Rattle.std.proofs.Common.{◌≡◌, ℕ, zero, suc, ◌+◌, ◌-◌, ◌≤◌, ◌<◌, Bool, true, false, ◌&&◌, List, [], ◌∷◌, Option, None, Some, length, max, refl, ap, arith}
+use Rattle.std.proofs.Common.{◌≡◌, ℕ, zero, suc, ◌+◌, ◌≤◌, ◌<◌, true, List, [], ◌∷◌, Option, None, Some, length, refl, ap, arith}
 use Rattle.std.specs.Prelude.{slice_get}
 use Rattle.std.proofs.lemmas.Bool.{and_parts}
 use Rattle.wasm_defs.specs.declared.operation.BinaryOp.TheVariants.{Add}
@@ -15,7 +15,7 @@ use Rattle.wasm_defs.specs.Faults.{tokens_of}
 use Rattle.wasm_defs.specs.Fields.{Cursor, Read, Got, Fault, Wants, byte}
 use Rattle.wasm_defs.specs.Places.{Place, after_rule, end_of, places, places_of, higher, greatest}
 use Rattle.wasm_defs.specs.Trees.{Seq, Nothing, Simple, Block, Loop, If, IfElse, spelled, Tree}
-use Rattle.wasm_defs.specs.Typing.{Context, inside, Rule, Untyped, Fixed, with_type, rule_of}
+use Rattle.wasm_defs.specs.Typing.{Context, inside, Fixed, with_type, rule_of}
 use Rattle.wasm_laws.specs.Straight.{is_straight_plain, is_straight}
 use Rattle.wasm_laws.specs.Steadiness.{Advances, LeavesFewer}
 use Rattle.wasm_laws.proofs.Steady.{moves_of, here_in}

@@ -1,12 +1,11 @@
 -- Types keep to their limits, and the functions that exports name are there.
-use Rattle.std.proofs.Common.{◌≡◌, ℕ, zero, suc, ◌+◌, ◌≤◌, ◌<◌, Bool, true, false, cond, eqb, ltb, List, [], ◌∷◌, ◌++◌, length, is_some, refl, sym, subst, ap, arith, inl, inr}
+use Rattle.std.proofs.Common.{◌≡◌, ℕ, zero, suc, ◌+◌, ◌≤◌, ◌<◌, Bool, true, false, cond, eqb, List, [], ◌∷◌, length, is_some, refl, subst, ap, arith, inl, inr}
 use Rattle.std.specs.FinMap as map
 use Rattle.std.proofs.lemmas.Bool.{cases_Bool, cases_lt, lt-ltb, le-ltb}
 use Rattle.wasm_defs.specs.declared.item.Extern.{Extern}
 use Rattle.wasm_defs.specs.declared.item.Extern.TheVariants as extern
 use Rattle.wasm_defs.specs.declared.item.Item.{Item}
 use Rattle.wasm_defs.specs.declared.item.Item.TheVariants.{Signature, Imported, Function, Exported}
-use Rattle.wasm_defs.specs.declared.types.ValType.{ValType}
 use Rattle.wasm_defs.specs.Fields.{Cursor, Read, Got, Fault, Wants, Reader, repeated, byte, u32, count, vector, name}
 use Rattle.wasm_defs.specs.Entries.{Seen, nothing, note, space, index, listed_type, results, signature, imported, function, table, memory, global, extern_kind, exported, start, element, code, segment}
 use Rattle.wasm_defs.specs.Limits.{max_params}
@@ -29,7 +28,7 @@ IsAmong functions _ i = Unit {0}
 
 -- a type keeps to its limits, and an export's function is one of so many
 abbrev pub IsKept : ℕ → Item → Type 0
-IsKept functions (Signature form params results ty) = TypeIsSmall ty
+IsKept functions (Signature form params outs ty) = TypeIsSmall ty
 IsKept functions (Exported label kind index) = IsAmong functions kind.1 index.1
 IsKept functions _ = Unit {0}
 

@@ -1,5 +1,5 @@
 -- Bodies keep to the limits on their bytes and on their locals.
-use Rattle.std.proofs.Common.{◌≡◌, ℕ, zero, suc, ◌+◌, ◌≤◌, ◌<◌, ltb, List, [], ◌∷◌, ◌++◌, replicate, length, arith, length-append, inl, inr}
+use Rattle.std.proofs.Common.{◌≡◌, ℕ, zero, suc, ◌+◌, ◌≤◌, List, [], ◌∷◌, replicate, length, arith, length-append, inl, inr}
 use Rattle.std.proofs.Math.ListN.{length-replicate}
 use Rattle.std.proofs.lemmas.Bool.{cases_lt, lt-ltb, le-ltb}
 use Rattle.wasm_defs.specs.Bodies.{Group, group, groups, local_groups, body_cursor, last_of, read_code, body_read}
@@ -8,8 +8,8 @@ use Rattle.wasm_defs.specs.Entries.{value_type}
 use Rattle.wasm_defs.specs.Faults.{bodies_of}
 use Rattle.wasm_defs.specs.Fields.{Cursor, Read, Got, Fault, Wants, u32}
 use Rattle.wasm_defs.specs.Limits.{max_locals}
-use Rattle.wasm_defs.specs.Outside.{Body, Part, Section, Listed, Coded, module_run}
-use Rattle.wasm_laws.specs.Kept.{LocalsAreFew, BodyIsSmall, BodiesAreSmall}
+use Rattle.wasm_defs.specs.Outside.{Part, Section, Listed, Coded, module_run}
+use Rattle.wasm_laws.specs.Kept.{LocalsAreFew, BodiesAreSmall}
 use Rattle.wasm_laws.specs.Order.{AreOrdered, end_of, first_section}
 use Rattle.wasm_laws.proofs.Order.{parts_in_module}
 use Rattle.wasm_laws.proofs.Parts.{then_got}

@@ -1,15 +1,13 @@
 -- Where only some sections are compiled, a module of them has their items alone.
-use Rattle.std.proofs.Common.{◌≡◌, ℕ, ◌+◌, ◌<◌, Bool, true, false, cond, List, [], ◌∷◌, None, max, refl, subst, ap, sym, ◌∙◌, arith, inl, inr}
+use Rattle.std.proofs.Common.{◌≡◌, ℕ, Bool, true, List, [], ◌∷◌, None, max, refl, subst, sym, inl, inr}
 use Rattle.std.proofs.lemmas.Bool.{cases_Bool}
 use Rattle.wasm_defs.specs.declared.item.Item.{Item}
 use Rattle.wasm_defs.specs.declared.item.Item.TheVariants.{Signature, Imported, Function, Table, Memory, Global, Exported, Start, Element, Code, Segment}
-use Rattle.wasm_defs.specs.Context.{import_count, tables_of, memories_of, globals_of}
 use Rattle.wasm_defs.specs.Faults.{first_outside, sections_of, items_of, Module}
-use Rattle.wasm_defs.specs.Instances.{imports_from, elements_of, segments_of, values_of, start_of, is_linkable}
+use Rattle.wasm_defs.specs.Instances.{is_linkable}
 use Rattle.wasm_defs.specs.Items.{section_of}
 use Rattle.wasm_defs.specs.Outside.{Part, Section, Listed, Coded, module_run}
 use Rattle.wasm_defs.specs.Supported.{is_compiled_section}
-use Rattle.wasm_defs.specs.Typing.{Context}
 use Rattle.wasm_laws.specs.Plain.{is_plain_item, ArePlain, HasNoMore}
 use Rattle.wasm_laws.proofs.Sorted.{AreSorted, parts_are_sorted}
 

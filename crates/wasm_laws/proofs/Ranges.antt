@@ -1,21 +1,23 @@
 -- The immediates of compiled code are in range.
-use Rattle.std.proofs.Common.{◌≡◌, ℕ, zero, suc, ◌+◌, ◌-◌, ◌*◌, ◌^◌, ◌<◌, ◌≤◌, ◌⊎◌, inl, inr, Bool, true, false, List, [], None, ◌∷◌, ◌++◌, refl, sym, subst, ap, ◌∙◌, arith, ℤ, pos, ◌+ℤ◌}
-use Rattle.std.specs.Prelude.{negsuc, ◌*ℤ◌, neg_ℤ, ◌≤ℤ◌, ◌<ℤ◌, FitsSigned}
+use Rattle.std.proofs.Common.{◌≡◌, ℕ, ◌+◌, ◌-◌, ◌*◌, ◌^◌, ◌<◌, ◌≤◌, inl, inr, true, false, List, [], None, ◌∷◌, sym, subst, ap, ◌∙◌, arith, ℤ, pos}
+use Rattle.std.specs.Prelude.{negsuc, neg_ℤ, ◌≤ℤ◌, ◌<ℤ◌, FitsSigned}
 use Rattle.std.specs.Int.{w32}
-use Rattle.std.proofs.lemmas.Bool.{or_cases, eqb-true, cases_lt, lt-ltb, le-ltb}
+use Rattle.std.proofs.lemmas.Bool.{cases_lt, lt-ltb, le-ltb}
 use Rattle.std.proofs.lemmas.Int.{ints}
 use Rattle.std.proofs.lemmas.Nat.{pow_pos, pow-add}
 use Rattle.wasm_defs.proofs.NumberLaws.{AreBytes, reading_small}
 use Rattle.wasm_defs.specs.Numbers.{Reading, Number, CutOff, Bad, last_byte, after_byte, number_at, IsSmall}
 use Rattle.wasm_defs.specs.Faults.{first_outside, tokens_of}
-use Rattle.wasm_defs.specs.Fields.{Cursor, Read, Got, Fault, Wants, nat_of, window, room_of, from_reading, number, u32}
-use Rattle.wasm_defs.specs.Bodies.{with_index, constant, control, variable, numeric, instruction, body_cursor, body_read}
+use Rattle.wasm_defs.specs.Fields.{Cursor, nat_of, window, room_of, from_reading, number, u32}
+use Rattle.wasm_defs.specs.Bodies.{with_index, constant, control, variable, numeric, instruction, body_read}
 use Rattle.wasm_defs.specs.Supported.{is_compiled_opcode}
 use Rattle.wasm_defs.specs.Trees.{Seq, Nothing, Simple, Block, Loop, If, IfElse, spelled, Tree}
 use Rattle.wasm_defs.specs.declared.token.Token.{Token}
+use Rattle.wasm_defs.specs.declared.types.ValType.TheVariants.{I32}
+use Rattle.wasm_defs.specs.Values.{unsigned}
 use Rattle.wasm_defs.specs.declared.token.Token.TheVariants as token
 use Rattle.wasm_laws.specs.Straight.{TokenIsInRange, TokensAreInRange, TreeIsInRange}
-use Rattle.wasm_laws.proofs.Steady.{IfGot, Advance}
+use Rattle.wasm_laws.proofs.Steady.{IfGot}
 use Rattle.wasm_laws.proofs.Windows.{cut_got}
 use Rattle.wasm_laws.proofs.Parts.{then_got}
 use Rattle.wasm_laws.proofs.Spelt.{bytes_behind}
@@ -71,6 +73,11 @@ reading_signed bits (b ∷ bytes) fits =
 fits_signed : (n : ℤ) → neg_ℤ (pos 2147483648) ≤ℤ n → n <ℤ pos 2147483648 → FitsSigned w32 n
 fits_signed (pos n) low high = record { sfits = omega (arith, ints) }
 fits_signed (negsuc n) low high = record { sfits = omega (arith, ints) }
+
+-- its bits are a number of 32 bits
+pub constant_fits : (n : ℤ) → FitsSigned w32 n → unsigned I32 n < 2 ^ 32
+constant_fits (pos n) h = omega (arith, h.sfits)
+constant_fits (negsuc n) h = omega (arith, h.sfits)
 
 -- ---- fields
 

@@ -1,19 +1,18 @@
 -- Items stand in the sections of their sort, in order, and the code section ends with its bodies.
-use Rattle.std.proofs.Common.{◌≡◌, ◌≢◌, ℕ, zero, suc, ◌+◌, ◌≤◌, ◌<◌, ◌⊎◌, Bool, true, false, cond, eqb, leb, ltb, List, [], ◌∷◌, length, take, max, refl, sym, subst, ◌∙◌, arith, add-one, inl, inr}
+use Rattle.std.proofs.Common.{◌≡◌, ◌≢◌, ℕ, zero, suc, ◌+◌, ◌≤◌, ◌<◌, ◌⊎◌, true, false, cond, eqb, leb, ltb, List, [], ◌∷◌, length, take, max, refl, sym, subst, ◌∙◌, arith, add-one, inl, inr}
 use Rattle.std.proofs.lemmas.Bool.{cases_Bool, cases_eq, eqb-true, eqb-false, ne_eqb}
-use Rattle.wasm_defs.specs.declared.fault.Kind.{Kind}
 use Rattle.wasm_defs.specs.declared.item.Item.{Item}
-use Rattle.wasm_defs.specs.declared.item.Item.TheVariants.{Signature, Imported, Function, Table, Memory, Global, Exported, Start, Element, Code, Segment}
-use Rattle.wasm_defs.specs.Fields.{Cursor, Read, Got, Fault, Wants, Reader, done, refused, window, room_of, first_of, byte, u32, here, name}
+use Rattle.wasm_defs.specs.declared.item.Item.TheVariants.{Code}
+use Rattle.wasm_defs.specs.Fields.{Cursor, Read, Got, Fault, Wants, Reader, window, room_of, first_of, byte, u32, here, name}
 use Rattle.wasm_defs.specs.Entries.{Seen, nothing, note, signature, imported, function, table, memory, global, exported, start, element, code, segment}
 use Rattle.wasm_defs.specs.Limits.{max_module}
-use Rattle.wasm_defs.specs.Outside.{Body, Part, Section, Listed, Coded, listed, body, custom_name, entries_of, code_entry, Row, row, is_misplaced, header, entered, noted, inside, section_end, Run, after_part, runs_on, Next, finish, entries, contents, section, owes_code, at_the_end, or_section, sections_up_to, preamble, beginning, module_run}
+use Rattle.wasm_defs.specs.Outside.{Part, Section, Listed, Coded, listed, body, custom_name, entries_of, code_entry, Row, row, is_misplaced, header, entered, noted, inside, section_end, Run, after_part, runs_on, Next, finish, entries, contents, section, owes_code, at_the_end, or_section, sections_up_to, preamble, beginning, module_run}
 use Rattle.wasm_defs.specs.Items.{section_of}
 use Rattle.wasm_laws.proofs.Steady.{IfGot, always}
 use Rattle.wasm_laws.proofs.Windows.{cut_got}
 use Rattle.wasm_laws.proofs.Sorts.{IsItem, IsBody, Yields, yielding, listed_yields, body_yields, notes}
 use Rattle.wasm_laws.proofs.Parts.{then_got, got_both, got_map, either_got}
-use Rattle.wasm_laws.proofs.Headers.{Follows, header_tells, entered_as}
+use Rattle.wasm_laws.proofs.Headers.{Follows, header_tells}
 use Rattle.wasm_laws.proofs.Lasts.{note_counted}
 
 -- parts in a section of that id, behind sections whose ids are up to before: an item stands in a section of its sort, behind

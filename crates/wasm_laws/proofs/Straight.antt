@@ -1,14 +1,10 @@
 -- Code of compiled opcodes is straight, and its immediates are in range.
-use Rattle.std.proofs.Common.{◌≡◌, ℕ, zero, suc, ◌+◌, ◌≤◌, ◌<◌, ◌⊎◌, inl, inr, Bool, true, false, cond, ◌&&◌, List, [], ◌∷◌, Option, None, Some, length, refl, sym, subst, ap, arith}
-use Rattle.std.proofs.lemmas.Bool.{cases_Bool, or_cases, and_from, and_parts, eqb-true}
-use Rattle.wasm_defs.specs.declared.fault.Refusal.{Refusal}
-use Rattle.wasm_defs.specs.declared.token.Plain.{Plain}
+use Rattle.std.proofs.Common.{◌≡◌, ℕ, zero, suc, ◌+◌, inl, inr, true, List, [], ◌∷◌, None, length, refl, sym, subst}
+use Rattle.std.proofs.lemmas.Bool.{or_cases, and_from, and_parts, eqb-true}
 use Rattle.wasm_defs.specs.declared.token.Token.{Token}
 use Rattle.wasm_defs.specs.declared.token.Token.TheVariants as token
-use Rattle.wasm_defs.specs.declared.types.ValType.TheVariants.{I32}
-use Rattle.wasm_defs.specs.declared.token.Plain.TheVariants.{LocalGet}
 use Rattle.wasm_defs.specs.Fields.{Cursor, Read, Got, Fault, Wants, byte, number, u32}
-use Rattle.wasm_defs.specs.Bodies.{Group, local_groups, with_index, constant, control, variable, memory, numeric, instruction, depth_after, Spelled, stops, malformed_at, closed, after_opcode, after_token, goes_on, spelled_from, body_cursor, last_of, read_code, body_read}
+use Rattle.wasm_defs.specs.Bodies.{Group, local_groups, with_index, constant, control, variable, numeric, instruction, depth_after, Spelled, closed, after_token, goes_on, spelled_from, body_cursor, last_of, read_code, body_read}
 use Rattle.wasm_defs.specs.Faults.{first_outside, tokens_of}
 use Rattle.wasm_defs.specs.Supported.{is_compiled_opcode}
 use Rattle.wasm_defs.specs.Trees.{Seq, Nothing, Simple, Block, Loop, If, IfElse, spelled, Tree}

@@ -1,10 +1,11 @@
 -- What stands behind a body: data segments, and nothing that a body may name (WebAssembly Core 1.0, 5.5.2).
-use Rattle.std.specs.Prelude.{◌≡◌, List, [], ◌∷◌}
+use Rattle.std.specs.Prelude.{◌≡◌, ℕ, suc, List, [], ◌∷◌}
 use Rattle.wasm_defs.specs.declared.item.Item.{Item}
 use Rattle.wasm_defs.specs.declared.item.Item.TheVariants.{Segment}
 use Rattle.wasm_defs.specs.Context.{context_of, import_count, declared_count, tables_of, memories_of}
-use Rattle.wasm_defs.specs.Outside.{Part}
-use Rattle.wasm_defs.specs.Faults.{items_of}
+use Rattle.wasm_defs.specs.Outside.{Body, Part}
+use Rattle.wasm_defs.specs.Trees.{Seq}
+use Rattle.wasm_defs.specs.Faults.{items_of, read_of, context_at, IsValidCode}
 
 abbrev pub AreSegments : List Item → Type 0
 AreSegments [] = Unit {0}
@@ -23,3 +24,10 @@ pub record SayTheSame (all first : List Item) : Type 0 where
 pub record StandBehind (parts front back : List Part) : Type 0 where
   pub segments : AreSegments (items_of back)
   pub same : SayTheSame (items_of parts) (items_of front)
+
+-- the bodies, of which the first is the k-th, are valid in the context of these items, with these trees
+abbrev pub AreValidIn : List Item → ℕ → List Body → List Seq → Type 0
+AreValidIn items k [] [] = Unit {0}
+AreValidIn items k [] (tree ∷ trees) = ⊥
+AreValidIn items k (b ∷ bodies) [] = ⊥
+AreValidIn items k (b ∷ bodies) (tree ∷ trees) = IsValidCode (context_at items k b) (read_of b).code tree × AreValidIn items (suc k) bodies trees

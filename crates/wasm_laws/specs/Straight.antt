@@ -1,5 +1,5 @@
 -- The code that is compiled so far: straight runs of `local.get`, `i32.const` and `i32.add` (WebAssembly Core 1.0, 2.4).
-use Rattle.std.specs.Prelude.{◌<◌, ◌^◌, ℤ, Bool, true, false, ◌&&◌, List, [], ◌∷◌, FitsSigned}
+use Rattle.std.specs.Prelude.{◌<◌, ◌^◌, Bool, true, false, ◌&&◌, List, [], ◌∷◌, FitsSigned}
 use Rattle.std.specs.Int.{w32}
 use Rattle.wasm_defs.specs.declared.types.ValType.TheVariants.{I32}
 use Rattle.wasm_defs.specs.declared.operation.BinaryOp.TheVariants.{Add}

@@ -4,7 +4,7 @@ ghost use Rattle.std.specs.Prelude.{◌≡◌, ◌≤◌, ◌<◌, ℕ, length, 
 ghost use Rattle.wasm_defs.specs.Bodies.{body_read, instruction, last_of, local_groups};
 ghost use Rattle.wasm_defs.specs.Context.{context_of, declared_count, functions_of, types_of};
 ghost use Rattle.wasm_defs.specs.Entries.{Seen};
-ghost use Rattle.wasm_defs.specs.Faults.{bodies_of, ending_fault, first_outside, items_of, Module, sections_of, tokens_of};
+ghost use Rattle.wasm_defs.specs.Faults.{bodies_of, ending_fault, first_outside, IsModule, items_of, Module, sections_of, tokens_of};
 ghost use Rattle.wasm_defs.specs.Instances.{exports_of, is_linkable, named};
 ghost use Rattle.wasm_defs.specs.Outside.{Body, Coded, header, module_run, Part, preamble, row, Section, section_end, Whole};
 ghost use Rattle.wasm_defs.specs.Places.{greatest, places_of};
@@ -14,7 +14,7 @@ ghost use Rattle.wasm_defs.specs.Typing.{Context};
 ghost use Rattle.wasm_defs.specs.declared.fault.Refusal.{Refusal};
 ghost use Rattle.wasm_defs.specs.declared.item.Item.{Item};
 ghost use Rattle.wasm_defs.specs.declared.token.Token.{Token};
-ghost use Rattle.wasm_laws.specs.Behind.{StandBehind};
+ghost use Rattle.wasm_laws.specs.Behind.{AreValidIn, StandBehind};
 ghost use Rattle.wasm_laws.specs.BodyOrder.{IsSpelledIn};
 ghost use Rattle.wasm_laws.specs.Counts.{AreDeclared};
 ghost use Rattle.wasm_laws.specs.Kept.{AreThere, BodiesAreSmall, IsThere, LocalsAreFew, TypesAreSmall};
@@ -102,11 +102,13 @@ pub fn functions_have_types()
 {}
 
 /// Behind a body no section comes but that of data segments (Core 5.5.2), so that the items before it say all that a body may
-/// name: the context of bodies, and the module's functions, tables and memories.
+/// name: the context of bodies, and the module's functions, tables and memories. So a module's bodies are valid in the context
+/// of all its items.
 pub fn bodies_stand_behind_items()
-    ensures { (bytes : List ℕ) (front : List Part) (b : Body) (back : List Part) →
+    ensures behind { (bytes : List ℕ) (front : List Part) (b : Body) (back : List Part) →
         let run = module_run bytes in
         run.parts ≡ front ++ Coded b ∷ back → StandBehind run.parts front back }
+    ensures valid { (bytes : List ℕ) (m : Module) → IsModule bytes m → AreValidIn m.items 0 m.bodies m.trees }
 {}
 
 /// A module of the sections that are compiled so far has no items but types, functions, exports and the code section's count:
