@@ -1,36 +1,36 @@
 -- A module of what is compiled so far behaves as its image does.
-use Rattle.std.proofs.Common.{◌≡◌, ℕ, ◌+◌, ◌*◌, ◌^◌, ◌<◌, ◌≤◌, ◌&&◌, true, List, [], ◌∷◌, ◌++◌, map, length, replicate, Option, Some, None, refl, sym, ap, ◌∙◌, subst, arith}
-use Rattle.std.specs.Prelude.{not, ◌==◌, slice_get, slice_index, option_map}
+use Rattle.std.proofs.Common.{◌≡◌, ℕ, ◌+◌, ◌*◌, ◌^◌, ◌<◌, ◌≤◌, true, List, [], ◌++◌, map, length, replicate, Option, Some, None, refl, sym, ap, ◌∙◌, subst, arith}
+use Rattle.std.specs.Prelude.{slice_get, slice_index, option_map}
 use Rattle.std.proofs.lemmas.Bool.{cond-true, eq-eqb}
 use Rattle.std.proofs.lemmas.Option.{slice_get-map}
 use Rattle.rv_isa.specs.Words.{word_of}
 use Rattle.rv_isa.specs.Steps.{code_of}
 use Rattle.wasm_defs.specs.declared.types.FuncType.{FuncType}
-use Rattle.wasm_defs.specs.declared.types.ValType.{ValType}
 use Rattle.wasm_defs.specs.Memory.{page}
 use Rattle.wasm_defs.specs.Context.{context_of, import_count, type_of_function}
 use Rattle.wasm_defs.specs.Faults.{context_at, Module}
 use Rattle.wasm_defs.specs.Values.{Value, words_of}
 use Rattle.wasm_defs.specs.Host.{Reply, are_of}
-use Rattle.wasm_defs.specs.Configurations.{Func, Function, Declared, Outside, Invocation}
+use Rattle.wasm_defs.specs.Configurations.{Func, Function, Declared, Invocation}
 use Rattle.wasm_defs.specs.Reductions.{run}
 use Rattle.wasm_defs.specs.ModuleRun.{first_state, module_run}
 use Rattle.wasm_defs.specs.ModuleRun as module_run
-use Rattle.wasm_defs.specs.Instances.{Written, rows_of, pages_of, values_of, elements_of, segments_of, all_fit, all_over, is_linkable, instance_of, store_of, start_of, function_of, declared_functions, functions_of, exports_of, named}
+use Rattle.wasm_defs.specs.Instances.{Written, rows_of, pages_of, all_over, is_linkable, instance_of, store_of, start_of, function_of, declared_functions, functions_of}
 use Rattle.wasm_laws.specs.Plain.{HasNoMore}
 use Rattle.wasm_laws.proofs.Plain.{plain_has_no_more, plain_is_linkable}
 use Rattle.frame_layout.specs.Templates.{exit_stub}
-use Rattle.image_format.specs.Environment.{Entry}
 use Rattle.image_format.specs.ImageRun.{Running, begin, first_running, steps, image_run}
 use Rattle.image_format.specs.ImageRun as image_run
 use Rattle.simulation.specs.SameRuns.{SameRuns}
 use Rattle.simulation.specs.Straight.{IsStraightFunction}
 use Rattle.simulation.proofs.Functions.{straight_functions_run_alike}
 use Rattle.image_linker.specs.ImageOf.{around, layout_of, distances, stub_places, places_from, front_size, places_of_functions, offset_of, row_of, table_of, segment_of, placed_segments, start_offset, text_of, image_of}
+use Rattle.image_linker.specs.Laws.{ImagesBehaveAlike}
 use Rattle.image_linker.specs.Same.{Same}
 use Rattle.image_linker.proofs.StraightModules.{IsStraightModule}
+use Rattle.image_linker.proofs.StraightFacts.{module_is_straight}
 use Rattle.image_linker.proofs.Items.{no_rows, no_pages, no_cap}
-use Rattle.image_linker.proofs.Placed.{Placed, code_is_short, exit_stands, function_stands}
+use Rattle.image_linker.proofs.Placed.{Placed, code_is_short, text_length, exit_stands, function_stands}
 use Rattle.image_linker.proofs.Called.{IsBare, IsEmpty, is_called}
 
 module _ (m : Module) (good : IsStraightModule m) (short : length (text_of m) ≤ 2 ^ 26) where
@@ -130,3 +130,8 @@ straight_modules_behave_alike m good short = record {
   unlinkable = refl;
   runs = λ can_link name f arguments replies is are. function_runs_alike m good short f (good.exports name f is) arguments replies are;
 }
+
+pub images_behave_alike : ImagesBehaveAlike
+images_behave_alike bytes m fits is =
+    let good = module_is_straight bytes m fits is.is in
+    straight_modules_behave_alike m good (let keeps = is.fits in omega (arith, text_length m good))

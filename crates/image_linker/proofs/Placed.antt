@@ -12,7 +12,6 @@ use Rattle.wasm_defs.specs.Outside.{Body}
 use Rattle.wasm_defs.specs.Trees.{Seq}
 use Rattle.wasm_defs.specs.Context.{context_of, import_count}
 use Rattle.wasm_defs.specs.Faults.{context_at, Module}
-use Rattle.wasm_defs.specs.Configurations.{Func}
 use Rattle.wasm_defs.specs.Instances.{function_of, declared_from}
 use Rattle.wasm_laws.proofs.Plain.{plain_has_no_more}
 use Rattle.frame_layout.specs.Templates.{exit_stub}
@@ -94,7 +93,6 @@ text_length m good =
     let no_count : stub_size * import_count m.items ≡ 0 = ap (λ (n : ℕ). stub_size * n) (plain_has_no_more m.items good.items).imports in
     let counted = functions_length m.items (places_of_functions m) (front_size m.items) 0 m.bodies m.trees good.bodies in
     length-append exit_stub (stubs ++ functions) ∙ omega (arith, length-append stubs functions, none, no_count, counted)
-
 
 module _ (m : Module) (good : IsStraightModule m) where
   abbrev pub code : List (Option Op)

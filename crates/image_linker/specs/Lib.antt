@@ -1,3 +1,4 @@
 pub mod ImageOf
 pub mod Same
 pub mod Judging
+pub mod Laws
