@@ -1,5 +1,8 @@
 pub mod Numbers
-pub mod Commands
-pub mod Readings
+pub mod Rows
+pub mod Walks
+pub mod ArgumentWords
 pub mod Passing
-pub mod Arguments
+pub mod Readings
+pub mod Commands
+pub mod FoundWords

@@ -1,19 +1,25 @@
 -- The grammar of the program's words, over clap's model of simple commands: what a parse makes of the words
 -- (`subcommand_of`), and the faults that it finds in them (`fault_of`).
-use Rattle.std.specs.Prelude.{◌≡◌, ◌≢◌, ◌&&◌, nat_le, ℕ, true, List, [], ◌∷◌, Option, None, Some, Result, Ok, Err, codes, if◌then◌else◌, option_map, option_and_then}
+use Rattle.std.specs.Prelude.{◌≡◌, ◌≢◌, ◌⊎◌, ◌&&◌, ◌≤◌, nat_le, ℕ, true, Any, List, [], ◌∷◌, Option, None, Some, Result, Ok, Err, codes, if◌then◌else◌, option_map, option_and_then, unwrap_or}
 use Rattle.std.specs.Str.{bytes_eq}
 use Rattle.std.specs.Str.Parse.{digits_value, without_leading_plus}
-use Rattle.clap.specs.Walk.{Row, Rule, Text, one_of}
+use Rattle.clap.specs.Walk.{Row, Rule, Text, all_of, first_of, one_of}
 use Rattle.clap.specs.Simple.{App, new_app, new_rule, on_top, subcommand_of, with_rule, with_subcommand}
 use Rattle.clap.specs.ValueTests.{is_unsigned_in}
 use Rattle.clap.specs.Kinds.{Kinds}
 use Rattle.clap.specs.Faults.{fault_of}
+use Rattle.clap.specs.declared.builder.action.ArgAction.TheVariants.{Append}
 use Rattle.clap.specs.declared.builder.value_parser.ValueParser.TheVariants as parser
+use Rattle.command_words.specs.Arguments.{IsArgument, arguments_in}
+use Rattle.command_words.specs.declared.argument.Argument.{Argument}
 use Rattle.command_words.specs.declared.command.Command.{Command}
-use Rattle.command_words.specs.declared.command.Command.TheVariants.{Check}
+use Rattle.command_words.specs.declared.command.Command.TheVariants as command
 use Rattle.command_words.specs.declared.command.Options.{Options}
+use Rattle.command_words.specs.declared.command.Run.{Run}
 use Rattle.command_words.specs.declared.command.WordsStop.{WordsStop}
 use Rattle.command_words.specs.declared.command.WordsStop.TheVariants.{Outside, NoMemory}
+
+-- ---- what may be said
 
 -- `--name N`, once at most, for a number from `least` to `most`
 abbrev pub number_option : Text → Text → ℕ → ℕ → Rule
@@ -29,16 +35,36 @@ workers = number_option (codes "workers") (codes "4") 0 64
 abbrev pub batch : Rule
 batch = number_option (codes "batch") (codes "4096") 1 1048576
 
+abbrev pub steps : Rule
+steps = number_option (codes "steps") (codes "100000000") 0 1000000000000
+
+-- EXPORT: one word
+abbrev pub export : Rule
+export = record (new_rule (codes "export")) { required = true }
+
+-- ARGS: any number of words
+abbrev pub arguments : Rule
+arguments = record (new_rule (codes "arguments")) { action = Some Append }
+
+-- the options of each command
+abbrev pub with_options : App → App
+with_options a = with_rule (with_rule a workers) batch
+
 abbrev pub check : App
-check = with_rule (with_rule (new_app (codes "check")) workers) batch
+check = with_options (new_app (codes "check"))
+
+abbrev pub run : App
+run = with_rule (with_options (with_rule (with_rule (new_app (codes "run")) export) arguments)) steps
 
 -- the program: a subcommand is wanted, and no word asks for help
 abbrev pub program : App
-program = with_subcommand (on_top (λ s. record s {
+program = with_subcommand (with_subcommand (on_top (λ s. record s {
   disable_help_flag = true;
   disable_help_subcommand = true;
   subcommand_required = true;
-}) (new_app (codes "wstream"))) check.top
+}) (new_app (codes "wstream"))) check.top) run.top
+
+-- ---- what is read of it
 
 abbrev pub in_range : ℕ → ℕ → ℕ → Option ℕ
 in_range least most n = if nat_le least n && nat_le n most then Some n else None
@@ -56,8 +82,21 @@ abbrev pub options_in : List Row → Option Options
 options_in rows = options_of (option_and_then (number_in 0 64) (one_of (codes "workers") rows))
     (option_and_then (number_in 1 1048576) (one_of (codes "batch") rows))
 
+abbrev pub run_of : Option Text → Option (List Argument) → Option Options → Option ℕ → Option Run
+run_of (Some e) (Some l) (Some o) (Some n) = Some (record { export = e; arguments = l; options = o; steps = n })
+run_of _ _ _ _ = None
+
+-- the words that were found for ARGS
+abbrev pub argument_words : List Row → List Text
+argument_words rows = unwrap_or (all_of (codes "arguments") rows) []
+
+abbrev pub run_in : List Row → Option Run
+run_in rows = run_of (first_of (codes "export") rows) (arguments_in (argument_words rows)) (options_in rows)
+    (option_and_then (number_in 0 1000000000000) (one_of (codes "steps") rows))
+
 abbrev pub command_named : Text × List Row → Option Command
-command_named p = if bytes_eq p.0 (codes "check") then option_map Check (options_in p.1) else None
+command_named p = if bytes_eq p.0 (codes "check") then option_map command.Check (options_in p.1)
+    else (if bytes_eq p.0 (codes "run") then option_map command.Run (run_in p.1) else None)
 
 -- the command that clap's model reads, where it finds no fault
 abbrev pub command_without : Kinds → Option (Text × List Row) → Option Command
@@ -67,15 +106,39 @@ command_without (fault ∷ faults) named = None
 abbrev pub command_in : List Text → Option Command
 command_in words = command_without (fault_of program words) (subcommand_of program words)
 
+-- ---- what the words are
+
 abbrev pub IsCommand : List Text → Command → Type 0
 IsCommand words c = command_in words ≡ Some c
 
--- clap's model finds a fault
+abbrev pub AreInRange : Options → Type 0
+AreInRange o = (o.workers ≤ 64) × (1 ≤ o.batch) × (o.batch ≤ 1048576)
+
+-- the numbers of the command are in their ranges
+abbrev pub IsInRange : Command → Type 0
+IsInRange (command.Check o) = AreInRange o
+IsInRange (command.Run r) = AreInRange r.options × (r.steps ≤ 1000000000000)
+
+-- the words of ARGS, where the subcommand is `run`
+abbrev pub run_words : Option (Text × List Row) → List Text
+run_words None = []
+run_words (Some p) = if bytes_eq p.0 (codes "run") then argument_words p.1 else []
+
+abbrev pub IsNoArgument : Text → Type 0
+IsNoArgument word = (a : Argument) → IsArgument word a → ⊥
+
+-- clap's model finds a fault, or a word of ARGS is no argument
 abbrev pub IsOutside : List Text → Type 0
-IsOutside words = fault_of program words ≢ []
+IsOutside words = (fault_of program words ≢ []) ⊎ Any IsNoArgument (run_words (subcommand_of program words))
 
 -- the command, or why there is none; memory may run out at any words
 abbrev pub Reads : List Text → Result Command WordsStop → Type 0
 Reads words (Ok c) = IsCommand words c
 Reads words (Err Outside) = IsOutside words
 Reads words (Err NoMemory) = Unit {0}
+
+-- the value, or that there is none; memory may run out
+abbrev pub Gives : {X : Type 0} → Option X → Result X WordsStop → Type 0
+Gives value (Ok x) = value ≡ Some x
+Gives value (Err Outside) = value ≡ None
+Gives value (Err NoMemory) = Unit {0}

@@ -2,7 +2,7 @@
 
 ghost use mir.Syntax.{w32, w64};
 ghost use Rattle.std.specs.Prelude.{◌≡◌};
-ghost use Rattle.command_words.specs.Arguments.{ReadsArgument, ReadsNumber, is_plain};
+ghost use Rattle.command_words.specs.Arguments.{ReadsArgument, ReadsNumber, argument_in, is_plain};
 
 /// An argument of a function.
 #[derive(Clone, Copy, Debug, PartialEq, Eq)]
@@ -51,7 +51,8 @@ fn i64_of(text: &str) -> Option<i64>
 ///
 /// `None` for any other word.
 pub fn argument_of(word: &str) -> Option<Argument>
-    ensures { ReadsArgument word.now result }
+    ensures reads { ReadsArgument word.now result }
+    ensures value { result ≡ argument_in word.now }
 {
     if let Some(text) = word.strip_prefix("i32:") {
         i32_of(text).map(Argument::I32)

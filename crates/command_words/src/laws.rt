@@ -1,25 +1,28 @@
 //! What the grammar says of any words.
 
-ghost use Rattle.std.specs.Prelude.{◌≡◌, ◌⊎◌, ◌≤◌, ℕ, List};
+ghost use Rattle.std.specs.Prelude.{◌≡◌, ◌⊎◌, ◌↔◌, ℕ, List, Some};
 ghost use Rattle.clap.specs.Walk.{Text};
-ghost use Rattle.command_words.specs.Arguments.{IsArgument};
-ghost use Rattle.command_words.specs.Grammar.{IsCommand, IsOutside};
+ghost use Rattle.clap.specs.Simple.{subcommand_of};
+ghost use Rattle.command_words.specs.Arguments.{AreArguments, IsArgument, argument_in};
+ghost use Rattle.command_words.specs.Grammar.{IsCommand, IsInRange, IsOutside, program, run_words};
 ghost use Rattle.command_words.specs.declared.argument.Argument.{Argument as Value};
 ghost use Rattle.command_words.specs.declared.command.Command.{Command as Named};
-ghost use Rattle.command_words.specs.declared.command.Command.TheVariants.{Check};
-ghost use Rattle.command_words.specs.declared.command.Options.{Options};
+ghost use Rattle.command_words.specs.declared.command.Command.TheVariants as command;
+ghost use Rattle.command_words.specs.declared.command.Run.{Run};
 
-/// Any words are a command or outside the grammar, and not both; a command that they give is one, with options in their
-/// ranges.
+/// Any words are a command or outside the grammar, and not both; a command that they give is one, its numbers are in their
+/// ranges, and the arguments of a call are those that its words say.
 pub fn commands_are_one()
     ensures total { (words : List Text) → ((c : Named) × IsCommand words c) ⊎ IsOutside words }
     ensures apart { (words : List Text) (c : Named) → IsCommand words c → IsOutside words → ⊥ }
     ensures one { (words : List Text) (a b : Named) → IsCommand words a → IsCommand words b → a ≡ b }
-    ensures ranges { (words : List Text) (o : Options) → IsCommand words (Check o)
-        → (o.workers ≤ 64) × (1 ≤ o.batch) × (o.batch ≤ 1048576) }
+    ensures ranges { (words : List Text) (c : Named) → IsCommand words c → IsInRange c }
+    ensures arguments { (words : List Text) (r : Run) → IsCommand words (command.Run r)
+        → AreArguments (run_words (subcommand_of program words)) r.arguments }
 {}
 
-/// A word is at most one argument.
+/// A word is at most one argument, and `argument_in` computes which.
 pub fn arguments_are_one()
-    ensures { (word : List ℕ) (a b : Value) → IsArgument word a → IsArgument word b → a ≡ b }
+    ensures one { (word : List ℕ) (a b : Value) → IsArgument word a → IsArgument word b → a ≡ b }
+    ensures computed { (word : List ℕ) (a : Value) → (argument_in word ≡ Some a) ↔ IsArgument word a }
 {}

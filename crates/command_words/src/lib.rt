@@ -4,10 +4,15 @@
 mod argument;
 mod command;
 mod laws;
+mod lists;
+mod parser;
+mod reading;
 
 pub use argument::{Argument, argument_of};
-pub use command::{Command, Options, WordsStop, command_of};
+pub use command::{Command, Options, Run, WordsStop};
 pub use laws::{arguments_are_one, commands_are_one};
+pub use lists::{Arguments, Export};
+pub use reading::command_of;
 
 #[cfg(test)]
 mod tests;

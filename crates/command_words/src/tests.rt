@@ -1,6 +1,6 @@
 //! Words and what they mean, worked out by hand.
 
-use crate::{Argument, Command, Options, WordsStop, argument_of, command_of};
+use crate::{Argument, Arguments, Command, Export, Options, WordsStop, argument_of, command_of};
 use std::alloc::Global;
 use std::test::Fail;
 
@@ -10,6 +10,34 @@ fn read(alloc: Global, line: &[&str]) -> Result<Result<Command, WordsStop>, Fail
         words.push(String::from_str(alloc, word)?)?;
     }
     Ok(command_of(alloc, &words))
+}
+
+fn is_check(found: &Result<Command, WordsStop>, wanted: Options) -> bool {
+    match found {
+        Ok(Command::Check(options)) => *options == wanted,
+        _ => false,
+    }
+}
+
+/// A call that words ask for.
+#[derive(Drop)]
+struct Call<'a> {
+    export: &'a str,
+    arguments: &'a [Argument],
+    workers: u64,
+    batch: u64,
+    steps: u64,
+}
+
+fn is_run(found: &Result<Command, WordsStop>, wanted: &Call<'_>) -> bool {
+    let Ok(Command::Run(run)) = found else {
+        return false;
+    };
+    run.export.as_str() == wanted.export
+        && run.arguments.as_slice() == wanted.arguments
+        && run.options.workers == wanted.workers
+        && run.options.batch == wanted.batch
+        && run.steps == wanted.steps
 }
 
 #[test]
@@ -25,15 +53,227 @@ fn options_have_their_numbers(rt: HostRuntime) -> Result<(), Fail> {
         (&["wstream", "check", "--"], 4, 4096),
     ];
     for (line, workers, batch) in rows {
-        let wanted = Ok(Command::Check(Options { workers, batch }));
-        assert!(rt; read(rt.alloc(), line)? == wanted);
+        assert!(rt; is_check(&read(rt.alloc(), line)?, Options { workers, batch }));
     }
     Ok(())
 }
 
 #[test]
+fn a_call_has_its_words(rt: HostRuntime) -> Result<(), Fail> {
+    let rows: [(&[&str], &str, &[Argument]); 16] = [
+        (
+            &["wstream", "run", "add", "i32:2", "i32:3"],
+            "add",
+            &[Argument::I32(2), Argument::I32(3)],
+        ),
+        (&["wstream", "run", "add"], "add", &[]),
+        (
+            &["wstream", "run", "add", "i64:-7"],
+            "add",
+            &[Argument::I64(-7)],
+        ),
+        (
+            &["wstream", "run", "add", "--", "i32:1"],
+            "add",
+            &[Argument::I32(1)],
+        ),
+        (
+            &["wstream", "run", "--", "add", "i32:1"],
+            "add",
+            &[Argument::I32(1)],
+        ),
+        (
+            &["wstream", "run", "add", "i32:1", "--"],
+            "add",
+            &[Argument::I32(1)],
+        ),
+        (&["wstream", "run", "--", "--x"], "--x", &[]),
+        (
+            &["wstream", "run", "--", "-h", "i32:1"],
+            "-h",
+            &[Argument::I32(1)],
+        ),
+        (&["wstream", "run", "--", "--steps=1"], "--steps=1", &[]),
+        (&["wstream", "run", "--", "--"], "--", &[]),
+        (&["wstream", "run", "-"], "-", &[]),
+        (&["wstream", "run", ""], "", &[]),
+        (&["wstream", "run", "größe→λ"], "größe→λ", &[]),
+        (&["wstream", "run", "two words"], "two words", &[]),
+        (&["wstream", "run", "help"], "help", &[]),
+        (
+            &["wstream", "run", "i32:5", "i32:5"],
+            "i32:5",
+            &[Argument::I32(5)],
+        ),
+    ];
+    for (line, export, arguments) in rows {
+        let wanted = Call {
+            export,
+            arguments,
+            workers: 4,
+            batch: 4096,
+            steps: 100_000_000,
+        };
+        assert!(rt; is_run(&read(rt.alloc(), line)?, &wanted));
+    }
+    Ok(())
+}
+
+#[test]
+fn a_call_has_its_options(rt: HostRuntime) -> Result<(), Fail> {
+    let rows: [(&[&str], u64, u64, u64); 11] = [
+        (
+            &[
+                "w",
+                "run",
+                "--workers",
+                "8",
+                "--batch=16",
+                "--steps",
+                "7",
+                "f",
+                "i32:1",
+                "i32:2",
+            ],
+            8,
+            16,
+            7,
+        ),
+        (
+            &[
+                "w",
+                "run",
+                "f",
+                "--workers=8",
+                "i32:1",
+                "--batch",
+                "16",
+                "i32:2",
+                "--steps=7",
+            ],
+            8,
+            16,
+            7,
+        ),
+        (
+            &[
+                "w",
+                "run",
+                "f",
+                "i32:1",
+                "i32:2",
+                "--steps",
+                "7",
+                "--batch",
+                "16",
+                "--workers",
+                "8",
+            ],
+            8,
+            16,
+            7,
+        ),
+        (
+            &["w", "run", "f", "i32:1", "--steps", "7", "--", "i32:2"],
+            4,
+            4096,
+            7,
+        ),
+        (
+            &["w", "run", "f", "i32:1", "i32:2", "--steps=0"],
+            4,
+            4096,
+            0,
+        ),
+        (
+            &[
+                "w",
+                "run",
+                "f",
+                "i32:1",
+                "i32:2",
+                "--steps",
+                "1000000000000",
+            ],
+            4,
+            4096,
+            1_000_000_000_000,
+        ),
+        (
+            &["w", "run", "f", "i32:1", "i32:2", "--steps", "+007"],
+            4,
+            4096,
+            7,
+        ),
+        (
+            &["w", "run", "f", "i32:1", "i32:2", "--workers", "0"],
+            0,
+            4096,
+            100_000_000,
+        ),
+        (
+            &["w", "run", "f", "i32:1", "i32:2", "--workers", "64"],
+            64,
+            4096,
+            100_000_000,
+        ),
+        (
+            &["w", "run", "f", "i32:1", "i32:2", "--batch=1"],
+            4,
+            1,
+            100_000_000,
+        ),
+        (
+            &["w", "run", "f", "i32:1", "i32:2", "--batch=1048576"],
+            4,
+            1_048_576,
+            100_000_000,
+        ),
+    ];
+    for (line, workers, batch, steps) in rows {
+        let wanted = Call {
+            export: "f",
+            arguments: &[Argument::I32(1), Argument::I32(2)],
+            workers,
+            batch,
+            steps,
+        };
+        assert!(rt; is_run(&read(rt.alloc(), line)?, &wanted));
+    }
+    Ok(())
+}
+
+#[test]
+fn a_call_has_many_arguments(rt: HostRuntime) -> Result<(), Fail> {
+    let mut words: Vec<String> = Vec::new(rt.alloc());
+    let mut wanted: Vec<Argument> = Vec::new(rt.alloc());
+    for word in ["wstream", "run", "sum"] {
+        words.push(String::from_str(rt.alloc(), word)?)?;
+    }
+    for i in 0..1000u16 {
+        words.push(format!(in rt.alloc(); "i64:-{i}")?)?;
+        wanted.push(Argument::I64(-i64::from(i)))?;
+    }
+    let Ok(Command::Run(run)) = command_of(rt.alloc(), &words) else {
+        return Err(Fail::from("no call"));
+    };
+    assert!(rt; run.arguments.into_vec().as_slice() == wanted.as_slice());
+    assert!(rt; run.export.into_string().as_str() == "sum");
+    Ok(())
+}
+
+#[test]
+fn lists_give_back_what_they_hold(rt: HostRuntime) -> Result<(), Fail> {
+    let arguments = Arguments::new(vec![in rt.alloc(); Argument::I32(1), Argument::I64(2)]?);
+    assert!(rt; arguments.as_slice() == [Argument::I32(1), Argument::I64(2)].as_slice());
+    let export = Export::new(String::from_str(rt.alloc(), "add")?);
+    assert!(rt; export.as_str() == "add");
+    Ok(())
+}
+
+#[test]
 fn other_words_are_outside(rt: HostRuntime) -> Result<(), Fail> {
-    let rows: [&[&str]; 24] = [
+    let rows: [&[&str]; 56] = [
         &[],
         &["wstream"],
         &["check"],
@@ -44,6 +284,7 @@ fn other_words_are_outside(rt: HostRuntime) -> Result<(), Fail> {
         &["wstream", "--help"],
         &["wstream", "-h"],
         &["wstream", "help", "check"],
+        &["wstream", "help", "run"],
         &["wstream", "check", "--help"],
         &["wstream", "check", "-h"],
         &["wstream", "check", "help"],
@@ -56,11 +297,42 @@ fn other_words_are_outside(rt: HostRuntime) -> Result<(), Fail> {
         &["wstream", "check", "--batch", "1048577"],
         &["wstream", "check", "--workers", "1", "--workers", "2"],
         &["wstream", "check", "--jobs", "1"],
+        &["wstream", "check", "--steps", "1"],
         &["wstream", "check", "x"],
+        &["wstream", "check", "i32:1"],
         &["wstream", "check", "--", "x"],
+        &["wstream", "run"],
+        &["wstream", "Run", "add"],
+        &["wstream", "run", "--"],
+        &["wstream", "run", "--steps=1"],
+        &["wstream", "--", "run", "add"],
+        &["wstream", "--steps", "1", "run", "add"],
+        &["wstream", "run", "--x"],
+        &["wstream", "run", "--help"],
+        &["wstream", "run", "-h"],
+        &["wstream", "run", "add", "--help"],
+        &["wstream", "run", "add", "-h"],
+        &["wstream", "run", "add", "-5"],
+        &["wstream", "run", "add", "i32:x"],
+        &["wstream", "run", "add", "i32:1", "x", "i32:2"],
+        &["wstream", "run", "add", "i32:2147483648"],
+        &["wstream", "run", "add", "5"],
+        &["wstream", "run", "add", ""],
+        &["wstream", "run", "add", "--", "--steps=1"],
+        &["wstream", "run", "add", "--steps", "1000000000001"],
+        &["wstream", "run", "add", "--steps=1", "--steps=2"],
+        &["wstream", "run", "--steps=1", "add", "--steps=1"],
+        &["wstream", "run", "add", "--steps", "-1"],
+        &["wstream", "run", "add", "--steps=-1"],
+        &["wstream", "run", "add", "--steps="],
+        &["wstream", "run", "add", "--steps"],
+        &["wstream", "run", "add", "--workers", "65"],
+        &["wstream", "run", "add", "--batch=0"],
+        &["wstream", "run", "add", "--batch=1048577"],
+        &["wstream", "run", "--workers=1", "--workers=1", "add"],
     ];
     for line in rows {
-        assert!(rt; read(rt.alloc(), line)? == Err(WordsStop::Outside));
+        assert!(rt; matches!(read(rt.alloc(), line)?, Err(WordsStop::Outside)));
     }
     Ok(())
 }

@@ -1,3 +1,5 @@
+pub mod Linked
+pub mod Loops
 pub mod StraightModules
 pub mod Items
 pub mod Placed

@@ -3,14 +3,11 @@ use Rattle.std.specs.Prelude.{◌≡◌, ◌<◌, ◌≤◌, ◌⊎◌, ℕ, suc
 use Rattle.wasm_defs.specs.declared.fault.Kind.TheVariants.{Limit}
 use Rattle.wasm_defs.specs.declared.fault.Refusal.{Refusal}
 use Rattle.wasm_defs.specs.declared.item.Item.{Item}
+use Rattle.wasm_defs.specs.Limits.{max_text}
 use Rattle.wasm_defs.specs.Outside.{Part, Section, Listed, Coded, Body, module_run}
 use Rattle.wasm_defs.specs.Trees.{Seq}
 use Rattle.wasm_defs.specs.Faults.{IsFault, IsValidCode, read_of, context_at, Module, IsModule, Verdict, Accepted, Rejected}
 use Rattle.image_linker.specs.ImageOf.{front_size, size_of}
-
--- bytes of a text at most: a region of the machine holds them
-abbrev pub max_text : ℕ
-max_text = 268435456
 
 -- the bytes of a text with so many words of functions
 abbrev pub text_bytes : List Item → (words : ℕ) → ℕ

@@ -2,3 +2,5 @@ pub mod ImageOf
 pub mod Same
 pub mod Judging
 pub mod Laws
+pub mod Codes
+pub mod Linking

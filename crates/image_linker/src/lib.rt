@@ -3,3 +3,6 @@
 #![tactic(auto)]
 
 pub mod laws;
+mod linking;
+
+pub use linking::link;

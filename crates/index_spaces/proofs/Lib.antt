@@ -1,2 +1,3 @@
 pub mod SpaceLaws
+pub mod EntriesOfItems
 pub mod Lookups

@@ -1,10 +1,13 @@
 -- Items that are added to a module, one by one.
-use Rattle.std.proofs.Common.{◌≡◌, ◌+◌, List, [], ◌∷◌, ◌++◌, length, refl, ap, append-nil, add-zero, arith}
+use Rattle.std.proofs.Common.{◌≡◌, ℕ, ◌+◌, List, [], ◌∷◌, ◌++◌, length, Option, None, Some, refl, ap, append-nil, add-zero, arith}
 use Rattle.std.proofs.Common.{length-append}
+use Rattle.std.specs.Option.{option_or}
 use Rattle.wasm_defs.specs.declared.item.Item.{Item}
 use Rattle.wasm_defs.specs.declared.item.Item.TheVariants.{Signature, Imported, Function, Table, Memory, Global, Exported, Start, Element, Code, Segment}
 use Rattle.wasm_defs.specs.Context.{types_of, functions_of, import_count, declared_count, tables_of, memories_of, globals_of}
 use Rattle.wasm_defs.specs.Context.{context_of}
+use Rattle.wasm_defs.specs.Instances.{start_of, place_of}
+use Rattle.index_spaces.specs.Entries.{imports_of, all_exports_of, element_rows_of, initials_of}
 use Rattle.index_spaces.specs.Spaces.{context_in, spaces_of, with_item}
 
 pub types_of-append : (xs ys : List Item) → types_of (xs ++ ys) ≡ types_of xs ++ types_of ys
@@ -43,6 +46,35 @@ declared_count-append [] ys = omega arith
 declared_count-append (Function type_index ∷ xs) ys = omega (arith, declared_count-append xs ys)
 declared_count-append (_ ∷ xs) ys = declared_count-append xs ys
 
+imports_of-append : (xs ys : List Item) → imports_of (xs ++ ys) ≡ imports_of xs ++ imports_of ys
+imports_of-append [] ys = refl
+imports_of-append (Imported from what kind type_index ∷ xs) ys = ap (λ l. record { «module» = from.1; name = what.1; type_index = type_index.1 } ∷ l) (imports_of-append xs ys)
+imports_of-append (_ ∷ xs) ys = imports_of-append xs ys
+
+all_exports_of-append : (xs ys : List Item) → all_exports_of (xs ++ ys) ≡ all_exports_of xs ++ all_exports_of ys
+all_exports_of-append [] ys = refl
+all_exports_of-append (Exported name kind index ∷ xs) ys = ap (λ l. record { name = name.1; kind = kind.1; index = index.1 } ∷ l) (all_exports_of-append xs ys)
+all_exports_of-append (_ ∷ xs) ys = all_exports_of-append xs ys
+
+element_rows_of-append : (xs ys : List Item) → element_rows_of (xs ++ ys) ≡ element_rows_of xs ++ element_rows_of ys
+element_rows_of-append [] ys = refl
+element_rows_of-append (Element table place functions ∷ xs) ys = ap (λ l. record { place = place_of place; functions = functions.1 } ∷ l) (element_rows_of-append xs ys)
+element_rows_of-append (_ ∷ xs) ys = element_rows_of-append xs ys
+
+initials_of-append : (xs ys : List Item) → initials_of (xs ++ ys) ≡ initials_of xs ++ initials_of ys
+initials_of-append [] ys = refl
+initials_of-append (Global ty mutable init ∷ xs) ys = ap (λ l. init.value.1 ∷ l) (initials_of-append xs ys)
+initials_of-append (_ ∷ xs) ys = initials_of-append xs ys
+
+start_of-append : (xs ys : List Item) → start_of (xs ++ ys) ≡ option_or (start_of xs) (start_of ys)
+start_of-append [] ys = refl
+start_of-append (Start index ∷ xs) ys = refl
+start_of-append (_ ∷ xs) ys = start_of-append xs ys
+
+option_or-none : (o : Option ℕ) → option_or o None ≡ o
+option_or-none None = refl
+option_or-none (Some index) = refl
+
 -- the functions are the imported and the declared ones
 pub functions_of-counts : (xs : List Item) → length (functions_of xs) ≡ import_count xs + declared_count xs
 functions_of-counts [] = omega arith
@@ -51,7 +83,7 @@ functions_of-counts (Function type_index ∷ xs) = omega (arith, functions_of-co
 functions_of-counts (_ ∷ xs) = functions_of-counts xs
 
 -- one more declaration of a sort stands behind the others, and all other sorts stay
-ruleset appends = (types_of-append, functions_of-append, tables_of-append, memories_of-append, globals_of-append, import_count-append, declared_count-append, append-nil, add-zero, length-append)
+ruleset appends = (types_of-append, functions_of-append, tables_of-append, memories_of-append, globals_of-append, import_count-append, declared_count-append, imports_of-append, all_exports_of-append, element_rows_of-append, initials_of-append, start_of-append, option_or-none, append-nil, add-zero, length-append)
 
 pub spaces_of-append : (items : List Item) (x : Item) → spaces_of (items ++ x ∷ []) ≡ with_item (spaces_of items) x
 spaces_of-append items (Signature form params results ty) = simp appends

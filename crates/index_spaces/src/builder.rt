@@ -1,12 +1,14 @@
 //! Gathers the context of a module from its items.
 
 ghost use Rattle.std.specs.Prelude.{◌≡◌, [], OnOk, OnErr, IfOk};
+ghost use Rattle.wasm_defs.specs.Instances.{place_of};
 ghost use Rattle.index_spaces.specs.Spaces.{spaces_of, with_item};
 
 use crate::context::Context;
+use crate::entries::{ElementRow, Export, Import};
 use std::alloc::{AllocError, Global};
 use std::marker::Model;
-use wasm_defs::{FuncType, GlobalType, Item, ValTypes};
+use wasm_defs::{Constant, Extern, FuncType, GlobalType, Indices, Item, Name, ValTypes};
 
 fn copy_of_list(alloc: Global, types: &ValTypes) -> Result<ValTypes, AllocError>
     ensures { IfOk result (λ copy. copy ≡ types.now) }
@@ -14,12 +16,70 @@ fn copy_of_list(alloc: Global, types: &ValTypes) -> Result<ValTypes, AllocError>
     Ok(ValTypes::new(Vec::from_slice(alloc, types.as_slice())?))
 }
 
-fn copy_of(alloc: Global, ty: &FuncType) -> Result<FuncType, AllocError>
+/// A copy of a function type.
+pub fn copy_of_type(alloc: Global, ty: &FuncType) -> Result<FuncType, AllocError>
     ensures { IfOk result (λ copy. copy ≡ ty.now) }
 {
     let params = copy_of_list(alloc, &ty.params)?;
     let results = copy_of_list(alloc, &ty.results)?;
     Ok(FuncType { params, results })
+}
+
+/// A copy of a name.
+pub fn copy_of_name(alloc: Global, name: &Name) -> Result<Name, AllocError>
+    ensures { IfOk result (λ copy. copy ≡ name.now) }
+{
+    Ok(Name::new(Vec::from_slice(alloc, name.as_slice())?))
+}
+
+fn import_of(
+    alloc: Global,
+    module: &Name,
+    name: &Name,
+    type_index: u32,
+) -> Result<Import, AllocError>
+    ensures { IfOk result (λ i. i ≡ record { «module» = «module».now; name = name.now; type_index = type_index }) }
+{
+    let module = copy_of_name(alloc, module)?;
+    let name = copy_of_name(alloc, name)?;
+    Ok(Import {
+        module,
+        name,
+        type_index,
+    })
+}
+
+fn export_of(alloc: Global, name: &Name, kind: Extern, index: u32) -> Result<Export, AllocError>
+    ensures { IfOk result (λ e. e ≡ record { name = name.now; kind = kind; index = index }) }
+{
+    let name = copy_of_name(alloc, name)?;
+    Ok(Export { name, kind, index })
+}
+
+/// The number of an `i32` constant as an unsigned one. A number outside that type's range, which no module has, is cut at zero.
+fn place_of(constant: &Constant) -> u64
+    ensures { result ≡ place_of constant.now }
+{
+    let number = constant.value.1;
+    if number < 0 {
+        (1u64 << 32).saturating_sub(number.unsigned_abs())
+    } else {
+        number as u64
+    }
+}
+
+fn element_row_of(
+    alloc: Global,
+    place: &Constant,
+    functions: &Indices,
+) -> Result<ElementRow, AllocError>
+    ensures { IfOk result (λ r. r ≡ record { place = place_of place.now; functions = functions.now }) }
+{
+    let functions = Indices::new(Vec::from_slice(alloc, functions.as_slice())?);
+    Ok(ElementRow {
+        place: place_of(place),
+        functions,
+    })
 }
 
 /// The context of the items that were added so far.
@@ -48,22 +108,44 @@ impl ContextBuilder {
         }
     }
 
-    /// Adds an item, which stands behind those that were added before. Items that declare nothing change nothing.
+    /// Adds an item, which stands behind those that were added before. The code section's count and data segments change nothing.
     pub fn add(&mut self, item: &Item) -> Result<(), AllocError>
         ensures ok { OnOk result (self.new ≡ with_item self.old item.now) }
         ensures err { OnErr result (self.new ≡ self.old) }
     {
+        let alloc = self.alloc;
+        let context = &mut self.context;
         match item {
-            Item::Signature { ty, .. } => self.context.add_type(copy_of(self.alloc, ty)?),
-            Item::Imported { type_index, .. } => self.context.add_imported(type_index.1),
-            Item::Function { type_index } => self.context.add_function(type_index.1),
-            Item::Table { limits, .. } => self.context.add_table(*limits),
-            Item::Memory { limits } => self.context.add_memory(*limits),
-            Item::Global { ty, mutable, .. } => self.context.add_global(GlobalType {
-                ty: ty.1,
-                mutable: mutable.1,
-            }),
-            _ => Ok(()),
+            Item::Signature { ty, .. } => context.add_type(copy_of_type(alloc, ty)?),
+            Item::Imported {
+                module,
+                name,
+                type_index,
+                ..
+            } => context.add_import(import_of(alloc, &module.1, &name.1, type_index.1)?),
+            Item::Function { type_index } => context.add_function(type_index.1),
+            Item::Table { limits, .. } => context.add_table(*limits),
+            Item::Memory { limits } => context.add_memory(*limits),
+            Item::Global { ty, mutable, init } => context.add_global(
+                GlobalType {
+                    ty: ty.1,
+                    mutable: mutable.1,
+                },
+                init.value.1,
+            ),
+            Item::Exported { name, kind, index } => {
+                context.add_export(export_of(alloc, &name.1, kind.1, index.1)?)
+            }
+            Item::Start { index } => {
+                context.add_start(index.1);
+                Ok(())
+            }
+            Item::Element {
+                place,
+                functions,
+                ..
+            } => context.add_elements(element_row_of(alloc, place, &functions.1)?),
+            Item::Code { .. } | Item::Segment { .. } => Ok(()),
         }
     }
 

@@ -2,26 +2,32 @@
 
 ghost use Rattle.std.specs.Prelude.{◌≡◌, ◌^◌, ◌<◌, ◌↔◌, [], length, IsTrue, IsSome, is_some, Some, OnOk, OnErr, slice_get};
 ghost use Rattle.wasm_defs.specs.Typing.{function_type};
-ghost use Rattle.index_spaces.specs.Spaces.{context_in, spaces_of, with_type, with_imported, with_function, with_table, with_memory, with_global};
+ghost use Rattle.index_spaces.specs.Spaces.{context_in, spaces_of, with_type, with_import, with_function, with_table, with_memory, with_global, with_export, with_elements, with_start};
 
+use crate::entries::{ElementRow, Export, Import};
 use std::alloc::{AllocError, Global};
 use std::marker::Model;
 use wasm_defs::{FuncType, GlobalType, Limits};
 
 /// A module's index spaces: its types, and what its functions may name of functions, tables, memories and globals, imported
-/// ones first (Core 3.1). An index is the place in its space, from 0 on.
+/// ones first (Core 3.1). An index is the place in its space, from 0 on. And what the module imports and exports, what its
+/// globals and its table begin with, and its start function (Core 2.5).
 #[derive(Drop)]
 pub struct Context {
     types: Vec<FuncType>,
     functions: Vec<u32>,
-    imported: usize,
     tables: Vec<Limits>,
     memories: Vec<Limits>,
     globals: Vec<GlobalType>,
+    initials: Vec<i64>,
+    imports: Vec<Import>,
+    exports: Vec<Export>,
+    elements: Vec<ElementRow>,
+    start: Option<u32>,
 }
 
 impl Model for Context {
-    ghost use Rattle.std.specs.Prelude.{◌-◌, ◌≤◌, length};
+    ghost use Rattle.std.specs.Prelude.{◌≡◌, ◌-◌, ◌≤◌, length};
     ghost use Rattle.index_spaces.specs.Spaces.{Spaces};
 
     ghost Value = { Spaces };
@@ -32,11 +38,16 @@ impl Model for Context {
       tables = c.tables.items;
       memories = c.memories.items;
       globals = c.globals.items;
-      imported = c.imported;
-      declared = length c.functions.items - c.imported;
+      initials = c.initials.items;
+      imported = length c.imports.items;
+      declared = length c.functions.items - length c.imports.items;
+      imports = c.imports.items;
+      exports = c.exports.items;
+      elements = c.elements.items;
+      start = c.start;
     } };
 
-    ghost invariant = { λ c. c.imported ≤ length c.functions.items };
+    ghost invariant = { λ c. (length c.imports.items ≤ length c.functions.items) × (length c.initials.items ≡ length c.globals.items) };
 }
 
 impl Context {
@@ -47,10 +58,14 @@ impl Context {
         Context {
             types: Vec::new(alloc),
             functions: Vec::new(alloc),
-            imported: 0,
             tables: Vec::new(alloc),
             memories: Vec::new(alloc),
             globals: Vec::new(alloc),
+            initials: Vec::new(alloc),
+            imports: Vec::new(alloc),
+            exports: Vec::new(alloc),
+            elements: Vec::new(alloc),
+            start: None,
         }
     }
 
@@ -63,12 +78,14 @@ impl Context {
     }
 
     /// An imported function stands behind the functions that were added before, which are imported ones in a module.
-    pub(crate) fn add_imported(&mut self, type_index: u32) -> Result<(), AllocError>
-        ensures ok { OnOk result (self.new ≡ with_imported self.old type_index) }
+    pub(crate) fn add_import(&mut self, import: Import) -> Result<(), AllocError>
+        ensures ok { OnOk result (self.new ≡ with_import self.old import) }
         ensures err { OnErr result (self.new ≡ self.old) }
     {
+        let type_index = import.type_index;
+        self.functions.reserve(1)?;
+        self.imports.push(import)?;
         self.functions.push(type_index)?;
-        self.imported += 1;
         Ok(())
     }
 
@@ -96,12 +113,37 @@ impl Context {
         Ok(())
     }
 
-    pub(crate) fn add_global(&mut self, ty: GlobalType) -> Result<(), AllocError>
-        ensures ok { OnOk result (self.new ≡ with_global self.old ty) }
+    pub(crate) fn add_global(&mut self, ty: GlobalType, initial: i64) -> Result<(), AllocError>
+        ensures ok { OnOk result (self.new ≡ with_global self.old ty initial) }
         ensures err { OnErr result (self.new ≡ self.old) }
     {
+        self.globals.reserve(1)?;
+        self.initials.push(initial)?;
         self.globals.push(ty)?;
         Ok(())
+    }
+
+    pub(crate) fn add_export(&mut self, export: Export) -> Result<(), AllocError>
+        ensures ok { OnOk result (self.new ≡ with_export self.old export) }
+        ensures err { OnErr result (self.new ≡ self.old) }
+    {
+        self.exports.push(export)?;
+        Ok(())
+    }
+
+    pub(crate) fn add_elements(&mut self, row: ElementRow) -> Result<(), AllocError>
+        ensures ok { OnOk result (self.new ≡ with_elements self.old row) }
+        ensures err { OnErr result (self.new ≡ self.old) }
+    {
+        self.elements.push(row)?;
+        Ok(())
+    }
+
+    /// A second start function, which no module has, changes nothing.
+    pub(crate) fn add_start(&mut self, index: u32)
+        ensures { self.new ≡ with_start self.old index }
+    {
+        self.start = self.start.or(Some(index));
     }
 
     /// The types by their indices (Core 2.5.2).
@@ -139,6 +181,41 @@ impl Context {
         self.globals.as_slice()
     }
 
+    /// The numbers of the globals' constants (Core 2.5.6), as signed ones, by the indices of the globals.
+    pub fn initials(&self) -> &[i64]
+        ensures { result.now ≡ self.now.initials }
+    {
+        self.initials.as_slice()
+    }
+
+    /// The imports in order (Core 2.5.11): an import's place is the index of its function.
+    pub fn imports(&self) -> &[Import]
+        ensures { result.now ≡ self.now.imports }
+    {
+        self.imports.as_slice()
+    }
+
+    /// The exports in order (Core 2.5.10), those of all sorts.
+    pub fn exports(&self) -> &[Export]
+        ensures { result.now ≡ self.now.exports }
+    {
+        self.exports.as_slice()
+    }
+
+    /// The element segments in order (Core 2.5.7).
+    pub fn elements(&self) -> &[ElementRow]
+        ensures { result.now ≡ self.now.elements }
+    {
+        self.elements.as_slice()
+    }
+
+    /// The index of the start function (Core 2.5.9), where there is one.
+    pub fn start(&self) -> Option<u32>
+        ensures { result ≡ self.now.start }
+    {
+        self.start
+    }
+
     /// How many functions there are, imported and declared ones together.
     pub fn functions(&self) -> u32
         requires { length self.now.functions < 2 ^ 32 }
@@ -152,14 +229,14 @@ impl Context {
         requires { length self.now.functions < 2 ^ 32 }
         ensures { result ≡ self.now.imported }
     {
-        self.imported as u32
+        self.imports.len() as u32
     }
 
     /// How many functions are declared, those that are imported not counted.
     pub fn declared(&self) -> usize
         ensures { result ≡ self.now.declared }
     {
-        self.functions.len() - self.imported
+        self.functions.len() - self.imports.len()
     }
 
     /// Whether there is a type of the index.
@@ -229,5 +306,12 @@ impl Context {
         ensures { slice_get self.now.globals index ≡ Some result.now }
     {
         &self.globals[index as usize]
+    }
+    /// The number of the constant of the global of the index, as a signed one: what the global begins with (Core 4.5.4).
+    pub fn initial(&self, index: u32) -> i64
+        requires { index < length self.now.globals }
+        ensures { slice_get self.now.initials index ≡ Some result }
+    {
+        self.initials[index as usize]
     }
 }

@@ -4,6 +4,7 @@ ghost use Rattle.std.specs.Prelude.{◌≡◌, List, [], ◌∷◌, ◌++◌};
 ghost use Rattle.wasm_defs.specs.declared.item.Item.{Item};
 ghost use Rattle.wasm_defs.specs.Context.{context_of};
 ghost use Rattle.index_spaces.specs.Spaces.{context_in, spaces_of, with_item};
+ghost use Rattle.index_spaces.specs.EntryLaws.{ImportsAreFunctions, ExportsAreOfItems, ElementsAreOfItems, ValuesAreOfItems};
 
 /// The context of some items is that in their index spaces.
 pub fn contexts_are_of_items()
@@ -13,4 +14,24 @@ pub fn contexts_are_of_items()
 /// The index spaces of some items and one more are those of the items, with that one added.
 pub fn items_are_added()
     ensures { (items : List Item) (x : Item) → spaces_of (items ++ x ∷ []) ≡ with_item (spaces_of items) x }
+{}
+
+/// The imports of some items are the functions that a run takes as imported ones, in the same order.
+pub fn imports_are_functions()
+    ensures { ImportsAreFunctions }
+{}
+
+/// The exports of some items that are functions are those that a run can be begun with.
+pub fn exports_are_of_items()
+    ensures { ExportsAreOfItems }
+{}
+
+/// The element segments of some items are those that a run's table is made with.
+pub fn elements_are_of_items()
+    ensures { ElementsAreOfItems }
+{}
+
+/// The types of the globals of some items, and the numbers of their constants, are the values that a run begins with.
+pub fn values_are_of_items()
+    ensures { ValuesAreOfItems }
 {}

@@ -3,10 +3,15 @@
 
 mod builder;
 mod context;
+mod entries;
 mod laws;
 #[cfg(test)]
 mod tests;
 
-pub use builder::ContextBuilder;
+pub use builder::{ContextBuilder, copy_of_name, copy_of_type};
 pub use context::Context;
-pub use laws::{contexts_are_of_items, items_are_added};
+pub use entries::{ElementRow, Export, Import};
+pub use laws::{
+    contexts_are_of_items, elements_are_of_items, exports_are_of_items, imports_are_functions,
+    items_are_added, values_are_of_items,
+};

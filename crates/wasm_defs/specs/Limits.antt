@@ -33,6 +33,10 @@ max_table = 100000
 abbrev pub max_pages : ℕ
 max_pages = 1024
 
+-- bytes of a compiled module's text: a region of the machine holds them
+abbrev pub max_text : ℕ
+max_text = 268435456
+
 -- the greatest maximum that a memory may have, in pages (3.2.4)
 abbrev pub top_pages : ℕ
 top_pages = 65536

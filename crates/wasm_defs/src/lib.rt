@@ -21,7 +21,7 @@ pub use item::{Constant, Extern, Item, Limits};
 pub use laws::numbers_are_prefix_free;
 pub use limits::{
     MAX_BODY, MAX_ENTRIES, MAX_LOCALS, MAX_MODULE, MAX_NAME, MAX_PAGES, MAX_PARAMS, MAX_TABLE,
-    TOP_PAGES,
+    MAX_TEXT, TOP_PAGES,
 };
 pub use lists::{Bytes, Indices, Labels, Name, ValTypes};
 pub use operation::{Access, BinaryOp, CompareOp, ConvertOp, LoadOp, Operation, StoreOp, UnaryOp};

@@ -25,5 +25,8 @@ pub const MAX_TABLE: u32 = 100_000;
 /// The least number of pages that a memory may ask for: 64 MiB.
 pub const MAX_PAGES: u32 = 1_024;
 
+/// Bytes of a compiled module's text: a region of the machine holds them.
+pub const MAX_TEXT: u32 = 268_435_456;
+
 /// The greatest maximum of a memory, in pages (Core 3.2.4): not a limit of this implementation but of the standard.
 pub const TOP_PAGES: u32 = 65_536;

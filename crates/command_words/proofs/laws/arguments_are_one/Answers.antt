@@ -1,5 +1,5 @@
-use Rattle.command_words.proofs.Arguments.{argument_is_one}
+use Rattle.command_words.proofs.ArgumentWords.{argument_in-IsArgument, argument_is_one}
 use Rattle.command_words.proofs.laws.arguments_are_one.Goals as goal
 
 pub returns : goal.returns
-returns c = argument_is_one
+returns c = record { one = argument_is_one; computed = argument_in-IsArgument }

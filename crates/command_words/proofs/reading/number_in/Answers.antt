@@ -2,7 +2,7 @@ use Rattle.std.proofs.Common.{◌∙◌}
 use Rattle.std.specs.Str.Parse.{ParsesUnsigned, ExplainsUnsignedError, HasUnsignedDigitsIfOk}
 use Rattle.clap.specs.Matches.{found_of}
 use Rattle.command_words.proofs.Numbers.{number_is}
-use Rattle.command_words.proofs.command.number_in.Goals as goal
+use Rattle.command_words.proofs.reading.number_in.Goals as goal
 
 pub returns : goal.returns
 returns c = c.in_range.ensures

@@ -1,0 +1,116 @@
+//! What the words say, from what the parser found in them.
+
+ghost use Rattle.std.specs.Prelude.{◌≡◌, codes, map, option_and_then, option_map, string_bytes};
+ghost use Rattle.clap.specs.Words.{first_of, found_of, one_of, rows_of, subcommand_rows_of};
+ghost use Rattle.command_words.specs.Arguments.{arguments_in};
+ghost use Rattle.command_words.specs.Grammar.{Gives, Reads, argument_words, command_in, command_named, in_range, number_in, options_in, run_in};
+
+use crate::argument::argument_of;
+use crate::command::{Command, Options, Run, WordsStop};
+use crate::lists::{Arguments, Export};
+use crate::parser::program;
+use clap::ArgMatches;
+use clap::error::ErrorKind;
+use std::alloc::Global;
+
+/// The number, where it is in the range. Clap keeps to the range by itself; that it is tested here too says so of the options.
+fn in_range(number: Option<u64>, least: u64, most: u64) -> Option<u64>
+    ensures { result ≡ option_and_then (in_range least most) number }
+{
+    match number {
+        Some(number) if least <= number && number <= most => Some(number),
+        _ => None,
+    }
+}
+
+/// The number that was found for an option, where it is in the range.
+fn number_in(matches: &ArgMatches<'_>, id: &str, least: u64, most: u64) -> Option<u64>
+    ensures { result ≡ option_and_then (number_in least most) (one_of id.now (rows_of (found_of matches.now))) }
+{
+    in_range(matches.get_one::<u64>(id), least, most)
+}
+
+fn options_in(matches: &ArgMatches<'_>) -> Option<Options>
+    ensures { result ≡ options_in (rows_of (found_of matches.now)) }
+{
+    Some(Options {
+        workers: number_in(matches, "workers", 0, 64)?,
+        batch: number_in(matches, "batch", 1, 1_048_576)?,
+    })
+}
+
+/// The arguments that the words are: `Outside` where one is none.
+fn arguments_of(alloc: Global, words: &[&str]) -> Result<Arguments, WordsStop>
+    ensures { Gives (arguments_in (map (λ w. w.now) words.now)) result }
+{
+    let mut arguments = Vec::with_capacity(alloc, words.len())?;
+    for word in words {
+        let Some(argument) = argument_of(word) else {
+            return Err(WordsStop::Outside);
+        };
+        arguments.push(argument)?;
+    }
+    Ok(Arguments::new(arguments))
+}
+
+/// The arguments that were found for ARGS.
+fn arguments_in(alloc: Global, matches: &ArgMatches<'_>) -> Result<Arguments, WordsStop>
+    ensures { Gives (arguments_in (argument_words (rows_of (found_of matches.now)))) result }
+{
+    let words = matches.get_strs("arguments").unwrap_or(&[]);
+    arguments_of(alloc, words)
+}
+
+/// What was found for EXPORT.
+fn export_in<'a>(matches: &ArgMatches<'a>) -> Option<&'a str>
+    ensures { option_map (λ s. s.now) result ≡ first_of (codes "export") (rows_of (found_of matches.now)) }
+{
+    matches.get_str("export")
+}
+
+fn run_in(alloc: Global, matches: &ArgMatches<'_>) -> Result<Run, WordsStop>
+    ensures { Gives (run_in (rows_of (found_of matches.now))) result }
+{
+    let export = export_in(matches).ok_or(WordsStop::Outside)?;
+    let arguments = arguments_in(alloc, matches)?;
+    let options = options_in(matches).ok_or(WordsStop::Outside)?;
+    let steps = number_in(matches, "steps", 0, 1_000_000_000_000).ok_or(WordsStop::Outside)?;
+    Ok(Run {
+        export: Export::new(String::from_str(alloc, export)?),
+        arguments,
+        options,
+        steps,
+    })
+}
+
+fn command_in(alloc: Global, matches: &ArgMatches<'_>) -> Result<Command, WordsStop>
+    ensures { Gives (option_and_then command_named (subcommand_rows_of matches.now)) result }
+{
+    let (name, inner) = matches.subcommand().ok_or(WordsStop::Outside)?;
+    match name {
+        "check" => Ok(Command::Check(options_in(inner).ok_or(WordsStop::Outside)?)),
+        "run" => Ok(Command::Run(run_in(alloc, inner)?)),
+        _ => Err(WordsStop::Outside),
+    }
+}
+
+/// Reads the command that the words give, of which the first is the program's name.
+///
+/// After it comes a subcommand: `check`, or `run EXPORT ARGS`. EXPORT is one word of any text, and ARGS are any number of
+/// words, each `i32:N` or `i64:N` as `argument_of` reads them. Both have the options `--workers N` and `--batch N`, and `run`
+/// has `--steps N` too. An option may be written `--workers=N`, and comes once at most, before, between or behind the other
+/// words of its subcommand. N is decimal digits, before which a plus may stand. All words that follow a word `--` belong to
+/// EXPORT and ARGS. Words that ask for help are outside the grammar.
+///
+/// `Outside` says that the words are outside the grammar, and `NoMemory`, which may come at any words, that memory ran out.
+pub fn command_of(alloc: Global, words: &Vec<String>) -> Result<Command, WordsStop>
+    ensures reads { Reads (map string_bytes words.now.items) result }
+    ensures value { Gives (command_in (map string_bytes words.now.items)) result }
+{
+    let program = program(alloc)?;
+    match program.try_get_matches_from(words.as_slice()) {
+        Ok(matches) => command_in(alloc, &matches),
+        Err(error) if error.kind() == ErrorKind::OutOfMemory => Err(WordsStop::NoMemory),
+        Err(_) => Err(WordsStop::Outside),
+    }
+}

@@ -1,0 +1,21 @@
+-- The codes of a module's functions.
+use Rattle.std.specs.Prelude.{◌≡◌, ℕ, suc, List, [], ◌∷◌, map, length}
+use Rattle.rv_isa.specs.Words.{word_of}
+use Rattle.rv_isa.specs.declared.compiled.Code.{Code}
+use Rattle.wasm_defs.specs.declared.item.Item.{Item}
+use Rattle.wasm_defs.specs.Outside.{Body}
+use Rattle.wasm_defs.specs.Trees.{Seq}
+use Rattle.wasm_defs.specs.Faults.{context_at}
+use Rattle.frame_layout.specs.Functions.{function_code}
+use Rattle.image_linker.specs.ImageOf.{around, size_of}
+
+-- the code of the k-th declared function of a module with these items, whatever the distances to other functions are
+pub record IsCodeOf (items : List Item) (k : ℕ) (b : Body) (tree : Seq) (code : Code) : Type 0 where
+  pub words : (distance_to : ℕ → ℕ → ℕ) → code.words ≡ map word_of (function_code (around items k b tree distance_to) (context_at items k b) tree)
+  pub size : length code.words ≡ size_of items k b tree
+
+-- of each of these bodies, of which the first is the k-th
+abbrev pub AreCodesOf : List Item → ℕ → List Body → List Seq → List Code → Type 0
+AreCodesOf items k [] [] [] = Unit {0}
+AreCodesOf items k (b ∷ bodies) (tree ∷ trees) (code ∷ codes) = IsCodeOf items k b tree code × AreCodesOf items (suc k) bodies trees codes
+AreCodesOf items k bodies trees codes = ⊥

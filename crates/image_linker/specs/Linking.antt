@@ -1,0 +1,46 @@
+-- What is linked: the index spaces of a module and the codes of its functions.
+use Rattle.std.specs.Prelude.{ℕ, ◌+◌, ◌*◌, false, List, [], ◌∷◌, ◌++◌, map, length, slice_index}
+use Rattle.rv_isa.specs.Words.{word_of}
+use Rattle.rv_isa.specs.declared.compiled.Code.{Code}
+use Rattle.wasm_defs.specs.Context.{type_of_function}
+use Rattle.frame_layout.specs.Templates.{exit_stub}
+use Rattle.image_format.specs.declared.image.Image.{Image}
+use Rattle.image_format.specs.declared.image.Export.{Export}
+use Rattle.index_spaces.specs.Entries.{function_exports}
+use Rattle.index_spaces.specs.Spaces.{Spaces, context_in}
+
+-- the words of the codes, one behind the other
+abbrev pub words_of : List Code → List ℕ
+words_of [] = []
+words_of (c ∷ cs) = c.words ++ words_of cs
+
+-- where each of them begins, in words
+abbrev pub starts_from : (here : ℕ) → List Code → List ℕ
+starts_from here [] = []
+starts_from here (c ∷ cs) = here ∷ starts_from (here + length c.words) cs
+
+-- the words in front of the functions, where nothing is imported
+abbrev pub front_words : List ℕ
+front_words = map word_of exit_stub
+
+abbrev pub starts_of : List Code → List ℕ
+starts_of codes = starts_from (length front_words) codes
+
+-- an exported function has the place of its code
+abbrev pub linked_export : Spaces → List ℕ → List ℕ × ℕ → Export
+linked_export s starts e = record { name = e.0; signature = type_of_function (context_in s) e.1; offset = 4 * slice_index starts e.1 }
+
+-- the image of a module that imports nothing, and has no table, memory, globals, segments or start function
+abbrev pub linked : Spaces → List Code → Image
+linked s codes = record {
+  text = front_words ++ words_of codes;
+  globals = [];
+  table = [];
+  pages = 0;
+  cap = 0;
+  segments = [];
+  imports = [];
+  exports = map (linked_export s (starts_of codes)) (function_exports s.exports);
+  start = 0;
+  unlinkable = false;
+}

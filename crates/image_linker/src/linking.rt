@@ -1,0 +1,127 @@
+//! Links the codes of a module's functions.
+
+ghost use Rattle.std.specs.Prelude.{◌≡◌, ◌≤◌, ◌<◌, ◌+◌, ◌*◌, ◌++◌, ◌^◌, ℕ, length, map, slice_index, IfOk};
+ghost use Rattle.wasm_defs.specs.Context.{type_of_function};
+ghost use Rattle.index_spaces.specs.Spaces.{context_in};
+ghost use Rattle.index_spaces.specs.Entries.{function_exports};
+ghost use Rattle.image_linker.specs.Linking.{words_of, starts_of, front_words, linked, linked_export};
+
+use image_format::{Export, Exports, Globals, Image, Imports, Segments, Table, Text};
+use index_spaces::{Context, copy_of_name, copy_of_type};
+use rv_isa::{Code, Imm12, ImmOp, Op, Register, encode};
+use std::alloc::{AllocError, Global};
+use wasm_defs::{Extern, FuncType, ValTypes};
+
+/// The words in front of the functions' codes: the exit stub, where nothing is imported.
+const FRONT_WORDS: u32 = 2;
+
+/// The exit stub: a7 becomes 0, and the environment is called.
+fn exit_stub() -> [u32; 2]
+    ensures { result ≡ front_words }
+{
+    [
+        encode(Op::Imm {
+            op: ImmOp::Addi,
+            rd: Register::new(17),
+            rs1: Register::new(0),
+            imm: Imm12::new(0),
+        }),
+        encode(Op::Ecall),
+    ]
+}
+
+/// The words of a text with these codes, in order.
+fn text_of(alloc: Global, codes: &[Code]) -> Result<Vec<u32>, AllocError>
+    ensures { IfOk result (λ text. text.items ≡ front_words ++ words_of codes.now) }
+{
+    let mut text = Vec::from_slice(alloc, &exit_stub())?;
+    for code in codes {
+        text.extend_from_slice(code.words.as_slice())?;
+    }
+    Ok(text)
+}
+
+/// Where the codes begin in their text, in words.
+fn starts_of(alloc: Global, codes: &[Code]) -> Result<Vec<u32>, AllocError>
+    requires { 2 + length (words_of codes.now) < 2 ^ 32 }
+    ensures { IfOk result (λ starts. starts.items ≡ starts_of codes.now) }
+{
+    let mut starts = Vec::with_capacity(alloc, codes.len())?;
+    let mut here = FRONT_WORDS;
+    for code in codes {
+        starts.push(here)?;
+        here += code.words.as_slice().len() as u32;
+    }
+    Ok(starts)
+}
+
+/// A copy of the type of a function, or of the empty type where the context has none.
+fn signature_of(alloc: Global, context: &Context, function: u32) -> Result<FuncType, AllocError>
+    ensures { IfOk result (λ f. f ≡ type_of_function (context_in context.now) function) }
+{
+    if context.has_type_of_function(function) {
+        copy_of_type(alloc, context.type_of_function(function))
+    } else {
+        Ok(FuncType {
+            params: ValTypes::new(Vec::new(alloc)),
+            results: ValTypes::new(Vec::new(alloc)),
+        })
+    }
+}
+
+/// The place of a function, or 0 where it has none.
+fn start_at(starts: &[u32], function: u32) -> u32
+    ensures { result ≡ slice_index starts.now function }
+{
+    match starts.get(function as usize) {
+        Some(start) => *start,
+        None => 0,
+    }
+}
+
+/// The exported functions, which have the places of their codes.
+fn exports_of(
+    alloc: Global,
+    context: &Context,
+    starts: &[u32],
+) -> Result<Vec<Export>, AllocError>
+    requires { (i : ℕ) → slice_index starts.now i < 2 ^ 27 }
+    ensures { IfOk result (λ exports. exports.items ≡ map (linked_export context.now starts.now) (function_exports context.now.exports)) }
+{
+    let mut exports = Vec::new(alloc);
+    for export in context.exports() {
+        if export.kind == Extern::Function {
+            exports.push(Export {
+                name: copy_of_name(alloc, &export.name)?,
+                signature: signature_of(alloc, context, export.index)?,
+                offset: 4 * start_at(starts, export.index),
+            })?;
+        }
+    }
+    Ok(exports)
+}
+
+/// Links the codes of a module's declared functions, in the order of their indices, to the module's image.
+///
+/// So far a module has no imports, tables, memories, globals, segments and no start function. The text has at most 268,435,456
+/// bytes.
+pub fn link(alloc: Global, context: &Context, codes: &[Code]) -> Result<Image, AllocError>
+    requires fits { 4 * (2 + length (words_of codes.now)) ≤ 2 ^ 28 }
+    ensures { IfOk result (λ i. i ≡ linked context.now codes.now) }
+{
+    let text = text_of(alloc, codes)?;
+    let starts = starts_of(alloc, codes)?;
+    let exports = exports_of(alloc, context, &starts)?;
+    Ok(Image {
+        text: Text::new(text),
+        globals: Globals::new(Vec::new(alloc)),
+        table: Table::new(Vec::new(alloc)),
+        pages: 0,
+        cap: 0,
+        segments: Segments::new(Vec::new(alloc)),
+        imports: Imports::new(Vec::new(alloc)),
+        exports: Exports::new(exports),
+        start: 0,
+        unlinkable: false,
+    })
+}

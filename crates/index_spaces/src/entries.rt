@@ -1,0 +1,27 @@
+//! What a module imports and exports, and what it writes into its table.
+
+use wasm_defs::{Extern, Indices, Name};
+
+/// An imported function (Core 2.5.11): the two parts of its name, and the index of its type.
+#[derive(Debug, Drop)]
+pub struct Import {
+    pub module: Name,
+    pub name: Name,
+    pub type_index: u32,
+}
+
+/// An export (Core 2.5.10): its name, the sort of what is exported, and the index in that sort's space.
+#[derive(Debug, Drop)]
+pub struct Export {
+    pub name: Name,
+    pub kind: Extern,
+    pub index: u32,
+}
+
+/// An element segment (Core 2.5.7): the row of the table that it begins at, and the functions that it writes from there on. The
+/// row is the value of an `i32` constant as an unsigned number, so it is below 2^32 wherever the constant has that type's range.
+#[derive(Debug, Drop)]
+pub struct ElementRow {
+    pub place: u64,
+    pub functions: Indices,
+}
