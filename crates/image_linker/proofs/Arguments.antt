@@ -1,8 +1,8 @@
 -- Words that are written one behind the other, as arguments are.
-use Rattle.std.proofs.Common.{◌≡◌, ℕ, zero, suc, ◌+◌, ◌*◌, ◌^◌, ◌<◌, ◌≤◌, List, [], ◌∷◌, length, Some, refl, sym, ap, ◌∙◌, subst, arith}
+use Rattle.std.proofs.Common.{◌≡◌, ℕ, zero, suc, ◌+◌, ◌*◌, ◌^◌, ◌<◌, ◌≤◌, List, [], ◌∷◌, length, Some, refl, ap, ◌∙◌, arith}
 use Rattle.std.specs.Prelude.{slice_get}
-use Rattle.rv_isa.specs.Steps.{le_bytes, value_at, put}
-use Rattle.rv_isa.proofs.ByteLaws.{written_is_read, above_stays, below_stays, length-put, length-le_bytes}
+use Rattle.rv_isa.specs.Steps.{le_bytes, put}
+use Rattle.rv_isa.proofs.ByteLaws.{written_is_read, below_stays, length-put, length-le_bytes}
 use Rattle.image_format.specs.Environment.{word_at, with_words}
 
 pub with_words_length : (ws : List ℕ) (bytes : List ℕ) (from : ℕ) → 8 * (from + length ws) ≤ length bytes → length (with_words bytes from ws) ≡ length bytes

@@ -1,12 +1,10 @@
 -- An image without memory, globals and table, where a function is called from outside.
-use Rattle.std.proofs.Common.{◌≡◌, ℕ, zero, suc, ◌+◌, ◌*◌, ◌/◌, ◌^◌, ◌<◌, ◌≤◌, true, List, [], ◌∷◌, length, map, replicate, take, Option, Some, refl, sym, ap, ◌∙◌, subst, arith}
+use Rattle.std.proofs.Common.{◌≡◌, ℕ, ◌+◌, ◌*◌, ◌/◌, ◌^◌, ◌<◌, ◌≤◌, true, List, [], length, replicate, take, Some, refl, sym, ap, ◌∙◌, arith}
 use Rattle.std.specs.Prelude.{slice_get, option_map}
 use Rattle.std.proofs.lemmas.List.{length-map, length-replicate}
 use Rattle.std.proofs.lemmas.Option.{slice_get-map}
 use Rattle.rv_isa.specs.declared.stepping.Region.TheVariants.{Stack, Globals, Table, Memory}
-use Rattle.rv_isa.specs.Steps.{Bytes, State, window}
 use Rattle.rv_isa.specs.Runs.{FitWindows}
-use Rattle.wasm_defs.specs.declared.types.ValType.{ValType}
 use Rattle.wasm_defs.specs.Limits.{max_params}
 use Rattle.wasm_defs.specs.Memory.{page}
 use Rattle.wasm_defs.specs.Values.{Value, word_of, words_of}
@@ -16,8 +14,8 @@ use Rattle.wasm_defs.specs.Instances.{all_over}
 use Rattle.image_format.specs.declared.image.Image.{Image}
 use Rattle.image_format.specs.declared.image.Row.{Row}
 use Rattle.image_format.specs.declared.image.Segment.{Segment}
-use Rattle.image_format.specs.Environment.{stack_size, word_at, with_words, word_bytes, words_at, row_words, segments_of, loaded, Entry, entered}
-use Rattle.image_format.specs.ImageRun.{Running, memory_of, globals_of, begin}
+use Rattle.image_format.specs.Environment.{stack_size, word_at, with_words, word_bytes, words_at, row_words, segments_of, loaded}
+use Rattle.image_format.specs.ImageRun.{Running, begin}
 use Rattle.simulation.specs.Straight.{IsCalled}
 use Rattle.simulation.proofs.Arguments.{are_of_types}
 use Rattle.simulation.proofs.Instructions.{types_length}

@@ -12,16 +12,16 @@ use Rattle.wasm_defs.specs.Outside.{Body}
 use Rattle.wasm_defs.specs.Trees.{Seq}
 use Rattle.wasm_defs.specs.Context.{context_of, import_count}
 use Rattle.wasm_defs.specs.Faults.{context_at, Module}
-use Rattle.wasm_defs.specs.Configurations.{Func}
 use Rattle.wasm_defs.specs.Instances.{function_of, declared_from}
+use Rattle.wasm_laws.proofs.Plain.{plain_has_no_more}
 use Rattle.frame_layout.specs.Templates.{exit_stub}
 use Rattle.simulation.proofs.Texts.{has_at, has_first, has_second}
 use Rattle.simulation.proofs.Lengths.{function_length}
 use Rattle.simulation.proofs.Ranges.{both_in_range, exit_in_range, function_in_range}
 use Rattle.image_linker.specs.ImageOf.{around, no_distance, distances, size_of, stub_size, front_size, places_from, code_of_function, code_from, stubs_from, places_of_functions, text_of}
 use Rattle.image_linker.specs.Judging.{sizes}
-use Rattle.image_linker.specs.Straight.{IsStraightBody, AreStraightBodies, IsStraightModule}
-use Rattle.image_linker.proofs.Items.{no_import_count, no_stubs}
+use Rattle.image_linker.proofs.StraightModules.{IsStraightBody, AreStraightBodies, IsStraightModule}
+use Rattle.image_linker.proofs.Items.{no_stubs}
 
 -- ---- one function among those from a place on
 
@@ -89,11 +89,10 @@ pub text_length : (m : Module) → IsStraightModule m → length (text_of m) ≡
 text_length m good =
     let stubs = stubs_from (context_of m.items) 0 m.items in
     let functions = code_from m.items (places_of_functions m) (front_size m.items) 0 m.bodies m.trees in
-    let none : length stubs ≡ 0 = ap length (no_stubs m.items good.items (context_of m.items)) in
-    let no_count : stub_size * import_count m.items ≡ 0 = ap (λ (n : ℕ). stub_size * n) (no_import_count m.items good.items) in
+    let none : length stubs ≡ 0 = ap length (no_stubs (context_of m.items) 0 m.items good.items) in
+    let no_count : stub_size * import_count m.items ≡ 0 = ap (λ (n : ℕ). stub_size * n) (plain_has_no_more m.items good.items).imports in
     let counted = functions_length m.items (places_of_functions m) (front_size m.items) 0 m.bodies m.trees good.bodies in
     length-append exit_stub (stubs ++ functions) ∙ omega (arith, length-append stubs functions, none, no_count, counted)
-
 
 module _ (m : Module) (good : IsStraightModule m) where
   abbrev pub code : List (Option Op)
@@ -106,7 +105,7 @@ module _ (m : Module) (good : IsStraightModule m) where
   stubs = stubs_from (context_of m.items) 0 m.items
 
   stubs_in_range : AllInRange (stubs_from (context_of m.items) 0 m.items)
-  stubs_in_range = subst AllInRange (sym (no_stubs m.items good.items (context_of m.items))) tt
+  stubs_in_range = subst AllInRange (sym (no_stubs (context_of m.items) 0 m.items good.items)) tt
 
   text_in_range : AllInRange (text_of m)
   text_in_range =
@@ -122,8 +121,8 @@ module _ (m : Module) (good : IsStraightModule m) where
   functions_stand =
       let behind = has_second code 0 exit_stub (stubs ++ functions) whole in
       let last = has_second code (0 + length exit_stub) stubs functions behind in
-      let none : length stubs ≡ 0 = ap length (no_stubs m.items good.items (context_of m.items)) in
-      let no_count : stub_size * import_count m.items ≡ 0 = ap (λ (n : ℕ). stub_size * n) (no_import_count m.items good.items) in
+      let none : length stubs ≡ 0 = ap length (no_stubs (context_of m.items) 0 m.items good.items) in
+      let no_count : stub_size * import_count m.items ≡ 0 = ap (λ (n : ℕ). stub_size * n) (plain_has_no_more m.items good.items).imports in
       has_at code (0 + length exit_stub + length stubs) (front_size m.items) functions (omega (arith, none, no_count)) last
 
   pub function_stands : (f : ℕ) → f < length m.bodies → Placed (code_of (map word_of (text_of m))) m.items (places_of_functions m) (front_size m.items) 0 m.bodies m.trees f f

@@ -1,5 +1,5 @@
 -- A chain of instructions, and the function's end behind it.
-use Rattle.std.proofs.Common.{◌≡◌, ℕ, zero, suc, ◌+◌, ◌-◌, ◌*◌, ◌<◌, ◌≤◌, List, [], ◌∷◌, ◌++◌, length, take, max, Option, Some, None, refl, sym, ap, ◌∙◌, subst, arith}
+use Rattle.std.proofs.Common.{◌≡◌, ℕ, suc, ◌+◌, ◌*◌, ◌≤◌, List, [], ◌∷◌, length, take, Option, Some, refl, sym, ap, ◌∙◌, subst, arith}
 use Rattle.std.proofs.lemmas.List.{length-append}
 use Rattle.rv_isa.specs.declared.operations.Op.{Op}
 use Rattle.rv_isa.specs.Steps.{State, Bytes}
@@ -13,16 +13,16 @@ use Rattle.wasm_defs.specs.declared.token.Plain.TheVariants.{LocalGet, Const, Op
 use Rattle.wasm_defs.specs.Trees.{Seq, Nothing, Simple, Block, Loop, If, IfElse}
 use Rattle.wasm_defs.specs.Typing.{Types, Context, Moves, rule_of, Typed}
 use Rattle.wasm_defs.specs.Places.{Place, after_rule, end_of, places, greatest}
-use Rattle.wasm_defs.specs.Configurations.{Func, Instance, Store, Config, Inside, Step, To, Returned}
+use Rattle.wasm_defs.specs.Configurations.{Func, Instance, Store, Config, Inside, Returned}
 use Rattle.wasm_defs.specs.Reductions.{applied, simple}
 use Rattle.wasm_defs.specs.Values.{Value, types_of_values}
-use Rattle.wasm_defs.specs.Effects.{Effect, Gives, effect}
+use Rattle.wasm_defs.specs.Effects.{effect}
 use Rattle.frame_layout.specs.Templates.{Label, Around, words}
 use Rattle.frame_layout.specs.Functions.{code}
 use Rattle.simulation.specs.Straight.{IsStraightStep, IsStraight}
 use Rattle.simulation.proofs.Values.{Matches}
-use Rattle.simulation.proofs.Instructions.{types_length, height_after, follows}
-use Rattle.simulation.proofs.Texts.{has_at, has_first, has_second}
+use Rattle.simulation.proofs.Instructions.{types_length, height_after, Follows, follows}
+use Rattle.simulation.proofs.Texts.{has_first, has_second}
 use Rattle.simulation.proofs.Weights.{ModuleEnds, ends_now, ends_later}
 
 -- the greatest height of a sequence that begins at a place
@@ -50,6 +50,14 @@ running f store locals operands tree =
 
 module _ (text : List (Option Op)) (inst : Instance) (f : Func) (c : Context) (labels : List Label) (w : Around)
     (base there : ℕ) (b : Bytes) (store : Store) (locals : List Value) (are : c.locals ≡ types_of_values locals) where
+  -- what holds before a chain: its words stand at the machine's place
+  pub record Begins (operands : List Value) (tree : Seq) (to : Types) (here i : ℕ) (s : State) : Type 0 where
+    pub typed : Typed c tree (types_of_values operands) to
+    pub low : peak c tree (Some (length operands)) ≤ w.layout.greatest
+    pub at : s.pc ≡ place i
+    pub has : HasAt text i (code w c labels (Some (length operands)) here tree)
+    pub matches : Matches w.layout base there b locals operands s
+
   -- the chain leads to operands of these types, in the module and on the machine
   pub record ChainEnds (operands : List Value) (tree : Seq) (to : Types) (here : ℕ) (s : State) : Type 0 where
     pub after : List Value
@@ -64,11 +72,11 @@ module _ (text : List (Option Op)) (inst : Instance) (f : Func) (c : Context) (l
     pub pc_is : end.pc ≡ s.pc + 4 * length (code w c labels (Some (length operands)) here tree)
     pub matches : Matches w.layout base there b locals after end
 
-  nothing_ends : (operands : List Value) (to : Types) (here : ℕ) (s : State) → types_of_values operands ≡ to → length operands ≤ w.layout.greatest → Matches w.layout base there b locals operands s → ChainEnds operands Nothing to here s
-  nothing_ends operands to here s e high m = record {
+  nothing_ends : (operands : List Value) (to : Types) (here i : ℕ) (s : State) → Begins operands Nothing to here i s → ChainEnds operands Nothing to here s
+  nothing_ends operands to here i s x = record {
     after = operands;
-    types_are = e;
-    high = high;
+    types_are = x.typed;
+    high = let low = x.low in omega arith;
     count = 0;
     module_ends = ends_now inst store (Inside (running f store locals operands Nothing)) refl (Returned store (take (length f.ty.results) operands)) tt refl;
     steps = 0;
@@ -76,59 +84,77 @@ module _ (text : List (Option Op)) (inst : Instance) (f : Func) (c : Context) (l
     end = s;
     reaches = Reaches-none text s;
     pc_is = omega arith;
-    matches = m;
+    matches = x.matches;
   }
 
-  -- what holds of a chain before it is run
-  abbrev Begins : (tree : Seq) (operands : List Value) (to : Types) (here i : ℕ) (s : State) → Type 0
-  Begins tree operands to here i s =
-      Typed c tree (types_of_values operands) to × (peak c tree (Some (length operands)) ≤ w.layout.greatest) × (s.pc ≡ place i)
-      × HasAt text i (code w c labels (Some (length operands)) here tree) × Matches w.layout base there b locals operands s
+  module _ (p : Plain) (rest : Seq) (operands : List Value) (mid to : Types) (here : ℕ) (s : State) (step : IsStraightStep p) where
+    abbrev first : List Op
+    first = words w c labels (length operands) here p
 
-  simple_ends : (p : Plain) (rest : Seq) (operands : List Value) (mid to : Types) (here i : ℕ) (s : State) → IsStraightStep p → IsStraight rest → Moves (rule_of c p) (types_of_values operands) mid → Typed c rest mid to
-      → peak c (Simple p rest) (Some (length operands)) ≤ w.layout.greatest → s.pc ≡ place i → HasAt text i (code w c labels (Some (length operands)) here (Simple p rest)) → Matches w.layout base there b locals operands s
-      → ((after : List Value) (here i : ℕ) (t : State) → Begins rest after to here i t → ChainEnds after rest to here t)
-      → ChainEnds operands (Simple p rest) to here s
-  simple_ends p rest operands mid to here i s step straight moves typed low at has m later =
-      let first = words w c labels (length operands) here p in
-      let size = length first in
-      let place_after = after_rule (rule_of c p) (Some (length operands)) in
-      let high : place_after ≡ Some (length mid) = ap (λ (h : ℕ). after_rule (rule_of c p) (Some h)) (sym (types_length operands)) ∙ height_after c p (types_of_values operands) mid step moves in
-      let peak_mid : peak c rest (Some (length mid)) ≤ w.layout.greatest = subst (λ (q : Place). peak c rest q ≤ w.layout.greatest) high (omega arith) in
-      let one = follows text c labels w base there b store inst.cap locals here s i at p operands mid step are moves (omega arith) (omega (arith, peak_here c rest (length mid) straight))
-      (has_first text i first (code w c labels place_after (here + size) rest) has) m in
-      let lengths : length mid ≡ length one.after = sym (ap length one.types_are) ∙ types_length one.after in
-      let place_is : place_after ≡ Some (length one.after) = high ∙ ap (λ (h : ℕ). Some h) lengths in
-      let more = later one.after (here + size) (i + size) one.end (
-        subst (λ (ts : Types). Typed c rest ts to) (sym one.types_are) typed,
-        subst (λ (h : ℕ). peak c rest (Some h) ≤ w.layout.greatest) lengths peak_mid,
-        omega (arith, one.pc_is),
-        subst (λ (q : Place). HasAt text (i + size) (code w c labels q (here + size) rest)) place_is (has_second text i first (code w c labels place_after (here + size) rest) has),
-        one.matches,
-      ) in
-      let rest_size : length (code w c labels place_after (here + size) rest) ≡ length (code w c labels (Some (length one.after)) (here + size) rest) = ap (λ (q : Place). length (code w c labels q (here + size) rest)) place_is in
-      let now = simple_applied inst (running f store locals operands (Simple p rest)) p rest step ∙ ap (applied (running f store locals operands (Simple p rest)) rest) one.gives in
-      record {
-        after = more.after;
-        types_are = more.types_are;
-        high = more.high;
-        count = suc more.count;
-        module_ends = ends_later inst store (Inside (running f store locals operands (Simple p rest))) refl (suc more.count) (Inside (running f store locals one.after rest)) (Returned store (take (length f.ty.results) more.after)) now more.module_ends;
-        steps = size + more.steps;
-        within = omega (arith, one.short, more.within);
-        end = more.end;
-        reaches = Reaches-then one.reaches more.reaches;
-        pc_is = omega (arith, more.pc_is, one.pc_is, rest_size, length-append first (code w c labels place_after (here + size) rest));
-        matches = more.matches;
-      }
+    abbrev place_after : Place
+    place_after = after_rule (rule_of c p) (Some (length operands))
 
-  pub chain_ends : (tree : Seq) (operands : List Value) (to : Types) (here i : ℕ) (s : State) → IsStraight tree → Typed c tree (types_of_values operands) to → peak c tree (Some (length operands)) ≤ w.layout.greatest
-      → s.pc ≡ place i → HasAt text i (code w c labels (Some (length operands)) here tree) → Matches w.layout base there b locals operands s → ChainEnds operands tree to here s
-  chain_ends Nothing operands to here i s straight typed low at has m = nothing_ends operands to here s typed (omega arith) m
-  chain_ends (Simple p rest) operands to here i s straight typed low at has m =
-      simple_ends p rest operands typed.0 to here i s straight.0 straight.1 typed.1 typed.2 low at has m
-      (λ after h j t begins. chain_ends rest after to h j t straight.1 begins.0 begins.1 begins.2 begins.3 begins.4)
-  chain_ends (Block type body rest) operands to here i s straight typed low at has m = absurd straight
-  chain_ends (Loop type body rest) operands to here i s straight typed low at has m = absurd straight
-  chain_ends (If type body rest) operands to here i s straight typed low at has m = absurd straight
-  chain_ends (IfElse type body other rest) operands to here i s straight typed low at has m = absurd straight
+    abbrev behind : Place → List Op
+    behind q = code w c labels q (here + length first) rest
+
+    abbrev One : Type 0
+    One = Follows text c labels w base there b store inst.cap locals operands p mid here s
+
+    place_is : Moves (rule_of c p) (types_of_values operands) mid → place_after ≡ Some (length mid)
+    place_is moves = ap (λ (h : ℕ). after_rule (rule_of c p) (Some h)) (sym (types_length operands)) ∙ height_after c p (types_of_values operands) mid step moves
+
+    place_behind : (one : One) → place_after ≡ Some (length mid) → place_after ≡ Some (length one.after)
+    place_behind one e = e ∙ ap (λ (ts : Types). Some (length ts)) (sym one.types_are) ∙ ap (λ (h : ℕ). Some h) (types_length one.after)
+
+    -- the first instruction
+    first_follows : (i : ℕ) → Begins operands (Simple p rest) to here i s → IsStraight rest → Moves (rule_of c p) (types_of_values operands) mid → One
+    first_follows i x straight moves =
+        let low = x.low in
+        let peak_mid : peak c rest (Some (length mid)) ≤ w.layout.greatest = subst (λ (q : Place). peak c rest q ≤ w.layout.greatest) (place_is moves) (omega arith) in
+        follows text c labels w base there b store inst.cap locals here s i x.at p operands mid step are moves (omega arith) (omega (arith, peak_here c rest (length mid) straight))
+        (has_first text i first (behind place_after) x.has) x.matches
+
+    -- what follows it begins
+    rest_begins : (i : ℕ) → Begins operands (Simple p rest) to here i s → Typed c rest mid to → (one : One) → place_after ≡ Some (length one.after)
+        → Begins one.after rest to (here + length first) (i + length first) one.end
+    rest_begins i x typed one e = record {
+      typed = subst (λ (ts : Types). Typed c rest ts to) (sym one.types_are) typed;
+      low = let low = x.low in subst (λ (q : Place). peak c rest q ≤ w.layout.greatest) e (omega arith);
+      at = omega (arith, one.pc_is, x.at);
+      has = subst (λ (q : Place). HasAt text (i + length first) (behind q)) e (has_second text i first (behind place_after) x.has);
+      matches = one.matches;
+    }
+
+    both_end : (one : One) → place_after ≡ Some (length one.after) → ChainEnds one.after rest to (here + length first) one.end → ChainEnds operands (Simple p rest) to here s
+    both_end one e more =
+        let now = simple_applied inst (running f store locals operands (Simple p rest)) p rest step ∙ ap (applied (running f store locals operands (Simple p rest)) rest) one.gives in
+        let size : length (behind place_after) ≡ length (behind (Some (length one.after))) = ap (λ (q : Place). length (behind q)) e in
+        record {
+          after = more.after;
+          types_are = more.types_are;
+          high = more.high;
+          count = suc more.count;
+          module_ends = ends_later inst store (Inside (running f store locals operands (Simple p rest))) refl (suc more.count) (Inside (running f store locals one.after rest)) (Returned store (take (length f.ty.results) more.after)) now more.module_ends;
+          steps = length first + more.steps;
+          within = omega (arith, one.short, more.within);
+          end = more.end;
+          reaches = Reaches-then one.reaches more.reaches;
+          pc_is = omega (arith, more.pc_is, one.pc_is, size, length-append first (behind place_after));
+          matches = more.matches;
+        }
+
+    simple_ends : (i : ℕ) → Begins operands (Simple p rest) to here i s → IsStraight rest → Moves (rule_of c p) (types_of_values operands) mid → Typed c rest mid to
+        → ((after : List Value) (here i : ℕ) (t : State) → Begins after rest to here i t → ChainEnds after rest to here t) → ChainEnds operands (Simple p rest) to here s
+    simple_ends i x straight moves typed later =
+        let one = first_follows i x straight moves in
+        let e = place_behind one (place_is moves) in
+        both_end one e (later one.after (here + length first) (i + length first) one.end (rest_begins i x typed one e))
+
+  pub chain_ends : (tree : Seq) (operands : List Value) (to : Types) (here i : ℕ) (s : State) → IsStraight tree → Begins operands tree to here i s → ChainEnds operands tree to here s
+  chain_ends Nothing operands to here i s straight x = nothing_ends operands to here i s x
+  chain_ends (Simple p rest) operands to here i s straight x =
+      simple_ends p rest operands x.typed.0 to here s straight.0 i x straight.1 x.typed.1 x.typed.2 (λ after h j t begins. chain_ends rest after to h j t straight.1 begins)
+  chain_ends (Block type body rest) operands to here i s straight x = absurd straight
+  chain_ends (Loop type body rest) operands to here i s straight x = absurd straight
+  chain_ends (If type body rest) operands to here i s straight x = absurd straight
+  chain_ends (IfElse type body other rest) operands to here i s straight x = absurd straight

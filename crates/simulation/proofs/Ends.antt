@@ -1,12 +1,12 @@
 -- Two runs that come to the same end, one after so much weight and one after so many steps, are the same runs.
-use Rattle.std.proofs.Common.{◌≡◌, ℕ, ◌+◌, ◌*◌, ◌<◌, ◌≤◌, ◌⊎◌, inl, inr, ⊎_elim, List, [], ◌++◌, refl, sym, ap, ◌∙◌, subst, arith}
+use Rattle.std.proofs.Common.{◌≡◌, ℕ, ◌+◌, ◌*◌, ◌<◌, ◌≤◌, ◌⊎◌, inl, inr, ⊎_elim, List, [], sym, ap, ◌∙◌, subst, arith}
 use Rattle.std.specs.Prelude.{◌≢◌}
 use Rattle.std.proofs.lemmas.Bool.{cases_lt}
 use Rattle.std.proofs.lemmas.List.{append-nil}
 use Rattle.rv_isa.specs.declared.stepping.FaultKind.{FaultKind}
 use Rattle.wasm_defs.specs.Host.{HostCall}
 use Rattle.wasm_defs.specs.ModuleRun.{End, Going, Fails, Run}
-use Rattle.image_format.specs.ImageRun.{Ending, As, Fault, ImageRun}
+use Rattle.image_format.specs.ImageRun.{As, Fault, ImageRun}
 use Rattle.simulation.specs.SameRuns.{IsOver, as_image, BeginsWith, SameRuns}
 
 -- a run that goes on up to a count, and has come to its end from then on
@@ -51,36 +51,36 @@ module _ (calls : List HostCall) (end : End) (over : IsOver end) (weight steps :
 
   ends_in_time : (k : ℕ) → IsOver (runs k).end → (n : ℕ) × (n ≤ 128 * k + 64) × (image n ≡ as_image (runs k))
   ends_in_time k h = ⊎_elim
-    (λ e. absurd (subst (λ (r : Run). IsOver r.end) e h))
-    (λ e. (steps, omega (arith, e.0), image_ends.after steps (omega arith) ∙ ap as_image (sym e.1)))
-    (module_as k)
+      (λ e. absurd (subst (λ (r : Run). IsOver r.end) e h))
+      (λ e. (steps, omega (arith, e.0), image_ends.after steps (omega arith) ∙ ap as_image (sym e.1)))
+      (module_as k)
 
   nothing_else : (n : ℕ) (e : End) → (image n).end ≡ As e → IsOver e → (k : ℕ) × (image n ≡ as_image (runs k))
   nothing_else n e is h = ⊎_elim
-    (λ f. absurd (subst IsOver (as_end e Going (sym is ∙ ap (λ (r : ImageRun). r.end) f)) h))
-    (λ f. (weight, f.1 ∙ ap as_image (sym (module_ends.after weight (omega arith)))))
-    (image_as n)
+      (λ f. absurd (subst IsOver (as_end e Going (sym is ∙ ap (λ (r : ImageRun). r.end) f)) h))
+      (λ f. (weight, f.1 ∙ ap as_image (sym (module_ends.after weight (omega arith)))))
+      (image_as n)
 
   module_never : (k : ℕ) → (runs k).end ≢ Fails
   module_never k f = ⊎_elim
-    (λ e. going_fails (ap (λ (r : Run). r.end) (sym e) ∙ f))
-    (λ e. end_fails (ap (λ (r : Run). r.end) (sym e.1) ∙ f))
-    (module_as k)
+      (λ e. going_fails (ap (λ (r : Run). r.end) (sym e) ∙ f))
+      (λ e. end_fails (ap (λ (r : Run). r.end) (sym e.1) ∙ f))
+      (module_as k)
 
   image_never : (n : ℕ) → (image n).end ≢ As Fails
   image_never n f = ⊎_elim
-    (λ e. going_fails (as_end Going Fails (ap (λ (r : ImageRun). r.end) (sym e) ∙ f)))
-    (λ e. end_fails (as_end end Fails (ap (λ (r : ImageRun). r.end) (sym e.1) ∙ f)))
-    (image_as n)
+      (λ e. going_fails (as_end Going Fails (ap (λ (r : ImageRun). r.end) (sym e) ∙ f)))
+      (λ e. end_fails (as_end end Fails (ap (λ (r : ImageRun). r.end) (sym e.1) ∙ f)))
+      (image_as n)
 
   is_no_fault : (e : End) (kind : FaultKind) (pc : ℕ) → As e ≡ Fault kind pc → ⊥
   is_no_fault e kind pc f = absurd cc
 
   image_never_faults : (n : ℕ) (kind : FaultKind) (pc : ℕ) → (image n).end ≢ Fault kind pc
   image_never_faults n kind pc f = ⊎_elim
-    (λ e. is_no_fault Going kind pc (ap (λ (r : ImageRun). r.end) (sym e) ∙ f))
-    (λ e. is_no_fault end kind pc (ap (λ (r : ImageRun). r.end) (sym e.1) ∙ f))
-    (image_as n)
+      (λ e. is_no_fault Going kind pc (ap (λ (r : ImageRun). r.end) (sym e) ∙ f))
+      (λ e. is_no_fault end kind pc (ap (λ (r : ImageRun). r.end) (sym e.1) ∙ f))
+      (image_as n)
 
   pub same_ends : SameRuns runs image
   same_ends = record {

@@ -1,5 +1,5 @@
 -- A function's frame behind its prologue: its arguments, zeros, and the place to return to.
-use Rattle.std.proofs.Common.{◌≡◌, ℕ, zero, suc, ◌+◌, ◌*◌, ◌^◌, ◌<◌, ◌≤◌, ⊎_elim, List, [], ◌++◌, length, map, Option, Some, refl, sym, ap, ◌∙◌, subst, arith}
+use Rattle.std.proofs.Common.{◌≡◌, ℕ, ◌+◌, ◌≤◌, ⊎_elim, List, [], ◌++◌, length, map, Option, Some, refl, sym, ap, ◌∙◌, subst, arith}
 use Rattle.std.specs.Prelude.{slice_get}
 use Rattle.std.proofs.lemmas.List.{length-append, length-map}
 use Rattle.std.proofs.lemmas.Option.{slice_get_within}
@@ -9,14 +9,14 @@ use Rattle.rv_isa.specs.Steps.{State, Bytes, reg, window}
 use Rattle.rv_isa.specs.Runs.{FitWindows}
 use Rattle.wasm_defs.specs.declared.types.ValType.{ValType}
 use Rattle.wasm_defs.specs.Configurations.{Func, max_slots}
-use Rattle.wasm_defs.specs.Values.{Value, InRange, word_of, zero_of, types_of_values}
+use Rattle.wasm_defs.specs.Values.{Value, word_of, zero_of}
 use Rattle.frame_layout.specs.declared.layout.Layout.{Layout}
 use Rattle.frame_layout.specs.Macros.{ra, s0, s5}
-use Rattle.frame_layout.specs.Slots.{link, operand, need}
-use Rattle.frame_layout.specs.Laws.{slot_at, IsFrame, Does, Enters}
+use Rattle.frame_layout.specs.Slots.{link, need}
+use Rattle.frame_layout.specs.Laws.{slot_at, IsFrame, Enters}
 use Rattle.simulation.proofs.Arguments.{AreOf, among_both, among_zeros}
 use Rattle.simulation.proofs.Instructions.{types_length}
-use Rattle.simulation.proofs.Values.{Holds, Operands, Locals, SameBeside, Matches}
+use Rattle.simulation.proofs.Values.{Holds, Locals, SameBeside, Matches}
 use Rattle.simulation.proofs.Words.{zero_word, modulus_positive}
 
 same_windows : (b c : Bytes) → length c.stack ≡ length b.stack → SameBeside b c → FitWindows b → FitWindows c

@@ -1,18 +1,18 @@
 -- The end of a function that was called from outside: its epilogue, and the exit stub.
-use Rattle.std.proofs.Common.{◌≡◌, ℕ, zero, suc, ◌+◌, ◌*◌, ◌%◌, ◌^◌, ◌<◌, ◌≤◌, ◌==◌, Bool, true, false, if◌then◌else◌, List, [], ◌∷◌, length, take, reverse, Option, refl, sym, ap, ◌∙◌, subst, arith}
+use Rattle.std.proofs.Common.{◌≡◌, ℕ, suc, ◌+◌, ◌*◌, ◌%◌, ◌^◌, ◌<◌, ◌≤◌, ◌==◌, if◌then◌else◌, List, [], ◌∷◌, length, take, reverse, Option, refl, sym, ap, ◌∙◌, subst, arith}
 use Rattle.std.proofs.lemmas.Bool.{cond-false, ne_eqb}
 use Rattle.rv_isa.specs.declared.operations.Op.{Op}
 use Rattle.rv_isa.specs.Steps.{State, Bytes, reg, text_base, exec, Called}
-use Rattle.rv_isa.specs.Runs.{place, HasAt, Reaches}
+use Rattle.rv_isa.specs.Runs.{place, HasAt}
 use Rattle.wasm_defs.specs.declared.types.ValType.{ValType}
 use Rattle.wasm_defs.specs.Configurations.{max_slots}
 use Rattle.wasm_defs.specs.Typing.{Types}
-use Rattle.wasm_defs.specs.Values.{Value, modulus, word, word_of, types_of_values}
+use Rattle.wasm_defs.specs.Values.{Value, modulus, types_of_values}
 use Rattle.frame_layout.specs.declared.layout.Layout.{Layout}
 use Rattle.frame_layout.specs.Macros.{a7}
-use Rattle.frame_layout.specs.Slots.{link, operand, need}
+use Rattle.frame_layout.specs.Slots.{operand}
 use Rattle.frame_layout.specs.Templates.{epilogue, exit_stub}
-use Rattle.frame_layout.specs.Laws.{slot_at, with_slot, IsFrame, Leaves}
+use Rattle.frame_layout.specs.Laws.{slot_at, with_slot}
 use Rattle.frame_layout.proofs.Endings.{epilogue_does, exit_does}
 use Rattle.image_format.specs.Environment.{held, word_at}
 use Rattle.image_format.specs.ImageRun.{results_at}

@@ -1,11 +1,10 @@
 -- Whole runs of a function that is called from outside.
-use Rattle.std.proofs.Common.{◌≡◌, ℕ, zero, suc, ◌+◌, ◌*◌, ◌^◌, ◌<◌, ◌≤◌, false, ⊎_elim, List, [], ◌∷◌, ◌++◌, length, map, take, reverse, Option, Some, refl, sym, ap, ◌∙◌, subst, arith}
+use Rattle.std.proofs.Common.{◌≡◌, ℕ, zero, suc, ◌+◌, ◌*◌, ◌^◌, ◌<◌, ◌≤◌, false, ⊎_elim, List, [], ◌∷◌, ◌++◌, length, map, take, Option, Some, refl, sym, ap, ◌∙◌, subst, arith}
 use Rattle.std.specs.Prelude.{slice_get, nat_lt}
 use Rattle.std.proofs.lemmas.Bool.{cases_lt, cond-true, cond-false, lt-ltb, le-ltb}
 use Rattle.std.proofs.lemmas.List.{length-reverse}
-use Rattle.rv_isa.specs.declared.operations.Op.{Op}
 use Rattle.rv_isa.specs.Steps.{State, Bytes, reg, text_base, exec, Called}
-use Rattle.rv_isa.specs.Runs.{place, HasAt}
+use Rattle.rv_isa.specs.Runs.{HasAt}
 use Rattle.wasm_defs.specs.declared.value.TrapKind.TheVariants.{StackExhausted}
 use Rattle.wasm_defs.specs.Typing.{Types, Context, inside}
 use Rattle.wasm_defs.specs.Places.{places_of, greatest}
@@ -16,7 +15,6 @@ use Rattle.wasm_defs.specs.Host.{HostCall}
 use Rattle.wasm_defs.specs.Reductions.{enter, start_function, next, run}
 use Rattle.wasm_defs.specs.ModuleRun.{Run, Traps}
 use Rattle.wasm_defs.specs.ModuleRun as module_run
-use Rattle.frame_layout.specs.declared.layout.Layout.{Layout}
 use Rattle.frame_layout.specs.Macros.{a7}
 use Rattle.frame_layout.specs.Slots.{need}
 use Rattle.frame_layout.specs.Templates.{Label, Around, prologue, epilogue, exit_stub}
@@ -128,8 +126,8 @@ module _ (inst : Instance) (image : Image) (f : Func) (c : Context) (w : Around)
       let m = entry_matches text l f arguments text_base r.machine entry called.frame room good.params good.locals are called.return_place called.stand in
       let has_rest = has_second text begin (prologue l) (body ++ behind) has in
       let greatest_is : greatest (places_of c f.body) ≡ l.greatest = sym good.greatest_is ∙ sym good.greatest in
-      let chain = chain_ends text inst f (inside c c.results) labels w 0 text_base r.machine.bytes store locals locals_are f.body [] c.results
-      (body_place w) (begin + size) entry.does.end good.straight good.typed (omega arith) (omega (arith, entry.does.pc_is, called.at)) (has_first text (begin + size) body behind has_rest) m in
+      let chain = chain_ends text inst f (inside c c.results) labels w 0 text_base r.machine.bytes store locals locals_are f.body [] c.results (body_place w) (begin + size) entry.does.end good.straight
+      (record { typed = good.typed; low = omega arith; at = omega (arith, entry.does.pc_is, called.at); has = has_first text (begin + size) body behind has_rest; matches = m }) in
       let results_count : length c.results ≡ length rs = ap length good.results_are ∙ length-reverse rs in
       let after_count : length chain.after ≡ length rs = sym (types_length chain.after) ∙ ap length chain.types_are ∙ results_count in
       let has_end = subst (λ (n : ℕ). HasAt text (begin + size + length body) (epilogue l n)) results_count (has_second text (begin + size) body behind has_rest) in

@@ -1,5 +1,5 @@
 -- The law of each instruction: its words lead from the operands before it to those after it.
-use Rattle.std.proofs.Common.{◌≡◌, ℕ, zero, suc, ◌+◌, ◌-◌, ◌*◌, ◌^◌, ◌<◌, ◌≤◌, List, [], ◌∷◌, ◌++◌, length, map, Option, Some, None, refl, sym, ap, ◌∙◌, subst, arith}
+use Rattle.std.proofs.Common.{◌≡◌, ℕ, suc, ◌+◌, ◌-◌, ◌*◌, ◌^◌, ◌<◌, ◌≤◌, List, [], ◌∷◌, ◌++◌, length, Option, Some, None, refl, sym, ap, ◌∙◌, subst, arith}
 use Rattle.std.specs.Prelude.{slice_get, option_map, ℤ}
 use Rattle.std.proofs.lemmas.Option.{slice_get-map, slice_get_within}
 use Rattle.std.proofs.lemmas.List.{length-map, length-append}
@@ -7,23 +7,23 @@ use Rattle.rv_isa.specs.declared.operations.Op.{Op}
 use Rattle.rv_isa.specs.Steps.{State, Bytes}
 use Rattle.rv_isa.specs.Runs.{place, HasAt, Reaches}
 use Rattle.wasm_defs.specs.declared.types.ValType.{ValType}
-use Rattle.wasm_defs.specs.declared.types.ValType.TheVariants.{I32, I64}
+use Rattle.wasm_defs.specs.declared.types.ValType.TheVariants.{I32}
 use Rattle.wasm_defs.specs.declared.operation.Operation.TheVariants.{Binary}
 use Rattle.wasm_defs.specs.declared.operation.BinaryOp.TheVariants.{Add}
 use Rattle.wasm_defs.specs.declared.token.Plain.{Plain}
 use Rattle.wasm_defs.specs.declared.token.Plain.TheVariants.{LocalGet, Const, Operate}
-use Rattle.wasm_defs.specs.Typing.{Types, Context, Rule, Fixed, Moves, with_type, rule_of}
+use Rattle.wasm_defs.specs.Typing.{Types, Context, Fixed, Moves, with_type, rule_of}
 use Rattle.wasm_defs.specs.Places.{after_rule}
-use Rattle.wasm_defs.specs.Configurations.{Store, max_slots}
-use Rattle.wasm_defs.specs.Values.{Value, modulus, word, word_of, types_of_values, unsigned}
+use Rattle.wasm_defs.specs.Configurations.{Store}
+use Rattle.wasm_defs.specs.Values.{Value, modulus, word, types_of_values, unsigned}
 use Rattle.wasm_defs.specs.Integers.{iadd}
 use Rattle.wasm_defs.specs.Effects.{Gives, pushed, effect, value}
-use Rattle.frame_layout.specs.Slots.{operand, need}
+use Rattle.frame_layout.specs.Slots.{operand}
 use Rattle.frame_layout.specs.Templates.{Label, Around, const_words, local_get_words, operate_words, words}
 use Rattle.frame_layout.specs.Laws.{slot_at, with_slot, Does}
 use Rattle.frame_layout.proofs.Instructions.{const_does, local_get_does, add_does}
 use Rattle.simulation.specs.Straight.{IsStraightStep}
-use Rattle.simulation.proofs.Values.{Holds, Matches}
+use Rattle.simulation.proofs.Values.{Matches}
 use Rattle.simulation.proofs.Puts.{put_matches}
 
 -- ---- what rules say of heights and types

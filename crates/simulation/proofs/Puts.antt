@@ -1,13 +1,13 @@
 -- What a frame holds behind words that store one operand.
-use Rattle.std.proofs.Common.{◌≡◌, ℕ, ◌+◌, ◌*◌, ◌^◌, ◌<◌, ◌≤◌, List, ◌∷◌, length, Option, refl, sym, ap, ◌∙◌, subst, arith}
+use Rattle.std.proofs.Common.{◌≡◌, ℕ, ◌+◌, ◌^◌, ◌<◌, ◌≤◌, List, ◌∷◌, length, Option, refl, sym, ap, ◌∙◌, subst, arith}
 use Rattle.rv_isa.specs.declared.operations.Op.{Op}
-use Rattle.rv_isa.specs.Steps.{State, Bytes, reg}
+use Rattle.rv_isa.specs.Steps.{State, Bytes}
 use Rattle.rv_isa.specs.Runs.{FitWindows}
 use Rattle.wasm_defs.specs.Configurations.{max_slots}
 use Rattle.wasm_defs.specs.Values.{Value}
 use Rattle.frame_layout.specs.declared.layout.Layout.{Layout}
 use Rattle.frame_layout.specs.Macros.{s0, s5}
-use Rattle.frame_layout.specs.Slots.{link, operand, need}
+use Rattle.frame_layout.specs.Slots.{link, operand}
 use Rattle.frame_layout.specs.Laws.{slot_at, with_slot, IsFrame, Does}
 use Rattle.simulation.proofs.Slots.{slot_same, slot_other, stack_stays, windows_stay}
 use Rattle.simulation.proofs.Values.{Holds, holds_as, Operands, Locals, Agree, operands_kept, locals_kept, SameBeside, Matches}

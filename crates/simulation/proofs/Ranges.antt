@@ -1,5 +1,5 @@
 -- The fields of the operations that functions consist of fit their words.
-use Rattle.std.proofs.Common.{◌≡◌, ℕ, zero, suc, ◌+◌, ◌-◌, ◌*◌, ◌/◌, ◌%◌, ◌^◌, ◌<◌, ◌≤◌, List, [], ◌∷◌, ◌++◌, length, Some, None, refl, sym, ap, ◌∙◌, subst, arith}
+use Rattle.std.proofs.Common.{ℕ, zero, suc, ◌+◌, ◌-◌, ◌*◌, ◌/◌, ◌^◌, ◌<◌, List, [], ◌∷◌, ◌++◌, length, Some, None, arith}
 use Rattle.rv_isa.specs.declared.operations.Op.{Op}
 use Rattle.rv_isa.specs.declared.operations.Op.TheVariants.{Jalr, Branch, Store, Imm, Reg, RegW}
 use Rattle.rv_isa.specs.declared.operations.BranchOp.TheVariants.{Bne, Bgeu}
@@ -8,7 +8,7 @@ use Rattle.rv_isa.specs.declared.operations.ImmOp.TheVariants.{Addi}
 use Rattle.rv_isa.specs.declared.operations.RegOp.TheVariants as reg
 use Rattle.rv_isa.specs.declared.operations.RegOpW.TheVariants.{Addw}
 use Rattle.rv_isa.specs.Words.{IsInRange}
-use Rattle.rv_isa.specs.Runs.{hi, lo, load_behind, store_behind, AllInRange}
+use Rattle.rv_isa.specs.Runs.{AllInRange}
 use Rattle.wasm_defs.specs.declared.types.ValType.TheVariants.{I32}
 use Rattle.wasm_defs.specs.declared.operation.Operation.TheVariants.{Binary}
 use Rattle.wasm_defs.specs.declared.operation.BinaryOp.TheVariants.{Add}

@@ -1,15 +1,15 @@
 -- What the environment answers at a function's end, and at a trap.
-use Rattle.std.proofs.Common.{◌≡◌, ℕ, ◌*◌, ◌/◌, ◌==◌, List, [], length, take, Option, Some, refl, sym, ap, ◌∙◌, subst, arith}
+use Rattle.std.proofs.Common.{◌≡◌, ℕ, ◌*◌, ◌/◌, ◌==◌, List, [], length, take, Some, sym, ap, ◌∙◌, arith}
 use Rattle.std.proofs.lemmas.Bool.{cond-true, cond-false, eq-eqb, ne_eqb}
-use Rattle.rv_isa.specs.Steps.{State, Bytes, reg}
+use Rattle.rv_isa.specs.Steps.{State, reg}
 use Rattle.wasm_defs.specs.declared.types.ValType.{ValType}
 use Rattle.wasm_defs.specs.declared.value.TrapKind.{TrapKind}
-use Rattle.wasm_defs.specs.Values.{Value, trap_of, words_of}
-use Rattle.wasm_defs.specs.ModuleRun.{End, Returns, Traps}
+use Rattle.wasm_defs.specs.Values.{Value, trap_of}
+use Rattle.wasm_defs.specs.ModuleRun.{Returns, Traps}
 use Rattle.frame_layout.specs.Macros.{a0, a7}
 use Rattle.image_format.specs.declared.image.Image.{Image}
 use Rattle.image_format.specs.Environment.{Entry, words_at}
-use Rattle.image_format.specs.ImageRun.{Running, Stepping, Ended, results_at, memory_of, globals_of, finish, trapped, environment}
+use Rattle.image_format.specs.ImageRun.{Running, Ended, results_at, memory_of, globals_of, finish, trapped, environment}
 use Rattle.simulation.proofs.Values.{SameBeside}
 use Rattle.simulation.proofs.Steps.{with_machine}
 

@@ -1,5 +1,5 @@
 -- Runs of an image by the runs of its machine.
-use Rattle.std.proofs.Common.{◌≡◌, ℕ, zero, suc, ◌+◌, ◌-◌, ◌<◌, ◌≤◌, List, Option, refl, sym, ap, ◌∙◌, subst, arith}
+use Rattle.std.proofs.Common.{◌≡◌, ℕ, zero, suc, ◌+◌, ◌-◌, ◌<◌, ◌≤◌, List, Option, refl, sym, ap, ◌∙◌, arith}
 use Rattle.rv_isa.specs.declared.operations.Op.{Op}
 use Rattle.rv_isa.specs.Steps.{State, Stepped, step, Ran, Spent, Called, Faulted, go_on, exec}
 use Rattle.rv_isa.specs.Steps as machine

@@ -1,18 +1,13 @@
 -- What the slots of a frame hold: the locals, the operands, and the place to return to.
-use Rattle.std.proofs.Common.{◌≡◌, ℕ, zero, suc, ◌+◌, ◌-◌, ◌*◌, ◌^◌, ◌<◌, ◌≤◌, List, [], ◌∷◌, length, map, Some, Option, refl, sym, ap, ◌∙◌, subst, arith}
-use Rattle.std.specs.Prelude.{slice_get, ◌≢◌}
+use Rattle.std.proofs.Common.{◌≡◌, ℕ, ◌+◌, ◌<◌, ◌≤◌, List, [], ◌∷◌, length, Some, ◌∙◌, arith}
+use Rattle.std.specs.Prelude.{slice_get}
 use Rattle.std.proofs.lemmas.Option.{slice_get_within}
-use Rattle.std.proofs.lemmas.List.{length-map}
-use Rattle.rv_isa.specs.Steps.{State, Bytes, reg}
-use Rattle.wasm_defs.specs.declared.types.ValType.{ValType}
+use Rattle.rv_isa.specs.Steps.{State, Bytes}
 use Rattle.wasm_defs.specs.Configurations.{max_slots}
-use Rattle.wasm_defs.specs.Values.{Value, InRange, word_of, types_of_values}
+use Rattle.wasm_defs.specs.Values.{Value, InRange, word_of}
 use Rattle.frame_layout.specs.declared.layout.Layout.{Layout}
 use Rattle.frame_layout.specs.Slots.{link, operand, need}
-use Rattle.frame_layout.specs.Laws.{slot_at, with_slot, IsFrame, Does}
-use Rattle.rv_isa.specs.declared.operations.Op.{Op}
-use Rattle.simulation.proofs.Slots.{slot_same, slot_other, stack_stays, windows_stay}
-use Rattle.simulation.proofs.Words.{word_small}
+use Rattle.frame_layout.specs.Laws.{slot_at, IsFrame}
 
 -- a slot holds a value, as the word of its type
 pub record Holds (x : ℕ) (v : Value) : Type 0 where

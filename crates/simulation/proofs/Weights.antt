@@ -1,5 +1,5 @@
 -- Runs of a module that end after so much weight.
-use Rattle.std.proofs.Common.{◌≡◌, ℕ, zero, suc, ◌+◌, ◌-◌, ◌<◌, ◌≤◌, refl, sym, ap, ◌∙◌, arith}
+use Rattle.std.proofs.Common.{◌≡◌, ℕ, zero, suc, ◌<◌, ◌≤◌, refl, ap, ◌∙◌, arith}
 use Rattle.wasm_defs.specs.Configurations.{Instance, Store, State, Step, To, Returned, Trapped, Stopped, Waiting, Stuck}
 use Rattle.wasm_defs.specs.Reductions.{next, on, run}
 use Rattle.wasm_defs.specs.ModuleRun.{End, store_in, run_of}

@@ -1,7 +1,7 @@
 -- Functions whose bodies are chains of the instructions that are compiled so far: `local.get`, `i32.const` and `i32.add`.
-use Rattle.std.specs.Prelude.{◌≡◌, ℕ, ◌+◌, ◌*◌, ◌^◌, ◌<◌, ◌≤◌, true, List, [], ◌++◌, length, reverse, Some, slice_get}
+use Rattle.std.specs.Prelude.{◌≡◌, ℕ, ◌^◌, ◌<◌, ◌≤◌, true, List, [], ◌++◌, length, reverse, Some, slice_get}
 use Rattle.rv_isa.specs.Steps.{reg, text_base}
-use Rattle.rv_isa.specs.Runs.{place, HasAt}
+use Rattle.rv_isa.specs.Runs.{place}
 use Rattle.wasm_defs.specs.declared.types.ValType.TheVariants.{I32}
 use Rattle.wasm_defs.specs.declared.operation.Operation.TheVariants.{Binary}
 use Rattle.wasm_defs.specs.declared.operation.BinaryOp.TheVariants.{Add}

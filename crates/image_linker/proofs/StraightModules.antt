@@ -1,28 +1,17 @@
 -- Modules of what is compiled so far: their sections are types, functions, exports and code, and their bodies chains of
 -- instructions.
-use Rattle.std.specs.Prelude.{◌≡◌, ℕ, suc, ◌^◌, ◌<◌, ◌≤◌, List, [], ◌∷◌, length, Some}
+use Rattle.std.proofs.Common.{◌≡◌, ℕ, suc, ◌^◌, ◌<◌, ◌≤◌, List, [], ◌∷◌, length, Some}
 use Rattle.wasm_defs.specs.declared.item.Item.{Item}
-use Rattle.wasm_defs.specs.declared.item.Item.TheVariants.{Signature, Function, Exported, Code}
 use Rattle.wasm_defs.specs.Limits.{max_params}
 use Rattle.wasm_defs.specs.Outside.{Body}
 use Rattle.wasm_defs.specs.Trees.{Seq}
 use Rattle.wasm_defs.specs.Typing.{IsBody}
 use Rattle.wasm_defs.specs.Faults.{context_at, Module}
 use Rattle.wasm_defs.specs.Instances.{exports_of, named, function_of}
+use Rattle.wasm_laws.specs.Plain.{ArePlain}
 use Rattle.frame_layout.specs.Slots.{need}
 use Rattle.simulation.specs.Straight.{IsStraight}
 use Rattle.image_linker.specs.ImageOf.{layout_of}
-
-abbrev pub IsStraightItem : Item → Type 0
-IsStraightItem (Signature form params results ty) = Unit {0}
-IsStraightItem (Function type_index) = Unit {0}
-IsStraightItem (Exported label kind index) = Unit {0}
-IsStraightItem (Code count end) = Unit {0}
-IsStraightItem x = ⊥
-
-abbrev pub AreStraightItems : List Item → Type 0
-AreStraightItems [] = Unit {0}
-AreStraightItems (x ∷ xs) = IsStraightItem x × AreStraightItems xs
 
 -- the k-th body
 pub record IsStraightBody (items : List Item) (k : ℕ) (b : Body) (tree : Seq) : Type 0 where
@@ -39,7 +28,7 @@ AreStraightBodies items k (b ∷ bodies) (tree ∷ trees) = IsStraightBody items
 AreStraightBodies items k bodies trees = ⊥
 
 pub record IsStraightModule (m : Module) : Type 0 where
-  pub items : AreStraightItems m.items
+  pub items : ArePlain m.items
   pub bodies : AreStraightBodies m.items 0 m.bodies m.trees
   -- exported functions are there
   pub exports : (name : List ℕ) (f : ℕ) → named name (exports_of m.items) ≡ Some f → f < length m.bodies
