@@ -6,5 +6,10 @@
 #![tactic(auto)]
 
 mod layout;
+pub mod macros;
+mod slots;
+#[cfg(test)]
+mod tests;
 
 pub use layout::Layout;
+pub use slots::{load_slot, store_slot};
