@@ -35,6 +35,12 @@ pub record Placed (code : List (Option Op)) (items : List Item) (places : List �
   pub declared : slice_get (declared_from items k bodies trees) j ≡ Some (function_of items number body tree)
   pub good : IsStraightBody items number body tree
 
+-- a function's words are as many, whatever the distances
+function_size_is : (items : List Item) (places : List ℕ) (here k : ℕ) (b : Body) (tree : Seq) → IsStraightBody items k b tree → length (code_of_function items places here k b tree) ≡ size_of items k b tree
+function_size_is items places here k b tree good =
+    function_length (around items k b tree (distances places here)) no_distance (context_at items k b) tree good.straight
+    ∙ sym (function_length (around items k b tree no_distance) no_distance (context_at items k b) tree good.straight)
+
 module _ (code : List (Option Op)) (items : List Item) (places : List ℕ) where
   first_placed : (here k number : ℕ) (b : Body) (bodies : List Body) (tree : Seq) (trees : List Seq) → k + 0 ≡ number → IsStraightBody items k b tree
       → HasAt code here (code_of_function items places here k b tree) → Placed code items places here k (b ∷ bodies) (tree ∷ trees) 0 number
@@ -42,9 +48,6 @@ module _ (code : List (Option Op)) (items : List Item) (places : List ℕ) where
       let same : k ≡ number = omega (arith, e) in
       let at_k : Placed code items places here k (b ∷ bodies) (tree ∷ trees) 0 k = record { body = b; tree = tree; begin = here; place_is = refl; has = has; declared = refl; good = good } in
       subst (λ (n : ℕ). Placed code items places here k (b ∷ bodies) (tree ∷ trees) 0 n) same at_k
-
-  size_is : (here k : ℕ) (b : Body) (tree : Seq) → IsStraightBody items k b tree → length (code_of_function items places here k b tree) ≡ size_of items k b tree
-  size_is here k b tree good = function_length (around items k b tree (distances places here)) no_distance (context_at items k b) tree good.straight
 
   pub placed : (here k : ℕ) (bodies : List Body) (trees : List Seq) (j number : ℕ) → k + j ≡ number → AreStraightBodies items k bodies trees → HasAt code here (code_from items places here k bodies trees) → j < length bodies
       → Placed code items places here k bodies trees j number
@@ -55,7 +58,7 @@ module _ (code : List (Option Op)) (items : List Item) (places : List ℕ) where
   placed here k (b ∷ bodies) (tree ∷ trees) (suc j) number e good has less =
       let words = code_of_function items places here k b tree in
       let behind = code_from items places (here + size_of items k b tree) (suc k) bodies trees in
-      let there : here + length words ≡ here + size_of items k b tree = omega (arith, size_is here k b tree good.0) in
+      let there : here + length words ≡ here + size_of items k b tree = omega (arith, function_size_is items places here k b tree good.0) in
       let rest = placed (here + size_of items k b tree) (suc k) bodies trees j number (omega (arith, e)) good.1
       (has_at code (here + length words) (here + size_of items k b tree) behind there (has_second code here words behind has)) (omega arith) in
       record { body = rest.body; tree = rest.tree; begin = rest.begin; place_is = rest.place_is; has = rest.has; declared = rest.declared; good = rest.good }
@@ -82,7 +85,7 @@ functions_length items places here k (b ∷ bodies) [] good = absurd good
 functions_length items places here k (b ∷ bodies) (tree ∷ trees) good =
     let words = code_of_function items places here k b tree in
     let behind = code_from items places (here + size_of items k b tree) (suc k) bodies trees in
-    let one = function_length (around items k b tree (distances places here)) no_distance (context_at items k b) tree good.0.straight in
+    let one = function_size_is items places here k b tree good.0 in
     length-append words behind ∙ omega (arith, one, functions_length items places (here + size_of items k b tree) (suc k) bodies trees good.1)
 
 pub text_length : (m : Module) → IsStraightModule m → length (text_of m) ≡ front_size m.items + sizes m.items 0 m.bodies m.trees

@@ -17,7 +17,7 @@ use Rattle.wasm_defs.specs.Instances.{rows_of, pages_of, cap_of, values_of, segm
 use Rattle.frame_layout.specs.declared.layout.Layout.{Layout}
 use Rattle.frame_layout.specs.Macros.{distance}
 use Rattle.frame_layout.specs.Templates.{Around, import_stub, exit_stub}
-use Rattle.frame_layout.specs.Functions.{function_code, function_size}
+use Rattle.frame_layout.specs.Functions.{function_code}
 use Rattle.image_format.specs.declared.image.Image.{Image}
 use Rattle.image_format.specs.declared.image.Row.{Row}
 use Rattle.image_format.specs.declared.image.Segment.{Segment}
@@ -55,7 +55,7 @@ abbrev pub no_distance : ℕ → ℕ → ℕ
 no_distance here function = 0
 
 abbrev pub size_of : List Item → ℕ → Body → Seq → ℕ
-size_of items k b tree = function_size (around items k b tree no_distance) (context_at items k b) tree
+size_of items k b tree = length (function_code (around items k b tree no_distance) (context_at items k b) tree)
 
 abbrev pub stub_size : ℕ
 stub_size = length (import_stub 0 0)
