@@ -5,7 +5,7 @@ use Rattle.wasm_defs.specs.declared.fault.Kind.TheVariants.{Malformed}
 use Rattle.wasm_defs.specs.declared.types.FuncType.{FuncType}
 use Rattle.wasm_defs.specs.Fields.{Cursor, Read, Got, u32}
 use Rattle.wasm_defs.specs.Typing.{Context}
-use Rattle.wasm_defs.specs.Context.{body_context, declared_types}
+use Rattle.wasm_defs.specs.Context.{body_context, declared_types, type_of_function}
 use Rattle.wasm_defs.specs.Limits.{max_body}
 use Rattle.wasm_defs.specs.Viable.{IsViable}
 use Rattle.wasm_defs.specs.Bodies.{Group, Spelled, local_groups, body_cursor, last_of, body_read}
@@ -21,10 +21,10 @@ use Rattle.leb_feed.specs.declared.stop.Stop.TheVariants as stop
 use Rattle.leb_feed.specs.Reads.{Stops}
 use Rattle.body_validator.specs.Checks.{Checked, before_code}
 use Rattle.body_validator.proofs.Answering.{reached-viable}
-use Rattle.body_compiler.specs.Compiled.{Compiles}
+use Rattle.body_compiler.specs.Compiling.{Compiles}
 use Rattle.body_compiler.specs.Going.{IsGoing, IsWithin, without_opcode}
 use Rattle.body_compiler.specs.LocalGroups.{Declares}
-use Rattle.body_compiler.proofs.Compiling.{rest_bytes}
+use Rattle.body_compiler.proofs.Stepping.{rest_bytes}
 use Rattle.body_compiler.proofs.LocalLaws.{length-declared}
 use Rattle.body_compiler.proofs.Outcomes.{stopped}
 
@@ -82,11 +82,11 @@ nothing_viable : (c : Context) (f : FuncType) → IsViable (body_context c f [])
 nothing_viable c f = reached-viable (before_code c f []) [] refl
 
 -- the locals stop reading
-stops_there : (c : Context) (f : FuncType) (first : ℕ) (bytes : List ℕ) (s : Stop) → Stops s (local_groups (body_cursor first bytes))
-    → Compiles c f (body_read first bytes) (Err (without_opcode (last_of first bytes) s))
-stops_there c f first bytes (stop.Refused r) h = rw h (stopped (body_context c f []) [] [] r (record { viable = nothing_viable c f; compiled = refl }))
-stops_there c f first bytes stop.Wants h = rw h (stopped (body_context c f []) [] [] (record { offset = last_of first bytes; kind = Malformed }) (record { viable = nothing_viable c f; compiled = refl }))
-stops_there c f first bytes stop.NoMemory h = tt
+stops_there : (c : Context) (index : ℕ) (first : ℕ) (bytes : List ℕ) (s : Stop) → Stops s (local_groups (body_cursor first bytes))
+    → Compiles c index (body_read first bytes) (Err (without_opcode (last_of first bytes) s))
+stops_there c index first bytes (stop.Refused r) h = rw h (stopped (body_context c (type_of_function c index) []) [] [] r (record { viable = nothing_viable c (type_of_function c index); compiled = refl }))
+stops_there c index first bytes stop.Wants h = rw h (stopped (body_context c (type_of_function c index) []) [] [] (record { offset = last_of first bytes; kind = Malformed }) (record { viable = nothing_viable c (type_of_function c index); compiled = refl }))
+stops_there c index first bytes stop.NoMemory h = tt
 
 pub code_begins : (c : Context) (f : FuncType) (first last count : ℕ) (bytes : List ℕ) (d : Cursor) (check : Checked) → last ≡ last_of first bytes → Declares c f local_groups (Ok count) (body_cursor first bytes) d check
     → Begun (body_context c f (body_read first bytes).groups) last d check (body_read first bytes).code
@@ -96,6 +96,6 @@ pub groups_are : (c : Context) (f : FuncType) (first count : ℕ) (bytes : List 
     → length (declared_types (body_read first bytes).groups) ≡ count
 groups_are c f first count bytes d check h = rw h.1 (length-declared h.0 ∙ h.3)
 
-pub locals_stop : (c : Context) (f : FuncType) (first last : ℕ) (bytes : List ℕ) (d : Cursor) (check : Checked) (s : Stop) → last ≡ last_of first bytes → Declares c f local_groups (Err s) (body_cursor first bytes) d check
-    → Compiles c f (body_read first bytes) (Err (without_opcode last s))
-locals_stop c f first last bytes d check s e h = rw e (stops_there c f first bytes s h)
+pub locals_stop : (c : Context) (index : ℕ) (first last : ℕ) (bytes : List ℕ) (d : Cursor) (check : Checked) (s : Stop) → last ≡ last_of first bytes → Declares c (type_of_function c index) local_groups (Err s) (body_cursor first bytes) d check
+    → Compiles c index (body_read first bytes) (Err (without_opcode last s))
+locals_stop c index first last bytes d check s e h = rw e (stops_there c index first bytes s h)

@@ -6,6 +6,6 @@ pub mod Lifting
 pub mod Emission
 pub mod Sharing
 pub mod Overwriting
-pub mod Compiling
+pub mod Stepping
 pub mod Beginning
 pub mod Whole

@@ -2,4 +2,5 @@ pub mod Judged
 pub mod LocalGroups
 pub mod Emitted
 pub mod Going
-pub mod Compiled
+pub mod Making
+pub mod Compiling

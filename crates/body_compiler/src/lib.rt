@@ -4,16 +4,16 @@
 //! function depend on what comes later, the greatest number of operands, and are written again at the end.
 #![tactic(auto)]
 
-mod body;
 mod code;
+mod compiling;
 mod draft;
 mod emitting;
 mod immediates;
 mod instructions;
 mod locals;
 
-pub use body::compile;
 pub use code::BodyStop;
+pub use compiling::compile;
 
 #[cfg(test)]
 mod tests;

@@ -2,7 +2,7 @@
 
 use crate::{BodyStop, compile};
 use index_spaces::{Context, ContextBuilder};
-use rv_isa::{Code, Relocations, Words};
+use rv_isa::Code;
 use std::alloc::{AllocError, Global};
 use std::test::Fail;
 use wasm_defs::{FuncType, Item, Kind, Refusal, ValType, ValTypes};
@@ -23,4 +23,138 @@ fn context_of(alloc: Global) -> Result<Context, AllocError> {
         type_index: (20, 0),
     })?;
     Ok(builder.finish())
+}
+
+/// Compiles a body of the module's one function, whose first byte has the offset 34. The module meets the conditions.
+fn compiled(
+    alloc: Global,
+    context: &Context,
+    bytes: &[u8],
+) -> Option<Result<Code, BodyStop>> {
+    if bytes.len() > 16 || !context.has_type_of_function(0) {
+        return None;
+    }
+    let function = context.type_of_function(0);
+    if function.params.as_slice().len() > 2 || function.results.as_slice().len() > 1 {
+        return None;
+    }
+    Some(compile(alloc, context, 0, bytes, 34))
+}
+
+#[test]
+fn bodies_are_compiled(rt: HostRuntime) -> Result<(), Fail> {
+    let context = context_of(rt.alloc())?;
+    let want: [u32; 45] = [
+        // room for five slots: two parameters, the place to return to, two operands
+        0x0000_0293,
+        0x00B2_9293,
+        0x0002_E293,
+        0x00B2_9293,
+        0x0282_E293,
+        0x0082_82B3,
+        0x005A_F863,
+        0x0080_0513,
+        0x0010_0893,
+        0x0000_0073,
+        // .. sd ra, 16(t3)
+        0x0000_0E37,
+        0x008E_0E33,
+        0x001E_3823,
+        // local.get 0: .. ld t0, 0(t0); .. sd t0, 24(t3)
+        0x0000_02B7,
+        0x0082_82B3,
+        0x0002_B283,
+        0x0000_0E37,
+        0x008E_0E33,
+        0x005E_3C23,
+        // local.get 1: .. ld t0, 8(t0); .. sd t0, 32(t3)
+        0x0000_02B7,
+        0x0082_82B3,
+        0x0082_B283,
+        0x0000_0E37,
+        0x008E_0E33,
+        0x025E_3023,
+        // i32.add: .. ld t0, 24(t0); .. ld t1, 32(t1); addw t0, t0, t1; .. sd t0, 24(t3)
+        0x0000_02B7,
+        0x0082_82B3,
+        0x0182_B283,
+        0x0000_0337,
+        0x0083_0333,
+        0x0203_3303,
+        0x0062_82BB,
+        0x0000_0E37,
+        0x008E_0E33,
+        0x005E_3C23,
+        // .. ld ra, 16(ra); .. ld t0, 24(t0); .. sd t0, 0(t3); jalr zero, 0(ra)
+        0x0000_00B7,
+        0x0080_80B3,
+        0x0100_B083,
+        0x0000_02B7,
+        0x0082_82B3,
+        0x0182_B283,
+        0x0000_0E37,
+        0x008E_0E33,
+        0x005E_3023,
+        0x0000_8067,
+    ];
+    let bytes = [0x00, 0x20, 0x00, 0x20, 0x01, 0x6A, 0x0B];
+    match compiled(rt.alloc(), &context, &bytes) {
+        Some(Ok(code)) => {
+            assert_eq!(rt; code.words.as_slice(), want.as_slice());
+            assert!(rt; code.relocations.as_slice().is_empty());
+            assert_eq!(rt; code.need, 5);
+        }
+        _ => assert!(rt; false),
+    }
+    Ok(())
+}
+
+/// How many words a body's code has, and how many slots it needs; or why it is refused.
+fn outcome(alloc: Global, context: &Context, bytes: &[u8]) -> Option<Result<(usize, u32), BodyStop>> {
+    match compiled(alloc, context, bytes) {
+        Some(Ok(code)) => Some(Ok((code.words.as_slice().len(), code.need))),
+        Some(Err(stop)) => Some(Err(stop)),
+        None => None,
+    }
+}
+
+fn refused(offset: u64, kind: Kind) -> Result<(usize, u32), BodyStop> {
+    Err(BodyStop::Refused(Refusal { offset, kind }))
+}
+
+#[test]
+fn bodies_are_judged(rt: HostRuntime) -> Result<(), Fail> {
+    let context = context_of(rt.alloc())?;
+    let rows: [(&[u8], Result<(usize, u32), BodyStop>); 11] = [
+        (&[0x00, 0x41, 0x7F, 0x0B], Ok((31, 4))),
+        (&[0x01, 0x01, 0x7F, 0x20, 0x02, 0x0B], Ok((44, 5))),
+        (
+            &[0x02, 0x01, 0x7F, 0x02, 0x7E, 0x20, 0x02, 0x0B],
+            Ok((44, 7)),
+        ),
+        (
+            &[0x01, 0x01, 0x7E, 0x20, 0x02, 0x0B],
+            refused(39, Kind::Invalid),
+        ),
+        (&[0x00, 0x20, 0x02, 0x0B], refused(35, Kind::Invalid)),
+        (
+            &[0x00, 0x20, 0x00, 0x20, 0x01, 0x0B],
+            refused(39, Kind::Invalid),
+        ),
+        (&[0x00, 0x0B], refused(35, Kind::Invalid)),
+        (
+            &[0x00, 0x20, 0x00, 0x0B, 0x0B],
+            refused(38, Kind::Malformed),
+        ),
+        (&[0x00, 0x20, 0x00], refused(36, Kind::Malformed)),
+        (&[0x00, 0x42, 0x00, 0x0B], refused(35, Kind::Unsupported)),
+        (
+            &[0x01, 0xD1, 0x86, 0x03, 0x7F, 0x0B],
+            refused(35, Kind::Limit),
+        ),
+    ];
+    for (bytes, want) in rows {
+        assert_eq!(rt; outcome(rt.alloc(), &context, bytes), Some(want), "{bytes:?}");
+    }
+    Ok(())
 }

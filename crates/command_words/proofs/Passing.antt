@@ -17,8 +17,7 @@ use Rattle.clap.specs.declared.builder.value_parser.ValueParser.{ValueParser}
 use Rattle.clap.specs.declared.builder.value_parser.ValueParser.TheVariants as parser
 use Rattle.clap.specs.declared.error.kind.ErrorKind.TheVariants.{MissingRequiredArgument}
 use Rattle.command_words.specs.Arguments.{arguments_in}
-use Rattle.command_words.specs.Grammar.{IsNoArgument, IsOutside, check, command_in, command_named, command_without, number_in, options_in, options_of, program, run, run_in, run_of, run_words}
-use Rattle.command_words.specs.Grammar.{argument_words as words_of}
+use Rattle.command_words.specs.Grammar.{IsNoArgument, IsOutside, check, command_in, command_named, command_without, found_words, number_in, options_in, options_of, program, run, run_in, run_of, run_words}
 use Rattle.command_words.specs.declared.argument.Argument.{Argument}
 use Rattle.command_words.specs.declared.command.Command.{Command}
 use Rattle.command_words.specs.declared.command.Command.TheVariants as command
@@ -149,10 +148,10 @@ abbrev IsEither : Option (Text × List Row) → Type 0
 IsEither named = ((c : Command) × (option_and_then command_named named ≡ Some c)) ⊎ Any IsNoArgument (run_words named)
 
 run_read : (words : List Text) → Passes (leaf run) words → IsEither (Some (codes "run", rows_of (leaf run) words))
-run_read words e = go (arguments_in (words_of (rows_of (leaf run) words))) refl
+run_read words e = go (arguments_in (found_words (rows_of (leaf run) words))) refl
   where
-    go : (l : Option (List Argument)) → arguments_in (words_of (rows_of (leaf run) words)) ≡ l → IsEither (Some (codes "run", rows_of (leaf run) words))
-    go None is = inr (other_word (words_of (rows_of (leaf run) words)) is)
+    go : (l : Option (List Argument)) → arguments_in (found_words (rows_of (leaf run) words)) ≡ l → IsEither (Some (codes "run", rows_of (leaf run) words))
+    go None is = inr (other_word (found_words (rows_of (leaf run) words)) is)
     go (Some l) is =
         let t = export_read words e in
         let o = run_options words e in

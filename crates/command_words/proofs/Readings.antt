@@ -10,7 +10,7 @@ use Rattle.clap.specs.ValueTests.{is_unsigned_in}
 use Rattle.clap.specs.declared.builder.value_parser.ValueParser.TheVariants as parser
 use Rattle.clap.proofs.ValueTestLemmas.{accepts-Accepts}
 use Rattle.command_words.specs.Arguments.{AreArguments, arguments_in}
-use Rattle.command_words.specs.Grammar.{AreInRange, IsInRange, IsNoArgument, argument_words, command_named, command_without, number_in, options_in, options_of, run_in, run_of, run_words}
+use Rattle.command_words.specs.Grammar.{AreInRange, IsInRange, IsNoArgument, found_words, command_named, command_without, number_in, options_in, options_of, run_in, run_of, run_words}
 use Rattle.command_words.specs.declared.argument.Argument.{Argument}
 use Rattle.command_words.specs.declared.command.Command.{Command}
 use Rattle.command_words.specs.declared.command.Command.TheVariants as command
@@ -63,8 +63,8 @@ parts (Some e) None o n r is = absurd (some≢none r is)
 parts None l o n r is = absurd (some≢none r is)
 
 run_parts : (rows : List Row) (r : Run) → run_in rows ≡ Some r
-    → (arguments_in (argument_words rows) ≡ Some r.arguments) × (options_in rows ≡ Some r.options) × (option_and_then (number_in 0 1000000000000) (one_of (codes "steps") rows) ≡ Some r.steps)
-run_parts rows r is = parts (first_of (codes "export") rows) (arguments_in (argument_words rows)) (options_in rows) (option_and_then (number_in 0 1000000000000) (one_of (codes "steps") rows)) r is
+    → (arguments_in (found_words rows) ≡ Some r.arguments) × (options_in rows ≡ Some r.options) × (option_and_then (number_in 0 1000000000000) (one_of (codes "steps") rows) ≡ Some r.steps)
+run_parts rows r is = parts (first_of (codes "export") rows) (arguments_in (found_words rows)) (options_in rows) (option_and_then (number_in 0 1000000000000) (one_of (codes "steps") rows)) r is
 
 -- what a command is read of
 abbrev IsRead : List Row → Command → Type 0
@@ -100,7 +100,7 @@ in_ranges (k ∷ ks) named c e = absurd (some≢none c e)
 
 -- ---- ARGS
 
-some_words : (rows : List Row) (x : Option Run) (c : Command) → run_in rows ≡ x → option_map command.Run x ≡ Some c → (l : List Argument) × (arguments_in (argument_words rows) ≡ Some l)
+some_words : (rows : List Row) (x : Option Run) (c : Command) → run_in rows ≡ x → option_map command.Run x ≡ Some c → (l : List Argument) × (arguments_in (found_words rows) ≡ Some l)
 some_words rows None c is e = absurd (some≢none c e)
 some_words rows (Some r) c is e = (r.arguments, (run_parts rows r is).0)
 
@@ -119,12 +119,12 @@ none_other p c e any = go (bytes_eq p.0 (codes "check")) (bytes_eq p.0 (codes "r
   where
     go : (a b : Bool) → bytes_eq p.0 (codes "check") ≡ a → bytes_eq p.0 (codes "run") ≡ b
         → cond a (option_map command.Check (options_in p.1)) (cond b (option_map command.Run (run_in p.1)) None) ≡ Some c
-        → Any IsNoArgument (cond b (argument_words p.1) []) → ⊥
+        → Any IsNoArgument (cond b (found_words p.1) []) → ⊥
     go a false is named e any = no_word any
     go true true is named e any = two_names p.0 is named
     go false true is named e any =
         let words = some_words p.1 (run_in p.1) c refl e in
-        no_other (argument_words p.1) words.0 words.1 any
+        no_other (found_words p.1) words.0 words.1 any
 
 -- where a command is read, each word of ARGS is an argument
 no_other_word : (ks : Kinds) (named : Option (Text × List Row)) (c : Command) → command_without ks named ≡ Some c → Any IsNoArgument (run_words named) → ⊥
@@ -146,9 +146,9 @@ named_arguments : (p : Text × List Row) (r : Run) → command_named p ≡ Some 
 named_arguments p r e = go (bytes_eq p.0 (codes "check")) (bytes_eq p.0 (codes "run")) e
   where
     go : (a b : Bool) → cond a (option_map command.Check (options_in p.1)) (cond b (option_map command.Run (run_in p.1)) None) ≡ Some (command.Run r)
-        → AreArguments (cond b (argument_words p.1) []) r.arguments
+        → AreArguments (cond b (found_words p.1) []) r.arguments
     go true b e = absurd (no_check (options_in p.1) r e)
-    go false true e = are_arguments (argument_words p.1) r.arguments (run_parts p.1 r (of_run p.1 (run_in p.1) (command.Run r) refl e)).0
+    go false true e = are_arguments (found_words p.1) r.arguments (run_parts p.1 r (of_run p.1 (run_in p.1) (command.Run r) refl e)).0
     go false false e = absurd (some≢none (command.Run r) e)
 
 pub run_arguments : (ks : Kinds) (named : Option (Text × List Row)) (r : Run) → command_without ks named ≡ Some (command.Run r) → AreArguments (run_words named) r.arguments

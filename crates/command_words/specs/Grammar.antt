@@ -87,11 +87,11 @@ run_of (Some e) (Some l) (Some o) (Some n) = Some (record { export = e; argument
 run_of _ _ _ _ = None
 
 -- the words that were found for ARGS
-abbrev pub argument_words : List Row → List Text
-argument_words rows = unwrap_or (all_of (codes "arguments") rows) []
+abbrev pub found_words : List Row → List Text
+found_words rows = unwrap_or (all_of (codes "arguments") rows) []
 
 abbrev pub run_in : List Row → Option Run
-run_in rows = run_of (first_of (codes "export") rows) (arguments_in (argument_words rows)) (options_in rows)
+run_in rows = run_of (first_of (codes "export") rows) (arguments_in (found_words rows)) (options_in rows)
     (option_and_then (number_in 0 1000000000000) (one_of (codes "steps") rows))
 
 abbrev pub command_named : Text × List Row → Option Command
@@ -122,7 +122,7 @@ IsInRange (command.Run r) = AreInRange r.options × (r.steps ≤ 1000000000000)
 -- the words of ARGS, where the subcommand is `run`
 abbrev pub run_words : Option (Text × List Row) → List Text
 run_words None = []
-run_words (Some p) = if bytes_eq p.0 (codes "run") then argument_words p.1 else []
+run_words (Some p) = if bytes_eq p.0 (codes "run") then found_words p.1 else []
 
 abbrev pub IsNoArgument : Text → Type 0
 IsNoArgument word = (a : Argument) → IsArgument word a → ⊥

@@ -3,7 +3,7 @@
 ghost use Rattle.std.specs.Prelude.{◌≡◌, codes, map, option_and_then, option_map, string_bytes};
 ghost use Rattle.clap.specs.Words.{first_of, found_of, one_of, rows_of, subcommand_rows_of};
 ghost use Rattle.command_words.specs.Arguments.{arguments_in};
-ghost use Rattle.command_words.specs.Grammar.{Gives, Reads, argument_words, command_in, command_named, in_range, number_in, options_in, run_in};
+ghost use Rattle.command_words.specs.Grammar.{Gives, Reads, found_words, command_in, command_named, in_range, number_in, options_in, run_in};
 
 use crate::argument::argument_of;
 use crate::command::{Command, Options, Run, WordsStop};
@@ -55,7 +55,7 @@ fn arguments_of(alloc: Global, words: &[&str]) -> Result<Arguments, WordsStop>
 
 /// The arguments that were found for ARGS.
 fn arguments_in(alloc: Global, matches: &ArgMatches<'_>) -> Result<Arguments, WordsStop>
-    ensures { Gives (arguments_in (argument_words (rows_of (found_of matches.now)))) result }
+    ensures { Gives (arguments_in (found_words (rows_of (found_of matches.now)))) result }
 {
     let words = matches.get_strs("arguments").unwrap_or(&[]);
     arguments_of(alloc, words)

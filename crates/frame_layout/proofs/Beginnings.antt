@@ -18,7 +18,7 @@ use Rattle.frame_layout.specs.Templates.{room_words, zero_locals, prologue}
 use Rattle.frame_layout.specs.Laws.{with_slot, IsFrame, Does, TrapsAt, Enters, PrologueLaw, ExhaustionLaw}
 use Rattle.frame_layout.proofs.Standing.{has_first, has_rest}
 use Rattle.frame_layout.proofs.Constants.{block_leaves, const_32_leaves}
-use Rattle.frame_layout.proofs.Slots.{store_slot_leaves, slot_written, slot_other, size_stays}
+use Rattle.frame_layout.proofs.SlotLaws.{store_slot_leaves, slot_written, slot_other, size_stays}
 use Rattle.frame_layout.proofs.Steps.{does_leave, does_then, does_with, does_count, does_nothing, leaves_then, frame_stays, frame_written}
 use Rattle.frame_layout.proofs.Jumps.{passed_does, taken_does, trap_traps, traps_after}
 use Rattle.frame_layout.proofs.Zeroing.{zeroed, zeroed_size, zeroed_below, zeroed_above, zeroed_zero, zeroed_globals, zeroed_table, zeroed_memory, loop_words, loop_does, address}

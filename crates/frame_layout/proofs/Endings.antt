@@ -14,7 +14,7 @@ use Rattle.frame_layout.specs.Macros.{x0, ra, s0, s5, load_slot}
 use Rattle.frame_layout.specs.Templates.{result_words}
 use Rattle.frame_layout.specs.Laws.{slot_at, with_slot, IsFrame, Does, Leaves, EpilogueLaw, ExitLaw}
 use Rattle.frame_layout.proofs.Standing.{has_first, has_rest}
-use Rattle.frame_layout.proofs.Slots.{load_slot_leaves}
+use Rattle.frame_layout.proofs.SlotLaws.{load_slot_leaves}
 use Rattle.frame_layout.proofs.Steps.{frame_kept}
 use Rattle.frame_layout.proofs.Instructions.{copied_does}
 use Rattle.frame_layout.proofs.Jumps.{returned_reaches, exit_asks}

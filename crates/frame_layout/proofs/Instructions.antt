@@ -17,7 +17,7 @@ use Rattle.frame_layout.specs.Templates.{load_operand, store_operand}
 use Rattle.frame_layout.specs.Laws.{slot_at, with_slot, IsFrame, Does, ConstLaw, LocalGetLaw, AddLaw}
 use Rattle.frame_layout.proofs.Standing.{has_first, has_rest}
 use Rattle.frame_layout.proofs.Constants.{block_leaves, const_word_leaves, const_64_leaves}
-use Rattle.frame_layout.proofs.Slots.{load_slot_leaves, store_slot_leaves}
+use Rattle.frame_layout.proofs.SlotLaws.{load_slot_leaves, store_slot_leaves}
 use Rattle.frame_layout.proofs.Steps.{does_leave, does_then, does_with, frame_stays}
 
 -- what t0 holds then goes to a slot of the frame

@@ -1,6 +1,6 @@
 pub mod Standing
 pub mod Constants
-pub mod Slots
+pub mod SlotLaws
 pub mod Steps
 pub mod Instructions
 pub mod Jumps

@@ -9,7 +9,7 @@ use Rattle.rv_isa.proofs.RunLaws.{Reaches-none, Reaches-then}
 use Rattle.wasm_defs.specs.Configurations.{max_slots}
 use Rattle.frame_layout.specs.Macros.{s0, s5}
 use Rattle.frame_layout.specs.Laws.{with_slot, IsFrame, is_scratch, Does}
-use Rattle.frame_layout.proofs.Slots.{size_stays, windows_stay}
+use Rattle.frame_layout.proofs.SlotLaws.{size_stays, windows_stay}
 
 -- a register that isn't scratch is none that is
 pub apart : (q r : ℕ) → is_scratch q ≡ false → is_scratch r ≡ true → q ≢ r

@@ -17,7 +17,7 @@ use Rattle.rv_isa.proofs.OffsetLaws.{other_registers_stay}
 use Rattle.wasm_defs.specs.Configurations.{max_slots}
 use Rattle.frame_layout.specs.Macros.{x0, t0, t1, backward}
 use Rattle.frame_layout.specs.Laws.{slot_at, with_slot, Does}
-use Rattle.frame_layout.proofs.Slots.{slot_written, slot_other, size_stays, windows_stay}
+use Rattle.frame_layout.proofs.SlotLaws.{slot_written, slot_other, size_stays, windows_stay}
 use Rattle.frame_layout.proofs.Steps.{apart, does_then}
 use Rattle.frame_layout.proofs.Jumps.{passed_does, taken_reaches}
 

@@ -7,8 +7,13 @@
 
 mod laws;
 mod layout;
+pub mod macros;
+mod slots;
+#[cfg(test)]
+mod tests;
 
 pub use laws::{
     add_law, const_law, epilogue_law, exhaustion_law, exit_law, local_get_law, prologue_law,
 };
 pub use layout::Layout;
+pub use slots::{load_slot, store_slot};

@@ -1,2 +1,9 @@
 pub mod Linked
 pub mod Loops
+pub mod StraightModules
+pub mod Items
+pub mod Placed
+pub mod Arguments
+pub mod Called
+pub mod StraightFacts
+pub mod Modules

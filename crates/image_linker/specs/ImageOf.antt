@@ -1,12 +1,11 @@
 -- The image of a module.
-use Rattle.std.specs.Prelude.{◌≡◌, ℕ, zero, suc, ◌+◌, ◌-◌, ◌*◌, ◌%◌, ◌^◌, ◌&&◌, Bool, true, false, not, List, [], ◌∷◌, ◌++◌, map, length, replicate, Option, None, Some, slice_get, slice_index, if◌then◌else◌}
+use Rattle.std.specs.Prelude.{ℕ, zero, suc, ◌+◌, ◌*◌, ◌&&◌, Bool, true, false, not, List, [], ◌∷◌, ◌++◌, map, length, replicate, Option, None, Some, slice_get, slice_index, if◌then◌else◌}
 use Rattle.rv_isa.specs.declared.operations.Op.{Op}
 use Rattle.rv_isa.specs.Words.{word_of}
 use Rattle.rv_isa.specs.Steps.{text_base}
 use Rattle.wasm_defs.specs.declared.types.FuncType.{FuncType}
 use Rattle.wasm_defs.specs.declared.item.Item.{Item}
-use Rattle.wasm_defs.specs.declared.item.Item.TheVariants.{Imported, Exported}
-use Rattle.wasm_defs.specs.declared.item.Extern.TheVariants as extern
+use Rattle.wasm_defs.specs.declared.item.Item.TheVariants.{Imported}
 use Rattle.wasm_defs.specs.Outside.{Body}
 use Rattle.wasm_defs.specs.Trees.{Seq}
 use Rattle.wasm_defs.specs.Typing.{Context, same_types}
@@ -14,11 +13,11 @@ use Rattle.wasm_defs.specs.Context.{context_of, import_count, type_or_empty, typ
 use Rattle.wasm_defs.specs.Faults.{read_of, context_at, Module}
 use Rattle.wasm_defs.specs.Values.{words_of}
 use Rattle.wasm_defs.specs.Places.{places_of, greatest}
-use Rattle.wasm_defs.specs.Instances.{rows_of, pages_of, cap_of, values_of, elements_of, segments_of, is_linkable, instance_of, start_of, exports_of, function_of}
+use Rattle.wasm_defs.specs.Instances.{rows_of, pages_of, cap_of, values_of, segments_of, is_linkable, instance_of, start_of, exports_of}
 use Rattle.frame_layout.specs.declared.layout.Layout.{Layout}
 use Rattle.frame_layout.specs.Macros.{distance}
 use Rattle.frame_layout.specs.Templates.{Around, import_stub, exit_stub}
-use Rattle.frame_layout.specs.Functions.{function_code, function_size}
+use Rattle.frame_layout.specs.Functions.{function_code}
 use Rattle.image_format.specs.declared.image.Image.{Image}
 use Rattle.image_format.specs.declared.image.Row.{Row}
 use Rattle.image_format.specs.declared.image.Segment.{Segment}
@@ -56,7 +55,7 @@ abbrev pub no_distance : ℕ → ℕ → ℕ
 no_distance here function = 0
 
 abbrev pub size_of : List Item → ℕ → Body → Seq → ℕ
-size_of items k b tree = function_size (around items k b tree no_distance) (context_at items k b) tree
+size_of items k b tree = length (function_code (around items k b tree no_distance) (context_at items k b) tree)
 
 abbrev pub stub_size : ℕ
 stub_size = length (import_stub 0 0)

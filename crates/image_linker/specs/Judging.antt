@@ -30,7 +30,7 @@ IsTextFault items k words (Listed x ∷ parts) r = IsTextFault (items ++ x ∷ [
 IsTextFault items k words (Coded b ∷ parts) r =
     (tree : Seq) × IsValidCode (context_at items k b) (read_of b).code tree
     × (((max_text < text_bytes items (words + size_of items k b tree)) × (r ≡ limit_at b.size))
-      ⊎ ((text_bytes items (words + size_of items k b tree) ≤ max_text) × IsTextFault items (suc k) (words + size_of items k b tree) parts r))
+    ⊎ ((text_bytes items (words + size_of items k b tree) ≤ max_text) × IsTextFault items (suc k) (words + size_of items k b tree) parts r))
 
 abbrev pub IsFaultOf : List ℕ → Refusal → Type 0
 IsFaultOf bytes r = IsFault bytes r ⊎ IsTextFault [] 0 0 (module_run bytes).parts r

@@ -1,5 +1,6 @@
 pub mod ImageOf
 pub mod Same
 pub mod Judging
+pub mod Laws
 pub mod Codes
 pub mod Linking

@@ -1,7 +1,8 @@
 //! One image of a module. `specs/ImageOf.antt` says which one it is, `specs/Same.antt` what it means that both behave alike, and
-//! `specs/Judging.antt` what a module's verdict is, with the limit on its text.
+//! `specs/Judging.antt` what a module's verdict is, with the limit on its text. `specs/Laws.antt` has the law that they do.
 #![tactic(auto)]
 
+pub mod laws;
 mod linking;
 
 pub use linking::link;

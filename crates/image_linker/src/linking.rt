@@ -80,11 +80,7 @@ fn start_at(starts: &[u32], function: u32) -> u32
 }
 
 /// The exported functions, which have the places of their codes.
-fn exports_of(
-    alloc: Global,
-    context: &Context,
-    starts: &[u32],
-) -> Result<Vec<Export>, AllocError>
+fn exports_of(alloc: Global, context: &Context, starts: &[u32]) -> Result<Vec<Export>, AllocError>
     requires { (i : ℕ) → slice_index starts.now i < 2 ^ 27 }
     ensures { IfOk result (λ exports. exports.items ≡ map (linked_export context.now starts.now) (function_exports context.now.exports)) }
 {

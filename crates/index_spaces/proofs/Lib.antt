@@ -1,3 +1,5 @@
 pub mod SpaceLaws
 pub mod EntriesOfItems
+pub mod LikeLaws
+pub mod TypeSpaces
 pub mod Lookups

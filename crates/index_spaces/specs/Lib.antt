@@ -1,3 +1,4 @@
 pub mod Entries
 pub mod EntryLaws
+pub mod Likes
 pub mod Spaces

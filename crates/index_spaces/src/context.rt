@@ -2,9 +2,11 @@
 
 ghost use Rattle.std.specs.Prelude.{◌≡◌, ◌^◌, ◌<◌, ◌↔◌, [], length, IsTrue, IsSome, is_some, Some, OnOk, OnErr, slice_get};
 ghost use Rattle.wasm_defs.specs.Typing.{function_type};
+ghost use Rattle.index_spaces.specs.Likes.{like};
 ghost use Rattle.index_spaces.specs.Spaces.{context_in, spaces_of, with_type, with_import, with_function, with_table, with_memory, with_global, with_export, with_elements, with_start};
 
 use crate::entries::{ElementRow, Export, Import};
+use crate::type_space::TypeSpace;
 use std::alloc::{AllocError, Global};
 use std::marker::Model;
 use wasm_defs::{FuncType, GlobalType, Limits};
@@ -14,7 +16,7 @@ use wasm_defs::{FuncType, GlobalType, Limits};
 /// globals and its table begin with, and its start function (Core 2.5).
 #[derive(Drop)]
 pub struct Context {
-    types: Vec<FuncType>,
+    types: TypeSpace,
     functions: Vec<u32>,
     tables: Vec<Limits>,
     memories: Vec<Limits>,
@@ -33,7 +35,7 @@ impl Model for Context {
     ghost Value = { Spaces };
 
     ghost view = { λ c. record {
-      types = c.types.items;
+      types = c.types;
       functions = c.functions.items;
       tables = c.tables.items;
       memories = c.memories.items;
@@ -56,7 +58,7 @@ impl Context {
         ensures { result ≡ spaces_of [] }
     {
         Context {
-            types: Vec::new(alloc),
+            types: TypeSpace::new(alloc),
             functions: Vec::new(alloc),
             tables: Vec::new(alloc),
             memories: Vec::new(alloc),
@@ -243,7 +245,7 @@ impl Context {
     pub fn has_type(&self, index: u32) -> bool
         ensures { IsTrue result ↔ (index < length self.now.types) }
     {
-        (index as usize) < self.types.len()
+        (index as usize) < self.types.as_slice().len()
     }
 
     /// Whether there is a function of the index.
@@ -258,7 +260,7 @@ impl Context {
         ensures { result ≡ is_some (function_type (context_in self.now) index) }
     {
         match self.functions.get(index as usize) {
-            Some(type_index) => (*type_index as usize) < self.types.len(),
+            Some(type_index) => (*type_index as usize) < self.types.as_slice().len(),
             None => false,
         }
     }
@@ -289,7 +291,15 @@ impl Context {
         requires { index < length self.now.types }
         ensures { slice_get self.now.types index ≡ Some result.now }
     {
-        &self.types[index as usize]
+        &self.types.as_slice()[index as usize]
+    }
+
+    /// The least index of a type that equals the type of the index: equal types have one such index, and others have others.
+    pub fn like(&self, index: u32) -> u32
+        requires { index < length self.now.types }
+        ensures { result ≡ like self.now.types index }
+    {
+        self.types.like(index as usize) as u32
     }
 
     /// The type of the function of the index, where both are there.
@@ -297,7 +307,7 @@ impl Context {
         requires { IsSome (function_type (context_in self.now) index) }
         ensures { function_type (context_in self.now) index ≡ Some result.now }
     {
-        &self.types[self.functions[index as usize] as usize]
+        &self.types.as_slice()[self.functions[index as usize] as usize]
     }
 
     /// The type of the global of the index.

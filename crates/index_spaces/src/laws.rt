@@ -4,6 +4,7 @@ ghost use Rattle.std.specs.Prelude.{◌≡◌, List, [], ◌∷◌, ◌++◌};
 ghost use Rattle.wasm_defs.specs.declared.item.Item.{Item};
 ghost use Rattle.wasm_defs.specs.Context.{context_of};
 ghost use Rattle.index_spaces.specs.Spaces.{context_in, spaces_of, with_item};
+ghost use Rattle.index_spaces.specs.Likes.{LikeIsLeast};
 ghost use Rattle.index_spaces.specs.EntryLaws.{ImportsAreFunctions, ExportsAreOfItems, ElementsAreOfItems, ValuesAreOfItems};
 
 /// The context of some items is that in their index spaces.
@@ -34,4 +35,9 @@ pub fn elements_are_of_items()
 /// The types of the globals of some items, and the numbers of their constants, are the values that a run begins with.
 pub fn values_are_of_items()
     ensures { ValuesAreOfItems }
+{}
+
+/// `like` gives the index of an equal type, and no type before that is equal.
+pub fn like_is_least()
+    ensures { LikeIsLeast }
 {}

@@ -7,11 +7,12 @@ mod entries;
 mod laws;
 #[cfg(test)]
 mod tests;
+mod type_space;
 
 pub use builder::{ContextBuilder, copy_of_name, copy_of_type};
 pub use context::Context;
 pub use entries::{ElementRow, Export, Import};
 pub use laws::{
     contexts_are_of_items, elements_are_of_items, exports_are_of_items, imports_are_functions,
-    items_are_added, values_are_of_items,
+    items_are_added, like_is_least, values_are_of_items,
 };

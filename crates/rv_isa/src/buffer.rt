@@ -1,7 +1,12 @@
 //! Words that grow.
-ghost use Rattle.std.specs.Prelude.{◌≡◌, ◌<◌, [], ◌∷◌, ◌++◌, length, slice_set, IfOk, OnOk, OnErr};
+ghost use Rattle.std.specs.Prelude.{◌≡◌, ◌<◌, [], ◌∷◌, ◌++◌, map, take, length, slice_set, MatchBool, ℕ, IfOk, OnOk, OnErr};
+ghost use Rattle.std.specs.Bool.{OnTrue, OnFalse};
+ghost use Rattle.std.specs.List.{flat_map};
+ghost use Rattle.rv_isa.specs.Words.{word_of};
 
 use crate::compiled::Words;
+use crate::encoding::encode;
+use crate::operations::Op;
 use std::alloc::{AllocError, Global};
 use std::marker::Model;
 
@@ -20,6 +25,19 @@ impl Model for WordBuffer {
     ghost Value = { List ℕ };
 
     ghost view = { λ b. b.words.items };
+}
+
+/// Appends the words of operations, or for want of memory those of some in front, and says whether all are there.
+fn encode_all(words: &mut Vec<u32>, ops: &[Op]) -> bool
+    ensures all { OnTrue result (words.new.items ≡ words.old.items ++ map word_of ops.now) }
+    ensures some { OnFalse result (take (length words.old.items) words.new.items ≡ words.old.items) }
+{
+    for op in ops {
+        if words.push(encode(*op)).is_err() {
+            return false;
+        }
+    }
+    true
 }
 
 impl WordBuffer {
@@ -54,6 +72,21 @@ impl WordBuffer {
         ensures err { OnErr result (self.new ≡ self.old) }
     {
         self.words.extend_from_slice(words)
+    }
+
+    /// Appends the words of operations, one run behind the other, or none of them.
+    pub fn append_ops(&mut self, runs: &[&[Op]]) -> Result<(), AllocError>
+        ensures ok { OnOk result (self.new ≡ self.old ++ map word_of (flat_map (λ run. run.now) runs.now)) }
+        ensures err { OnErr result (self.new ≡ self.old) }
+    {
+        let before = self.words.len();
+        for run in runs {
+            if !encode_all(&mut self.words, run) {
+                self.words.truncate(before);
+                return Err(AllocError);
+            }
+        }
+        Ok(())
     }
 
     /// Replaces the word at a place.

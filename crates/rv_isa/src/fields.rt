@@ -22,6 +22,27 @@ impl Model for Register {
 }
 
 impl Register {
+    /// zero, which holds 0. The names are those of the calling convention (chapter 25).
+    pub const ZERO: Self = Register { bits: 0 };
+    /// ra
+    pub const RA: Self = Register { bits: 1 };
+    /// t0
+    pub const T0: Self = Register { bits: 5 };
+    /// t1
+    pub const T1: Self = Register { bits: 6 };
+    /// t2
+    pub const T2: Self = Register { bits: 7 };
+    /// s0
+    pub const S0: Self = Register { bits: 8 };
+    /// a0
+    pub const A0: Self = Register { bits: 10 };
+    /// a7
+    pub const A7: Self = Register { bits: 17 };
+    /// s5
+    pub const S5: Self = Register { bits: 21 };
+    /// t3
+    pub const T3: Self = Register { bits: 28 };
+
     /// The register of this number.
     pub const fn new(bits: u8) -> Self
         requires { bits < 2 ^ 5 }

@@ -108,7 +108,7 @@ abbrev pub TellsRun : Module → (name : List ℕ) → List Value → (steps : �
 TellsRun m name arguments steps o =
     (f : ℕ) × (named name (exports_of m.items) ≡ Some f)
     × TellsEnd (image_run (image_of m) (offset_of m f) (type_of_function (context_of m.items) f).results arguments [] steps).end
-        (module_run m f arguments []) o
+    (module_run m f arguments []) o
 
 abbrev pub ChecksAndRuns : Option NotRunnable → Module → (name : List ℕ) → List Value → (steps : ℕ) → Outcome → Type 0
 ChecksAndRuns (Some why) m name arguments steps o = o ≡ unrunnable why

@@ -11,7 +11,8 @@ use Rattle.wasm_defs.specs.declared.token.Token.TheVariants as token
 use Rattle.wasm_defs.specs.declared.types.ValType.{ValType}
 use Rattle.wasm_defs.specs.declared.types.ValType.TheVariants.{I32}
 use Rattle.wasm_defs.specs.Bodies.{Group, local_groups, instruction, depth_after, Spelled, closed, after_opcode, after_token, goes_on, spelled_from, body_cursor, last_of, read_code, body_read}
-use Rattle.wasm_defs.specs.Faults.{tokens_of}
+use Rattle.wasm_defs.specs.Faults.{first_outside, tokens_of}
+use Rattle.wasm_defs.specs.Supported.{is_compiled_opcode}
 use Rattle.wasm_defs.specs.Fields.{Cursor, Read, Got, Fault, Wants, byte}
 use Rattle.wasm_defs.specs.Places.{Place, after_rule, end_of, places, places_of, higher, greatest}
 use Rattle.wasm_defs.specs.Trees.{Seq, Nothing, Simple, Block, Loop, If, IfElse, spelled, Tree}
@@ -21,6 +22,7 @@ use Rattle.wasm_laws.specs.Steadiness.{Advances, LeavesFewer}
 use Rattle.wasm_laws.proofs.Steady.{moves_of, here_in}
 use Rattle.wasm_laws.proofs.Windows.{byte_field}
 use Rattle.wasm_laws.proofs.Takes.{field_takes}
+use Rattle.wasm_laws.proofs.Straight.{tree_is_straight}
 use Rattle.wasm_laws.proofs.BodyLaws.{local_groups_steady, instruction_steady}
 
 -- ---- heights
@@ -123,3 +125,7 @@ pub tokens_are_few : (first : ℕ) (bytes : List ℕ) → length (body_read firs
 tokens_are_few first bytes =
     let c = body_cursor first bytes in
     (read_few (last_of first bytes) (length bytes + 1) c (local_groups c) ((local_groups_steady []).moves c)).tokens
+
+-- so the operands of a compiled body lie no higher than it has bytes
+pub body_is_low : (c : Context) (first : ℕ) (bytes : List ℕ) (tree : Seq) → first_outside is_compiled_opcode (body_read first bytes).code.opcodes ≡ None → Tree (tokens_of (body_read first bytes).code.tokens) tree → greatest (places_of c tree) ≤ length bytes
+body_is_low c first bytes tree compiled e = omega (arith, straight_is_low c (body_read first bytes).code.tokens tree (tree_is_straight first bytes tree compiled e) e, tokens_are_few first bytes)

@@ -118,7 +118,7 @@ segment_indexes seen = search yielding depth 40
 
 -- ---- rows
 
-abbrev pub IsIndexedPart : ℕ → Part → Type 0
+abbrev IsIndexedPart : ℕ → Part → Type 0
 IsIndexedPart types (Section at id) = Unit {0}
 IsIndexedPart types (Listed x) = IsIndexed types x
 IsIndexedPart types (Coded b) = Unit {0}

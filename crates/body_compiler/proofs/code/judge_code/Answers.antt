@@ -2,7 +2,7 @@ use Rattle.std.proofs.Common.{◌∙◌, sym, subst, arith}
 use Rattle.frame_layout.specs.declared.layout.Layout.{Layout}
 use Rattle.body_compiler.specs.Going.{IsCompiling}
 use Rattle.body_compiler.proofs.Going.{byte_shrinks, isnt_over, is_over, stop_judges, goes_judges, has_more, tested_empty, tested_some}
-use Rattle.body_compiler.proofs.Compiling.{within_byte, judged}
+use Rattle.body_compiler.proofs.Stepping.{within_byte, judged}
 use Rattle.body_compiler.proofs.code.judge_code.Goals as goal
 
 pub loop-alloc-smaller : goal.loop-alloc-smaller

@@ -30,8 +30,8 @@ loop-code-preserved c =
     let more = length-append (words_of (take i codes)) c.code-item.result.words in
     let words : length c.as_slice.result.now ≡ length c.code-item.result.words = ap (λ (l : List ℕ). length l) c.as_slice.ensures in (
       c.in_ok-push.ensures.items
-      ∙ ap (λ (l : List ℕ). l ++ c.loop-code.here ∷ []) c.loop-code.invariant.0
-      ∙ ap (λ (n : ℕ). starts_from 2 (take i codes) ++ n ∷ []) c.loop-code.invariant.1
-      ∙ sym (starts_taken 2 codes i (omega (arith, c.loop-code-test.true))),
+          ∙ ap (λ (l : List ℕ). l ++ c.loop-code.here ∷ []) c.loop-code.invariant.0
+          ∙ ap (λ (n : ℕ). starts_from 2 (take i codes) ++ n ∷ []) c.loop-code.invariant.1
+          ∙ sym (starts_taken 2 codes i (omega (arith, c.loop-code-test.true))),
       omega (arith, ap (λ (l : List ℕ). length l) next, more, words, c.loop-code.invariant.1),
     )

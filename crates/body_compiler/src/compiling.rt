@@ -1,0 +1,90 @@
+//! A whole body.
+
+ghost use Rattle.std.specs.Prelude.{◌≡◌, ◌+◌, ◌<◌, ◌≤◌, ◌^◌, [], IsSome, length};
+ghost use Rattle.wasm_defs.specs.Bodies.{body_read, Spelled as SpelledGiven};
+ghost use Rattle.wasm_defs.specs.Context.{type_of_function};
+ghost use Rattle.wasm_defs.specs.Limits.{max_body, max_locals};
+ghost use Rattle.wasm_defs.specs.Typing.{Context as ContextGiven, function_type};
+ghost use Rattle.index_spaces.specs.Spaces.{context_in};
+ghost use Rattle.wasm_laws.specs.Kept.{TypeIsSmall};
+ghost use Rattle.body_compiler.specs.Compiling.{Compiles};
+ghost use Rattle.body_compiler.specs.Making.{Makes};
+ghost use Rattle.body_compiler.specs.Going.{IsGoing, IsWithin};
+
+use crate::code::{BodyStop, judge_code, stop_of};
+use crate::draft::{begin, finish};
+use crate::locals::declare_locals;
+use body_validator::Check;
+use frame_layout::Layout;
+use index_spaces::Context;
+use leb_feed::Fields;
+use rv_isa::Code;
+use std::alloc::Global;
+use wasm_defs::FuncType;
+
+/// Compiles the code of a body whose last byte has the offset `last`, of a function of that type with so many declared locals.
+fn compile_code(
+    alloc: Global,
+    function: &FuncType,
+    locals: u32,
+    fields: &mut Fields<'_>,
+    mut check: Check<'_>,
+    last: u64,
+) -> Result<Code, BodyStop>
+    requires small { TypeIsSmall function.now }
+    requires locals { locals ≤ max_locals }
+    requires within { IsWithin check fields.old 0 }
+    ensures { (c : ContextGiven) (code : SpelledGiven) (g : IsGoing c last fields.old check.entry code) → g.tokens ≡ [] → Makes c code (record { params = length function.now.params; locals = locals; greatest = 0 }) (length function.now.results) result }
+{
+    let layout = Layout {
+        params: function.params.as_slice().len() as u32,
+        locals,
+        greatest: 0,
+    };
+    let results = function.results.as_slice().len() as u32;
+    let Ok(mut draft) = begin(alloc, layout) else {
+        return Err(BodyStop::NoMemory);
+    };
+    match judge_code(alloc, fields, &mut check, &mut draft, last) {
+        Ok(()) => {}
+        Err(stop) => return Err(stop),
+    }
+    let greatest = check.end().greatest as u32;
+    match finish(alloc, draft, greatest, results) {
+        Ok(code) => Ok(code),
+        Err(_) => Err(BodyStop::NoMemory),
+    }
+}
+
+/// Compiles the body of a function: its bytes are all there, and the first one has the offset.
+///
+/// It is compiled exactly where it is spelled rightly to its end (Core 5.4 and 5.5.13), valid in the context (Core 3.4.1), and
+/// made of what is compiled so far; else it is refused with its first fault. The words are the whole function's, and place
+/// themselves nowhere: its calls stand in the relocations.
+pub fn compile(
+    alloc: Global,
+    context: &Context,
+    index: u32,
+    bytes: &[u8],
+    offset: u64,
+) -> Result<Code, BodyStop>
+    requires function { IsSome (function_type (context_in context.now) index) }
+    requires small { TypeIsSmall (type_of_function (context_in context.now) index) }
+    requires most { length bytes.now ≤ max_body }
+    requires fits { offset + length bytes.now < 2 ^ 63 }
+    ensures { Compiles (context_in context.now) index (body_read offset bytes.now) result }
+{
+    let len = bytes.len() as u64;
+    let last = offset + len.saturating_sub(1);
+    let mut fields = Fields::new(bytes, offset, offset + len + 1);
+    let Ok(mut check) = Check::new(alloc, context, index) else {
+        return Err(BodyStop::NoMemory);
+    };
+    match declare_locals(&mut fields, &mut check) {
+        Ok(locals) => {
+            let function = context.type_of_function(index);
+            compile_code(alloc, function, locals, &mut fields, check, last)
+        }
+        Err(stop) => Err(stop_of(stop, last)),
+    }
+}

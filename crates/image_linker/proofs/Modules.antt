@@ -1,0 +1,137 @@
+-- A module of what is compiled so far behaves as its image does.
+use Rattle.std.proofs.Common.{◌≡◌, ℕ, ◌+◌, ◌*◌, ◌^◌, ◌<◌, ◌≤◌, true, List, [], ◌++◌, map, length, replicate, Option, Some, None, refl, sym, ap, ◌∙◌, subst, arith}
+use Rattle.std.specs.Prelude.{slice_get, slice_index, option_map}
+use Rattle.std.proofs.lemmas.Bool.{cond-true, eq-eqb}
+use Rattle.std.proofs.lemmas.Option.{slice_get-map}
+use Rattle.rv_isa.specs.Words.{word_of}
+use Rattle.rv_isa.specs.Steps.{code_of}
+use Rattle.wasm_defs.specs.declared.types.FuncType.{FuncType}
+use Rattle.wasm_defs.specs.Memory.{page}
+use Rattle.wasm_defs.specs.Context.{context_of, import_count, type_of_function}
+use Rattle.wasm_defs.specs.Faults.{context_at, Module}
+use Rattle.wasm_defs.specs.Values.{Value, words_of}
+use Rattle.wasm_defs.specs.Host.{Reply, are_of}
+use Rattle.wasm_defs.specs.Configurations.{Func, Function, Declared, Invocation}
+use Rattle.wasm_defs.specs.Reductions.{run}
+use Rattle.wasm_defs.specs.ModuleRun.{first_state, module_run}
+use Rattle.wasm_defs.specs.ModuleRun as module_run
+use Rattle.wasm_defs.specs.Instances.{Written, rows_of, pages_of, all_over, is_linkable, instance_of, store_of, start_of, function_of, declared_functions, functions_of}
+use Rattle.wasm_laws.specs.Plain.{HasNoMore}
+use Rattle.wasm_laws.proofs.Plain.{plain_has_no_more, plain_is_linkable}
+use Rattle.frame_layout.specs.Templates.{exit_stub}
+use Rattle.image_format.specs.ImageRun.{Running, begin, first_running, steps, image_run}
+use Rattle.image_format.specs.ImageRun as image_run
+use Rattle.simulation.specs.SameRuns.{SameRuns}
+use Rattle.simulation.specs.Straight.{IsStraightFunction}
+use Rattle.simulation.proofs.Functions.{straight_functions_run_alike}
+use Rattle.image_linker.specs.ImageOf.{around, layout_of, distances, stub_places, places_from, front_size, places_of_functions, offset_of, row_of, table_of, segment_of, placed_segments, start_offset, text_of, image_of}
+use Rattle.image_linker.specs.Laws.{ImagesBehaveAlike}
+use Rattle.image_linker.specs.Same.{Same}
+use Rattle.image_linker.proofs.StraightModules.{IsStraightModule}
+use Rattle.image_linker.proofs.StraightFacts.{module_is_straight}
+use Rattle.image_linker.proofs.Items.{no_rows, no_pages, no_cap}
+use Rattle.image_linker.proofs.Placed.{Placed, code_is_short, text_length, exit_stands, function_stands}
+use Rattle.image_linker.proofs.Called.{IsBare, IsEmpty, is_called}
+
+module _ (m : Module) (good : IsStraightModule m) (short : length (text_of m) ≤ 2 ^ 26) where
+  none : HasNoMore m.items
+  none = plain_has_no_more m.items good.items
+
+  linkable : is_linkable m ≡ true
+  linkable = plain_is_linkable m good.items
+
+  no_table : table_of m (is_linkable m) ≡ []
+  no_table =
+      ap (table_of m) linkable
+      ∙ ap (λ (es : List (Written (Option ℕ))). map (row_of m) (all_over (replicate (rows_of m.items) None) es)) none.elements
+      ∙ ap (λ (n : ℕ). map (row_of m) (replicate n None)) (no_rows m.items good.items)
+
+  bare : IsBare (image_of m)
+  bare = record {
+    globals = ap words_of none.values;
+    table = no_table;
+    pages = no_pages m.items good.items;
+    cap = no_cap m.items good.items;
+    segments = ap (placed_segments m) linkable ∙ ap (map segment_of) none.segments;
+  }
+
+  empty : (replies : List Reply) → IsEmpty (store_of m replies)
+  empty replies = record {
+    memory =
+        ap (λ (ss : List (Written ℕ)). all_over (replicate (page * pages_of m.items) 0) ss) none.segments
+        ∙ ap (λ (n : ℕ). replicate (page * n) 0) (no_pages m.items good.items);
+    globals = none.values;
+    calls = refl;
+  }
+
+  -- ---- a function that is exported
+
+  module _ (f : ℕ) (within : f < length m.bodies) where
+    abbrev there : Placed (code_of (map word_of (text_of m))) m.items (places_of_functions m) (front_size m.items) 0 m.bodies m.trees f f
+    there = function_stands m good f within
+
+    abbrev func : Func
+    func = function_of m.items f there.body there.tree
+
+    declared : slice_get (functions_of m) f ≡ Some (Declared func)
+    declared =
+        ap (λ (imported : List Function). slice_get (imported ++ map Declared (declared_functions m)) f) (none.imported (context_of m.items) 0)
+        ∙ slice_get-map Declared (declared_functions m) f ∙ ap (option_map Declared) there.declared
+
+    place_is : offset_of m f ≡ 4 * there.begin
+    place_is =
+        ap (λ (n : ℕ). 4 * slice_index (stub_places (length exit_stub) n ++ places_from m.items (front_size m.items) 0 m.bodies m.trees) f) none.imports
+        ∙ ap (λ (n : ℕ). 4 * n) there.place_is
+
+    type_is : func.ty ≡ type_of_function (context_of m.items) f
+    type_is =
+        let index : import_count m.items + f ≡ f = omega (arith, none.imports) in
+        ap (type_of_function (context_of m.items)) index
+
+    straight : IsStraightFunction (context_at m.items f there.body) func (layout_of m.items f there.body there.tree)
+    straight = record {
+      straight = there.good.straight;
+      typed = there.good.typed;
+      locals_are = refl;
+      results_are = refl;
+      one_result = there.good.one_result;
+      greatest_is = refl;
+      params = refl;
+      locals = refl;
+      greatest = refl;
+      fits = there.good.fits;
+    }
+
+    -- no start function runs before
+    first_is : (replies : List Reply) (arguments : List Value)
+        → first_running (image_of m) replies (record { offset = offset_of m f; arguments = arguments }, (type_of_function (context_of m.items) f).results)
+        ≡ begin (image_of m) replies (record { offset = 4 * there.begin; arguments = arguments }, func.ty.results) []
+    first_is replies arguments =
+        let no_offset : start_offset m (start_of m.items) ≡ 0 = ap (start_offset m) none.start in
+        cond-true _ _ _ (eq-eqb (start_offset m (start_of m.items)) 0 no_offset)
+        ∙ ap (λ (n : ℕ). begin (image_of m) replies (record { offset = n; arguments = arguments }, (type_of_function (context_of m.items) f).results) []) place_is
+        ∙ ap (λ (ty : FuncType). begin (image_of m) replies (record { offset = 4 * there.begin; arguments = arguments }, ty.results) []) (sym type_is)
+
+    pub function_runs_alike : (arguments : List Value) (replies : List Reply) → are_of (type_of_function (context_of m.items) f).params arguments ≡ true
+        → SameRuns (module_run m f arguments replies) (image_run (image_of m) (offset_of m f) (type_of_function (context_of m.items) f).results arguments replies)
+    function_runs_alike arguments replies are =
+        let invoked : Invocation = record { function = f; arguments = arguments } in
+        let store = store_of m replies in
+        let typed : are_of func.ty.params arguments ≡ true = ap (λ (ty : FuncType). are_of ty.params arguments) type_is ∙ are in
+        let called = is_called (image_of m) bare func there.begin store arguments replies typed there.good.few_params (empty replies) in
+        let w = around m.items f there.body there.tree (distances (places_of_functions m) there.begin) in
+        let r = begin (image_of m) replies (record { offset = 4 * there.begin; arguments = arguments }, func.ty.results) [] in
+        let same = straight_functions_run_alike (instance_of m) (image_of m) func (context_at m.items f there.body) w f there.begin store arguments r declared straight called (exit_stands m good) there.has (code_is_short m short) in
+        subst (λ (q : Running). SameRuns (module_run m f arguments replies) (λ n. image_run.run_of (steps (image_of m) n q))) (sym (first_is replies arguments)) (
+        subst (λ (start : Option ℕ). SameRuns (λ k. module_run.run_of (run (instance_of m) k (first_state start store invoked))) (λ n. image_run.run_of (steps (image_of m) n r))) (sym none.start) same)
+
+pub straight_modules_behave_alike : (m : Module) → IsStraightModule m → length (text_of m) ≤ 2 ^ 26 → Same m (image_of m)
+straight_modules_behave_alike m good short = record {
+  unlinkable = refl;
+  runs = λ can_link name f arguments replies is are. function_runs_alike m good short f (good.exports name f is) arguments replies are;
+}
+
+pub images_behave_alike : ImagesBehaveAlike
+images_behave_alike bytes m fits is =
+    let good = module_is_straight bytes m fits is.is in
+    straight_modules_behave_alike m good (let keeps = is.fits in omega (arith, text_length m good))

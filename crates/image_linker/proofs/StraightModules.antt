@@ -1,0 +1,34 @@
+-- Modules of what is compiled so far: their sections are types, functions, exports and code, and their bodies chains of
+-- instructions.
+use Rattle.std.proofs.Common.{◌≡◌, ℕ, suc, ◌^◌, ◌<◌, ◌≤◌, List, [], ◌∷◌, length, Some}
+use Rattle.wasm_defs.specs.declared.item.Item.{Item}
+use Rattle.wasm_defs.specs.Limits.{max_params}
+use Rattle.wasm_defs.specs.Outside.{Body}
+use Rattle.wasm_defs.specs.Trees.{Seq}
+use Rattle.wasm_defs.specs.Typing.{IsBody}
+use Rattle.wasm_defs.specs.Faults.{context_at, Module}
+use Rattle.wasm_defs.specs.Instances.{exports_of, named, function_of}
+use Rattle.wasm_laws.specs.Plain.{ArePlain}
+use Rattle.frame_layout.specs.Slots.{need}
+use Rattle.simulation.specs.Straight.{IsStraight}
+use Rattle.image_linker.specs.ImageOf.{layout_of}
+
+-- the k-th body
+pub record IsStraightBody (items : List Item) (k : ℕ) (b : Body) (tree : Seq) : Type 0 where
+  pub straight : IsStraight tree
+  pub typed : IsBody (context_at items k b) tree
+  pub few_params : length (function_of items k b tree).ty.params ≤ max_params
+  pub one_result : length (function_of items k b tree).ty.results ≤ 1
+  pub fits : need (layout_of items k b tree) < 2 ^ 24
+
+-- the bodies, of which the first is the k-th
+abbrev pub AreStraightBodies : List Item → (k : ℕ) → List Body → List Seq → Type 0
+AreStraightBodies items k [] [] = Unit {0}
+AreStraightBodies items k (b ∷ bodies) (tree ∷ trees) = IsStraightBody items k b tree × AreStraightBodies items (suc k) bodies trees
+AreStraightBodies items k bodies trees = ⊥
+
+pub record IsStraightModule (m : Module) : Type 0 where
+  pub items : ArePlain m.items
+  pub bodies : AreStraightBodies m.items 0 m.bodies m.trees
+  -- exported functions are there
+  pub exports : (name : List ℕ) (f : ℕ) → named name (exports_of m.items) ≡ Some f → f < length m.bodies

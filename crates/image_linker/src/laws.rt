@@ -1,0 +1,8 @@
+//! The law of simulation. Its function does nothing: its contract is the law, which `specs/Laws.antt` states.
+ghost use Rattle.image_linker.specs.Laws.{ImagesBehaveAlike};
+
+/// A module and its image behave alike: each call of an exported function ends in the image as it does in the module, within
+/// 128 steps for each weight and 64 more; nothing else ends; and neither meets a case without a rule or a step.
+pub fn images_behave_alike()
+    ensures { ImagesBehaveAlike }
+{}

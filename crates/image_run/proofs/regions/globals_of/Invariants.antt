@@ -1,0 +1,6 @@
+use Rattle.std.proofs.Common.{◌≡◌, ◌++◌, drop}
+use Rattle.image_format.specs.Environment.{word_bytes}
+use Rattle.image_run.proofs.regions.globals_of.Given as goal
+
+abbrev pub invariant-loop-word : goal.invariant-loop-word
+invariant-loop-word l = l.bytes.items ++ word_bytes (drop l.word-index l.words) ≡ word_bytes l.words

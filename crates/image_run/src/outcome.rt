@@ -1,0 +1,16 @@
+//! How runs end.
+use rv64im_machine::FaultKind;
+use wasm_defs::{TrapKind, Value};
+
+/// How a run of an exported function ends.
+#[derive(Clone, Copy, Debug, PartialEq, Eq)]
+pub enum Outcome {
+    /// The function returned, with its result if its type has one.
+    Returned(Option<Value>),
+    /// It trapped (WebAssembly Core 1.0, 4.4).
+    Trapped(TrapKind),
+    /// All steps were made, and it hadn't ended.
+    StepsSpent,
+    /// The machine has no step at this place, or the environment was called there in a way that it doesn't know.
+    Fault(FaultKind, u64),
+}

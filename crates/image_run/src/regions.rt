@@ -1,0 +1,113 @@
+//! The bytes of an image's regions before a run.
+ghost use Rattle.std.specs.Prelude.{◌≡◌, ◌+◌, ◌-◌, ◌*◌, ◌^◌, ◌≤◌, ◌++◌, IfOk, IsTrue, length, map, replicate};
+ghost use Rattle.rv64im_machine.specs.Contents.{bytes_of};
+ghost use Rattle.wasm_defs.specs.Memory.{page};
+ghost use Rattle.wasm_defs.specs.Instances.{all_fit, all_over, over};
+ghost use Rattle.wasm_defs.specs.Values.{value_of, words_of};
+ghost use Rattle.image_format.specs.Environment.{row_words, segments_of, word_bytes};
+ghost use Rattle.image_run.specs.States.{first_bytes};
+
+use crate::words::{push_word, word_of};
+use image_format::{Image, Row, Segment};
+use rv64im_machine::Regions;
+use std::alloc::{AllocError, Global};
+use wasm_defs::Value;
+
+/// Bytes of the stack.
+pub(crate) const STACK_SIZE: usize = 1_048_576;
+
+/// Bytes of a page of memory (WebAssembly Core 1.0, 4.2.8).
+pub(crate) const PAGE: u64 = 65_536;
+
+/// The stack, with the arguments in its first slots.
+fn stack_of(alloc: Global, arguments: &[Value]) -> Result<Vec<u8>, AllocError>
+    requires { length arguments.now ≤ 131072 }
+    ensures { IfOk result (λ v. v.items ≡ word_bytes (words_of (map value_of arguments.now)) ++ replicate (1048576 - 8 * length arguments.now) 0) }
+{
+    let mut stack = Vec::with_capacity(alloc, STACK_SIZE)?;
+    for value in arguments {
+        push_word(&mut stack, word_of(*value))?;
+    }
+    stack.resize(STACK_SIZE, 0)?;
+    Ok(stack)
+}
+
+/// The bytes of the globals.
+fn globals_of(alloc: Global, words: &[u64]) -> Result<Vec<u8>, AllocError>
+    requires { length words.now ≤ 100000 }
+    ensures { IfOk result (λ v. v.items ≡ word_bytes words.now) }
+{
+    let mut bytes = Vec::with_capacity(alloc, 8 * words.len())?;
+    for word in words {
+        push_word(&mut bytes, *word)?;
+    }
+    Ok(bytes)
+}
+
+/// The bytes of the table: of each row its code's address, and the index of its type.
+fn table_of(alloc: Global, rows: &[Row]) -> Result<Vec<u8>, AllocError>
+    requires { length rows.now ≤ 100000 }
+    ensures { IfOk result (λ v. v.items ≡ word_bytes (row_words rows.now)) }
+{
+    let mut bytes = Vec::with_capacity(alloc, 16 * rows.len())?;
+    for row in rows {
+        push_word(&mut bytes, row.code)?;
+        push_word(&mut bytes, row.like)?;
+    }
+    Ok(bytes)
+}
+
+/// Writes a segment over a memory's bytes.
+fn write_segment(memory: &mut [u8], segment: &Segment)
+    requires { segment.now.place + length segment.now.bytes ≤ length memory.old }
+    ensures { memory.new ≡ over memory.old (segment.now.place, segment.now.bytes) }
+{
+    let bytes = segment.bytes.as_slice();
+    let start = segment.place as usize;
+    memory[start..start + bytes.len()].copy_from_slice(bytes);
+}
+
+/// The memory up to its cap, with the segments in their places and zeros elsewhere.
+fn memory_of(alloc: Global, size: usize, segments: &[Segment]) -> Result<Vec<u8>, AllocError>
+    requires size { size ≤ 2 ^ 26 }
+    requires fit { IsTrue (all_fit size (segments_of segments.now)) }
+    ensures items { IfOk result (λ v. v.items ≡ all_over (replicate size 0) (segments_of segments.now)) }
+    ensures size { IfOk result (λ v. length v.items ≡ size) }
+{
+    let mut memory = vec![in alloc; 0; size]?;
+    for segment in segments {
+        write_segment(&mut memory, segment);
+    }
+    Ok(memory)
+}
+
+/// The regions of an image before a call from outside with these arguments.
+pub(crate) fn regions_of(
+    alloc: Global,
+    image: &Image,
+    arguments: &[Value],
+) -> Result<Regions, AllocError>
+    requires arguments { length arguments.now ≤ 131072 }
+    requires globals { length image.now.globals ≤ 100000 }
+    requires table { length image.now.table ≤ 100000 }
+    requires pages { image.now.pages ≤ image.now.cap }
+    requires cap { image.now.cap ≤ 1024 }
+    requires segments { IsTrue (all_fit (page * image.now.pages) (segments_of image.now.segments)) }
+    ensures bytes { IfOk result (λ r. bytes_of r ≡ first_bytes image.now (map value_of arguments.now)) }
+    ensures stack { IfOk result (λ r. length r.stack.items ≡ 1048576) }
+    ensures globals { IfOk result (λ r. length r.globals.items ≤ 800000) }
+    ensures table { IfOk result (λ r. length r.table.items ≤ 1600000) }
+    ensures memory { IfOk result (λ r. length r.memory.items ≤ 2 ^ 26) }
+{
+    let size = PAGE as usize * image.cap as usize;
+    let stack = stack_of(alloc, arguments)?;
+    let globals = globals_of(alloc, image.globals.as_slice())?;
+    let table = table_of(alloc, image.table.as_slice())?;
+    let memory = memory_of(alloc, size, image.segments.as_slice())?;
+    Ok(Regions {
+        stack,
+        globals,
+        table,
+        memory,
+    })
+}

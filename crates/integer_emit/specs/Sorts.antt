@@ -1,0 +1,36 @@
+-- The tokens of integer operations, by their sorts (WebAssembly Core 1.0, 2.4.1), and their words.
+use Rattle.std.specs.Prelude.{ℕ, List, []}
+use Rattle.rv_isa.specs.declared.operations.Op.{Op}
+use Rattle.wasm_defs.specs.declared.operation.Operation.TheVariants.{Unary, Test, Binary, Compare, Convert}
+use Rattle.wasm_defs.specs.declared.token.Plain.TheVariants.{Operate}
+use Rattle.wasm_defs.specs.declared.token.Token.{Token}
+use Rattle.wasm_defs.specs.declared.token.Token.TheVariants.{Plain}
+use Rattle.frame_layout.specs.Templates.{Around, operate_words}
+
+abbrev pub IsUnary : Token → Type 0
+IsUnary (Plain (Operate (Unary t o))) = Unit {0}
+IsUnary _ = ⊥
+
+abbrev pub IsBinary : Token → Type 0
+IsBinary (Plain (Operate (Binary t o))) = Unit {0}
+IsBinary _ = ⊥
+
+-- a test compares its operand with zero
+abbrev pub IsComparison : Token → Type 0
+IsComparison (Plain (Operate (Test t))) = Unit {0}
+IsComparison (Plain (Operate (Compare t o))) = Unit {0}
+IsComparison _ = ⊥
+
+abbrev pub IsConversion : Token → Type 0
+IsConversion (Plain (Operate (Convert o))) = Unit {0}
+IsConversion _ = ⊥
+
+-- how many operands the comparison of a token reads
+abbrev pub compared : Token → ℕ
+compared (Plain (Operate (Compare t o))) = 2
+compared _ = 1
+
+-- the words of an operation's token
+abbrev pub operation_words : Around → (height : ℕ) → Token → List Op
+operation_words w h (Plain (Operate o)) = operate_words w h o
+operation_words w h _ = []

@@ -1,0 +1,17 @@
+pub mod Slots
+pub mod Words
+pub mod Ends
+pub mod Steps
+pub mod Weights
+pub mod Values
+pub mod Puts
+pub mod Instructions
+pub mod Texts
+pub mod Chains
+pub mod Arguments
+pub mod Entries
+pub mod Exits
+pub mod Replies
+pub mod Functions
+pub mod Ranges
+pub mod Lengths

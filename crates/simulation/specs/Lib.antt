@@ -1,0 +1,3 @@
+pub mod SameRuns
+pub mod Straight
+pub mod Laws

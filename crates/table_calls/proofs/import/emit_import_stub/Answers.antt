@@ -1,0 +1,5 @@
+use Rattle.table_calls.proofs.import.emit_import_stub.Goals as goal
+
+pub returns-clause-ok : goal.returns-clause-ok
+returns-clause-ok c =
+    rw (c.room.ensures, c.from.ensures, c.const_32.ensures, c.from-2.ensures, c.imm.ensures, c.jump_back.ensures) at c.append_ops.ensures.ok

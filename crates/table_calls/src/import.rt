@@ -1,0 +1,28 @@
+//! The stub of an imported function.
+
+ghost use Rattle.std.specs.Prelude.{◌≡◌, ◌++◌, map, OnOk, OnErr};
+ghost use Rattle.rv_isa.specs.Words.{word_of};
+ghost use Rattle.frame_layout.specs.Templates.{import_stub};
+
+use crate::returning::jump_back;
+use crate::room::room;
+use frame_layout::macros::{const_32, imm};
+use rv_isa::{ImmOp, Op, Register, WordBuffer};
+use std::alloc::AllocError;
+
+/// Appends the words that stand for an imported function, or none for want of memory: they trap where the stack has no room for
+/// its parameters and a result, ask the environment for the import of that number, and return.
+pub fn emit_import_stub(buffer: &mut WordBuffer, params: u32, import: u32) -> Result<(), AllocError>
+    ensures ok { OnOk result (buffer.new ≡ buffer.old ++ map word_of (import_stub params import)) }
+    ensures err { OnErr result (buffer.new ≡ buffer.old) }
+{
+    buffer.append_ops(&[
+        &room(u64::from(params) + 1),
+        &const_32(Register::A0, u64::from(import)),
+        &[
+            imm(ImmOp::Addi, Register::A7, Register::ZERO, 3),
+            Op::Ecall,
+            jump_back(),
+        ],
+    ])
+}
