@@ -1,14 +1,51 @@
 use crate::{Context, ContextBuilder};
 use std::alloc::{AllocError, Global};
 use std::test::Fail;
-use wasm_defs::{Constant, FuncType, GlobalType, Item, Limits, Name, ValType, ValTypes};
+use wasm_defs::{
+    Constant, Extern, FuncType, GlobalType, Indices, Item, Limits, Name, ValType, ValTypes,
+};
 
 fn types(alloc: Global, types: &[ValType]) -> Result<ValTypes, AllocError> {
     Ok(ValTypes::new(Vec::from_slice(alloc, types)?))
 }
 
-fn name(alloc: Global) -> Result<Name, AllocError> {
-    Ok(Name::new(Vec::from_slice(alloc, b"m")?))
+fn name(alloc: Global, text: &str) -> Result<Name, AllocError> {
+    Ok(Name::new(Vec::from_slice(alloc, text.as_bytes())?))
+}
+
+fn signature(alloc: Global, params: &[ValType], results: &[ValType]) -> Result<Item, AllocError> {
+    let params = types(alloc, params)?;
+    let results = types(alloc, results)?;
+    Ok(Item::Signature {
+        form: 11,
+        params: 12,
+        results: 14,
+        ty: FuncType { params, results },
+    })
+}
+
+fn constant(value: i64) -> Constant {
+    Constant {
+        opcode: 62,
+        value: (63, value),
+        end: 64,
+    }
+}
+
+fn element(alloc: Global, place: i64, functions: &[u32]) -> Result<Item, AllocError> {
+    Ok(Item::Element {
+        table: (70, 0),
+        place: constant(place),
+        functions: (75, Indices::new(Vec::from_slice(alloc, functions)?)),
+    })
+}
+
+fn exported(alloc: Global, text: &str, kind: Extern, index: u32) -> Result<Item, AllocError> {
+    Ok(Item::Exported {
+        name: (80, name(alloc, text)?),
+        kind: (83, kind),
+        index: (84, index),
+    })
 }
 
 const LIMITS: Limits = Limits {
@@ -20,18 +57,10 @@ const LIMITS: Limits = Limits {
 /// A module of one type, an imported function, a memory, a global and a function.
 fn context_of(alloc: Global) -> Result<Context, AllocError> {
     let mut builder = ContextBuilder::new(alloc);
-    builder.add(&Item::Signature {
-        form: 11,
-        params: 12,
-        results: 14,
-        ty: FuncType {
-            params: types(alloc, &[ValType::I64])?,
-            results: types(alloc, &[])?,
-        },
-    })?;
+    builder.add(&signature(alloc, &[ValType::I64], &[])?)?;
     builder.add(&Item::Imported {
-        module: (18, name(alloc)?),
-        name: (20, name(alloc)?),
+        module: (18, name(alloc, "env")?),
+        name: (20, name(alloc, "log")?),
         kind: 22,
         type_index: (23, 0),
     })?;
@@ -42,13 +71,13 @@ fn context_of(alloc: Global) -> Result<Context, AllocError> {
     builder.add(&Item::Global {
         ty: (60, ValType::I64),
         mutable: (61, true),
-        init: Constant {
-            opcode: 62,
-            value: (63, 7),
-            end: 64,
-        },
+        init: constant(-7),
     })?;
+    builder.add(&exported(alloc, "mem", Extern::Memory, 0)?)?;
+    builder.add(&exported(alloc, "run", Extern::Function, 1)?)?;
     builder.add(&Item::Start { index: (68, 1) })?;
+    builder.add(&element(alloc, 3, &[1, 0])?)?;
+    builder.add(&element(alloc, -1, &[])?)?;
     Ok(builder.finish())
 }
 
@@ -57,25 +86,66 @@ fn items_have_their_indices(rt: HostRuntime) -> Result<(), Fail> {
     let context = context_of(rt.alloc())?;
     assert_eq!(rt; context.types().len(), 1);
     assert_eq!(rt; context.type_indices(), [0, 0].as_slice());
-    if context.type_indices().len() < 10 {
-        assert_eq!(rt; (context.functions(), context.imported()), (2, 1));
-    }
+    assert_eq!(rt; (context.functions(), context.imported()), (2, 1));
+    assert_eq!(rt; context.declared(), 1);
     assert_eq!(rt; context.memories(), [LIMITS].as_slice());
     assert!(rt; context.tables().is_empty());
     assert!(rt; context.has_type(0) && !context.has_type(1));
     assert!(rt; context.has_function(1) && !context.has_function(2));
     assert!(rt; context.has_memory() && !context.has_table());
     assert!(rt; !context.has_global(1) && !context.has_type_of_function(2));
-    if context.has_type_of_function(1) {
-        let params = context.type_of_function(1).params.as_slice();
-        assert_eq!(rt; params, [ValType::I64].as_slice());
-    }
-    if context.has_global(0) {
-        let expected = GlobalType {
-            ty: ValType::I64,
-            mutable: true,
-        };
-        assert_eq!(rt; *context.global(0), expected);
+    assert!(rt; context.has_type_of_function(1));
+    let params = context.type_of_function(1).params.as_slice();
+    assert_eq!(rt; params, [ValType::I64].as_slice());
+    assert!(rt; context.has_global(0));
+    let expected = GlobalType {
+        ty: ValType::I64,
+        mutable: true,
+    };
+    assert_eq!(rt; *context.global(0), expected);
+    assert_eq!(rt; context.initial(0), -7);
+    Ok(())
+}
+
+#[test]
+fn imports_exports_and_elements_keep_their_order(rt: HostRuntime) -> Result<(), Fail> {
+    let context = context_of(rt.alloc())?;
+    let [import] = context.imports() else {
+        return Err("one import".into());
+    };
+    assert_eq!(rt; import.module.as_slice(), b"env".as_slice());
+    assert_eq!(rt; import.name.as_slice(), b"log".as_slice());
+    assert_eq!(rt; import.type_index, 0);
+    let [memory, function] = context.exports() else {
+        return Err("two exports".into());
+    };
+    assert_eq!(rt; memory.name.as_slice(), b"mem".as_slice());
+    assert_eq!(rt; (memory.kind, memory.index), (Extern::Memory, 0));
+    assert_eq!(rt; function.name.as_slice(), b"run".as_slice());
+    assert_eq!(rt; (function.kind, function.index), (Extern::Function, 1));
+    let [first, second] = context.elements() else {
+        return Err("two element segments".into());
+    };
+    assert_eq!(rt; first.place, 3);
+    assert_eq!(rt; first.functions.as_slice(), [1, 0].as_slice());
+    assert_eq!(rt; second.place, 4_294_967_295);
+    assert_eq!(rt; context.start(), Some(1));
+    Ok(())
+}
+
+#[test]
+fn equal_types_have_one_least_index(rt: HostRuntime) -> Result<(), Fail> {
+    let alloc = rt.alloc();
+    let mut builder = ContextBuilder::new(alloc);
+    builder.add(&signature(alloc, &[ValType::I32], &[])?)?;
+    builder.add(&signature(alloc, &[], &[ValType::I32])?)?;
+    builder.add(&signature(alloc, &[ValType::I32], &[])?)?;
+    builder.add(&signature(alloc, &[ValType::I64], &[])?)?;
+    builder.add(&signature(alloc, &[], &[ValType::I32])?)?;
+    let context = builder.finish();
+    for (index, expected) in [(0, 0), (1, 1), (2, 0), (3, 3), (4, 1)] {
+        assert!(rt; context.has_type(index));
+        assert_eq!(rt; context.like(index), expected, "type {index}");
     }
     Ok(())
 }
