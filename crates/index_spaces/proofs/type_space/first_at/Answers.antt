@@ -1,4 +1,4 @@
-use Rattle.std.proofs.Common.{◌≡◌, ℕ, Bool, cond, Option, Some, ap, ◌∙◌}
+use Rattle.std.proofs.Common.{Bool, cond, Some, ap, ◌∙◌}
 use Rattle.std.proofs.lemmas.Map.Text.{is_eq-slice_cmp}
 use Rattle.index_spaces.specs.Likes.{index_of}
 use Rattle.index_spaces.proofs.type_space.first_at.Goals as goal

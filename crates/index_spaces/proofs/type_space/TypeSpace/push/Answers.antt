@@ -1,4 +1,4 @@
-use Rattle.std.proofs.Common.{◌≡◌, rules}
+use Rattle.std.proofs.Common.{rules}
 use Rattle.index_spaces.proofs.TypeSpaces.{types-push}
 use Rattle.index_spaces.proofs.type_space.TypeSpace.push.Goals as goal
 
