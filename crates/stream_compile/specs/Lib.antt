@@ -1,4 +1,4 @@
 pub mod Texts
 pub mod Reading
+pub mod Verdicts
 pub mod Progress
-pub mod Compiling

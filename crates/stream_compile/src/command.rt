@@ -15,13 +15,13 @@ use std::thread::Threads;
 /// The most bytes that are read: a section's size that begins at the limit on a module's bytes has at most five.
 const MOST_READ: usize = 67_108_869;
 
-/// Whether the words are a command: else they are outside the command grammar. Its options have no effect yet.
+/// Whether the words are the command `check`: else they are outside what is done so far. Its options have no effect yet.
 fn is_command(alloc: Global, words: &Vec<String>) -> Result<bool, AllocError>
     ensures { IfOk result (λ known. known ≡ is_command words.now.items) }
 {
     match command_of(alloc, words) {
         Ok(Command::Check(_)) => Ok(true),
-        Err(WordsStop::Outside) => Ok(false),
+        Ok(Command::Run(_)) | Err(WordsStop::Outside) => Ok(false),
         Err(WordsStop::NoMemory) => Err(AllocError),
     }
 }

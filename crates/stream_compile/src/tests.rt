@@ -14,9 +14,6 @@ const HEADER: &str = "00 61 73 6D 01 00 00 00";
 const ADD: &str =
     "01 07 01 60 02 7F 7F 01 7F 03 02 01 00 07 07 01 03 61 64 64 00 00 0A 09 01 07 00 20 00 20 01 6A 0B";
 
-/// A type without parameters and results, and a function of it.
-const FUNCTION: &str = "01 04 01 60 00 00 03 02 01 00";
-
 const OK: &str = "0 ok 1 functions 41 bytes\n";
 
 const USAGE: &str =
@@ -117,22 +114,221 @@ fn words_outside_the_grammar_are_told_the_usage(rt: HostRuntime) -> Result<(), F
     Ok(())
 }
 
+/// What follows the header of a faulty module, and its fault. Offsets count from the header's first byte.
+const FAULTS: [(&str, &str); 51] = [
+    // A name is one field, refused as soon as no more bytes can complete it.
+    ("00 03 85", "malformed at 10"),
+    ("00 04 02 E2", "malformed at 10"),
+    ("00 04 03 E2", "ended at 12"),
+    ("00 01 01", "malformed at 10"),
+    // No byte left in the section is malformed; bytes left after the last field are once one came.
+    ("01 00", "malformed at 10"),
+    ("01 02 00", "ended at 11"),
+    ("01 02 00 00", "malformed at 11"),
+    ("01 06 01 60 01 7F 00 00", "malformed at 15"),
+    // Numbers of a sixth byte, or with stray bits in the fifth.
+    ("01 80 80 80 80 80 00", "malformed at 9"),
+    ("01 80 80 80 80 10", "malformed at 9"),
+    // Sections: past the limit on a module, unknown, out of order, not compiled, and left out.
+    ("01 FF FF FF FF 0F", "limit at 9"),
+    ("0D 00", "malformed at 8"),
+    ("03 01 00 01 01 00", "malformed at 11"),
+    ("01 01 00 01 01 00", "malformed at 11"),
+    ("02 01 00", "unsupported at 8"),
+    ("02 00", "unsupported at 8"),
+    ("0C 01 00", "unsupported at 8"),
+    // Of a section that isn't compiled the id may be wrong, and its size comes later.
+    ("03 01 00 02 01 00", "malformed at 11"),
+    ("02 FF FF FF FF 0F", "unsupported at 8"),
+    // Types: more than there may be, a value type that is left out, one of none, and two results.
+    ("01 04 A1 8D 06", "limit at 10"),
+    ("01 05 01 60 01 7D 00", "unsupported at 13"),
+    ("01 05 01 60 01 7B 00", "malformed at 13"),
+    ("01 06 01 60 00 02 7F 7F", "invalid at 13"),
+    // Functions: of a type that isn't there, without their bodies, and with too few of them.
+    ("03 02 01 00", "invalid at 11"),
+    ("01 04 01 60 00 00 03 02 01 00", "ended at 18"),
+    ("01 04 01 60 00 00 03 02 01 00 0A 01 00", "malformed at 20"),
+    // Exports: a function that isn't there, and one name twice.
+    ("07 05 01 01 61 00 00", "invalid at 14"),
+    (
+        "01 04 01 60 00 00 03 02 01 00 07 09 02 01 61 00 00 01 61 00 00",
+        "invalid at 25",
+    ),
+    // A body's size: below 2, past the section's end, and above the limit in a section that is long enough and in one that isn't.
+    (
+        "01 04 01 60 00 00 03 02 01 00 0A 03 01 01 0B",
+        "malformed at 21",
+    ),
+    (
+        "01 04 01 60 00 00 03 02 01 00 0A 04 01 03 00 0B",
+        "malformed at 21",
+    ),
+    (
+        "01 04 01 60 00 00 03 02 01 00 0A 85 80 40 01 81 80 40",
+        "limit at 23",
+    ),
+    (
+        "01 04 01 60 00 00 03 02 01 00 0A 04 01 81 80 40",
+        "malformed at 21",
+    ),
+    // Whole instructions are judged before the missing `end`, which is malformed at the last byte.
+    (
+        "01 04 01 60 00 00 03 02 01 00 0A 04 01 02 00 43",
+        "unsupported at 23",
+    ),
+    (
+        "01 04 01 60 00 00 03 02 01 00 0A 04 01 02 00 6A",
+        "invalid at 23",
+    ),
+    (
+        "01 04 01 60 00 00 03 02 01 00 0A 05 01 03 00 41 00",
+        "malformed at 24",
+    ),
+    (
+        "01 04 01 60 00 00 03 02 01 00 0A 05 01 03 00 41 80",
+        "malformed at 24",
+    ),
+    // At a body's last byte what isn't compiled is malformed; it may have a fault of its own there.
+    (
+        "01 04 01 60 00 00 03 02 01 00 0A 04 01 02 00 01",
+        "malformed at 23",
+    ),
+    (
+        "01 04 01 60 00 00 03 02 01 00 0A 05 01 03 00 45 0B",
+        "unsupported at 23",
+    ),
+    (
+        "01 04 01 60 00 00 03 02 01 00 0A 05 01 03 00 01 0B",
+        "unsupported at 23",
+    ),
+    (
+        "01 04 01 60 00 00 03 02 01 00 0A 05 01 03 00 05 0B",
+        "malformed at 23",
+    ),
+    (
+        "01 04 01 60 00 00 03 02 01 00 0A 05 01 03 00 06 0B",
+        "malformed at 23",
+    ),
+    (
+        "01 04 01 60 00 00 03 02 01 00 0A 05 01 03 00 0B 0B",
+        "malformed at 24",
+    ),
+    // Typing.
+    (
+        "01 04 01 60 00 00 03 02 01 00 0A 06 01 04 00 20 00 0B",
+        "invalid at 23",
+    ),
+    (
+        "01 04 01 60 00 00 03 02 01 00 0A 06 01 04 00 41 00 0B",
+        "invalid at 25",
+    ),
+    (
+        "01 04 01 60 00 00 03 02 01 00 0A 07 01 05 00 41 00 6A 0B",
+        "invalid at 25",
+    ),
+    // Locals: too many, judged before their type, and of a type that is left out.
+    (
+        "01 04 01 60 00 00 03 02 01 00 0A 08 01 06 01 D1 86 03 7B 0B",
+        "limit at 23",
+    ),
+    (
+        "01 04 01 60 00 00 03 02 01 00 0A 06 01 04 01 01 7D 0B",
+        "unsupported at 24",
+    ),
+    // Two faulty bodies; a good one and a faulty one; a faulty one before a fault outside bodies, and behind one.
+    (
+        "01 04 01 60 00 00 03 03 02 00 00 0A 07 02 02 00 6A 02 00 43",
+        "invalid at 24",
+    ),
+    (
+        "01 04 01 60 00 00 03 03 02 00 00 0A 07 02 02 00 0B 02 00 43",
+        "unsupported at 27",
+    ),
+    (
+        "01 04 01 60 00 00 03 03 02 00 00 0A 07 02 02 00 6A 01 0B",
+        "invalid at 24",
+    ),
+    (
+        "01 04 01 60 00 00 03 03 02 00 00 06 01 00 0A 07 02 02 00 6A 02 00 43",
+        "unsupported at 19",
+    ),
+];
+
+/// What follows the header of a faulty module of so many bytes, where zeros stand between the first part and the last, and its fault.
+const LONG_FAULTS: [(&str, usize, &str, &str); 6] = [
+    // A name above its limit is one only when it is whole.
+    ("00 A4 8D 06 A1 8D 06", 100_015, "", "ended at 100015"),
+    ("00 A4 8D 06 A1 8D 06", 100_016, "", "limit at 12"),
+    // An id at the greatest offset of a module: its order comes first, then what isn't compiled, and then the limit.
+    (
+        "00 F3 FF FF 1F 00",
+        67_108_864,
+        "0D 00",
+        "malformed at 67108864",
+    ),
+    (
+        "00 F3 FF FF 1F 00",
+        67_108_864,
+        "0C 00",
+        "unsupported at 67108864",
+    ),
+    (
+        "00 F3 FF FF 1F 00",
+        67_108_864,
+        "02 00",
+        "unsupported at 67108864",
+    ),
+    (
+        "00 F3 FF FF 1F 00",
+        67_108_864,
+        "00 00",
+        "limit at 67108864",
+    ),
+];
+
+/// The bytes that stand there, zeros up to so many bytes, and the last ones.
+fn padded(alloc: Global, front: &str, len: usize, back: &str) -> Result<Vec<u8>, Fail> {
+    let mut bytes = bytes_of(alloc, &[HEADER, front])?;
+    bytes.resize(len, 0)?;
+    bytes.extend_from_slice(&bytes_of(alloc, &[back])?)?;
+    Ok(bytes)
+}
+
+/// The answer to the module with so many bytes, cut from the one that exports `add`.
+fn answer_to_cut(alloc: Global, len: usize) -> Result<String, Fail> {
+    // After the header, after the types, and after the last body the module is whole.
+    Ok(match len {
+        8 | 17 => format!(in alloc; "0 ok 0 functions {len} bytes\n")?,
+        41 => String::from_str(alloc, OK)?,
+        _ => format!(in alloc; "2 refused ended at {len}\n")?,
+    })
+}
+
 #[test]
-fn each_cut_of_a_module_has_its_answer(rt: HostRuntime) -> Result<(), Fail> {
+fn each_fault_is_told_with_its_kind_and_its_byte(rt: HostRuntime) -> Result<(), Fail> {
     let alloc = rt.alloc();
-    let bytes = bytes_of(alloc, &[HEADER, ADD])?;
-    for len in 0..=bytes.len() {
-        // After the header, after the types, and after the last body the module is whole.
-        let want = match len {
-            8 | 17 => format!(in alloc; "0 ok 0 functions {len} bytes\n")?,
-            41 => String::from_str(alloc, OK)?,
-            _ => format!(in alloc; "2 refused ended at {len}\n")?,
-        };
+    let check = ["wstream", "check"];
+    let add = bytes_of(alloc, &[HEADER, ADD])?;
+    for len in 0..=add.len() {
+        let want = answer_to_cut(alloc, len)?;
+        assert_eq!(rt; answer(&rt, alloc, &check, &add[..len])?, want);
+        assert_eq!(rt; answer_bytewise(&rt, alloc, &add[..len], None)?, want);
+    }
+    for (text, fault) in FAULTS {
+        let bytes = bytes_of(alloc, &[HEADER, text])?;
+        let want = format!(in alloc; "2 refused {fault}\n")?;
+        assert_eq!(rt; answer(&rt, alloc, &check, &bytes)?, want, "{text}");
+        assert_eq!(rt; answer_bytewise(&rt, alloc, &bytes, None)?, want, "{text}");
+    }
+    for (front, len, back, fault) in LONG_FAULTS {
+        let bytes = padded(alloc, front, len, back)?;
+        let want = format!(in alloc; "2 refused {fault}\n")?;
         assert_eq!(rt;
-            answer(&rt, alloc, &["wstream", "check"], &bytes[..len])?,
-            want
+            answer(&rt, alloc, &check, &bytes)?,
+            want,
+            "{front} {len} {back}"
         );
-        assert_eq!(rt; answer_bytewise(&rt, alloc, &bytes[..len], None)?, want);
     }
     Ok(())
 }
@@ -162,126 +358,6 @@ fn a_source_or_a_sink_that_fails_is_told(rt: HostRuntime) -> Result<(), Fail> {
             page.bytes(),
             &text[2..2 + fails_at],
             "after {fails_at} bytes"
-        );
-    }
-    Ok(())
-}
-
-#[test]
-fn modules_are_refused_with_their_first_fault(rt: HostRuntime) -> Result<(), Fail> {
-    let alloc = rt.alloc();
-    let rows: [(&str, &str); 28] = [
-        // A name is one field, refused as soon as no more bytes can complete it.
-        ("00 03 85", "malformed at 10"),
-        ("00 04 02 E2", "malformed at 10"),
-        ("00 04 03 E2", "ended at 12"),
-        ("00 01 01", "malformed at 10"),
-        // No byte left in the section is malformed; bytes left after the last field are once one came.
-        ("01 00", "malformed at 10"),
-        ("01 02 00", "ended at 11"),
-        ("01 02 00 00", "malformed at 11"),
-        ("01 06 01 60 01 7F 00 00", "malformed at 15"),
-        // Numbers of a sixth byte, or with stray bits in the fifth.
-        ("01 80 80 80 80 80 00", "malformed at 9"),
-        ("01 80 80 80 80 10", "malformed at 9"),
-        // Sections: past the limit on a module, unknown, out of order, not compiled, and left out.
-        ("01 FF FF FF FF 0F", "limit at 9"),
-        ("0D 00", "malformed at 8"),
-        ("03 01 00 01 01 00", "malformed at 11"),
-        ("01 01 00 01 01 00", "malformed at 11"),
-        ("02 01 00", "unsupported at 8"),
-        ("02 00", "unsupported at 8"),
-        ("0C 01 00", "unsupported at 8"),
-        // Of a section that isn't compiled the id may be wrong, and its size comes later.
-        ("03 01 00 02 01 00", "malformed at 11"),
-        ("02 FF FF FF FF 0F", "unsupported at 8"),
-        // Types: more than there may be, a value type that is left out, one of none, and two results.
-        ("01 04 A1 8D 06", "limit at 10"),
-        ("01 05 01 60 01 7D 00", "unsupported at 13"),
-        ("01 05 01 60 01 7B 00", "malformed at 13"),
-        ("01 06 01 60 00 02 7F 7F", "invalid at 13"),
-        // Functions: of a type that isn't there, and without their bodies.
-        ("03 02 01 00", "invalid at 11"),
-        ("01 04 01 60 00 00 03 02 01 00", "ended at 18"),
-        ("01 04 01 60 00 00 03 02 01 00 0A 01 00", "malformed at 20"),
-        // Exports: a function that isn't there, and one name twice.
-        ("07 05 01 01 61 00 00", "invalid at 14"),
-        (
-            "01 04 01 60 00 00 03 02 01 00 07 09 02 01 61 00 00 01 61 00 00",
-            "invalid at 25",
-        ),
-    ];
-    for (text, fault) in rows {
-        let bytes = bytes_of(alloc, &[HEADER, text])?;
-        let want = format!(in alloc; "2 refused {fault}\n")?;
-        assert_eq!(rt;
-            answer(&rt, alloc, &["wstream", "check"], &bytes)?,
-            want,
-            "{text}"
-        );
-        assert_eq!(rt; answer_bytewise(&rt, alloc, &bytes, None)?, want, "{text}");
-    }
-    Ok(())
-}
-
-#[test]
-fn bodies_are_refused_with_their_first_fault(rt: HostRuntime) -> Result<(), Fail> {
-    let alloc = rt.alloc();
-    // A body's first byte has the offset 22.
-    let rows: [(&str, &str); 17] = [
-        // Whole instructions are judged before the missing `end`, which is malformed at the last byte.
-        ("04 01 02 00 43", "unsupported at 23"),
-        ("04 01 02 00 6A", "invalid at 23"),
-        ("05 01 03 00 41 00", "malformed at 24"),
-        ("05 01 03 00 41 80", "malformed at 24"),
-        // At a body's last byte what isn't compiled is malformed; it may have a fault of its own there.
-        ("04 01 02 00 01", "malformed at 23"),
-        ("05 01 03 00 45 0B", "unsupported at 23"),
-        ("05 01 03 00 01 0B", "unsupported at 23"),
-        ("05 01 03 00 05 0B", "malformed at 23"),
-        ("05 01 03 00 06 0B", "malformed at 23"),
-        ("05 01 03 00 0B 0B", "malformed at 24"),
-        // Typing.
-        ("06 01 04 00 20 00 0B", "invalid at 23"),
-        ("06 01 04 00 41 00 0B", "invalid at 25"),
-        ("07 01 05 00 41 00 6A 0B", "invalid at 25"),
-        // Locals: too many, and of a type that is left out.
-        ("08 01 06 01 D1 86 03 7F 0B", "limit at 23"),
-        ("06 01 04 01 01 7D 0B", "unsupported at 24"),
-        // A body of one byte, and one that passes its section.
-        ("03 01 01 0B", "malformed at 21"),
-        ("04 01 03 00 0B", "malformed at 21"),
-    ];
-    for (text, fault) in rows {
-        let bytes = bytes_of(alloc, &[HEADER, FUNCTION, "0A", text])?;
-        let want = format!(in alloc; "2 refused {fault}\n")?;
-        assert_eq!(rt;
-            answer(&rt, alloc, &["wstream", "check"], &bytes)?,
-            want,
-            "{text}"
-        );
-    }
-    Ok(())
-}
-
-#[test]
-fn the_fault_of_least_offset_is_told(rt: HostRuntime) -> Result<(), Fail> {
-    let alloc = rt.alloc();
-    let two = "01 04 01 60 00 00 03 03 02 00 00";
-    let rows: [(&str, &str); 4] = [
-        // Two faulty bodies; a good one and a faulty one; a faulty one before a fault outside bodies, and behind one.
-        ("0A 07 02 02 00 6A 02 00 43", "invalid at 24"),
-        ("0A 07 02 02 00 0B 02 00 43", "unsupported at 27"),
-        ("0A 07 02 02 00 6A 01 0B", "invalid at 24"),
-        ("06 01 00 0A 07 02 02 00 6A 02 00 43", "unsupported at 19"),
-    ];
-    for (text, fault) in rows {
-        let bytes = bytes_of(alloc, &[HEADER, two, text])?;
-        let want = format!(in alloc; "2 refused {fault}\n")?;
-        assert_eq!(rt;
-            answer(&rt, alloc, &["wstream", "check"], &bytes)?,
-            want,
-            "{text}"
         );
     }
     Ok(())

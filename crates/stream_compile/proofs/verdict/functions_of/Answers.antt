@@ -25,7 +25,8 @@ take_part-requires c =
     let part = c.in-Ok-Some.part in
     let advances = rw c.in-Ok-Some.field-0-is at c.in-Ok-Some.ensures.advances in
     let lies = rw c.in-Ok-Some.field-0-is at c.in-Ok-Some.ensures.within in
-    can_take_part c.args.bytes.now (left c.next.new.self) l.spaces l.bodies (total l.reader) part c.requires l.invariant.whole lies
+    let sized = rw c.in-Ok-Some.field-0-is at c.in-Ok-Some.ensures.sized in
+    can_take_part c.args.bytes.now (left c.next.new.self) l.spaces l.bodies (total l.reader) part c.requires l.invariant.whole lies sized
     (judging_on c.args.bytes.now (left l.reader) (after_part (part_of part) (left c.next.new.self)) l.spaces l.bodies advances l.invariant.judging)
 
 pub returns-in-Err : goal.returns-in-Err
