@@ -152,8 +152,7 @@ pub judged : (c : Context) (last : ℕ) (cursor : Cursor) (check : Checked) (cod
 judged c last cursor check code layout front words k none nothing =
     let g = k.going in
     let valid = is_valid c last cursor check code g none nothing in
-    let all = sym (all_tokens c last cursor check code g none nothing) in
-    (
+    let all = sym (all_tokens c last cursor check code g none nothing) in (
       valid.0,
       valid.1,
       g.context,

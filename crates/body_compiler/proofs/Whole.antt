@@ -42,8 +42,7 @@ made c index first locals bytes (Ok code) e h =
     let whole = layout_of c index read tree in
     let same : whole ≡ with_greatest slots (greatest (places_of ctx tree)) = ap (λ (n : ℕ). record { params = length f.params; locals = n; greatest = greatest (places_of ctx tree) }) e in
     let straight = tree_is_straight first bytes tree h.1.compiled h.1.tree_is in
-    let results : length f.results ≡ length ctx.results = sym (length-reverse f.results) in
-    (
+    let results : length f.results ≡ length ctx.results = sym (length-reverse f.results) in (
       tree,
       h.1,
       λ w l.
@@ -85,8 +84,7 @@ makes c code slots results most check words done h measured finishes =
     let ops : Around → List Op = λ w. emitted w c (tokens_of code.tokens) (Some (start c)) in
     let whole : (w : Around) → SharesSlots w.layout slots → words ≡ map word_of (prologue slots ++ ops w) = λ w shares. h.4 w shares ∙ sym (map-append word_of (prologue slots) (ops w)) in
     let any : Around = record { layout = slots; rows = 0; like = λ i. i; distance_to = λ here function. 0 } in
-    let known = finishes (ops any) (whole any (refl, refl)) in
-    (
+    let known = finishes (ops any) (whole any (refl, refl)) in (
       tree,
       valid,
       λ w l.

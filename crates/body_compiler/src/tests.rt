@@ -26,11 +26,7 @@ fn context_of(alloc: Global) -> Result<Context, AllocError> {
 }
 
 /// Compiles a body of the module's one function, whose first byte has the offset 34. The module meets the conditions.
-fn compiled(
-    alloc: Global,
-    context: &Context,
-    bytes: &[u8],
-) -> Option<Result<Code, BodyStop>> {
+fn compiled(alloc: Global, context: &Context, bytes: &[u8]) -> Option<Result<Code, BodyStop>> {
     if bytes.len() > 16 || !context.has_type_of_function(0) {
         return None;
     }
@@ -110,7 +106,11 @@ fn bodies_are_compiled(rt: HostRuntime) -> Result<(), Fail> {
 }
 
 /// How many words a body's code has, and how many slots it needs; or why it is refused.
-fn outcome(alloc: Global, context: &Context, bytes: &[u8]) -> Option<Result<(usize, u32), BodyStop>> {
+fn outcome(
+    alloc: Global,
+    context: &Context,
+    bytes: &[u8],
+) -> Option<Result<(usize, u32), BodyStop>> {
     match compiled(alloc, context, bytes) {
         Some(Ok(code)) => Some(Ok((code.words.as_slice().len(), code.need))),
         Some(Err(stop)) => Some(Err(stop)),
@@ -154,7 +154,11 @@ fn bodies_are_judged(rt: HostRuntime) -> Result<(), Fail> {
         ),
     ];
     for (bytes, want) in rows {
-        assert_eq!(rt; outcome(rt.alloc(), &context, bytes), Some(want), "{bytes:?}");
+        assert_eq!(rt;
+            outcome(rt.alloc(), &context, bytes),
+            Some(want),
+            "{bytes:?}"
+        );
     }
     Ok(())
 }

@@ -52,5 +52,5 @@ returns-in-Plain-Operate-Binary-I32-Add c = λ w c' slots.
     let is : c.args.token.now ≡ token.Plain (Operate (Binary I32 Add)) = search rules in
     let own = operation_words (framed w l) h c.args.token.now in
     let same : own ≡ token_words w c' (Some h) c.args.token.now =
-        ap (λ (t : Token). operation_words (framed w l) h t) is ∙ shared_add w l h slots ∙ ap (λ (t : Token). token_words w c' (Some h) t) (sym is) in
+    ap (λ (t : Token). operation_words (framed w l) h t) is ∙ shared_add w l h slots ∙ ap (λ (t : Token). token_words w c' (Some h) t) (sym is) in
     same_appended c.emit_binary.result c.args.words.now c.emit_binary.new.buffer own (token_words w c' (Some h) c.args.token.now) same (c.emit_binary.ensures.ok (framed w l) refl)
