@@ -58,9 +58,9 @@ fn compile_code(
 
 /// Compiles the body of a function: its bytes are all there, and the first one has the offset.
 ///
-/// It is compiled exactly where it is spelled rightly to its end (Core 5.4 and 5.5.13), valid in the context (Core 3.4.1), and
-/// made of what is compiled so far; else it is refused with its first fault. The words are the whole function's, and place
-/// themselves nowhere: its calls stand in the relocations.
+/// A body that is spelled rightly to its end (Core 5.4 and 5.5.13), valid in the context (Core 3.4.1) and made of what is compiled
+/// so far becomes the words of its function (`Functions` of `frame_layout`), with no calls, and the number of slots that it needs.
+/// Any other body is refused with its first fault. Where memory is wanting it is neither.
 pub fn compile(
     alloc: Global,
     context: &Context,

@@ -33,7 +33,7 @@ fn emit_i32_const(
     emit_const(words, layout, height, Value::I32(value))
 }
 
-/// Appends the words of a token that is compiled, at a live place above which so many operands lie.
+/// Appends the words of a token that is compiled, at a live place where so many operands lie.
 pub fn emit(
     words: &mut WordBuffer,
     layout: &Layout,
