@@ -21,109 +21,23 @@ use Rattle.wasm_laws.proofs.Order.{around_body, around_section, parts_before_fau
 use Rattle.wasm_laws.proofs.Few.{parts_are_few}
 use Rattle.wasm_laws.proofs.Verdicts.{code_fault_inside, valid_bodies}
 use Rattle.index_spaces.specs.Spaces.{Spaces, spaces_of, with_item, context_in}
-use Rattle.stream_compile.specs.Progress.{IsJudging, body_of_spaces}
+use Rattle.stream_compile.specs.Progress.{IsJudged, body_of_spaces}
 use Rattle.index_spaces.proofs.SpaceLaws.{spaces_of-append, functions_of-counts}
-
--- ---- lists of parts, one after the other
-
-items_of-append : (xs ys : List Part) → items_of (xs ++ ys) ≡ items_of xs ++ items_of ys
-items_of-append [] ys = refl
-items_of-append (Section at id ∷ xs) ys = items_of-append xs ys
-items_of-append (Listed x ∷ xs) ys = ap (λ (l : List Item). x ∷ l) (items_of-append xs ys)
-items_of-append (Coded b ∷ xs) ys = items_of-append xs ys
-
-bodies_of-append : (xs ys : List Part) → bodies_of (xs ++ ys) ≡ bodies_of xs ++ bodies_of ys
-bodies_of-append [] ys = refl
-bodies_of-append (Section at id ∷ xs) ys = bodies_of-append xs ys
-bodies_of-append (Listed x ∷ xs) ys = bodies_of-append xs ys
-bodies_of-append (Coded b ∷ xs) ys = ap (λ (l : List Body). b ∷ l) (bodies_of-append xs ys)
-
-sections_of-append : (xs ys : List Part) → sections_of (xs ++ ys) ≡ sections_of xs ++ sections_of ys
-sections_of-append [] ys = refl
-sections_of-append (Section at id ∷ xs) ys = ap (λ (l : List (ℕ × ℕ)). (at, id) ∷ l) (sections_of-append xs ys)
-sections_of-append (Listed x ∷ xs) ys = sections_of-append xs ys
-sections_of-append (Coded b ∷ xs) ys = sections_of-append xs ys
-
-typed_behind : (items : List Item) (k : ℕ) (front rest : List Part) → AreTyped items k (front ++ rest) → AreTyped (items ++ items_of front) (k + length (bodies_of front)) rest
-typed_behind items k [] rest p = let e : k + 0 ≡ k = omega arith in rw (append-nil, e) p
-typed_behind items k (Section at id ∷ front) rest p = typed_behind items k front rest p
-typed_behind items k (Listed x ∷ front) rest p = rw (← append_assoc items (x ∷ []) (items_of front)) (typed_behind (items ++ x ∷ []) k front rest p)
-typed_behind items k (Coded b ∷ front) rest p = let e : k + suc (length (bodies_of front)) ≡ suc k + length (bodies_of front) = omega arith in rw e (typed_behind items (suc k) front rest p.1)
-
-valid_both : (items : List Item) (k : ℕ) (front rest : List Part) (trees more : List Seq) → AreValid items k front trees → AreValid (items ++ items_of front) (k + length (bodies_of front)) rest more → AreValid items k (front ++ rest) (trees ++ more)
-valid_both items k [] rest [] more p q = let e : k + 0 ≡ k = omega arith in rw (append-nil, e) at q
-valid_both items k [] rest (t ∷ trees) more p q = absurd p
-valid_both items k (Section at id ∷ front) rest trees more p q = valid_both items k front rest trees more p q
-valid_both items k (Listed x ∷ front) rest trees more p q = valid_both (items ++ x ∷ []) k front rest trees more p (rw (append_assoc items (x ∷ []) (items_of front)) q)
-valid_both items k (Coded b ∷ front) rest [] more p q = absurd p
-valid_both items k (Coded b ∷ front) rest (t ∷ trees) more p q = let e : suc k + length (bodies_of front) ≡ k + suc (length (bodies_of front)) = omega arith in (p.0, valid_both items (suc k) front rest trees more p.1 (rw e q))
-
--- no fault stands in valid bodies
-fault_behind : (items : List Item) (k : ℕ) (front rest : List Part) (trees : List Seq) (r : Refusal) → AreValid items k front trees → IsFaultInside items k (front ++ rest) r → IsFaultInside (items ++ items_of front) (k + length (bodies_of front)) rest r
-fault_behind items k [] rest trees r p f = let e : k + 0 ≡ k = omega arith in rw (append-nil, e) f
-fault_behind items k (Section at id ∷ front) rest trees r p f = fault_behind items k front rest trees r p f
-fault_behind items k (Listed x ∷ front) rest trees r p f = rw (← append_assoc items (x ∷ []) (items_of front)) (fault_behind (items ++ x ∷ []) k front rest trees r p f)
-fault_behind items k (Coded b ∷ front) rest [] r p f = absurd p
-fault_behind items k (Coded b ∷ front) rest (t ∷ trees) r p (inl f) = absurd (valid_bodies items k (Coded b ∷ []) (t ∷ []) r (p.0, tt) (inl f))
-fault_behind items k (Coded b ∷ front) rest (t ∷ trees) r p (inr f) = let e : k + suc (length (bodies_of front)) ≡ suc k + length (bodies_of front) = omega arith in rw e (fault_behind items (suc k) front rest trees r p.1 f)
-
-fault_of_rest : (items : List Item) (k : ℕ) (front rest : List Part) (r : Refusal) → IsFaultInside (items ++ items_of front) (k + length (bodies_of front)) rest r → IsFaultInside items k (front ++ rest) r
-fault_of_rest items k [] rest r f = let e : k + 0 ≡ k = omega arith in rw (append-nil, e) at f
-fault_of_rest items k (Section at id ∷ front) rest r f = fault_of_rest items k front rest r f
-fault_of_rest items k (Listed x ∷ front) rest r f = fault_of_rest (items ++ x ∷ []) k front rest r (rw (append_assoc items (x ∷ []) (items_of front)) f)
-fault_of_rest items k (Coded b ∷ front) rest r f = let e : suc k + length (bodies_of front) ≡ k + suc (length (bodies_of front)) = omega arith in inr (fault_of_rest items (suc k) front rest r (rw e f))
-
-none_outside : (xs ys : List (ℕ × ℕ)) → first_outside is_compiled_section xs ≡ None → first_outside is_compiled_section (xs ++ ys) ≡ first_outside is_compiled_section ys
-none_outside [] ys e = refl
-none_outside (x ∷ xs) ys e =
-    elim (cases_Bool (is_compiled_section x.1)) [
-      | inl h ↦ let t : first_outside is_compiled_section xs ≡ None = rw h at e in rw h (none_outside xs ys t)
-      | inr h ↦ let t = rw h at e in absurd cc
-    ]
-
-one_inside : (at id : ℕ) → is_compiled_section id ≡ true → first_outside is_compiled_section ((at, id) ∷ []) ≡ None
-one_inside at id e = rw e refl
-
-one_outside : (at id : ℕ) (rest : List (ℕ × ℕ)) → is_compiled_section id ≡ false → first_outside is_compiled_section ((at, id) ∷ rest) ≡ Some (unsupported_at at)
-one_outside at id rest e = rw e refl
-
-functions_are_few : (parts : List Part) → length (functions_of (items_of parts)) ≤ length parts
-functions_are_few [] = omega arith
-functions_are_few (Section at id ∷ parts) = omega (arith, functions_are_few parts)
-functions_are_few (Listed x ∷ parts) = one_item x (functions_are_few parts)
-  where
-    one_item : (x : Item) → length (functions_of (items_of parts)) ≤ length parts → length (functions_of (x ∷ items_of parts)) ≤ suc (length parts)
-    one_item (Imported from what kind type_index) h = omega arith
-    one_item (Function type_index) h = omega arith
-    one_item (Signature form params results ty) h = omega arith
-    one_item (Table element limits) h = omega arith
-    one_item (Memory limits) h = omega arith
-    one_item (Global ty mutable init) h = omega arith
-    one_item (Exported label kind index) h = omega arith
-    one_item (Start index) h = omega arith
-    one_item (Element table place functions) h = omega arith
-    one_item (Code count end) h = omega arith
-    one_item (Segment memory place bytes) h = omega arith
-functions_are_few (Coded b ∷ parts) = omega (arith, functions_are_few parts)
-
-bodies_are_few : (parts : List Part) → length (bodies_of parts) ≤ length parts
-bodies_are_few [] = omega arith
-bodies_are_few (Section at id ∷ parts) = omega (arith, bodies_are_few parts)
-bodies_are_few (Listed x ∷ parts) = omega (arith, bodies_are_few parts)
-bodies_are_few (Coded b ∷ parts) = omega (arith, bodies_are_few parts)
+use Rattle.stream_compile.proofs.Parts.{items_of-append, bodies_of-append, sections_of-append, typed_behind, valid_both, fault_behind, fault_of_rest, none_outside, one_inside, one_outside, functions_are_few, bodies_are_few}
+use Rattle.stream_compile.proofs.Order.{fault_after, section_after, some_ordered}
 
 -- ---- how far judging came
 
-pub begins : (bytes : List ℕ) (left : Run) (spaces : Spaces) → left ≡ module_run bytes → spaces ≡ spaces_of [] → IsJudging bytes left spaces 0
+pub begins : (bytes : List ℕ) (left : Run) (spaces : Spaces) → left ≡ module_run bytes → spaces ≡ spaces_of [] → IsJudged bytes left spaces 0
 begins bytes left spaces is none = rw (is, none) (record { front = []; parts = refl; ending = refl; spaces_are = refl; count = refl; compiled = refl; trees = []; valid = tt })
 
-regrouped : (bytes : List ℕ) (front rest : List Part) (x : Part) → (module_run bytes).parts ≡ front ++ x ∷ rest → (module_run bytes).parts ≡ (front ++ x ∷ []) ++ rest
+pub regrouped : (bytes : List ℕ) (front rest : List Part) (x : Part) → (module_run bytes).parts ≡ front ++ x ∷ rest → (module_run bytes).parts ≡ (front ++ x ∷ []) ++ rest
 regrouped bytes front rest x e = e ∙ sym (append_assoc front (x ∷ []) rest)
 
-valid_more : (front : List Part) (x : Part) (trees more : List Seq) → AreValid [] 0 front trees → AreValid (items_of front) (length (bodies_of front)) (x ∷ []) more → AreValid [] 0 (front ++ x ∷ []) (trees ++ more)
+pub valid_more : (front : List Part) (x : Part) (trees more : List Seq) → AreValid [] 0 front trees → AreValid (items_of front) (length (bodies_of front)) (x ∷ []) more → AreValid [] 0 (front ++ x ∷ []) (trees ++ more)
 valid_more front x trees more p q = let e : 0 + length (bodies_of front) ≡ length (bodies_of front) = omega arith in valid_both [] 0 front (x ∷ []) trees more p (rw e q)
 
-pub after_section : (bytes : List ℕ) (left : Run) (spaces : Spaces) (bodies at id : ℕ) → IsJudging bytes (after_part (Section at id) left) spaces bodies → is_compiled_section id ≡ true → IsJudging bytes left spaces bodies
+abbrev pub after_section : (bytes : List ℕ) (left : Run) (spaces : Spaces) (bodies at id : ℕ) → IsJudged bytes (after_part (Section at id) left) spaces bodies → is_compiled_section id ≡ true → IsJudged bytes left spaces bodies
 after_section bytes left spaces bodies at id j e = record {
   front = j.front ++ Section at id ∷ [];
   parts = regrouped bytes j.front left.parts (Section at id) j.parts;
@@ -135,7 +49,7 @@ after_section bytes left spaces bodies at id j e = record {
   valid = valid_more j.front (Section at id) j.trees [] j.valid tt;
 }
 
-pub after_item : (bytes : List ℕ) (left : Run) (spaces later : Spaces) (bodies : ℕ) (x : Item) → IsJudging bytes (after_part (Listed x) left) spaces bodies → later ≡ with_item spaces x → IsJudging bytes left later bodies
+abbrev pub after_item : (bytes : List ℕ) (left : Run) (spaces later : Spaces) (bodies : ℕ) (x : Item) → IsJudged bytes (after_part (Listed x) left) spaces bodies → later ≡ with_item spaces x → IsJudged bytes left later bodies
 after_item bytes left spaces later bodies x j e = record {
   front = j.front ++ Listed x ∷ [];
   parts = regrouped bytes j.front left.parts (Listed x) j.parts;
@@ -147,10 +61,10 @@ after_item bytes left spaces later bodies x j e = record {
   valid = valid_more j.front (Listed x) j.trees [] j.valid tt;
 }
 
-context_is : (bytes : List ℕ) (left : Run) (spaces : Spaces) (bodies : ℕ) (b : Body) (j : IsJudging bytes left spaces bodies) → body_of_spaces spaces bodies b ≡ context_at (items_of j.front) (length (bodies_of j.front)) b
+pub context_is : (bytes : List ℕ) (left : Run) (spaces : Spaces) (bodies : ℕ) (b : Body) (j : IsJudged bytes left spaces bodies) → body_of_spaces spaces bodies b ≡ context_at (items_of j.front) (length (bodies_of j.front)) b
 context_is bytes left spaces bodies b j = ap (λ (s : Spaces). body_of_spaces s bodies b) j.spaces_are ∙ ap (λ (k : ℕ). body_of_spaces (spaces_of (items_of j.front)) k b) j.count
 
-pub after_body : (bytes : List ℕ) (left : Run) (spaces : Spaces) (bodies : ℕ) (b : Body) (tree : Seq) → IsJudging bytes (after_part (Coded b) left) spaces bodies → IsValidCode (body_of_spaces spaces bodies b) (read_of b).code tree → IsJudging bytes left spaces (bodies + 1)
+abbrev pub after_body : (bytes : List ℕ) (left : Run) (spaces : Spaces) (bodies : ℕ) (b : Body) (tree : Seq) → IsJudged bytes (after_part (Coded b) left) spaces bodies → IsValidCode (body_of_spaces spaces bodies b) (read_of b).code tree → IsJudged bytes left spaces (bodies + 1)
 after_body bytes left spaces bodies b tree j v = record {
   front = j.front ++ Coded b ∷ [];
   parts = regrouped bytes j.front left.parts (Coded b) j.parts;
@@ -164,29 +78,29 @@ after_body bytes left spaces bodies b tree j v = record {
 
 -- ---- verdicts
 
-none_is_some : (x : Option Refusal) (r : Refusal) → x ≡ None → x ≡ Some r → ⊥
+pub none_is_some : (x : Option Refusal) (r : Refusal) → x ≡ None → x ≡ Some r → ⊥
 none_is_some x r p q = absurd cc
 
-nothing_left : (items : List Item) (k : ℕ) (parts : List Part) (s : Refusal) → parts ≡ [] → IsFaultInside items k parts s → ⊥
+pub nothing_left : (items : List Item) (k : ℕ) (parts : List Part) (s : Refusal) → parts ≡ [] → IsFaultInside items k parts s → ⊥
 nothing_left items k [] s e f = f
 nothing_left items k (x ∷ parts) s e f = absurd cc
 
-zero_more : (n : ℕ) → 0 + n ≡ n
+pub zero_more : (n : ℕ) → 0 + n ≡ n
 zero_more n = omega arith
 
 -- a fault of a body stands in what is left
-inside_rest : (bytes : List ℕ) (left : Run) (spaces : Spaces) (bodies : ℕ) (r : Refusal) (j : IsJudging bytes left spaces bodies) → IsFaultInside [] 0 (module_run bytes).parts r → IsFaultInside (items_of j.front) (length (bodies_of j.front)) left.parts r
+pub inside_rest : (bytes : List ℕ) (left : Run) (spaces : Spaces) (bodies : ℕ) (r : Refusal) (j : IsJudged bytes left spaces bodies) → IsFaultInside [] 0 (module_run bytes).parts r → IsFaultInside (items_of j.front) (length (bodies_of j.front)) left.parts r
 inside_rest bytes left spaces bodies r j f =
     let g = fault_behind [] 0 j.front left.parts j.trees r j.valid (rw j.parts at f) in
     rw zero_more at g
 
 -- a fault outside bodies is the ending's, or at a section that is left
-outside_rest : (bytes : List ℕ) (left : Run) (spaces : Spaces) (bodies : ℕ) → IsJudging bytes left spaces bodies → first_outside is_compiled_section (sections_of (module_run bytes).parts) ≡ first_outside is_compiled_section (sections_of left.parts)
+pub outside_rest : (bytes : List ℕ) (left : Run) (spaces : Spaces) (bodies : ℕ) → IsJudged bytes left spaces bodies → first_outside is_compiled_section (sections_of (module_run bytes).parts) ≡ first_outside is_compiled_section (sections_of left.parts)
 outside_rest bytes left spaces bodies j =
     ap (λ (l : List Part). first_outside is_compiled_section (sections_of l)) j.parts ∙ ap (first_outside is_compiled_section) (sections_of-append j.front left.parts) ∙ none_outside (sections_of j.front) (sections_of left.parts) j.compiled
 
 -- the bytes are a module
-pub is_module : (bytes : List ℕ) (left : Run) (spaces : Spaces) (bodies : ℕ) (seen : Seen) (functions : ℕ) → IsJudging bytes left spaces bodies → left ≡ ends (Whole seen) → functions ≡ spaces.declared → (m : Module) × IsVerdict bytes (Accepted m) × (functions ≡ declared_count m.items)
+abbrev pub is_module : (bytes : List ℕ) (left : Run) (spaces : Spaces) (bodies : ℕ) (seen : Seen) (functions : ℕ) → IsJudged bytes left spaces bodies → left ≡ ends (Whole seen) → functions ≡ spaces.declared → (m : Module) × IsVerdict bytes (Accepted m) × (functions ≡ declared_count m.items)
 is_module bytes left spaces bodies seen functions j whole counted =
     let all : (module_run bytes).parts ≡ j.front = j.parts ∙ ap (λ (r : Run). j.front ++ r.parts) whole ∙ append-nil j.front in
     let m : Module = record { items = items_of (module_run bytes).parts; bodies = bodies_of (module_run bytes).parts; trees = j.trees } in (
@@ -202,7 +116,7 @@ is_module bytes left spaces bodies seen functions j whole counted =
     )
 
 -- no part is left, and the module has this fault
-pub is_refused : (bytes : List ℕ) (left : Run) (spaces : Spaces) (bodies total : ℕ) (r : Refusal) → IsJudging bytes left spaces bodies → total ≡ length bytes → left.parts ≡ [] → ending_fault total left.ending ≡ Some r → IsVerdict bytes (Rejected r)
+pub is_refused : (bytes : List ℕ) (left : Run) (spaces : Spaces) (bodies total : ℕ) (r : Refusal) → IsJudged bytes left spaces bodies → total ≡ length bytes → left.parts ≡ [] → ending_fault total left.ending ≡ Some r → IsVerdict bytes (Rejected r)
 is_refused bytes left spaces bodies total r j len none fault =
     let ends : ending_fault (length bytes) (module_run bytes).ending ≡ Some r = ap (ending_fault (length bytes)) j.ending ∙ ap (λ (n : ℕ). ending_fault n left.ending) (sym len) ∙ fault in
     let no_section : first_outside is_compiled_section (sections_of (module_run bytes).parts) ≡ None = outside_rest bytes left spaces bodies j ∙ ap (λ (l : List Part). first_outside is_compiled_section (sections_of l)) none in
@@ -214,43 +128,9 @@ is_refused bytes left spaces bodies total r j len none fault =
       ],
     )
 
--- ---- order
-
-pub fault_after : (low last : ℕ) (items : List Item) (k : ℕ) (parts : List Part) (r : Refusal) → AreOrdered low last parts → IsFaultInside items k parts r → low ≤ r.offset
-fault_after low last items k [] r o f = absurd f
-fault_after low last items k (Section at id ∷ parts) r o f = let h = fault_after (suc at) last items k parts r o.2 f in omega (arith, o.0)
-fault_after low last items k (Listed x ∷ parts) r o f = fault_after low last (items ++ x ∷ []) k parts r o.1 f
-fault_after low last items k (Coded b ∷ parts) r o (inl f) =
-    let stands = o.0 in
-    let h = code_fault_inside (context_at items k b) b r (omega (arith, stands.least)) f in
-    omega (arith, h.0, stands.from, stands.sized)
-fault_after low last items k (Coded b ∷ parts) r o (inr f) =
-    let stands = o.0 in
-    let h = fault_after (end_of b) last items (suc k) parts r o.1 f in
-    omega (arith, stands.from, stands.sized)
-
-pub section_after : (low last : ℕ) (parts : List Part) (r : Refusal) → AreOrdered low last parts → first_outside is_compiled_section (sections_of parts) ≡ Some r → low ≤ r.offset
-section_after low last [] r o e = absurd cc
-section_after low last (Section at id ∷ parts) r o e =
-    elim (cases_Bool (is_compiled_section id)) [
-      | inl h ↦ let t : first_outside is_compiled_section (sections_of parts) ≡ Some r = rw h at e in let k = section_after (suc at) last parts r o.2 t in omega (arith, o.0)
-      | inr h ↦ let t = rw h at e in let k : at ≡ r.offset = cc in omega (arith, o.0)
-    ]
-section_after low last (Listed x ∷ parts) r o e = section_after low last parts r o.1 e
-section_after low last (Coded b ∷ parts) r o e =
-    let stands = o.0 in
-    let k = section_after (end_of b) last parts r o.1 e in
-    omega (arith, stands.from, stands.sized)
-
-some_ordered : (low last : ℕ) (parts : List Part) → 0 < length parts → AreOrdered low last parts → low ≤ last
-some_ordered low last [] some o = absurd (omega arith)
-some_ordered low last (Section at id ∷ parts) some o = omega (arith, o.0, o.1)
-some_ordered low last (Listed x ∷ parts) some o = o.0
-some_ordered low last (Coded b ∷ parts) some o = let stands = o.0 in omega (arith, stands.from, stands.sized, stands.before)
-
 -- ---- a body is at fault
 
-pub body_refused : (bytes : List ℕ) (left : Run) (spaces : Spaces) (bodies : ℕ) (b : Body) (r : Refusal) → IsJudging bytes (after_part (Coded b) left) spaces bodies → IsCodeFault (body_of_spaces spaces bodies b) (read_of b).code r → IsVerdict bytes (Rejected r)
+pub body_refused : (bytes : List ℕ) (left : Run) (spaces : Spaces) (bodies : ℕ) (b : Body) (r : Refusal) → IsJudged bytes (after_part (Coded b) left) spaces bodies → IsCodeFault (body_of_spaces spaces bodies b) (read_of b).code r → IsVerdict bytes (Rejected r)
 body_refused bytes left spaces bodies b r j f = (inr inside, λ s g. no_less s g)
   where
     next : Run
@@ -287,7 +167,7 @@ body_refused bytes left spaces bodies b r j f = (inr inside, λ s g. no_less s g
 
 -- ---- a section isn't compiled
 
-module _ (bytes : List ℕ) (left : Run) (spaces : Spaces) (bodies at id total : ℕ) (j : IsJudging bytes (after_part (Section at id) left) spaces bodies) (len : total ≡ length bytes) (out : is_compiled_section id ≡ false) where
+module _ (bytes : List ℕ) (left : Run) (spaces : Spaces) (bodies at id total : ℕ) (j : IsJudged bytes (after_part (Section at id) left) spaces bodies) (len : total ≡ length bytes) (out : is_compiled_section id ≡ false) where
   own_section : first_outside is_compiled_section (sections_of (module_run bytes).parts) ≡ Some (unsupported_at at)
   own_section = outside_rest bytes (after_part (Section at id) left) spaces bodies j ∙ one_outside at id (sections_of left.parts) out
 
@@ -349,7 +229,7 @@ module _ (bytes : List ℕ) (left : Run) (spaces : Spaces) (bodies at id total :
 counts_fit : (front : List Part) → import_count (items_of front) ≤ length front
 counts_fit front = let e = functions_of-counts (items_of front) in omega (arith, functions_are_few front)
 
-pub typed_there : (bytes : List ℕ) (left : Run) (spaces : Spaces) (bodies : ℕ) (b : Body) → IsJudging bytes (after_part (Coded b) left) spaces bodies → IsSome (function_type (context_in spaces) (spaces.imported + bodies))
+pub typed_there : (bytes : List ℕ) (left : Run) (spaces : Spaces) (bodies : ℕ) (b : Body) → IsJudged bytes (after_part (Coded b) left) spaces bodies → IsSome (function_type (context_in spaces) (spaces.imported + bodies))
 typed_there bytes left spaces bodies b j =
     let whole : AreTyped [] 0 (j.front ++ Coded b ∷ left.parts) = rw j.parts at (functions_have_types bytes) in
     let here = typed_behind [] 0 j.front (Coded b ∷ left.parts) whole in
@@ -357,18 +237,18 @@ typed_there bytes left spaces bodies b j =
     let there = rw k at here.0 in
     rw (j.spaces_are, j.count) there
 
-pub fewer_parts : (bytes : List ℕ) (left : Run) (spaces : Spaces) (bodies : ℕ) (j : IsJudging bytes left spaces bodies) → length j.front ≤ length bytes
+pub fewer_parts : (bytes : List ℕ) (left : Run) (spaces : Spaces) (bodies : ℕ) (j : IsJudged bytes left spaces bodies) → length j.front ≤ length bytes
 fewer_parts bytes left spaces bodies j = omega (arith, parts_are_few bytes, ap length j.parts, length-append j.front left.parts)
 
-pub few_functions : (bytes : List ℕ) (left : Run) (spaces : Spaces) (bodies : ℕ) → IsJudging bytes left spaces bodies → length spaces.functions ≤ length bytes
+pub few_functions : (bytes : List ℕ) (left : Run) (spaces : Spaces) (bodies : ℕ) → IsJudged bytes left spaces bodies → length spaces.functions ≤ length bytes
 few_functions bytes left spaces bodies j =
     let e : length spaces.functions ≡ length (functions_of (items_of j.front)) = ap (λ (s : Spaces). length s.functions) j.spaces_are in
     omega (arith, functions_are_few j.front, fewer_parts bytes left spaces bodies j)
 
-pub few_bodies : (bytes : List ℕ) (left : Run) (spaces : Spaces) (bodies : ℕ) → IsJudging bytes left spaces bodies → bodies ≤ length bytes
+pub few_bodies : (bytes : List ℕ) (left : Run) (spaces : Spaces) (bodies : ℕ) → IsJudged bytes left spaces bodies → bodies ≤ length bytes
 few_bodies bytes left spaces bodies j = omega (arith, j.count, bodies_are_few j.front, fewer_parts bytes left spaces bodies j)
 
-pub few_imports : (bytes : List ℕ) (left : Run) (spaces : Spaces) (bodies : ℕ) → IsJudging bytes left spaces bodies → spaces.imported ≤ length bytes
+pub few_imports : (bytes : List ℕ) (left : Run) (spaces : Spaces) (bodies : ℕ) → IsJudged bytes left spaces bodies → spaces.imported ≤ length bytes
 few_imports bytes left spaces bodies j =
     let e : spaces.imported ≡ import_count (items_of j.front) = ap (λ (s : Spaces). s.imported) j.spaces_are in
     omega (arith, counts_fit j.front, fewer_parts bytes left spaces bodies j)

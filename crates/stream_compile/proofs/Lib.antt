@@ -1,5 +1,13 @@
 pub mod Joins
-pub mod Settling
+pub mod Parts
+pub mod Order
+pub mod TextFaults
 pub mod Judging
-pub mod Once
+pub mod Codes
+pub mod Compiled
 pub mod Taking
+pub mod Images
+pub mod Wholes
+pub mod Settling
+pub mod Once
+pub mod Answering

@@ -1,17 +1,26 @@
 -- Bytes have one verdict.
-use Rattle.std.proofs.Common.{◌≡◌, ◌<◌, ◌⊎◌, inl, inr, ℕ, suc, List, [], ◌∷◌, ◌++◌, length, Some, refl, sym, ap, ◌∙◌, arith}
+use Rattle.std.proofs.Common.{◌≡◌, ◌≤◌, ◌<◌, ◌⊎◌, inl, inr, ℕ, suc, ◌+◌, ◌*◌, List, [], ◌∷◌, ◌++◌, length, Some, refl, sym, ap, ◌∙◌, append_assoc, arith}
 use Rattle.std.proofs.lemmas.Bool.{cases_Bool}
 use Rattle.wasm_defs.specs.declared.fault.Refusal.{Refusal}
 use Rattle.wasm_defs.specs.declared.item.Item.{Item}
 use Rattle.wasm_defs.specs.Trees.{Seq}
 use Rattle.wasm_defs.specs.Outside.{Part, Section, Listed, Coded, Body, module_run}
 use Rattle.wasm_defs.specs.Supported.{is_compiled_section}
-use Rattle.wasm_defs.specs.Faults.{first_outside, ending_fault, sections_of, tokens_of, read_of, context_at, IsOutsideFault, IsFaultInside, IsFault, AreValid, Module, IsModule, Verdict, Accepted, Rejected, IsVerdict}
+use Rattle.wasm_defs.specs.Faults.{first_outside, ending_fault, sections_of, items_of, bodies_of, tokens_of, read_of, context_at, IsOutsideFault, IsFaultInside, IsFault, AreValid, Module, IsModule, Verdict, Accepted, Rejected}
 use Rattle.wasm_laws.specs.Order.{AreOrdered, end_of, first_section}
 use Rattle.wasm_laws.proofs.Order.{parts_before_fault, parts_in_module}
 use Rattle.wasm_laws.proofs.Verdicts.{first_once, code_fault_inside, module_has_no_fault}
 use Rattle.body_validator.proofs.TreeLaws.{trees_one}
-use Rattle.stream_compile.proofs.Judging.{fault_after, section_after}
+use Rattle.std.proofs.lemmas.List.{append-nil}
+use Rattle.wasm_defs.specs.Limits.{max_text}
+use Rattle.wasm_laws.proofs.Behind.{bodies_stand_behind}
+use Rattle.frame_layout.specs.Templates.{exit_stub}
+use Rattle.image_linker.specs.ImageOf.{size_of, stub_size, front_size}
+use Rattle.stream_compile.proofs.Parts.{items_of-append}
+use Rattle.stream_compile.proofs.Codes.{same_size}
+use Rattle.image_linker.specs.Judging.{sizes, text_bytes, limit_at, IsTextFault, IsFaultOf, IsModuleOf, IsVerdictOf}
+use Rattle.stream_compile.proofs.Order.{fault_after, section_after}
+use Rattle.stream_compile.proofs.TextFaults.{text_not_outside, text_not_inside, text_once, tree_once}
 
 -- ---- faults of bodies
 
@@ -104,10 +113,52 @@ same_module bytes m n p q =
 no_fault : (bytes : List ℕ) (m : Module) (r : Refusal) → IsModule bytes m → IsFault bytes r → ⊥
 no_fault bytes m r p f = module_has_no_fault bytes (module_run bytes).parts m.trees r p.whole p.compiled p.valid f
 
-pub verdict_once : (bytes : List ℕ) (v w : Verdict) → IsVerdict bytes v → IsVerdict bytes w → v ≡ w
-verdict_once bytes (Accepted m) (Accepted n) p q = ap (λ (x : Module). Accepted x) (same_module bytes m n p q)
-verdict_once bytes (Accepted m) (Rejected r) p q = absurd (no_fault bytes m r p q.0)
-verdict_once bytes (Rejected r) (Accepted m) p q = absurd (no_fault bytes m r q p.0)
+-- ---- a module's text keeps its limit
+
+-- behind these parts of the module no body passes it
+text_fits : (bytes : List ℕ) (front parts : List Part) (k words : ℕ) (trees : List Seq) (r : Refusal) → (module_run bytes).parts ≡ front ++ parts
+    → AreValid (items_of front) k parts trees → text_bytes (items_of (module_run bytes).parts) (words + sizes (items_of (module_run bytes).parts) k (bodies_of parts) trees) ≤ max_text
+    → IsTextFault (items_of front) k words parts r → ⊥
+text_fits bytes front [] k words trees r e v le f = f
+text_fits bytes front (Section at id ∷ parts) k words trees r e v le f =
+    text_fits bytes (front ++ Section at id ∷ []) parts k words trees r (e ∙ sym (append_assoc front (Section at id ∷ []) parts))
+    (rw (items_of-append front (Section at id ∷ []), append-nil (items_of front)) v) le (rw (items_of-append front (Section at id ∷ []), append-nil (items_of front)) f)
+text_fits bytes front (Listed x ∷ parts) k words trees r e v le f =
+    text_fits bytes (front ++ Listed x ∷ []) parts k words trees r (e ∙ sym (append_assoc front (Listed x ∷ []) parts))
+    (rw (items_of-append front (Listed x ∷ [])) v) le (rw (items_of-append front (Listed x ∷ [])) f)
+text_fits bytes front (Coded b ∷ parts) k words [] r e v le f = absurd v
+text_fits bytes front (Coded b ∷ parts) k words (tree ∷ trees) r e v le (t, w, inl f) =
+    let behind = bodies_stand_behind bytes front b parts e in
+    let size : size_of (items_of (module_run bytes).parts) k b tree ≡ size_of (items_of front) k b t = same_size (items_of (module_run bytes).parts) (items_of front) behind.same k b tree ∙ ap (size_of (items_of front) k b) (tree_once (items_of front) k b tree t v.0 w) in
+    let stubs : front_size (items_of (module_run bytes).parts) ≡ front_size (items_of front) = ap (λ (n : ℕ). length exit_stub + stub_size * n) behind.same.imports in
+    absurd (omega (arith, f.0, le, size, stubs))
+text_fits bytes front (Coded b ∷ parts) k words (tree ∷ trees) r e v le (t, w, inr f) =
+    let behind = bodies_stand_behind bytes front b parts e in
+    let size : size_of (items_of (module_run bytes).parts) k b tree ≡ size_of (items_of front) k b t = same_size (items_of (module_run bytes).parts) (items_of front) behind.same k b tree ∙ ap (size_of (items_of front) k b) (tree_once (items_of front) k b tree t v.0 w) in
+    text_fits bytes (front ++ Coded b ∷ []) parts (suc k) (words + size_of (items_of front) k b t) trees r (e ∙ sym (append_assoc front (Coded b ∷ []) parts))
+    (rw (items_of-append front (Coded b ∷ []), append-nil (items_of front)) v.1) (omega (arith, le, size)) (rw (items_of-append front (Coded b ∷ []), append-nil (items_of front)) f.1)
+
+no_fault_of : (bytes : List ℕ) (m : Module) (r : Refusal) → IsModuleOf bytes m → IsFaultOf bytes r → ⊥
+no_fault_of bytes m r p (inl f) = no_fault bytes m r p.is f
+no_fault_of bytes m r p (inr f) =
+    let fits : text_bytes (items_of (module_run bytes).parts) (0 + sizes (items_of (module_run bytes).parts) 0 (bodies_of (module_run bytes).parts) m.trees) ≤ max_text =
+    omega (arith, p.fits, ap (λ (x : List Item). text_bytes x (sizes x 0 m.bodies m.trees)) p.is.items, ap (λ (x : List Body). sizes (items_of (module_run bytes).parts) 0 x m.trees) p.is.bodies) in
+    text_fits bytes [] (module_run bytes).parts 0 0 m.trees r refl p.is.valid fits f
+
+-- ---- with the limit on the text
+
+pub fault_of_once : (bytes : List ℕ) (r s : Refusal) → IsFaultOf bytes r → IsFaultOf bytes s → r.offset ≡ s.offset → r ≡ s
+fault_of_once bytes r s (inl f) (inl g) e = fault_once bytes r s f g e
+fault_of_once bytes r s (inl (inl f)) (inr g) e = absurd (text_not_outside bytes r s f g e)
+fault_of_once bytes r s (inl (inr f)) (inr g) e = absurd (text_not_inside bytes r s f g e)
+fault_of_once bytes r s (inr f) (inl (inl g)) e = absurd (text_not_outside bytes s r g f (sym e))
+fault_of_once bytes r s (inr f) (inl (inr g)) e = absurd (text_not_inside bytes s r g f (sym e))
+fault_of_once bytes r s (inr f) (inr g) e = text_once [] 0 0 (module_run bytes).parts r s f g
+
+pub verdict_once : (bytes : List ℕ) (v w : Verdict) → IsVerdictOf bytes v → IsVerdictOf bytes w → v ≡ w
+verdict_once bytes (Accepted m) (Accepted n) p q = ap (λ (x : Module). Accepted x) (same_module bytes m n p.is q.is)
+verdict_once bytes (Accepted m) (Rejected r) p q = absurd (no_fault_of bytes m r p q.0)
+verdict_once bytes (Rejected r) (Accepted m) p q = absurd (no_fault_of bytes m r q p.0)
 verdict_once bytes (Rejected r) (Rejected s) p q =
     let same : r.offset ≡ s.offset = omega (arith, p.1 s q.0, q.1 r p.0) in
-    ap (λ (x : Refusal). Rejected x) (fault_once bytes r s p.0 q.0 same)
+    ap (λ (x : Refusal). Rejected x) (fault_of_once bytes r s p.0 q.0 same)

@@ -1,4 +1,6 @@
+pub mod Running
+pub mod Progress
+pub mod Came
 pub mod Texts
 pub mod Reading
-pub mod Verdicts
-pub mod Progress
+pub mod Compiling

@@ -1,20 +1,47 @@
--- How far the judging of a module came.
-use Rattle.std.specs.Prelude.{◌≡◌, ◌<◌, ◌+◌, ◌^◌, ℕ, List, [], ◌++◌, length, None, Result, Ok, Err}
-use Rattle.wasm_defs.specs.Typing.{Context}
+-- How far the compiling of a module came.
+use Rattle.std.specs.Prelude.{◌≡◌, ◌<◌, ◌≤◌, ◌⊎◌, ◌+◌, ◌*◌, ◌^◌, ℕ, suc, List, [], ◌∷◌, ◌++◌, length, map, None, Some, IsSome, Result, Ok, Err}
+use Rattle.rv_isa.specs.Words.{word_of}
+use Rattle.rv_isa.specs.declared.compiled.Code.{Code}
+use Rattle.wasm_defs.specs.declared.fault.Refusal.{Refusal}
+use Rattle.wasm_defs.specs.declared.item.Item.{Item}
+use Rattle.wasm_defs.specs.Limits.{max_body, max_text}
+use Rattle.wasm_laws.specs.Kept.{TypeIsSmall}
+use Rattle.wasm_defs.specs.Typing.{Context, function_type}
 use Rattle.wasm_defs.specs.Trees.{Seq}
-use Rattle.wasm_defs.specs.Context.{body_context, type_of_function}
-use Rattle.wasm_defs.specs.Outside.{Part, Body, Run, module_run}
+use Rattle.wasm_defs.specs.Context.{body_context, type_of_function, declared_count}
+use Rattle.wasm_defs.specs.Bodies.{body_read}
+use Rattle.wasm_defs.specs.Outside.{Part, Section, Listed, Coded, Body, Run, module_run}
 use Rattle.wasm_defs.specs.Supported.{is_compiled_section}
-use Rattle.wasm_defs.specs.Faults.{first_outside, sections_of, items_of, bodies_of, read_of, AreValid, Rejected, IsVerdict}
+use Rattle.wasm_defs.specs.Faults.{first_outside, ending_fault, earlier, unsupported_at, sections_of, items_of, bodies_of, read_of, AreValid, IsCodeFault, IsValidCode, Module, Rejected}
 use Rattle.index_spaces.specs.Spaces.{Spaces, spaces_of, context_in}
 use Rattle.section_reader.specs.declared.part.Part.{Part as Given}
-use Rattle.section_reader.specs.declared.part.Part.TheVariants.{Section, Listed, Coded}
+use Rattle.section_reader.specs.declared.part.Part.TheVariants as given
+use Rattle.section_reader.specs.declared.part.Body.{Body as GivenBody}
 use Rattle.section_reader.specs.declared.front_stop.FrontStop.{FrontStop}
 use Rattle.section_reader.specs.declared.front_stop.FrontStop.TheVariants.{Refused, NoMemory}
-use Rattle.stream_compile.specs.Verdicts.{CanTake}
+use Rattle.body_compiler.specs.declared.code.BodyStop.{BodyStop}
+use Rattle.body_compiler.specs.declared.code.BodyStop.TheVariants as body
+use Rattle.body_compiler.specs.Compiling.{Compiles}
+use Rattle.frame_layout.specs.Templates.{exit_stub}
+use Rattle.image_linker.specs.ImageOf.{image_of, stub_size}
+use Rattle.image_linker.specs.Linking.{words_of, linked}
+use Rattle.image_linker.specs.Codes.{IsCodeOf}
+use Rattle.image_linker.specs.Same.{Same}
+use Rattle.stream_compile.specs.Running.{IsRunnable}
+use Rattle.image_linker.specs.Judging.{limit_at, IsTextFault, IsModuleOf, IsVerdictOf}
+use Rattle.stream_compile.specs.declared.answer.Built.{Built}
 
--- these parts of the module were read and are right, and this is left
-pub record IsJudging (bytes : List ℕ) (left : Run) (spaces : Spaces) (bodies : ℕ) : Type 0 where
+-- the codes of the bodies of these parts, behind these items and k bodies
+abbrev pub AreCodes : List Item → ℕ → List Part → List Seq → List Code → Type 0
+AreCodes items k [] [] [] = Unit {0}
+AreCodes items k [] trees codes = ⊥
+AreCodes items k (Section at id ∷ parts) trees codes = AreCodes items k parts trees codes
+AreCodes items k (Listed x ∷ parts) trees codes = AreCodes (items ++ x ∷ []) k parts trees codes
+AreCodes items k (Coded b ∷ parts) (tree ∷ trees) (code ∷ codes) = IsCodeOf items k b tree code × AreCodes items (suc k) parts trees codes
+AreCodes items k (Coded b ∷ parts) trees codes = ⊥
+
+-- these parts of the module were read and are right, with so many bodies, and this is left
+pub record IsJudged (bytes : List ℕ) (left : Run) (spaces : Spaces) (bodies : ℕ) : Type 0 where
   pub front : List Part
   pub parts : (module_run bytes).parts ≡ front ++ left.parts
   pub ending : (module_run bytes).ending ≡ left.ending
@@ -24,20 +51,86 @@ pub record IsJudging (bytes : List ℕ) (left : Run) (spaces : Spaces) (bodies :
   pub trees : List Seq
   pub valid : AreValid [] 0 front trees
 
--- what a body is judged by
+-- and these are the codes of the bodies, of so many words
+pub record IsJudging (bytes : List ℕ) (left : Run) (spaces : Spaces) (codes : List Code) (words : ℕ) : Type 0 where
+  pub judged : IsJudged bytes left spaces (length codes)
+  pub coded : AreCodes [] 0 judged.front judged.trees codes
+  pub words_are : words ≡ length (words_of codes)
+  -- with the exit stub they keep the limit
+  pub fits : 4 * (2 + words) ≤ max_text
+  -- a fault of the text stands in what is left
+  pub text_left : (r : Refusal) → IsTextFault [] 0 0 (module_run bytes).parts r → IsTextFault (items_of judged.front) (length (bodies_of judged.front)) words left.parts r
+  pub text_whole : (r : Refusal) → IsTextFault (items_of judged.front) (length (bodies_of judged.front)) words left.parts r → IsTextFault [] 0 0 (module_run bytes).parts r
+
+-- what a body is judged by, before which so many bodies stand
 abbrev pub body_of_spaces : Spaces → ℕ → Body → Context
 body_of_spaces s k b =
     let c = context_in s in
     body_context c (type_of_function c (s.imported + k)) (read_of b).groups
 
--- a part can be taken: a body's function is there, and there is room in the count of bodies
-abbrev pub CanTakePart : Spaces → ℕ → Given → Type 0
-CanTakePart spaces bodies (Section at id) = Unit {0}
-CanTakePart spaces bodies (Listed x) = Unit {0}
-CanTakePart spaces bodies (Coded b) = CanTake spaces bodies b × (bodies + 1 < 2 ^ 32)
+-- the function of a body, before which so many bodies stand, is there with its type, and the offsets are small
+pub record CanTake (spaces : Spaces) (bodies : ℕ) (b : GivenBody) : Type 0 where
+  pub typed : IsSome (function_type (context_in spaces) (spaces.imported + bodies))
+  pub few : length spaces.functions < 2 ^ 32
+  pub index : spaces.imported + bodies < 2 ^ 32
+  pub offset : b.first + length b.bytes.now < 2 ^ 63
+  pub small : TypeIsSmall (type_of_function (context_in spaces) (spaces.imported + bodies))
+  pub most : length b.bytes.now ≤ max_body
+
+-- a part can be taken: a body's function is there, and there is room in the count of words
+abbrev pub CanTakePart : Spaces → List Code → (words : ℕ) → Given → Type 0
+CanTakePart spaces codes words (given.Section at id) = Unit {0}
+CanTakePart spaces codes words (given.Listed x) = Unit {0}
+CanTakePart spaces codes words (given.Coded b) = CanTake spaces (length codes) b × (words ≤ 2 ^ 26)
 
 -- a part was taken, and the reader is where it was; or the module's fault is found
-abbrev pub TakesPart : List ℕ → Result ℕ FrontStop → Run → Spaces → Type 0
-TakesPart bytes (Ok bodies) run spaces = IsJudging bytes run spaces bodies
-TakesPart bytes (Err (Refused r)) run spaces = IsVerdict bytes (Rejected r)
-TakesPart bytes (Err NoMemory) run spaces = Unit {0}
+abbrev pub TakesPart : List ℕ → Result ℕ FrontStop → Run → Spaces → List Code → Type 0
+TakesPart bytes (Ok words) run spaces codes = IsJudging bytes run spaces codes words
+TakesPart bytes (Err (Refused r)) run spaces codes = IsVerdictOf bytes (Rejected r)
+TakesPart bytes (Err NoMemory) run spaces codes = Unit {0}
+
+-- behind the id of a section that isn't compiled there is more, or the bytes are whole: it is unsupported; or there is a fault
+-- at once, which may come first
+abbrev pub Uncompiled : ℕ → ℕ → Run → FrontStop → Type 0
+Uncompiled at total run (Refused r) =
+    ((r ≡ unsupported_at at) × ((0 < length run.parts) ⊎ (ending_fault total run.ending ≡ None)))
+    ⊎ ((e : Refusal) × (run.parts ≡ []) × (ending_fault total run.ending ≡ Some e) × (r ≡ earlier e (unsupported_at at)))
+Uncompiled at total run NoMemory = Unit {0}
+
+abbrev pub front_stop : BodyStop → FrontStop
+front_stop (body.Refused r) = Refused r
+front_stop body.NoMemory = NoMemory
+
+-- a body's code, or its first fault
+abbrev pub TakesBody : Spaces → ℕ → GivenBody → Result Code FrontStop → Type 0
+TakesBody spaces bodies b (Ok code) = Compiles (context_in spaces) (spaces.imported + bodies) (body_read b.first b.bytes.now) (Ok code)
+TakesBody spaces bodies b (Err (Refused r)) = Compiles (context_in spaces) (spaces.imported + bodies) (body_read b.first b.bytes.now) (Err (body.Refused r))
+TakesBody spaces bodies b (Err NoMemory) = Unit {0}
+
+-- the words in front of the functions' words
+abbrev pub front_of : Spaces → ℕ
+front_of s = length exit_stub + stub_size * s.imported
+
+-- a body was taken: its code stands behind the others, and there are so many words; or the body has a fault, or with it the text
+-- passes its limit
+abbrev pub TakesCode : Spaces → List Code → (words : ℕ) → GivenBody → Result ℕ FrontStop → List Code → Type 0
+TakesCode spaces codes words b (Ok more) new =
+    (code : Code) × TakesBody spaces (length codes) b (Ok code) × (new ≡ codes ++ code ∷ []) × (more ≡ words + length code.words)
+    × (4 * (front_of spaces + more) ≤ max_text)
+TakesCode spaces codes words b (Err (Refused r)) new =
+    TakesBody spaces (length codes) b (Err (Refused r))
+    ⊎ ((code : Code) × TakesBody spaces (length codes) b (Ok code) × (max_text < 4 * (front_of spaces + (words + length code.words))) × (r ≡ limit_at b.size))
+TakesCode spaces codes words b (Err NoMemory) new = Unit {0}
+
+-- what was linked; or memory ran out
+abbrev pub Links : Spaces → List Code → List ℕ → Result Built FrontStop → Type 0
+Links spaces codes bytes (Ok built) = (built.image ≡ linked spaces codes) × (built.functions ≡ spaces.declared) × (built.bytes ≡ length bytes)
+Links spaces codes bytes (Err s) = s ≡ NoMemory
+
+-- the module's image, or its fault of least offset
+abbrev pub Decides : List ℕ → Result Built FrontStop → Type 0
+Decides bytes (Ok built) =
+    (m : Module) × IsModuleOf bytes m × (built.image ≡ image_of m) × Same m built.image × IsRunnable built.image
+    × (built.functions ≡ declared_count m.items) × (built.bytes ≡ length bytes)
+Decides bytes (Err (Refused r)) = IsVerdictOf bytes (Rejected r)
+Decides bytes (Err NoMemory) = Unit {0}

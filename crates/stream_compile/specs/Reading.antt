@@ -2,19 +2,26 @@
 use Rattle.std.specs.Prelude.{◌≡◌, ℕ, Bool, true, false, List, Option, nat_lt, string_bytes}
 use Rattle.io_edges.specs.declared.reading.Stop.{Stop}
 use Rattle.io_edges.specs.declared.reading.Stop.TheVariants.{End, Failed, Full}
-use Rattle.stream_compile.specs.declared.answer.Answer.{Answer}
-use Rattle.stream_compile.specs.Texts.{Outcome, IsOutcome, Came}
+use Rattle.wasm_defs.specs.Faults.{Module, Verdict, Accepted}
+use Rattle.image_linker.specs.Judging.{IsVerdictOf}
+use Rattle.stream_compile.specs.declared.output.Output.{Output}
+use Rattle.stream_compile.specs.Came.{Came}
+use Rattle.stream_compile.specs.Texts.{Outcome}
 
 abbrev pub is_failed : Stop → Bool
 is_failed Failed = true
 is_failed End = false
 is_failed Full = false
 
--- it failed exactly where the count rose, and an outcome of what was read is one of all that came
-abbrev pub Settles : Bool → List ℕ → Bool → Option (List ℕ) → ℕ → ℕ → Type 0
-Settles check read failed left before now =
-    (failed ≡ nat_lt before now) × (bytes : List ℕ) × Came left failed bytes × ((o : Outcome) → IsOutcome check failed read o → IsOutcome check failed bytes o)
+-- reading failed exactly where the count rose; where it didn't, all bytes that came have the verdict of those that were read
+pub record Settles (read : List ℕ) (failed : Bool) (left : Option (List ℕ)) (before now : ℕ) : Type 0 where
+  pub failed_is : failed ≡ nat_lt before now
+  pub bytes : List ℕ
+  pub came : Came left failed bytes
+  pub verdict : (v : Verdict) → IsVerdictOf read v → IsVerdictOf bytes v
+  -- and a module was read to its end
+  pub whole : (m : Module) → IsVerdictOf read (Accepted m) → bytes ≡ read
 
 -- a status and a text in memory as an outcome
-abbrev pub view : Answer → Outcome
+abbrev pub view : Output → Outcome
 view a = record { status = a.status; text = string_bytes a.text }

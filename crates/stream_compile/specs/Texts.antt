@@ -10,7 +10,9 @@ use Rattle.wasm_defs.specs.declared.fault.Kind.{Kind}
 use Rattle.wasm_defs.specs.declared.fault.Kind.TheVariants.{Malformed, Unsupported, Limit, Invalid, Ended}
 use Rattle.wasm_defs.specs.declared.fault.Refusal.{Refusal}
 use Rattle.wasm_defs.specs.Context.{declared_count}
-use Rattle.wasm_defs.specs.Faults.{Verdict, Accepted, Rejected, IsVerdict}
+use Rattle.wasm_defs.specs.Faults.{Verdict, Accepted, Rejected}
+use Rattle.image_linker.specs.Judging.{IsVerdictOf}
+use Rattle.stream_compile.specs.Came.{Came}
 
 -- a status, and what is written
 pub record Outcome : Type 0 where
@@ -56,21 +58,19 @@ is_command words = is_check (command_in (map string_bytes words))
 abbrev pub IsOutcome : Bool → Bool → List ℕ → Outcome → Type 0
 IsOutcome false failed bytes o = o ≡ usage
 IsOutcome true true bytes o = o ≡ read_fault
-IsOutcome true false bytes o = (v : Verdict) × IsVerdict bytes v × (o ≡ of_verdict (length bytes) v)
-
--- these bytes came from the source: all that was left, or, where it failed, a front of it
-abbrev pub Came : Option (List ℕ) → Bool → List ℕ → Type 0
-Came None failed bytes = Unit {0}
-Came (Some left) false bytes = bytes ≡ left
-Came (Some left) true bytes = (rest : List ℕ) × (left ≡ bytes ++ rest)
+IsOutcome true false bytes o = (v : Verdict) × IsVerdictOf bytes v × (o ≡ of_verdict (length bytes) v)
 
 -- what was answered and written of an outcome: where the sink failed, a front of its text; else its status and its text
 abbrev pub Told : ℕ → Outcome → Bool → Option (List ℕ) → Option (List ℕ) → Type 0
 Told status o true old new = (status ≡ 7) × (n : ℕ) × (new ≡ append_known old (take n o.text))
 Told status o false old new = (status ≡ o.status) × (new ≡ append_known old o.text)
 
+-- what the words, the source's failing and what it gave come to
+abbrev pub Comes : Bool → Bool → Option (List ℕ) → Outcome → Type 0
+Comes check failed left o = (bytes : List ℕ) × Came left failed bytes × IsOutcome check failed bytes o
+
 -- what a call answered and wrote: want of memory, and nothing; else what the words and the bytes come to
 abbrev pub Answers : Bool → Bool → Option (List ℕ) → ℕ → Bool → Option (List ℕ) → Option (List ℕ) → Type 0
 Answers check source_failed left status sink_failed old new =
     ((status ≡ 8) × (sink_failed ≡ false) × (new ≡ old))
-    ⊎ ((bytes : List ℕ) × (o : Outcome) × Came left source_failed bytes × IsOutcome check source_failed bytes o × Told status o sink_failed old new)
+    ⊎ ((o : Outcome) × Comes check source_failed left o × Told status o sink_failed old new)

@@ -1,72 +1,37 @@
-//! What the program answers: a status, and a text for standard output.
+//! What compiling comes to.
 
-ghost use Rattle.std.specs.Prelude.{◌≡◌, IfOk, length};
-ghost use Rattle.stream_compile.specs.Reading.{view};
-ghost use Rattle.stream_compile.specs.Texts.{usage, read_fault, accepted, kind_name, rejected};
+use image_format::Image;
+use wasm_defs::Refusal;
 
-use std::alloc::{AllocError, Global};
-use wasm_defs::{Kind, Refusal};
+/// How a module is compiled. Neither setting has an effect on the answer, and so far they have none at all.
+#[derive(Clone, Copy, Debug, PartialEq, Eq)]
+pub struct Settings {
+    /// The worker threads, from 0 to 64.
+    pub workers: u32,
+    /// The most bytes of bodies that a worker is handed at a time, from 1 to 1,048,576.
+    pub batch: u32,
+}
 
-/// A status and what is written.
+/// A module that was compiled.
 #[derive(Drop)]
-pub struct Answer {
-    pub status: u8,
-    pub text: String,
+pub struct Built {
+    /// The module's one image.
+    pub image: Image,
+    /// How many functions the module declares, imported ones not counted.
+    pub functions: u64,
+    /// The bytes of the module.
+    pub bytes: u64,
 }
 
-/// The words are outside the command grammar.
-pub fn usage(alloc: Global) -> Result<Answer, AllocError>
-    ensures { IfOk result (λ a. view a ≡ usage) }
-{
-    Ok(Answer {
-        status: 1,
-        text: String::from_str(
-            alloc,
-            "usage: wstream check, compile, run EXPORT ARGS, exec EXPORT ARGS or drill N\n",
-        )?,
-    })
-}
-
-/// The source failed.
-pub fn read_fault(alloc: Global) -> Result<Answer, AllocError>
-    ensures { IfOk result (λ a. view a ≡ read_fault) }
-{
-    Ok(Answer {
-        status: 6,
-        text: String::from_str(alloc, "read fault\n")?,
-    })
-}
-
-/// The bytes are a module, which declares so many functions.
-pub fn accepted(alloc: Global, functions: usize, bytes: usize) -> Result<Answer, AllocError>
-    ensures { IfOk result (λ a. view a ≡ accepted functions bytes) }
-{
-    Ok(Answer {
-        status: 0,
-        text: format!(in alloc; "ok {functions} functions {bytes} bytes\n")?,
-    })
-}
-
-fn kind_name(kind: Kind) -> &'static str
-    ensures { result.now ≡ kind_name kind }
-{
-    match kind {
-        Kind::Malformed => "malformed",
-        Kind::Unsupported => "unsupported",
-        Kind::Limit => "limit",
-        Kind::Invalid => "invalid",
-        Kind::Ended => "ended",
-    }
-}
-
-/// The bytes are no module: this is its fault of least offset.
-pub fn rejected(alloc: Global, refusal: Refusal) -> Result<Answer, AllocError>
-    ensures { IfOk result (λ a. view a ≡ rejected refusal) }
-{
-    let kind = kind_name(refusal.kind);
-    let offset = refusal.offset;
-    Ok(Answer {
-        status: 2,
-        text: format!(in alloc; "refused {kind} at {offset}\n")?,
-    })
+/// What compiling comes to.
+#[derive(Drop)]
+pub enum Answer {
+    /// The bytes are a module, and this is its image.
+    Image(Built),
+    /// They are none: this is the fault of least offset.
+    Refused(Refusal),
+    /// The source failed.
+    ReadFault,
+    /// Memory ran out.
+    NoMemory,
 }

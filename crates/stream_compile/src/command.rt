@@ -1,70 +1,55 @@
 //! The commands of the program.
 
-ghost use Rattle.std.specs.Prelude.{◌≡◌, ◌<◌, ◌≤◌, ◌^◌, ◌-◌, true, false, nat_lt, IfOk, length};
-ghost use Rattle.stream_compile.specs.Reading.{Settles, view, is_failed};
-ghost use Rattle.stream_compile.specs.Texts.{is_command, IsOutcome, Answers};
+ghost use Rattle.std.specs.Prelude.{◌≡◌, ◌<◌, ◌^◌, ◌-◌, nat_lt, is_some, IfOk};
+ghost use Rattle.stream_compile.specs.Reading.{view};
+ghost use Rattle.stream_compile.specs.Texts.{is_command, Comes, Answers};
 
-use crate::answer::{Answer, accepted, read_fault, rejected, usage};
-use crate::verdict::{Verdict, verdict_of};
-use command_words::{Command, WordsStop, command_of};
-use io_edges::{Gate, Input, Sink, Source, Stop, read_all, write_all};
+use crate::answer::{Answer, Settings};
+use crate::compiling::stream_compile;
+use crate::output::{Output, accepted, read_fault, rejected, usage};
+use command_words::{Command, Options, WordsStop, command_of};
+use io_edges::{Gate, Sink, Source, write_all};
 use std::alloc::{AllocError, Global};
 use std::sync::Wait;
 use std::thread::Threads;
 
-/// The most bytes that are read: a section's size that begins at the limit on a module's bytes has at most five.
-const MOST_READ: usize = 67_108_869;
+fn settings_of(options: Options) -> Settings {
+    Settings {
+        workers: options.workers.min(64) as u32,
+        batch: options.batch.min(1_048_576) as u32,
+    }
+}
 
-/// Whether the words are the command `check`: else they are outside what is done so far. Its options have no effect yet.
-fn is_command(alloc: Global, words: &Vec<String>) -> Result<bool, AllocError>
-    ensures { IfOk result (λ known. known ≡ is_command words.now.items) }
+/// The settings of `check`, where the words are that command: else they are outside what is done so far.
+fn settings_in(alloc: Global, words: &Vec<String>) -> Result<Option<Settings>, AllocError>
+    ensures { IfOk result (λ settings. is_some settings ≡ is_command words.now.items) }
 {
     match command_of(alloc, words) {
-        Ok(Command::Check(_)) => Ok(true),
-        Ok(Command::Run(_)) | Err(WordsStop::Outside) => Ok(false),
+        Ok(Command::Check(options)) => Ok(Some(settings_of(options))),
+        Ok(Command::Run(_)) | Err(WordsStop::Outside) => Ok(None),
         Err(WordsStop::NoMemory) => Err(AllocError),
     }
 }
 
-/// The bytes to judge: where the words ask for none, none is read.
-fn gather<S: Source>(alloc: Global, check: bool, source: &mut S) -> Result<Input, AllocError>
+/// What the source comes to: where there are no settings, the words ask for nothing, and none of it is read.
+fn answer_to<R: Threads + Wait + Sync, S: Source, G: Gate>(
+    rt: &R,
+    alloc: Global,
+    settings: Option<Settings>,
+    source: &mut S,
+    gate: &G,
+) -> Result<Output, AllocError>
     requires { S.faults source.old < 2 ^ 64 - 1 }
-    ensures most { IfOk result (λ input. length input.bytes.items ≤ 67108869) }
-    ensures settles { IfOk result (λ input. Settles check input.bytes.items (is_failed input.stop) (S.left source.old) (S.faults source.old) (S.faults source.new)) }
+    ensures { IfOk result (λ o. Comes (is_some settings) (nat_lt (S.faults source.old) (S.faults source.new)) (S.left source.old) (view o)) }
 {
-    if check {
-        read_all(alloc, source, MOST_READ)
-    } else {
-        Ok(Input {
-            bytes: Vec::new(alloc),
-            stop: Stop::End,
-        })
-    }
-}
-
-/// Of the bytes that came.
-fn of_bytes(alloc: Global, bytes: &[u8]) -> Result<Answer, AllocError>
-    requires { length bytes.now ≤ 67108869 }
-    ensures { IfOk result (λ a. IsOutcome true false bytes.now (view a)) }
-{
-    let verdict = verdict_of(alloc, bytes)?;
-    match verdict {
-        Verdict::Module { functions } => accepted(alloc, functions, bytes.len()),
-        Verdict::Refused(refusal) => rejected(alloc, refusal),
-    }
-}
-
-/// By the words, whether the source failed, and the bytes that came.
-fn answer_to(alloc: Global, check: bool, failed: bool, bytes: &[u8]) -> Result<Answer, AllocError>
-    requires { length bytes.now ≤ 67108869 }
-    ensures { IfOk result (λ a. IsOutcome check failed bytes.now (view a)) }
-{
-    if !check {
-        usage(alloc)
-    } else if failed {
-        read_fault(alloc)
-    } else {
-        of_bytes(alloc, bytes)
+    let Some(settings) = settings else {
+        return usage(alloc);
+    };
+    match stream_compile(rt, alloc, source, gate, settings) {
+        Answer::Image(built) => accepted(alloc, built.functions, built.bytes),
+        Answer::Refused(refusal) => rejected(alloc, refusal),
+        Answer::ReadFault => read_fault(alloc),
+        Answer::NoMemory => Err(AllocError),
     }
 }
 
@@ -86,20 +71,14 @@ pub fn top<R: Threads + Wait + Sync, S: Source, O: Sink, G: Gate>(
     ensures answer { Answers (is_command words.now.items) (nat_lt (S.faults source.old) (S.faults source.new)) (S.left source.old) result
         (nat_lt (O.faults out.old) (O.faults out.new)) (O.written out.old) (O.written out.new) }
 {
-    let _ = rt;
-    let _ = gate;
-    let Ok(check) = is_command(alloc, words) else {
+    let Ok(settings) = settings_in(alloc, words) else {
         return 8;
     };
-    let Ok(input) = gather(alloc, check, source) else {
+    let Ok(output) = answer_to(rt, alloc, settings, source, gate) else {
         return 8;
     };
-    let failed = matches!(input.stop, Stop::Failed);
-    let Ok(answer) = answer_to(alloc, check, failed, &input.bytes) else {
-        return 8;
-    };
-    if write_all(out, answer.text.as_bytes()) {
-        answer.status
+    if write_all(out, output.text.as_bytes()) {
+        output.status
     } else {
         7
     }

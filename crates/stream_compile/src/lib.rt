@@ -3,10 +3,14 @@
 
 mod answer;
 mod command;
+mod compiling;
 mod laws;
-mod verdict;
+mod module;
+mod output;
 
+pub use answer::{Answer, Built, Settings};
 pub use command::top;
+pub use compiling::stream_compile;
 pub use laws::{faults_share_no_offset, verdicts_are_one};
 
 #[cfg(test)]

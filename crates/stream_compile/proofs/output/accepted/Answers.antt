@@ -3,7 +3,7 @@ use Rattle.std.specs.Prelude.{codes}
 use Rattle.std.specs.Fmt.{decimal}
 use Rattle.stream_compile.specs.Texts.{Outcome}
 use Rattle.stream_compile.proofs.Joins.{five}
-use Rattle.stream_compile.proofs.answer.accepted.Goals as goal
+use Rattle.stream_compile.proofs.output.accepted.Goals as goal
 
 abbrev done_with : List ℕ → Outcome
 done_with t = record { status = 0; text = t }

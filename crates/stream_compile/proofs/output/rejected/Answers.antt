@@ -3,7 +3,7 @@ use Rattle.std.specs.Prelude.{codes}
 use Rattle.std.specs.Fmt.{decimal}
 use Rattle.stream_compile.specs.Texts.{Outcome}
 use Rattle.stream_compile.proofs.Joins.{five}
-use Rattle.stream_compile.proofs.answer.rejected.Goals as goal
+use Rattle.stream_compile.proofs.output.rejected.Goals as goal
 
 abbrev refused_with : List ℕ → Outcome
 refused_with t = record { status = 2; text = t }

@@ -1,0 +1,111 @@
+-- What is linked of a whole module's codes is its image, and it can be run.
+use Rattle.std.proofs.Common.{◌≡◌, ℕ, zero, suc, ◌+◌, ◌*◌, ◌≤◌, ◌<◌, Bool, true, List, [], ◌∷◌, ◌++◌, map, length, Some, None, refl, sym, ap, ◌∙◌, subst, arith, length-append}
+use Rattle.std.specs.Prelude.{slice_index, replicate, All, not}
+use Rattle.std.proofs.Common.{get_or}
+use Rattle.std.proofs.lemmas.Bool.{false≢true}
+use Rattle.std.proofs.lemmas.List.{map-append, append-nil}
+use Rattle.rv_isa.specs.Words.{word_of}
+use Rattle.rv_isa.specs.declared.operations.Op.{Op}
+use Rattle.rv_isa.specs.declared.compiled.Code.{Code}
+use Rattle.wasm_defs.specs.declared.item.Item.{Item}
+use Rattle.wasm_defs.specs.declared.item.Item.TheVariants.{Signature, Function, Exported, Code as CodeCount}
+use Rattle.wasm_defs.specs.Typing.{Context}
+use Rattle.wasm_defs.specs.Context.{context_of, import_count, type_of_function}
+use Rattle.wasm_defs.specs.Faults.{Module}
+use Rattle.wasm_defs.specs.Instances.{instance_of, is_linkable, exports_of, elements_of, segments_of, rows_of, values_of, start_of, all_over}
+use Rattle.wasm_defs.specs.Values.{Value, words_of as value_words}
+use Rattle.wasm_laws.specs.Plain.{ArePlain, HasNoMore}
+use Rattle.wasm_laws.proofs.Plain.{plain_has_no_more, plain_is_linkable}
+use Rattle.frame_layout.specs.Templates.{exit_stub}
+use Rattle.image_format.specs.declared.image.Image.{Image}
+use Rattle.image_format.specs.declared.image.Row.{Row}
+use Rattle.image_format.specs.declared.image.Segment.{Segment}
+use Rattle.image_format.specs.declared.image.Import.{Import}
+use Rattle.image_format.specs.declared.image.Export.{Export}
+use Rattle.index_spaces.specs.Entries.{function_exports, all_exports_of}
+use Rattle.index_spaces.specs.Spaces.{Spaces, spaces_of, context_in}
+use Rattle.index_spaces.proofs.EntriesOfItems.{exports_are_of_items}
+use Rattle.image_linker.specs.ImageOf.{image_of, text_of, stubs_from, code_from, places_from, places_of_functions, stub_places, stub_size, front_size, imports_of, export_of, offset_of, row_of, table_of, segment_of, placed_segments, start_offset}
+use Rattle.image_linker.specs.Codes.{AreCodesOf}
+use Rattle.image_linker.specs.Linking.{words_of, starts_from, starts_of, front_words, linked, linked_export}
+use Rattle.image_linker.proofs.Items.{no_stubs, no_rows, no_pages, no_cap}
+use Rattle.image_linker.proofs.Linked.{words_linked, places_linked}
+
+no_imports : (c : Context) (items : List Item) → ArePlain items → imports_of c items ≡ []
+no_imports c [] h = refl
+no_imports c (Signature form params results ty ∷ items) h = no_imports c items h.1
+no_imports c (Function index ∷ items) h = no_imports c items h.1
+no_imports c (Exported name kind index ∷ items) h = no_imports c items h.1
+no_imports c (CodeCount count end ∷ items) h = no_imports c items h.1
+no_imports c (x ∷ items) h = absurd (false≢true h.0)
+
+-- ---- the image, field by field
+
+abbrev image_by : List ℕ → List ℕ → List Row → ℕ → ℕ → List Segment → List Import → List Export → ℕ → Bool → Image
+image_by text globals table pages cap segments imports exports start unlinkable =
+    record { text = text; globals = globals; table = table; pages = pages; cap = cap; segments = segments; imports = imports; exports = exports; start = start; unlinkable = unlinkable }
+
+module _ (m : Module) (codes : List Code) (plain : ArePlain m.items) (coded : AreCodesOf m.items 0 m.bodies m.trees codes) where
+  abbrev c : Context
+  c = context_of m.items
+
+  none : HasNoMore m.items
+  none = plain_has_no_more m.items plain
+
+  front_is : front_size m.items ≡ 2
+  front_is = ap (λ (n : ℕ). length exit_stub + stub_size * n) none.imports
+
+  text_is : front_words ++ words_of codes ≡ map word_of (text_of m)
+  text_is =
+      let functions = code_from m.items (places_of_functions m) (front_size m.items) 0 m.bodies m.trees in
+      let stubs = stubs_from (context_of m.items) 0 m.items in
+      let words : map word_of functions ≡ words_of codes = words_linked m.items (places_of_functions m) (front_size m.items) 0 m.bodies m.trees codes coded in
+      let all : map word_of (exit_stub ++ (stubs ++ functions)) ≡ front_words ++ map word_of (stubs ++ functions) = map-append word_of exit_stub (stubs ++ functions) in
+      ap (λ (l : List ℕ). front_words ++ l) (sym words)
+      ∙ ap (λ (l : List Op). front_words ++ map word_of (l ++ functions)) (sym (no_stubs (context_of m.items) 0 m.items plain))
+      ∙ sym all
+
+  places_are : starts_of codes ≡ places_of_functions m
+  places_are =
+      sym (places_linked m.items 2 0 m.bodies m.trees codes coded)
+      ∙ ap (λ (n : ℕ). places_from m.items n 0 m.bodies m.trees) (sym front_is)
+      ∙ ap (λ (n : ℕ). stub_places (length exit_stub) n ++ places_from m.items (front_size m.items) 0 m.bodies m.trees) (sym none.imports)
+
+  exports_are : map (linked_export (spaces_of m.items) (starts_of codes)) (function_exports (all_exports_of m.items)) ≡ map (export_of m) (exports_of m.items)
+  exports_are =
+      ap (λ (l : List (List ℕ × ℕ)). map (linked_export (spaces_of m.items) (starts_of codes)) l) (exports_are_of_items m.items)
+      ∙ ap (λ (l : List ℕ). map (linked_export (spaces_of m.items) l) (exports_of m.items)) places_are
+
+  rows_are : [] ≡ table_of m true
+  rows_are =
+      ap (λ (n : ℕ). map (row_of m) (all_over (replicate n None) [])) (sym (no_rows m.items plain))
+      ∙ ap (λ l. map (row_of m) (all_over (replicate (rows_of m.items) None) l)) (sym none.elements)
+
+  segments_are : [] ≡ placed_segments m true
+  segments_are = ap (λ (l : List (ℕ × List ℕ)). map segment_of l) (sym none.segments)
+
+  linkable : is_linkable m ≡ true
+  linkable = plain_is_linkable m plain
+
+  pub linked_is_image : linked (spaces_of m.items) codes ≡ image_of m
+  linked_is_image =
+      ap (λ (l : List ℕ). image_by l [] [] 0 0 [] [] (map (linked_export (spaces_of m.items) (starts_of codes)) (function_exports (all_exports_of m.items))) 0 (not true)) text_is
+      ∙ ap (λ (l : List Value). image_by (map word_of (text_of m)) (value_words l) [] 0 0 [] [] (map (linked_export (spaces_of m.items) (starts_of codes)) (function_exports (all_exports_of m.items))) 0 (not true)) (sym none.values)
+      ∙ ap (λ (l : List Row). image_by (map word_of (text_of m)) (value_words (values_of m.items)) l 0 0 [] [] (map (linked_export (spaces_of m.items) (starts_of codes)) (function_exports (all_exports_of m.items))) 0 (not true)) rows_are
+      ∙ ap (λ (n : ℕ). image_by (map word_of (text_of m)) (value_words (values_of m.items)) (table_of m true) n 0 [] [] (map (linked_export (spaces_of m.items) (starts_of codes)) (function_exports (all_exports_of m.items))) 0 (not true)) (sym (no_pages m.items plain))
+      ∙ ap (λ (n : ℕ). image_by (map word_of (text_of m)) (value_words (values_of m.items)) (table_of m true) (image_of m).pages n [] [] (map (linked_export (spaces_of m.items) (starts_of codes)) (function_exports (all_exports_of m.items))) 0 (not true)) (sym (no_cap m.items plain))
+      ∙ ap (λ (l : List Segment). image_by (map word_of (text_of m)) (value_words (values_of m.items)) (table_of m true) (image_of m).pages (image_of m).cap l [] (map (linked_export (spaces_of m.items) (starts_of codes)) (function_exports (all_exports_of m.items))) 0 (not true)) segments_are
+      ∙ ap (λ (l : List Import). image_by (map word_of (text_of m)) (value_words (values_of m.items)) (table_of m true) (image_of m).pages (image_of m).cap (placed_segments m true) l (map (linked_export (spaces_of m.items) (starts_of codes)) (function_exports (all_exports_of m.items))) 0 (not true)) (sym (no_imports (context_of m.items) m.items plain))
+      ∙ ap (λ (l : List Export). image_by (map word_of (text_of m)) (value_words (values_of m.items)) (table_of m true) (image_of m).pages (image_of m).cap (placed_segments m true) (image_of m).imports l 0 (not true)) exports_are
+      ∙ ap (λ o. image_by (map word_of (text_of m)) (value_words (values_of m.items)) (table_of m true) (image_of m).pages (image_of m).cap (placed_segments m true) (image_of m).imports (image_of m).exports (start_offset m o) (not true)) (sym none.start)
+      ∙ ap (λ (b : Bool). image_by (map word_of (text_of m)) (value_words (values_of m.items)) (table_of m b) (image_of m).pages (image_of m).cap (placed_segments m b) (image_of m).imports (image_of m).exports (image_of m).start (not b)) (sym linkable)
+
+-- ---- bytes
+
+each_byte : (bytes : List ℕ) → ((i : ℕ) → get_or bytes i 0 < 256) → (k d : ℕ) → k < length bytes → get_or bytes k d < 256
+each_byte [] h k d lt = absurd (omega arith)
+each_byte (b ∷ bytes) h zero d lt = h 0
+each_byte (b ∷ bytes) h (suc k) d lt = each_byte bytes (λ i. h (suc i)) k d (omega arith)
+
+pub all_bytes : (bytes : List ℕ) → ((i : ℕ) → get_or bytes i 0 < 256) → All (λ b. b < 256) bytes
+all_bytes bytes h = λ k d lt. each_byte bytes h k d lt
