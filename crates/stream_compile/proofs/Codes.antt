@@ -112,7 +112,7 @@ codes_of_parts bytes front (Coded b ∷ parts) k (t ∷ trees) (c ∷ codes) e h
     let behind = bodies_stand_behind bytes front b parts e in (
       same_code (items_of (module_run bytes).parts) (items_of front) behind.same k b t c h.0,
       codes_of_parts bytes (front ++ Coded b ∷ []) parts (suc k) trees codes (e ∙ sym (append_assoc front (Coded b ∷ []) parts))
-      (rw (items_of-append front (Coded b ∷ []), append-nil (items_of front)) h.1),
+          (rw (items_of-append front (Coded b ∷ []), append-nil (items_of front)) h.1),
     )
 codes_of_parts bytes front (Coded b ∷ parts) k [] codes e h = absurd h
 codes_of_parts bytes front (Coded b ∷ parts) k (t ∷ trees) [] e h = absurd h

@@ -62,7 +62,6 @@ module _ (bytes : List ℕ) (left : Run) (codes : List Code) (words : ℕ) where
         text_whole = λ r f. j.text_whole r (moved _ (items_of front) _ (length (bodies_of front)) left.parts r items bodies f);
       }
 
-
   pub after_item : (spaces later : Spaces) (x : Item) → IsJudging bytes (after_part (Listed x) left) spaces codes words → later ≡ with_item spaces x → IsJudging bytes left later codes words
   after_item spaces later x j e =
       let front = j.judged.front in
@@ -182,10 +181,14 @@ module _ (bytes : List ℕ) (left : Run) (spaces : Spaces) (codes : List Code) (
     here_to_later r (t, v, inr f) = subst (λ (n : ℕ). IsTextFault items (suc k) (words + n) left.parts r) (size_is t v) f.1
 
     later_to_here : (r : Refusal) → IsTextFault items (suc k) (words + length code.words) left.parts r → IsTextFault items k words (Coded b ∷ left.parts) r
-    later_to_here r f = (tree, here, inr (
-      subst (λ (n : ℕ). text_bytes items (words + n) ≤ max_text) is_code.size under,
-      subst (λ (n : ℕ). IsTextFault items (suc k) (words + n) left.parts r) is_code.size f,
-    ))
+    later_to_here r f = (
+      tree,
+      here,
+      inr (
+        subst (λ (n : ℕ). text_bytes items (words + n) ≤ max_text) is_code.size under,
+        subst (λ (n : ℕ). IsTextFault items (suc k) (words + n) left.parts r) is_code.size f,
+      ),
+    )
 
     pub after_body : IsJudging bytes left spaces (codes ++ code ∷ []) (words + length code.words)
     after_body =

@@ -40,4 +40,3 @@ some_ordered low last [] some o = absurd (omega arith)
 some_ordered low last (Section at id ∷ parts) some o = omega (arith, o.0, o.1)
 some_ordered low last (Listed x ∷ parts) some o = o.0
 some_ordered low last (Coded b ∷ parts) some o = let stands = o.0 in omega (arith, stands.from, stands.sized, stands.before)
-

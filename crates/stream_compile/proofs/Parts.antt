@@ -98,4 +98,3 @@ bodies_are_few [] = omega arith
 bodies_are_few (Section at id ∷ parts) = omega (arith, bodies_are_few parts)
 bodies_are_few (Listed x ∷ parts) = omega (arith, bodies_are_few parts)
 bodies_are_few (Coded b ∷ parts) = omega (arith, bodies_are_few parts)
-

@@ -7,7 +7,6 @@ ghost use Rattle.section_reader.specs.Left.{left, total};
 ghost use Rattle.section_reader.specs.PartOf.{part_of};
 ghost use Rattle.image_linker.specs.Linking.{words_of};
 ghost use Rattle.stream_compile.specs.Progress.{IsJudging, CanTakePart, TakesPart, Uncompiled, CanTake, front_stop, TakesBody, TakesCode, Links, Decides};
-
 ghost use Rattle.section_reader.specs.declared.part.Part.TheVariants as given;
 
 use crate::answer::Built;
