@@ -11,3 +11,4 @@ pub mod Wholes
 pub mod Settling
 pub mod Once
 pub mod Answering
+pub mod Calls

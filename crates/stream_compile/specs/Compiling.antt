@@ -11,7 +11,10 @@ use Rattle.stream_compile.specs.declared.answer.Built.{Built}
 use Rattle.stream_compile.specs.declared.answer.Answer.{Answer}
 use Rattle.stream_compile.specs.declared.answer.Answer.TheVariants as answer
 use Rattle.stream_compile.specs.Came.{Came}
-use Rattle.stream_compile.specs.Running.{IsRunnable}
+use Rattle.command_words.specs.declared.command.Command.{Command}
+use Rattle.command_words.specs.declared.command.Command.TheVariants.{Check, Run}
+use Rattle.stream_compile.specs.Texts.{Outcome, accepted}
+use Rattle.stream_compile.specs.Running.{IsRunnable, RunsAs}
 
 -- the image of the module that the bytes are, which behaves as the module does; how many functions it declares, and its bytes
 pub record IsBuilt (bytes : List ℕ) (built : Built) : Type 0 where
@@ -29,3 +32,8 @@ Answered failed left (answer.Image built) = (failed ≡ false) × (bytes : List 
 Answered failed left (answer.Refused r) = (failed ≡ false) × (bytes : List ℕ) × Came left false bytes × IsVerdictOf bytes (Rejected r)
 Answered failed left answer.ReadFault = failed ≡ true
 Answered failed left answer.NoMemory = Unit {0}
+
+-- what a command with a module that was compiled comes to
+abbrev pub Does : Command → Built → Outcome → Type 0
+Does (Check options) built o = o ≡ accepted built.functions built.bytes
+Does (Run r) built o = RunsAs built.image r o

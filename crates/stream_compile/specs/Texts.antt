@@ -1,23 +1,43 @@
 -- What the program answers and writes.
-use Rattle.std.specs.Prelude.{◌≡◌, ◌⊎◌, ℕ, Bool, true, false, List, ◌++◌, length, take, Option, None, Some, codes, String, string_bytes, map}
-use Rattle.std.specs.Fmt.{decimal}
+use Rattle.std.specs.Prelude.{◌≡◌, ◌⊎◌, ℕ, Bool, true, false, List, [], ◌∷◌, ◌++◌, length, take, Option, None, Some, codes, String, string_bytes, map}
+use Rattle.std.specs.Fmt.{decimal, signed_decimal}
 use Rattle.std.specs.Global.{Global}
 use Rattle.std.specs.Io.KnownBytes.{append_known}
+use Rattle.command_words.specs.declared.argument.Argument.{Argument}
+use Rattle.command_words.specs.declared.argument.Argument.TheVariants as argument
 use Rattle.command_words.specs.declared.command.Command.{Command}
 use Rattle.command_words.specs.declared.command.Command.TheVariants.{Check, Run}
+use Rattle.command_words.specs.declared.command.Run.{Run as RunWords}
 use Rattle.command_words.specs.Grammar.{command_in}
 use Rattle.wasm_defs.specs.declared.fault.Kind.{Kind}
 use Rattle.wasm_defs.specs.declared.fault.Kind.TheVariants.{Malformed, Unsupported, Limit, Invalid, Ended}
 use Rattle.wasm_defs.specs.declared.fault.Refusal.{Refusal}
-use Rattle.wasm_defs.specs.Context.{declared_count}
-use Rattle.wasm_defs.specs.Faults.{Verdict, Accepted, Rejected}
+use Rattle.wasm_defs.specs.declared.types.ValType.{ValType}
+use Rattle.wasm_defs.specs.declared.types.ValType.TheVariants.{I32, I64}
+use Rattle.wasm_defs.specs.declared.value.TrapKind.{TrapKind}
+use Rattle.wasm_defs.specs.declared.value.Value.{Value as Given}
+use Rattle.wasm_defs.specs.declared.value.Value.TheVariants as given
+use Rattle.wasm_defs.specs.Values.{Value, signed, value_of, trap_text, types_of_values}
+use Rattle.wasm_defs.specs.Context.{context_of, declared_count, type_of_function}
+use Rattle.wasm_defs.specs.Faults.{Module, Verdict, Accepted, Rejected}
+use Rattle.wasm_defs.specs.Instances.{exports_of, named}
+use Rattle.wasm_defs.specs.ModuleRun.{End, Returns, Traps, Stops, Going, Fails, module_run}
+use Rattle.wasm_defs.specs.ModuleRun as module_runs
+use Rattle.image_format.specs.declared.image.Image.{Image}
+use Rattle.image_format.specs.ImageRun.{Ending, As, Fault, image_run}
+use Rattle.image_linker.specs.ImageOf.{image_of, offset_of}
 use Rattle.image_linker.specs.Judging.{IsVerdictOf}
+use Rattle.image_run.specs.declared.checks.NotRunnable.{NotRunnable}
+use Rattle.image_run.specs.declared.checks.NotRunnable.TheVariants.{UnknownImport, NoSuchExport, WrongArguments, Unlinkable}
+use Rattle.image_run.specs.Checks.{not_runnable}
 use Rattle.stream_compile.specs.Came.{Came}
 
 -- a status, and what is written
 pub record Outcome : Type 0 where
   pub status : ℕ
   pub text : List ℕ
+
+-- ---- the lines
 
 -- the words are outside the command grammar
 abbrev pub usage : Outcome
@@ -41,36 +61,98 @@ kind_name Ended = codes "ended"
 abbrev pub rejected : Refusal → Outcome
 rejected r = record { status = 2; text = codes "refused " ++ kind_name r.kind ++ codes " at " ++ decimal r.offset ++ codes "\n" }
 
-abbrev pub of_verdict : ℕ → Verdict → Outcome
-of_verdict bytes (Accepted m) = accepted (declared_count m.items) bytes
-of_verdict bytes (Rejected r) = rejected r
+abbrev pub reason : NotRunnable → List ℕ
+reason UnknownImport = codes "unknown import"
+reason NoSuchExport = codes "no such export"
+reason WrongArguments = codes "wrong arguments"
+reason Unlinkable = codes "unlinkable"
 
--- the words, of which the first is the program's name, are the command `check`; else they are outside what is done so far
-abbrev pub is_check : Option Command → Bool
-is_check (Some (Check options)) = true
-is_check (Some (Run call)) = false
-is_check None = false
+abbrev pub unrunnable : NotRunnable → Outcome
+unrunnable why = record { status = 3; text = codes "not runnable " ++ reason why ++ codes "\n" }
 
-abbrev pub is_command : List (String Global) → Bool
-is_command words = is_check (command_in (map string_bytes words))
+abbrev pub type_name : ValType → List ℕ
+type_name I32 = codes "i32 "
+type_name I64 = codes "i64 "
+
+-- a value as a signed number, or that there is none
+abbrev pub returned : List Value → Outcome
+returned [] = record { status = 0; text = codes "ok\n" }
+returned (v ∷ vs) = record { status = 0; text = type_name v.ty ++ signed_decimal (signed v.ty v.number) ++ codes "\n" }
+
+abbrev pub trapped : TrapKind → Outcome
+trapped kind = record { status = 4; text = codes "trap " ++ trap_text kind ++ codes "\n" }
+
+-- the machine made all its steps, and the run hadn't ended
+abbrev pub steps_spent : Outcome
+steps_spent = record { status = 5; text = codes "steps spent\n" }
+
+-- ---- what a command comes to
+
+abbrev pub given_value : Argument → Given
+given_value (argument.I32 n) = given.I32 n
+given_value (argument.I64 n) = given.I64 n
+
+abbrev pub arguments_of : List Argument → List Value
+arguments_of arguments = map value_of (map given_value arguments)
+
+-- how the run of an image's function ends within so many steps, where no call has a reply
+unfoldable pub run_end : Image → (offset : ℕ) → (results : List ValType) → List Value → (steps : ℕ) → Ending
+run_end i offset results arguments steps = (image_run i offset results arguments [] steps).end
+
+-- The line of a run whose image ended so within its steps: the same end is that of the module's run by the reduction rules, for
+-- some weight; or the image goes on after all its steps.
+abbrev pub TellsEnd : Ending → (ℕ → module_runs.Run) → Outcome → Type 0
+TellsEnd (As (Returns values memory globals)) runs o = (k : ℕ) × ((runs k).end ≡ Returns values memory globals) × (o ≡ returned values)
+TellsEnd (As (Traps kind memory globals)) runs o = (k : ℕ) × ((runs k).end ≡ Traps kind memory globals) × (o ≡ trapped kind)
+TellsEnd (As Going) runs o = o ≡ steps_spent
+TellsEnd (As Stops) runs o = ⊥
+TellsEnd (As Fails) runs o = ⊥
+TellsEnd (Fault kind pc) runs o = ⊥
+
+-- of the function that is exported under the name
+abbrev pub TellsRun : Module → (name : List ℕ) → List Value → (steps : ℕ) → Outcome → Type 0
+TellsRun m name arguments steps o =
+    (f : ℕ) × (named name (exports_of m.items) ≡ Some f)
+    × TellsEnd (run_end (image_of m) (offset_of m f) (type_of_function (context_of m.items) f).results arguments steps) (module_run m f arguments []) o
+
+abbrev pub ChecksAndRuns : Option NotRunnable → Module → (name : List ℕ) → List Value → (steps : ℕ) → Outcome → Type 0
+ChecksAndRuns (Some why) m name arguments steps o = o ≡ unrunnable why
+ChecksAndRuns None m name arguments steps o = TellsRun m name arguments steps o
+
+-- what a command on a module of so many bytes comes to
+abbrev pub IsDone : Command → (bytes : ℕ) → Module → Outcome → Type 0
+IsDone (Check options) bytes m o = o ≡ accepted (declared_count m.items) bytes
+IsDone (Run r) bytes m o =
+    let arguments = arguments_of r.arguments in
+    ChecksAndRuns (not_runnable (image_of m) r.export (types_of_values arguments)) m r.export arguments r.steps o
+
+abbrev pub OfVerdict : Command → (bytes : ℕ) → Verdict → Outcome → Type 0
+OfVerdict c bytes (Accepted m) o = IsDone c bytes m o
+OfVerdict c bytes (Rejected r) o = o ≡ rejected r
+
+-- the command that the words are, of which the first is the program's name; or they are outside the command grammar
+abbrev pub command_said : List (String Global) → Option Command
+command_said words = command_in (map string_bytes words)
 
 -- by the words, whether the source failed, and the bytes that came
-abbrev pub IsOutcome : Bool → Bool → List ℕ → Outcome → Type 0
-IsOutcome false failed bytes o = o ≡ usage
-IsOutcome true true bytes o = o ≡ read_fault
-IsOutcome true false bytes o = (v : Verdict) × IsVerdictOf bytes v × (o ≡ of_verdict (length bytes) v)
+abbrev pub IsOutcome : Option Command → Bool → List ℕ → Outcome → Type 0
+IsOutcome None failed bytes o = o ≡ usage
+IsOutcome (Some c) true bytes o = o ≡ read_fault
+IsOutcome (Some c) false bytes o = (v : Verdict) × IsVerdictOf bytes v × OfVerdict c (length bytes) v o
+
+-- what the words, the source's failing and what it gave come to
+abbrev pub Comes : Option Command → Bool → Option (List ℕ) → Outcome → Type 0
+Comes command failed left o = (bytes : List ℕ) × Came left failed bytes × IsOutcome command failed bytes o
+
+-- ---- what is written
 
 -- what was answered and written of an outcome: where the sink failed, a front of its text; else its status and its text
 abbrev pub Told : ℕ → Outcome → Bool → Option (List ℕ) → Option (List ℕ) → Type 0
 Told status o true old new = (status ≡ 7) × (n : ℕ) × (new ≡ append_known old (take n o.text))
 Told status o false old new = (status ≡ o.status) × (new ≡ append_known old o.text)
 
--- what the words, the source's failing and what it gave come to
-abbrev pub Comes : Bool → Bool → Option (List ℕ) → Outcome → Type 0
-Comes check failed left o = (bytes : List ℕ) × Came left failed bytes × IsOutcome check failed bytes o
-
 -- what a call answered and wrote: want of memory, and nothing; else what the words and the bytes come to
-abbrev pub Answers : Bool → Bool → Option (List ℕ) → ℕ → Bool → Option (List ℕ) → Option (List ℕ) → Type 0
-Answers check source_failed left status sink_failed old new =
+abbrev pub Answers : Option Command → Bool → Option (List ℕ) → ℕ → Bool → Option (List ℕ) → Option (List ℕ) → Type 0
+Answers command source_failed left status sink_failed old new =
     ((status ≡ 8) × (sink_failed ≡ false) × (new ≡ old))
-    ⊎ ((o : Outcome) × Comes check source_failed left o × Told status o sink_failed old new)
+    ⊎ ((o : Outcome) × Comes command source_failed left o × Told status o sink_failed old new)

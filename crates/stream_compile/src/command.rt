@@ -1,52 +1,71 @@
 //! The commands of the program.
 
-ghost use Rattle.std.specs.Prelude.{◌≡◌, ◌<◌, ◌^◌, ◌-◌, nat_lt, is_some, IfOk};
+ghost use Rattle.std.specs.Prelude.{◌≡◌, ◌<◌, ◌^◌, ◌-◌, nat_lt, IfOk};
 ghost use Rattle.stream_compile.specs.Reading.{view};
-ghost use Rattle.stream_compile.specs.Texts.{is_command, Comes, Answers};
+ghost use Rattle.stream_compile.specs.Compiling.{Does};
+ghost use Rattle.stream_compile.specs.Running.{IsRunnable, NeverFaults};
+ghost use Rattle.stream_compile.specs.Texts.{command_said, Comes, Answers};
 
-use crate::answer::{Answer, Settings};
+use crate::answer::{Answer, Built, Settings};
 use crate::compiling::stream_compile;
 use crate::output::{Output, accepted, read_fault, rejected, usage};
-use command_words::{Command, Options, WordsStop, command_of};
+use crate::running::run_image;
+use command_words::{Command, WordsStop, command_of};
 use io_edges::{Gate, Sink, Source, write_all};
 use std::alloc::{AllocError, Global};
 use std::sync::Wait;
 use std::thread::Threads;
 
-fn settings_of(options: Options) -> Settings {
+fn settings_of(command: &Command) -> Settings {
+    let options = match command {
+        Command::Check(options) => options,
+        Command::Run(call) => &call.options,
+    };
     Settings {
         workers: options.workers.min(64) as u32,
         batch: options.batch.min(1_048_576) as u32,
     }
 }
 
-/// The settings of `check`, where the words are that command: else they are outside what is done so far.
-fn settings_in(alloc: Global, words: &Vec<String>) -> Result<Option<Settings>, AllocError>
-    ensures { IfOk result (λ settings. is_some settings ≡ is_command words.now.items) }
+/// The command that the words are, or that they are outside the command grammar.
+fn command_in(alloc: Global, words: &Vec<String>) -> Result<Option<Command>, AllocError>
+    ensures { IfOk result (λ command. command ≡ command_said words.now.items) }
 {
     match command_of(alloc, words) {
-        Ok(Command::Check(options)) => Ok(Some(settings_of(options))),
-        Ok(Command::Run(_)) | Err(WordsStop::Outside) => Ok(None),
+        Ok(command) => Ok(Some(command)),
+        Err(WordsStop::Outside) => Ok(None),
         Err(WordsStop::NoMemory) => Err(AllocError),
     }
 }
 
-/// What the source comes to: where there are no settings, the words ask for nothing, and none of it is read.
+/// Does a command with a module that was compiled.
+fn done(alloc: Global, command: &Command, built: &Built) -> Result<Output, AllocError>
+    requires runnable { IsRunnable built.now.image }
+    requires never_faults { NeverFaults built.now.image }
+    ensures { IfOk result (λ o. Does command.now built.now (view o)) }
+{
+    match command {
+        Command::Check(_) => accepted(alloc, built.functions, built.bytes),
+        Command::Run(call) => run_image(alloc, &built.image, call),
+    }
+}
+
+/// What the source comes to: where there is no command, the words ask for nothing, and none of it is read.
 fn answer_to<R: Threads + Wait + Sync, S: Source, G: Gate>(
     rt: &R,
     alloc: Global,
-    settings: Option<Settings>,
+    command: &Option<Command>,
     source: &mut S,
     gate: &G,
 ) -> Result<Output, AllocError>
     requires { S.faults source.old < 2 ^ 64 - 1 }
-    ensures { IfOk result (λ o. Comes (is_some settings) (nat_lt (S.faults source.old) (S.faults source.new)) (S.left source.old) (view o)) }
+    ensures { IfOk result (λ o. Comes command.now (nat_lt (S.faults source.old) (S.faults source.new)) (S.left source.old) (view o)) }
 {
-    let Some(settings) = settings else {
+    let Some(command) = command else {
         return usage(alloc);
     };
-    match stream_compile(rt, alloc, source, gate, settings) {
-        Answer::Image(built) => accepted(alloc, built.functions, built.bytes),
+    match stream_compile(rt, alloc, source, gate, settings_of(command)) {
+        Answer::Image(built) => done(alloc, command, &built),
         Answer::Refused(refusal) => rejected(alloc, refusal),
         Answer::ReadFault => read_fault(alloc),
         Answer::NoMemory => Err(AllocError),
@@ -56,8 +75,9 @@ fn answer_to<R: Threads + Wait + Sync, S: Source, G: Gate>(
 /// Does all that the program does: reads the words and the source, and writes the answer to the sink.
 ///
 /// `words` begins with the program's name. The result is the status that the program ends with: 0 where the command was
-/// done, 1 where the words are outside the command grammar, 2 where the bytes are no module, 6 where the source failed, 7
-/// where the sink failed, and 8 where memory ran out, after which nothing is written.
+/// done, 1 where the words are outside the command grammar, 2 where the bytes are no module, 3 where the function can't be
+/// called so, 4 where it trapped, 5 where its run hadn't ended after all steps, 6 where the source failed, 7 where the sink
+/// failed, and 8 where memory ran out, after which nothing is written.
 pub fn top<R: Threads + Wait + Sync, S: Source, O: Sink, G: Gate>(
     rt: &R,
     alloc: Global,
@@ -68,13 +88,13 @@ pub fn top<R: Threads + Wait + Sync, S: Source, O: Sink, G: Gate>(
 ) -> u8
     requires source_count { S.faults source.old < 2 ^ 64 - 1 }
     requires sink_count { O.faults out.old < 2 ^ 64 - 1 }
-    ensures answer { Answers (is_command words.now.items) (nat_lt (S.faults source.old) (S.faults source.new)) (S.left source.old) result
+    ensures answer { Answers (command_said words.now.items) (nat_lt (S.faults source.old) (S.faults source.new)) (S.left source.old) result
         (nat_lt (O.faults out.old) (O.faults out.new)) (O.written out.old) (O.written out.new) }
 {
-    let Ok(settings) = settings_in(alloc, words) else {
+    let Ok(command) = command_in(alloc, words) else {
         return 8;
     };
-    let Ok(output) = answer_to(rt, alloc, settings, source, gate) else {
+    let Ok(output) = answer_to(rt, alloc, &command, source, gate) else {
         return 8;
     };
     if write_all(out, output.text.as_bytes()) {

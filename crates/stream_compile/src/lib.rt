@@ -7,6 +7,7 @@ mod compiling;
 mod laws;
 mod module;
 mod output;
+mod running;
 
 pub use answer::{Answer, Built, Settings};
 pub use command::top;

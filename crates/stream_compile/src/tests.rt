@@ -362,3 +362,48 @@ fn a_source_or_a_sink_that_fails_is_told(rt: HostRuntime) -> Result<(), Fail> {
     }
     Ok(())
 }
+
+const CALLS: [(&str, &str); 7] = [
+    ("wstream run add i32:2 i32:3", "0 i32 5\n"),
+    (
+        "wstream run add i32:2147483647 i32:1",
+        "0 i32 -2147483648\n",
+    ),
+    (
+        "wstream run add i32:2 i32:3 --workers 0 --batch 1",
+        "0 i32 5\n",
+    ),
+    (
+        "wstream run sub i32:2 i32:3",
+        "3 not runnable no such export\n",
+    ),
+    ("wstream run add i32:2", "3 not runnable wrong arguments\n"),
+    (
+        "wstream run add i32:2 i64:3",
+        "3 not runnable wrong arguments\n",
+    ),
+    ("wstream run add i32:2 i32:3 --steps 1", "5 steps spent\n"),
+];
+
+#[test]
+fn a_function_of_a_module_is_called(rt: HostRuntime) -> Result<(), Fail> {
+    let alloc = rt.alloc();
+    let bytes = bytes_of(alloc, &[HEADER, ADD])?;
+    for (text, line) in CALLS {
+        let mut words = Vec::new(alloc);
+        for word in text.split(' ') {
+            words.push(String::from_str(alloc, word)?)?;
+        }
+        let mut page = Page::new(alloc, 4096)?;
+        let status = top(
+            &rt,
+            alloc,
+            &words,
+            &mut Flat::new(&bytes),
+            &mut page,
+            &OpenGate,
+        );
+        assert_eq!(rt; told(alloc, status, &page)?.as_str(), line, "{text}");
+    }
+    Ok(())
+}

@@ -1,0 +1,271 @@
+-- A call of an image's function is the call of the module's.
+use Rattle.std.proofs.Common.{◌≡◌, ◌≢◌, ℕ, ◌≤◌, ◌&&◌, Bool, true, false, List, [], ◌∷◌, map, length, Option, Some, None, refl, sym, ap, ◌∙◌, subst, inl, inr, arith}
+use Rattle.std.proofs.Common.{◌++◌, Result, Ok, Err}
+use Rattle.std.proofs.lemmas.List.{length-map}
+use Rattle.std.specs.Prelude.{not, if◌then◌else◌, IfOk}
+use Rattle.std.specs.declared.alloc.AllocError.{AllocError}
+use Rattle.std.specs.Str.{bytes_eq}
+use Rattle.std.proofs.lemmas.Bool.{cases_Bool, false≢true}
+use Rattle.rv_isa.specs.declared.stepping.FaultKind.{FaultKind}
+use Rattle.wasm_defs.specs.declared.types.ValType.{ValType}
+use Rattle.wasm_defs.specs.declared.types.FuncType.{FuncType}
+use Rattle.wasm_defs.specs.declared.types.ValType.TheVariants.{I32, I64}
+use Rattle.wasm_defs.specs.declared.value.Value.{Value as Given}
+use Rattle.wasm_defs.specs.declared.value.Value.TheVariants as given
+use Rattle.wasm_defs.specs.Typing.{same_types}
+use Rattle.wasm_defs.specs.Values.{Value, type_of, value_of, types_of_values}
+use Rattle.wasm_defs.specs.Host.{are_of, in_range, all_in_range}
+use Rattle.wasm_defs.specs.Context.{context_of, type_of_function}
+use Rattle.wasm_defs.specs.Faults.{Module}
+use Rattle.wasm_defs.specs.Instances.{exports_of, named, is_linkable}
+use Rattle.wasm_defs.specs.ModuleRun.{End, Returns, Traps, Stops, Going, Fails, module_run}
+use Rattle.wasm_defs.specs.ModuleRun as module_runs
+use Rattle.body_validator.proofs.OperandLaws.{same_types-of, same_types-true}
+use Rattle.image_format.specs.declared.image.Image.{Image}
+use Rattle.image_format.specs.declared.image.Import.{Import}
+use Rattle.image_format.specs.declared.image.Export.{Export}
+use Rattle.image_format.specs.ImageRun.{Ending, As, Fault, ImageRun, image_run}
+use Rattle.image_linker.specs.ImageOf.{image_of, export_of, offset_of}
+use Rattle.image_linker.specs.Same.{Same}
+use Rattle.simulation.specs.SameRuns.{SameRuns, as_image}
+use Rattle.image_run.specs.declared.checks.NotRunnable.{NotRunnable}
+use Rattle.image_run.specs.declared.checks.NotRunnable.TheVariants.{UnknownImport, NoSuchExport, WrongArguments, Unlinkable}
+use Rattle.image_run.specs.Checks.{export_named, not_runnable, unfit, has_unknown_import}
+use Rattle.image_run.specs.declared.outcome.Outcome.{Outcome as Ran}
+use Rattle.image_run.specs.declared.outcome.Outcome.TheVariants as ran
+use Rattle.image_run.specs.Ends.{IsEnd, RunsTo}
+use Rattle.command_words.specs.declared.argument.Argument.{Argument}
+use Rattle.command_words.specs.declared.command.Run.{Run}
+use Rattle.stream_compile.specs.declared.output.Output.{Output}
+use Rattle.stream_compile.specs.Reading.{view}
+use Rattle.stream_compile.specs.Texts.{Outcome, unrunnable, given_value, arguments_of, run_end, TellsEnd, TellsRun, ChecksAndRuns}
+use Rattle.stream_compile.specs.Running.{IsRunnable, NeverFaults, IsNoFault, EndsAs, Checked, RunsAs}
+
+-- ---- exports
+
+-- the module's function that an export of its image is
+record Exports (m : Module) (name : List ℕ) (es : List (List ℕ × ℕ)) (e : Export) : Type 0 where
+  function : ℕ
+  named_is : named name es ≡ Some function
+  signature_is : e.signature ≡ type_of_function (context_of m.items) function
+  offset_is : e.offset ≡ offset_of m function
+
+export_is : (m : Module) (name : List ℕ) (es : List (List ℕ × ℕ)) (e : Export) → export_named name (map (export_of m) es) ≡ Some e → Exports m name es e
+export_is m name [] e is = absurd cc
+export_is m name (x ∷ es) e is =
+    elim (cases_Bool (bytes_eq name x.0)) [
+      | inl h ↦
+          let t : Some (export_of m x) ≡ Some e = rw h at is in
+          let same : export_of m x ≡ e = cc in
+          record {
+            function = x.1;
+            named_is = rw h refl;
+            signature_is = ap (λ (y : Export). y.signature) (sym same);
+            offset_is = ap (λ (y : Export). y.offset) (sym same);
+          }
+      | inr h ↦
+          let t : export_named name (map (export_of m) es) ≡ Some e = rw h at is in
+          let found = export_is m name es e t in
+          record { function = found.function; named_is = rw h found.named_is; signature_is = found.signature_is; offset_is = found.offset_is }
+    ]
+
+-- ---- what the checks found
+
+pub record Passed (i : Image) (types : List ValType) (e : Export) : Type 0 where
+  pub fit : same_types types e.signature.params ≡ true
+  pub linkable : i.unlinkable ≡ false
+
+unfit_not : (i : Image) (types : List ValType) (e : Export) → unfit i types (Some e) ≡ None → Passed i types e
+unfit_not i types e is =
+    elim (cases_Bool (same_types types e.signature.params)) [
+      | inl h ↦
+          elim (cases_Bool i.unlinkable) [
+            | inl k ↦ absurd (let t : Some Unlinkable ≡ None = rw (h, k) at is in cc)
+            | inr k ↦ record { fit = h; linkable = k }
+          ]
+      | inr h ↦ absurd (let t : Some WrongArguments ≡ None = rw h at is in cc)
+    ]
+
+pub passed : (i : Image) (name : List ℕ) (types : List ValType) (e : Export) → not_runnable i name types ≡ None → export_named name i.exports ≡ Some e → Passed i types e
+passed i name types e is found =
+    elim (cases_Bool (has_unknown_import i.imports)) [
+      | inl h ↦ absurd (let t : Some UnknownImport ≡ None = rw h at is in cc)
+      | inr h ↦ let t : unfit i types (export_named name i.exports) ≡ None = rw h at is in unfit_not i types e (rw found at t)
+    ]
+
+pub there : (i : Image) (name : List ℕ) (types : List ValType) → not_runnable i name types ≡ None → export_named name i.exports ≢ None
+there i name types is none =
+    elim (cases_Bool (has_unknown_import i.imports)) [
+      | inl h ↦ let t : Some UnknownImport ≡ None = rw h at is in cc
+      | inr h ↦ let t : unfit i types (export_named name i.exports) ≡ None = rw h at is in let u : Some NoSuchExport ≡ None = rw none at t in cc
+    ]
+
+-- as many arguments as parameters
+pub same_length : (ts us : List ValType) → same_types ts us ≡ true → length ts ≡ length us
+same_length ts us h = ap (λ (l : List ValType). length l) (same_types-true ts us h)
+
+-- ---- runs
+
+abbrev Results : Module → ℕ → List ValType
+Results m f = (type_of_function (context_of m.items) f).results
+
+runs_alike : (m : Module) (name : List ℕ) (arguments : List Value) (e : Export) (found : Exports m name (exports_of m.items) e) → Same m (image_of m) → Passed (image_of m) (types_of_values arguments) e
+    → all_in_range arguments ≡ true → SameRuns (module_run m found.function arguments []) (image_run (image_of m) (offset_of m found.function) (Results m found.function) arguments [])
+runs_alike m name arguments e found same passed ranges =
+    let params = (type_of_function (context_of m.items) found.function).params in
+    let types = types_of_values arguments in
+    let fit : same_types types params ≡ true = subst (λ (t : List ValType). same_types types t ≡ true) (ap (λ f. f.params) found.signature_is) passed.fit in
+    let turned : same_types params types ≡ true = same_types-of params types (sym (same_types-true types params fit)) in
+    let are : are_of params arguments ≡ true = rw (turned, ranges) refl in
+    let linkable : is_linkable m ≡ true = links (is_linkable m) (sym same.unlinkable ∙ passed.linkable) in
+    same.runs linkable name found.function arguments [] found.named_is are
+  where
+    links : (b : Bool) → not b ≡ false → b ≡ true
+    links true h = refl
+    links false h = absurd cc
+
+end_is : (i : Image) (offset : ℕ) (results : List ValType) (arguments : List Value) (n : ℕ) → run_end i offset results arguments n ≡ (image_run i offset results arguments [] n).end
+unfolding run_end
+end_is i offset results arguments n = refl
+
+-- the end of the call of an export, where it is that of the module's function
+ends_there : (m : Module) (name : List ℕ) (es : List (List ℕ × ℕ)) (e : Export) (found : Exports m name es e) (arguments : List Value) (n : ℕ)
+    → run_end (image_of m) e.offset e.signature.results arguments n ≡ run_end (image_of m) (offset_of m found.function) (Results m found.function) arguments n
+ends_there m name es e found arguments n =
+    ap (λ (offset : ℕ). run_end (image_of m) offset e.signature.results arguments n) found.offset_is
+    ∙ ap (λ (f : FuncType). run_end (image_of m) (offset_of m found.function) f.results arguments n) found.signature_is
+
+never_there : (m : Module) → Same m (image_of m) → NeverFaults (image_of m)
+never_there m same name e arguments steps kind pc passes ranges is faults =
+    let found = export_is m name (exports_of m.items) e is in
+    let alike = runs_alike m name arguments e found same (passed (image_of m) name (types_of_values arguments) e passes is) ranges in
+    alike.never_faults steps kind pc
+    (sym (end_is (image_of m) (offset_of m found.function) (Results m found.function) arguments steps) ∙ sym (ends_there m name (exports_of m.items) e found arguments steps) ∙ faults)
+
+pub never_faults : (m : Module) (i : Image) → i ≡ image_of m → Same m i → NeverFaults i
+never_faults m i is same = subst NeverFaults (sym is) (never_there m (subst (λ (x : Image). Same m x) is same))
+
+-- what an image's end tells of its module
+tells_end : (runs : ℕ → module_runs.Run) (image : ℕ → ImageRun) (n : ℕ) (end : Ending) (o : Outcome) → SameRuns runs image → (image n).end ≡ end → EndsAs end o → TellsEnd end runs o
+tells_end runs image n (As (Returns values memory globals)) o alike is tells =
+    let k = alike.ends_only n (Returns values memory globals) is tt in
+    let same : As (runs k.0).end ≡ As (Returns values memory globals) = sym (ap (λ (r : ImageRun). r.end) k.1) ∙ is in
+    (k.0, cc, tells)
+tells_end runs image n (As (Traps kind memory globals)) o alike is tells =
+    let k = alike.ends_only n (Traps kind memory globals) is tt in
+    let same : As (runs k.0).end ≡ As (Traps kind memory globals) = sym (ap (λ (r : ImageRun). r.end) k.1) ∙ is in
+    (k.0, cc, tells)
+tells_end runs image n (As Stops) o alike is tells = tells
+tells_end runs image n (As Going) o alike is tells = tells
+tells_end runs image n (As Fails) o alike is tells = tells
+tells_end runs image n (Fault kind pc) o alike is tells = tells
+
+tells_run : (m : Module) (r : Run) (o : Outcome) → Same m (image_of m) → all_in_range (arguments_of r.arguments) ≡ true → not_runnable (image_of m) r.export (types_of_values (arguments_of r.arguments)) ≡ None
+    → Checked None (image_of m) r o → TellsRun m r.export (arguments_of r.arguments) r.steps o
+tells_run m r o same ranges passes (e, is, tells) =
+    let arguments = arguments_of r.arguments in
+    let i = image_of m in
+    let found = export_is m r.export (exports_of m.items) e is in
+    let alike = runs_alike m r.export arguments e found same (passed i r.export (types_of_values arguments) e passes is) ranges in
+    let end = run_end i (offset_of m found.function) (Results m found.function) arguments r.steps in
+    let here : EndsAs end o = subst (λ (x : Ending). EndsAs x o) (ends_there m r.export (exports_of m.items) e found arguments r.steps) tells in (
+      found.function,
+      found.named_is,
+      tells_end (module_run m found.function arguments []) (image_run i (offset_of m found.function) (Results m found.function) arguments []) r.steps end o alike
+          (sym (end_is i (offset_of m found.function) (Results m found.function) arguments r.steps)) here,
+    )
+
+checked_done : (m : Module) (r : Run) (o : Outcome) (why : Option NotRunnable) → Same m (image_of m) → all_in_range (arguments_of r.arguments) ≡ true → not_runnable (image_of m) r.export (types_of_values (arguments_of r.arguments)) ≡ why
+    → Checked why (image_of m) r o → ChecksAndRuns why m r.export (arguments_of r.arguments) r.steps o
+checked_done m r o (Some why) same ranges is h = h
+checked_done m r o None same ranges is h = tells_run m r o same ranges is h
+
+-- the line of the call of an image's function is the line of the call of the module's
+pub run_done : (m : Module) (i : Image) (r : Run) (o : Outcome) → i ≡ image_of m → Same m i → RunsAs i r o
+    → ChecksAndRuns (not_runnable (image_of m) r.export (types_of_values (arguments_of r.arguments))) m r.export (arguments_of r.arguments) r.steps o
+run_done m i r o is same h =
+    let here : RunsAs (image_of m) r o = subst (λ (x : Image). RunsAs x r o) is h in
+    checked_done m r o (not_runnable (image_of m) r.export (types_of_values (arguments_of r.arguments))) (subst (λ (x : Image). Same m x) is same) here.0 refl here.1
+
+-- ---- what was checked of a call
+
+pub types_are : (values : List Given) → types_of_values (map value_of values) ≡ map type_of values
+types_are [] = refl
+types_are (given.I32 n ∷ values) = ap (λ (l : List ValType). I32 ∷ l) (types_are values)
+types_are (given.I64 n ∷ values) = ap (λ (l : List ValType). I64 ∷ l) (types_are values)
+
+-- the name and the values of a call
+pub record Begun (call : Run) (name : List ℕ) (values : List Given) : Type 0 where
+  pub name_is : name ≡ call.export
+  pub values_are : values ≡ map given_value call.arguments
+  pub ranges : all_in_range (map value_of values) ≡ true
+
+pub begun : (call : Run) (name : List ℕ) (arguments : List Argument) (items values : List Given) → arguments ≡ call.arguments → items ≡ map given_value arguments → all_in_range (map value_of items) ≡ true → values ≡ items → name ≡ call.export → Begun call name values
+begun call name arguments items values same made ranges are named = record {
+  name_is = named;
+  values_are = are ∙ made ∙ ap (λ (l : List Argument). map given_value l) same;
+  ranges = subst (λ (l : List Given). all_in_range (map value_of l) ≡ true) (sym are) ranges;
+}
+
+all_are : (call : Run) (name : List ℕ) (values : List Given) → Begun call name values → map value_of values ≡ arguments_of call.arguments
+all_are call name values b = ap (λ (l : List Given). map value_of l) b.values_are
+
+ranges_are : (call : Run) (name : List ℕ) (values : List Given) → Begun call name values → all_in_range (arguments_of call.arguments) ≡ true
+ranges_are call name values b = subst (λ (l : List Value). all_in_range l ≡ true) (all_are call name values b) b.ranges
+
+checks_are : (i : Image) (call : Run) (name : List ℕ) (values : List Given) (checked : Option NotRunnable) → Begun call name values → checked ≡ not_runnable i name (map type_of values)
+    → not_runnable i call.export (types_of_values (arguments_of call.arguments)) ≡ checked
+checks_are i call name values checked b is =
+    ap (λ (l : List Value). not_runnable i call.export (types_of_values l)) (sym (all_are call name values b))
+    ∙ ap (λ (l : List ValType). not_runnable i call.export l) (types_are values)
+    ∙ ap (λ (n : List ℕ). not_runnable i n (map type_of values)) (sym b.name_is)
+    ∙ sym is
+
+pub unrunnable_runs : (r : Result Output AllocError) (i : Image) (call : Run) (name : List ℕ) (values : List Given) (checked : Option NotRunnable) (why : NotRunnable) → Begun call name values
+    → checked ≡ Some why → checked ≡ not_runnable i name (map type_of values) → IfOk r (λ o. view o ≡ unrunnable why) → IfOk r (λ o. RunsAs i call (view o))
+unrunnable_runs (Ok o) i call name values checked why b some is e =
+    (ranges_are call name values b, subst (λ (x : Option NotRunnable). Checked x i call (view o)) (sym (checks_are i call name values checked b is ∙ some)) e)
+unrunnable_runs (Err x) i call name values checked why b some is e = tt
+
+pub few_arguments : (i : Image) (name : List ℕ) (values : List Given) (checked : Option NotRunnable) (e : Export) → IsRunnable i → checked ≡ None → checked ≡ not_runnable i name (map type_of values)
+    → Some e ≡ export_named name i.exports → length values ≤ 131072
+few_arguments i name values checked e well none is found =
+    let fit = (passed i name (map type_of values) e (sym is ∙ none) (sym found)).fit in
+    let small = well.exports name e (sym found) in
+    omega (arith, length-map values type_of, same_length (map type_of values) e.signature.params fit, small.params)
+
+runs_to : (i : Image) (offset : ℕ) (results : List ValType) (arguments : List Value) (n : ℕ) (outcome : Ran) → RunsTo i offset results arguments n outcome → IsEnd outcome (run_end i offset results arguments n)
+unfolding RunsTo run_end
+runs_to i offset results arguments n outcome h = h
+
+pub no_fault : (i : Image) (name : List ℕ) (values : List Given) (checked : Option NotRunnable) (e : Export) (steps : ℕ) (outcome : Ran) → NeverFaults i → all_in_range (map value_of values) ≡ true → checked ≡ None
+    → checked ≡ not_runnable i name (map type_of values) → Some e ≡ export_named name i.exports → RunsTo i e.offset e.signature.results (map value_of values) steps outcome → IsNoFault outcome
+no_fault i name values checked e steps (ran.Returned v) never ranges none is found h = tt
+no_fault i name values checked e steps (ran.Trapped kind) never ranges none is found h = tt
+no_fault i name values checked e steps ran.StepsSpent never ranges none is found h = tt
+no_fault i name values checked e steps (ran.Fault kind pc) never ranges none is found h =
+    let passes : not_runnable i name (types_of_values (map value_of values)) ≡ None = ap (λ (l : List ValType). not_runnable i name l) (types_are values) ∙ sym is ∙ none in
+    never name e (map value_of values) steps kind pc passes ranges (sym found) (runs_to i e.offset e.signature.results (map value_of values) steps (ran.Fault kind pc) h)
+
+pub told_runs : (r : Result Output AllocError) (i : Image) (call : Run) (name : List ℕ) (values : List Given) (checked : Option NotRunnable) (e : Export) (outcome : Ran) → Begun call name values → checked ≡ None
+    → checked ≡ not_runnable i name (map type_of values) → Some e ≡ export_named name i.exports → RunsTo i e.offset e.signature.results (map value_of values) call.steps outcome
+    → IfOk r (λ o. (end : Ending) → IsEnd outcome end → EndsAs end (view o)) → IfOk r (λ o. RunsAs i call (view o))
+told_runs (Ok o) i call name values checked e outcome b none is found runs tells =
+    let arguments = arguments_of call.arguments in
+    let there : export_named call.export i.exports ≡ Some e = ap (λ (n : List ℕ). export_named n i.exports) (sym b.name_is) ∙ sym found in
+    let to : RunsTo i e.offset e.signature.results arguments call.steps outcome = subst (λ (l : List Value). RunsTo i e.offset e.signature.results l call.steps outcome) (all_are call name values b) runs in
+    let end = run_end i e.offset e.signature.results arguments call.steps in
+    let line : EndsAs end (view o) = tells end (runs_to i e.offset e.signature.results arguments call.steps outcome to) in
+    (ranges_are call name values b, subst (λ (x : Option NotRunnable). Checked x i call (view o)) (sym (checks_are i call name values checked b is ∙ none)) (e, there, line))
+told_runs (Err x) i call name values checked e outcome b none is found runs tells = tt
+
+pushed_on : (items : List Given) (v : Given) → all_in_range (map value_of items) ≡ true → in_range (value_of v) ≡ true → all_in_range (map value_of (items ++ v ∷ [])) ≡ true
+pushed_on [] v h g = rw g refl
+pushed_on (x ∷ items) v h g =
+    elim (cases_Bool (in_range (value_of x))) [
+      | inl k ↦ let t : all_in_range (map value_of items) ≡ true = rw k at h in rw (k, pushed_on items v t g) refl
+      | inr k ↦ absurd (let t : false ≡ true = rw k at h in cc)
+    ]
+
+pub pushed : (items now : List Given) (v : Given) → now ≡ items ++ v ∷ [] → all_in_range (map value_of items) ≡ true → in_range (value_of v) ≡ true → all_in_range (map value_of now) ≡ true
+pushed items now v e h g = rw e (pushed_on items v h g)
