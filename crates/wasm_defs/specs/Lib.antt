@@ -13,6 +13,7 @@ pub mod Viable
 pub mod Bodies
 pub mod Context
 pub mod Faults
+pub mod Nodes
 pub mod Items
 pub mod Rules
 pub mod Values

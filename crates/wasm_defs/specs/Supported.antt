@@ -1,10 +1,13 @@
 -- What of WebAssembly 1.0 is compiled so far: an id or an opcode beside these is unsupported at its byte.
 use Rattle.std.specs.Prelude.{ℕ, Bool, ◌||◌, ◌==◌}
+use Rattle.wasm_defs.specs.Entries.{within}
 
--- custom sections, the types, functions, exports and code
+-- custom sections, the types, functions, tables, memories, globals, exports and code
 abbrev pub is_compiled_section : ℕ → Bool
-is_compiled_section id = id == 0 || id == 1 || id == 3 || id == 7 || id == 10
+is_compiled_section id = within 0 1 id || within 3 7 id || id == 10
 
--- `end`, `local.get`, `i32.const` and `i32.add`
+-- `nop` and `end`; `drop` and `select`; those on locals; constants; and all numeric instructions but those of floats
 abbrev pub is_compiled_opcode : ℕ → Bool
-is_compiled_opcode b = b == 0x0B || b == 0x20 || b == 0x41 || b == 0x6A
+is_compiled_opcode b =
+    b == 0x01 || b == 0x0B || within 0x1A 0x1B b || within 0x20 0x22 b || within 0x41 0x42 b || within 0x45 0x5A b || within 0x67 0x8A b
+    || b == 0xA7 || within 0xAC 0xAD b

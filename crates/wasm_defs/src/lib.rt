@@ -4,10 +4,12 @@
 
 mod context;
 mod fault;
+mod front_stop;
 mod item;
 mod laws;
 mod limits;
 mod lists;
+mod nodes;
 mod operation;
 mod supported;
 mod text;
@@ -17,6 +19,7 @@ mod value;
 
 pub use context::GlobalType;
 pub use fault::{Kind, Refusal, earlier};
+pub use front_stop::FrontStop;
 pub use item::{Constant, Extern, Item, Limits};
 pub use laws::numbers_are_prefix_free;
 pub use limits::{
@@ -24,6 +27,7 @@ pub use limits::{
     MAX_TEXT, TOP_PAGES,
 };
 pub use lists::{Bytes, Indices, Labels, Name, ValTypes};
+pub use nodes::{LocalGroup, Node, Nodes};
 pub use operation::{Access, BinaryOp, CompareOp, ConvertOp, LoadOp, Operation, StoreOp, UnaryOp};
 pub use supported::{is_compiled_opcode, is_compiled_section};
 pub use text::Inside;

@@ -7,12 +7,22 @@ ghost use Rattle.wasm_defs.specs.Supported.{is_compiled_section, is_compiled_opc
 pub fn is_compiled_section(id: u8) -> bool
     ensures { result ≡ is_compiled_section id }
 {
-    matches!(id, 0 | 1 | 3 | 7 | 10)
+    matches!(id, 0..=1 | 3..=7 | 10)
 }
 
 /// Whether the instruction of the opcode is compiled.
 pub fn is_compiled_opcode(opcode: u8) -> bool
     ensures { result ≡ is_compiled_opcode opcode }
 {
-    matches!(opcode, 0x0B | 0x20 | 0x41 | 0x6A)
+    matches!(
+        opcode,
+        0x01 | 0x0B
+            | 0x1A..=0x1B
+            | 0x20..=0x22
+            | 0x41..=0x42
+            | 0x45..=0x5A
+            | 0x67..=0x8A
+            | 0xA7
+            | 0xAC..=0xAD
+    )
 }

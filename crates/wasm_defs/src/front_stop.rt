@@ -1,0 +1,13 @@
+//! Why what reads a module outside its bodies stops.
+
+use crate::fault::Refusal;
+
+/// Why no further part of a module is given.
+#[derive(Clone, Copy, Debug, PartialEq, Eq)]
+pub enum FrontStop {
+    /// The module has this fault outside its bodies, and no fault outside its bodies comes before it. Where the bytes end
+    /// too soon, its kind is `Ended` and its offset their number.
+    Refused(Refusal),
+    /// Memory ran out.
+    NoMemory,
+}
