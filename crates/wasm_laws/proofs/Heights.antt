@@ -2,21 +2,21 @@
 use Rattle.std.proofs.Common.{◌≡◌, ℕ, zero, suc, ◌+◌, ◌≤◌, ◌<◌, true, List, [], ◌∷◌, Option, None, Some, length, refl, ap, arith}
 use Rattle.std.specs.Prelude.{slice_get}
 use Rattle.std.proofs.lemmas.Bool.{and_parts}
-use Rattle.wasm_defs.specs.declared.operation.BinaryOp.TheVariants.{Add}
-use Rattle.wasm_defs.specs.declared.operation.Operation.TheVariants.{Binary}
+use Rattle.wasm_defs.specs.declared.operation.Operation.{Operation}
+use Rattle.wasm_defs.specs.declared.operation.Operation.TheVariants.{Unary, Test, Binary, Compare, Convert}
+use Rattle.wasm_defs.specs.declared.operation.ConvertOp.TheVariants.{Wrap, ExtendS, ExtendU}
 use Rattle.wasm_defs.specs.declared.token.Plain.{Plain}
-use Rattle.wasm_defs.specs.declared.token.Plain.TheVariants.{LocalGet, Const, Operate}
+use Rattle.wasm_defs.specs.declared.token.Plain.TheVariants.{Nop, Discard, Select, LocalGet, LocalSet, LocalTee, Const, Operate}
 use Rattle.wasm_defs.specs.declared.token.Token.{Token}
 use Rattle.wasm_defs.specs.declared.token.Token.TheVariants as token
 use Rattle.wasm_defs.specs.declared.types.ValType.{ValType}
-use Rattle.wasm_defs.specs.declared.types.ValType.TheVariants.{I32}
 use Rattle.wasm_defs.specs.Bodies.{Group, local_groups, instruction, depth_after, Spelled, closed, after_opcode, after_token, goes_on, spelled_from, body_cursor, last_of, read_code, body_read}
 use Rattle.wasm_defs.specs.Faults.{first_outside, tokens_of}
 use Rattle.wasm_defs.specs.Supported.{is_compiled_opcode}
 use Rattle.wasm_defs.specs.Fields.{Cursor, Read, Got, Fault, Wants, byte}
-use Rattle.wasm_defs.specs.Places.{Place, after_rule, end_of, places, places_of, higher, greatest}
+use Rattle.wasm_defs.specs.Places.{Place, moved, after_rule, end_of, places, places_of, higher, greatest}
 use Rattle.wasm_defs.specs.Trees.{Seq, Nothing, Simple, Block, Loop, If, IfElse, spelled, Tree}
-use Rattle.wasm_defs.specs.Typing.{Context, inside, Fixed, with_type, rule_of}
+use Rattle.wasm_defs.specs.Typing.{Types, Context, inside, Fixed, with_type, rule_of, operated}
 use Rattle.wasm_laws.specs.Straight.{is_straight_plain, is_straight}
 use Rattle.wasm_laws.specs.Steadiness.{Advances, LeavesFewer}
 use Rattle.wasm_laws.proofs.Steady.{moves_of, here_in}
@@ -32,24 +32,37 @@ abbrev IsUpTo : ℕ → Place → Type 0
 IsUpTo most None = Unit {0}
 IsUpTo most (Some height) = height ≤ most
 
-get_lifts : (most : ℕ) (place : Place) (t : Option ValType) → IsUpTo most place → IsUpTo (suc most) (after_rule (with_type t (λ t. Fixed [] (t ∷ []))) place)
-get_lifts most None None h = tt
-get_lifts most None (Some t) h = tt
-get_lifts most (Some height) None h = tt
-get_lifts most (Some height) (Some t) h = omega arith
+fixed_lifts : (from to : Types) (most : ℕ) (place : Place) → length to ≤ 1 → IsUpTo most place → IsUpTo (suc most) (after_rule (Fixed from to) place)
+fixed_lifts from to most None few h = tt
+fixed_lifts from to most (Some height) few h = omega arith
 
-one_lifts : (most : ℕ) (place : Place) (t : ValType) → IsUpTo most place → IsUpTo (suc most) (after_rule (Fixed [] (t ∷ [])) place)
-one_lifts most None t h = tt
-one_lifts most (Some height) t h = omega arith
+local_lifts : (from to : ValType → Types) (most : ℕ) (place : Place) (t : Option ValType) → ((t : ValType) → length (to t) ≤ 1) → IsUpTo most place → IsUpTo (suc most) (after_rule (with_type t (λ t. Fixed (from t) (to t))) place)
+local_lifts from to most place None few h = tt
+local_lifts from to most place (Some t) few h = fixed_lifts (from t) (to t) most place (few t) h
 
-add_lifts : (most : ℕ) (place : Place) → IsUpTo most place → IsUpTo (suc most) (after_rule (Fixed (I32 ∷ I32 ∷ []) (I32 ∷ [])) place)
-add_lifts most None h = tt
-add_lifts most (Some height) h = omega arith
+-- an operation leaves one operand
+one_result : (op : Operation) → length (operated op).results ≤ 1
+one_result (Unary t op) = omega arith
+one_result (Test t) = omega arith
+one_result (Binary t op) = omega arith
+one_result (Compare t op) = omega arith
+one_result (Convert Wrap) = omega arith
+one_result (Convert ExtendS) = omega arith
+one_result (Convert ExtendU) = omega arith
+
+moved_lifts : (taken left most : ℕ) (place : Place) → left ≤ 1 → IsUpTo most place → IsUpTo (suc most) (moved taken left place)
+moved_lifts taken left most None few h = tt
+moved_lifts taken left most (Some height) few h = omega arith
 
 plain_lifts : (c : Context) (p : Plain) (most : ℕ) (place : Place) → is_straight_plain p ≡ true → IsUpTo most place → IsUpTo (suc most) (after_rule (rule_of c p) place)
-plain_lifts c (LocalGet x) most place e h = get_lifts most place (slice_get c.locals x) h
-plain_lifts c (Const I32 n) most place e h = one_lifts most place I32 h
-plain_lifts c (Operate (Binary I32 Add)) most place e h = add_lifts most place h
+plain_lifts c Nop most place e h = fixed_lifts [] [] most place (omega arith) h
+plain_lifts c Discard most place e h = moved_lifts 1 0 most place (omega arith) h
+plain_lifts c Select most place e h = moved_lifts 3 1 most place (omega arith) h
+plain_lifts c (LocalGet x) most place e h = local_lifts (λ t. []) (λ t. t ∷ []) most place (slice_get c.locals x) (λ t. omega arith) h
+plain_lifts c (LocalSet x) most place e h = local_lifts (λ t. t ∷ []) (λ t. []) most place (slice_get c.locals x) (λ t. omega arith) h
+plain_lifts c (LocalTee x) most place e h = local_lifts (λ t. t ∷ []) (λ t. t ∷ []) most place (slice_get c.locals x) (λ t. omega arith) h
+plain_lifts c (Const t n) most place e h = fixed_lifts [] (t ∷ []) most place (omega arith) h
+plain_lifts c (Operate op) most place e h = fixed_lifts (operated op).params (operated op).results most place (one_result op) h
 plain_lifts c _ most place e h = absurd cc
 
 higher_up_to : (place : Place) (most bound : ℕ) → IsUpTo bound place → most ≤ bound → higher place most ≤ bound

@@ -1,14 +1,15 @@
--- Types keep to their limits, and the functions that exports name are there.
-use Rattle.std.proofs.Common.{◌≡◌, ℕ, zero, suc, ◌+◌, ◌≤◌, ◌<◌, Bool, true, false, cond, eqb, List, [], ◌∷◌, length, is_some, refl, subst, ap, arith, inl, inr}
+-- Types, tables and memories keep to their limits, and the functions that exports name are there.
+use Rattle.std.proofs.Common.{◌≡◌, ℕ, zero, suc, ◌+◌, ◌≤◌, ◌<◌, Bool, true, false, cond, eqb, ltb, ◌||◌, List, [], ◌∷◌, length, is_some, Some, refl, subst, ap, arith, inl, inr}
 use Rattle.std.specs.FinMap as map
-use Rattle.std.proofs.lemmas.Bool.{cases_Bool, cases_lt, lt-ltb, le-ltb}
+use Rattle.std.proofs.lemmas.Bool.{cases_Bool, cases_lt, lt-ltb, le-ltb, ltb-false, or_parts}
 use Rattle.wasm_defs.specs.declared.item.Extern.{Extern}
 use Rattle.wasm_defs.specs.declared.item.Extern.TheVariants as extern
 use Rattle.wasm_defs.specs.declared.item.Item.{Item}
-use Rattle.wasm_defs.specs.declared.item.Item.TheVariants.{Signature, Imported, Function, Exported}
+use Rattle.wasm_defs.specs.declared.item.Item.TheVariants.{Signature, Imported, Function, Table, Memory, Exported}
+use Rattle.wasm_defs.specs.declared.item.Limits.{Limits}
 use Rattle.wasm_defs.specs.Fields.{Cursor, Read, Got, Fault, Wants, Reader, repeated, byte, u32, count, vector, name}
-use Rattle.wasm_defs.specs.Entries.{Seen, nothing, note, space, index, listed_type, results, signature, imported, function, table, memory, global, extern_kind, exported, start, element, code, segment}
-use Rattle.wasm_defs.specs.Limits.{max_params}
+use Rattle.wasm_defs.specs.Entries.{Seen, nothing, note, space, index, listed_type, limits, results, signature, imported, function, table, memory, global, extern_kind, exported, start, element, code, segment}
+use Rattle.wasm_defs.specs.Limits.{max_params, max_table, max_pages, top_rows, top_pages}
 use Rattle.wasm_defs.specs.Outside.{Part, Section, Listed, Coded, listed, body, entries_of, code_entry, Row, row, header, entered, noted, inside, section_end, Run, after_part, runs_on, Next, finish, entries, contents, section, owes_code, at_the_end, or_section, sections_up_to, preamble, beginning, module_run}
 use Rattle.wasm_defs.specs.Context.{functions_of}
 use Rattle.wasm_defs.specs.Faults.{items_of}
@@ -26,9 +27,16 @@ abbrev pub IsAmong : ℕ → Extern → ℕ → Type 0
 IsAmong functions extern.Function i = i < functions
 IsAmong functions _ i = Unit {0}
 
--- a type keeps to its limits, and an export's function is one of so many
+-- a minimum of so many at most, which is no more than a maximum of these
+pub record IsMinimum (most : ℕ) (limits : Limits) : Type 0 where
+  pub low : limits.min.1 ≤ most
+  pub ordered : (max : ℕ × ℕ) → limits.max ≡ Some max → limits.min.1 ≤ max.1
+
+-- types, tables and memories keep to their limits, and an export's function is one of so many
 abbrev pub IsKept : ℕ → Item → Type 0
 IsKept functions (Signature form params outs ty) = TypeIsSmall ty
+IsKept functions (Table element limits) = IsMinimum max_table limits
+IsKept functions (Memory limits) = IsMinimum max_pages limits
 IsKept functions (Exported label kind index) = IsAmong functions kind.1 index.1
 IsKept functions _ = Unit {0}
 
@@ -59,7 +67,7 @@ vector_length most counted p c h =
     then_got (λ n d. n.1 ≤ most) (λ xs d. length xs.1 ≤ most) (counted c) _ h
     (λ n d le. then_got (λ xs e. length xs ≡ n.1) (λ xs e. length xs.1 ≤ most) (repeated n.1 p d) _ (repeated_length n.1 p d) (λ xs e len. omega arith))
 
-count_up_to : (most : ℕ) (c : Cursor) → IfGot (λ n d. n.1 ≤ most) (count most c)
+pub count_up_to : (most : ℕ) (c : Cursor) → IfGot (λ n d. n.1 ≤ most) (count most c)
 unfolding count
 count_up_to most c =
     then_got (λ n d. Unit {0}) (λ n d. n.1 ≤ most) (u32 c) _ (always (u32 c))
@@ -122,13 +130,51 @@ function_keeps : Keeps function
 unfolding function
 function_keeps seen = search yielding depth 40
 
+limits_kept : (most top : ℕ) (c : Cursor) → IfGot (λ l d. IsMinimum most l) (limits most top c)
+unfolding limits
+limits_kept most top c =
+    then_got (λ flag d. Unit {0}) (λ l d. IsMinimum most l) (byte c) _ (always (byte c))
+    (λ flag d t.
+    elim (cases_Bool (ltb 1 flag.1)) [
+      | inl bad ↦ rw bad tt
+      | inr right ↦ rw right (then_got (λ n e. Unit {0}) (λ l d. IsMinimum most l) (u32 d) _ (always (u32 d))
+          (λ least e t.
+          elim (cases_lt most least.1) [
+            | inl over ↦ rw (lt-ltb most least.1 over) tt
+            | inr fits ↦ rw (le-ltb most least.1 fits) (elim (cases_Bool (eqb flag.1 0)) [
+              | inl open_ended ↦ rw open_ended (record { low = fits; ordered = λ max is. absurd cc })
+              | inr bounded ↦ rw bounded (then_got (λ n e. Unit {0}) (λ l d. IsMinimum most l) (u32 e) _ (always (u32 e))
+                  (λ greatest f t.
+                  elim (cases_Bool (ltb top greatest.1 || ltb greatest.1 least.1)) [
+                    | inl wrong ↦ rw wrong tt
+                    | inr ordered ↦
+                        let le = ltb-false greatest.1 least.1 (or_parts (ltb top greatest.1) (ltb greatest.1 least.1) ordered).1 in
+                        rw ordered (record { low = fits; ordered = λ max is. least_below least.1 greatest max is le })
+                  ]))
+            ])
+          ]))
+    ])
+  where
+    least_below : (n : ℕ) (greatest max : ℕ × ℕ) → Some greatest ≡ Some max → n ≤ greatest.1 → n ≤ max.1
+    least_below n greatest max is le = let same : greatest ≡ max = cc in omega (arith, le, ap (λ (p : ℕ × ℕ). p.1) same)
+
 table_keeps : Keeps table
 unfolding table
-table_keeps seen = search yielding depth 40
+table_keeps seen = record {
+  got = λ c.
+      then_got (λ element d. Unit {0}) (λ x d. IsKept seen.functions x) (byte c) _ (always (byte c))
+      (λ element d t.
+      elim (cases_Bool (eqb element.1 0x70)) [
+        | inr other ↦ rw other tt
+        | inl right ↦ rw right (then_got (λ l e. IsMinimum max_table l) (λ x d. IsKept seen.functions x) (limits max_table top_rows d) _ (limits_kept max_table top_rows d) (λ l e h. h))
+      ]);
+}
 
 memory_keeps : Keeps memory
 unfolding memory
-memory_keeps seen = search yielding depth 40
+memory_keeps seen = record {
+  got = λ c. then_got (λ l d. IsMinimum max_pages l) (λ x d. IsKept seen.functions x) (limits max_pages top_pages c) _ (limits_kept max_pages top_pages c) (λ l d h. h);
+}
 
 global_keeps : Keeps global
 unfolding global

@@ -47,3 +47,6 @@ pub mod Bytes
 pub mod Locals
 pub mod Kept
 pub mod Exports
+pub mod Counted
+pub mod Constants
+pub mod Spaces

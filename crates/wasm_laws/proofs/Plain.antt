@@ -25,9 +25,9 @@ plain_of_section : (x : Item) → is_compiled_section (section_of x) ≡ true �
 plain_of_section (Signature form params results ty) h = refl
 plain_of_section (Imported from what kind i) h = absurd cc
 plain_of_section (Function i) h = refl
-plain_of_section (Table element limits) h = absurd cc
-plain_of_section (Memory limits) h = absurd cc
-plain_of_section (Global ty mutable init) h = absurd cc
+plain_of_section (Table element limits) h = refl
+plain_of_section (Memory limits) h = refl
+plain_of_section (Global ty mutable init) h = refl
 plain_of_section (Exported name kind index) h = refl
 plain_of_section (Start index) h = absurd cc
 plain_of_section (Element table place functions) h = absurd cc
@@ -46,11 +46,14 @@ items_are_plain bytes none = sorted_are_plain 0 0 (module_run bytes).parts refl 
 -- ---- what there isn't
 
 pub plain_has_no_more : (items : List Item) → ArePlain items → HasNoMore items
-plain_has_no_more [] h = record { imports = refl; imported = λ c n. refl; tables = refl; memories = refl; globals = refl; elements = refl; segments = refl; values = refl; start = refl }
-plain_has_no_more (Signature form params results ty ∷ xs) h = let r = plain_has_no_more xs h.1 in record { imports = r.imports; imported = r.imported; tables = r.tables; memories = r.memories; globals = r.globals; elements = r.elements; segments = r.segments; values = r.values; start = r.start }
-plain_has_no_more (Function i ∷ xs) h = let r = plain_has_no_more xs h.1 in record { imports = r.imports; imported = r.imported; tables = r.tables; memories = r.memories; globals = r.globals; elements = r.elements; segments = r.segments; values = r.values; start = r.start }
-plain_has_no_more (Exported name kind index ∷ xs) h = let r = plain_has_no_more xs h.1 in record { imports = r.imports; imported = r.imported; tables = r.tables; memories = r.memories; globals = r.globals; elements = r.elements; segments = r.segments; values = r.values; start = r.start }
-plain_has_no_more (Code count end ∷ xs) h = let r = plain_has_no_more xs h.1 in record { imports = r.imports; imported = r.imported; tables = r.tables; memories = r.memories; globals = r.globals; elements = r.elements; segments = r.segments; values = r.values; start = r.start }
+plain_has_no_more [] h = record { imports = refl; imported = λ c n. refl; elements = refl; segments = refl; start = refl }
+plain_has_no_more (Signature form params results ty ∷ xs) h = let r = plain_has_no_more xs h.1 in record { imports = r.imports; imported = r.imported; elements = r.elements; segments = r.segments; start = r.start }
+plain_has_no_more (Function i ∷ xs) h = let r = plain_has_no_more xs h.1 in record { imports = r.imports; imported = r.imported; elements = r.elements; segments = r.segments; start = r.start }
+plain_has_no_more (Table element limits ∷ xs) h = let r = plain_has_no_more xs h.1 in record { imports = r.imports; imported = r.imported; elements = r.elements; segments = r.segments; start = r.start }
+plain_has_no_more (Memory limits ∷ xs) h = let r = plain_has_no_more xs h.1 in record { imports = r.imports; imported = r.imported; elements = r.elements; segments = r.segments; start = r.start }
+plain_has_no_more (Global ty mutable init ∷ xs) h = let r = plain_has_no_more xs h.1 in record { imports = r.imports; imported = r.imported; elements = r.elements; segments = r.segments; start = r.start }
+plain_has_no_more (Exported name kind index ∷ xs) h = let r = plain_has_no_more xs h.1 in record { imports = r.imports; imported = r.imported; elements = r.elements; segments = r.segments; start = r.start }
+plain_has_no_more (Code count end ∷ xs) h = let r = plain_has_no_more xs h.1 in record { imports = r.imports; imported = r.imported; elements = r.elements; segments = r.segments; start = r.start }
 plain_has_no_more (_ ∷ xs) h = absurd cc
 
 pub plain_is_linkable : (m : Module) → ArePlain m.items → is_linkable m ≡ true

@@ -1,7 +1,7 @@
 -- The immediates of compiled code are in range.
 use Rattle.std.proofs.Common.{◌≡◌, ℕ, ◌+◌, ◌-◌, ◌*◌, ◌^◌, ◌<◌, ◌≤◌, inl, inr, true, false, List, [], None, ◌∷◌, sym, subst, ap, ◌∙◌, arith, ℤ, pos}
 use Rattle.std.specs.Prelude.{negsuc, neg_ℤ, ◌≤ℤ◌, ◌<ℤ◌, FitsSigned}
-use Rattle.std.specs.Int.{w32}
+use Rattle.std.specs.Int.{w32, w64}
 use Rattle.std.proofs.lemmas.Bool.{cases_lt, lt-ltb, le-ltb}
 use Rattle.std.proofs.lemmas.Int.{ints}
 use Rattle.std.proofs.lemmas.Nat.{pow_pos, pow-add}
@@ -9,20 +9,22 @@ use Rattle.wasm_defs.proofs.NumberLaws.{AreBytes, reading_small}
 use Rattle.wasm_defs.specs.Numbers.{Reading, Number, CutOff, Bad, last_byte, after_byte, number_at, IsSmall}
 use Rattle.wasm_defs.specs.Faults.{first_outside, tokens_of}
 use Rattle.wasm_defs.specs.Fields.{Cursor, nat_of, window, room_of, from_reading, number, u32}
-use Rattle.wasm_defs.specs.Bodies.{with_index, constant, control, variable, numeric, instruction, body_read}
+use Rattle.wasm_defs.specs.Bodies.{with_index, constant, control, variable, instruction, body_read}
 use Rattle.wasm_defs.specs.Supported.{is_compiled_opcode}
 use Rattle.wasm_defs.specs.Trees.{Seq, Nothing, Simple, Block, Loop, If, IfElse, spelled, Tree}
+use Rattle.wasm_defs.specs.declared.token.Plain.{Plain}
+use Rattle.wasm_defs.specs.declared.token.Plain.TheVariants.{LocalGet, LocalSet, LocalTee}
 use Rattle.wasm_defs.specs.declared.token.Token.{Token}
-use Rattle.wasm_defs.specs.declared.types.ValType.TheVariants.{I32}
+use Rattle.wasm_defs.specs.declared.types.ValType.TheVariants.{I32, I64}
 use Rattle.wasm_defs.specs.Values.{unsigned}
 use Rattle.wasm_defs.specs.declared.token.Token.TheVariants as token
-use Rattle.wasm_laws.specs.Straight.{TokenIsInRange, TokensAreInRange, TreeIsInRange}
+use Rattle.wasm_laws.specs.Straight.{IsInRange, TokenIsInRange, TokensAreInRange, TreeIsInRange}
 use Rattle.wasm_laws.proofs.Steady.{IfGot}
 use Rattle.wasm_laws.proofs.Windows.{cut_got}
 use Rattle.wasm_laws.proofs.Parts.{then_got}
 use Rattle.wasm_laws.proofs.Spelt.{bytes_behind}
 use Rattle.wasm_laws.proofs.SpeltFields.{front_bytes}
-use Rattle.wasm_laws.proofs.Straight.{by_opcode, Each, each_token}
+use Rattle.wasm_laws.proofs.Straight.{Spells, by_opcode, of_numbers, Each, each_token}
 
 -- ---- signed numbers
 
@@ -74,10 +76,18 @@ fits_signed : (n : ℤ) → neg_ℤ (pos 2147483648) ≤ℤ n → n <ℤ pos 214
 fits_signed (pos n) low high = record { sfits = omega (arith, ints) }
 fits_signed (negsuc n) low high = record { sfits = omega (arith, ints) }
 
--- its bits are a number of 32 bits
+fits_signed_wide : (n : ℤ) → neg_ℤ (pos 9223372036854775808) ≤ℤ n → n <ℤ pos 9223372036854775808 → FitsSigned w64 n
+fits_signed_wide (pos n) low high = record { sfits = omega (arith, ints) }
+fits_signed_wide (negsuc n) low high = record { sfits = omega (arith, ints) }
+
+-- its bits are a number of so many bits
 pub constant_fits : (n : ℤ) → FitsSigned w32 n → unsigned I32 n < 2 ^ 32
 constant_fits (pos n) h = omega (arith, h.sfits)
 constant_fits (negsuc n) h = omega (arith, h.sfits)
+
+pub long_constant_fits : (n : ℤ) → FitsSigned w64 n → unsigned I64 n < 2 ^ 64
+long_constant_fits (pos n) h = omega (arith, h.sfits)
+long_constant_fits (negsuc n) h = omega (arith, h.sfits)
 
 -- ---- fields
 
@@ -89,9 +99,18 @@ signed_got c (Number n len) h = fits_signed n h.0 h.1
 signed_got c CutOff h = cut_got _ _ c
 signed_got c Bad h = tt
 
-number_got : (c : Cursor) → HasBytes c → IfGot (λ n d. FitsSigned w32 n.1) (number true 32 c)
+pub number_got : (c : Cursor) → HasBytes c → IfGot (λ n d. FitsSigned w32 n.1) (number true 32 c)
 unfolding number
 number_got c fits = signed_got c (number_at true 32 (window c)) (reading_signed 32 (window c) (front_bytes (room_of c) c.rest fits))
+
+wide_got : (c : Cursor) (r : Reading) → IsSigned 64 r → IfGot (λ n d. FitsSigned w64 n.1) (from_reading c r)
+wide_got c (Number n len) h = fits_signed_wide n h.0 h.1
+wide_got c CutOff h = cut_got _ _ c
+wide_got c Bad h = tt
+
+pub wide_number_got : (c : Cursor) → HasBytes c → IfGot (λ n d. FitsSigned w64 n.1) (number true 64 c)
+unfolding number
+wide_number_got c fits = wide_got c (number_at true 64 (window c)) (reading_signed 64 (window c) (front_bytes (room_of c) c.rest fits))
 
 small_index : (n : ℤ) → n <ℤ pos 4294967296 → nat_of n < 4294967296
 small_index (pos n) h = omega (arith, ints)
@@ -113,24 +132,33 @@ u32_got c fits =
 abbrev pub InRange : Token → Cursor → Type 0
 InRange t d = TokenIsInRange t
 
-end_in_range : (at : ℕ) (d : Cursor) → IfGot InRange (instruction at 0x0B d)
-unfolding instruction control
-end_in_range at d = tt
+index_in_range : (make : ℕ → Plain) (d : Cursor) → HasBytes d → ((i : ℕ) → i < 2 ^ 32 → IsInRange (make i)) → IfGot InRange (with_index make d)
+unfolding with_index
+index_in_range make d fits h = then_got (λ i e. i.1 < 2 ^ 32) InRange (u32 d) _ (u32_got d fits) (λ i e lt. h i.1 lt)
 
-get_in_range : (at : ℕ) (d : Cursor) → HasBytes d → IfGot InRange (instruction at 0x20 d)
-unfolding instruction variable with_index
-get_in_range at d fits = then_got (λ i e. i.1 < 2 ^ 32) InRange (u32 d) _ (u32_got d fits) (λ i e h. h)
+narrow_in_range : (d : Cursor) → HasBytes d → IfGot InRange (constant I32 d)
+unfolding constant
+narrow_in_range d fits = then_got (λ n e. FitsSigned w32 n.1) InRange (number true 32 d) _ (number_got d fits) (λ n e h. h)
 
-const_in_range : (at : ℕ) (d : Cursor) → HasBytes d → IfGot InRange (instruction at 0x41 d)
-unfolding instruction numeric constant
-const_in_range at d fits = then_got (λ n e. FitsSigned w32 n.1) InRange (number true 32 d) _ (number_got d fits) (λ n e h. h)
+wide_in_range : (d : Cursor) → HasBytes d → IfGot InRange (constant I64 d)
+unfolding constant
+wide_in_range d fits = then_got (λ n e. FitsSigned w64 n.1) InRange (number true 64 d) _ (wide_number_got d fits) (λ n e h. h)
 
-add_in_range : (at : ℕ) (d : Cursor) → IfGot InRange (instruction at 0x6A d)
-unfolding instruction numeric
-add_in_range at d = tt
+all_in_range : (at : ℕ) (d : Cursor) → HasBytes d → Spells InRange at d
+unfolding instruction control variable
+all_in_range at d fits = record {
+  nops = tt;
+  closes = tt;
+  drops = tt;
+  selects = tt;
+  gets = index_in_range LocalGet d fits (λ i lt. lt);
+  sets = index_in_range LocalSet d fits (λ i lt. lt);
+  tees = index_in_range LocalTee d fits (λ i lt. lt);
+  computes = of_numbers InRange at d (narrow_in_range d fits) (wide_in_range d fits) (λ op. tt);
+}
 
 pub instruction_in_range : (at b : ℕ) (d : Cursor) → HasBytes d → is_compiled_opcode b ≡ true → IfGot InRange (instruction at b d)
-instruction_in_range at b d fits compiled = by_opcode InRange at b d compiled (end_in_range at d) (get_in_range at d fits) (const_in_range at d fits) (add_in_range at d)
+instruction_in_range at b d fits compiled = by_opcode InRange at b d (all_in_range at d fits) compiled
 
 -- ---- bodies
 

@@ -25,7 +25,7 @@ AreSorted before id (Coded b ∷ parts) = (id ≡ 10) × (before ≤ 10) × AreS
 
 -- ---- items of a section
 
-abbrev IsOf : ℕ → Item → Type 0
+abbrev pub IsOf : ℕ → Item → Type 0
 IsOf id x = section_of x ≡ id
 
 signature_sort : (seen : Seen) → Yields (IsOf 1) (signature seen)
@@ -64,7 +64,7 @@ element_sort : (seen : Seen) → Yields (IsOf 9) (element seen)
 unfolding element
 element_sort seen = search yielding depth 40
 
-code_sort : (seen : Seen) → Yields (IsOf 10) (code seen)
+pub code_sort : (seen : Seen) → Yields (IsOf 10) (code seen)
 unfolding code
 code_sort seen = search yielding depth 40
 
@@ -74,8 +74,8 @@ segment_sort seen = search yielding depth 40
 
 -- ---- rows
 
-record SortedRow (id : ℕ) (r : Row) : Type 0 where
-  entry : (seen : Seen) → Yields (IsItem (IsOf id)) (r.entry seen)
+pub record SortedRow (id : ℕ) (r : Row) : Type 0 where
+  pub entry : (seen : Seen) → Yields (IsItem (IsOf id)) (r.entry seen)
 
 sorted_items : (id k : ℕ) (front : Seen → Reader ℕ) (entry : Seen → Reader Item) → ((seen : Seen) → Yields (IsOf k) (entry seen)) → id ≡ k → SortedRow id (entries_of front entry)
 sorted_items id k front entry h e = subst (λ (n : ℕ). SortedRow n (entries_of front entry)) (sym e) (record { entry = λ s. listed_yields (IsOf k) (entry s) (h s) })
@@ -88,7 +88,7 @@ either_row id k p q hp hq = by (cases_Bool (eqb id k))
     by (inr e) = rw e (hq (eqb-false id k e))
 
 -- a section that is neither custom nor of code holds items of its sort
-row_is_sorted : (id : ℕ) → id < 12 → id ≢ 0 → id ≢ 10 → SortedRow id (row id)
+pub row_is_sorted : (id : ℕ) → id < 12 → id ≢ 0 → id ≢ 10 → SortedRow id (row id)
 row_is_sorted id known not_custom not_code =
     either_row id 1 _ _ (sorted_items id 1 _ _ signature_sort) (λ n1.
     either_row id 2 _ _ (sorted_items id 2 _ _ imported_sort) (λ n2.
@@ -103,7 +103,7 @@ row_is_sorted id known not_custom not_code =
     either_row id 11 _ _ (sorted_items id 11 _ _ segment_sort) (λ n11.
     absurd (omega arith))))))))))))
 
-no_entries : (c : Cursor) → IfGot (λ n d. n ≡ 0) (custom_name c)
+pub no_entries : (c : Cursor) → IfGot (λ n d. n ≡ 0) (custom_name c)
 unfolding custom_name
 no_entries c = then_got (λ x d. Unit {0}) (λ n d. n ≡ 0) (name c) _ (always (name c)) (λ x d t. refl)
 

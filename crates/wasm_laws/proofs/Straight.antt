@@ -1,10 +1,18 @@
 -- Code of compiled opcodes is straight, and its immediates are in range.
-use Rattle.std.proofs.Common.{◌≡◌, ℕ, zero, suc, ◌+◌, inl, inr, true, List, [], ◌∷◌, None, length, refl, sym, subst}
-use Rattle.std.proofs.lemmas.Bool.{or_cases, and_from, and_parts, eqb-true}
+use Rattle.std.proofs.Common.{◌≡◌, ℕ, zero, suc, ◌+◌, ◌-◌, ◌≤◌, ◌||◌, eqb, nat_lt, nat_le, inl, inr, true, List, [], ◌∷◌, Option, None, Some, length, refl, sym, subst, arith}
+use Rattle.std.specs.Prelude.{slice_get}
+use Rattle.std.proofs.lemmas.Bool.{cases_Bool, cases_lt, or_cases, and_from, and_parts, eqb-true, leb-true, le-ltb}
+use Rattle.wasm_defs.specs.declared.operation.Operation.{Operation}
+use Rattle.wasm_defs.specs.declared.token.Plain.{Plain}
+use Rattle.wasm_defs.specs.declared.token.Plain.TheVariants.{LocalGet, LocalSet, LocalTee, Operate}
 use Rattle.wasm_defs.specs.declared.token.Token.{Token}
 use Rattle.wasm_defs.specs.declared.token.Token.TheVariants as token
+use Rattle.wasm_defs.specs.declared.types.ValType.{ValType}
+use Rattle.wasm_defs.specs.declared.types.ValType.TheVariants.{I32, I64}
+use Rattle.wasm_defs.specs.Opcodes.{operations}
+use Rattle.wasm_defs.specs.Entries.{within, bits_of}
 use Rattle.wasm_defs.specs.Fields.{Cursor, Read, Got, Fault, Wants, byte, number, u32}
-use Rattle.wasm_defs.specs.Bodies.{Group, local_groups, with_index, constant, control, variable, numeric, instruction, depth_after, Spelled, closed, after_token, goes_on, spelled_from, body_cursor, last_of, read_code, body_read}
+use Rattle.wasm_defs.specs.Bodies.{Group, local_groups, with_index, constant, control, variable, past_table, operated_at, numeric, instruction, depth_after, Spelled, closed, after_token, goes_on, spelled_from, body_cursor, last_of, read_code, body_read}
 use Rattle.wasm_defs.specs.Faults.{first_outside, tokens_of}
 use Rattle.wasm_defs.specs.Supported.{is_compiled_opcode}
 use Rattle.wasm_defs.specs.Trees.{Seq, Nothing, Simple, Block, Loop, If, IfElse, spelled, Tree}
@@ -20,43 +28,138 @@ use Rattle.wasm_laws.proofs.Plain.{none_outside}
 abbrev pub IsStraightToken : Token → Cursor → Type 0
 IsStraightToken t d = is_straight_token t ≡ true
 
-end_is_straight : (at : ℕ) (d : Cursor) → IfGot IsStraightToken (instruction at 0x0B d)
-unfolding instruction control
-end_is_straight at d = refl
+-- an opcode between two others
+between : (low high b : ℕ) → within low high b ≡ true → (low ≤ b) × (b ≤ high)
+between low high b e = let k = and_parts (nat_le low b) (nat_le b high) e in (leb-true low b k.0, leb-true b high k.1)
 
-get_is_straight : (at : ℕ) (d : Cursor) → IfGot IsStraightToken (instruction at 0x20 d)
-unfolding instruction variable with_index
-get_is_straight at d = then_got (λ i e. Unit {0}) IsStraightToken (u32 d) _ (always (u32 d)) (λ i e t. refl)
-
-const_is_straight : (at : ℕ) (d : Cursor) → IfGot IsStraightToken (instruction at 0x41 d)
-unfolding instruction numeric constant
-const_is_straight at d = then_got (λ i e. Unit {0}) IsStraightToken (number true 32 d) _ (always (number true 32 d)) (λ i e t. refl)
-
-add_is_straight : (at : ℕ) (d : Cursor) → IfGot IsStraightToken (instruction at 0x6A d)
-unfolding instruction numeric
-add_is_straight at d = refl
-
--- what holds of the instructions of the four opcodes
-pub by_opcode : (P : Token → Cursor → Type 0) (at b : ℕ) (d : Cursor) → is_compiled_opcode b ≡ true → IfGot P (instruction at 0x0B d) → IfGot P (instruction at 0x20 d) → IfGot P (instruction at 0x41 d) → IfGot P (instruction at 0x6A d) → IfGot P (instruction at b d)
-by_opcode P at b d compiled closes gets gives adds =
-    elim (or_cases _ _ compiled) [
-      | inl some ↦
-          elim (or_cases _ _ some) [
-            | inl more ↦
-                elim (or_cases _ _ more) [
-                  | inl e ↦ at_opcode 0x0B (eqb-true b 0x0B e) closes
-                  | inr e ↦ at_opcode 0x20 (eqb-true b 0x20 e) gets
-                ]
-            | inr e ↦ at_opcode 0x41 (eqb-true b 0x41 e) gives
+-- one of three opcodes in a row
+pub one_of_three : (P : ℕ → Type 0) (low b : ℕ) → low ≤ b → b ≤ low + 2 → P low → P (low + 1) → P (low + 2) → P b
+one_of_three P low b ge le first second third =
+    elim (cases_lt low b) [
+      | inr at ↦ subst P (let e : low ≡ b = omega arith in e) first
+      | inl past ↦
+          elim (cases_lt (low + 1) b) [
+            | inr at ↦ subst P (let e : low + 1 ≡ b = omega arith in e) second
+            | inl last ↦ subst P (let e : low + 2 ≡ b = omega arith in e) third
           ]
-      | inr e ↦ at_opcode 0x6A (eqb-true b 0x6A e) adds
     ]
-  where
-    at_opcode : (k : ℕ) → b ≡ k → IfGot P (instruction at k d) → IfGot P (instruction at b d)
-    at_opcode k e h = subst (λ (n : ℕ). IfGot P (instruction at n d)) (sym e) h
+
+-- what the opcodes that are compiled spell; numeric instructions are those from 0x41 on
+pub record Spells (P : Token → Cursor → Type 0) (at : ℕ) (d : Cursor) : Type 0 where
+  pub nops : IfGot P (instruction at 0x01 d)
+  pub closes : IfGot P (instruction at 0x0B d)
+  pub drops : IfGot P (instruction at 0x1A d)
+  pub selects : IfGot P (instruction at 0x1B d)
+  pub gets : IfGot P (instruction at 0x20 d)
+  pub sets : IfGot P (instruction at 0x21 d)
+  pub tees : IfGot P (instruction at 0x22 d)
+  pub computes : (b : ℕ) → IfGot P (numeric at b d)
+
+module _ (P : Token → Cursor → Type 0) (at b : ℕ) (d : Cursor) (s : Spells P at d) where
+  abbrev Here : ℕ → Type 0
+  Here n = IfGot P (instruction at n d)
+
+  at_opcode : (k : ℕ) → eqb b k ≡ true → Here k → Here b
+  at_opcode k e h = subst Here (sym (eqb-true b k e)) h
+
+  on_numbers : 0x41 ≤ b → Here b
+  unfolding instruction
+  on_numbers ge = rw (le-ltb b 0x20 (omega arith), le-ltb b 0x28 (omega arith), le-ltb b 0x41 ge) (s.computes b)
+
+  in_numbers : (low high : ℕ) → 0x41 ≤ low → within low high b ≡ true → Here b
+  in_numbers low high ge e = let k = between low high b e in on_numbers (omega (arith, k.0))
+
+  on_locals : within 0x20 0x22 b ≡ true → Here b
+  on_locals e = let k = between 0x20 0x22 b e in one_of_three Here 0x20 b k.0 k.1 s.gets s.sets s.tees
+
+  on_drops : within 0x1A 0x1B b ≡ true → Here b
+  on_drops e =
+      let k = between 0x1A 0x1B b e in
+      elim (cases_lt 0x1A b) [
+        | inr is ↦ subst Here (let e : 0x1A ≡ b = omega (arith, k.0) in e) s.drops
+        | inl past ↦ subst Here (let e : 0x1B ≡ b = omega (arith, k.1) in e) s.selects
+      ]
+
+  -- what holds of the instructions of these opcodes
+  pub by_opcode : is_compiled_opcode b ≡ true → IfGot P (instruction at b d)
+  by_opcode compiled =
+      elim (or_cases _ _ compiled) [
+        | inr e ↦ in_numbers 0xAC 0xAD (omega arith) e
+        | inl h ↦ elim (or_cases _ _ h) [
+          | inr e ↦ on_numbers (let is = eqb-true b 0xA7 e in omega (arith, is))
+          | inl h ↦ elim (or_cases _ _ h) [
+            | inr e ↦ in_numbers 0x67 0x8A (omega arith) e
+            | inl h ↦ elim (or_cases _ _ h) [
+              | inr e ↦ in_numbers 0x45 0x5A (omega arith) e
+              | inl h ↦ elim (or_cases _ _ h) [
+                | inr e ↦ in_numbers 0x41 0x42 (omega arith) e
+                | inl h ↦ elim (or_cases _ _ h) [
+                  | inr e ↦ on_locals e
+                  | inl h ↦ elim (or_cases _ _ h) [
+                    | inr e ↦ on_drops e
+                    | inl h ↦ elim (or_cases _ _ h) [
+                      | inr e ↦ at_opcode 0x0B e s.closes
+                      | inl e ↦ at_opcode 0x01 e s.nops
+                    ]
+                  ]
+                ]
+              ]
+            ]
+          ]
+        ]
+      ]
+
+-- of numeric instructions
+module _ (P : Token → Cursor → Type 0) (at : ℕ) (d : Cursor) (narrow : IfGot P (constant I32 d)) (wide : IfGot P (constant I64 d)) (computed : (op : Operation) → P (token.Plain (Operate op)) d) where
+  past_numbers : (b : ℕ) → IfGot P (past_table at b d)
+  past_numbers b =
+      elim (cases_Bool (within 0xC0 0xC4 b || eqb b 0xFC)) [
+        | inl left_out ↦ rw left_out tt
+        | inr none ↦ rw none tt
+      ]
+
+  of_table : (b : ℕ) (o : Option (Option Operation)) → IfGot P (operated_at at b o d)
+  of_table b None = past_numbers b
+  of_table b (Some None) = tt
+  of_table b (Some (Some op)) = computed op
+
+  pub of_numbers : (b : ℕ) → IfGot P (numeric at b d)
+  unfolding numeric
+  of_numbers b =
+      elim (cases_Bool (eqb b 0x41)) [
+        | inl is ↦ rw is narrow
+        | inr h ↦ rw h (elim (cases_Bool (eqb b 0x42)) [
+          | inl is ↦ rw is wide
+          | inr h ↦ rw h (elim (cases_Bool (nat_lt b 0x45)) [
+            | inl floats ↦ rw floats tt
+            | inr h ↦ rw h (of_table b (slice_get operations (b - 0x45)))
+          ])
+        ])
+      ]
+
+index_is_straight : (make : ℕ → Plain) (d : Cursor) → ((i : ℕ) → is_straight_plain (make i) ≡ true) → IfGot IsStraightToken (with_index make d)
+unfolding with_index
+index_is_straight make d h = then_got (λ i e. Unit {0}) IsStraightToken (u32 d) _ (always (u32 d)) (λ i e t. h i.1)
+
+constant_is_straight : (t : ValType) (d : Cursor) → IfGot IsStraightToken (constant t d)
+unfolding constant
+constant_is_straight t d = then_got (λ i e. Unit {0}) IsStraightToken (number true (bits_of t) d) _ (always (number true (bits_of t) d)) (λ i e u. refl)
+
+all_are_straight : (at : ℕ) (d : Cursor) → Spells IsStraightToken at d
+unfolding instruction control variable
+all_are_straight at d = record {
+  nops = refl;
+  closes = refl;
+  drops = refl;
+  selects = refl;
+  gets = index_is_straight LocalGet d (λ i. refl);
+  sets = index_is_straight LocalSet d (λ i. refl);
+  tees = index_is_straight LocalTee d (λ i. refl);
+  computes = of_numbers IsStraightToken at d (constant_is_straight I32 d) (constant_is_straight I64 d) (λ op. refl);
+}
 
 pub instruction_is_straight : (at b : ℕ) (d : Cursor) → is_compiled_opcode b ≡ true → IfGot IsStraightToken (instruction at b d)
-instruction_is_straight at b d compiled = by_opcode IsStraightToken at b d compiled (end_is_straight at d) (get_is_straight at d) (const_is_straight at d) (add_is_straight at d)
+instruction_is_straight at b d compiled = by_opcode IsStraightToken at b d (all_are_straight at d) compiled
 
 -- ---- bodies
 

@@ -1,10 +1,16 @@
--- Limits that types, locals and bodies keep to, and functions that exports name (WebAssembly Core 1.0, 3.2.2, 3.4.10 and
--- 5.5.13).
-use Rattle.std.specs.Prelude.{◌≤◌, ◌<◌, ℕ, List, [], ◌∷◌, length, IsSome}
+-- Limits that types, locals, bodies, tables, memories and globals keep to, and functions that exports name (WebAssembly Core 1.0,
+-- 3.2.2, 3.4.10, 4.5.3 and 5.5.13).
+use Rattle.std.specs.Prelude.{◌≤◌, ◌<◌, ℕ, ℤ, List, [], ◌∷◌, length, FitsSigned, IsSome}
+use Rattle.std.specs.Int.{w32, w64}
+use Rattle.wasm_defs.specs.declared.item.Item.{Item}
+use Rattle.wasm_defs.specs.declared.item.Item.TheVariants.{Global}
 use Rattle.wasm_defs.specs.declared.types.FuncType.{FuncType}
+use Rattle.wasm_defs.specs.declared.types.ValType.{ValType}
+use Rattle.wasm_defs.specs.declared.types.ValType.TheVariants.{I32, I64}
 use Rattle.wasm_defs.specs.Bodies.{Group, body_read}
 use Rattle.wasm_defs.specs.Context.{declared_types}
-use Rattle.wasm_defs.specs.Limits.{max_params, max_locals, max_body}
+use Rattle.wasm_defs.specs.Limits.{max_entries, max_params, max_locals, max_body, max_table, max_pages}
+use Rattle.wasm_defs.specs.Instances.{rows_of, pages_of, cap_of, values_of}
 use Rattle.wasm_defs.specs.Outside.{Body}
 use Rattle.wasm_defs.specs.Typing.{Context, function_type}
 
@@ -30,6 +36,24 @@ pub record BodyIsSmall (b : Body) : Type 0 where
 abbrev pub BodiesAreSmall : List Body → Type 0
 BodiesAreSmall [] = Unit {0}
 BodiesAreSmall (b ∷ bodies) = BodyIsSmall b × BodiesAreSmall bodies
+
+-- the rows of the table, the pages of the memory at first and at most, and the globals that are declared
+pub record SpacesAreSmall (items : List Item) : Type 0 where
+  pub rows : rows_of items ≤ max_table
+  pub pages : pages_of items ≤ cap_of items
+  pub cap : cap_of items ≤ max_pages
+  pub globals : length (values_of items) ≤ max_entries
+
+-- a signed number of a type's bits
+abbrev pub FitsType : ValType → ℤ → Type 0
+FitsType I32 n = FitsSigned w32 n
+FitsType I64 n = FitsSigned w64 n
+
+-- the constants of globals are numbers of their types
+abbrev pub ConstantsFit : List Item → Type 0
+ConstantsFit [] = Unit {0}
+ConstantsFit (Global ty mutable init ∷ xs) = FitsType ty.1 init.value.1 × ConstantsFit xs
+ConstantsFit (_ ∷ xs) = ConstantsFit xs
 
 -- an export's function is there, and so is its type
 pub record IsThere (c : Context) (functions index : ℕ) : Type 0 where

@@ -1,19 +1,23 @@
--- The code that is compiled so far: straight runs of `local.get`, `i32.const` and `i32.add` (WebAssembly Core 1.0, 2.4).
+-- Straight code: runs of numeric and parametric instructions, of those on locals, and of `nop` (WebAssembly Core 1.0, 2.4). All
+-- code that is compiled so far is straight.
 use Rattle.std.specs.Prelude.{◌<◌, ◌^◌, Bool, true, false, ◌&&◌, List, [], ◌∷◌, FitsSigned}
-use Rattle.std.specs.Int.{w32}
-use Rattle.wasm_defs.specs.declared.types.ValType.TheVariants.{I32}
-use Rattle.wasm_defs.specs.declared.operation.BinaryOp.TheVariants.{Add}
-use Rattle.wasm_defs.specs.declared.operation.Operation.TheVariants.{Binary}
+use Rattle.std.specs.Int.{w32, w64}
+use Rattle.wasm_defs.specs.declared.types.ValType.TheVariants.{I32, I64}
 use Rattle.wasm_defs.specs.declared.token.Plain.{Plain}
-use Rattle.wasm_defs.specs.declared.token.Plain.TheVariants.{LocalGet, Const, Operate}
+use Rattle.wasm_defs.specs.declared.token.Plain.TheVariants.{Nop, Discard, Select, LocalGet, LocalSet, LocalTee, Const, Operate}
 use Rattle.wasm_defs.specs.declared.token.Token.{Token}
 use Rattle.wasm_defs.specs.declared.token.Token.TheVariants as token
 use Rattle.wasm_defs.specs.Trees.{Seq, Nothing, Simple}
 
 abbrev pub is_straight_plain : Plain → Bool
+is_straight_plain Nop = true
+is_straight_plain Discard = true
+is_straight_plain Select = true
 is_straight_plain (LocalGet x) = true
-is_straight_plain (Const I32 n) = true
-is_straight_plain (Operate (Binary I32 Add)) = true
+is_straight_plain (LocalSet x) = true
+is_straight_plain (LocalTee x) = true
+is_straight_plain (Const t n) = true
+is_straight_plain (Operate op) = true
 is_straight_plain _ = false
 
 abbrev pub is_straight_token : Token → Bool
@@ -31,10 +35,13 @@ is_straight Nothing = true
 is_straight (Simple p rest) = is_straight_plain p && is_straight rest
 is_straight _ = false
 
--- the immediates that bytes spell: an index of 32 bits, and a signed number of 32 bits
+-- the immediates that bytes spell: an index of 32 bits, and a signed number of the type's bits
 abbrev pub IsInRange : Plain → Type 0
 IsInRange (LocalGet x) = x < 2 ^ 32
+IsInRange (LocalSet x) = x < 2 ^ 32
+IsInRange (LocalTee x) = x < 2 ^ 32
 IsInRange (Const I32 n) = FitsSigned w32 n
+IsInRange (Const I64 n) = FitsSigned w64 n
 IsInRange _ = Unit {0}
 
 abbrev pub TokenIsInRange : Token → Type 0

@@ -17,7 +17,7 @@ ghost use Rattle.wasm_defs.specs.declared.token.Token.{Token};
 ghost use Rattle.wasm_laws.specs.Behind.{AreValidIn, StandBehind};
 ghost use Rattle.wasm_laws.specs.BodyOrder.{IsSpelledIn};
 ghost use Rattle.wasm_laws.specs.Counts.{AreDeclared};
-ghost use Rattle.wasm_laws.specs.Kept.{AreThere, BodiesAreSmall, IsThere, LocalsAreFew, TypesAreSmall};
+ghost use Rattle.wasm_laws.specs.Kept.{AreThere, BodiesAreSmall, ConstantsFit, IsThere, LocalsAreFew, SpacesAreSmall, TypesAreSmall};
 ghost use Rattle.wasm_laws.specs.Order.{AreCutFrom, AreOrdered, BodyStands, end_of, first_section};
 ghost use Rattle.wasm_laws.specs.Plain.{ArePlain, HasNoMore};
 ghost use Rattle.wasm_laws.specs.Runs.{deciding_length, GoesOn, IsRefused};
@@ -111,8 +111,8 @@ pub fn bodies_stand_behind_items()
     ensures valid { (bytes : List ℕ) (m : Module) → IsModule bytes m → AreValidIn m.items 0 m.bodies m.trees }
 {}
 
-/// A module of the sections that are compiled so far has no items but types, functions, exports and the code section's count:
-/// it imports nothing, has no table, memory, globals, segments and start function, and can be instantiated.
+/// A module of the sections that are compiled so far has no items but types, functions, tables, memories, globals, exports and
+/// the code section's count: it imports nothing, has no segments and no start function, and can be instantiated.
 pub fn compiled_items_are_few()
     ensures items { (bytes : List ℕ) →
         let run = module_run bytes in
@@ -121,9 +121,9 @@ pub fn compiled_items_are_few()
     ensures linkable { (m : Module) → ArePlain m.items → is_linkable m ≡ true }
 {}
 
-/// The code of a body whose opcodes are compiled so far is straight (Core 2.4): its tokens are `local.get`, `i32.const`,
-/// `i32.add` and `end`, and so is the tree that they spell. Immediates of 32 bits are in range, operands lie no higher than
-/// there are tokens, and each token has a byte.
+/// The code of a body whose opcodes are compiled so far is straight (Core 2.4): its tokens are numeric and parametric
+/// instructions, those on locals, `nop` and `end`, and so is the tree that they spell. Immediates are in range, operands lie no
+/// higher than there are tokens, and each token has a byte.
 pub fn compiled_code_is_straight()
     ensures tokens { (first : ℕ) (bytes : List ℕ) →
         let code = (body_read first bytes).code in
@@ -142,6 +142,13 @@ pub fn compiled_code_is_straight()
 /// Types keep to their limits (Core 3.2.2): each has so many parameters at most, and one result at most.
 pub fn types_keep_limits()
     ensures { (bytes : List ℕ) → TypesAreSmall (types_of (items_of (module_run bytes).parts)) }
+{}
+
+/// Tables, memories and globals keep to their limits (Core 4.5.3): so many rows, pages and globals at most, and no more pages at
+/// first than the memory may grow to. Each global's constant is a number of the global's type (Core 3.3.7 and 5.2.2).
+pub fn spaces_keep_limits()
+    ensures limits { (bytes : List ℕ) → SpacesAreSmall (items_of (module_run bytes).parts) }
+    ensures constants { (bytes : List ℕ) → AreBytes bytes → ConstantsFit (items_of (module_run bytes).parts) }
 {}
 
 /// Bodies keep to the limits on their bytes and on the locals that they declare (Core 5.5.13).

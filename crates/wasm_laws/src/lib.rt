@@ -10,5 +10,5 @@ pub use laws::{
     bodies_are_in_order, bodies_are_steady, bodies_match_functions, bodies_stand_behind_items,
     compiled_code_is_straight, compiled_items_are_few, exports_are_there, functions_have_types,
     locals_keep_limits, more_bytes_change_nothing, others_stand_around, parts_are_in_order,
-    reading_is_bounded, sections_are_steady, types_keep_limits,
+    reading_is_bounded, sections_are_steady, spaces_keep_limits, types_keep_limits,
 };
