@@ -2,3 +2,4 @@ pub mod Readings
 pub mod Casts
 pub mod Readers
 pub mod Loops
+pub mod Feeds

@@ -2,7 +2,7 @@
 //! the same name in `wasm_defs` defines: a field that isn't whole stops reading as malformed where its section's end cuts
 //! it off, and else wants more bytes.
 
-ghost use Rattle.std.specs.Prelude.{◌≡◌, ◌≤◌, ◌<◌, ◌+◌, ◌*◌, ◌^◌, ℕ, length, false, true, IfOk, List, drop, take};
+ghost use Rattle.std.specs.Prelude.{◌≡◌, ◌≤◌, ◌<◌, ◌+◌, ◌-◌, ◌*◌, ◌^◌, ◌≤ℤ◌, ◌<ℤ◌, neg_ℤ, pos, ℕ, length, false, true, IfOk, List, drop, take};
 ghost use Rattle.wasm_defs.specs.Numbers.{Spells};
 ghost use Rattle.wasm_defs.specs.Fields.{Cursor, window, past, cut, room_of, byte, number, u32, count, run, room, here, stop, counted_bytes, text_after, least, length_owed, name, fixed};
 ghost use Rattle.wasm_defs.specs.Fields.{agree};
@@ -193,7 +193,8 @@ impl<'a> Fields<'a> {
     pub fn signed(&mut self, bits: u32) -> Result<(u64, i64), Stop>
         requires some_bits { 1 ≤ bits }
         requires few_bits { bits ≤ 64 }
-        ensures { Reads (number true bits) (λ n. n) result self.old self.new }
+        ensures read { Reads (number true bits) (λ n. n) result self.old self.new }
+        ensures range { IfOk result (λ n. (neg_ℤ (pos (2 ^ (bits - 1))) ≤ℤ n.1) × (n.1 <ℤ pos (2 ^ (bits - 1)))) }
     {
         let (at, n) = self.number(true, bits)?;
         Ok((at, n as i64))

@@ -2,11 +2,13 @@
 #![tactic(auto)]
 
 mod fields;
+mod leb;
 mod number;
 mod stop;
 mod text;
 
 pub use fields::Fields;
+pub use leb::{Fed, Leb};
 pub use number::{ReadAt, read_at};
 pub use stop::Stop;
 

@@ -6,13 +6,15 @@ ghost use Rattle.leb_feed.specs.declared.stop.Stop.TheVariants.{NoMemory};
 use std::alloc::{AllocError, AllocFailed};
 use wasm_defs::Refusal;
 
+/// Why reading a field, or fields in order, stops.
 #[derive(Debug, Drop)]
 pub enum Stop {
-    /// The first fault.
+    /// A field has this fault, whatever bytes follow. The fault stands at that field's first byte, and the fields before it
+    /// have none.
     Refused(Refusal),
-    /// More bytes are owed.
+    /// The bytes that are there end inside a field, or before it, and some bytes after them may complete it: more are owed.
     Wants,
-    /// Memory ran out.
+    /// Memory ran out. This says nothing of the fields.
     NoMemory,
 }
 

@@ -1,6 +1,6 @@
 //! Numbers and names that were worked out by hand.
 
-use crate::{Fields, ReadAt, read_at};
+use crate::{Fed, Fields, Leb, ReadAt, read_at};
 use std::test::Fail;
 
 #[test]
@@ -62,5 +62,37 @@ fn names_and_runs_of_bytes_are_copied(rt: HostRuntime) -> Result<(), Fail> {
     assert_eq!(rt; at, 44);
     assert_eq!(rt; run.as_slice(), [0xFF, 0x00].as_slice());
     assert_eq!(rt; fields.byte()?, (47, 0x09));
+    Ok(())
+}
+
+/// What the last byte of a slice is told as, where those before it are unfinished.
+fn last_fed(bits: u32, signed: bool, bytes: &[u8]) -> Fed {
+    let mut last = Fed::More;
+    if bits < 1 || 64 < bits {
+        return last;
+    }
+    let mut leb = Leb::new(bits, signed);
+    for byte in bytes {
+        if last != Fed::More {
+            return last;
+        }
+        last = leb.feed(*byte);
+    }
+    last
+}
+
+#[test]
+fn numbers_are_fed_byte_by_byte(rt: HostRuntime) -> Result<(), Fail> {
+    let rows: [(&[u8], u32, bool, Fed); 6] = [
+        (&[0xE5, 0x8E, 0x26], 32, false, Fed::Done(624_485)),
+        (&[0xC0, 0xBB, 0x78], 32, true, Fed::Done(-123_456)),
+        (&[0xE5, 0x8E], 32, false, Fed::More),
+        (&[0x80, 0x80, 0x80, 0x80, 0x80], 32, false, Fed::Bad),
+        (&[0x87, 0x80, 0x80, 0x80, 0x10], 32, false, Fed::Bad),
+        (&[0x87, 0x80, 0x80, 0x80, 0x00], 32, false, Fed::Done(7)),
+    ];
+    for (bytes, bits, signed, want) in rows {
+        assert_eq!(rt; last_fed(bits, signed, bytes), want, "{bytes:?}");
+    }
     Ok(())
 }

@@ -9,5 +9,6 @@ overflow_cast-result c =
 pub returns : goal.returns
 returns c =
     let spelled = c.in_ok-at.ensures.spelled in
-    let e = signed_is c.in_ok-at.n c.args.bits c.requires.few_bits (signed_bounds c.in_ok-at.n c.args.bits spelled.0 spelled.1) in
-    rw e c.in_ok-at.ensures.read
+    let bounds = signed_bounds c.in_ok-at.n c.args.bits spelled.0 spelled.1 in
+    let e = signed_is c.in_ok-at.n c.args.bits c.requires.few_bits bounds in
+    rw e (record { read = c.in_ok-at.ensures.read; range = (bounds.least, bounds.most) })
