@@ -15,7 +15,7 @@ use Rattle.frame_layout.specs.Macros.{ra, s0, s5}
 use Rattle.frame_layout.specs.Slots.{link, need}
 use Rattle.frame_layout.specs.Laws.{slot_at, IsFrame, Enters}
 use Rattle.simulation.proofs.Arguments.{AreOf, among_both, among_zeros}
-use Rattle.simulation.proofs.Instructions.{types_length}
+use Rattle.simulation.proofs.Rules.{types_length}
 use Rattle.simulation.proofs.Values.{Holds, Locals, SameBeside, Matches}
 use Rattle.simulation.proofs.Words.{zero_word, modulus_positive}
 

@@ -1,15 +1,15 @@
 -- The number of a function's words, which depends on no distance.
 use Rattle.std.proofs.Common.{◌≡◌, ℕ, ◌+◌, List, [], ◌∷◌, ◌++◌, length, Some, None, refl, ap, ◌∙◌, arith}
 use Rattle.std.proofs.lemmas.List.{length-append}
-use Rattle.wasm_defs.specs.declared.types.ValType.TheVariants.{I32}
-use Rattle.wasm_defs.specs.declared.operation.Operation.TheVariants.{Binary}
-use Rattle.wasm_defs.specs.declared.operation.BinaryOp.TheVariants.{Add}
+use Rattle.wasm_defs.specs.declared.operation.Operation.{Operation}
+use Rattle.wasm_defs.specs.declared.operation.Operation.TheVariants.{Unary, Test, Binary, Compare, Convert}
+use Rattle.wasm_defs.specs.declared.operation.ConvertOp.TheVariants.{Wrap, ExtendS, ExtendU}
 use Rattle.wasm_defs.specs.declared.token.Plain.{Plain}
-use Rattle.wasm_defs.specs.declared.token.Plain.TheVariants.{LocalGet, Const, Operate}
+use Rattle.wasm_defs.specs.declared.token.Plain.TheVariants.{Nop, Discard, Select, LocalGet, LocalSet, LocalTee, Const, Operate}
 use Rattle.wasm_defs.specs.Trees.{Seq, Nothing, Simple, Block, Loop, If, IfElse}
 use Rattle.wasm_defs.specs.Typing.{Context, rule_of, inside}
 use Rattle.wasm_defs.specs.Places.{Place, after_rule}
-use Rattle.frame_layout.specs.Templates.{Label, Around, words, prologue, epilogue}
+use Rattle.frame_layout.specs.Templates.{Label, Around, operate_words, words, prologue, epilogue}
 use Rattle.frame_layout.specs.Functions.{label, size, code, body_place, body_size, body_code, function_code, function_size}
 use Rattle.simulation.specs.Straight.{IsStraightStep, IsStraight}
 
@@ -17,10 +17,24 @@ module _ (w : Around) (distance_to : ℕ → ℕ → ℕ) where
   abbrev far : Around
   far = record w { distance_to = distance_to }
 
+  operate_same : (h : ℕ) (op : Operation) → operate_words w h op ≡ operate_words far h op
+  operate_same h (Unary t op) = refl
+  operate_same h (Test t) = refl
+  operate_same h (Binary t op) = refl
+  operate_same h (Compare t op) = refl
+  operate_same h (Convert Wrap) = refl
+  operate_same h (Convert ExtendS) = refl
+  operate_same h (Convert ExtendU) = refl
+
   words_same : (c : Context) (labels others : List Label) (h here there : ℕ) (p : Plain) → IsStraightStep p → words w c labels h here p ≡ words far c others h there p
+  words_same c labels others h here there Nop step = refl
+  words_same c labels others h here there Discard step = refl
+  words_same c labels others h here there Select step = refl
   words_same c labels others h here there (LocalGet x) step = refl
-  words_same c labels others h here there (Const I32 n) step = refl
-  words_same c labels others h here there (Operate (Binary I32 Add)) step = refl
+  words_same c labels others h here there (LocalSet x) step = refl
+  words_same c labels others h here there (LocalTee x) step = refl
+  words_same c labels others h here there (Const t n) step = refl
+  words_same c labels others h here there (Operate op) step = operate_same h op
   words_same c labels others h here there p step = absurd step
 
   code_length : (c : Context) (labels others : List Label) (tree : Seq) (place : Place) (here : ℕ) → IsStraight tree → length (code w c labels place here tree) ≡ size far c others place tree

@@ -5,7 +5,13 @@ pub mod Steps
 pub mod Weights
 pub mod Values
 pub mod Puts
+pub mod Sets
+pub mod Rules
+pub mod Stores
 pub mod Instructions
+pub mod Variables
+pub mod Operations
+pub mod Outcomes
 pub mod Texts
 pub mod Chains
 pub mod Arguments
@@ -13,5 +19,7 @@ pub mod Entries
 pub mod Exits
 pub mod Replies
 pub mod Functions
+pub mod MacroRanges
+pub mod OperationRanges
 pub mod Ranges
 pub mod Lengths

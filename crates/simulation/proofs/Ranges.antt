@@ -1,71 +1,66 @@
 -- The fields of the operations that functions consist of fit their words.
-use Rattle.std.proofs.Common.{ℕ, zero, suc, ◌+◌, ◌-◌, ◌*◌, ◌/◌, ◌^◌, ◌<◌, List, [], ◌∷◌, ◌++◌, length, Some, None, arith}
+use Rattle.std.proofs.Common.{ℕ, zero, suc, ◌+◌, ◌-◌, ◌*◌, ◌^◌, ◌<◌, List, [], ◌∷◌, ◌++◌, length, Some, None, arith}
 use Rattle.rv_isa.specs.declared.operations.Op.{Op}
-use Rattle.rv_isa.specs.declared.operations.Op.TheVariants.{Jalr, Branch, Store, Imm, Reg, RegW}
+use Rattle.rv_isa.specs.declared.operations.Op.TheVariants.{Jalr, Branch, Store, Imm, Reg}
 use Rattle.rv_isa.specs.declared.operations.BranchOp.TheVariants.{Bne, Bgeu}
 use Rattle.rv_isa.specs.declared.operations.StoreOp.TheVariants.{Sd}
 use Rattle.rv_isa.specs.declared.operations.ImmOp.TheVariants.{Addi}
 use Rattle.rv_isa.specs.declared.operations.RegOp.TheVariants as reg
-use Rattle.rv_isa.specs.declared.operations.RegOpW.TheVariants.{Addw}
 use Rattle.rv_isa.specs.Words.{IsInRange}
 use Rattle.rv_isa.specs.Runs.{AllInRange}
-use Rattle.wasm_defs.specs.declared.types.ValType.TheVariants.{I32}
-use Rattle.wasm_defs.specs.declared.operation.Operation.TheVariants.{Binary}
-use Rattle.wasm_defs.specs.declared.operation.BinaryOp.TheVariants.{Add}
+use Rattle.wasm_defs.specs.declared.types.ValType.{ValType}
+use Rattle.wasm_defs.specs.declared.types.ValType.TheVariants.{I32, I64}
 use Rattle.wasm_defs.specs.declared.token.Plain.{Plain}
-use Rattle.wasm_defs.specs.declared.token.Plain.TheVariants.{LocalGet, Const, Operate}
+use Rattle.wasm_defs.specs.declared.token.Plain.TheVariants.{Nop, Discard, Select, LocalGet, LocalSet, LocalTee, Const, Operate}
 use Rattle.wasm_defs.specs.Trees.{Seq, Nothing, Simple, Block, Loop, If, IfElse}
 use Rattle.wasm_defs.specs.Typing.{Context, rule_of, inside}
 use Rattle.wasm_defs.specs.Places.{Place, after_rule}
 use Rattle.wasm_defs.specs.Values.{unsigned, word}
 use Rattle.frame_layout.specs.declared.layout.Layout.{Layout}
-use Rattle.frame_layout.specs.Macros.{x0, ra, t0, t1, s0, s5, forward, backward, trap, append_bits, const_32, load_slot, store_slot}
+use Rattle.frame_layout.specs.Macros.{x0, ra, t0, t1, s0, s5, forward, backward, trap, const_32, const_64, load_slot, store_slot}
 use Rattle.frame_layout.specs.Slots.{link, operand, need}
-use Rattle.frame_layout.specs.Templates.{Label, Around, words, room_words, zero_locals, prologue, result_words, epilogue, exit_stub}
+use Rattle.frame_layout.specs.Templates.{Label, Around, load_operand, store_operand, const_words, local_set_words, select_words, words, room_words, zero_locals, prologue, result_words, epilogue, exit_stub}
 use Rattle.frame_layout.specs.Functions.{label, code, body_place, body_size, body_code, function_code}
 use Rattle.simulation.specs.Straight.{IsStraightStep, IsStraight}
-
-pub both_in_range : (xs ys : List Op) → AllInRange xs → AllInRange ys → AllInRange (xs ++ ys)
-both_in_range [] ys h k = k
-both_in_range (x ∷ xs) ys h k = (h.0, both_in_range xs ys h.1 k)
-
--- ---- macros
-
-load_in_range : (r k : ℕ) → r < 2 ^ 5 → AllInRange (load_slot r k)
-unfolding IsInRange
-load_in_range r k small = ((small, omega arith), ((small, small, omega arith), ((small, small, omega arith), tt)))
-
-store_in_range : (r k : ℕ) → r < 2 ^ 5 → AllInRange (store_slot r k)
-unfolding IsInRange
-store_in_range r k small = ((omega arith, omega arith), ((omega arith, omega arith, omega arith), ((omega arith, small, omega arith), tt)))
-
-bits_in_range : (r bits : ℕ) → r < 2 ^ 5 → AllInRange (append_bits r bits)
-unfolding IsInRange
-bits_in_range r bits small = ((small, small, omega arith), ((small, small, omega arith), tt))
-
-const_in_range : (r v : ℕ) → r < 2 ^ 5 → AllInRange (const_32 r v)
-unfolding IsInRange
-const_in_range r v small =
-    ((small, omega arith, omega arith), both_in_range (append_bits r (v / 2 ^ 11)) (append_bits r v) (bits_in_range r (v / 2 ^ 11) small) (bits_in_range r v small))
+use Rattle.simulation.proofs.MacroRanges.{both_in_range, load_in_range, store_in_range, const_in_range, const_64_in_range}
+use Rattle.simulation.proofs.OperationRanges.{operation_in_range}
 
 -- ---- instructions
 
-add_word_in_range : AllInRange (RegW Addw t0 t0 t1 ∷ [])
-unfolding IsInRange
-add_word_in_range = ((omega arith, omega arith, omega arith), tt)
+module _ (w : Around) where
+  set_in_range : (h x : ℕ) → AllInRange (local_set_words w h x)
+  set_in_range h x =
+      both_in_range (load_operand w t0 (h - 1)) (store_slot t0 x) (load_in_range t0 (operand w.layout (h - 1)) (omega arith)) (store_in_range t0 x (omega arith))
 
-words_in_range : (w : Around) (c : Context) (labels : List Label) (h here : ℕ) (p : Plain) → IsStraightStep p → AllInRange (words w c labels h here p)
-words_in_range w c labels h here (LocalGet x) step =
-    both_in_range (load_slot t0 x) (store_slot t0 (operand w.layout h)) (load_in_range t0 x (omega arith)) (store_in_range t0 (operand w.layout h) (omega arith))
-words_in_range w c labels h here (Const I32 n) step =
-    both_in_range (const_32 t0 (word I32 (unsigned I32 n))) (store_slot t0 (operand w.layout h)) (const_in_range t0 (word I32 (unsigned I32 n)) (omega arith)) (store_in_range t0 (operand w.layout h) (omega arith))
-words_in_range w c labels h here (Operate (Binary I32 Add)) step =
-    let low = store_slot t0 (operand w.layout (h - 2)) in
-    let sum = RegW Addw t0 t0 t1 ∷ [] in
-    both_in_range (load_slot t0 (operand w.layout (h - 2))) (load_slot t1 (operand w.layout (h - 1)) ++ (sum ++ low)) (load_in_range t0 (operand w.layout (h - 2)) (omega arith)) (
-    both_in_range (load_slot t1 (operand w.layout (h - 1))) (sum ++ low) (load_in_range t1 (operand w.layout (h - 1)) (omega arith)) (
-    both_in_range sum low add_word_in_range (store_in_range t0 (operand w.layout (h - 2)) (omega arith))))
-words_in_range w c labels h here p step = absurd step
+  test_in_range : AllInRange (Branch Bne t0 x0 (forward 28) ∷ [])
+  unfolding IsInRange
+  test_in_range = ((omega arith, omega arith, omega arith), tt)
+
+  select_in_range : (h : ℕ) → AllInRange (select_words w h)
+  select_in_range h =
+      let test : List Op = Branch Bne t0 x0 (forward 28) ∷ [] in
+      let moves = load_operand w t0 (h - 2) ++ store_operand w t0 (h - 3) in
+      both_in_range (load_operand w t0 (h - 1)) (test ++ moves) (load_in_range t0 (operand w.layout (h - 1)) (omega arith)) (
+      both_in_range test moves test_in_range (
+      both_in_range (load_operand w t0 (h - 2)) (store_operand w t0 (h - 3)) (load_in_range t0 (operand w.layout (h - 2)) (omega arith)) (store_in_range t0 (operand w.layout (h - 3)) (omega arith))))
+
+  constant_in_range : (h : ℕ) (t : ValType) (n : ℕ) → AllInRange (const_words w h t n)
+  constant_in_range h I32 n =
+      both_in_range (const_32 t0 (word I32 n)) (store_operand w t0 h) (const_in_range t0 (word I32 n) (omega arith)) (store_in_range t0 (operand w.layout h) (omega arith))
+  constant_in_range h I64 n =
+      both_in_range (const_64 t0 n) (store_operand w t0 h) (const_64_in_range t0 n (omega arith)) (store_in_range t0 (operand w.layout h) (omega arith))
+
+  words_in_range : (c : Context) (labels : List Label) (h here : ℕ) (p : Plain) → IsStraightStep p → AllInRange (words w c labels h here p)
+  words_in_range c labels h here Nop step = tt
+  words_in_range c labels h here Discard step = tt
+  words_in_range c labels h here Select step = select_in_range h
+  words_in_range c labels h here (LocalGet x) step =
+      both_in_range (load_slot t0 x) (store_operand w t0 h) (load_in_range t0 x (omega arith)) (store_in_range t0 (operand w.layout h) (omega arith))
+  words_in_range c labels h here (LocalSet x) step = set_in_range h x
+  words_in_range c labels h here (LocalTee x) step = set_in_range h x
+  words_in_range c labels h here (Const t n) step = constant_in_range h t (unsigned t n)
+  words_in_range c labels h here (Operate op) step = operation_in_range w h op
+  words_in_range c labels h here p step = absurd step
 
 code_in_range : (w : Around) (c : Context) (labels : List Label) (tree : Seq) (place : Place) (here : ℕ) → IsStraight tree → AllInRange (code w c labels place here tree)
 code_in_range w c labels tree None here straight = tt

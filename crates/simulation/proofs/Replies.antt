@@ -1,10 +1,11 @@
 -- What the environment answers at a function's end, and at a trap.
-use Rattle.std.proofs.Common.{◌≡◌, ℕ, ◌*◌, ◌/◌, ◌==◌, List, [], length, take, Some, sym, ap, ◌∙◌, arith}
+use Rattle.std.proofs.Common.{◌≡◌, ℕ, ◌*◌, ◌/◌, ◌==◌, List, [], length, take, Some, refl, sym, ap, ◌∙◌, arith}
 use Rattle.std.proofs.lemmas.Bool.{cond-true, cond-false, eq-eqb, ne_eqb}
 use Rattle.rv_isa.specs.Steps.{State, reg}
 use Rattle.wasm_defs.specs.declared.types.ValType.{ValType}
 use Rattle.wasm_defs.specs.declared.value.TrapKind.{TrapKind}
-use Rattle.wasm_defs.specs.Values.{Value, trap_of}
+use Rattle.wasm_defs.specs.declared.value.TrapKind.TheVariants.{Unreachable, DivideByZero, Overflow, MemoryBounds, UndefinedElement, UninitializedElement, TypeMismatch, StackExhausted}
+use Rattle.wasm_defs.specs.Values.{Value, trap_number, trap_of}
 use Rattle.wasm_defs.specs.ModuleRun.{Returns, Traps}
 use Rattle.frame_layout.specs.Macros.{a0, a7}
 use Rattle.image_format.specs.declared.image.Image.{Image}
@@ -12,6 +13,16 @@ use Rattle.image_format.specs.Environment.{Entry, words_at}
 use Rattle.image_format.specs.ImageRun.{Running, Ended, results_at, memory_of, globals_of, finish, trapped, environment}
 use Rattle.simulation.proofs.Values.{SameBeside}
 use Rattle.simulation.proofs.Steps.{with_machine}
+
+pub trap_is : (kind : TrapKind) → trap_of (trap_number kind) ≡ Some kind
+trap_is Unreachable = refl
+trap_is DivideByZero = refl
+trap_is Overflow = refl
+trap_is MemoryBounds = refl
+trap_is UndefinedElement = refl
+trap_is UninitializedElement = refl
+trap_is TypeMismatch = refl
+trap_is StackExhausted = refl
 
 module _ (image : Image) (r : Running) (t : State) where
   abbrev now : Running

@@ -1,16 +1,14 @@
--- Functions whose bodies are chains of the instructions that are compiled so far: `local.get`, `i32.const` and `i32.add`.
+-- Functions whose bodies are chains of instructions that neither branch nor call and use no memory and no globals: numeric,
+-- parametric and local ones, and `nop` (WebAssembly Core 1.0, 2.4.1 to 2.4.3 and 2.4.5).
 use Rattle.std.specs.Prelude.{◌≡◌, ℕ, ◌^◌, ◌<◌, ◌≤◌, true, List, [], ◌++◌, length, reverse, Some, slice_get}
 use Rattle.rv_isa.specs.Steps.{reg, text_base}
 use Rattle.rv_isa.specs.Runs.{place}
-use Rattle.wasm_defs.specs.declared.types.ValType.TheVariants.{I32}
-use Rattle.wasm_defs.specs.declared.operation.Operation.TheVariants.{Binary}
-use Rattle.wasm_defs.specs.declared.operation.BinaryOp.TheVariants.{Add}
 use Rattle.wasm_defs.specs.declared.token.Plain.{Plain}
-use Rattle.wasm_defs.specs.declared.token.Plain.TheVariants.{LocalGet, Const, Operate}
+use Rattle.wasm_defs.specs.declared.token.Plain.TheVariants.{Nop, Discard, Select, LocalGet, LocalSet, LocalTee, Const, Operate}
 use Rattle.wasm_defs.specs.Trees.{Seq, Nothing, Simple, Block, Loop, If, IfElse}
 use Rattle.wasm_defs.specs.Typing.{Context, IsBody}
 use Rattle.wasm_defs.specs.Places.{places_of, greatest}
-use Rattle.wasm_defs.specs.Values.{Value, unsigned, word_of, words_of}
+use Rattle.wasm_defs.specs.Values.{Value, modulus, unsigned, word_of, words_of}
 use Rattle.wasm_defs.specs.Host.{are_of}
 use Rattle.wasm_defs.specs.Configurations.{Func, Store}
 use Rattle.frame_layout.specs.declared.layout.Layout.{Layout}
@@ -21,9 +19,14 @@ use Rattle.image_format.specs.ImageRun.{Running, memory_of, globals_of}
 
 -- a constant is one of its type
 abbrev pub IsStraightStep : Plain → Type 0
+IsStraightStep Nop = Unit {0}
+IsStraightStep Discard = Unit {0}
+IsStraightStep Select = Unit {0}
 IsStraightStep (LocalGet x) = Unit {0}
-IsStraightStep (Const I32 n) = unsigned I32 n < 2 ^ 32
-IsStraightStep (Operate (Binary I32 Add)) = Unit {0}
+IsStraightStep (LocalSet x) = Unit {0}
+IsStraightStep (LocalTee x) = Unit {0}
+IsStraightStep (Const t n) = unsigned t n < modulus t
+IsStraightStep (Operate op) = Unit {0}
 IsStraightStep p = ⊥
 
 abbrev pub IsStraight : Seq → Type 0

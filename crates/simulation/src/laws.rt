@@ -2,8 +2,8 @@
 //! `specs/Laws.antt` states.
 ghost use Rattle.simulation.specs.Laws.{StraightFunctionsRunAlike};
 
-/// A function whose body is a chain of the instructions that are compiled so far does on the machine what it does by the
-/// reduction rules, where it is called from outside.
+/// A function whose body is a chain of numeric, parametric and local instructions does on the machine what it does by the
+/// reduction rules, where it is called from outside: it returns the same values, or traps in the same way.
 pub fn straight_functions_run_alike()
     ensures { StraightFunctionsRunAlike }
 {}
