@@ -1,22 +1,19 @@
 -- The words of a body's tokens are the body's code.
-use Rattle.std.proofs.Common.{◌≡◌, ℕ, ◌+◌, Bool, true, false, List, [], ◌∷◌, ◌++◌, Option, None, Some, length, refl, sym, ap, ◌∙◌, append_assoc}
+use Rattle.std.proofs.Common.{◌≡◌, ℕ, ◌+◌, true, List, [], ◌∷◌, ◌++◌, Option, None, Some, length, refl, sym, ap, ◌∙◌, append_assoc}
 use Rattle.std.proofs.lemmas.Bool.{and_parts}
 use Rattle.std.proofs.lemmas.List.{append-nil}
 use Rattle.rv_isa.specs.declared.operations.Op.{Op}
-use Rattle.wasm_defs.specs.declared.operation.BinaryOp.TheVariants.{Add}
-use Rattle.wasm_defs.specs.declared.operation.Operation.TheVariants.{Binary}
 use Rattle.wasm_defs.specs.declared.token.Plain.{Plain}
-use Rattle.wasm_defs.specs.declared.token.Plain.TheVariants.{LocalGet, Const, Operate}
+use Rattle.wasm_defs.specs.declared.token.Plain.TheVariants.{Nop, Discard, Select, LocalGet, LocalSet, LocalTee, Const, Operate}
 use Rattle.wasm_defs.specs.declared.token.Token.{Token}
 use Rattle.wasm_defs.specs.declared.token.Token.TheVariants as token
-use Rattle.wasm_defs.specs.declared.types.ValType.TheVariants.{I32}
 use Rattle.wasm_defs.specs.Typing.{Context, inside, Rule, Untyped, Fixed, Stops, Discards, Selects, IsBody, rule_of}
 use Rattle.wasm_defs.specs.Trees.{Seq, Nothing, Simple, Block, Loop, If, IfElse, spelled, Tree}
-use Rattle.wasm_defs.specs.Places.{Place, after_rule, end_of, places, places_of}
+use Rattle.wasm_defs.specs.Places.{Place, after_rule, end_of, places}
 use Rattle.wasm_laws.specs.Straight.{is_straight_plain, is_straight}
-use Rattle.body_validator.specs.Checking.{Frames, ◌>>=◌, step, run, start, place_of}
+use Rattle.body_validator.specs.Checking.{Frames, step, run, start, place_of}
 use Rattle.body_validator.proofs.Options.{through, some_inside}
-use Rattle.body_validator.proofs.Complete.{Observed, see, on, observe, body_observed}
+use Rattle.body_validator.proofs.Complete.{Observed, on, observe, body_observed}
 use Rattle.frame_layout.specs.Templates.{Label, Around, words}
 use Rattle.frame_layout.specs.Functions.{label, code, body_place, body_size, body_code}
 use Rattle.body_compiler.specs.Emitted.{token_words, emitted}
@@ -61,9 +58,14 @@ emitted-rows w c (t ∷ ts) fs = ap (λ (l : List Op). token_words w (inside c c
 
 -- straight instructions don't look at labels and places
 same_words : (w : Around) (c : Context) (labels : List Label) (h here : ℕ) (p : Plain) → is_straight_plain p ≡ true → words w c [] h 0 p ≡ words w c labels h here p
+same_words w c labels h here Nop s = refl
+same_words w c labels h here Discard s = refl
+same_words w c labels h here Select s = refl
 same_words w c labels h here (LocalGet x) s = refl
-same_words w c labels h here (Const I32 n) s = refl
-same_words w c labels h here (Operate (Binary I32 Add)) s = refl
+same_words w c labels h here (LocalSet x) s = refl
+same_words w c labels h here (LocalTee x) s = refl
+same_words w c labels h here (Const t n) s = refl
+same_words w c labels h here (Operate op) s = refl
 same_words w c labels h here _ s = absurd cc
 
 dead_after : (r : Rule) → after_rule r None ≡ None

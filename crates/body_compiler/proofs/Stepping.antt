@@ -1,16 +1,14 @@
 -- The compiling of a body's code goes on, or ends.
-use Rattle.std.proofs.Common.{◌≡◌, ◌≤◌, ◌<◌, ℕ, suc, ◌+◌, ◌*◌, ◌⊎◌, inl, inr, Bool, true, false, List, [], ◌∷◌, ◌++◌, map, drop, length, None, Some, Option, Result, Ok, Err, refl, sym, ap, ◌∙◌, subst, arith, append_assoc, length-append}
+use Rattle.std.proofs.Common.{◌≡◌, ◌≤◌, ◌<◌, ℕ, ◌+◌, inl, inr, Bool, true, false, List, [], ◌∷◌, ◌++◌, map, drop, length, Some, Ok, Err, refl, sym, ap, ◌∙◌, subst, arith, append_assoc}
 use Rattle.std.proofs.lemmas.List.{map-append}
 use Rattle.std.proofs.lemmas.List.Elements.{All-drop}
 use Rattle.std.proofs.Math.Seq.{drop-append_seam}
-use Rattle.std.specs.Prelude.{OnOk}
 use Rattle.rv_isa.specs.declared.operations.Op.{Op}
 use Rattle.rv_isa.specs.Words.{word_of}
-use Rattle.wasm_defs.specs.declared.fault.Kind.TheVariants.{Malformed}
 use Rattle.wasm_defs.specs.declared.token.Token.{Token}
 use Rattle.wasm_defs.specs.Bodies.{Spelled, instruction}
 use Rattle.wasm_defs.specs.Fields.{Cursor, Read, Got, byte}
-use Rattle.wasm_defs.specs.Faults.{tokens_of, IsValidCode, unsupported_at}
+use Rattle.wasm_defs.specs.Faults.{tokens_of}
 use Rattle.wasm_defs.specs.Places.{Place, places_of, greatest}
 use Rattle.wasm_defs.specs.Supported.{is_compiled_opcode}
 use Rattle.wasm_defs.specs.Trees.{Seq, Tree}
@@ -32,10 +30,10 @@ use Rattle.frame_layout.specs.declared.layout.Layout.{Layout}
 use Rattle.frame_layout.specs.Templates.{Around}
 use Rattle.body_compiler.specs.declared.code.BodyStop.{BodyStop}
 use Rattle.body_compiler.specs.Emitted.{taken, token_words, emitted, SharesSlots}
-use Rattle.body_compiler.specs.Going.{IsGoing, IsCompiling, IsWithin, IsOne, Goes, Judges, Taken}
+use Rattle.body_compiler.specs.Going.{IsGoing, IsCompiling, IsWithin, Goes, Judges, Taken}
 use Rattle.body_compiler.proofs.Emission.{emitted-more}
-use Rattle.body_compiler.proofs.Going.{IsByte, byte_is, Later, goes_behind, ends_behind, is_valid, all_tokens}
-use Rattle.body_compiler.proofs.Lifting.{Lifts, CheckerLifts, checker_lifts}
+use Rattle.body_compiler.proofs.Going.{byte_is, goes_behind, ends_behind, is_valid, all_tokens}
+use Rattle.body_compiler.proofs.Lifting.{CheckerLifts, checker_lifts}
 
 -- ---- what an opcode that is compiled spells
 

@@ -1,5 +1,5 @@
 -- A whole body's words.
-use Rattle.std.proofs.Common.{◌≡◌, ◌≤◌, ℕ, ◌+◌, List, [], ◌∷◌, ◌++◌, map, length, Some, Result, Ok, Err, refl, sym, ap, ◌∙◌, subst, arith}
+use Rattle.std.proofs.Common.{◌≡◌, ℕ, List, [], ◌++◌, map, length, Some, Result, Ok, Err, refl, sym, ap, ◌∙◌, subst}
 use Rattle.std.proofs.lemmas.List.{append-nil, map-append, length-reverse}
 use Rattle.rv_isa.specs.declared.compiled.Code.{Code}
 use Rattle.rv_isa.specs.declared.operations.Op.{Op}
@@ -7,7 +7,7 @@ use Rattle.rv_isa.specs.Words.{word_of}
 use Rattle.wasm_defs.specs.declared.token.Token.{Token}
 use Rattle.wasm_defs.specs.Bodies.{Spelled, body_read}
 use Rattle.wasm_defs.specs.Context.{declared_types, type_of_function}
-use Rattle.wasm_defs.specs.Faults.{tokens_of, IsValidCode}
+use Rattle.wasm_defs.specs.Faults.{tokens_of}
 use Rattle.wasm_defs.specs.Places.{places_of, greatest}
 use Rattle.wasm_defs.specs.Fields.{Cursor}
 use Rattle.wasm_defs.specs.Trees.{Seq, Tree}
@@ -18,7 +18,6 @@ use Rattle.body_validator.specs.Checks.{Checked, IsReached}
 use Rattle.frame_layout.specs.declared.layout.Layout.{Layout}
 use Rattle.frame_layout.specs.Slots.{need}
 use Rattle.frame_layout.specs.Templates.{Around, prologue, epilogue}
-use Rattle.frame_layout.specs.Functions.{body_code, function_code}
 use Rattle.body_compiler.specs.declared.code.BodyStop.{BodyStop}
 use Rattle.body_compiler.specs.declared.code.BodyStop.TheVariants.{Refused, NoMemory}
 use Rattle.body_compiler.specs.Compiling.{Compiles, context_of_body, layout_of}

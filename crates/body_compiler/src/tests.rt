@@ -147,7 +147,7 @@ fn bodies_are_judged(rt: HostRuntime) -> Result<(), Fail> {
             refused(38, Kind::Malformed),
         ),
         (&[0x00, 0x20, 0x00], refused(36, Kind::Malformed)),
-        (&[0x00, 0x42, 0x00, 0x0B], refused(35, Kind::Unsupported)),
+        (&[0x00, 0x23, 0x00, 0x0B], refused(35, Kind::Unsupported)),
         (
             &[0x01, 0xD1, 0x86, 0x03, 0x7F, 0x0B],
             refused(35, Kind::Limit),

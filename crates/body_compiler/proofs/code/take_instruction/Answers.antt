@@ -1,7 +1,7 @@
 use Rattle.std.proofs.Common.{◌≡◌, ◌∙◌, true, sym, ap, arith}
 use Rattle.wasm_defs.specs.Faults.{tokens_of}
 use Rattle.wasm_defs.specs.Supported.{is_compiled_opcode}
-use Rattle.body_compiler.proofs.Going.{on_any, instruction_shrinks, refused_token, faulty_instruction, cut_instruction}
+use Rattle.body_compiler.proofs.Going.{instruction_shrinks, refused_token, faulty_instruction, cut_instruction}
 use Rattle.body_compiler.proofs.Stepping.{taken_is_compiled, Fits, token_fits, within_token, compiles_behind, stops_behind}
 use Rattle.body_compiler.proofs.code.take_instruction.Goals as goal
 

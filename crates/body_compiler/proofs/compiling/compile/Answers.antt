@@ -1,9 +1,8 @@
-use Rattle.std.proofs.Common.{◌+◌, ◌≡◌, ℕ, length, sym, ap, subst, arith}
+use Rattle.std.proofs.Common.{◌+◌, ◌≡◌, length, sym, ap, subst, arith}
 use Rattle.wasm_defs.specs.declared.types.FuncType.{FuncType}
-use Rattle.wasm_defs.specs.Bodies.{body_read, body_cursor, last_of}
+use Rattle.wasm_defs.specs.Bodies.{body_read, last_of}
 use Rattle.wasm_defs.specs.Context.{body_context, type_or_empty, type_of_function}
 use Rattle.index_spaces.specs.Spaces.{context_in}
-use Rattle.body_compiler.specs.Compiling.{Compiles}
 use Rattle.body_compiler.specs.Making.{Makes}
 use Rattle.body_compiler.proofs.Beginning.{bytes_are, code_within, code_begins, groups_are, locals_stop}
 use Rattle.body_compiler.proofs.Whole.{made}

@@ -1,12 +1,9 @@
-use Rattle.std.proofs.Common.{◌≡◌, ◌+◌, ◌≤◌, ℕ, List, [], length, map, Ok, Err, sym, ap, ◌∙◌, subst, arith}
+use Rattle.std.proofs.Common.{◌≡◌, List, length, map, Ok, sym, ap, ◌∙◌, subst, arith}
 use Rattle.rv_isa.specs.Words.{word_of}
 use Rattle.wasm_defs.specs.declared.types.ValType.{ValType}
-use Rattle.wasm_defs.specs.Bodies.{Spelled}
-use Rattle.wasm_defs.specs.Typing.{Context}
 use Rattle.frame_layout.specs.declared.layout.Layout.{Layout}
 use Rattle.frame_layout.specs.Slots.{link}
 use Rattle.frame_layout.specs.Templates.{prologue}
-use Rattle.body_compiler.specs.Making.{Makes}
 use Rattle.body_compiler.specs.Going.{Judges}
 use Rattle.body_compiler.proofs.Stepping.{counted}
 use Rattle.body_compiler.proofs.Whole.{Finishes, started, makes, stopped_makes}
