@@ -1,39 +1,40 @@
--- An image without memory, globals and table, where a function is called from outside.
-use Rattle.std.proofs.Common.{◌≡◌, ℕ, ◌+◌, ◌*◌, ◌/◌, ◌^◌, ◌<◌, ◌≤◌, true, List, [], length, replicate, take, Some, refl, sym, ap, ◌∙◌, arith}
+-- An image that writes nothing into its memory, where a function is called from outside.
+use Rattle.std.proofs.Common.{◌≡◌, ℕ, ◌+◌, ◌*◌, ◌^◌, ◌<◌, ◌≤◌, true, List, [], length, replicate, take, Some, refl, sym, ap, ◌∙◌, arith}
 use Rattle.std.specs.Prelude.{slice_get, option_map}
-use Rattle.std.proofs.lemmas.List.{length-map, length-replicate}
+use Rattle.std.proofs.lemmas.List.{length-map, length-replicate, take-replicate}
 use Rattle.std.proofs.lemmas.Option.{slice_get-map}
 use Rattle.rv_isa.specs.declared.stepping.Region.TheVariants.{Stack, Globals, Table, Memory}
 use Rattle.rv_isa.specs.Runs.{FitWindows}
-use Rattle.wasm_defs.specs.Limits.{max_params}
+use Rattle.wasm_defs.specs.Limits.{max_entries, max_params, max_table, max_pages}
 use Rattle.wasm_defs.specs.Memory.{page}
 use Rattle.wasm_defs.specs.Values.{Value, word_of, words_of}
 use Rattle.wasm_defs.specs.Host.{Reply, are_of}
 use Rattle.wasm_defs.specs.Configurations.{Func, Store}
 use Rattle.wasm_defs.specs.Instances.{all_over}
 use Rattle.image_format.specs.declared.image.Image.{Image}
-use Rattle.image_format.specs.declared.image.Row.{Row}
 use Rattle.image_format.specs.declared.image.Segment.{Segment}
-use Rattle.image_format.specs.Environment.{stack_size, word_at, with_words, word_bytes, words_at, row_words, segments_of, loaded}
+use Rattle.image_format.specs.Environment.{stack_size, word_at, with_words, row_words, segments_of, loaded}
 use Rattle.image_format.specs.ImageRun.{Running, begin}
 use Rattle.simulation.specs.Straight.{IsCalled}
 use Rattle.simulation.proofs.Arguments.{are_of_types}
-use Rattle.simulation.proofs.Instructions.{types_length}
+use Rattle.simulation.proofs.Rules.{types_length}
 use Rattle.simulation.proofs.Words.{word_small}
 use Rattle.image_linker.proofs.Arguments.{with_words_length, with_words_at}
+use Rattle.image_linker.proofs.Regions.{AreWords, word_bytes_length, row_words_length, words_are_read}
 
--- an image of nothing but text and what may be called
-pub record IsBare (i : Image) : Type 0 where
-  pub globals : i.globals ≡ []
-  pub table : i.table ≡ []
-  pub pages : i.pages ≡ 0
-  pub cap : i.cap ≡ 0
+-- an image whose regions keep their limits, and that writes nothing into its memory
+pub record IsSmall (i : Image) : Type 0 where
+  pub globals : length i.globals ≤ max_entries
+  pub table : length i.table ≤ max_table
+  pub pages : i.pages ≤ i.cap
+  pub cap : i.cap ≤ max_pages
   pub segments : i.segments ≡ []
+  pub words : AreWords i.globals
 
--- a store of nothing but replies
-pub record IsEmpty (store : Store) : Type 0 where
-  pub memory : store.memory ≡ []
-  pub globals : store.globals ≡ []
+-- a store as the image begins with: a memory of zeros, and the values that the globals' words hold
+pub record IsFirst (i : Image) (store : Store) : Type 0 where
+  pub memory : store.memory ≡ replicate (page * i.pages) 0
+  pub globals : words_of store.globals ≡ i.globals
   pub calls : store.calls ≡ []
 
 -- the words of arguments in the first slots of a stack
@@ -48,25 +49,21 @@ module _ (stack : List ℕ) (size : length stack ≡ stack_size) (arguments : Li
       ap (λ (n : ℕ). word_at (with_words stack 0 (words_of arguments)) n) here
       ∙ with_words_at (words_of arguments) stack 0 k (word_of v) (omega (arith, length-map arguments word_of)) word (ranges k v is)
 
-module _ (i : Image) (bare : IsBare i) where
-  globals_none : word_bytes i.globals ≡ []
-  globals_none = ap word_bytes bare.globals
-
-  table_none : word_bytes (row_words i.table) ≡ []
-  table_none = ap (λ (rows : List Row). word_bytes (row_words rows)) bare.table
-
-  memory_none : all_over (replicate (page * i.cap) 0) (segments_of i.segments) ≡ []
-  memory_none =
-      ap (λ (n : ℕ). all_over (replicate (page * n) 0) (segments_of i.segments)) bare.cap
-      ∙ ap (λ (ss : List Segment). all_over (replicate (page * 0) 0) (segments_of ss)) bare.segments
+module _ (i : Image) (small : IsSmall i) where
+  memory_is : all_over (replicate (page * i.cap) 0) (segments_of i.segments) ≡ replicate (page * i.cap) 0
+  memory_is = ap (λ (ss : List Segment). all_over (replicate (page * i.cap) 0) (segments_of ss)) small.segments
 
   short_windows : (stack : List ℕ) → length stack ≡ stack_size → FitWindows (record (loaded i) { stack = stack })
   short_windows stack size Stack = omega (arith, size)
-  short_windows stack size Globals = omega (arith, ap length globals_none)
-  short_windows stack size Table = omega (arith, ap length table_none)
-  short_windows stack size Memory = omega (arith, ap length memory_none)
+  short_windows stack size Globals = omega (arith, word_bytes_length i.globals, small.globals)
+  short_windows stack size Table = omega (arith, word_bytes_length (row_words i.table), row_words_length i.table, small.table)
+  short_windows stack size Memory = omega (arith, ap (λ (l : List ℕ). length l) memory_is, length-replicate {A = ℕ} (page * i.cap) 0, small.cap)
 
-  module _ (f : Func) (at : ℕ) (store : Store) (arguments : List Value) (replies : List Reply) (are : are_of f.ty.params arguments ≡ true) (few : length f.ty.params ≤ max_params) (empty : IsEmpty store) where
+  -- so many pages of it
+  first_pages : take (page * i.pages) (all_over (replicate (page * i.cap) 0) (segments_of i.segments)) ≡ replicate (page * i.pages) 0
+  first_pages = ap (λ (l : List ℕ). take (page * i.pages) l) memory_is ∙ take-replicate (page * i.pages) (page * i.cap) 0 (omega (arith, small.pages))
+
+  module _ (f : Func) (at : ℕ) (store : Store) (arguments : List Value) (replies : List Reply) (are : are_of f.ty.params arguments ≡ true) (few : length f.ty.params ≤ max_params) (first : IsFirst i store) where
     abbrev running : Running
     running = begin i replies (record { offset = 4 * at; arguments = arguments }, f.ty.results) []
 
@@ -95,7 +92,7 @@ module _ (i : Image) (bare : IsBare i) where
           stand = slots_are (replicate stack_size 0) size arguments few_arguments ranges;
           results = refl;
           no_more = refl;
-          calls = sym empty.calls;
-          memory = ap (λ (p : ℕ). take (page * p) (all_over (replicate (page * i.cap) 0) (segments_of i.segments))) bare.pages ∙ sym empty.memory;
-          globals = ap (λ (g : List ℕ). words_at g 0 (length g / 8)) globals_none ∙ sym (ap words_of empty.globals);
+          calls = sym first.calls;
+          memory = first_pages ∙ sym first.memory;
+          globals = words_are_read i.globals small.words ∙ sym first.globals;
         }

@@ -1,27 +1,61 @@
--- What isn't there in a module of what is compiled so far: stubs of imports, rows of a table, and pages of a memory.
-use Rattle.std.proofs.Common.{◌≡◌, ℕ, List, [], ◌∷◌, refl, ap}
-use Rattle.std.proofs.lemmas.Bool.{false≢true}
+-- What a plain module's items come to in its image: no stubs of imports, and words of its globals' constants.
+use Rattle.std.proofs.Common.{◌≡◌, ℕ, suc, ◌-◌, ◌^◌, ◌<◌, List, [], ◌∷◌, map, refl, ap, arith, ℤ, pos}
+use Rattle.std.specs.Prelude.{negsuc}
+use Rattle.std.specs.Int.{w64, cast_unsigned}
+use Rattle.std.proofs.lemmas.Bool.{false≢true, lt-ltb, le-ltb}
+use Rattle.wasm_defs.specs.declared.context.GlobalType.{GlobalType}
 use Rattle.wasm_defs.specs.declared.item.Item.{Item}
-use Rattle.wasm_defs.specs.declared.item.Item.TheVariants.{Signature, Function, Exported, Code}
+use Rattle.wasm_defs.specs.declared.item.Item.TheVariants.{Signature, Function, Table, Memory, Global, Exported, Code}
+use Rattle.wasm_defs.specs.declared.types.ValType.{ValType}
+use Rattle.wasm_defs.specs.declared.types.ValType.TheVariants.{I32, I64}
+use Rattle.wasm_defs.specs.Context.{globals_of}
+use Rattle.wasm_defs.specs.Instances.{values_of}
 use Rattle.wasm_defs.specs.Typing.{Context}
-use Rattle.wasm_defs.specs.Instances.{rows_of, pages_of, cap_of, first_minimum, first_cap}
+use Rattle.wasm_defs.specs.Values.{modulus, unsigned, word, words_of}
+use Rattle.wasm_laws.specs.Kept.{FitsType, ConstantsFit}
 use Rattle.wasm_laws.specs.Plain.{ArePlain}
-use Rattle.wasm_laws.proofs.Plain.{plain_has_no_more}
+use Rattle.wasm_laws.proofs.Ranges.{constant_fits, long_constant_fits}
+use Rattle.index_spaces.specs.Entries.{initials_of, initial_values}
+use Rattle.simulation.proofs.Words.{word_small}
 use Rattle.image_linker.specs.ImageOf.{stubs_from}
+use Rattle.image_linker.specs.Linking.{NumbersFit}
+use Rattle.image_linker.proofs.Regions.{AreWords}
 
 pub no_stubs : (c : Context) (number : ℕ) (items : List Item) → ArePlain items → stubs_from c number items ≡ []
 no_stubs c number [] h = refl
 no_stubs c number (Signature form params results ty ∷ items) h = no_stubs c number items h.1
 no_stubs c number (Function index ∷ items) h = no_stubs c number items h.1
+no_stubs c number (Table element limits ∷ items) h = no_stubs c number items h.1
+no_stubs c number (Memory limits ∷ items) h = no_stubs c number items h.1
+no_stubs c number (Global ty mutable init ∷ items) h = no_stubs c number items h.1
 no_stubs c number (Exported name kind index ∷ items) h = no_stubs c number items h.1
 no_stubs c number (Code count end ∷ items) h = no_stubs c number items h.1
 no_stubs c number (x ∷ items) h = absurd (false≢true h.0)
 
-pub no_rows : (items : List Item) → ArePlain items → rows_of items ≡ 0
-no_rows items h = ap first_minimum (plain_has_no_more items h).tables
+-- ---- the constants of globals
 
-pub no_pages : (items : List Item) → ArePlain items → pages_of items ≡ 0
-no_pages items h = ap first_minimum (plain_has_no_more items h).memories
+pub numbers_fit : (items : List Item) → ConstantsFit items → NumbersFit (globals_of items) (initials_of items)
+numbers_fit [] h = tt
+numbers_fit (Global ty mutable init ∷ items) h = (h.0, numbers_fit items h.1)
+numbers_fit (x ∷ items) h = numbers_fit items h
 
-pub no_cap : (items : List Item) → ArePlain items → cap_of items ≡ 0
-no_cap items h = ap first_cap (plain_has_no_more items h).memories
+fits_is_small : (t : ValType) (n : ℤ) → FitsType t n → unsigned t n < modulus t
+fits_is_small I32 n h = constant_fits n h
+fits_is_small I64 n h = long_constant_fits n h
+
+pub values_are_words : (items : List Item) → ConstantsFit items → AreWords (words_of (values_of items))
+values_are_words [] h = tt
+values_are_words (Global ty mutable init ∷ items) h = (word_small ty.1 (unsigned ty.1 init.value.1) (fits_is_small ty.1 init.value.1 h.0), values_are_words items h.1)
+values_are_words (x ∷ items) h = values_are_words items h
+
+-- the word of a number of a type has the bits of the number, as one of 64
+word_is : (t : ValType) (n : ℤ) → FitsType t n → cast_unsigned w64 n ≡ word t (unsigned t n)
+word_is I64 n h = refl
+word_is I32 (pos n) h = rw (lt-ltb n (2 ^ 31) (omega (arith, h.sfits))) refl
+word_is I32 (negsuc n) h = rw (le-ltb (2 ^ 32 - suc n) (2 ^ 31) (omega (arith, h.sfits))) (omega (arith, h.sfits))
+
+pub numbers_are_words : (globals : List GlobalType) (numbers : List ℤ) → NumbersFit globals numbers → map (cast_unsigned w64) numbers ≡ words_of (initial_values globals numbers)
+numbers_are_words [] [] h = refl
+numbers_are_words (g ∷ globals) (n ∷ numbers) h = rw (word_is g.ty n h.0) (ap (λ (l : List ℕ). word g.ty (unsigned g.ty n) ∷ l) (numbers_are_words globals numbers h.1))
+numbers_are_words [] (n ∷ numbers) h = absurd h
+numbers_are_words (g ∷ globals) [] h = absurd h

@@ -1,6 +1,7 @@
 pub mod Linked
 pub mod Loops
 pub mod StraightModules
+pub mod Regions
 pub mod Items
 pub mod Placed
 pub mod Arguments

@@ -1,14 +1,13 @@
 -- What is linked of the codes of a module's functions is the module's image.
-use Rattle.std.proofs.Common.{◌≡◌, ℕ, suc, ◌+◌, ◌*◌, List, [], ◌∷◌, ◌++◌, map, length, refl, sym, ap, ◌∙◌, arith, length-append}
+use Rattle.std.proofs.Common.{◌≡◌, ℕ, suc, ◌+◌, List, [], ◌∷◌, ◌++◌, map, length, refl, sym, ap, ◌∙◌}
 use Rattle.std.proofs.lemmas.List.{map-append}
 use Rattle.rv_isa.specs.Words.{word_of}
-use Rattle.rv_isa.specs.declared.operations.Op.{Op}
 use Rattle.rv_isa.specs.declared.compiled.Code.{Code}
 use Rattle.wasm_defs.specs.declared.item.Item.{Item}
 use Rattle.wasm_defs.specs.Outside.{Body}
 use Rattle.wasm_defs.specs.Trees.{Seq}
 use Rattle.image_linker.specs.ImageOf.{size_of, places_from, code_from, code_of_function, distances}
-use Rattle.image_linker.specs.Codes.{IsCodeOf, AreCodesOf}
+use Rattle.image_linker.specs.Codes.{AreCodesOf}
 use Rattle.image_linker.specs.Linking.{words_of, starts_from}
 
 -- the functions' words

@@ -1,7 +1,8 @@
 -- A module of what is compiled so far behaves as its image does.
-use Rattle.std.proofs.Common.{◌≡◌, ℕ, ◌+◌, ◌*◌, ◌^◌, ◌<◌, ◌≤◌, true, List, [], ◌++◌, map, length, replicate, Option, Some, None, refl, sym, ap, ◌∙◌, subst, arith}
+use Rattle.std.proofs.Common.{◌≡◌, ℕ, ◌+◌, ◌*◌, ◌^◌, ◌<◌, ◌≤◌, Bool, true, List, [], ◌++◌, map, length, replicate, Option, Some, None, refl, sym, ap, ◌∙◌, subst, arith}
 use Rattle.std.specs.Prelude.{slice_get, slice_index, option_map}
 use Rattle.std.proofs.lemmas.Bool.{cond-true, eq-eqb}
+use Rattle.std.proofs.lemmas.List.{length-map, length-replicate}
 use Rattle.std.proofs.lemmas.Option.{slice_get-map}
 use Rattle.rv_isa.specs.Words.{word_of}
 use Rattle.rv_isa.specs.Steps.{code_of}
@@ -9,13 +10,13 @@ use Rattle.wasm_defs.specs.declared.types.FuncType.{FuncType}
 use Rattle.wasm_defs.specs.Memory.{page}
 use Rattle.wasm_defs.specs.Context.{context_of, import_count, type_of_function}
 use Rattle.wasm_defs.specs.Faults.{context_at, Module}
-use Rattle.wasm_defs.specs.Values.{Value, words_of}
+use Rattle.wasm_defs.specs.Values.{Value, word_of as value_word}
 use Rattle.wasm_defs.specs.Host.{Reply, are_of}
 use Rattle.wasm_defs.specs.Configurations.{Func, Function, Declared, Invocation}
 use Rattle.wasm_defs.specs.Reductions.{run}
 use Rattle.wasm_defs.specs.ModuleRun.{first_state, module_run}
 use Rattle.wasm_defs.specs.ModuleRun as module_run
-use Rattle.wasm_defs.specs.Instances.{Written, rows_of, pages_of, all_over, is_linkable, instance_of, store_of, start_of, function_of, declared_functions, functions_of}
+use Rattle.wasm_defs.specs.Instances.{Written, rows_of, pages_of, all_over, is_linkable, instance_of, store_of, start_of, values_of, function_of, declared_functions, functions_of}
 use Rattle.wasm_laws.specs.Plain.{HasNoMore}
 use Rattle.wasm_laws.proofs.Plain.{plain_has_no_more, plain_is_linkable}
 use Rattle.frame_layout.specs.Templates.{exit_stub}
@@ -29,9 +30,9 @@ use Rattle.image_linker.specs.Laws.{ImagesBehaveAlike}
 use Rattle.image_linker.specs.Same.{Same}
 use Rattle.image_linker.proofs.StraightModules.{IsStraightModule}
 use Rattle.image_linker.proofs.StraightFacts.{module_is_straight}
-use Rattle.image_linker.proofs.Items.{no_rows, no_pages, no_cap}
+use Rattle.image_linker.proofs.Items.{values_are_words}
 use Rattle.image_linker.proofs.Placed.{Placed, code_is_short, text_length, exit_stands, function_stands}
-use Rattle.image_linker.proofs.Called.{IsBare, IsEmpty, is_called}
+use Rattle.image_linker.proofs.Called.{IsSmall, IsFirst, is_called}
 
 module _ (m : Module) (good : IsStraightModule m) (short : length (text_of m) ≤ 2 ^ 26) where
   none : HasNoMore m.items
@@ -40,27 +41,26 @@ module _ (m : Module) (good : IsStraightModule m) (short : length (text_of m) �
   linkable : is_linkable m ≡ true
   linkable = plain_is_linkable m good.items
 
-  no_table : table_of m (is_linkable m) ≡ []
-  no_table =
-      ap (table_of m) linkable
-      ∙ ap (λ (es : List (Written (Option ℕ))). map (row_of m) (all_over (replicate (rows_of m.items) None) es)) none.elements
-      ∙ ap (λ (n : ℕ). map (row_of m) (replicate n None)) (no_rows m.items good.items)
+  table_length : length (table_of m (is_linkable m)) ≡ rows_of m.items
+  table_length =
+      ap (λ (b : Bool). length (table_of m b)) linkable
+      ∙ ap (λ (es : List (Written (Option ℕ))). length (map (row_of m) (all_over (replicate (rows_of m.items) None) es))) none.elements
+      ∙ length-map (replicate (rows_of m.items) None) (row_of m) ∙ length-replicate (rows_of m.items) None
 
-  bare : IsBare (image_of m)
-  bare = record {
-    globals = ap words_of none.values;
-    table = no_table;
-    pages = no_pages m.items good.items;
-    cap = no_cap m.items good.items;
+  small : IsSmall (image_of m)
+  small = record {
+    globals = omega (arith, length-map (values_of m.items) value_word, good.spaces.globals);
+    table = omega (arith, table_length, good.spaces.rows);
+    pages = good.spaces.pages;
+    cap = good.spaces.cap;
     segments = ap (placed_segments m) linkable ∙ ap (map segment_of) none.segments;
+    words = values_are_words m.items good.constants;
   }
 
-  empty : (replies : List Reply) → IsEmpty (store_of m replies)
-  empty replies = record {
-    memory =
-        ap (λ (ss : List (Written ℕ)). all_over (replicate (page * pages_of m.items) 0) ss) none.segments
-        ∙ ap (λ (n : ℕ). replicate (page * n) 0) (no_pages m.items good.items);
-    globals = none.values;
+  first : (replies : List Reply) → IsFirst (image_of m) (store_of m replies)
+  first replies = record {
+    memory = ap (λ (ss : List (Written ℕ)). all_over (replicate (page * pages_of m.items) 0) ss) none.segments;
+    globals = refl;
     calls = refl;
   }
 
@@ -118,7 +118,7 @@ module _ (m : Module) (good : IsStraightModule m) (short : length (text_of m) �
         let invoked : Invocation = record { function = f; arguments = arguments } in
         let store = store_of m replies in
         let typed : are_of func.ty.params arguments ≡ true = ap (λ (ty : FuncType). are_of ty.params arguments) type_is ∙ are in
-        let called = is_called (image_of m) bare func there.begin store arguments replies typed there.good.few_params (empty replies) in
+        let called = is_called (image_of m) small func there.begin store arguments replies typed there.good.few_params (first replies) in
         let w = around m.items f there.body there.tree (distances (places_of_functions m) there.begin) in
         let r = begin (image_of m) replies (record { offset = 4 * there.begin; arguments = arguments }, func.ty.results) [] in
         let same = straight_functions_run_alike (instance_of m) (image_of m) func (context_at m.items f there.body) w f there.begin store arguments r declared straight called (exit_stands m good) there.has (code_is_short m short) in

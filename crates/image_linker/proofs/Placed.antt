@@ -17,7 +17,8 @@ use Rattle.wasm_laws.proofs.Plain.{plain_has_no_more}
 use Rattle.frame_layout.specs.Templates.{exit_stub}
 use Rattle.simulation.proofs.Texts.{has_at, has_first, has_second}
 use Rattle.simulation.proofs.Lengths.{function_length}
-use Rattle.simulation.proofs.Ranges.{both_in_range, exit_in_range, function_in_range}
+use Rattle.simulation.proofs.MacroRanges.{both_in_range}
+use Rattle.simulation.proofs.Ranges.{exit_in_range, function_in_range}
 use Rattle.image_linker.specs.ImageOf.{around, no_distance, distances, size_of, stub_size, front_size, places_from, code_of_function, code_from, stubs_from, places_of_functions, text_of}
 use Rattle.image_linker.specs.Judging.{sizes}
 use Rattle.image_linker.proofs.StraightModules.{IsStraightBody, AreStraightBodies, IsStraightModule}

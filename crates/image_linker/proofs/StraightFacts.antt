@@ -2,11 +2,9 @@
 use Rattle.std.proofs.Common.{◌≡◌, ℕ, suc, ◌+◌, ◌<◌, true, List, [], ◌∷◌, length, None, Some, refl, sym, ap, subst, arith}
 use Rattle.std.proofs.lemmas.Bool.{and_parts, false≢true}
 use Rattle.wasm_defs.specs.declared.item.Item.{Item}
-use Rattle.wasm_defs.specs.declared.types.ValType.TheVariants.{I32}
-use Rattle.wasm_defs.specs.declared.operation.Operation.TheVariants.{Binary}
-use Rattle.wasm_defs.specs.declared.operation.BinaryOp.TheVariants.{Add}
+use Rattle.wasm_defs.specs.declared.types.ValType.TheVariants.{I32, I64}
 use Rattle.wasm_defs.specs.declared.token.Plain.{Plain}
-use Rattle.wasm_defs.specs.declared.token.Plain.TheVariants.{LocalGet, Const, Operate}
+use Rattle.wasm_defs.specs.declared.token.Plain.TheVariants.{Nop, Discard, Select, LocalGet, LocalSet, LocalTee, Const, Operate}
 use Rattle.wasm_defs.specs.Context.{context_of, import_count, declared_count, functions_of}
 use Rattle.wasm_defs.specs.Entries.{Seen}
 use Rattle.wasm_defs.specs.Outside.{Body, Ending, Whole, Refused, Owed, module_run}
@@ -14,18 +12,20 @@ use Rattle.wasm_defs.specs.Trees.{Seq, Nothing, Simple}
 use Rattle.wasm_defs.specs.Faults.{read_of, context_at, ending_fault, IsValidCode, Module, IsModule}
 use Rattle.wasm_defs.specs.Instances.{exports_of, named}
 use Rattle.wasm_laws.specs.Behind.{AreValidIn}
-use Rattle.wasm_laws.specs.Kept.{TypesAreSmall, BodyIsSmall, BodiesAreSmall, AreThere}
+use Rattle.wasm_laws.specs.Kept.{TypesAreSmall, BodyIsSmall, BodiesAreSmall, SpacesAreSmall, ConstantsFit, AreThere}
 use Rattle.wasm_laws.specs.Plain.{ArePlain}
 use Rattle.wasm_laws.specs.Sections.{AreBytes}
 use Rattle.wasm_laws.specs.Straight.{is_straight_plain, is_straight, IsInRange, TreeIsInRange}
 use Rattle.wasm_laws.proofs.Behind.{bodies_are_valid}
 use Rattle.wasm_laws.proofs.Bytes.{each_byte, HaveBytes, bodies_have_bytes}
+use Rattle.wasm_laws.proofs.Constants.{constants_fit}
 use Rattle.wasm_laws.proofs.Counts.{bodies_match}
 use Rattle.wasm_laws.proofs.Exports.{types_are_small, function_is_small, exports_are_there, named_is_there}
 use Rattle.wasm_laws.proofs.Heights.{straight_is_low, tokens_are_few}
 use Rattle.wasm_laws.proofs.Locals.{bodies_are_small}
 use Rattle.wasm_laws.proofs.Plain.{items_are_plain, plain_has_no_more}
-use Rattle.wasm_laws.proofs.Ranges.{constant_fits, tree_is_in_range}
+use Rattle.wasm_laws.proofs.Ranges.{constant_fits, long_constant_fits, tree_is_in_range}
+use Rattle.wasm_laws.proofs.Spaces.{spaces_are_small}
 use Rattle.wasm_laws.proofs.Straight.{tree_is_straight}
 use Rattle.wasm_laws.proofs.Typed.{functions_of-counts}
 use Rattle.simulation.specs.Straight.{IsStraightStep, IsStraight}
@@ -34,9 +34,15 @@ use Rattle.image_linker.proofs.StraightModules.{IsStraightBody, AreStraightBodie
 -- ---- bodies
 
 straight_step : (p : Plain) → is_straight_plain p ≡ true → IsInRange p → IsStraightStep p
+straight_step Nop e range = tt
+straight_step Discard e range = tt
+straight_step Select e range = tt
 straight_step (LocalGet x) e range = tt
+straight_step (LocalSet x) e range = tt
+straight_step (LocalTee x) e range = tt
 straight_step (Const I32 n) e range = constant_fits n range
-straight_step (Operate (Binary I32 Add)) e range = tt
+straight_step (Const I64 n) e range = long_constant_fits n range
+straight_step (Operate op) e range = tt
 straight_step p e range = absurd (false≢true e)
 
 straight_tree : (tree : Seq) → is_straight tree ≡ true → TreeIsInRange tree → IsStraight tree
@@ -97,6 +103,8 @@ module _ (bytes : List ℕ) (m : Module) (fits : AreBytes bytes) (is : IsModule 
   pub module_is_straight : IsStraightModule m
   module_is_straight = record {
     items = plain;
+    spaces = subst SpacesAreSmall (sym is.items) (spaces_are_small bytes);
+    constants = subst ConstantsFit (sym is.items) (constants_fit bytes fits);
     bodies =
         straight_bodies m.items (subst (λ (items : List Item). TypesAreSmall (context_of items).types) (sym is.items) (types_are_small bytes)) 0 m.bodies m.trees
         (subst HaveBytes (sym is.bodies) (bodies_have_bytes bytes fits)) (subst BodiesAreSmall (sym is.bodies) (bodies_are_small bytes)) (bodies_are_valid bytes m is);

@@ -1,5 +1,4 @@
--- Modules of what is compiled so far: their sections are types, functions, exports and code, and their bodies chains of
--- instructions.
+-- Plain modules, which keep their limits and whose bodies are chains of instructions: so are all that are compiled so far.
 use Rattle.std.proofs.Common.{◌≡◌, ℕ, suc, ◌^◌, ◌<◌, ◌≤◌, List, [], ◌∷◌, length, Some}
 use Rattle.wasm_defs.specs.declared.item.Item.{Item}
 use Rattle.wasm_defs.specs.Limits.{max_params}
@@ -8,6 +7,7 @@ use Rattle.wasm_defs.specs.Trees.{Seq}
 use Rattle.wasm_defs.specs.Typing.{IsBody}
 use Rattle.wasm_defs.specs.Faults.{context_at, Module}
 use Rattle.wasm_defs.specs.Instances.{exports_of, named, function_of}
+use Rattle.wasm_laws.specs.Kept.{SpacesAreSmall, ConstantsFit}
 use Rattle.wasm_laws.specs.Plain.{ArePlain}
 use Rattle.frame_layout.specs.Slots.{need}
 use Rattle.simulation.specs.Straight.{IsStraight}
@@ -29,6 +29,8 @@ AreStraightBodies items k bodies trees = ⊥
 
 pub record IsStraightModule (m : Module) : Type 0 where
   pub items : ArePlain m.items
+  pub spaces : SpacesAreSmall m.items
+  pub constants : ConstantsFit m.items
   pub bodies : AreStraightBodies m.items 0 m.bodies m.trees
   -- exported functions are there
   pub exports : (name : List ℕ) (f : ℕ) → named name (exports_of m.items) ≡ Some f → f < length m.bodies

@@ -1,6 +1,7 @@
 -- The verdict of a module, with the limit on its text.
-use Rattle.std.specs.Prelude.{◌≡◌, ◌<◌, ◌≤◌, ◌⊎◌, ℕ, suc, ◌+◌, ◌*◌, List, [], ◌∷◌, ◌++◌}
-use Rattle.wasm_defs.specs.declared.fault.Kind.TheVariants.{Limit}
+use Rattle.std.specs.Prelude.{◌≡◌, ◌≢◌, ◌<◌, ◌≤◌, ◌⊎◌, ℕ, suc, ◌+◌, ◌*◌, List, [], ◌∷◌, ◌++◌, Option, None, Some}
+use Rattle.wasm_defs.specs.declared.fault.Kind.{Kind}
+use Rattle.wasm_defs.specs.declared.fault.Kind.TheVariants.{Malformed, Unsupported, Limit, Invalid, Ended}
 use Rattle.wasm_defs.specs.declared.fault.Refusal.{Refusal}
 use Rattle.wasm_defs.specs.declared.item.Item.{Item}
 use Rattle.wasm_defs.specs.Limits.{max_text}
@@ -44,3 +45,21 @@ pub record IsModuleOf (bytes : List ℕ) (m : Module) : Type 0 where
 abbrev pub IsVerdictOf : List ℕ → Verdict → Type 0
 IsVerdictOf bytes (Accepted m) = IsModuleOf bytes m
 IsVerdictOf bytes (Rejected r) = IsFaultOf bytes r × ((s : Refusal) → IsFaultOf bytes s → r.offset ≤ s.offset)
+
+-- What decides where a source failed behind these bytes: of their faults but that more bytes are owed, the one of least offset; or
+-- none (WebAssembly Web API 1.0, streaming compilation).
+abbrev pub IsStoppedAt : List ℕ → Option Refusal → Type 0
+IsStoppedAt bytes None = (r : Refusal) → IsFaultOf bytes r → r.kind ≡ Ended
+IsStoppedAt bytes (Some r) = IsFaultOf bytes r × (r.kind ≢ Ended) × ((s : Refusal) → IsFaultOf bytes s → s.kind ≢ Ended → r.offset ≤ s.offset)
+
+-- the fault of a verdict, if it lasts whatever comes behind the bytes
+abbrev pub lasting : Kind → Refusal → Option Refusal
+lasting Malformed r = Some r
+lasting Unsupported r = Some r
+lasting Limit r = Some r
+lasting Invalid r = Some r
+lasting Ended r = None
+
+abbrev pub lasting_fault : Verdict → Option Refusal
+lasting_fault (Accepted m) = None
+lasting_fault (Rejected r) = lasting r.kind r

@@ -4,5 +4,6 @@
 
 pub mod laws;
 mod linking;
+mod spaces;
 
 pub use linking::link;

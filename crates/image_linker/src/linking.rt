@@ -4,8 +4,9 @@ ghost use Rattle.std.specs.Prelude.{◌≡◌, ◌≤◌, ◌<◌, ◌+◌, ◌*
 ghost use Rattle.wasm_defs.specs.Context.{type_of_function};
 ghost use Rattle.index_spaces.specs.Spaces.{context_in};
 ghost use Rattle.index_spaces.specs.Entries.{function_exports};
-ghost use Rattle.image_linker.specs.Linking.{words_of, starts_of, front_words, linked, linked_export};
+ghost use Rattle.image_linker.specs.Linking.{NumbersFit, words_of, starts_of, front_words, linked, linked_export};
 
+use crate::spaces::{first_cap, first_minimum, global_words, rows_of};
 use image_format::{Export, Exports, Globals, Image, Imports, Segments, Table, Text};
 use index_spaces::{Context, copy_of_name, copy_of_type};
 use rv_isa::{Code, Imm12, ImmOp, Op, Register, encode};
@@ -99,21 +100,24 @@ fn exports_of(alloc: Global, context: &Context, starts: &[u32]) -> Result<Vec<Ex
 
 /// Links the codes of a module's declared functions, in the order of their indices, to the module's image.
 ///
-/// So far a module has no imports, tables, memories, globals, segments and no start function. The text has at most 268,435,456
-/// bytes.
+/// So far a module has no imports, no segments and no start function. The text has at most 268,435,456 bytes, and the numbers of
+/// the globals' constants are of the globals' types.
 pub fn link(alloc: Global, context: &Context, codes: &[Code]) -> Result<Image, AllocError>
     requires fits { 4 * (2 + length (words_of codes.now)) ≤ 2 ^ 28 }
+    requires numbers { NumbersFit context.now.globals context.now.initials }
     ensures { IfOk result (λ i. i ≡ linked context.now codes.now) }
 {
     let text = text_of(alloc, codes)?;
     let starts = starts_of(alloc, codes)?;
     let exports = exports_of(alloc, context, &starts)?;
+    let globals = global_words(alloc, context)?;
+    let table = rows_of(alloc, context)?;
     Ok(Image {
         text: Text::new(text),
-        globals: Globals::new(Vec::new(alloc)),
-        table: Table::new(Vec::new(alloc)),
-        pages: 0,
-        cap: 0,
+        globals: Globals::new(globals),
+        table: Table::new(table),
+        pages: first_minimum(context.memories()),
+        cap: first_cap(context.memories()),
         segments: Segments::new(Vec::new(alloc)),
         imports: Imports::new(Vec::new(alloc)),
         exports: Exports::new(exports),

@@ -1,4 +1,4 @@
-use Rattle.std.proofs.Common.{◌≡◌, ap, ◌∙◌, sym, subst, ℕ, ◌+◌, ◌≤◌, ◌<◌, ◌^◌, arith, List, length}
+use Rattle.std.proofs.Common.{◌≡◌, ◌∙◌, sym, subst, ℕ, ◌+◌, ◌≤◌, ◌<◌, ◌^◌, arith, List, length}
 use Rattle.std.specs.Prelude.{slice_index}
 use Rattle.image_linker.specs.Linking.{words_of, starts_of}
 use Rattle.image_linker.proofs.Loops.{starts_within}

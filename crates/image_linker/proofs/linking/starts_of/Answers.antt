@@ -1,4 +1,4 @@
-use Rattle.std.proofs.Common.{◌≡◌, ◌+◌, ◌++◌, ◌≤◌, ◌∷◌, [], ap, ◌∙◌, sym, ℕ, List, take, arith, length, length-append}
+use Rattle.std.proofs.Common.{◌≡◌, ◌+◌, ◌++◌, ◌∷◌, [], ap, ◌∙◌, sym, ℕ, List, take, arith, length, length-append}
 use Rattle.image_linker.specs.Linking.{words_of, starts_from}
 use Rattle.image_linker.proofs.Loops.{words_taken, starts_taken, words_within}
 use Rattle.image_linker.proofs.linking.starts_of.Goals as goal

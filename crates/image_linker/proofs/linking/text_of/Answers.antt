@@ -1,4 +1,4 @@
-use Rattle.std.proofs.Common.{◌≡◌, ◌+◌, ◌++◌, ap, ◌∙◌, sym, ℕ, List, append_assoc, take, arith}
+use Rattle.std.proofs.Common.{◌++◌, ap, ◌∙◌, sym, ℕ, List, append_assoc, take, arith}
 use Rattle.image_linker.specs.Linking.{words_of, front_words}
 use Rattle.image_linker.proofs.Loops.{words_taken}
 use Rattle.image_linker.proofs.linking.text_of.Goals as goal

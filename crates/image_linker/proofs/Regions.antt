@@ -1,0 +1,43 @@
+-- Words in the bytes of a region, one behind the other.
+use Rattle.std.proofs.Common.{◌≡◌, ℕ, ◌+◌, ◌*◌, ◌/◌, ◌^◌, ◌<◌, List, [], ◌∷◌, ◌++◌, length, take, refl, sym, ap, ◌∙◌, arith, append_assoc, length-append}
+use Rattle.std.proofs.lemmas.List.{drop_at, take_at}
+use Rattle.rv_isa.specs.Steps.{le_value, le_bytes}
+use Rattle.rv_isa.proofs.ByteLaws.{length-le_bytes, le_value-le_bytes}
+use Rattle.image_format.specs.declared.image.Row.{Row}
+use Rattle.image_format.specs.Environment.{word_bytes, word_at, words_at, row_words}
+
+-- numbers of 64 bits
+abbrev pub AreWords : List ℕ → Type 0
+AreWords [] = Unit {0}
+AreWords (w ∷ ws) = (w < 2 ^ 64) × AreWords ws
+
+pub word_bytes_length : (ws : List ℕ) → length (word_bytes ws) ≡ 8 * length ws
+word_bytes_length [] = refl
+word_bytes_length (w ∷ ws) = length-append (le_bytes 8 w) (word_bytes ws) ∙ omega (arith, length-le_bytes 8 w, word_bytes_length ws)
+
+pub row_words_length : (rows : List Row) → length (row_words rows) ≡ 2 * length rows
+row_words_length [] = refl
+row_words_length (r ∷ rows) = omega (arith, row_words_length rows)
+
+-- a word behind others
+word_behind : (front : List ℕ) (from w : ℕ) (back : List ℕ) → length front ≡ 8 * from → w < 2 ^ 64 → word_at (front ++ (le_bytes 8 w ++ back)) from ≡ w
+word_behind front from w back len small =
+    ap (λ (l : List ℕ). le_value (take 8 l)) (drop_at front (le_bytes 8 w ++ back) (8 * from) len)
+    ∙ ap le_value (take_at (le_bytes 8 w) back 8 (length-le_bytes 8 w))
+    ∙ le_value-le_bytes 8 w small
+
+words_behind : (front : List ℕ) (from : ℕ) (ws : List ℕ) → length front ≡ 8 * from → AreWords ws → words_at (front ++ word_bytes ws) from (length ws) ≡ ws
+words_behind front from [] len small = refl
+words_behind front from (w ∷ ws) len small =
+    let next = front ++ le_bytes 8 w in
+    let longer : length next ≡ 8 * (from + 1) = length-append front (le_bytes 8 w) ∙ omega (arith, len, length-le_bytes 8 w) in
+    let same : front ++ (le_bytes 8 w ++ word_bytes ws) ≡ next ++ word_bytes ws = sym (append_assoc front (le_bytes 8 w) (word_bytes ws)) in
+    ap (λ (n : ℕ). n ∷ words_at (front ++ (le_bytes 8 w ++ word_bytes ws)) (from + 1) (length ws)) (word_behind front from w (word_bytes ws) len small.0)
+    ∙ ap (λ (l : List ℕ). w ∷ words_at l (from + 1) (length ws)) same
+    ∙ ap (λ (l : List ℕ). w ∷ l) (words_behind next (from + 1) ws longer small.1)
+
+-- the words of a region are read back
+pub words_are_read : (ws : List ℕ) → AreWords ws → words_at (word_bytes ws) 0 (length (word_bytes ws) / 8) ≡ ws
+words_are_read ws small =
+    let count : length (word_bytes ws) / 8 ≡ length ws = omega (arith, word_bytes_length ws) in
+    ap (λ (n : ℕ). words_at (word_bytes ws) 0 n) count ∙ words_behind [] 0 ws (omega arith) small

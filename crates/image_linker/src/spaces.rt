@@ -1,0 +1,54 @@
+//! What an image has of its module's tables, memories and globals.
+
+ghost use Rattle.std.specs.Prelude.{◌≡◌, IfOk, replicate};
+ghost use Rattle.wasm_defs.specs.Instances.{first_minimum, first_cap};
+ghost use Rattle.image_linker.specs.Linking.{NumbersFit, empty_row, global_words};
+
+use image_format::Row;
+use index_spaces::Context;
+use std::alloc::{AllocError, Global};
+use wasm_defs::{Limits, MAX_PAGES};
+
+/// The minimum of the first table or memory, or 0 where there is none.
+pub(crate) fn first_minimum(spaces: &[Limits]) -> u32
+    ensures { result ≡ first_minimum spaces.now }
+{
+    match spaces.first() {
+        Some(limits) => limits.min.1,
+        None => 0,
+    }
+}
+
+/// The pages up to which the first memory may grow, or 0 where there is none.
+pub(crate) fn first_cap(memories: &[Limits]) -> u32
+    ensures { result ≡ first_cap memories.now }
+{
+    match memories.first() {
+        Some(limits) => match limits.max {
+            Some(most) => most.1.min(MAX_PAGES),
+            None => MAX_PAGES,
+        },
+        None => 0,
+    }
+}
+
+/// The rows of the table: none of them has a function.
+pub(crate) fn rows_of(alloc: Global, context: &Context) -> Result<Vec<Row>, AllocError>
+    ensures { IfOk result (λ rows. rows.items ≡ replicate (first_minimum context.now.tables) empty_row) }
+{
+    let rows = first_minimum(context.tables());
+    Ok(vec![in alloc; Row { code: 0, like: 0 }; rows as usize]?)
+}
+
+/// The words of the values that the globals begin with: a number of 32 bits is extended by its sign.
+pub(crate) fn global_words(alloc: Global, context: &Context) -> Result<Vec<u64>, AllocError>
+    requires { NumbersFit context.now.globals context.now.initials }
+    ensures { IfOk result (λ words. words.items ≡ global_words context.now) }
+{
+    let numbers = context.initials();
+    let mut words = Vec::with_capacity(alloc, numbers.len())?;
+    for number in numbers {
+        words.push(number.cast_unsigned())?;
+    }
+    Ok(words)
+}
