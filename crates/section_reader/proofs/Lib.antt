@@ -5,3 +5,11 @@ pub mod LeafTakes
 pub mod EntryTakes
 pub mod Runs
 pub mod Walk
+pub mod OutlineRuns
+pub mod Leading
+pub mod Going
+pub mod Reaching
+pub mod Silence
+pub mod Ending
+pub mod Awaiting
+pub mod Keeping

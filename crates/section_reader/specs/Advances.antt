@@ -5,8 +5,8 @@ use Rattle.wasm_defs.specs.Entries.{Seen}
 use Rattle.wasm_defs.specs.Outside.{Whole, after_part, ends}
 use Rattle.wasm_defs.specs.Faults.{ending_fault}
 use Rattle.section_reader.specs.declared.part.Part.{Part}
-use Rattle.section_reader.specs.declared.front_stop.FrontStop.{FrontStop}
-use Rattle.section_reader.specs.declared.front_stop.FrontStop.TheVariants.{Refused, NoMemory}
+use Rattle.wasm_defs.specs.declared.front_stop.FrontStop.{FrontStop}
+use Rattle.wasm_defs.specs.declared.front_stop.FrontStop.TheVariants.{Refused, NoMemory}
 use Rattle.section_reader.specs.PartOf.{part_of}
 use Rattle.section_reader.specs.Left.{State, left, total}
 

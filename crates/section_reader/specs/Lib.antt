@@ -4,3 +4,7 @@ pub mod PartOf
 pub mod Left
 pub mod Advances
 pub mod Goes
+pub mod Outline
+pub mod Stages
+pub mod Stepped
+pub mod FrontLeft

@@ -4,16 +4,21 @@
 
 mod entries;
 mod entry_fields;
-mod front_stop;
+mod front;
+#[cfg(test)]
+mod front_tests;
+mod items;
 mod part;
 mod place;
 mod reader;
 mod rows;
 mod sections;
 mod seen;
+mod stage;
+mod steps;
 #[cfg(test)]
 mod tests;
 
-pub use front_stop::FrontStop;
+pub use front::Front;
 pub use part::{Body, Part};
 pub use reader::SectionReader;

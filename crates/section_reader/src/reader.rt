@@ -7,7 +7,6 @@ ghost use Rattle.section_reader.specs.Left.{left, total};
 ghost use Rattle.section_reader.specs.Advances.{Advances};
 ghost use Rattle.section_reader.specs.Goes.{Goes};
 
-use crate::front_stop::FrontStop;
 use crate::part::Part;
 use crate::place::Place;
 use crate::rows::{back, entry, front};
@@ -16,7 +15,7 @@ use crate::seen::Seen;
 use leb_feed::{Fields, Stop};
 use std::alloc::Global;
 use std::marker::Model;
-use wasm_defs::{Kind, Refusal};
+use wasm_defs::{FrontStop, Kind, Refusal};
 
 /// Reads a module's bytes outside its function bodies, part by part, from the first byte to the last.
 ///

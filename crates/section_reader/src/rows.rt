@@ -133,7 +133,7 @@ pub fn entry<'a>(
 
 /// Passes over what the section has left.
 #[tactic(auto, unfolding(wasm_defs::specs::Outside::rest_of_section, wasm_defs::specs::Fields::room))]
-fn rest_of_section(fields: &mut Fields<'_>) -> Result<(), Stop>
+pub fn rest_of_section(fields: &mut Fields<'_>) -> Result<(), Stop>
     ensures { Reads rest_of_section (λ n. tt) result fields.old fields.new }
 {
     let room = fields.room();

@@ -138,7 +138,8 @@ impl Seen {
         }
     }
 
-    fn note_item(&mut self, alloc: Global, item: &Item) -> Result<(), AllocError>
+    /// An item came.
+    pub fn note_item(&mut self, alloc: Global, item: &Item) -> Result<(), AllocError>
         requires { HasRoom self.old }
         ensures ok { OnOk result (self.new ≡ note self.old item.now) }
         ensures err { OnErr result (self.new ≡ self.old) }

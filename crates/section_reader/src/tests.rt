@@ -1,22 +1,22 @@
 //! Modules whose parts and faults were worked out by hand.
 
-use crate::{FrontStop, SectionReader};
+use crate::SectionReader;
 use std::alloc::{AllocError, Global};
 use std::test::Fail;
-use wasm_defs::{Kind, Refusal};
+use wasm_defs::{FrontStop, Kind, Refusal};
 
 /// The magic bytes and the version.
-const HEADER: &str = "00 61 73 6D 01 00 00 00";
+pub const HEADER: &str = "00 61 73 6D 01 00 00 00";
 
 /// A type and a function of it.
 const FUNCTION: &str = "01 04 01 60 00 00 03 02 01 00";
 
 /// What follows the header of a module that exports `add`, of two parameters.
-const ADD: &str =
+pub const ADD: &str =
     "01 07 01 60 02 7F 7F 01 7F 03 02 01 00 07 07 01 03 61 64 64 00 00 0A 09 01 07 00 20 00 20 01 6A 0B";
 
 /// The bytes that stand there in hexadecimal digits, one after the other.
-fn bytes_of(alloc: Global, pieces: &[&str]) -> Result<Vec<u8>, Fail> {
+pub fn bytes_of(alloc: Global, pieces: &[&str]) -> Result<Vec<u8>, Fail> {
     let mut bytes = Vec::new(alloc);
     for piece in pieces {
         for digits in piece.split(' ') {
@@ -41,7 +41,7 @@ fn stop_of(alloc: Global, bytes: &[u8]) -> Option<FrontStop> {
     None
 }
 
-fn refused(offset: u64, kind: Kind) -> Option<FrontStop> {
+pub fn refused(offset: u64, kind: Kind) -> Option<FrontStop> {
     Some(FrontStop::Refused(Refusal { offset, kind }))
 }
 

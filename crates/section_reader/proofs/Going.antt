@@ -1,0 +1,195 @@
+-- What a step of reading does.
+use Rattle.std.proofs.Common.{◌≡◌, ℕ, ◌+◌, ◌-◌, ◌<◌, ◌≤◌, List, [], ◌∷◌, ◌++◌, length, take, drop, Some, None, Result, Ok, Err, refl, sym, ap, subst, ◌∙◌, arith, append_assoc, length-append, length-take, eqb, true, false, inl, inr}
+use Rattle.std.proofs.Math.Seq.{drop-length}
+use Rattle.std.proofs.lemmas.Bool.{cases_Bool, le-ltb, eqb-true}
+use Rattle.std.proofs.lemmas.List.{append-nil}
+use Rattle.wasm_defs.specs.declared.item.Item.{Item}
+use Rattle.wasm_defs.specs.Fields.{Cursor, Read, Got, Fault, Wants, Reader, past, room_of, window, run}
+use Rattle.wasm_defs.specs.Entries.{Seen, note}
+use Rattle.wasm_defs.specs.Outside.{Listed, Nothing, nothing_more, rest_of_section, header, preamble, section_end, entered, inside, no_end}
+use Rattle.wasm_laws.specs.Steadiness.{IfGot, Advance, Advances, LeavesFewer, Leaves}
+use Rattle.wasm_laws.proofs.EntryLaws.{header_steady, preamble_steady, rest_steady}
+use Rattle.wasm_laws.proofs.RowLaws.{end_steady}
+use Rattle.wasm_laws.proofs.Takes.{header_takes}
+use Rattle.leb_feed.specs.declared.stop.Stop.{Stop}
+use Rattle.leb_feed.specs.declared.stop.Stop.TheVariants as stop
+use Rattle.leb_feed.specs.Reads.{Stops}
+use Rattle.section_reader.specs.declared.stage.Stage.{Stage}
+use Rattle.section_reader.specs.declared.stage.Stage.TheVariants.{Preamble, Between, Contents, Entries}
+use Rattle.section_reader.specs.declared.steps.Steps.{Steps}
+use Rattle.section_reader.specs.Left.{IsSound}
+use Rattle.section_reader.specs.Outline.{outline_row}
+use Rattle.section_reader.specs.Stages.{passes, Passed, Leads, Halts, weight, IsSameButLast}
+use Rattle.section_reader.specs.Stepped.{Goes}
+use Rattle.section_reader.proofs.Takes.{Moved}
+use Rattle.section_reader.proofs.Walk.{sound_moved, sound_entered, sound_noted}
+use Rattle.section_reader.proofs.OutlineRuns.{outline_steady, passed_over, not_passed}
+use Rattle.section_reader.proofs.Leading.{preamble_leads, header_leads, front_leads, entry_leads, back_leads, pass_leads}
+
+pub halts_at : (stage there : Stage) (seen : Seen) (c : Cursor) (s : Stop) → stage ≡ there → Halts there seen c s → Halts stage seen c s
+halts_at stage there seen c s e h = subst (λ (p : Stage). Halts p seen c s) (sym e) h
+
+-- ---- bytes that were taken
+
+got_is : {A : Type 0} (P : A → Cursor → Type 0) (r : Read A) (x : A) (d : Cursor) → r ≡ Got x d → IfGot P r → P x d
+got_is P (Got y f) x d e h = let a : y ≡ x = cc in let b : f ≡ d = cc in rw (← a, ← b) h
+got_is P (Fault r) x d e h = absurd cc
+got_is P Wants x d e h = absurd cc
+
+passed_of : (c d : Cursor) → Advance c d → Passed c d
+passed_of c d p = record { taken = p.taken; parts = p.parts; at = p.at }
+
+moved_of : (c d : Cursor) → Passed c d → Moved 0 c d
+moved_of c d p = record { more = omega (arith, p.at); same = omega (arith, p.at, ap length p.parts, length-append p.taken d.rest) }
+
+moved_some : (c d : Cursor) → Passed c d → length d.rest < length c.rest → Moved 1 c d
+moved_some c d p fewer = record { more = omega (arith, p.at, fewer, ap length p.parts, length-append p.taken d.rest); same = omega (arith, p.at, ap length p.parts, length-append p.taken d.rest) }
+
+pub passed_then : (c d e : Cursor) → Passed c d → Passed d e → Passed c e
+passed_then c d e p q = record {
+  taken = p.taken ++ q.taken;
+  parts = p.parts ∙ ap (λ (l : List ℕ). p.taken ++ l) q.parts ∙ sym (append_assoc p.taken q.taken e.rest);
+  at = omega (arith, p.at, q.at, length-append p.taken q.taken);
+}
+
+fewer_left : (c d : Cursor) → Passed c d → length d.rest ≤ length c.rest
+fewer_left c d p = omega (arith, ap length p.parts, length-append p.taken d.rest)
+
+same_entered : (seen : Seen) (id : ℕ) → IsSameButLast seen (entered seen id)
+same_entered seen id =
+    elim (cases_Bool (eqb id 0)) [
+      | inl custom ↦ rw custom refl
+      | inr other ↦ rw other refl
+    ]
+
+-- ---- steps
+
+abbrev pub standing : Stage → Seen → Steps
+standing stage seen = record { stage = stage; seen = seen }
+
+module _ (stage : Stage) (seen : Seen) (c d : Cursor) (sound : IsSound seen c) where
+  leads_from : (there next : Stage) (after : Seen) (e : Cursor) → stage ≡ there → Leads there seen c None next after e → Leads stage seen c None next after e
+  leads_from there next after e is h = subst (λ (p : Stage). Leads p seen c None next after e) (sym is) h
+
+  pub preamble_goes : (v : ℕ) → stage ≡ Preamble → preamble c ≡ Got v d → Goes (standing stage seen) c None (standing Between seen) d
+  preamble_goes v is read =
+      let p = passed_of c d (got_is (λ x e. Advance c e) (preamble c) v d read ((preamble_steady []).moves c)) in
+      let fewer = fewer_left c d p in
+      record {
+        leads = leads_from Preamble Between seen d is (preamble_leads seen c d v read);
+        sound = sound_moved seen c d sound (moved_of c d p);
+        less = λ _. omega (arith, fewer, ap weight is);
+        same = λ _. refl;
+        passed = p;
+      }
+
+  pub front_goes : (id n : ℕ) → stage ≡ Contents id → (outline_row id).front seen c ≡ Got n d → Goes (standing stage seen) c None (standing (Entries id n) seen) d
+  front_goes id n is read =
+      let p = passed_of c d (got_is (λ x e. Advance c e) ((outline_row id).front seen c) n d read (((outline_steady id).front seen).moves c)) in
+      let fewer = fewer_left c d p in
+      record {
+        leads = leads_from (Contents id) (Entries id n) seen d is (front_leads seen c d id n read);
+        sound = sound_moved seen c d sound (moved_of c d p);
+        less = λ _. omega (arith, fewer, ap weight is);
+        same = λ _. refl;
+        passed = p;
+      }
+
+  pub header_goes : (h : ℕ × ℕ) (b : ℕ) (bytes : List ℕ) → stage ≡ Between → c.rest ≡ b ∷ bytes → header seen c ≡ Got h d → Goes (standing stage seen) c None (standing (Contents h.0) (entered seen h.0)) (inside d h.1)
+  header_goes h b bytes is some read =
+      let p = passed_of c d (got_is (λ x e. Advance c e) (header seen c) h d read ((header_steady [] seen).moves c)) in
+      let fewer = got_is (λ x e. length e.rest < length c.rest) (header seen c) h d read ((header_takes seen).some c) in
+      record {
+        leads = leads_from Between (Contents h.0) (entered seen h.0) (inside d h.1) is (header_leads seen c d h b bytes some read);
+        sound = sound_entered seen d h.0 h.1 (sound_moved seen c d sound (moved_of c d p));
+        less = λ _. omega (arith, fewer, ap weight is);
+        same = λ _. same_entered seen h.0;
+        passed = record { taken = p.taken; parts = p.parts; at = p.at };
+      }
+
+  pub entry_goes : (id n : ℕ) (x : Item) → stage ≡ Entries id n → 0 < n → (outline_row id).entry seen c ≡ Got (Listed x) d → Goes (standing stage seen) c (Some x) (standing (Entries id (n - 1)) (note seen x)) d
+  entry_goes id n x is some read =
+      let p = passed_of c d (got_is (λ y e. Advance c e) ((outline_row id).entry seen c) (Listed x) d read (((outline_steady id).entry seen).moves c)) in
+      let fewer = got_is (λ y e. length e.rest < length c.rest) ((outline_row id).entry seen c) (Listed x) d read (((outline_steady id).takes seen).some c) in
+      record {
+        leads = subst (λ (q : Stage). Leads q seen c (Some x) (Entries id (n - 1)) (note seen x) d) (sym is) (entry_leads seen c d id n x some read);
+        sound = sound_noted seen (Listed x) c d sound (moved_some c d p fewer);
+        less = λ h. absurd cc;
+        same = λ h. absurd cc;
+        passed = p;
+      }
+
+  -- a section ends: the cursor is inside no section then
+  pub back_goes : (id : ℕ) (e : Cursor) → stage ≡ Entries id 0 → (outline_row id).back c ≡ Got tt d → section_end d ≡ Got tt e → Goes (standing stage seen) c None (standing Between seen) e
+  back_goes id e is back over =
+      let p = passed_of c d (got_is (λ x f. Advance c f) ((outline_row id).back c) tt d back ((outline_steady id).back.moves c)) in
+      let q = left_passed e over in
+      let both = passed_then c d e p q in
+      let fewer = fewer_left c e both in
+      record {
+        leads = leads_from (Entries id 0) Between seen e is (back_leads seen c d id e back over);
+        sound = sound_moved seen c e sound (moved_of c e both);
+        less = λ _. omega (arith, fewer, ap weight is);
+        same = λ _. refl;
+        passed = both;
+      }
+    where
+      left_passed : (e : Cursor) → section_end d ≡ Got tt e → Passed d e
+      left_passed e over =
+          let h = got_is (λ x f. (room_of d ≡ 0) × (f ≡ inside d no_end)) (section_end d) tt e over (end_steady.leaves d) in
+          subst (λ (f : Cursor). Passed d f) (sym h.1) (record { taken = []; parts = refl; at = omega arith })
+
+pub nothing_back : (id : ℕ) (c : Cursor) → passes id ≡ false → (outline_row id).back c ≡ Got tt c
+nothing_back id c e = ap (λ (p : Reader Nothing). p c) (not_passed id e)
+
+pub rest_back : (id : ℕ) (c : Cursor) → passes id ≡ true → (outline_row id).back c ≡ rest_of_section c
+rest_back id c e = ap (λ (p : Reader Nothing). p c) (passed_over id e)
+
+-- ---- passing over
+
+-- all bytes that are there, where the section has more
+run_there : (c : Cursor) → length c.rest < room_of c → run (length c.rest) c ≡ Got (take (length c.rest) (window c)) (past c (length c.rest))
+unfolding run
+run_there c short = rw (le-ltb (length (window c)) (length c.rest) (omega (arith, length-take (room_of c) c.rest))) refl
+
+run_halts : (stage : Stage) (seen : Seen) (c : Cursor) (s : Stop) → length c.rest < room_of c → Stops s (run (length c.rest) c) → Halts stage seen c s
+run_halts stage seen c (stop.Refused r) short h = absurd (let e = sym (run_there c short) ∙ h in cc)
+run_halts stage seen c stop.Wants short h = absurd (let e = sym (run_there c short) ∙ h in cc)
+run_halts stage seen c stop.NoMemory short h = tt
+
+pub run_halts_at : (stage : Stage) (seen : Seen) (c : Cursor) (s : Stop) (n : ℕ) → n ≡ length c.rest → n < room_of c → Stops s (run n c) → Halts stage seen c s
+run_halts_at stage seen c s n e short h = run_halts stage seen c s (omega arith) (subst (λ (k : ℕ). Stops s (run k c)) e h)
+
+past_all : (c d : Cursor) (bytes : List ℕ) → length c.rest < room_of c → run (length c.rest) c ≡ Got bytes d → d ≡ record { at = c.at + length c.rest; rest = []; end = c.end }
+past_all c d bytes short e =
+    let same : past c (length c.rest) ≡ d = got_is (λ x f. past c (length c.rest) ≡ f) (run (length c.rest) c) bytes d e (rw (run_there c short) refl) in
+    sym same ∙ ap (λ (l : List ℕ). record { at = c.at + length c.rest; rest = l; end = c.end }) (drop-length c.rest)
+
+pass_goes : (stage : Stage) (seen : Seen) (c d : Cursor) (id : ℕ) (bytes : List ℕ) → IsSound seen c → stage ≡ Entries id 0 → passes id ≡ true → 0 < length c.rest → length c.rest < room_of c
+    → run (length c.rest) c ≡ Got bytes d → Goes (standing stage seen) c None (standing stage seen) d
+pass_goes stage seen c d id bytes sound is passing some short e =
+    subst (λ (f : Cursor). Goes (standing stage seen) c None (standing stage seen) f) (sym (past_all c d bytes short e)) there
+  where
+    there : Goes (standing stage seen) c None (standing stage seen) (record { at = c.at + length c.rest; rest = []; end = c.end })
+    there = record {
+      leads = subst (λ (q : Stage). Leads q seen c None q seen (record { at = c.at + length c.rest; rest = []; end = c.end })) (sym is) (pass_leads seen c.at c.end id c.rest passing (omega arith));
+      sound = record { counts = (sound_moved {least = 0} seen c (record { at = c.at + length c.rest; rest = []; end = c.end }) sound (record { more = omega arith; same = omega arith })).counts; fits = omega (arith, sound.fits) };
+      less = λ _. omega (arith, some);
+      same = λ _. refl;
+      passed = record { taken = c.rest; parts = sym (append-nil c.rest); at = refl };
+    }
+
+pub pass_goes_at : (stage : Stage) (seen : Seen) (c d : Cursor) (id n : ℕ) (bytes : List ℕ) → IsSound seen c → stage ≡ Entries id 0 → passes id ≡ true → n ≡ length c.rest → 0 < n → n < room_of c
+    → run n c ≡ Got bytes d → Goes (standing stage seen) c None (standing stage seen) d
+pass_goes_at stage seen c d id n bytes sound is passing e some short h =
+    pass_goes stage seen c d id bytes sound is passing (omega arith) (omega arith) (subst (λ (k : ℕ). run k c ≡ Got bytes d) e h)
+
+-- ---- bytes that are there
+
+pub none_left : (bytes : List ℕ) → eqb (length bytes) 0 ≡ true → bytes ≡ []
+none_left [] e = refl
+none_left (b ∷ rest) e = absurd (let t = eqb-true (length (b ∷ rest)) 0 e in omega (t, arith))
+
+pub some_left : (bytes : List ℕ) → eqb (length bytes) 0 ≡ false → (b : ℕ) × (rest : List ℕ) × (bytes ≡ b ∷ rest)
+some_left [] e = absurd cc
+some_left (b ∷ rest) e = (b, rest, refl)

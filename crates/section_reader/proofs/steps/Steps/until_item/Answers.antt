@@ -1,0 +1,11 @@
+use Rattle.std.proofs.Common.{subst, Option}
+use Rattle.wasm_defs.specs.declared.item.Item.{Item}
+use Rattle.section_reader.specs.Stepped.{Goes}
+use Rattle.section_reader.proofs.Reaching.{goes_on, reaches_item}
+use Rattle.section_reader.proofs.steps.Steps.until_item.Goals as goal
+
+pub returns-in-Ok-Some-clause-reaches : goal.returns-in-Ok-Some-clause-reaches
+returns-in-Ok-Some-clause-reaches c = reaches_item c.args.self.now c.steps.self c.step.new.self c.args.fields.now c.steps.fields c.step.new.fields c.in-Ok-Some.item c.steps.invariant (subst (λ (x : Option Item). Goes c.steps.self c.steps.fields x c.step.new.self c.step.new.fields) c.in-Ok-Some.field-0-is c.in-Ok-Some.ensures.stepped)
+
+pub steps-preserved : goal.steps-preserved
+steps-preserved c = goes_on c.args.self.now c.steps.self c.step.new.self c.args.fields.now c.steps.fields c.step.new.fields c.steps.invariant (subst (λ (x : Option Item). Goes c.steps.self c.steps.fields x c.step.new.self c.step.new.fields) c.in-Ok-None.field-0-is c.in-Ok-None.ensures.stepped)

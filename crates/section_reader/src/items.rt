@@ -1,0 +1,79 @@
+//! Items for a reader that passes over bodies: how many entries a section has, and each of them (WebAssembly Core 1.0, 5.5.2).
+
+ghost use Rattle.std.specs.Prelude.{◌≡◌, ◌+◌, ◌<◌, ◌^◌};
+ghost use Rattle.wasm_defs.specs.Entries.{segment};
+ghost use Rattle.wasm_defs.specs.Outside.{Listed};
+ghost use Rattle.leb_feed.specs.Reads.{Reads};
+ghost use Rattle.section_reader.specs.Outline.{outline_row};
+ghost use Rattle.section_reader.specs.Stages.{Awaits, passes};
+
+use crate::entries::{
+    code, element, exported, function, global, imported, memory, segment, signature, start, table,
+};
+use crate::entry_fields::{constant, sole};
+use crate::rows::front;
+use crate::seen::Seen;
+use leb_feed::{Fields, Stop};
+use std::alloc::Global;
+use wasm_defs::{Item, ValType};
+
+/// How many entries a section has; the code section has one, its count.
+pub fn entry_count(fields: &mut Fields<'_>, alloc: Global, id: u8, seen: &Seen) -> Result<u64, Stop>
+    requires { seen.now.declared + 1 < 2 ^ 64 }
+    ensures { Reads ((outline_row id).front seen.now) (λ n. n) result fields.old fields.new }
+{
+    if id == 10 {
+        return Ok(1);
+    }
+    front(fields, alloc, id, seen)
+}
+
+/// The next entry.
+pub fn next_item(fields: &mut Fields<'_>, alloc: Global, id: u8, seen: &Seen) -> Result<Item, Stop>
+    ensures { Reads ((outline_row id).entry seen.now) Listed result fields.old fields.new }
+{
+    let item = match id {
+        1 => signature(fields, alloc, seen)?,
+        2 => imported(fields, alloc, seen)?,
+        3 => function(fields, seen)?,
+        4 => table(fields, seen)?,
+        5 => memory(fields, seen)?,
+        6 => global(fields, seen)?,
+        7 => exported(fields, alloc, seen)?,
+        8 => start(fields, seen)?,
+        9 => element(fields, alloc, seen)?,
+        10 => code(fields, seen)?,
+        11 => segment(fields, alloc, seen)?,
+        _ => start(fields, seen)?,
+    };
+    Ok(item)
+}
+
+/// Whether what a section has left after its entries is passed over: that of a custom section, and the bodies.
+pub fn is_passed_over(id: u8) -> bool
+    ensures { result ≡ passes id }
+{
+    id == 0 || id == 10 || 11 < id
+}
+
+/// How many bytes of a data segment may come before it is whole, if it is known: all but the last of those that its length
+/// owes.
+pub fn data_bytes_owed(fields: &mut Fields<'_>, seen: &Seen) -> u64
+    ensures { 0 < result → Awaits (segment seen.now) fields.old result }
+{
+    let Ok(_) = sole(fields, seen.memories) else {
+        return 0;
+    };
+    let Ok(_) = constant(fields, ValType::I32) else {
+        return 0;
+    };
+    let Ok(length) = fields.u32() else {
+        return 0;
+    };
+    let owed = u64::from(length.1);
+    let there = fields.rest().len() as u64;
+    if fields.room() < owed || owed <= there {
+        return 0;
+    }
+    owed - there - 1
+}

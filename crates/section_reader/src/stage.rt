@@ -1,0 +1,23 @@
+//! Where a push reader stands in a module.
+//!
+//! ```text
+//! Preamble ---> Between ---header---> Contents(id) ---count---> Entries(id, n) ---item---> Entries(id, n - 1)
+//!                  ^                                                  |
+//!                  +---------------- section's end ------------ Entries(id, 0)
+//! ```
+//!
+//! A custom section has no entries, and the code section one, its count: what these two have left is passed over in
+//! `Entries(id, 0)` as it comes.
+
+/// Where reading stands.
+#[derive(Clone, Copy, Debug, PartialEq, Eq)]
+pub enum Stage {
+    /// Before the magic bytes.
+    Preamble,
+    /// Between two sections.
+    Between,
+    /// After a section's size.
+    Contents(u8),
+    /// Before so many entries of a section.
+    Entries(u8, u64),
+}

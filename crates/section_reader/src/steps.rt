@@ -1,0 +1,301 @@
+//! Reading step by step: up to the next stage, or to the next item.
+
+ghost use Rattle.std.specs.Prelude.{◌≡◌, ◌<◌, ◌≤◌, ℕ, length, true, false, None, Some, IfOk, IfSome};
+ghost use Rattle.section_reader.specs.Left.{IsSound};
+ghost use Rattle.section_reader.specs.Stages.{IsFree, IsOwed, is_at_data, passes, cut_there, code_due, silent, is_at_bodies};
+ghost use Rattle.section_reader.specs.Stepped.{Stepped, Reaches};
+
+use crate::items::{data_bytes_owed, entry_count, is_passed_over, next_item};
+use crate::rows::rest_of_section;
+use crate::sections::{header, preamble, section_end};
+use crate::seen::Seen;
+use crate::stage::Stage;
+use leb_feed::{Fields, Stop};
+use std::alloc::Global;
+use wasm_defs::{FrontStop, Item, Kind, Refusal};
+
+/// How far reading came: where it stands, and what was seen.
+#[derive(Drop)]
+pub struct Steps {
+    pub stage: Stage,
+    pub seen: Seen,
+}
+
+/// Where steps stood, and the last section before.
+#[derive(Clone, Copy, Debug, PartialEq, Eq)]
+pub struct Mark {
+    stage: Stage,
+    last: u8,
+}
+
+impl Steps {
+    /// Reads on until an item is whole, or as far as the bytes go. An item leaves so many bytes at most.
+    pub fn until_item(
+        &mut self,
+        alloc: Global,
+        fields: &mut Fields<'_>,
+        most: usize,
+    ) -> Result<Option<Item>, FrontStop>
+        requires { IsSound self.old.seen fields.old }
+        ensures reaches { Reaches self.old fields.old result self.new fields.new }
+        ensures near { IfOk result (λ x. IfSome x (λ i. length fields.new.rest ≤ most)) }
+    {
+        'steps: loop {
+            match self.step(alloc, fields, most) {
+                Ok(Some(item)) => return Ok(Some(item)),
+                Ok(None) => {}
+                Err(Stop::Wants) => return Ok(None),
+                Err(Stop::Refused(refusal)) => return Err(FrontStop::Refused(refusal)),
+                Err(Stop::NoMemory) => return Err(FrontStop::NoMemory),
+            }
+        }
+    }
+
+    /// Where it stands.
+    pub fn mark(&self) -> Mark
+        ensures { result ≡ record { stage = self.now.stage; last = self.now.seen.last } }
+    {
+        Mark {
+            stage: self.stage,
+            last: self.seen.last,
+        }
+    }
+
+    /// The fault where no further bytes come: all bytes before the offset are read, and the section ends at `end`.
+    pub fn ending(&self, at: u64, end: u64) -> Option<Refusal>
+        ensures { result ≡ silent self.now.stage self.now.seen at end }
+    {
+        match self.stage {
+            Stage::Preamble | Stage::Contents(_) => cut_there(at, end),
+            Stage::Between => self.code_due(at),
+            Stage::Entries(_, n) => {
+                if 0 < n {
+                    cut_there(at, end)
+                } else if at == end {
+                    self.code_due(at)
+                } else {
+                    ended(at)
+                }
+            }
+        }
+    }
+
+    /// The code section is owed, where functions are declared.
+    fn code_due(&self, at: u64) -> Option<Refusal>
+        ensures { result ≡ code_due self.now.seen at }
+    {
+        if self.seen.owes_code() {
+            return ended(at);
+        }
+        None
+    }
+
+    /// How many bytes may come, whatever they are, before those that are there are read again: with them nothing is read
+    /// yet.
+    pub fn free_bytes(&self, fields: &Fields<'_>) -> u64
+        ensures { IsOwed self.now.stage self.now.seen fields.now → 0 < length fields.now.rest → IsFree self.now.stage self.now.seen fields.now result }
+    {
+        if !self.is_at_data() {
+            return 0;
+        }
+        let mut next = fields.fork();
+        data_bytes_owed(&mut next, &self.seen)
+    }
+
+    /// Whether a data segment comes next.
+    fn is_at_data(&self) -> bool
+        ensures { result ≡ is_at_data self.now.stage }
+    {
+        match self.stage {
+            Stage::Entries(id, n) => id == 11 && 0 < n,
+            _ => false,
+        }
+    }
+
+    /// Whether the bodies come next.
+    pub fn is_at_bodies(&self) -> bool
+        ensures { result ≡ is_at_bodies self.now.stage }
+    {
+        match self.stage {
+            Stage::Entries(id, n) => id == 10 && n == 0,
+            _ => false,
+        }
+    }
+
+    /// Stands again where it stood, with no items more.
+    pub fn return_to(&mut self, mark: Mark)
+        ensures { self.new ≡ record { stage = mark.stage; seen = record self.old.seen { last = mark.last } } }
+    {
+        self.stage = mark.stage;
+        self.seen.last = mark.last;
+    }
+
+    /// Reads one item, or up to the next stage. Where reading stops, all is as it was.
+    fn step(
+        &mut self,
+        alloc: Global,
+        fields: &mut Fields<'_>,
+        most: usize,
+    ) -> Result<Option<Item>, Stop>
+        requires { IsSound self.old.seen fields.old }
+        ensures stepped { Stepped self.old fields.old result self.new fields.new }
+        ensures near { IfOk result (λ x. IfSome x (λ i. length fields.new.rest ≤ most)) }
+    {
+        match self.stage {
+            Stage::Preamble => self.begin(fields),
+            Stage::Between => self.open(fields),
+            Stage::Contents(id) => self.count(alloc, fields, id),
+            Stage::Entries(id, n) => {
+                if n != 0 {
+                    return self.read(alloc, fields, id, n, most);
+                }
+                if is_passed_over(id) {
+                    return self.pass(fields, id);
+                }
+                self.leave(fields, id)
+            }
+        }
+    }
+
+    /// Before the magic bytes.
+    fn begin(&mut self, fields: &mut Fields<'_>) -> Result<Option<Item>, Stop>
+        requires sound { IsSound self.old.seen fields.old }
+        requires stage { self.old.stage ≡ Stage.Preamble }
+        ensures stepped { Stepped self.old fields.old result self.new fields.new }
+        ensures none { IfOk result (λ x. x ≡ None) }
+    {
+        let mut next = fields.fork();
+        preamble(&mut next)?;
+        *fields = next;
+        self.stage = Stage::Between;
+        Ok(None)
+    }
+
+    /// Between two sections.
+    fn open(&mut self, fields: &mut Fields<'_>) -> Result<Option<Item>, Stop>
+        requires sound { IsSound self.old.seen fields.old }
+        requires stage { self.old.stage ≡ Stage.Between }
+        ensures stepped { Stepped self.old fields.old result self.new fields.new }
+        ensures none { IfOk result (λ x. x ≡ None) }
+    {
+        if fields.rest().is_empty() {
+            return Err(Stop::Wants);
+        }
+        let mut next = fields.fork();
+        let (id, end) = header(&mut next, &self.seen)?;
+        next.enter(end);
+        *fields = next;
+        self.seen.enter(id);
+        self.stage = Stage::Contents(id);
+        Ok(None)
+    }
+
+    /// After a section's size.
+    fn count(
+        &mut self,
+        alloc: Global,
+        fields: &mut Fields<'_>,
+        id: u8,
+    ) -> Result<Option<Item>, Stop>
+        requires sound { IsSound self.old.seen fields.old }
+        requires stage { self.old.stage ≡ Stage.Contents id }
+        ensures stepped { Stepped self.old fields.old result self.new fields.new }
+        ensures none { IfOk result (λ x. x ≡ None) }
+    {
+        let mut next = fields.fork();
+        let n = entry_count(&mut next, alloc, id, &self.seen)?;
+        *fields = next;
+        self.stage = Stage::Entries(id, n);
+        Ok(None)
+    }
+
+    /// Before so many entries.
+    fn read(
+        &mut self,
+        alloc: Global,
+        fields: &mut Fields<'_>,
+        id: u8,
+        n: u64,
+        most: usize,
+    ) -> Result<Option<Item>, Stop>
+        requires sound { IsSound self.old.seen fields.old }
+        requires stage { self.old.stage ≡ Stage.Entries id n }
+        requires some { 0 < n }
+        ensures stepped { Stepped self.old fields.old result self.new fields.new }
+        ensures near { IfOk result (λ x. IfSome x (λ i. length fields.new.rest ≤ most)) }
+    {
+        let mut next = fields.fork();
+        let item = next_item(&mut next, alloc, id, &self.seen)?;
+        if most < next.rest().len() {
+            return Err(Stop::NoMemory);
+        }
+        self.seen.note_item(alloc, &item)?;
+        *fields = next;
+        self.stage = Stage::Entries(id, n - 1);
+        Ok(Some(item))
+    }
+
+    /// After a section's entries.
+    fn leave(&mut self, fields: &mut Fields<'_>, id: u8) -> Result<Option<Item>, Stop>
+        requires sound { IsSound self.old.seen fields.old }
+        requires stage { self.old.stage ≡ Stage.Entries id 0 }
+        requires listing { passes id ≡ false }
+        ensures stepped { Stepped self.old fields.old result self.new fields.new }
+        ensures none { IfOk result (λ x. x ≡ None) }
+    {
+        let mut next = fields.fork();
+        section_end(&mut next)?;
+        *fields = next;
+        self.stage = Stage::Between;
+        Ok(None)
+    }
+
+    /// Passes over the bytes that are there of what the section has left.
+    fn pass(&mut self, fields: &mut Fields<'_>, id: u8) -> Result<Option<Item>, Stop>
+        requires sound { IsSound self.old.seen fields.old }
+        requires stage { self.old.stage ≡ Stage.Entries id 0 }
+        requires passing { passes id ≡ true }
+        ensures stepped { Stepped self.old fields.old result self.new fields.new }
+        ensures none { IfOk result (λ x. x ≡ None) }
+    {
+        let there = fields.rest().len() as u64;
+        let room = fields.room();
+        if room <= there {
+            let mut next = fields.fork();
+            rest_of_section(&mut next)?;
+            section_end(&mut next)?;
+            *fields = next;
+            self.stage = Stage::Between;
+            return Ok(None);
+        }
+        if there == 0 {
+            return Err(Stop::Wants);
+        }
+        let mut next = fields.fork();
+        next.run(there)?;
+        *fields = next;
+        Ok(None)
+    }
+}
+
+fn ended(offset: u64) -> Option<Refusal>
+    ensures { result ≡ Some (record { offset = offset; kind = Kind.Ended }) }
+{
+    Some(Refusal {
+        offset,
+        kind: Kind::Ended,
+    })
+}
+
+/// A field that is cut off.
+fn cut_there(at: u64, end: u64) -> Option<Refusal>
+    ensures { result ≡ cut_there at end }
+{
+    if at == end {
+        return Some(Refusal {
+            offset: at,
+            kind: Kind::Malformed,
+        });
+    }
+    ended(at)
+}
