@@ -1,0 +1,5 @@
+pub mod Sizes
+pub mod Steps
+pub mod Fills
+pub mod Batches
+pub mod Cuts

@@ -1,0 +1,137 @@
+//! The cutter: bytes go in as they come, and batches of bodies come out.
+
+ghost use Rattle.std.specs.Prelude.{◌≡◌, ◌<◌, ◌≤◌, ◌+◌, ◌^◌, ◌++◌, ℕ, List, length, take, None, OnOk, OnErr};
+ghost use Rattle.body_cutter.specs.Sections.{bodies_from};
+ghost use Rattle.body_cutter.specs.Cuttings.{left, handed, no_batch, IsPrompt, Feeds, Ends, Takes};
+
+use crate::batch::Batch;
+use crate::queue::Queue;
+use crate::walk::Walk;
+use std::alloc::{AllocError, Global};
+use std::marker::Model;
+use wasm_defs::{FrontStop, Kind, Refusal};
+
+/// Cuts a code section into bodies, behind its count. Contracts see of it what it still hands over (`left`).
+#[derive(Drop)]
+pub struct Cutter {
+    walk: Walk,
+    queue: Queue,
+}
+
+impl Model for Cutter {
+    ghost use Rattle.std.specs.Prelude.{◌≡◌, []};
+    ghost use Rattle.body_cutter.specs.Cuttings.{Cutting};
+    ghost use Rattle.body_cutter.specs.Walks.{place_of, IsSound};
+    ghost use Rattle.body_cutter.specs.Held.{IsHeld};
+
+    ghost Value = { Cutting };
+
+    ghost view = { λ c. record { place = place_of c.walk; queue = c.queue } };
+
+    ghost invariant = { λ c. IsHeld c.walk c.queue };
+}
+
+impl Cutter {
+    /// Before the first body's size, at `first_offset`, in a section of `count` bodies that ends at `section_end`. The first
+    /// body is that of the function `first_index`. A batch closes where its bodies have `batch_bytes` bytes.
+    pub fn new(
+        alloc: Global,
+        count: u32,
+        first_index: u32,
+        first_offset: u64,
+        section_end: u64,
+        batch_bytes: u32,
+    ) -> Self
+        requires indices { first_index + count < 2 ^ 32 }
+        requires ahead { first_offset ≤ section_end }
+        requires near { section_end < 2 ^ 60 }
+        ensures left { (more : List ℕ) → left result more ≡ handed (no_batch batch_bytes) (bodies_from first_index count (record { at = first_offset; rest = more; end = section_end })) }
+        ensures at { result.place.at ≡ first_offset }
+        ensures end { result.place.end ≡ section_end }
+    {
+        Cutter {
+            walk: Walk::new(alloc, first_index + count, count, first_offset, section_end),
+            queue: Queue::new(alloc, batch_bytes),
+        }
+    }
+
+    /// The next bytes. All that lie in the section are taken; it says how many.
+    ///
+    /// # Errors
+    /// `Refused` where a size or the section's end is at fault (Core 5.5.13), and from then on. `NoMemory` leaves the cutter as
+    /// it was.
+    pub fn feed(&mut self, bytes: &[u8]) -> Result<usize, FrontStop>
+        ensures { Feeds self.old bytes.now result self.new }
+    {
+        if let Some(refusal) = self.walk.stop {
+            return Err(FrontStop::Refused(refusal));
+        }
+        let taken = first_of(bytes, self.walk.end - self.walk.at);
+        if self.take_in(taken).is_err() {
+            return Err(FrontStop::NoMemory);
+        }
+        if let Some(refusal) = self.walk.stop {
+            return Err(FrontStop::Refused(refusal));
+        }
+        Ok(taken.len())
+    }
+
+    /// Bytes that lie in the section.
+    fn take_in(&mut self, piece: &[u8]) -> Result<(), AllocError>
+        requires going { self.old.place.stop ≡ None }
+        requires inside { self.old.place.at + length piece.now ≤ self.old.place.end }
+        ensures same { OnOk result ((more : List ℕ) → left self.old (piece.now ++ more) ≡ left self.new more) }
+        ensures prompt { OnOk result (IsPrompt self.new) }
+        ensures place { OnOk result ((self.new.place.stop ≡ None → self.new.place.at ≡ self.old.place.at + length piece.now) × (self.new.place.end ≡ self.old.place.end)) }
+        ensures err { OnErr result (self.new ≡ self.old) }
+    {
+        let saved = self.walk.save();
+        if self.walk.run(piece).is_err() || self.queue.append(&mut self.walk.done).is_err() {
+            self.walk.restore(saved);
+            return Err(AllocError);
+        }
+        if self.walk.is_over() {
+            self.queue.close();
+        }
+        Ok(())
+    }
+
+    /// The first closed batch, or none where no batch is closed. It takes no memory.
+    pub fn take_batch(&mut self) -> Option<Batch>
+        ensures { Takes self.old result self.new }
+    {
+        self.queue.take()
+    }
+
+    /// The bytes ended, or their source failed. It takes no memory.
+    ///
+    /// # Errors
+    /// `Refused` where the section isn't whole: the fault that was told before, or else `Ended` at the number of bytes.
+    pub fn end(&mut self) -> Result<(), FrontStop>
+        ensures { Ends self.old result self.new }
+    {
+        if let Some(refusal) = self.walk.stop {
+            return Err(FrontStop::Refused(refusal));
+        }
+        if self.walk.is_over() {
+            return Ok(());
+        }
+        let refusal = Refusal {
+            offset: self.walk.at,
+            kind: Kind::Ended,
+        };
+        self.walk.stop = Some(refusal);
+        self.queue.close();
+        Err(FrontStop::Refused(refusal))
+    }
+}
+
+/// So many bytes, or all of them where there are fewer.
+fn first_of(bytes: &[u8], most: u64) -> &[u8]
+    ensures { result.now ≡ take most bytes.now }
+{
+    if (bytes.len() as u64) < most {
+        return bytes;
+    }
+    &bytes[..most as usize]
+}

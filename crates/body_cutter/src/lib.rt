@@ -1,0 +1,16 @@
+//! Cuts the code section into its function bodies while its bytes come, however they are cut into pieces, and hands the
+//! bodies over in batches (WebAssembly Core 1.0, 5.5.13).
+#![tactic(auto)]
+
+mod batch;
+mod body;
+mod cutter;
+mod queue;
+mod walk;
+
+pub use batch::{Batch, Bodies};
+pub use body::{Body, BodyBytes};
+pub use cutter::Cutter;
+
+#[cfg(test)]
+mod tests;

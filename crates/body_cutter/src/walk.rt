@@ -1,0 +1,335 @@
+//! A walk over the bytes of a code section.
+//!
+//! ```text
+//! in a size ---right---> in a body ---its last byte---> in a size, or at the section's end
+//! ```
+
+ghost use Rattle.std.specs.Prelude.{◌≡◌, ◌<◌, ◌≤◌, ◌+◌, ◌-◌, ◌^◌, ℕ, List, [], ◌∷◌, ◌++◌, length, take, drop, false, true, None, IsOk, OnOk, OnErr, IfOk, IfNone, pos, ◌≤ℤ◌, ◌<ℤ◌};
+ghost use Rattle.leb_feed.specs.Feeding.{IsUnfinished};
+ghost use Rattle.body_cutter.specs.Sections.{size_fault, bodies_from};
+ghost use Rattle.body_cutter.specs.Walks.{given, index_of, first_bytes, is_over, IsSound, IsBetween, IsFull, Begins};
+
+use crate::body::{Body, BodyBytes};
+use leb_feed::{Fed, Leb};
+use std::alloc::{AllocError, Global};
+use std::collections::LinkedList;
+use std::mem::replace;
+use wasm_defs::{Kind, MAX_BODY, Refusal};
+
+/// Where reading stands in the section, and the bodies that were completed on the way.
+#[derive(Drop)]
+pub struct Walk {
+    pub alloc: Global,
+    /// The index of the function behind the last body's.
+    pub behind: u32,
+    /// The offset where the section ends.
+    pub end: u64,
+    /// How many bodies are to come, the one in hand among them.
+    pub count: u32,
+    /// The offset of the next byte.
+    pub at: u64,
+    /// The offset of the size of the body in hand.
+    pub size_at: u64,
+    /// The bytes of that size, until it is whole.
+    pub leb: Leb,
+    /// Whether the size is whole.
+    pub sized: bool,
+    /// The size, if it is whole.
+    pub len: u32,
+    /// The bytes of the body that came.
+    pub bytes: Vec<u8>,
+    /// The bodies that were completed.
+    pub done: LinkedList<Body>,
+    /// The first fault.
+    pub stop: Option<Refusal>,
+}
+
+/// Before the first byte of a size.
+fn next_size() -> Leb
+    ensures begun { result ≡ record { bits = 32; signed = false; bytes = [] } }
+    ensures unfinished { IsUnfinished result }
+{
+    Leb::new(32, false)
+}
+
+fn natural(n: i128) -> u32
+    requires low { pos 0 ≤ℤ n }
+    requires high { n <ℤ pos (2 ^ 32) }
+    ensures { pos result ≡ n }
+{
+    n as u32
+}
+
+/// What is wrong with a size behind which the section has so many bytes.
+fn size_fault(size: u32, room: u64) -> Option<Kind>
+    ensures exact { result ≡ size_fault size room }
+    ensures right { IfNone result ((2 ≤ size) × (size ≤ room) × (size ≤ 1048576)) }
+{
+    if size < 2 || room < u64::from(size) {
+        return Some(Kind::Malformed);
+    }
+    if MAX_BODY < size {
+        return Some(Kind::Limit);
+    }
+    None
+}
+
+/// What a walk is put back to.
+#[derive(Drop)]
+pub struct Saved {
+    count: u32,
+    at: u64,
+    size_at: u64,
+    leb: Leb,
+    sized: bool,
+    len: u32,
+    kept: usize,
+}
+
+impl Walk {
+    /// Where the walk stands, to be put back where memory runs out on the way.
+    pub fn save(&self) -> Saved
+        ensures { result ≡ record { count = self.now.count; at = self.now.at; size_at = self.now.size_at; leb = self.now.leb; sized = self.now.sized; len = self.now.len; kept = length self.now.bytes.items } }
+    {
+        Saved {
+            count: self.count,
+            at: self.at,
+            size_at: self.size_at,
+            leb: self.leb.fork(),
+            sized: self.sized,
+            len: self.len,
+            kept: self.bytes.len(),
+        }
+    }
+
+    /// Puts the walk back where it stood, without copying bytes: those of the body in hand are the first ones that came.
+    pub fn restore(&mut self, saved: Saved)
+        ensures place { (self.new.count ≡ saved.count) × (self.new.at ≡ saved.at) × (self.new.size_at ≡ saved.size_at) × (self.new.leb ≡ saved.leb) × (self.new.sized ≡ saved.sized) × (self.new.len ≡ saved.len) }
+        ensures bytes { self.new.bytes.items ≡ take saved.kept (first_bytes self.old.done self.old.bytes.items) }
+        ensures rest { (self.new.done ≡ []) × (self.new.stop ≡ None) × (self.new.behind ≡ self.old.behind) × (self.new.end ≡ self.old.end) }
+    {
+        let Saved {
+            count,
+            at,
+            size_at,
+            leb,
+            sized,
+            len,
+            kept,
+        } = saved;
+        self.count = count;
+        self.at = at;
+        self.size_at = size_at;
+        self.leb = leb;
+        self.sized = sized;
+        self.len = len;
+        self.stop = None;
+        if let Some(body) = self.done.pop_front() {
+            self.bytes = body.bytes.into_vec();
+        }
+        self.done.clear();
+        self.bytes.truncate(kept);
+    }
+
+    /// Whether no byte of the section can follow: it is whole, or has a fault.
+    pub fn is_over(&self) -> bool
+        requires { IsSound self.now }
+        ensures { result ≡ is_over self.now }
+    {
+        self.stop.is_some() || (self.count == 0 && self.at == self.end)
+    }
+
+    /// Before the first of so many bodies, whose size has the offset `at`. The index of the function behind the last body's
+    /// is `behind`.
+    pub fn new(alloc: Global, behind: u32, count: u32, at: u64, end: u64) -> Self
+        requires counted { count ≤ behind }
+        requires inside { at ≤ end }
+        requires fits { end < 2 ^ 60 }
+        ensures given { (more : List ℕ) → given result more ≡ bodies_from (behind - count) count (record { at = at; rest = more; end = end }) }
+        ensures sound { IsSound result }
+        ensures place { (result.behind ≡ behind) × (result.count ≡ count) × (result.at ≡ at) × (result.end ≡ end) × (result.done ≡ []) }
+    {
+        let mut walk = Walk {
+            alloc,
+            behind,
+            end,
+            count,
+            at,
+            size_at: at,
+            leb: next_size(),
+            sized: false,
+            len: 0,
+            bytes: Vec::new(alloc),
+            done: LinkedList::new(alloc),
+            stop: None,
+        };
+        walk.settle();
+        walk
+    }
+
+    /// The next byte of a size, or one behind the last body.
+    pub fn size_byte(&mut self, byte: u8)
+        requires sound { IsSound self.old }
+        requires in_size { self.old.sized ≡ false }
+        requires going { self.old.stop ≡ None }
+        requires inside { self.old.at < self.old.end }
+        ensures same { (more : List ℕ) → given self.old (byte ∷ more) ≡ given self.new more }
+        ensures sound { IsSound self.new }
+        ensures place { (self.new.end ≡ self.old.end) × (self.new.behind ≡ self.old.behind) }
+        ensures kept { (self.new.done ≡ self.old.done) × (self.new.count ≡ self.old.count) }
+        ensures bytes { self.new.bytes.items ≡ self.old.bytes.items }
+        ensures taken { self.new.stop ≡ None → self.new.at ≡ self.old.at + 1 }
+    {
+        if self.count == 0 {
+            self.stop = Some(Refusal {
+                offset: self.at,
+                kind: Kind::Malformed,
+            });
+            return;
+        }
+        self.at += 1;
+        match self.leb.feed(byte) {
+            Fed::More => {
+                if self.at == self.end {
+                    self.stop = Some(Refusal {
+                        offset: self.size_at,
+                        kind: Kind::Malformed,
+                    });
+                }
+            }
+            Fed::Bad => {
+                self.stop = Some(Refusal {
+                    offset: self.size_at,
+                    kind: Kind::Malformed,
+                });
+            }
+            Fed::Done(n) => {
+                let size = natural(n);
+                match size_fault(size, self.end - self.at) {
+                    Some(kind) => {
+                        self.stop = Some(Refusal {
+                            offset: self.size_at,
+                            kind,
+                        });
+                    }
+                    None => {
+                        self.len = size;
+                        self.sized = true;
+                    }
+                }
+            }
+        }
+    }
+
+    /// Between two bodies: a size that is owed where the section has no byte left is malformed there.
+    pub fn settle(&mut self)
+        requires { IsBetween self.old }
+        ensures same { (more : List ℕ) → given self.old more ≡ given self.new more }
+        ensures sound { IsSound self.new }
+        ensures only { self.new ≡ record self.old { stop = self.new.stop } }
+    {
+        if 0 < self.count && self.at == self.end {
+            self.stop = Some(Refusal {
+                offset: self.at,
+                kind: Kind::Malformed,
+            });
+        }
+    }
+
+    /// The body in hand is complete. Where memory runs out, it stays in hand.
+    fn complete(&mut self) -> Result<(), AllocError>
+        requires { IsFull self.old }
+        ensures same { OnOk result ((more : List ℕ) → given self.old more ≡ given self.new more) }
+        ensures sound { OnOk result (IsSound self.new) }
+        ensures given { OnOk result (self.new.done ≡ self.old.done ++ record { index = index_of self.old; size = self.old.size_at; first = self.old.at - self.old.len; bytes = self.old.bytes.items } ∷ []) }
+        ensures place { (self.new.end ≡ self.old.end) × (self.new.at ≡ self.old.at) × (self.new.behind ≡ self.old.behind) }
+        ensures count { OnOk result (self.new.count + 1 ≡ self.old.count) }
+        ensures kept { OnErr result ((self.new.done ≡ self.old.done) × (self.new.bytes.items ≡ self.old.bytes.items)) }
+    {
+        let bytes = replace(&mut self.bytes, Vec::new(self.alloc));
+        let body = Body {
+            index: self.behind - self.count,
+            size: self.size_at,
+            first: self.at - u64::from(self.len),
+            bytes: BodyBytes::new(bytes),
+        };
+        match self.done.push_back(body) {
+            Ok(()) => {
+                self.count -= 1;
+                self.sized = false;
+                self.size_at = self.at;
+                self.leb = next_size();
+                self.settle();
+                Ok(())
+            }
+            Err(failed) => {
+                self.bytes = failed.value.bytes.into_vec();
+                Err(AllocError)
+            }
+        }
+    }
+
+    /// The next bytes of a body. Where memory runs out, the bytes that came before are still there.
+    fn body_bytes(&mut self, piece: &[u8]) -> Result<(), AllocError>
+        requires sound { IsSound self.old }
+        requires in_body { self.old.sized ≡ true }
+        requires going { self.old.stop ≡ None }
+        requires fits { length self.old.bytes.items + length piece.now ≤ self.old.len }
+        ensures same { OnOk result ((more : List ℕ) → given self.old (piece.now ++ more) ≡ given self.new more) }
+        ensures sound { OnOk result (IsSound self.new) }
+        ensures end { (self.new.end ≡ self.old.end) × (self.new.behind ≡ self.old.behind) }
+        ensures counts { OnOk result (length self.new.done + self.new.count ≡ length self.old.done + self.old.count) }
+        ensures at { OnOk result (self.new.at ≡ self.old.at + length piece.now) }
+        ensures begins { (before : List ℕ) → Begins before self.old → Begins before self.new }
+    {
+        self.bytes.extend_from_slice(piece)?;
+        self.at += piece.len() as u64;
+        if self.bytes.len() < self.len as usize {
+            return Ok(());
+        }
+        self.complete()
+    }
+
+    /// Some of the next bytes, one at least; those that are left are handed back.
+    fn step<'a>(&mut self, bytes: &'a [u8]) -> Result<&'a [u8], AllocError>
+        requires sound { IsSound self.old }
+        requires going { self.old.stop ≡ None }
+        requires some { 0 < length bytes.now }
+        requires inside { self.old.at + length bytes.now ≤ self.old.end }
+        ensures same { IfOk result (λ rest. (more : List ℕ) → given self.old (bytes.now ++ more) ≡ given self.new (rest.now ++ more)) }
+        ensures less { IfOk result (λ rest. length rest.now < length bytes.now) }
+        ensures sound { OnOk result (IsSound self.new) }
+        ensures end { (self.new.end ≡ self.old.end) × (self.new.behind ≡ self.old.behind) }
+        ensures counts { OnOk result (length self.new.done + self.new.count ≡ length self.old.done + self.old.count) }
+        ensures at { IfOk result (λ rest. self.new.stop ≡ None → self.new.at + length rest.now ≡ self.old.at + length bytes.now) }
+        ensures begins { (before : List ℕ) → Begins before self.old → Begins before self.new }
+    {
+        if !self.sized {
+            self.size_byte(bytes[0]);
+            return Ok(&bytes[1..]);
+        }
+        let owed = self.len as usize - self.bytes.len();
+        let (front, rest) = bytes.split_at(owed.min(bytes.len()));
+        self.body_bytes(front)?;
+        Ok(rest)
+    }
+
+    /// The next bytes, which lie in the section; those behind a fault change nothing. Where memory runs out, the bytes that
+    /// came before of the body in hand are still there.
+    pub fn run(&mut self, bytes: &[u8]) -> Result<(), AllocError>
+        requires sound { IsSound self.old }
+        requires inside { self.old.at + length bytes.now ≤ self.old.end }
+        ensures same { OnOk result ((more : List ℕ) → given self.old (bytes.now ++ more) ≡ given self.new more) }
+        ensures sound { OnOk result (IsSound self.new) }
+        ensures end { (self.new.end ≡ self.old.end) × (self.new.behind ≡ self.old.behind) }
+        ensures counts { OnOk result (length self.new.done + self.new.count ≡ length self.old.done + self.old.count) }
+        ensures at { OnOk result (self.new.stop ≡ None → self.new.at ≡ self.old.at + length bytes.now) }
+        ensures begins { (before : List ℕ) → Begins before self.old → Begins before self.new }
+    {
+        let mut rest = bytes;
+        while !rest.is_empty() && self.stop.is_none() {
+            rest = self.step(rest)?;
+        }
+        Ok(())
+    }
+}
