@@ -8,11 +8,11 @@ use Rattle.rv_isa.specs.Words.{word_of}
 use Rattle.rv_isa.specs.declared.operations.Op.{Op}
 use Rattle.rv_isa.specs.declared.compiled.Code.{Code}
 use Rattle.wasm_defs.specs.declared.item.Item.{Item}
-use Rattle.wasm_defs.specs.declared.item.Item.TheVariants.{Signature, Function, Exported, Code as CodeCount}
+use Rattle.wasm_defs.specs.declared.item.Item.TheVariants.{Signature, Function, Table, Memory, Global, Exported, Code as CodeCount}
 use Rattle.wasm_defs.specs.Typing.{Context}
-use Rattle.wasm_defs.specs.Context.{context_of, import_count, type_of_function}
+use Rattle.wasm_defs.specs.Context.{context_of, globals_of, import_count, type_of_function}
 use Rattle.wasm_defs.specs.Faults.{Module}
-use Rattle.wasm_defs.specs.Instances.{instance_of, is_linkable, exports_of, elements_of, segments_of, rows_of, values_of, start_of, all_over}
+use Rattle.wasm_defs.specs.Instances.{is_linkable, exports_of, rows_of, pages_of, cap_of, values_of, all_over}
 use Rattle.wasm_defs.specs.Values.{Value, words_of as value_words}
 use Rattle.wasm_laws.specs.Plain.{ArePlain, HasNoMore}
 use Rattle.wasm_laws.proofs.Plain.{plain_has_no_more, plain_is_linkable}
@@ -22,22 +22,30 @@ use Rattle.image_format.specs.declared.image.Row.{Row}
 use Rattle.image_format.specs.declared.image.Segment.{Segment}
 use Rattle.image_format.specs.declared.image.Import.{Import}
 use Rattle.image_format.specs.declared.image.Export.{Export}
-use Rattle.index_spaces.specs.Entries.{function_exports, all_exports_of}
+use Rattle.index_spaces.specs.Entries.{function_exports, all_exports_of, initials_of, initial_values}
 use Rattle.index_spaces.specs.Spaces.{Spaces, spaces_of, context_in}
-use Rattle.index_spaces.proofs.EntriesOfItems.{exports_are_of_items}
+use Rattle.index_spaces.proofs.EntriesOfItems.{exports_are_of_items, values_are_of_items}
 use Rattle.image_linker.specs.ImageOf.{image_of, text_of, stubs_from, code_from, places_from, places_of_functions, stub_places, stub_size, front_size, imports_of, export_of, offset_of, row_of, table_of, segment_of, placed_segments, start_offset}
 use Rattle.image_linker.specs.Codes.{AreCodesOf}
-use Rattle.image_linker.specs.Linking.{words_of, starts_from, starts_of, front_words, linked, linked_export}
-use Rattle.image_linker.proofs.Items.{no_stubs, no_rows, no_pages, no_cap}
+use Rattle.image_linker.specs.Linking.{words_of, starts_from, starts_of, front_words, empty_row, linked, linked_export}
+use Rattle.image_linker.proofs.Items.{no_stubs}
 use Rattle.image_linker.proofs.Linked.{words_linked, places_linked}
 
 no_imports : (c : Context) (items : List Item) → ArePlain items → imports_of c items ≡ []
 no_imports c [] h = refl
 no_imports c (Signature form params results ty ∷ items) h = no_imports c items h.1
 no_imports c (Function index ∷ items) h = no_imports c items h.1
+no_imports c (Table element limits ∷ items) h = no_imports c items h.1
+no_imports c (Memory limits ∷ items) h = no_imports c items h.1
+no_imports c (Global ty mutable init ∷ items) h = no_imports c items h.1
 no_imports c (Exported name kind index ∷ items) h = no_imports c items h.1
 no_imports c (CodeCount count end ∷ items) h = no_imports c items h.1
 no_imports c (x ∷ items) h = absurd (false≢true h.0)
+
+-- rows without a function
+rows_made : (m : Module) (n : ℕ) → map (row_of m) (replicate n None) ≡ replicate n empty_row
+rows_made m zero = refl
+rows_made m (suc n) = ap (λ (l : List Row). empty_row ∷ l) (rows_made m n)
 
 -- ---- the image, field by field
 
@@ -76,9 +84,9 @@ module _ (m : Module) (codes : List Code) (plain : ArePlain m.items) (coded : Ar
       ap (λ (l : List (List ℕ × ℕ)). map (linked_export (spaces_of m.items) (starts_of codes)) l) (exports_are_of_items m.items)
       ∙ ap (λ (l : List ℕ). map (linked_export (spaces_of m.items) l) (exports_of m.items)) places_are
 
-  rows_are : [] ≡ table_of m true
+  rows_are : replicate (rows_of m.items) empty_row ≡ table_of m true
   rows_are =
-      ap (λ (n : ℕ). map (row_of m) (all_over (replicate n None) [])) (sym (no_rows m.items plain))
+      sym (rows_made m (rows_of m.items))
       ∙ ap (λ l. map (row_of m) (all_over (replicate (rows_of m.items) None) l)) (sym none.elements)
 
   segments_are : [] ≡ placed_segments m true
@@ -89,16 +97,14 @@ module _ (m : Module) (codes : List Code) (plain : ArePlain m.items) (coded : Ar
 
   pub linked_is_image : linked (spaces_of m.items) codes ≡ image_of m
   linked_is_image =
-      ap (λ (l : List ℕ). image_by l [] [] 0 0 [] [] (map (linked_export (spaces_of m.items) (starts_of codes)) (function_exports (all_exports_of m.items))) 0 (not true)) text_is
-      ∙ ap (λ (l : List Value). image_by (map word_of (text_of m)) (value_words l) [] 0 0 [] [] (map (linked_export (spaces_of m.items) (starts_of codes)) (function_exports (all_exports_of m.items))) 0 (not true)) (sym none.values)
-      ∙ ap (λ (l : List Row). image_by (map word_of (text_of m)) (value_words (values_of m.items)) l 0 0 [] [] (map (linked_export (spaces_of m.items) (starts_of codes)) (function_exports (all_exports_of m.items))) 0 (not true)) rows_are
-      ∙ ap (λ (n : ℕ). image_by (map word_of (text_of m)) (value_words (values_of m.items)) (table_of m true) n 0 [] [] (map (linked_export (spaces_of m.items) (starts_of codes)) (function_exports (all_exports_of m.items))) 0 (not true)) (sym (no_pages m.items plain))
-      ∙ ap (λ (n : ℕ). image_by (map word_of (text_of m)) (value_words (values_of m.items)) (table_of m true) (image_of m).pages n [] [] (map (linked_export (spaces_of m.items) (starts_of codes)) (function_exports (all_exports_of m.items))) 0 (not true)) (sym (no_cap m.items plain))
-      ∙ ap (λ (l : List Segment). image_by (map word_of (text_of m)) (value_words (values_of m.items)) (table_of m true) (image_of m).pages (image_of m).cap l [] (map (linked_export (spaces_of m.items) (starts_of codes)) (function_exports (all_exports_of m.items))) 0 (not true)) segments_are
-      ∙ ap (λ (l : List Import). image_by (map word_of (text_of m)) (value_words (values_of m.items)) (table_of m true) (image_of m).pages (image_of m).cap (placed_segments m true) l (map (linked_export (spaces_of m.items) (starts_of codes)) (function_exports (all_exports_of m.items))) 0 (not true)) (sym (no_imports (context_of m.items) m.items plain))
-      ∙ ap (λ (l : List Export). image_by (map word_of (text_of m)) (value_words (values_of m.items)) (table_of m true) (image_of m).pages (image_of m).cap (placed_segments m true) (image_of m).imports l 0 (not true)) exports_are
-      ∙ ap (λ o. image_by (map word_of (text_of m)) (value_words (values_of m.items)) (table_of m true) (image_of m).pages (image_of m).cap (placed_segments m true) (image_of m).imports (image_of m).exports (start_offset m o) (not true)) (sym none.start)
-      ∙ ap (λ (b : Bool). image_by (map word_of (text_of m)) (value_words (values_of m.items)) (table_of m b) (image_of m).pages (image_of m).cap (placed_segments m b) (image_of m).imports (image_of m).exports (image_of m).start (not b)) (sym linkable)
+      ap (λ (l : List ℕ). image_by l (value_words (initial_values (globals_of m.items) (initials_of m.items))) (replicate (rows_of m.items) empty_row) (pages_of m.items) (cap_of m.items) [] [] (map (linked_export (spaces_of m.items) (starts_of codes)) (function_exports (all_exports_of m.items))) 0 (not true)) text_is
+      ∙ ap (λ (l : List Value). image_by (map word_of (text_of m)) (value_words l) (replicate (rows_of m.items) empty_row) (pages_of m.items) (cap_of m.items) [] [] (map (linked_export (spaces_of m.items) (starts_of codes)) (function_exports (all_exports_of m.items))) 0 (not true)) (values_are_of_items m.items)
+      ∙ ap (λ (l : List Row). image_by (map word_of (text_of m)) (value_words (values_of m.items)) l (pages_of m.items) (cap_of m.items) [] [] (map (linked_export (spaces_of m.items) (starts_of codes)) (function_exports (all_exports_of m.items))) 0 (not true)) rows_are
+      ∙ ap (λ (l : List Segment). image_by (map word_of (text_of m)) (value_words (values_of m.items)) (table_of m true) (pages_of m.items) (cap_of m.items) l [] (map (linked_export (spaces_of m.items) (starts_of codes)) (function_exports (all_exports_of m.items))) 0 (not true)) segments_are
+      ∙ ap (λ (l : List Import). image_by (map word_of (text_of m)) (value_words (values_of m.items)) (table_of m true) (pages_of m.items) (cap_of m.items) (placed_segments m true) l (map (linked_export (spaces_of m.items) (starts_of codes)) (function_exports (all_exports_of m.items))) 0 (not true)) (sym (no_imports (context_of m.items) m.items plain))
+      ∙ ap (λ (l : List Export). image_by (map word_of (text_of m)) (value_words (values_of m.items)) (table_of m true) (pages_of m.items) (cap_of m.items) (placed_segments m true) (image_of m).imports l 0 (not true)) exports_are
+      ∙ ap (λ o. image_by (map word_of (text_of m)) (value_words (values_of m.items)) (table_of m true) (pages_of m.items) (cap_of m.items) (placed_segments m true) (image_of m).imports (image_of m).exports (start_offset m o) (not true)) (sym none.start)
+      ∙ ap (λ (b : Bool). image_by (map word_of (text_of m)) (value_words (values_of m.items)) (table_of m b) (pages_of m.items) (cap_of m.items) (placed_segments m b) (image_of m).imports (image_of m).exports (image_of m).start (not b)) (sym linkable)
 
 -- ---- bytes
 

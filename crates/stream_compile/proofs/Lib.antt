@@ -12,3 +12,7 @@ pub mod Settling
 pub mod Once
 pub mod Answering
 pub mod Calls
+pub mod FieldKinds
+pub mod BodyKinds
+pub mod Later
+pub mod Stopped

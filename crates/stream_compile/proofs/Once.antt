@@ -57,7 +57,7 @@ no_section low last items k (Coded b ∷ parts) r s o (inl f) g e =
     omega (arith, here.1)
 no_section low last items k (Coded b ∷ parts) r s o (inr f) g e = no_section (end_of b) last items (suc k) parts r s o.1 f g e
 
-before_last : (low last : ℕ) (items : List Item) (k : ℕ) (parts : List Part) (r : Refusal) → AreOrdered low last parts → IsFaultInside items k parts r → r.offset < last
+pub before_last : (low last : ℕ) (items : List Item) (k : ℕ) (parts : List Part) (r : Refusal) → AreOrdered low last parts → IsFaultInside items k parts r → r.offset < last
 before_last low last items k [] r o f = absurd f
 before_last low last items k (Section at id ∷ parts) r o f = before_last (suc at) last items k parts r o.2 f
 before_last low last items k (Listed x ∷ parts) r o f = before_last low last (items ++ x ∷ []) k parts r o.1 f
@@ -138,7 +138,7 @@ text_fits bytes front (Coded b ∷ parts) k words (tree ∷ trees) r e v le (t, 
     text_fits bytes (front ++ Coded b ∷ []) parts (suc k) (words + size_of (items_of front) k b t) trees r (e ∙ sym (append_assoc front (Coded b ∷ []) parts))
     (rw (items_of-append front (Coded b ∷ []), append-nil (items_of front)) v.1) (omega (arith, le, size)) (rw (items_of-append front (Coded b ∷ []), append-nil (items_of front)) f.1)
 
-no_fault_of : (bytes : List ℕ) (m : Module) (r : Refusal) → IsModuleOf bytes m → IsFaultOf bytes r → ⊥
+pub no_fault_of : (bytes : List ℕ) (m : Module) (r : Refusal) → IsModuleOf bytes m → IsFaultOf bytes r → ⊥
 no_fault_of bytes m r p (inl f) = no_fault bytes m r p.is f
 no_fault_of bytes m r p (inr f) =
     let fits : text_bytes (items_of (module_run bytes).parts) (0 + sizes (items_of (module_run bytes).parts) 0 (bodies_of (module_run bytes).parts) m.trees) ≤ max_text =

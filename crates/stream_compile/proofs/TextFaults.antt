@@ -32,7 +32,7 @@ text_after low last items k words (Coded b ∷ parts) r o (tree, v, inr f) =
     let h = text_after (end_of b) last items (suc k) (words + size_of items k b tree) parts r o.1 f.1 in
     omega (arith, stands.from, stands.sized)
 
-text_before : (low last : ℕ) (items : List Item) (k words : ℕ) (parts : List Part) (r : Refusal) → AreOrdered low last parts → IsTextFault items k words parts r → r.offset < last
+pub text_before : (low last : ℕ) (items : List Item) (k words : ℕ) (parts : List Part) (r : Refusal) → AreOrdered low last parts → IsTextFault items k words parts r → r.offset < last
 text_before low last items k words [] r o f = absurd f
 text_before low last items k words (Section at id ∷ parts) r o f = text_before (suc at) last items k words parts r o.2 f
 text_before low last items k words (Listed x ∷ parts) r o f = text_before low last (items ++ x ∷ []) k words parts r o.1 f

@@ -3,30 +3,37 @@ use Rattle.std.proofs.Common.{◌≡◌, ℕ, ◌+◌, ◌*◌, ◌≤◌, ◌<�
 use Rattle.std.specs.Prelude.{All}
 use Rattle.std.specs.Str.{bytes_eq}
 use Rattle.std.proofs.lemmas.Bool.{cases_Bool}
+use Rattle.std.proofs.lemmas.List.{length-map, length-replicate}
 use Rattle.rv_isa.specs.declared.compiled.Code.{Code}
 use Rattle.wasm_defs.specs.declared.item.Item.{Item}
 use Rattle.wasm_defs.specs.Limits.{max_text}
 use Rattle.wasm_defs.specs.Entries.{Seen}
 use Rattle.wasm_defs.specs.Typing.{Context}
-use Rattle.wasm_defs.specs.Context.{context_of, declared_count, type_of_function}
+use Rattle.wasm_defs.specs.Context.{types_of, globals_of, declared_count}
+use Rattle.wasm_defs.specs.Instances.{rows_of}
+use Rattle.wasm_defs.specs.Values.{Value, word_of as value_word}
 use Rattle.wasm_defs.specs.Outside.{Run, Whole, ends, module_run}
 use Rattle.wasm_defs.specs.Faults.{items_of, Module, IsModule}
 use Rattle.wasm_laws.specs.Plain.{ArePlain}
-use Rattle.wasm_laws.specs.Kept.{TypeIsSmall, TypesAreSmall}
+use Rattle.wasm_laws.specs.Kept.{TypeIsSmall, TypesAreSmall, SpacesAreSmall, ConstantsFit}
+use Rattle.wasm_laws.proofs.Constants.{constants_fit}
+use Rattle.wasm_laws.proofs.Spaces.{spaces_are_small}
 use Rattle.wasm_laws.proofs.Plain.{items_are_plain, plain_has_no_more}
 use Rattle.wasm_laws.proofs.Exports.{types_are_small, function_is_small}
 use Rattle.frame_layout.specs.Templates.{exit_stub}
 use Rattle.image_format.specs.declared.image.Image.{Image}
 use Rattle.image_format.specs.declared.image.Export.{Export}
 use Rattle.image_run.specs.Checks.{export_named}
-use Rattle.index_spaces.specs.Entries.{function_exports}
+use Rattle.index_spaces.specs.Entries.{function_exports, all_exports_of, initials_of, initial_values}
 use Rattle.index_spaces.specs.Spaces.{Spaces, spaces_of, context_in}
-use Rattle.section_reader.specs.declared.front_stop.FrontStop.{FrontStop}
-use Rattle.section_reader.specs.declared.front_stop.FrontStop.TheVariants.{Refused, NoMemory}
+use Rattle.index_spaces.proofs.EntriesOfItems.{values_are_of_items}
+use Rattle.wasm_defs.specs.declared.front_stop.FrontStop.{FrontStop}
+use Rattle.wasm_defs.specs.declared.front_stop.FrontStop.TheVariants.{Refused, NoMemory}
 use Rattle.image_linker.specs.ImageOf.{image_of, stub_size, front_size}
-use Rattle.image_linker.specs.Linking.{words_of, front_words, starts_of, linked, linked_export}
+use Rattle.image_linker.specs.Linking.{NumbersFit, words_of, front_words, starts_of, empty_row, linked, linked_export}
 use Rattle.image_linker.specs.Judging.{sizes, text_bytes, IsModuleOf}
 use Rattle.image_linker.specs.Same.{Same}
+use Rattle.image_linker.proofs.Items.{numbers_fit}
 use Rattle.image_linker.proofs.Modules.{images_behave_alike}
 use Rattle.stream_compile.specs.declared.answer.Built.{Built}
 use Rattle.stream_compile.specs.Running.{IsRunnable}
@@ -45,18 +52,26 @@ small_export s starts (x ∷ es) name e small is =
       | inr h ↦ let t : export_named name (map (linked_export s starts) es) ≡ Some e = rw h at is in small_export s starts es name e small t
     ]
 
-linked_runs : (s : Spaces) (codes : List Code) → TypesAreSmall (context_in s).types → 4 * (2 + length (words_of codes)) ≤ max_text → IsRunnable (linked s codes)
-linked_runs s codes small fits = record {
+linked_runs : (items : List Item) (codes : List Code) → TypesAreSmall (types_of items) → SpacesAreSmall items → 4 * (2 + length (words_of codes)) ≤ max_text → IsRunnable (linked (spaces_of items) codes)
+linked_runs items codes types small fits = record {
   imports = refl;
   start = refl;
   text = omega (arith, fits, length-append front_words (words_of codes));
-  globals = omega arith;
-  table = omega arith;
-  pages = omega arith;
-  cap = omega arith;
+  globals = omega (arith, length-map (initial_values (globals_of items) (initials_of items)) value_word, ap (λ (l : List Value). length l) (values_are_of_items items), small.globals);
+  table = omega (arith, length-replicate (rows_of items) empty_row, small.rows);
+  pages = small.pages;
+  cap = small.cap;
   segments = refl;
-  exports = λ name e is. small_export s (starts_of codes) (function_exports s.exports) name e small is;
+  exports = λ name e is. small_export (spaces_of items) (starts_of codes) (function_exports (all_exports_of items)) name e types is;
 }
+
+-- the constants of its globals are numbers of their types
+pub numbers_of_whole : (bytes : List ℕ) (left : Run) (spaces : Spaces) (codes : List Code) (words : ℕ) (seen : Seen) → All (λ b. b < 256) bytes
+    → IsJudging bytes left spaces codes words → left ≡ ends (Whole seen) → NumbersFit spaces.globals spaces.initials
+numbers_of_whole bytes left spaces codes words seen fits j whole =
+    let w = is_whole bytes left spaces codes words seen j whole in
+    let constants : ConstantsFit w.0.items = subst ConstantsFit (sym w.1.is.items) (constants_fit bytes fits) in
+    subst (λ (s : Spaces). NumbersFit s.globals s.initials) (sym w.1.spaces_are) (numbers_fit w.0.items constants)
 
 pub links_decide : (bytes : List ℕ) (left : Run) (spaces : Spaces) (codes : List Code) (words : ℕ) (seen : Seen) (r : Result Built FrontStop) → All (λ b. b < 256) bytes
     → IsJudging bytes left spaces codes words → left ≡ ends (Whole seen) → Links spaces codes bytes r → Decides bytes r
@@ -68,12 +83,14 @@ links_decide bytes left spaces codes words seen (Ok built) fits j whole (image, 
     let front : front_size m.items ≡ 2 = ap (λ (n : ℕ). length exit_stub + stub_size * n) (plain_has_no_more m.items plain).imports in
     let is : IsModuleOf bytes m = record { is = h.is; fits = omega (arith, front, h.words, words_are_sizes m.items 0 m.bodies m.trees codes h.coded) } in
     let same : built.image ≡ image_of m = image ∙ ap (λ (s : Spaces). linked s codes) h.spaces_are ∙ linked_is_image m codes plain h.coded in
-    let small : TypesAreSmall (context_in spaces).types = subst (λ (s : Spaces). TypesAreSmall (context_in s).types) (sym h.spaces_are) (subst (λ (l : List Item). TypesAreSmall (context_of l).types) (sym h.is.items) (types_are_small bytes)) in (
+    let types : TypesAreSmall (types_of m.items) = subst (λ (l : List Item). TypesAreSmall (types_of l)) (sym h.is.items) (types_are_small bytes) in
+    let small : SpacesAreSmall m.items = subst SpacesAreSmall (sym h.is.items) (spaces_are_small bytes) in
+    let runs : IsRunnable (linked spaces codes) = subst (λ (s : Spaces). IsRunnable (linked s codes)) (sym h.spaces_are) (linked_runs m.items codes types small h.words) in (
       m,
       is,
       same,
       subst (λ (i : Image). Same m i) (sym same) (images_behave_alike bytes m fits is),
-      subst IsRunnable (sym image) (linked_runs spaces codes small h.words),
+      subst IsRunnable (sym image) runs,
       functions ∙ ap (λ (s : Spaces). s.declared) h.spaces_are,
       count,
     )

@@ -1,10 +1,13 @@
 -- What the compiling of a source comes to.
-use Rattle.std.specs.Prelude.{◌≡◌, ℕ, Bool, true, false, List, Option, length}
+use Rattle.std.specs.Prelude.{◌≡◌, ℕ, Bool, true, false, List, Option, None, Some, length, Result, Ok, Err}
+use Rattle.wasm_defs.specs.declared.fault.Refusal.{Refusal}
+use Rattle.wasm_defs.specs.declared.front_stop.FrontStop.{FrontStop}
+use Rattle.wasm_defs.specs.declared.front_stop.FrontStop.TheVariants as stop
 use Rattle.wasm_defs.specs.Context.{declared_count}
 use Rattle.wasm_defs.specs.Faults.{Module, Accepted, Rejected}
 use Rattle.image_linker.specs.ImageOf.{image_of}
 use Rattle.image_linker.specs.Same.{Same}
-use Rattle.image_linker.specs.Judging.{IsVerdictOf}
+use Rattle.image_linker.specs.Judging.{IsVerdictOf, IsStoppedAt, lasting}
 use Rattle.io_edges.specs.declared.reading.Stop.{Stop}
 use Rattle.io_edges.specs.declared.reading.Stop.TheVariants.{End, Failed, Full}
 use Rattle.stream_compile.specs.declared.answer.Built.{Built}
@@ -26,12 +29,34 @@ pub record IsBuilt (bytes : List ℕ) (built : Built) : Type 0 where
   pub functions : built.functions ≡ declared_count «module».items
   pub bytes_are : built.bytes ≡ length bytes
 
+-- the fault of the verdict; where the source failed, the one that decides then
+abbrev pub IsRefused : Bool → List ℕ → Refusal → Type 0
+IsRefused false bytes r = IsVerdictOf bytes (Rejected r)
+IsRefused true bytes r = IsStoppedAt bytes (Some r)
+
 -- by whether the source failed, and what was left in it
 abbrev pub Answered : Bool → Option (List ℕ) → Answer → Type 0
 Answered failed left (answer.Image built) = (failed ≡ false) × (bytes : List ℕ) × Came left false bytes × IsBuilt bytes built
-Answered failed left (answer.Refused r) = (failed ≡ false) × (bytes : List ℕ) × Came left false bytes × IsVerdictOf bytes (Rejected r)
-Answered failed left answer.ReadFault = failed ≡ true
+Answered failed left (answer.Refused r) = (bytes : List ℕ) × Came left failed bytes × IsRefused failed bytes r
+Answered failed left answer.ReadFault = (failed ≡ true) × (bytes : List ℕ) × Came left true bytes × IsStoppedAt bytes None
 Answered failed left answer.NoMemory = Unit {0}
+
+-- ---- by what the bytes come to that were read
+
+abbrev pub answer_of : Result Built FrontStop → Answer
+answer_of (Ok built) = answer.Image built
+answer_of (Err (stop.Refused r)) = answer.Refused r
+answer_of (Err stop.NoMemory) = answer.NoMemory
+
+abbrev pub of_lasting : Option Refusal → Answer
+of_lasting None = answer.ReadFault
+of_lasting (Some r) = answer.Refused r
+
+-- where the source failed behind them, a fault that lasts is told
+abbrev pub stopped_answer : Result Built FrontStop → Answer
+stopped_answer (Ok built) = answer.ReadFault
+stopped_answer (Err (stop.Refused r)) = of_lasting (lasting r.kind r)
+stopped_answer (Err stop.NoMemory) = answer.NoMemory
 
 -- what a command with a module that was compiled comes to
 abbrev pub Does : Command → Built → Outcome → Type 0

@@ -17,8 +17,8 @@ use Rattle.index_spaces.specs.Spaces.{Spaces, spaces_of, context_in}
 use Rattle.section_reader.specs.declared.part.Part.{Part as Given}
 use Rattle.section_reader.specs.declared.part.Part.TheVariants as given
 use Rattle.section_reader.specs.declared.part.Body.{Body as GivenBody}
-use Rattle.section_reader.specs.declared.front_stop.FrontStop.{FrontStop}
-use Rattle.section_reader.specs.declared.front_stop.FrontStop.TheVariants.{Refused, NoMemory}
+use Rattle.wasm_defs.specs.declared.front_stop.FrontStop.{FrontStop}
+use Rattle.wasm_defs.specs.declared.front_stop.FrontStop.TheVariants.{Refused, NoMemory}
 use Rattle.body_compiler.specs.declared.code.BodyStop.{BodyStop}
 use Rattle.body_compiler.specs.declared.code.BodyStop.TheVariants as body
 use Rattle.body_compiler.specs.Compiling.{Compiles}

@@ -26,7 +26,8 @@ use Rattle.wasm_defs.specs.ModuleRun as module_runs
 use Rattle.image_format.specs.declared.image.Image.{Image}
 use Rattle.image_format.specs.ImageRun.{Ending, As, Fault, image_run}
 use Rattle.image_linker.specs.ImageOf.{image_of, offset_of}
-use Rattle.image_linker.specs.Judging.{IsVerdictOf}
+use Rattle.image_linker.specs.Judging.{IsVerdictOf, IsStoppedAt}
+use Rattle.image_linker.specs.Same.{Same}
 use Rattle.image_run.specs.declared.checks.NotRunnable.{NotRunnable}
 use Rattle.image_run.specs.declared.checks.NotRunnable.TheVariants.{UnknownImport, NoSuchExport, WrongArguments, Unlinkable}
 use Rattle.image_run.specs.Checks.{not_runnable}
@@ -126,18 +127,24 @@ IsDone (Run r) bytes m o =
     let arguments = arguments_of r.arguments in
     ChecksAndRuns (not_runnable (image_of m) r.export (types_of_values arguments)) m r.export arguments r.steps o
 
+-- the module and its image behave alike, and the command comes to this; or the module is refused
 abbrev pub OfVerdict : Command → (bytes : ℕ) → Verdict → Outcome → Type 0
-OfVerdict c bytes (Accepted m) o = IsDone c bytes m o
+OfVerdict c bytes (Accepted m) o = Same m (image_of m) × IsDone c bytes m o
 OfVerdict c bytes (Rejected r) o = o ≡ rejected r
 
 -- the command that the words are, of which the first is the program's name; or they are outside the command grammar
 abbrev pub command_said : List (String Global) → Option Command
 command_said words = command_in (map string_bytes words)
 
+-- where the source failed: the fault that decides then of the bytes that came, or that it failed
+abbrev pub stopped : Option Refusal → Outcome
+stopped None = read_fault
+stopped (Some r) = rejected r
+
 -- by the words, whether the source failed, and the bytes that came
 abbrev pub IsOutcome : Option Command → Bool → List ℕ → Outcome → Type 0
 IsOutcome None failed bytes o = o ≡ usage
-IsOutcome (Some c) true bytes o = o ≡ read_fault
+IsOutcome (Some c) true bytes o = (s : Option Refusal) × IsStoppedAt bytes s × (o ≡ stopped s)
 IsOutcome (Some c) false bytes o = (v : Verdict) × IsVerdictOf bytes v × OfVerdict c (length bytes) v o
 
 -- what the words, the source's failing and what it gave come to

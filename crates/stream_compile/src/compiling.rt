@@ -2,15 +2,15 @@
 
 ghost use Rattle.std.specs.Prelude.{◌≡◌, ◌<◌, ◌≤◌, ◌^◌, ◌-◌, nat_lt, IfOk, length};
 ghost use Rattle.stream_compile.specs.Reading.{Settles, is_failed};
-ghost use Rattle.stream_compile.specs.Compiling.{Answered};
+ghost use Rattle.stream_compile.specs.Compiling.{Answered, answer_of, stopped_answer};
 
-use crate::answer::{Answer, Settings};
+use crate::answer::{Answer, Built, Settings};
 use crate::module::compile_module;
 use io_edges::{Gate, Input, Source, Stop, read_all};
-use section_reader::FrontStop;
 use std::alloc::{AllocError, Global};
 use std::sync::Wait;
 use std::thread::Threads;
+use wasm_defs::{FrontStop, Kind};
 
 /// The most bytes that are read: a section's size that begins at the limit on a module's bytes has at most five.
 const MOST_READ: usize = 67_108_869;
@@ -30,11 +30,38 @@ fn gather<S: Source>(alloc: Global, source: &mut S) -> Result<Input, AllocError>
     read_all(alloc, source, MOST_READ)
 }
 
+/// What bytes come to, read to their source's end.
+fn answer_of(compiled: Result<Built, FrontStop>) -> Answer
+    ensures { result ≡ answer_of compiled }
+{
+    match compiled {
+        Ok(built) => Answer::Image(built),
+        Err(FrontStop::Refused(refusal)) => Answer::Refused(refusal),
+        Err(FrontStop::NoMemory) => Answer::NoMemory,
+    }
+}
+
+/// What bytes come to behind which their source failed: that more of them are owed is no fault then.
+fn stopped(compiled: Result<Built, FrontStop>) -> Answer
+    ensures { result ≡ stopped_answer compiled }
+{
+    match compiled {
+        Ok(_) => Answer::ReadFault,
+        Err(FrontStop::Refused(refusal)) => match refusal.kind {
+            Kind::Malformed | Kind::Unsupported | Kind::Limit | Kind::Invalid => {
+                Answer::Refused(refusal)
+            }
+            Kind::Ended => Answer::ReadFault,
+        },
+        Err(FrontStop::NoMemory) => Answer::NoMemory,
+    }
+}
+
 /// Compiles the module whose bytes the source gives (WebAssembly Web API 1.0, streaming compilation): its one image, or its fault
 /// of least offset. The image behaves as the module does.
 ///
-/// The answer is the same for all settings, and however the source cuts the bytes. `ReadFault` comes exactly where the source
-/// failed.
+/// The answer is the same for all settings, and however the source cuts the bytes. Where the source failed, a fault of the bytes
+/// that came decides, if there is one that more bytes don't mend, and else the answer is `ReadFault`.
 pub fn stream_compile<R: Threads + Wait + Sync, S: Source, G: Gate>(
     rt: &R,
     alloc: Global,
@@ -51,12 +78,10 @@ pub fn stream_compile<R: Threads + Wait + Sync, S: Source, G: Gate>(
     let Ok(input) = gather(alloc, source) else {
         return Answer::NoMemory;
     };
+    let compiled = compile_module(alloc, &input.bytes);
     if is_failed(&input.stop) {
-        return Answer::ReadFault;
-    }
-    match compile_module(alloc, &input.bytes) {
-        Ok(built) => Answer::Image(built),
-        Err(FrontStop::Refused(refusal)) => Answer::Refused(refusal),
-        Err(FrontStop::NoMemory) => Answer::NoMemory,
+        stopped(compiled)
+    } else {
+        answer_of(compiled)
     }
 }

@@ -12,7 +12,11 @@ mod running;
 pub use answer::{Answer, Built, Settings};
 pub use command::top;
 pub use compiling::stream_compile;
-pub use laws::{faults_share_no_offset, verdicts_are_one};
+pub use laws::{
+    ended_is_owed, faults_share_no_offset, faults_stay, verdicts_are_one, what_stopped_decides,
+};
 
+#[cfg(test)]
+mod operations;
 #[cfg(test)]
 mod tests;

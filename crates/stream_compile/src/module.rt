@@ -5,7 +5,7 @@ ghost use Rattle.wasm_defs.specs.Limits.{max_text};
 ghost use Rattle.wasm_defs.specs.Outside.{after_part};
 ghost use Rattle.section_reader.specs.Left.{left, total};
 ghost use Rattle.section_reader.specs.PartOf.{part_of};
-ghost use Rattle.image_linker.specs.Linking.{words_of};
+ghost use Rattle.image_linker.specs.Linking.{NumbersFit, words_of};
 ghost use Rattle.stream_compile.specs.Progress.{IsJudging, CanTakePart, TakesPart, Uncompiled, CanTake, front_stop, TakesBody, TakesCode, Links, Decides};
 ghost use Rattle.section_reader.specs.declared.part.Part.TheVariants as given;
 
@@ -14,9 +14,9 @@ use body_compiler::{BodyStop, compile};
 use image_linker::link;
 use index_spaces::ContextBuilder;
 use rv_isa::Code;
-use section_reader::{Body, FrontStop, Part, SectionReader};
+use section_reader::{Body, Part, SectionReader};
 use std::alloc::Global;
-use wasm_defs::{Kind, MAX_TEXT, Refusal, earlier, is_compiled_section};
+use wasm_defs::{FrontStop, Kind, MAX_TEXT, Refusal, earlier, is_compiled_section};
 
 /// The fault at the id of a section that isn't compiled: what is wrong with the id itself may come first.
 fn uncompiled(reader: &mut SectionReader<'_>, at: u64) -> FrontStop
@@ -137,6 +137,7 @@ fn linked(
     bytes: &[u8],
 ) -> Result<Built, FrontStop>
     requires fits { 4 * (2 + length (words_of codes.now)) ≤ 2 ^ 28 }
+    requires numbers { NumbersFit spaces.now.globals spaces.now.initials }
     ensures { Links spaces.now codes.now bytes.now result }
 {
     match link(alloc, spaces.context(), codes) {

@@ -5,7 +5,7 @@ use Rattle.section_reader.specs.PartOf.{part_of}
 use Rattle.stream_compile.proofs.Compiled.{begins}
 use Rattle.stream_compile.proofs.Images.{all_bytes}
 use Rattle.stream_compile.proofs.Taking.{can_take_part, judging_on, refused_at_once, decided, goes_on}
-use Rattle.stream_compile.proofs.Wholes.{links_decide}
+use Rattle.stream_compile.proofs.Wholes.{numbers_of_whole, links_decide}
 use Rattle.stream_compile.proofs.module.compile_module.Goals as goal
 
 pub loop-spaces-init : goal.loop-spaces-init
@@ -28,6 +28,12 @@ pub returns-in-Err : goal.returns-in-Err
 returns-in-Err c =
     let l = c.loop-spaces in
     refused_at_once c.args.bytes.now l.reader c.next.new.self l.spaces l.codes.items l.words c.in-Err.stop l.invariant.judging l.invariant.whole c.in-Err.ensures.advances
+
+pub linked-requires-clause-numbers : goal.linked-requires-clause-numbers
+linked-requires-clause-numbers c =
+    let l = c.loop-spaces in
+    let a = rw c.in-Ok-None.field-0-is at c.in-Ok-None.ensures.advances in
+    numbers_of_whole c.args.bytes.now (left l.reader) l.spaces l.codes.items l.words a.seen (all_bytes c.args.bytes.now (λ i. omega (arith, c.type_inv.bytes i))) l.invariant.judging a.whole
 
 pub returns-in-Ok-None : goal.returns-in-Ok-None
 returns-in-Ok-None c =
