@@ -54,9 +54,8 @@ const LIMITS: Limits = Limits {
     max: None,
 };
 
-/// A module of one type, an imported function, a memory, a global and a function.
-fn context_of(alloc: Global) -> Result<Context, AllocError> {
-    let mut builder = ContextBuilder::new(alloc);
+/// One type, an imported function and one of the module's own, and a memory.
+fn add_functions(alloc: Global, builder: &mut ContextBuilder) -> Result<(), AllocError> {
     builder.add(&signature(alloc, &[ValType::I64], &[])?)?;
     builder.add(&Item::Imported {
         module: (18, name(alloc, "env")?),
@@ -67,36 +66,63 @@ fn context_of(alloc: Global) -> Result<Context, AllocError> {
     builder.add(&Item::Function {
         type_index: (27, 0),
     })?;
-    builder.add(&Item::Memory { limits: LIMITS })?;
+    builder.add(&Item::Memory { limits: LIMITS })
+}
+
+/// A global, and two exports.
+fn add_exports(alloc: Global, builder: &mut ContextBuilder) -> Result<(), AllocError> {
     builder.add(&Item::Global {
         ty: (60, ValType::I64),
         mutable: (61, true),
         init: constant(-7),
     })?;
     builder.add(&exported(alloc, "mem", Extern::Memory, 0)?)?;
-    builder.add(&exported(alloc, "run", Extern::Function, 1)?)?;
+    builder.add(&exported(alloc, "run", Extern::Function, 1)?)
+}
+
+/// A start function, and two element segments.
+fn add_segments(alloc: Global, builder: &mut ContextBuilder) -> Result<(), AllocError> {
     builder.add(&Item::Start { index: (68, 1) })?;
     builder.add(&element(alloc, 3, &[1, 0])?)?;
-    builder.add(&element(alloc, -1, &[])?)?;
+    builder.add(&element(alloc, -1, &[])?)
+}
+
+fn context_of(alloc: Global) -> Result<Context, AllocError> {
+    let mut builder = ContextBuilder::new(alloc);
+    add_functions(alloc, &mut builder)?;
+    add_exports(alloc, &mut builder)?;
+    add_segments(alloc, &mut builder)?;
     Ok(builder.finish())
 }
 
 #[test]
-fn items_have_their_indices(rt: HostRuntime) -> Result<(), Fail> {
+fn functions_have_their_indices(rt: HostRuntime) -> Result<(), Fail> {
     let context = context_of(rt.alloc())?;
     assert_eq!(rt; context.types().len(), 1);
     assert_eq!(rt; context.type_indices(), [0, 0].as_slice());
     assert_eq!(rt; (context.functions(), context.imported()), (2, 1));
     assert_eq!(rt; context.declared(), 1);
-    assert_eq!(rt; context.memories(), [LIMITS].as_slice());
-    assert!(rt; context.tables().is_empty());
     assert!(rt; context.has_type(0) && !context.has_type(1));
     assert!(rt; context.has_function(1) && !context.has_function(2));
-    assert!(rt; context.has_memory() && !context.has_table());
-    assert!(rt; !context.has_global(1) && !context.has_type_of_function(2));
+    Ok(())
+}
+
+#[test]
+fn functions_have_their_types(rt: HostRuntime) -> Result<(), Fail> {
+    let context = context_of(rt.alloc())?;
+    assert!(rt; !context.has_type_of_function(2));
     assert!(rt; context.has_type_of_function(1));
     let params = context.type_of_function(1).params.as_slice();
     assert_eq!(rt; params, [ValType::I64].as_slice());
+    Ok(())
+}
+
+#[test]
+fn memories_and_globals_have_their_indices(rt: HostRuntime) -> Result<(), Fail> {
+    let context = context_of(rt.alloc())?;
+    assert_eq!(rt; context.memories(), [LIMITS].as_slice());
+    assert!(rt; context.tables().is_empty());
+    assert!(rt; context.has_memory() && !context.has_table() && !context.has_global(1));
     assert!(rt; context.has_global(0));
     let expected = GlobalType {
         ty: ValType::I64,
@@ -108,27 +134,35 @@ fn items_have_their_indices(rt: HostRuntime) -> Result<(), Fail> {
 }
 
 #[test]
-fn imports_exports_and_elements_keep_their_order(rt: HostRuntime) -> Result<(), Fail> {
+fn imports_and_exports_keep_their_order(rt: HostRuntime) -> Result<(), Fail> {
     let context = context_of(rt.alloc())?;
     let [import] = context.imports() else {
         return Err("one import".into());
     };
     assert_eq!(rt; import.module.as_slice(), b"env".as_slice());
-    assert_eq!(rt; import.name.as_slice(), b"log".as_slice());
-    assert_eq!(rt; import.type_index, 0);
+    assert_eq!(rt;
+        (import.name.as_slice(), import.type_index),
+        (b"log".as_slice(), 0)
+    );
     let [memory, function] = context.exports() else {
         return Err("two exports".into());
     };
     assert_eq!(rt; memory.name.as_slice(), b"mem".as_slice());
-    assert_eq!(rt; (memory.kind, memory.index), (Extern::Memory, 0));
     assert_eq!(rt; function.name.as_slice(), b"run".as_slice());
-    assert_eq!(rt; (function.kind, function.index), (Extern::Function, 1));
+    let kinds = [memory, function].map(|export| (export.kind, export.index));
+    assert_eq!(rt; kinds, [(Extern::Memory, 0), (Extern::Function, 1)]);
+    Ok(())
+}
+
+#[test]
+fn elements_keep_their_order(rt: HostRuntime) -> Result<(), Fail> {
+    let context = context_of(rt.alloc())?;
     let [first, second] = context.elements() else {
         return Err("two element segments".into());
     };
-    assert_eq!(rt; first.place, 3);
+    assert_eq!(rt; (first.place, second.place), (3, 4_294_967_295));
     assert_eq!(rt; first.functions.as_slice(), [1, 0].as_slice());
-    assert_eq!(rt; second.place, 4_294_967_295);
+    assert!(rt; second.functions.as_slice().is_empty());
     assert_eq!(rt; context.start(), Some(1));
     Ok(())
 }
