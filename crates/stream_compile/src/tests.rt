@@ -115,7 +115,7 @@ fn words_outside_the_grammar_are_told_the_usage(rt: HostRuntime) -> Result<(), F
 }
 
 /// What follows the header of a faulty module, and its fault. Offsets count from the header's first byte.
-const FAULTS: [(&str, &str); 82] = [
+const FAULTS: [(&str, &str); 51] = [
     // A name is one field, refused as soon as no more bytes can complete it.
     ("00 03 85", "malformed at 10"),
     ("00 04 02 E2", "malformed at 10"),
@@ -144,31 +144,12 @@ const FAULTS: [(&str, &str); 82] = [
     ("01 04 A1 8D 06", "limit at 10"),
     ("01 05 01 60 01 7D 00", "unsupported at 13"),
     ("01 05 01 60 01 7B 00", "malformed at 13"),
-    ("01 05 01 60 01 70 00", "malformed at 13"),
-    ("01 05 01 60 01 6F 00", "malformed at 13"),
     ("01 06 01 60 00 02 7F 7F", "invalid at 13"),
     // Functions: more than there may be, of a type that isn't there, without their bodies, and with too few of them.
     ("03 03 A1 8D 06", "limit at 10"),
     ("03 02 01 00", "invalid at 11"),
     ("01 04 01 60 00 00 03 02 01 00", "ended at 18"),
     ("01 04 01 60 00 00 03 02 01 00 0A 01 00", "malformed at 20"),
-    // Tables: of another element type, with another flag, more rows than there may be, a maximum below the minimum, and two of them.
-    ("04 04 01 6F 00 00", "malformed at 11"),
-    ("04 04 01 70 03 00", "malformed at 12"),
-    ("04 06 01 70 00 A1 8D 06", "limit at 13"),
-    ("04 05 01 70 01 02 01", "invalid at 14"),
-    ("04 07 02 70 00 00 70 00 00", "invalid at 10"),
-    // Memories: more pages than there may be, a maximum above 65,536, and two of them.
-    ("05 04 01 00 81 08", "limit at 12"),
-    ("05 06 01 01 00 81 80 04", "invalid at 13"),
-    ("05 05 02 00 00 00 00", "invalid at 10"),
-    // Globals: another mutability; a constant of another type, of floats, no constant, no opcode, and one constant too many.
-    ("06 06 01 7F 02 41 00 0B", "malformed at 12"),
-    ("06 06 01 7F 00 42 00 0B", "invalid at 13"),
-    ("06 09 01 7F 00 43 00 00 00 00 0B", "unsupported at 13"),
-    ("06 06 01 7F 00 05 00 0B", "invalid at 13"),
-    ("06 06 01 7F 00 D0 00 0B", "malformed at 13"),
-    ("06 08 01 7F 00 41 00 41 00 0B", "invalid at 15"),
     // Exports: a function that isn't there, and one name twice.
     ("07 05 01 01 61 00 00", "invalid at 14"),
     (
@@ -209,49 +190,15 @@ const FAULTS: [(&str, &str); 82] = [
         "01 04 01 60 00 00 03 02 01 00 0A 05 01 03 00 41 80",
         "malformed at 24",
     ),
-    // At a body's last byte each right opcode is malformed, for want of the `end`: compiled, not compiled, and not whole.
+    // At a body's last byte a right opcode is malformed, for want of the `end`.
     (
         "01 04 01 60 00 00 03 02 01 00 0A 04 01 02 00 01",
         "malformed at 23",
     ),
-    (
-        "01 04 01 60 00 00 03 02 01 00 0A 04 01 02 00 0F",
-        "malformed at 23",
-    ),
-    (
-        "01 04 01 60 00 00 03 02 01 00 0A 04 01 02 00 02",
-        "malformed at 23",
-    ),
-    // Before it what isn't compiled is unsupported: in valid code, where the same instruction is invalid, and where it is cut off.
-    (
-        "01 04 01 60 00 00 03 02 01 00 0A 05 01 03 00 0F 0B",
-        "unsupported at 23",
-    ),
-    (
-        "01 04 01 60 00 00 03 02 01 00 0A 07 01 05 00 02 40 0B 0B",
-        "unsupported at 23",
-    ),
-    (
-        "01 04 01 60 00 00 03 02 01 00 0A 06 01 04 00 23 00 0B",
-        "unsupported at 23",
-    ),
-    (
-        "01 04 01 60 00 00 03 02 01 00 0A 06 01 04 00 10 05 0B",
-        "unsupported at 23",
-    ),
-    (
-        "01 04 01 60 00 00 03 02 01 00 0A 05 01 03 00 23 80",
-        "unsupported at 23",
-    ),
-    // Compiled opcodes have their own fault alone; one may stand before what isn't compiled. An `else` without an `if` and an
-    // unknown opcode are malformed, compiled or not.
+    // Compiled opcodes have their own fault alone. An `else` without an `if` and an unknown opcode are malformed, compiled or not.
     (
         "01 04 01 60 00 00 03 02 01 00 0A 05 01 03 00 45 0B",
         "invalid at 23",
-    ),
-    (
-        "01 04 01 60 00 00 03 02 01 00 0A 06 01 04 00 01 23 00",
-        "unsupported at 24",
     ),
     (
         "01 04 01 60 00 00 03 02 01 00 0A 05 01 03 00 05 0B",
@@ -260,35 +207,6 @@ const FAULTS: [(&str, &str); 82] = [
     (
         "01 04 01 60 00 00 03 02 01 00 0A 05 01 03 00 06 0B",
         "malformed at 23",
-    ),
-    // Opcodes that are none of the language, and one that is left out.
-    (
-        "01 04 01 60 00 00 03 02 01 00 0A 05 01 03 00 12 0B",
-        "malformed at 23",
-    ),
-    (
-        "01 04 01 60 00 00 03 02 01 00 0A 05 01 03 00 1C 0B",
-        "malformed at 23",
-    ),
-    (
-        "01 04 01 60 00 00 03 02 01 00 0A 05 01 03 00 25 0B",
-        "malformed at 23",
-    ),
-    (
-        "01 04 01 60 00 00 03 02 01 00 0A 05 01 03 00 D0 0B",
-        "malformed at 23",
-    ),
-    (
-        "01 04 01 60 00 00 03 02 01 00 0A 05 01 03 00 FD 0B",
-        "malformed at 23",
-    ),
-    (
-        "01 04 01 60 00 00 03 02 01 00 0A 05 01 03 00 FE 0B",
-        "malformed at 23",
-    ),
-    (
-        "01 04 01 60 00 00 03 02 01 00 0A 05 01 03 00 FC 0B",
-        "unsupported at 23",
     ),
     // A byte behind the last `end`.
     (
@@ -333,6 +251,93 @@ const FAULTS: [(&str, &str); 82] = [
     (
         "01 04 01 60 00 00 03 03 02 00 00 08 01 00 0A 07 02 02 00 6A 02 00 43",
         "unsupported at 19",
+    ),
+];
+
+/// The same of tables, memories and globals, and of instructions that are left out or not compiled.
+const FURTHER_FAULTS: [(&str, &str); 31] = [
+    // At a body's last byte an opcode that isn't compiled is malformed, whole or not.
+    (
+        "01 04 01 60 00 00 03 02 01 00 0A 04 01 02 00 0F",
+        "malformed at 23",
+    ),
+    (
+        "01 04 01 60 00 00 03 02 01 00 0A 04 01 02 00 02",
+        "malformed at 23",
+    ),
+    // Value types that are none of the language.
+    ("01 05 01 60 01 70 00", "malformed at 13"),
+    ("01 05 01 60 01 6F 00", "malformed at 13"),
+    // Tables: of another element type, with another flag, more rows than there may be, a maximum below the minimum, and two of them.
+    ("04 04 01 6F 00 00", "malformed at 11"),
+    ("04 04 01 70 03 00", "malformed at 12"),
+    ("04 06 01 70 00 A1 8D 06", "limit at 13"),
+    ("04 05 01 70 01 02 01", "invalid at 14"),
+    ("04 07 02 70 00 00 70 00 00", "invalid at 10"),
+    // Memories: more pages than there may be, a maximum above 65,536, and two of them.
+    ("05 04 01 00 81 08", "limit at 12"),
+    ("05 06 01 01 00 81 80 04", "invalid at 13"),
+    ("05 05 02 00 00 00 00", "invalid at 10"),
+    // Globals: another mutability; a constant of another type, of floats, no constant, no opcode, and one constant too many.
+    ("06 06 01 7F 02 41 00 0B", "malformed at 12"),
+    ("06 06 01 7F 00 42 00 0B", "invalid at 13"),
+    ("06 09 01 7F 00 43 00 00 00 00 0B", "unsupported at 13"),
+    ("06 06 01 7F 00 05 00 0B", "invalid at 13"),
+    ("06 06 01 7F 00 D0 00 0B", "malformed at 13"),
+    ("06 08 01 7F 00 41 00 41 00 0B", "invalid at 15"),
+    // Before it what isn't compiled is unsupported: in valid code, where the same instruction is invalid, and where it is cut off.
+    (
+        "01 04 01 60 00 00 03 02 01 00 0A 05 01 03 00 0F 0B",
+        "unsupported at 23",
+    ),
+    (
+        "01 04 01 60 00 00 03 02 01 00 0A 07 01 05 00 02 40 0B 0B",
+        "unsupported at 23",
+    ),
+    (
+        "01 04 01 60 00 00 03 02 01 00 0A 06 01 04 00 23 00 0B",
+        "unsupported at 23",
+    ),
+    (
+        "01 04 01 60 00 00 03 02 01 00 0A 06 01 04 00 10 05 0B",
+        "unsupported at 23",
+    ),
+    (
+        "01 04 01 60 00 00 03 02 01 00 0A 05 01 03 00 23 80",
+        "unsupported at 23",
+    ),
+    (
+        "01 04 01 60 00 00 03 02 01 00 0A 06 01 04 00 01 23 00",
+        "unsupported at 24",
+    ),
+    // Opcodes that are none of the language, and one that is left out.
+    (
+        "01 04 01 60 00 00 03 02 01 00 0A 05 01 03 00 12 0B",
+        "malformed at 23",
+    ),
+    (
+        "01 04 01 60 00 00 03 02 01 00 0A 05 01 03 00 1C 0B",
+        "malformed at 23",
+    ),
+    (
+        "01 04 01 60 00 00 03 02 01 00 0A 05 01 03 00 25 0B",
+        "malformed at 23",
+    ),
+    (
+        "01 04 01 60 00 00 03 02 01 00 0A 05 01 03 00 D0 0B",
+        "malformed at 23",
+    ),
+    (
+        "01 04 01 60 00 00 03 02 01 00 0A 05 01 03 00 FD 0B",
+        "malformed at 23",
+    ),
+    (
+        "01 04 01 60 00 00 03 02 01 00 0A 05 01 03 00 FE 0B",
+        "malformed at 23",
+    ),
+    (
+        "01 04 01 60 00 00 03 02 01 00 0A 05 01 03 00 FC 0B",
+        "unsupported at 23",
     ),
 ];
 
@@ -415,6 +420,13 @@ fn each_fault_is_told_with_its_kind_and_its_byte(rt: HostRuntime) -> Result<(), 
         assert_eq!(rt; answer(&rt, alloc, &check, &bytes)?, want, "{text}");
         assert_eq!(rt; answer_bytewise(&rt, alloc, &bytes, None)?, want, "{text}");
     }
+    Ok(())
+}
+
+#[test]
+fn faults_at_the_limits_are_told(rt: HostRuntime) -> Result<(), Fail> {
+    let alloc = rt.alloc();
+    let check = ["wstream", "check"];
     for (front, len, back, fault) in LONG_FAULTS {
         let bytes = padded(alloc, front, len, back)?;
         let want = format!(in alloc; "2 refused {fault}\n")?;
@@ -437,6 +449,19 @@ const STOPPED: [(usize, &str); 4] = [
     (27, "2 refused invalid at 25\n"),
     (29, "2 refused invalid at 25\n"),
 ];
+
+#[test]
+fn further_faults_are_told(rt: HostRuntime) -> Result<(), Fail> {
+    let alloc = rt.alloc();
+    let check = ["wstream", "check"];
+    for (text, fault) in FURTHER_FAULTS {
+        let bytes = bytes_of(alloc, &[HEADER, text])?;
+        let want = format!(in alloc; "2 refused {fault}\n")?;
+        assert_eq!(rt; answer(&rt, alloc, &check, &bytes)?, want, "{text}");
+        assert_eq!(rt; answer_bytewise(&rt, alloc, &bytes, None)?, want, "{text}");
+    }
+    Ok(())
+}
 
 #[test]
 fn a_source_that_fails_is_told(rt: HostRuntime) -> Result<(), Fail> {
@@ -534,237 +559,6 @@ fn a_function_of_a_module_is_called(rt: HostRuntime) -> Result<(), Fail> {
             answer_to_line(&rt, alloc, text, &bytes)?.as_str(),
             line,
             "{text}"
-        );
-    }
-    Ok(())
-}
-
-/// Of functions with one parameter, which are exported as `f`: the parameter's type, the result's, the body without its locals and its
-/// `end`, the argument, and the answer.
-const BODY_CALLS: [(&str, &str, &str, &str, &str); 32] = [
-    // Counts of bits.
-    ("7F", "7F", "20 00 67", "i32:0", "0 i32 32\n"),
-    ("7F", "7F", "20 00 67", "i32:1", "0 i32 31\n"),
-    ("7F", "7F", "20 00 68", "i32:0", "0 i32 32\n"),
-    ("7F", "7F", "20 00 68", "i32:-2147483648", "0 i32 31\n"),
-    ("7F", "7F", "20 00 69", "i32:-1", "0 i32 32\n"),
-    ("7E", "7E", "20 00 79", "i64:0", "0 i64 64\n"),
-    (
-        "7E",
-        "7E",
-        "20 00 7A",
-        "i64:-9223372036854775808",
-        "0 i64 63\n",
-    ),
-    ("7E", "7E", "20 00 7B", "i64:-1", "0 i64 64\n"),
-    // A sum that wraps, compared with zero.
-    (
-        "7F",
-        "7F",
-        "20 00 41 01 6A 41 00 48",
-        "i32:2147483647",
-        "0 i32 1\n",
-    ),
-    ("7F", "7F", "20 00 41 01 6A 41 00 48", "i32:1", "0 i32 0\n"),
-    // Shifts take the number of places modulo the width; rotations bring the last bit round.
-    ("7F", "7F", "41 01 20 00 74", "i32:32", "0 i32 1\n"),
-    ("7E", "7E", "42 01 20 00 86", "i64:64", "0 i64 1\n"),
-    (
-        "7F",
-        "7F",
-        "41 81 80 80 80 78 20 00 77",
-        "i32:1",
-        "0 i32 3\n",
-    ),
-    (
-        "7E",
-        "7E",
-        "42 81 80 80 80 80 80 80 80 80 7F 20 00 89",
-        "i64:1",
-        "0 i64 3\n",
-    ),
-    // `select`.
-    ("7F", "7F", "41 0A 41 14 20 00 1B", "i32:1", "0 i32 10\n"),
-    ("7F", "7F", "41 0A 41 14 20 00 1B", "i32:0", "0 i32 20\n"),
-    (
-        "7F",
-        "7E",
-        "42 0A 42 14 20 00 1B",
-        "i32:-2147483648",
-        "0 i64 10\n",
-    ),
-    // `local.set` and `local.tee` on the parameter.
-    ("7F", "7F", "41 05 21 00 20 00", "i32:1", "0 i32 5\n"),
-    (
-        "7F",
-        "7F",
-        "20 00 41 02 6C 22 00 20 00 6A 21 00 20 00",
-        "i32:3",
-        "0 i32 12\n",
-    ),
-    // `nop` and `drop`.
-    (
-        "7F",
-        "7F",
-        "01 20 00 01 41 07 1A 01",
-        "i32:-3",
-        "0 i32 -3\n",
-    ),
-    // Constants of 64 bits.
-    (
-        "7F",
-        "7E",
-        "42 80 80 80 80 80 80 80 80 80 7F",
-        "i32:0",
-        "0 i64 -9223372036854775808\n",
-    ),
-    (
-        "7F",
-        "7E",
-        "42 FF FF FF FF FF FF FF FF FF 00",
-        "i32:0",
-        "0 i64 9223372036854775807\n",
-    ),
-    (
-        "7F",
-        "7E",
-        "42 F0 BD F3 D5 89 CF 95 9A 12",
-        "i32:0",
-        "0 i64 1311768467463790320\n",
-    ),
-    (
-        "7E",
-        "7E",
-        "20 00 42 80 80 80 80 10 7C",
-        "i64:-1",
-        "0 i64 4294967295\n",
-    ),
-    // Extension by the sign and without, and wrapping.
-    ("7F", "7E", "20 00 AC", "i32:-1", "0 i64 -1\n"),
-    (
-        "7F",
-        "7E",
-        "20 00 AC",
-        "i32:-2147483648",
-        "0 i64 -2147483648\n",
-    ),
-    ("7F", "7E", "20 00 AD", "i32:-1", "0 i64 4294967295\n"),
-    (
-        "7F",
-        "7E",
-        "20 00 AD",
-        "i32:-2147483648",
-        "0 i64 2147483648\n",
-    ),
-    ("7E", "7F", "20 00 A7", "i64:4294967295", "0 i32 -1\n"),
-    ("7E", "7F", "20 00 A7", "i64:-4294967296", "0 i32 0\n"),
-    (
-        "7E",
-        "7F",
-        "20 00 A7",
-        "i64:2147483648",
-        "0 i32 -2147483648\n",
-    ),
-    ("7E", "7F", "20 00 50", "i64:4294967296", "0 i32 0\n"),
-];
-
-/// What follows the header of a module with a quotient `d` and a remainder `r` of its two parameters.
-const DIVIDE_32: &str =
-    "01 07 01 60 02 7F 7F 01 7F 03 03 02 00 00 07 09 02 01 64 00 00 01 72 00 01 0A 11 02 07 00 20 00 20 01 6D 0B 07 00 20 00 20 01 6F 0B";
-
-/// So with 64 bits.
-const DIVIDE_64: &str =
-    "01 07 01 60 02 7E 7E 01 7E 03 03 02 00 00 07 09 02 01 64 00 00 01 72 00 01 0A 11 02 07 00 20 00 20 01 7F 0B 07 00 20 00 20 01 81 0B";
-
-/// What follows a module's header, the words, and the answer.
-const MODULE_CALLS: [(&str, &str, &str); 11] = [
-    // As many locals as there may be, and one more.
-    (
-        "01 05 01 60 00 01 7F 03 02 01 00 07 05 01 01 66 00 00 0A 0C 01 0A 01 D0 86 03 7F 20 CF 86 03 0B",
-        "wstream run f",
-        "0 i32 0\n",
-    ),
-    (
-        "01 05 01 60 00 01 7F 03 02 01 00 07 05 01 01 66 00 00 0A 0C 01 0A 01 D1 86 03 7F 20 CF 86 03 0B",
-        "wstream run f",
-        "2 refused limit at 31\n",
-    ),
-    // Declared locals of 64 bits.
-    (
-        "01 06 01 60 01 7E 01 7E 03 02 01 00 07 05 01 01 66 00 00 0A 11 01 0F 01 02 7E 20 00 22 01 21 02 20 02 20 01 7C 0B",
-        "wstream run f i64:4000000000",
-        "0 i64 8000000000\n",
-    ),
-    // Quotients and remainders that aren't defined, and the remainder that is where the quotient isn't.
-    (
-        DIVIDE_32,
-        "wstream run d i32:-2147483648 i32:-1",
-        "4 trap integer overflow\n",
-    ),
-    (
-        DIVIDE_32,
-        "wstream run r i32:-2147483648 i32:-1",
-        "0 i32 0\n",
-    ),
-    (
-        DIVIDE_32,
-        "wstream run d i32:1 i32:0",
-        "4 trap integer divide by zero\n",
-    ),
-    (
-        DIVIDE_32,
-        "wstream run r i32:1 i32:0",
-        "4 trap integer divide by zero\n",
-    ),
-    (
-        DIVIDE_64,
-        "wstream run d i64:-9223372036854775808 i64:-1",
-        "4 trap integer overflow\n",
-    ),
-    (
-        DIVIDE_64,
-        "wstream run r i64:-9223372036854775808 i64:-1",
-        "0 i64 0\n",
-    ),
-    (
-        DIVIDE_64,
-        "wstream run d i64:1 i64:0",
-        "4 trap integer divide by zero\n",
-    ),
-    (
-        DIVIDE_64,
-        "wstream run r i64:1 i64:0",
-        "4 trap integer divide by zero\n",
-    ),
-];
-
-/// A module with one function, which is exported as `f`.
-fn module_of(alloc: Global, parameter: &str, returned: &str, code: &str) -> Result<Vec<u8>, Fail> {
-    let code = bytes_of(alloc, &["00", code, "0B"])?;
-    let len = u8::try_from(code.len())?;
-    let names = "03 02 01 00 07 05 01 01 66 00 00";
-    let front = [HEADER, "01 06 01 60 01", parameter, "01", returned, names];
-    let mut bytes = bytes_of(alloc, &front)?;
-    bytes.extend_from_slice(&[0x0A, len.saturating_add(2), 1, len])?;
-    bytes.extend_from_slice(&code)?;
-    Ok(bytes)
-}
-
-#[test]
-fn straight_functions_are_called(rt: HostRuntime) -> Result<(), Fail> {
-    let alloc = rt.alloc();
-    for (parameter, returned, code, argument, line) in BODY_CALLS {
-        let bytes = module_of(alloc, parameter, returned, code)?;
-        let text = format!(in alloc; "wstream run f {argument}")?;
-        let told = answer_to_line(&rt, alloc, text.as_str(), &bytes)?;
-        assert_eq!(rt; told.as_str(), line);
-    }
-    for (text, words, line) in MODULE_CALLS {
-        let bytes = bytes_of(alloc, &[HEADER, text])?;
-        assert_eq!(rt;
-            answer_to_line(&rt, alloc, words, &bytes)?.as_str(),
-            line,
-            "{text} {words}"
         );
     }
     Ok(())
