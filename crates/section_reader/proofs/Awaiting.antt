@@ -1,72 +1,141 @@
 -- Bytes that may come before an entry is read again.
-use Rattle.std.proofs.Common.{◌≡◌, ℕ, suc, ◌+◌, ◌-◌, ◌<◌, ◌≤◌, true, false, cond, ltb, leb, eqb, inl, inr, List, [], ◌++◌, length, take, refl, sym, ap, subst, ◌∙◌, arith, length-take, length-append, append_assoc}
-use Rattle.std.proofs.lemmas.List.{append-nil, nil_from_length}
-use Rattle.std.proofs.lemmas.Bool.{lt-ltb, le-ltb, lt-leb, cases_lt, and_parts, eqb-true, ltb-true}
+use Rattle.std.proofs.Common.{◌≡◌, ℕ, ◌+◌, ◌-◌, ◌<◌, ◌≤◌, List, [], ◌++◌, length, refl, sym, ap, ◌∙◌, arith, length-take, length-append}
+use Rattle.std.proofs.lemmas.Bool.{lt-ltb, le-ltb, lt-leb}
 use Rattle.wasm_defs.specs.declared.types.ValType.TheVariants.{I32}
 use Rattle.wasm_defs.specs.declared.item.Constant.{Constant}
-use Rattle.wasm_defs.specs.Fields.{Cursor, Read, Got, Fault, Wants, Reader, then_go, ◌>>=◌, done, window, room_of, u32, room, run, counted_bytes}
-use Rattle.wasm_defs.specs.Entries.{Seen, sole, constant, segment}
-use Rattle.wasm_defs.specs.Outside.{Part, Listed, Run, Owed, ends, listed, runs_on}
-use Rattle.wasm_laws.specs.Steadiness.{with_more}
-use Rattle.wasm_laws.proofs.Steady.{Steady, field_steady}
-use Rattle.wasm_laws.proofs.FieldLaws.{u32_field, room_steady}
+use Rattle.wasm_defs.specs.Limits.{max_params}
+use Rattle.wasm_defs.specs.Fields.{Cursor, Read, Got, Wants, Reader, then_go, ◌>>=◌, done, repeated, window, room_of, past, byte, u32, count, vector, room, run, counted_bytes, name}
+use Rattle.wasm_defs.specs.Entries.{Seen, sole, constant, listed_type, listed_index, signature, imported, exported, element, segment}
+use Rattle.wasm_defs.specs.Outside.{Nothing, custom_name}
+use Rattle.wasm_laws.specs.Steadiness.{with_more, Advance}
+use Rattle.wasm_laws.proofs.Steady.{field_steady, advance_then}
+use Rattle.wasm_laws.proofs.FieldLaws.{u32_field, count_steady}
+use Rattle.wasm_laws.proofs.Windows.{byte_field}
+use Rattle.wasm_laws.proofs.Names.{name_field}
 use Rattle.wasm_laws.proofs.EntryLaws.{sole_steady, constant_steady}
 use Rattle.section_reader.specs.declared.stage.Stage.{Stage}
-use Rattle.section_reader.specs.declared.stage.Stage.TheVariants.{Preamble, Between, Contents, Entries}
-use Rattle.section_reader.specs.Outline.{outline_row, outline_sections}
-use Rattle.section_reader.specs.Stages.{proceed, is_owing, IsOwed, IsFree, Awaits, is_at_data}
-use Rattle.section_reader.proofs.Leading.{Stable, more_got, runs_owed, entries_are}
+use Rattle.section_reader.specs.declared.stage.Stage.TheVariants.{Contents}
+use Rattle.section_reader.specs.declared.wait.Element.{Element}
+use Rattle.section_reader.specs.declared.wait.Element.TheVariants.{ValueType, Index}
+use Rattle.section_reader.specs.declared.wait.Wait.{Wait}
+use Rattle.section_reader.specs.declared.wait.Wait.TheVariants as wait
+use Rattle.section_reader.specs.Waits.{element_of, Passes, Awaits, AwaitsAt, wants_more, IsFree, IsPlaced}
+use Rattle.section_reader.proofs.Leading.{Stable, more_got}
+use Rattle.section_reader.proofs.Going.{got_is}
+use Rattle.section_reader.proofs.Skimming.{past_is, types_want, indices_want}
 
 -- ---- readers that wait
 
-then_awaits : {A B : Type 0} (p : Reader A) (f : A → Reader B) (c d : Cursor) (x : A) (free : ℕ) → Stable p → p c ≡ Got x d → Awaits (f x) d free → Awaits (p >>= f) c free
-then_awaits p f c d x free stable e h = λ more few. ap (λ (r : Read _). then_go r f) (more_got p stable c d x e more) ∙ h more few
+-- with such bytes the reader still wants more
+abbrev WantsIf : {A : Type 0} → Reader A → Cursor → (List ℕ → Type 0) → Type 0
+WantsIf p c P = (more : List ℕ) → P more → p (with_more c more) ≡ Wants
 
-on_awaits : {A B : Type 0} (p : Reader A) (f : A → Reader B) (c : Cursor) (free : ℕ) → Awaits p c free → Awaits (p >>= f) c free
-on_awaits p f c free h = λ more few. ap (λ (r : Read _). then_go r f) (h more few)
+module _ (P : List ℕ → Type 0) where
+  then_awaits : {A B : Type 0} (p : Reader A) (f : A → Reader B) (c d : Cursor) (x : A) → Stable p → p c ≡ Got x d → WantsIf (f x) d P → WantsIf (p >>= f) c P
+  then_awaits p f c d x stable e h = λ more passes. ap (λ (r : Read _). then_go r f) (more_got p stable c d x e more) ∙ h more passes
 
-run_awaits : (n : ℕ) (c : Cursor) (free : ℕ) → n ≤ room_of c → length c.rest + free < n → Awaits (run n) c free
+  on_awaits : {A B : Type 0} (p : Reader A) (f : A → Reader B) (c : Cursor) → WantsIf p c P → WantsIf (p >>= f) c P
+  on_awaits p f c h = λ more passes. ap (λ (r : Read _). then_go r f) (h more passes)
+
+  signature_wants : (seen : Seen) (c d e : Cursor) (form n : ℕ × ℕ) → byte c ≡ Got form d → form.1 ≡ 0x60 → count max_params d ≡ Got n e → WantsIf (repeated n.1 listed_type) e P → WantsIf (signature seen) c P
+  unfolding signature vector
+  signature_wants seen c d e form n first is second h =
+      then_awaits byte _ c d form (field_steady [] byte byte_field).by first
+      (rw is (on_awaits (vector (count max_params) listed_type) _ d
+      (then_awaits (count max_params) _ d e n (count_steady [] max_params).by second (on_awaits (repeated n.1 listed_type) _ e h))))
+
+  element_wants : (seen : Seen) (c d e f : Cursor) (i : ℕ × ℕ) (place : Constant) (n : ℕ × ℕ) → sole seen.tables c ≡ Got i d → constant I32 d ≡ Got place e → u32 e ≡ Got n f
+      → WantsIf (repeated n.1 (listed_index seen.functions)) f P → WantsIf (element seen) c P
+  unfolding element vector
+  element_wants seen c d e f i place n first second third h =
+      then_awaits (sole seen.tables) _ c d i (sole_steady [] seen.tables).by first
+      (then_awaits (constant I32) _ d e place (constant_steady [] I32).by second
+      (on_awaits (vector u32 (listed_index seen.functions)) _ e
+      (then_awaits u32 _ e f n (field_steady [] u32 u32_field).by third (on_awaits (repeated n.1 (listed_index seen.functions)) _ f h))))
+
+  segment_wants : (seen : Seen) (c d e f : Cursor) (i : ℕ × ℕ) (place : Constant) (n : ℕ × ℕ) → sole seen.memories c ≡ Got i d → constant I32 d ≡ Got place e → u32 e ≡ Got n f
+      → n.1 ≤ room_of f → WantsIf (run n.1) f P → WantsIf (segment seen) c P
+  unfolding segment counted_bytes room
+  segment_wants seen c d e f i place n first second third fits h =
+      then_awaits (sole seen.memories) _ c d i (sole_steady [] seen.memories).by first
+      (then_awaits (constant I32) _ d e place (constant_steady [] I32).by second
+      (on_awaits counted_bytes _ e
+      (then_awaits u32 _ e f n (field_steady [] u32 u32_field).by third
+      (λ more passes. rw (le-ltb (room_of f) n.1 fits) (ap (λ (r : Read (List ℕ)). then_go r (λ bytes. done (n.0, bytes))) (h more passes))))))
+
+pub never : {A : Type 0} (p : Reader A) (c : Cursor) → Awaits p c wait.Nothing
+never p c = λ more passes. absurd passes
+
+-- ---- names
+
+custom_awaits : (c : Cursor) (w : Wait) → Awaits name c w → Awaits custom_name c w
+unfolding custom_name
+custom_awaits c w h = on_awaits (Passes w c) name _ c h
+
+pub exported_awaits : (seen : Seen) (c : Cursor) (w : Wait) → Awaits name c w → Awaits (exported seen) c w
+unfolding exported
+exported_awaits seen c w h = on_awaits (Passes w c) name _ c h
+
+pub imported_awaits : (seen : Seen) (c : Cursor) (w : Wait) → Awaits name c w → Awaits (imported seen) c w
+unfolding imported
+imported_awaits seen c w h = on_awaits (Passes w c) name _ c h
+
+pub second_awaits : (seen : Seen) (c d : Cursor) (x : ℕ × List ℕ) (w : Wait) → name c ≡ Got x d → AwaitsAt name d w c → Awaits (imported seen) c w
+unfolding imported
+second_awaits seen c d x w first h =
+    then_awaits (Passes w c) name _ c d x (field_steady [] name name_field).by first (on_awaits (Passes w c) name _ d h)
+
+-- ---- lists and bytes
+
+list_at : (c e : Cursor) (n : ℕ) (p : Reader Nothing) → Advance c e → (more : List ℕ) → repeated n p (with_more (past c (length c.rest - length e.rest)) more) ≡ Wants → repeated n p (with_more e more) ≡ Wants
+list_at c e n p advance more h = ap (λ (d : Cursor). repeated n p (with_more d more)) (sym (past_is c e advance)) ∙ h
+
+pub list_is_placed : (c e : Cursor) (n : ℕ) (kind : Element) → Advance c e → IsPlaced (wait.List (length c.rest - length e.rest) n kind) c
+list_is_placed c e n kind p = record {
+  among = omega arith;
+  inside = λ ahead. omega (arith, p.fits, ap length p.parts, length-append p.taken e.rest);
+}
+
+module _ (seen : Seen) (c d e : Cursor) where
+  module _ (form n : ℕ × ℕ) (first : byte c ≡ Got form d) (second : count max_params d ≡ Got n e) where
+    pub params_advance : Advance c e
+    params_advance =
+        advance_then c d e (got_is (λ x f. Advance c f) (byte c) form d first ((field_steady [] byte byte_field).moves c)) (got_is (λ x f. Advance d f) (count max_params d) n e second ((count_steady [] max_params).moves d))
+
+    pub signature_awaits : form.1 ≡ 0x60 → Awaits (signature seen) c (wait.List (length c.rest - length e.rest) n.1 ValueType)
+    signature_awaits is =
+        signature_wants (Passes (wait.List (length c.rest - length e.rest) n.1 ValueType) c) seen c d e form n first is second
+        (λ more h. types_want n.1 (with_more e more) (list_at c e n.1 (element_of ValueType) params_advance more h))
+
+  module _ (f : Cursor) (i : ℕ × ℕ) (place : Constant) (n : ℕ × ℕ) (there : ℕ) (first : sole there c ≡ Got i d) (second : constant I32 d ≡ Got place e) (third : u32 e ≡ Got n f) where
+    pub indices_advance : Advance c f
+    indices_advance =
+        advance_then c d f (got_is (λ x g. Advance c g) (sole there c) i d first ((sole_steady [] there).moves c))
+        (advance_then d e f (got_is (λ x g. Advance d g) (constant I32 d) place e second ((constant_steady [] I32).moves d)) (got_is (λ x g. Advance e g) (u32 e) n f third ((field_steady [] u32 u32_field).moves e)))
+
+    pub element_awaits : there ≡ seen.tables → Awaits (element seen) c (wait.List (length c.rest - length f.rest) n.1 (Index seen.functions))
+    element_awaits is =
+        element_wants (Passes (wait.List (length c.rest - length f.rest) n.1 (Index seen.functions)) c) seen c d e f i place n (rw is at first) second third
+        (λ more h. indices_want n.1 seen.functions (with_more f more) (list_at c f n.1 (element_of (Index seen.functions)) indices_advance more h))
+
+run_wants : (n : ℕ) (c : Cursor) (free : ℕ) → n ≤ room_of c → length c.rest + free < n → WantsIf (run n) c (λ more. length more ≤ free)
 unfolding run
-run_awaits n c free fits owed = λ more few.
+run_wants n c free fits owed = λ more few.
     rw (lt-ltb (length (window (with_more c more))) n (omega (arith, length-take (room_of c) (c.rest ++ more), length-append c.rest more)), lt-leb (room_of c) (length (c.rest ++ more)) (omega (arith, length-append c.rest more))) refl
 
 -- the bytes of a data segment
 pub segment_awaits : (seen : Seen) (c d e f : Cursor) (i : ℕ × ℕ) (place : Constant) (n : ℕ × ℕ) (free : ℕ)
-    → sole seen.memories c ≡ Got i d → constant I32 d ≡ Got place e → u32 e ≡ Got n f → n.1 ≤ room_of f → length f.rest + free < n.1 → Awaits (segment seen) c free
-unfolding segment counted_bytes room
+    → sole seen.memories c ≡ Got i d → constant I32 d ≡ Got place e → u32 e ≡ Got n f → n.1 ≤ room_of f → length f.rest + free < n.1 → Awaits (segment seen) c (wait.Bytes free)
 segment_awaits seen c d e f i place n free first second third fits owed =
-    then_awaits (sole seen.memories) _ c d i free (sole_steady [] seen.memories).by first
-    (then_awaits (constant I32) _ d e place free (constant_steady [] I32).by second
-    (on_awaits counted_bytes _ e free
-    (then_awaits u32 _ e f n free (field_steady [] u32 u32_field).by third
-    (λ more few. rw (le-ltb (room_of f) n.1 fits) (ap (λ (r : Read (List ℕ)). then_go r (λ bytes. done (n.0, bytes))) (run_awaits n.1 f free fits owed more few))))))
+    segment_wants (λ more. length more ≤ free) seen c d e f i place n first second third fits (run_wants n.1 f free fits owed)
 
 -- ---- stages that wait
 
-pub segment_is_free : (seen : Seen) (c : Cursor) (n free : ℕ) → 0 < n → Awaits (segment seen) c free → (more : List ℕ) → length more ≤ free → is_owing (proceed (Entries 11 n) seen (with_more c more)).parts (proceed (Entries 11 n) seen (with_more c more)).ending ≡ true
-segment_is_free seen c n free some h = λ more few.
-    ap (λ (r : Run). is_owing r.parts r.ending) (entries_are seen c 11 n (with_more c more) some ∙ runs_owed _ ((outline_row 11).entry seen (with_more c more)) (on_awaits (segment seen) _ c free h more few))
+pub name_is_free : (seen : Seen) (c : Cursor) (w : Wait) → Awaits name c w → IsFree (Contents 0) seen c w
+name_is_free seen c w h = λ more passes. ap wants_more (custom_awaits c w h more passes)
 
-pub none_is_free : (stage : Stage) (seen : Seen) (c : Cursor) → is_owing (proceed stage seen c).parts (proceed stage seen c).ending ≡ true → IsFree stage seen c 0
-none_is_free stage seen c h = λ more few.
-    let none : more ≡ [] = nil_from_length more (omega arith) in
-    rw none (rw (append-nil c.rest) h)
+pub free_at : (stage : Stage) (seen : Seen) (d : Cursor) (at end : ℕ) (kept : List ℕ) (w : Wait) → at ≡ d.at → end ≡ d.end → kept ≡ d.rest → IsFree stage seen d w → IsFree stage seen (record { at = at; rest = kept; end = end }) w
+free_at stage seen d at end kept w same_at same_end same h = rw (same_at, same_end, same) h
 
--- fewer bytes are free where some came
-pub free_later : (stage : Stage) (seen : Seen) (at end : ℕ) (kept bytes : List ℕ) (free : ℕ) → length bytes ≤ free → IsFree stage seen (record { at = at; rest = kept; end = end }) free → IsFree stage seen (record { at = at; rest = kept ++ bytes; end = end }) (free - length bytes)
-free_later stage seen at end kept bytes free fits h = λ more few.
-    rw (append_assoc kept bytes more) (h (bytes ++ more) (omega (arith, length-append bytes more)))
-
-pub data_is_free : (stage : Stage) (seen : Seen) (c : Cursor) (free : ℕ) → is_at_data stage ≡ true → (0 < free → Awaits (segment seen) c free) → IsOwed stage seen c → 0 < length c.rest → IsFree stage seen c free
-data_is_free Preamble seen c free e h owed some = absurd cc
-data_is_free Between seen c free e h owed some = absurd cc
-data_is_free (Contents id) seen c free e h owed some = absurd cc
-data_is_free (Entries id n) seen c free e h owed some =
-    let p = and_parts (eqb id 11) (ltb 0 n) e in
-    elim (cases_lt 0 free) [
-      | inl more ↦ subst (λ (k : ℕ). IsFree (Entries k n) seen c free) (sym (eqb-true id 11 p.0)) (segment_is_free seen c n free (ltb-true 0 n p.1) (h more))
-      | inr none ↦ subst (λ (k : ℕ). IsFree (Entries id n) seen c k) (omega arith) (none_is_free (Entries id n) seen c (owed some))
-    ]
-
-pub free_at : (stage : Stage) (seen : Seen) (d : Cursor) (at end free : ℕ) (kept : List ℕ) → at ≡ d.at → end ≡ d.end → kept ≡ d.rest → IsFree stage seen d free → IsFree stage seen (record { at = at; rest = kept; end = end }) free
-free_at stage seen d at end free kept same_at same_end same h = rw (same_at, same_end, same) h
+pub placed_at : (d : Cursor) (at end : ℕ) (kept : List ℕ) (w : Wait) → at ≡ d.at → end ≡ d.end → kept ≡ d.rest → IsPlaced w d → IsPlaced w (record { at = at; rest = kept; end = end })
+placed_at d at end kept w same_at same_end same h = rw (same_at, same_end, same) h

@@ -1,20 +1,22 @@
 -- How a push reader ends, and how it skips.
-use Rattle.std.proofs.Common.{◌≡◌, ℕ, ◌+◌, ◌≤◌, Bool, true, false, eqb, List, [], ◌++◌, length, Option, Some, None, refl, sym, ap, subst, ◌∙◌, arith, add-zero, ◌&&◌, not}
+use Rattle.std.proofs.Common.{◌≡◌, ℕ, ◌+◌, ◌-◌, ◌≤◌, true, eqb, List, [], ◌++◌, length, Option, Some, None, refl, ap, ◌∙◌, arith, add-zero, not}
 use Rattle.std.specs.Prelude.{is_some}
-use Rattle.std.proofs.lemmas.Bool.{and_parts, eqb-true}
+use Rattle.std.proofs.lemmas.Bool.{and_parts, eqb-true, le-leb}
 use Rattle.std.proofs.lemmas.List.{nil_from_length}
 use Rattle.wasm_defs.specs.declared.fault.Refusal.{Refusal}
 use Rattle.wasm_defs.specs.declared.item.Item.{Item}
 use Rattle.wasm_defs.specs.Entries.{Seen}
 use Rattle.wasm_defs.specs.Faults.{ending_fault}
-use Rattle.wasm_defs.specs.Outside.{Ending, Run}
+use Rattle.wasm_defs.specs.Fields.{Read, Got}
+use Rattle.wasm_defs.specs.Outside.{Nothing, rest_of_section, Run, runs_on, section_end, no_end, sections}
 use Rattle.wasm_laws.specs.Steadiness.{with_more}
 use Rattle.section_reader.specs.declared.stage.Stage.{Stage}
 use Rattle.section_reader.specs.declared.stage.Stage.TheVariants.{Preamble, Between, Contents, Entries}
 use Rattle.section_reader.specs.declared.front.Front.{Front}
+use Rattle.section_reader.specs.Outline.{outline_sections}
 use Rattle.section_reader.specs.Stages.{proceed, prepend, silent, is_at_bodies}
 use Rattle.section_reader.specs.FrontLeft.{left, total, from_there, cursor_of, can_skip}
-use Rattle.section_reader.proofs.Leading.{at_bytes, pass_leads}
+use Rattle.section_reader.proofs.Leading.{at_bytes, rest_is, pass_leads}
 use Rattle.section_reader.proofs.Silence.{silent_is}
 
 prepend_ending : (x : Option Item) (r : Run) → (prepend x r).ending ≡ r.ending
@@ -39,35 +41,55 @@ at_bodies (Entries id n) e =
     let p = and_parts (eqb id 10) (eqb n 0) e in
     rw (eqb-true id 10 p.0, eqb-true n 0 p.1) refl
 
-pub skip_kept : (f : Front) (end : ℕ) → can_skip f end ≡ true → f.kept.items ≡ []
-skip_kept f end can =
+-- what `can_skip` tests
+pub record Skips (f : Front) (end : ℕ) : Type 0 where
+  pub stage : f.steps.stage ≡ Entries 10 0
+  pub kept : f.kept.items ≡ []
+  pub waiting : f.waiting ≡ None
+  pub refusal : f.refusal ≡ None
+  pub there : end ≡ f.end
+
+none_there : {A : Type 0} (x : Option A) → not (is_some x) ≡ true → x ≡ None
+none_there None e = refl
+none_there (Some x) e = absurd cc
+
+pub skips : (f : Front) (end : ℕ) → can_skip f end ≡ true → Skips f end
+skips f end can =
     let p = and_parts _ (eqb end f.end) can in
     let q = and_parts _ (not (is_some f.refusal)) p.0 in
     let r = and_parts _ (not (is_some f.waiting)) q.0 in
     let s = and_parts (is_at_bodies f.steps.stage) (eqb (length f.kept.items) 0) r.0 in
-    nil_from_length f.kept.items (eqb-true (length f.kept.items) 0 s.1)
+    record {
+      stage = at_bodies f.steps.stage s.0;
+      kept = nil_from_length f.kept.items (eqb-true (length f.kept.items) 0 s.1);
+      waiting = none_there f.waiting r.1;
+      refusal = none_there f.refusal q.1;
+      there = eqb-true end f.end p.1;
+    }
+
+-- where all of the code section is passed over, the next section comes
+over_there : (seen : Seen) (end : ℕ) (more : List ℕ) → proceed (Entries 10 0) seen (at_bytes end end more) ≡ outline_sections seen (at_bytes end no_end more)
+unfolding section_end
+over_there seen end more =
+    let none : end - end ≡ 0 = omega arith in
+    let back : rest_of_section (at_bytes end end more) ≡ Got tt (at_bytes end end more) =
+    rest_is (at_bytes end end more) ∙ rw (none, le-leb 0 (length more) (omega arith)) (ap (λ (n : ℕ). Got tt (at_bytes n end more)) (add-zero end)) in
+    ap (λ (r : Read Nothing). runs_on r (λ x d. runs_on (section_end d) (λ y e. outline_sections seen e))) back
+    ∙ rw none refl
 
 pub skip_same : (f : Front) (end : ℕ) → can_skip f end ≡ true → (bytes more : List ℕ) → total f + length bytes ≡ end
-    → left f (bytes ++ more) ≡ prepend f.waiting (from_there f.refusal (proceed f.steps.stage f.steps.seen (record { at = end; rest = f.kept.items ++ more; end = f.end })))
-skip_same f end can bytes more sum = ap (λ (r : Run). prepend f.waiting (from_there f.refusal r)) there
-  where
-    parts : (is_at_bodies f.steps.stage ≡ true) × (f.kept.items ≡ []) × (end ≡ f.end)
-    parts =
-        let p = and_parts _ (eqb end f.end) can in
-        let q = and_parts _ (not (is_some f.refusal)) p.0 in
-        let r = and_parts _ (not (is_some f.waiting)) q.0 in
-        let s = and_parts (is_at_bodies f.steps.stage) (eqb (length f.kept.items) 0) r.0 in
-        (s.0, nil_from_length f.kept.items (eqb-true (length f.kept.items) 0 s.1), eqb-true end f.end p.1)
+    → left f (bytes ++ more) ≡ prepend f.waiting (from_there f.refusal (outline_sections f.steps.seen (at_bytes end no_end (f.kept.items ++ more))))
+skip_same f end can bytes more sum =
+    let h = skips f end can in
+    let before : f.at + length bytes ≡ end = omega (arith, sum, ap length h.kept) in
+    ap (λ (r : Run). prepend f.waiting (from_there f.refusal r)) (
+    rw (h.stage, h.kept) (
+    pass_leads f.steps.seen f.at f.end 10 bytes refl (omega (arith, before, h.there)) more
+    ∙ rw (before, ← h.there) (over_there f.steps.seen end more)))
 
-    before : f.at + length bytes ≡ end
-    before = omega (arith, sum, ap length parts.1)
+pub skip_onward : (f : Front) (end : ℕ) → can_skip f end ≡ true → (more : List ℕ)
+    → prepend f.waiting (from_there f.refusal (sections f.steps.seen (at_bytes end no_end (f.kept.items ++ more)))) ≡ sections f.steps.seen (at_bytes end no_end more)
+skip_onward f end can more = let h = skips f end can in rw (h.waiting, h.refusal, h.kept) refl
 
-    passed : proceed (Entries 10 0) f.steps.seen (at_bytes f.at f.end (bytes ++ more)) ≡ proceed (Entries 10 0) f.steps.seen (at_bytes end f.end more)
-    passed =
-        pass_leads f.steps.seen f.at f.end 10 bytes refl (omega (arith, before, parts.2)) more
-        ∙ ap (λ (n : ℕ). proceed (Entries 10 0) f.steps.seen (at_bytes n f.end more)) before
-
-    there : proceed f.steps.stage f.steps.seen (at_bytes f.at f.end (f.kept.items ++ (bytes ++ more))) ≡ proceed f.steps.stage f.steps.seen (at_bytes end f.end (f.kept.items ++ more))
-    there =
-        subst (λ (s : Stage). proceed s f.steps.seen (at_bytes f.at f.end (f.kept.items ++ (bytes ++ more))) ≡ proceed s f.steps.seen (at_bytes end f.end (f.kept.items ++ more))) (sym (at_bodies f.steps.stage parts.0))
-        (subst (λ (l : List ℕ). proceed (Entries 10 0) f.steps.seen (at_bytes f.at f.end (l ++ (bytes ++ more))) ≡ proceed (Entries 10 0) f.steps.seen (at_bytes end f.end (l ++ more))) (sym parts.1) passed)
+pub skip_total : (f : Front) (end : ℕ) → can_skip f end ≡ true → end + length f.kept.items ≡ end
+skip_total f end can = omega (arith, ap length (skips f end can).kept)

@@ -1,14 +1,14 @@
 -- What a step of reading does.
-use Rattle.std.proofs.Common.{◌≡◌, ℕ, ◌+◌, ◌-◌, ◌<◌, ◌≤◌, List, [], ◌∷◌, ◌++◌, length, take, drop, Some, None, Result, Ok, Err, refl, sym, ap, subst, ◌∙◌, arith, append_assoc, length-append, length-take, eqb, true, false, inl, inr}
+use Rattle.std.proofs.Common.{◌≡◌, ℕ, ◌+◌, ◌-◌, ◌<◌, ◌≤◌, List, [], ◌∷◌, ◌++◌, length, take, Option, Some, None, Err, refl, sym, ap, subst, ◌∙◌, arith, append_assoc, length-append, length-take, eqb, true, false, inl, inr}
 use Rattle.std.proofs.Math.Seq.{drop-length}
 use Rattle.std.proofs.lemmas.Bool.{cases_Bool, le-ltb, eqb-true}
 use Rattle.std.proofs.lemmas.List.{append-nil}
 use Rattle.wasm_defs.specs.declared.item.Item.{Item}
 use Rattle.wasm_defs.specs.Fields.{Cursor, Read, Got, Fault, Wants, Reader, past, room_of, window, run}
 use Rattle.wasm_defs.specs.Entries.{Seen, note}
-use Rattle.wasm_defs.specs.Outside.{Listed, Nothing, nothing_more, rest_of_section, header, preamble, section_end, entered, inside, no_end}
-use Rattle.wasm_laws.specs.Steadiness.{IfGot, Advance, Advances, LeavesFewer, Leaves}
-use Rattle.wasm_laws.proofs.EntryLaws.{header_steady, preamble_steady, rest_steady}
+use Rattle.wasm_defs.specs.Outside.{Section, Listed, Nothing, rest_of_section, header, preamble, section_end, entered, inside, no_end}
+use Rattle.wasm_laws.specs.Steadiness.{IfGot, Advance}
+use Rattle.wasm_laws.proofs.EntryLaws.{header_steady, preamble_steady}
 use Rattle.wasm_laws.proofs.RowLaws.{end_steady}
 use Rattle.wasm_laws.proofs.Takes.{header_takes}
 use Rattle.leb_feed.specs.declared.stop.Stop.{Stop}
@@ -19,19 +19,31 @@ use Rattle.section_reader.specs.declared.stage.Stage.TheVariants.{Preamble, Betw
 use Rattle.section_reader.specs.declared.steps.Steps.{Steps}
 use Rattle.section_reader.specs.Left.{IsSound}
 use Rattle.section_reader.specs.Outline.{outline_row}
-use Rattle.section_reader.specs.Stages.{passes, Passed, Leads, Halts, weight, IsSameButLast}
-use Rattle.section_reader.specs.Stepped.{Goes}
+use Rattle.section_reader.specs.Stages.{passes, is_at_bodies, Passed, Leads, Halts, weight, IsSameButLast}
+use Rattle.section_reader.specs.Onward.{outside_of, first_with, HaltsOnward, IsOrdered}
+use Rattle.section_reader.specs.Stepped.{Goes, GoesOnward, Stepped}
 use Rattle.section_reader.proofs.Takes.{Moved}
 use Rattle.section_reader.proofs.Walk.{sound_moved, sound_entered, sound_noted}
 use Rattle.section_reader.proofs.OutlineRuns.{outline_steady, passed_over, not_passed}
+use Rattle.section_reader.proofs.Telling.{first_with_is, ordered_between, preamble_run, header_run, header_id, header_ordered, front_run, front_ordered, front_apart, entry_run, entry_ordered, entry_behind, back_run, pass_run}
 use Rattle.section_reader.proofs.Leading.{preamble_leads, header_leads, front_leads, entry_leads, back_leads, pass_leads}
 
-pub halts_at : (stage there : Stage) (seen : Seen) (c : Cursor) (s : Stop) → stage ≡ there → Halts there seen c s → Halts stage seen c s
-halts_at stage there seen c s e h = subst (λ (p : Stage). Halts p seen c s) (sym e) h
+-- outside the bodies
+abbrev HaltsApart : Stage → Seen → Cursor → Stop → Type 0
+HaltsApart stage seen c s = IsOrdered stage seen → is_at_bodies stage ≡ false → HaltsOnward stage seen c s
+
+-- reading stops, and all is as it was
+pub stops_at : (old : Steps) (there : Stage) (c : Cursor) (s : Stop) → old.stage ≡ there → Halts there old.seen c s → HaltsApart there old.seen c s → Stepped old c (Err s) old c
+stops_at old there c s e h k = (
+  subst (λ (p : Stage). Halts p old.seen c s) (sym e) h,
+  refl,
+  refl,
+  subst (λ (p : Stage). HaltsApart p old.seen c s) (sym e) k,
+)
 
 -- ---- bytes that were taken
 
-got_is : {A : Type 0} (P : A → Cursor → Type 0) (r : Read A) (x : A) (d : Cursor) → r ≡ Got x d → IfGot P r → P x d
+pub got_is : {A : Type 0} (P : A → Cursor → Type 0) (r : Read A) (x : A) (d : Cursor) → r ≡ Got x d → IfGot P r → P x d
 got_is P (Got y f) x d e h = let a : y ≡ x = cc in let b : f ≡ d = cc in rw (← a, ← b) h
 got_is P (Fault r) x d e h = absurd cc
 got_is P Wants x d e h = absurd cc
@@ -64,14 +76,17 @@ same_entered seen id =
 
 -- ---- steps
 
-abbrev pub standing : Stage → Seen → Steps
-standing stage seen = record { stage = stage; seen = seen }
+abbrev pub standing : Stage → Seen → Option ℕ → Steps
+standing stage seen first = record { stage = stage; seen = seen; uncompiled = first }
 
-module _ (stage : Stage) (seen : Seen) (c d : Cursor) (sound : IsSound seen c) where
+module _ (stage : Stage) (seen : Seen) (first : Option ℕ) (c d : Cursor) (sound : IsSound seen c) where
+  tells_from : (there : Stage) (item : Option Item) (new : Steps) (e : Cursor) → stage ≡ there → (IsOrdered there seen → GoesOnward (standing there seen first) c item new e) → IsOrdered stage seen → GoesOnward (standing stage seen first) c item new e
+  tells_from there item new e is h = subst (λ (p : Stage). IsOrdered p seen → GoesOnward (standing p seen first) c item new e) (sym is) h
+
   leads_from : (there next : Stage) (after : Seen) (e : Cursor) → stage ≡ there → Leads there seen c None next after e → Leads stage seen c None next after e
   leads_from there next after e is h = subst (λ (p : Stage). Leads p seen c None next after e) (sym is) h
 
-  pub preamble_goes : (v : ℕ) → stage ≡ Preamble → preamble c ≡ Got v d → Goes (standing stage seen) c None (standing Between seen) d
+  pub preamble_goes : (v : ℕ) → stage ≡ Preamble → preamble c ≡ Got v d → Goes (standing stage seen first) c None (standing Between seen first) d
   preamble_goes v is read =
       let p = passed_of c d (got_is (λ x e. Advance c e) (preamble c) v d read ((preamble_steady []).moves c)) in
       let fewer = fewer_left c d p in
@@ -81,9 +96,15 @@ module _ (stage : Stage) (seen : Seen) (c d : Cursor) (sound : IsSound seen c) w
         less = λ _. omega (arith, fewer, ap weight is);
         same = λ _. refl;
         passed = p;
+        tells = tells_from Preamble None (standing Between seen first) d is (λ o. record {
+          tells = λ _. record { told = []; sections = tt; run = preamble_run seen c d v read; first = refl };
+          apart = λ _ _. refl;
+          ordered = ordered_between Preamble seen o;
+          behind = tt;
+        });
       }
 
-  pub front_goes : (id n : ℕ) → stage ≡ Contents id → (outline_row id).front seen c ≡ Got n d → Goes (standing stage seen) c None (standing (Entries id n) seen) d
+  pub front_goes : (id n : ℕ) → stage ≡ Contents id → (outline_row id).front seen c ≡ Got n d → Goes (standing stage seen first) c None (standing (Entries id n) seen first) d
   front_goes id n is read =
       let p = passed_of c d (got_is (λ x e. Advance c e) ((outline_row id).front seen c) n d read (((outline_steady id).front seen).moves c)) in
       let fewer = fewer_left c d p in
@@ -93,9 +114,15 @@ module _ (stage : Stage) (seen : Seen) (c d : Cursor) (sound : IsSound seen c) w
         less = λ _. omega (arith, fewer, ap weight is);
         same = λ _. refl;
         passed = p;
+        tells = tells_from (Contents id) None (standing (Entries id n) seen first) d is (λ o. record {
+          tells = λ _. record { told = []; sections = tt; run = front_run seen c d id n read; first = refl };
+          apart = λ _ _. front_apart seen c d id n read;
+          ordered = front_ordered seen c d id n read o;
+          behind = tt;
+        });
       }
 
-  pub header_goes : (h : ℕ × ℕ) (b : ℕ) (bytes : List ℕ) → stage ≡ Between → c.rest ≡ b ∷ bytes → header seen c ≡ Got h d → Goes (standing stage seen) c None (standing (Contents h.0) (entered seen h.0)) (inside d h.1)
+  pub header_goes : (h : ℕ × ℕ) (b : ℕ) (bytes : List ℕ) → stage ≡ Between → c.rest ≡ b ∷ bytes → header seen c ≡ Got h d → Goes (standing stage seen first) c None (standing (Contents h.0) (entered seen h.0) (first_with first c.at h.0)) (inside d h.1)
   header_goes h b bytes is some read =
       let p = passed_of c d (got_is (λ x e. Advance c e) (header seen c) h d read ((header_steady [] seen).moves c)) in
       let fewer = got_is (λ x e. length e.rest < length c.rest) (header seen c) h d read ((header_takes seen).some c) in
@@ -105,9 +132,20 @@ module _ (stage : Stage) (seen : Seen) (c d : Cursor) (sound : IsSound seen c) w
         less = λ _. omega (arith, fewer, ap weight is);
         same = λ _. same_entered seen h.0;
         passed = record { taken = p.taken; parts = p.parts; at = p.at };
+        tells = tells_from Between None (standing (Contents h.0) (entered seen h.0) (first_with first c.at h.0)) (inside d h.1) is (λ o. record {
+          tells = λ _. record {
+            told = Section c.at b ∷ [];
+            sections = tt;
+            run = header_run seen c d h b bytes some read;
+            first = ap (λ (id : ℕ). outside_of (first_with first c.at id) []) (header_id seen c d h b bytes some read) ∙ first_with_is first c.at b;
+          };
+          apart = λ _ _. refl;
+          ordered = header_ordered seen c d h read o;
+          behind = tt;
+        });
       }
 
-  pub entry_goes : (id n : ℕ) (x : Item) → stage ≡ Entries id n → 0 < n → (outline_row id).entry seen c ≡ Got (Listed x) d → Goes (standing stage seen) c (Some x) (standing (Entries id (n - 1)) (note seen x)) d
+  pub entry_goes : (id n : ℕ) (x : Item) → stage ≡ Entries id n → 0 < n → (outline_row id).entry seen c ≡ Got (Listed x) d → Goes (standing stage seen first) c (Some x) (standing (Entries id (n - 1)) (note seen x) first) d
   entry_goes id n x is some read =
       let p = passed_of c d (got_is (λ y e. Advance c e) ((outline_row id).entry seen c) (Listed x) d read (((outline_steady id).entry seen).moves c)) in
       let fewer = got_is (λ y e. length e.rest < length c.rest) ((outline_row id).entry seen c) (Listed x) d read (((outline_steady id).takes seen).some c) in
@@ -117,10 +155,16 @@ module _ (stage : Stage) (seen : Seen) (c d : Cursor) (sound : IsSound seen c) w
         less = λ h. absurd cc;
         same = λ h. absurd cc;
         passed = p;
+        tells = tells_from (Entries id n) (Some x) (standing (Entries id (n - 1)) (note seen x) first) d is (λ o. record {
+          tells = λ _. record { told = []; sections = tt; run = entry_run id n seen c d x some read o; first = refl };
+          apart = λ _ h. absurd cc;
+          ordered = entry_ordered id n seen c d x some read o;
+          behind = entry_behind id n seen c d x some read o;
+        });
       }
 
   -- a section ends: the cursor is inside no section then
-  pub back_goes : (id : ℕ) (e : Cursor) → stage ≡ Entries id 0 → (outline_row id).back c ≡ Got tt d → section_end d ≡ Got tt e → Goes (standing stage seen) c None (standing Between seen) e
+  pub back_goes : (id : ℕ) (e : Cursor) → stage ≡ Entries id 0 → (outline_row id).back c ≡ Got tt d → section_end d ≡ Got tt e → Goes (standing stage seen first) c None (standing Between seen first) e
   back_goes id e is back over =
       let p = passed_of c d (got_is (λ x f. Advance c f) ((outline_row id).back c) tt d back ((outline_steady id).back.moves c)) in
       let q = left_passed e over in
@@ -132,6 +176,12 @@ module _ (stage : Stage) (seen : Seen) (c d : Cursor) (sound : IsSound seen c) w
         less = λ _. omega (arith, fewer, ap weight is);
         same = λ _. refl;
         passed = both;
+        tells = tells_from (Entries id 0) None (standing Between seen first) e is (λ o. record {
+          tells = λ apart. record { told = []; sections = tt; run = back_run id seen c d e apart back over; first = refl };
+          apart = λ _ _. refl;
+          ordered = ordered_between (Entries id 0) seen o;
+          behind = tt;
+        });
       }
     where
       left_passed : (e : Cursor) → section_end d ≡ Got tt e → Passed d e
@@ -152,44 +202,59 @@ run_there : (c : Cursor) → length c.rest < room_of c → run (length c.rest) c
 unfolding run
 run_there c short = rw (le-ltb (length (window c)) (length c.rest) (omega (arith, length-take (room_of c) c.rest))) refl
 
-run_halts : (stage : Stage) (seen : Seen) (c : Cursor) (s : Stop) → length c.rest < room_of c → Stops s (run (length c.rest) c) → Halts stage seen c s
-run_halts stage seen c (stop.Refused r) short h = absurd (let e = sym (run_there c short) ∙ h in cc)
-run_halts stage seen c stop.Wants short h = absurd (let e = sym (run_there c short) ∙ h in cc)
-run_halts stage seen c stop.NoMemory short h = tt
+run_stops : (old : Steps) (c : Cursor) (s : Stop) → length c.rest < room_of c → Stops s (run (length c.rest) c) → Stepped old c (Err s) old c
+run_stops old c (stop.Refused r) short h = absurd (let e = sym (run_there c short) ∙ h in cc)
+run_stops old c stop.Wants short h = absurd (let e = sym (run_there c short) ∙ h in cc)
+run_stops old c stop.NoMemory short h = (tt, refl, refl, λ order apart. tt)
 
-pub run_halts_at : (stage : Stage) (seen : Seen) (c : Cursor) (s : Stop) (n : ℕ) → n ≡ length c.rest → n < room_of c → Stops s (run n c) → Halts stage seen c s
-run_halts_at stage seen c s n e short h = run_halts stage seen c s (omega arith) (subst (λ (k : ℕ). Stops s (run k c)) e h)
+pub run_stops_at : (old : Steps) (c : Cursor) (s : Stop) (n : ℕ) → n ≡ length c.rest → n < room_of c → Stops s (run n c) → Stepped old c (Err s) old c
+run_stops_at old c s n e short h = run_stops old c s (omega arith) (subst (λ (k : ℕ). Stops s (run k c)) e h)
 
 past_all : (c d : Cursor) (bytes : List ℕ) → length c.rest < room_of c → run (length c.rest) c ≡ Got bytes d → d ≡ record { at = c.at + length c.rest; rest = []; end = c.end }
 past_all c d bytes short e =
     let same : past c (length c.rest) ≡ d = got_is (λ x f. past c (length c.rest) ≡ f) (run (length c.rest) c) bytes d e (rw (run_there c short) refl) in
     sym same ∙ ap (λ (l : List ℕ). record { at = c.at + length c.rest; rest = l; end = c.end }) (drop-length c.rest)
 
-pass_goes : (stage : Stage) (seen : Seen) (c d : Cursor) (id : ℕ) (bytes : List ℕ) → IsSound seen c → stage ≡ Entries id 0 → passes id ≡ true → 0 < length c.rest → length c.rest < room_of c
-    → run (length c.rest) c ≡ Got bytes d → Goes (standing stage seen) c None (standing stage seen) d
-pass_goes stage seen c d id bytes sound is passing some short e =
-    subst (λ (f : Cursor). Goes (standing stage seen) c None (standing stage seen) f) (sym (past_all c d bytes short e)) there
+abbrev all_past : Cursor → Cursor
+all_past c = record { at = c.at + length c.rest; rest = []; end = c.end }
+
+pass_goes : (stage : Stage) (seen : Seen) (first : Option ℕ) (c d : Cursor) (id : ℕ) (bytes : List ℕ) → IsSound seen c → stage ≡ Entries id 0 → passes id ≡ true → 0 < length c.rest → length c.rest < room_of c
+    → run (length c.rest) c ≡ Got bytes d → Goes (standing stage seen first) c None (standing stage seen first) d
+pass_goes stage seen first c d id bytes sound is passing some short e =
+    subst (λ (f : Cursor). Goes (standing stage seen first) c None (standing stage seen first) f) (sym (past_all c d bytes short e)) there
   where
-    there : Goes (standing stage seen) c None (standing stage seen) (record { at = c.at + length c.rest; rest = []; end = c.end })
+    there : Goes (standing stage seen first) c None (standing stage seen first) (all_past c)
     there = record {
-      leads = subst (λ (q : Stage). Leads q seen c None q seen (record { at = c.at + length c.rest; rest = []; end = c.end })) (sym is) (pass_leads seen c.at c.end id c.rest passing (omega arith));
-      sound = record { counts = (sound_moved {least = 0} seen c (record { at = c.at + length c.rest; rest = []; end = c.end }) sound (record { more = omega arith; same = omega arith })).counts; fits = omega (arith, sound.fits) };
+      leads = subst (λ (q : Stage). Leads q seen c None q seen (all_past c)) (sym is) (pass_leads seen c.at c.end id c.rest passing (omega arith));
+      sound = record { counts = (sound_moved {least = 0} seen c (all_past c) sound (record { more = omega arith; same = omega arith })).counts; fits = omega (arith, sound.fits) };
       less = λ _. omega (arith, some);
       same = λ _. refl;
       passed = record { taken = c.rest; parts = sym (append-nil c.rest); at = refl };
+      tells = subst (λ (q : Stage). IsOrdered q seen → GoesOnward (standing q seen first) c None (standing q seen first) (all_past c)) (sym is) (λ o. record {
+        tells = λ apart. record { told = []; sections = tt; run = pass_run seen c.at c.end id c.rest apart passing (omega arith); first = refl };
+        apart = λ apart _. apart;
+        ordered = o;
+        behind = tt;
+      });
     }
 
-pub pass_goes_at : (stage : Stage) (seen : Seen) (c d : Cursor) (id n : ℕ) (bytes : List ℕ) → IsSound seen c → stage ≡ Entries id 0 → passes id ≡ true → n ≡ length c.rest → 0 < n → n < room_of c
-    → run n c ≡ Got bytes d → Goes (standing stage seen) c None (standing stage seen) d
-pass_goes_at stage seen c d id n bytes sound is passing e some short h =
-    pass_goes stage seen c d id bytes sound is passing (omega arith) (omega arith) (subst (λ (k : ℕ). run k c ≡ Got bytes d) e h)
+pub pass_goes_at : (stage : Stage) (seen : Seen) (first : Option ℕ) (c d : Cursor) (id n : ℕ) (bytes : List ℕ) → IsSound seen c → stage ≡ Entries id 0 → passes id ≡ true → n ≡ length c.rest → 0 < n → n < room_of c
+    → run n c ≡ Got bytes d → Goes (standing stage seen first) c None (standing stage seen first) d
+pass_goes_at stage seen first c d id n bytes sound is passing e some short h =
+    pass_goes stage seen first c d id bytes sound is passing (omega arith) (omega arith) (subst (λ (k : ℕ). run k c ≡ Got bytes d) e h)
 
 -- ---- bytes that are there
 
-pub none_left : (bytes : List ℕ) → eqb (length bytes) 0 ≡ true → bytes ≡ []
+none_left : (bytes : List ℕ) → eqb (length bytes) 0 ≡ true → bytes ≡ []
 none_left [] e = refl
 none_left (b ∷ rest) e = absurd (let t = eqb-true (length (b ∷ rest)) 0 e in omega (t, arith))
 
-pub some_left : (bytes : List ℕ) → eqb (length bytes) 0 ≡ false → (b : ℕ) × (rest : List ℕ) × (bytes ≡ b ∷ rest)
+some_left : (bytes : List ℕ) → eqb (length bytes) 0 ≡ false → (b : ℕ) × (rest : List ℕ) × (bytes ≡ b ∷ rest)
 some_left [] e = absurd cc
 some_left (b ∷ rest) e = (b, rest, refl)
+
+pub none_of : (rest there : List ℕ) → rest ≡ there → eqb (length rest) 0 ≡ true → there ≡ []
+none_of rest there e h = sym e ∙ none_left rest h
+
+pub some_of : (rest there : List ℕ) → rest ≡ there → eqb (length rest) 0 ≡ false → (b : ℕ) × (bytes : List ℕ) × (there ≡ b ∷ bytes)
+some_of rest there e h = subst (λ (l : List ℕ). (b : ℕ) × (bytes : List ℕ) × (l ≡ b ∷ bytes)) e (some_left rest h)

@@ -1,5 +1,5 @@
 -- What each step of reading leads to, and where it halts.
-use Rattle.std.proofs.Common.{◌≡◌, ℕ, suc, ◌+◌, ◌-◌, ◌<◌, ◌≤◌, if◌then◌else◌, Bool, true, false, leb, List, [], ◌∷◌, ◌++◌, length, take, drop, Some, None, refl, sym, ap, ◌∙◌, arith, length-take, length-append, inl, inr}
+use Rattle.std.proofs.Common.{◌≡◌, ℕ, suc, ◌+◌, ◌-◌, ◌<◌, ◌≤◌, if◌then◌else◌, Bool, true, leb, List, [], ◌∷◌, ◌++◌, length, drop, Some, None, refl, sym, ap, ◌∙◌, arith, length-take, length-append, inl, inr}
 use Rattle.std.proofs.Math.Seq.{drop-append-add}
 use Rattle.std.proofs.lemmas.Bool.{cases_lt, lt-ltb, le-ltb, lt-leb, le-leb}
 use Rattle.wasm_defs.specs.declared.fault.Refusal.{Refusal}
@@ -8,16 +8,15 @@ use Rattle.wasm_defs.specs.Fields.{Cursor, Read, Got, Fault, Wants, Reader, wind
 use Rattle.wasm_defs.specs.Entries.{Seen, note}
 use Rattle.wasm_defs.specs.Outside.{Part, Listed, Nothing, rest_of_section, Run, ends, Refused, Owed, runs_on, preamble, header, entered, noted, inside, contents, entries, section_end, after_part}
 use Rattle.wasm_laws.specs.Steadiness.{with_more, Extends, got, faulty, owed}
-use Rattle.wasm_laws.proofs.Steady.{Steady}
-use Rattle.wasm_laws.proofs.EntryLaws.{header_steady, preamble_steady, rest_steady}
+use Rattle.wasm_laws.proofs.EntryLaws.{header_steady, preamble_steady}
 use Rattle.wasm_laws.proofs.RowLaws.{end_steady}
 use Rattle.leb_feed.specs.declared.stop.Stop.{Stop}
 use Rattle.leb_feed.specs.declared.stop.Stop.TheVariants as stop
 use Rattle.leb_feed.specs.Reads.{Stops}
 use Rattle.section_reader.specs.declared.stage.Stage.TheVariants.{Preamble, Between, Contents, Entries}
 use Rattle.section_reader.specs.Outline.{outline_row, or_outline, outline_sections}
-use Rattle.section_reader.specs.Stages.{passes, between, Leads, Halts, proceed}
-use Rattle.section_reader.proofs.OutlineRuns.{outline_steady, outline_is, passed_over, not_passed}
+use Rattle.section_reader.specs.Stages.{passes, between, Leads, Halts}
+use Rattle.section_reader.proofs.OutlineRuns.{outline_steady, outline_is, passed_over}
 
 -- ---- more bytes
 
@@ -37,12 +36,12 @@ Stable {A} p = (c : Cursor) (more : List ℕ) → Extends A more (p c) (p (with_
 pub more_got : {A : Type 0} (p : Reader A) → Stable p → (c d : Cursor) (x : A) → p c ≡ Got x d → (more : List ℕ) → p (with_more c more) ≡ Got x (with_more d more)
 more_got p stable c d x e more = extended more (p c) (p (with_more c more)) x d (stable c more) e
 
-more_refused : {A : Type 0} (p : Reader A) → Stable p → (c : Cursor) (r : Refusal) → p c ≡ Fault r → (more : List ℕ) → p (with_more c more) ≡ Fault r
+pub more_refused : {A : Type 0} (p : Reader A) → Stable p → (c : Cursor) (r : Refusal) → p c ≡ Fault r → (more : List ℕ) → p (with_more c more) ≡ Fault r
 more_refused p stable c r e more = refused_still more (p c) (p (with_more c more)) r (stable c more) e
 
 -- ---- what is passed over
 
-abbrev over_if : Bool → Cursor → Read Nothing
+abbrev pub over_if : Bool → Cursor → Read Nothing
 over_if b d = if◌then◌else◌ b (Got tt d) Wants
 
 -- the rest of a section is passed over where it is all there
@@ -113,7 +112,7 @@ pass_leads seen at end id bytes passing fits = λ more.
 
 -- ---- where reading halts
 
-runs_refused : {A : Type 0} (r : Refusal) (f : A → Cursor → Run) (x : Read A) → x ≡ Fault r → runs_on x f ≡ ends (Refused r)
+pub runs_refused : {A : Type 0} (r : Refusal) (f : A → Cursor → Run) (x : Read A) → x ≡ Fault r → runs_on x f ≡ ends (Refused r)
 runs_refused r f x e = rw e refl
 
 pub runs_owed : {A : Type 0} (f : A → Cursor → Run) (x : Read A) → x ≡ Wants → runs_on x f ≡ ends Owed

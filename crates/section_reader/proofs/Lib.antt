@@ -7,9 +7,14 @@ pub mod Runs
 pub mod Walk
 pub mod OutlineRuns
 pub mod Leading
+pub mod Telling
 pub mod Going
 pub mod Reaching
 pub mod Silence
 pub mod Ending
+pub mod Texts
+pub mod Skimming
 pub mod Awaiting
 pub mod Keeping
+pub mod FrontTelling
+pub mod OnwardSilence

@@ -1,11 +1,11 @@
 -- The outline's sections, one after the other: each takes a byte, so as many as there are bytes are enough.
-use Rattle.std.proofs.Common.{◌≡◌, ℕ, zero, suc, ◌+◌, ◌-◌, ◌≤◌, ◌<◌, Bool, true, false, eqb, ltb, cond, List, [], ◌∷◌, length, refl, sym, ap, ◌∙◌, arith, add-one, inl, inr}
+use Rattle.std.proofs.Common.{◌≡◌, ℕ, zero, suc, ◌+◌, ◌-◌, ◌≤◌, ◌<◌, Bool, true, false, eqb, ltb, cond, List, [], ◌∷◌, length, refl, ap, ◌∙◌, arith, add-one, inl, inr}
 use Rattle.std.proofs.lemmas.Bool.{cases_eq, cases_Bool, ne_eqb, ltb-true, ltb-false}
 use Rattle.wasm_defs.specs.Fields.{Cursor, Read, Got, Fault, Wants}
 use Rattle.wasm_defs.specs.Entries.{Seen}
-use Rattle.wasm_defs.specs.Outside.{Nothing, nothing_more, rest_of_section, Row, row, header, entered, inside, Run, runs_on, Next, contents}
-use Rattle.wasm_laws.specs.Steadiness.{IfGot, LeavesFewer, SteadyRow}
-use Rattle.wasm_laws.proofs.Steady.{Steady, done_steady}
+use Rattle.wasm_defs.specs.Outside.{nothing_more, rest_of_section, Row, header, entered, inside, Run, runs_on, Next}
+use Rattle.wasm_laws.specs.Steadiness.{LeavesFewer, SteadyRow}
+use Rattle.wasm_laws.proofs.Steady.{done_steady}
 use Rattle.wasm_laws.proofs.EntryLaws.{code_steady, rest_steady}
 use Rattle.wasm_laws.proofs.RowLaws.{listed_steady, row_steady}
 use Rattle.wasm_laws.proofs.Takes.{listed_takes, code_takes, header_takes}

@@ -1,14 +1,16 @@
 -- Steps in a row, and what a piece that was read leaves.
-use Rattle.std.proofs.Common.{rules, ◌≡◌, ℕ, ◌+◌, ◌-◌, ◌^◌, ◌≤◌, ◌<◌, inl, inr, List, [], ◌∷◌, ◌++◌, length, drop, Option, Some, None, refl, sym, ap, subst, ◌∙◌, arith, append_assoc, length-append}
-use Rattle.std.specs.Prelude.{IsSome}
+use Rattle.std.proofs.Common.{rules, ◌≡◌, ℕ, false, ◌+◌, ◌-◌, ◌^◌, ◌≤◌, ◌<◌, inl, inr, List, [], ◌∷◌, ◌++◌, length, drop, Option, Some, None, Err, refl, sym, ap, subst, ◌∙◌, arith, append_assoc, length-append}
 use Rattle.std.proofs.lemmas.List.{append-nil}
 use Rattle.std.proofs.Math.Seq.{drop-append_seam, drop-append-add, drop-length}
 use Rattle.wasm_defs.specs.declared.fault.Refusal.{Refusal}
 use Rattle.wasm_defs.specs.declared.item.Item.{Item}
 use Rattle.wasm_defs.specs.Fields.{Cursor}
 use Rattle.wasm_defs.specs.Entries.{Seen}
+use Rattle.wasm_defs.specs.Faults.{sections_of}
 use Rattle.wasm_defs.specs.Outside.{Refused, Owed, Run, ends}
 use Rattle.wasm_laws.specs.Steadiness.{with_more}
+use Rattle.leb_feed.specs.declared.stop.Stop.TheVariants as stop
+use Rattle.wasm_defs.specs.declared.front_stop.FrontStop.TheVariants as front
 use Rattle.section_reader.specs.declared.stage.Stage.{Stage}
 use Rattle.section_reader.specs.declared.steps.Steps.{Steps}
 use Rattle.section_reader.specs.declared.steps.Mark.{Mark}
@@ -16,9 +18,11 @@ use Rattle.section_reader.specs.declared.front.Front.{Front}
 use Rattle.section_reader.specs.Left.{IsSound}
 use Rattle.section_reader.specs.declared.stage.Stage.TheVariants.{Preamble, Between, Contents, Entries}
 use Rattle.section_reader.specs.Counts.{IsWithin}
-use Rattle.section_reader.specs.Stages.{proceed, prepend, between, unfinished, is_owing, IsOwed, Passed, Leads, IsSameButLast}
-use Rattle.section_reader.specs.Stepped.{Goes, Reached}
+use Rattle.section_reader.specs.Stages.{proceed, prepend, between, unfinished, is_owing, is_at_bodies, IsOwed, Passed, Leads, IsSameButLast}
+use Rattle.section_reader.specs.Onward.{begun_section, first_begun, outside_of, after_parts, HaltsOnward, IsOrdered}
+use Rattle.section_reader.specs.Stepped.{Goes, GoesOnward, Stepped, Reached, Reaches, RefusedOnward, Tells}
 use Rattle.section_reader.specs.FrontLeft.{left, from_there, cursor_of, Fed, IsRefused}
+use Rattle.section_reader.proofs.Telling.{first_then, first_begun_is, sections_append, sections_of_append, after_append, begun_is_section}
 use Rattle.section_reader.proofs.Going.{passed_then}
 
 -- ---- steps in a row
@@ -29,15 +33,38 @@ leads_then p q r s t u a c e x h k = λ more. h more ∙ k more
 same_then : (a b c : Seen) → IsSameButLast a b → IsSameButLast b c → IsSameButLast a c
 same_then a b c h k = ap (λ (s : Seen). record s { last = a.last }) k ∙ h
 
+told_then : (old mid new : Steps) (a c e : Cursor) (x : Option Item) → Tells old a None mid c → Tells mid c x new e → Tells old a x new e
+told_then old mid new a c e x h k = record {
+  told = h.told ++ k.told;
+  sections = sections_append h.told k.told h.sections k.sections;
+  run = λ more. h.run more ∙ ap (after_parts h.told) (k.run more) ∙ sym (after_append h.told k.told _);
+  first = first_then old.uncompiled mid.uncompiled new.uncompiled (sections_of h.told) (sections_of k.told) h.first k.first ∙ sym (ap (outside_of old.uncompiled) (sections_of_append h.told k.told));
+}
+
+tells_then : (old mid new : Steps) (a c e : Cursor) (x : Option Item) → GoesOnward old a None mid c → GoesOnward mid c x new e → GoesOnward old a x new e
+tells_then old mid new a c e x h k = record {
+  tells = λ apart. told_then old mid new a c e x (h.tells apart) (k.tells (h.apart apart refl));
+  apart = λ apart none. k.apart (h.apart apart refl) none;
+  ordered = k.ordered;
+  behind = k.behind;
+}
+
 -- no item so far
 pub record StillGoing (old : Steps) (a : Cursor) (now : Steps) (c : Cursor) : Type 0 where
   pub leads : Leads old.stage old.seen a None now.stage now.seen c
   pub sound : IsSound now.seen c
   pub passed : Passed a c
   pub same : IsSameButLast old.seen now.seen
+  pub tells : IsOrdered old.stage old.seen → GoesOnward old a None now c
 
 pub begins : (old : Steps) (a : Cursor) → IsSound old.seen a → StillGoing old a old a
-begins old a sound = record { leads = λ more. refl; sound = sound; passed = record { taken = []; parts = refl; at = omega arith }; same = refl }
+begins old a sound = record {
+  leads = λ more. refl;
+  sound = sound;
+  passed = record { taken = []; parts = refl; at = omega arith };
+  same = refl;
+  tells = λ o. record { tells = λ _. record { told = []; sections = tt; run = λ more. refl; first = refl }; apart = λ apart _. apart; ordered = o; behind = tt };
+}
 
 pub goes_on : (old mid new : Steps) (a c d : Cursor) → StillGoing old a mid c → Goes mid c None new d → StillGoing old a new d
 goes_on old mid new a c d s g = record {
@@ -45,6 +72,7 @@ goes_on old mid new a c d s g = record {
   sound = g.sound;
   passed = passed_then a c d s.passed g.passed;
   same = same_then old.seen mid.seen new.seen s.same (g.same refl);
+  tells = λ o. tells_then old mid new a c d None (s.tells o) (g.tells (s.tells o).ordered);
 }
 
 pub reaches_item : (old mid new : Steps) (a c d : Cursor) (x : Item) → StillGoing old a mid c → Goes mid c (Some x) new d → Reached old a (Some x) new d
@@ -54,13 +82,35 @@ reaches_item old mid new a c d x s g = record {
   passed = passed_then a c d s.passed g.passed;
   stuck = λ h. absurd cc;
   same = λ h. absurd cc;
+  tells = λ o. tells_then old mid new a c d (Some x) (s.tells o) (g.tells (s.tells o).ordered);
+  stalls = λ o apart h. absurd cc;
 }
 
-pub reaches_none : (old mid : Steps) (a c : Cursor) → StillGoing old a mid c → proceed mid.stage mid.seen c ≡ unfinished mid.stage mid.seen c → Reached old a None mid c
-reaches_none old mid a c s h = record { leads = s.leads; sound = s.sound; passed = s.passed; stuck = λ _. h; same = λ _. s.same }
+-- refused where reading stands
+refused_onward : (old mid : Steps) (a c : Cursor) (r : Refusal) → StillGoing old a mid c
+    → (IsOrdered mid.stage mid.seen → is_at_bodies mid.stage ≡ false → HaltsOnward mid.stage mid.seen c (stop.Refused r))
+    → IsOrdered old.stage old.seen → is_at_bodies old.stage ≡ false → RefusedOnward old a r mid c
+refused_onward old mid a c r s k o apart =
+    let g = s.tells o in
+    let t = g.tells apart in
+    let next = begun_section mid.stage c in
+    record {
+      told = t.told ++ next;
+      sections = sections_append t.told next t.sections (begun_is_section mid.stage c);
+      run = λ more. t.run more ∙ ap (after_parts t.told) (k g.ordered (g.apart apart refl) more) ∙ sym (after_append t.told next _);
+      first =
+          first_then old.uncompiled mid.uncompiled (first_begun mid.stage mid.uncompiled c.at c.rest) (sections_of t.told) (sections_of next) t.first (first_begun_is mid.stage mid.uncompiled c)
+          ∙ sym (ap (outside_of old.uncompiled) (sections_of_append t.told next));
+    }
 
-pub refused_then : (old mid : Steps) (a c : Cursor) (r : Refusal) → StillGoing old a mid c → ((more : List ℕ) → proceed mid.stage mid.seen (with_more c more) ≡ ends (Refused r)) → (more : List ℕ) → proceed old.stage old.seen (with_more a more) ≡ ends (Refused r)
-refused_then old mid a c r s h = λ more. s.leads more ∙ h more
+pub reaches_refusal : (old mid new : Steps) (a c d : Cursor) (r : Refusal) → StillGoing old a mid c → Stepped mid c (Err (stop.Refused r)) new d → Reaches old a (Err (front.Refused r)) new d
+reaches_refusal old mid new a c d r s h =
+    subst (λ (n : Steps). Reaches old a (Err (front.Refused r)) n d) (sym h.1)
+    (subst (λ (e : Cursor). Reaches old a (Err (front.Refused r)) mid e) (sym h.2) (
+      λ more. s.leads more ∙ h.0 more,
+      s.same,
+      refused_onward old mid a c r s h.3,
+    ))
 
 -- ---- what is given back
 
@@ -128,17 +178,14 @@ module _ (old : Front) (bytes all : List ℕ) (waiting : old.waiting ≡ None) (
   pub refused_there : (new : Front) (r : Refusal) → ((more : List ℕ) → proceed old.steps.stage old.steps.seen (with_more there more) ≡ ends (Refused r)) → new.waiting ≡ None → new.refusal ≡ Some r → IsRefused old bytes r new
   refused_there new r h waits some = record { run = λ more. left_joined more ∙ h more; stays = λ more. rw (waits, some) refl }
 
-pub refused_again : (f : Front) (bytes : List ℕ) (r : Refusal) → f.waiting ≡ None → f.refusal ≡ Some r → IsRefused f bytes r f
-refused_again f bytes r waits some = record { run = λ more. rw (waits, some) refl; stays = λ more. rw (waits, some) refl }
-
--- an item waits: nothing is taken
-pub none_fed : (f : Front) (bytes : List ℕ) → IsSome f.waiting → Fed f bytes 0 f
-none_fed f bytes some = record { some = omega arith; same = λ more. refl; all = inr some; stuck = λ h. absurd (let e = rw h at some in cc) }
-
 -- ---- as it was
 
-pub restored : (old new back : Steps) (mark : Mark) → mark ≡ record { stage = old.stage; last = old.seen.last } → IsSameButLast old.seen new.seen → back ≡ record { stage = mark.stage; seen = record new.seen { last = mark.last } } → back ≡ old
-restored old new back mark e h is = is ∙ ap (λ (m : Mark). record { stage = m.stage; seen = record new.seen { last = m.last } }) e ∙ ap (λ (s : Seen). record { stage = old.stage; seen = s }) h
+pub restored : (old new back : Steps) (mark : Mark) → mark ≡ record { stage = old.stage; last = old.seen.last; uncompiled = old.uncompiled } → IsSameButLast old.seen new.seen
+    → back ≡ record { stage = mark.stage; seen = record new.seen { last = mark.last }; uncompiled = mark.uncompiled } → back ≡ old
+restored old new back mark e h is =
+    is
+    ∙ ap (λ (m : Mark). record { stage = m.stage; seen = record new.seen { last = m.last }; uncompiled = m.uncompiled }) e
+    ∙ ap (λ (s : Seen). record { stage = old.stage; seen = s; uncompiled = old.uncompiled }) h
 
 pub left_same : (f : Front) (steps : Steps) → steps ≡ f.steps → (more : List ℕ) → prepend f.waiting (from_there f.refusal (proceed steps.stage steps.seen (with_more (cursor_of f) more))) ≡ left f more
 left_same f steps e more = ap (λ (s : Steps). prepend f.waiting (from_there f.refusal (proceed s.stage s.seen (with_more (cursor_of f) more)))) e

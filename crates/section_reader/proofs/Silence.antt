@@ -1,24 +1,23 @@
 -- What is read where no byte is there.
-use Rattle.std.proofs.Common.{◌≡◌, ℕ, suc, ◌+◌, ◌-◌, ◌<◌, ◌≤◌, Bool, true, false, cond, leb, ltb, eqb, List, [], length, take, drop, Option, Some, None, refl, sym, ap, ◌∙◌, arith, add-one, add-zero, inl, inr, ◌⊎◌}
+use Rattle.std.proofs.Common.{◌≡◌, ℕ, suc, ◌-◌, ◌<◌, ◌≤◌, Bool, true, false, cond, leb, eqb, List, [], length, refl, ap, ◌∙◌, arith, add-one, add-zero, inl, inr, ◌⊎◌}
 use Rattle.std.proofs.lemmas.Bool.{cases_Bool, cases_eq, cases_lt, eq-eqb, ne_eqb, le-leb, lt-leb, lt-ltb, le-ltb}
-use Rattle.wasm_defs.specs.declared.types.ValType.{ValType}
 use Rattle.wasm_defs.specs.declared.item.Item.{Item}
 use Rattle.wasm_defs.specs.Numbers.{number_at}
-use Rattle.wasm_defs.specs.Fields.{Cursor, Read, Got, Fault, Wants, Reader, then_go, ◌>>=◌, done, window, room_of, past, cut, first_of, byte, from_reading, number, u32, count, vector, name_from, name, fixed, counted_bytes}
+use Rattle.wasm_defs.specs.Fields.{Cursor, Read, Reader, then_go, ◌>>=◌, done, window, room_of, cut, first_of, byte, from_reading, number, u32, count, name_from, name, fixed}
 use Rattle.wasm_defs.specs.Entries.{Seen, index, value_type, limits, sole, signature, imported, function, table, memory, global, exported, start, element, code, segment}
 use Rattle.wasm_defs.specs.Faults.{ending_fault}
-use Rattle.wasm_defs.specs.Outside.{Part, Nothing, Run, Whole, Owed, ends, runs_on, listed, Row, row, entries_of, code_entry, body, number_of, at_most_one, function_count, custom_name, magic, preamble, entries, after_part, finish, section_end, inside, no_end, owes_code, noted, at_the_end}
+use Rattle.wasm_defs.specs.Outside.{Nothing, Run, Owed, ends, runs_on, listed, Row, entries_of, body, number_of, at_most_one, function_count, custom_name, magic, preamble, entries, after_part, section_end, no_end, owes_code, noted}
 use Rattle.wasm_laws.proofs.Windows.{all_of}
 use Rattle.section_reader.specs.declared.stage.Stage.{Stage}
 use Rattle.section_reader.specs.declared.stage.Stage.TheVariants.{Preamble, Between, Contents, Entries}
-use Rattle.section_reader.specs.Outline.{counted_code, outline_row, or_outline, outline_sections}
+use Rattle.section_reader.specs.Outline.{outline_row, outline_sections}
 use Rattle.section_reader.specs.Stages.{proceed, passes, cut_there, code_due, silent}
 use Rattle.section_reader.proofs.OutlineRuns.{outline_is}
 use Rattle.section_reader.proofs.Leading.{at_bytes, rest_is}
 use Rattle.section_reader.proofs.Going.{nothing_back, rest_back}
 
 -- a reader that begins with a field
-abbrev Needs : {A : Type 0} → Reader A → Type 0
+abbrev pub Needs : {A : Type 0} → Reader A → Type 0
 Needs p = (at end : ℕ) → p (at_bytes at end []) ≡ cut (at_bytes at end [])
 
 no_window : (at end : ℕ) → window (at_bytes at end []) ≡ []
@@ -59,7 +58,7 @@ magic_needs : Needs (fixed magic)
 unfolding fixed
 magic_needs = λ at end. rw (no_window at end) refl
 
-preamble_needs : Needs preamble
+pub preamble_needs : Needs preamble
 unfolding preamble
 preamble_needs = bind (fixed magic) _ magic_needs
 
@@ -159,9 +158,9 @@ unfolding custom_name
 custom_name_needs = bind name _ name_needs
 
 -- a row begins with a field, or it has so many entries at once
-record RowNeeds (r : Row) : Type 0 where
-  front : (seen : Seen) → Needs (r.front seen) ⊎ ((n : ℕ) × (r.front seen ≡ done (suc n)))
-  entry : (seen : Seen) → Needs (r.entry seen)
+pub record RowNeeds (r : Row) : Type 0 where
+  pub front : (seen : Seen) → Needs (r.front seen) ⊎ ((n : ℕ) × (r.front seen ≡ done (suc n)))
+  pub entry : (seen : Seen) → Needs (r.entry seen)
 
 either_row : (b : Bool) (p q : Row) → RowNeeds p → RowNeeds q → RowNeeds (cond b p q)
 either_row true p q hp hq = hp
@@ -170,7 +169,7 @@ either_row false p q hp hq = hq
 listing : (front : Seen → Reader ℕ) (entry : Seen → Reader Item) → ((seen : Seen) → Needs (front seen)) → ((seen : Seen) → Needs (entry seen)) → RowNeeds (entries_of front entry)
 listing front entry hf he = record { front = λ s. inl (hf s); entry = λ s. listed_needs (entry s) (he s) }
 
-row_needs : (id : ℕ) → RowNeeds (outline_row id)
+pub row_needs : (id : ℕ) → RowNeeds (outline_row id)
 row_needs id =
     either_row (eqb id 10) _ _ (record { front = λ s. inr (0, refl); entry = λ s. listed_needs (code s) (code_needs s) })
     (either_row (eqb id 1) _ _ (listing _ _ (λ s. number_of_needs _) signature_needs)

@@ -1,15 +1,11 @@
 -- What a push reader has left to tell.
 use Rattle.std.specs.Prelude.{◌≡◌, ℕ, ◌+◌, ◌≤◌, ◌⊎◌, List, [], ◌++◌, length, drop, Bool, not, is_some, ◌&&◌, ◌==◌, Option, Some, None, IsSome, Result, Ok, Err}
 use Rattle.wasm_defs.specs.declared.fault.Refusal.{Refusal}
-use Rattle.wasm_defs.specs.declared.item.Item.{Item}
-use Rattle.wasm_defs.specs.declared.item.Item.TheVariants as item
 use Rattle.wasm_defs.specs.Fields.{Cursor}
-use Rattle.wasm_defs.specs.Faults.{ending_fault}
 use Rattle.wasm_defs.specs.Outside.{Run, Refused, ends}
 use Rattle.wasm_laws.specs.Steadiness.{with_more}
 use Rattle.wasm_defs.specs.declared.front_stop.FrontStop.{FrontStop}
 use Rattle.wasm_defs.specs.declared.front_stop.FrontStop.TheVariants as stop
-use Rattle.section_reader.specs.declared.stage.Stage.TheVariants.{Entries}
 use Rattle.section_reader.specs.declared.front.Front.{Front}
 use Rattle.section_reader.specs.Stages.{proceed, prepend, unfinished, is_at_bodies}
 

@@ -6,5 +6,9 @@ pub mod Advances
 pub mod Goes
 pub mod Outline
 pub mod Stages
+pub mod Onward
 pub mod Stepped
 pub mod FrontLeft
+pub mod FrontOnward
+pub mod Waits
+pub mod Keeps

@@ -1,9 +1,9 @@
 -- What is read from a stage on, and how a step leads from one stage to another.
-use Rattle.std.specs.Prelude.{◌≡◌, ◌<◌, ◌≤◌, ℕ, ◌+◌, ◌*◌, Bool, true, false, ◌&&◌, ◌||◌, ◌==◌, nat_lt, if◌then◌else◌, List, [], ◌∷◌, ◌++◌, length, Option, Some, None, Result, Ok, Err}
+use Rattle.std.specs.Prelude.{◌≡◌, ◌<◌, ℕ, ◌+◌, ◌*◌, Bool, true, false, ◌&&◌, ◌||◌, ◌==◌, nat_lt, if◌then◌else◌, List, [], ◌∷◌, ◌++◌, length, Option, Some, None}
 use Rattle.wasm_defs.specs.declared.fault.Kind.TheVariants.{Malformed, Ended}
 use Rattle.wasm_defs.specs.declared.fault.Refusal.{Refusal}
 use Rattle.wasm_defs.specs.declared.item.Item.{Item}
-use Rattle.wasm_defs.specs.Fields.{Cursor, Reader, Wants}
+use Rattle.wasm_defs.specs.Fields.{Cursor}
 use Rattle.wasm_defs.specs.Entries.{Seen}
 use Rattle.wasm_defs.specs.Outside.{Part, Listed, Ending, Whole, Owed, Refused, Run, Next, ends, after_part, runs_on, preamble, contents, entries, owes_code, at_the_end}
 use Rattle.wasm_laws.specs.Steadiness.{with_more}
@@ -51,21 +51,6 @@ is_owing (x ∷ parts) ending = false
 -- bytes that are there and aren't read complete nothing
 abbrev pub IsOwed : Stage → Seen → Cursor → Type 0
 IsOwed stage seen c = 0 < length c.rest → is_owing (proceed stage seen c).parts (proceed stage seen c).ending ≡ true
-
--- so many bytes may come, whatever they are: with them the reader still wants more
-abbrev pub Awaits : {A : Type 0} → Reader A → Cursor → ℕ → Type 0
-Awaits p c free = (more : List ℕ) → length more ≤ free → p (with_more c more) ≡ Wants
-
--- so many bytes may come, whatever they are: with them nothing is read yet
-abbrev pub IsFree : Stage → Seen → Cursor → ℕ → Type 0
-IsFree stage seen c free = (more : List ℕ) → length more ≤ free → is_owing (proceed stage seen (with_more c more)).parts (proceed stage seen (with_more c more)).ending ≡ true
-
--- before a data segment
-abbrev pub is_at_data : Stage → Bool
-is_at_data Preamble = false
-is_at_data Between = false
-is_at_data (Contents id) = false
-is_at_data (Entries id n) = id == 11 && nat_lt 0 n
 
 -- ---- where no further bytes come
 

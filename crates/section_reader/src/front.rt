@@ -1,16 +1,21 @@
 //! The push reader: bytes go in as they come, and items come out.
 
-ghost use Rattle.std.specs.Prelude.{◌≡◌, ◌≤◌, ◌<◌, ◌+◌, ◌^◌, ℕ, List, ◌++◌, length, [], true, None, IfSome};
+ghost use Rattle.std.specs.Prelude.{◌≡◌, ◌≤◌, ◌<◌, ◌+◌, ◌^◌, ℕ, List, ◌++◌, length, [], true, false, None, IfSome, is_some};
+ghost use Rattle.std.proofs.Props.{props};
 ghost use Rattle.wasm_defs.specs.Faults.{ending_fault};
+ghost use Rattle.wasm_defs.specs.Outside.{module_run, sections, no_end};
 ghost use Rattle.section_reader.specs.Counts.{IsWithin};
+ghost use Rattle.section_reader.specs.Onward.{IsOrdered, IsBehind, IsStalled};
 ghost use Rattle.section_reader.specs.Outline.{outline};
-ghost use Rattle.section_reader.specs.Stages.{IsFree, IsOwed, prepend};
+ghost use Rattle.section_reader.specs.Stages.{IsOwed, is_at_bodies, prepend};
+ghost use Rattle.section_reader.specs.Waits.{IsFree, IsPlaced};
 
 use crate::seen::Seen;
 use crate::stage::Stage;
 use crate::steps::Steps;
+use crate::wait::Wait;
 use leb_feed::Fields;
-use std::alloc::Global;
+use std::alloc::{AllocError, Global};
 use wasm_defs::{FrontStop, Item, Kind, Refusal};
 
 /// The last offset that a module's byte may have here.
@@ -19,7 +24,7 @@ const LAST: u64 = 0x7FFF_FFFF_FFFF_FFFF;
 /// Reads a module outside its function bodies, however its bytes are cut into pieces.
 ///
 /// Contracts see of it what is left to tell, for any bytes that come next: the items to come, and how the module ends
-/// (`left`).
+/// (`left`); and the same of the whole module, with its sections and its bodies (`onward_left`).
 #[derive(Drop)]
 pub struct Front {
     alloc: Global,
@@ -30,51 +35,90 @@ pub struct Front {
     end: u64,
     /// The bytes of the field or the entry that isn't whole yet.
     kept: Vec<u8>,
-    /// How many bytes may come before the kept ones are read again.
-    free: u64,
+    /// What may come before the kept bytes are read again.
+    wait: Wait,
     waiting: Option<Item>,
     refusal: Option<Refusal>,
     ghost ahead: { at ≤ end },
     ghost counts: { IsWithin steps.seen at },
     ghost fits: { at + length kept.items < 2 ^ 64 },
+    ghost ordered: { IsOrdered steps.stage steps.seen },
+    ghost behind: { IfSome waiting (λ x. IsBehind x steps.stage steps.seen end) } by { Prim.hlevel props },
+    ghost alone: { is_some waiting ≡ true → (length kept.items ≡ 0) × (is_some refusal ≡ false) },
+    ghost stalled: { IsStalled steps.stage steps.seen (record { at = at; rest = kept.items; end = end }) },
     ghost owed: { IsOwed steps.stage steps.seen (record { at = at; rest = kept.items; end = end }) },
-    ghost unread: { 0 < length kept.items → IsFree steps.stage steps.seen (record { at = at; rest = kept.items; end = end }) free },
+    ghost unread: { 0 < length kept.items → IsFree steps.stage steps.seen (record { at = at; rest = kept.items; end = end }) wait },
+    ghost placed: { IsPlaced wait (record { at = at; rest = kept.items; end = end }) },
 }
 
 impl Front {
     ghost use Rattle.section_reader.specs.FrontLeft.{left, total, refusal_of, can_skip, Feeds};
+    ghost use Rattle.section_reader.specs.FrontOnward.{onward_left, begun, IsBegun, Follows, FeedsOnward, EndsOnward};
+    ghost use Rattle.section_reader.specs.Keeps.{Keeps};
 
     /// Reads from a module's first byte on. Memory is taken from `alloc`.
     pub fn new(alloc: Global) -> Front
-        ensures { (more : List ℕ) → left result more ≡ outline more }
+        ensures left { (more : List ℕ) → left result more ≡ outline more }
+        ensures idle { result.waiting ≡ None }
+        ensures onward { (more : List ℕ) → onward_left result more ≡ module_run more }
+        ensures total { total result ≡ 0 }
+        ensures apart { is_at_bodies result.steps.stage ≡ false }
+        ensures uncompiled { result.steps.uncompiled ≡ None }
     {
         Front {
             alloc,
             steps: Steps {
                 stage: Stage::Preamble,
                 seen: Seen::new(alloc),
+                uncompiled: None,
             },
             at: 0,
             end: u64::MAX,
             kept: Vec::new(alloc),
-            free: 0,
+            wait: Wait::Nothing,
             waiting: None,
             refusal: None,
         }
     }
 
+    /// How many bytes came: the offset of the next one.
+    pub fn offset(&self) -> u64
+        ensures { result ≡ total self.now }
+    {
+        self.at + self.kept.len() as u64
+    }
+
     /// The item that is whole, if one is.
     pub fn take_item(&mut self) -> Option<Item>
-        ensures { (more : List ℕ) → left self.old more ≡ prepend result (left self.new more) }
+        ensures same { (more : List ℕ) → left self.old more ≡ prepend result (left self.new more) }
+        ensures onward { (more : List ℕ) → onward_left self.old more ≡ prepend result (onward_left self.new more) }
+        ensures item { result ≡ self.old.waiting }
+        ensures taken { self.new.waiting ≡ None }
+        ensures follows { IfSome result (λ x. Follows x self.new) }
+        ensures steps { self.new.steps ≡ self.old.steps }
+        ensures total { total self.new ≡ total self.old }
+        ensures begun { begun self.new ≡ begun self.old }
     {
         self.waiting.take()
+    }
+
+    /// The offset of the id of the first section that has begun and isn't compiled so far.
+    pub fn uncompiled(&self) -> Option<u64>
+        ensures value { result ≡ begun self.now }
+        ensures told { IsBegun self.now }
+    {
+        if self.refusal.is_some() {
+            return self.steps.uncompiled;
+        }
+        self.steps.begun(self.at, &self.kept)
     }
 
     /// Takes the next bytes: all of them, or those up to the end of an item that is waiting then, and none while one waits.
     ///
     /// A refusal is answered for good. After want of memory what is left to tell is as it was.
     pub fn feed(&mut self, bytes: &[u8]) -> Result<usize, FrontStop>
-        ensures { Feeds self.old bytes.now result self.new }
+        ensures fed { Feeds self.old bytes.now result self.new }
+        ensures onward { FeedsOnward self.old bytes.now result self.new }
     {
         if self.waiting.is_some() {
             return Ok(0);
@@ -85,8 +129,10 @@ impl Front {
         if self.kept.is_empty() {
             return self.take(bytes, bytes);
         }
-        if bytes.len() as u64 <= self.free {
-            return self.keep(bytes);
+        match self.keep(bytes) {
+            Ok(true) => return Ok(bytes.len()),
+            Ok(false) => {}
+            Err(AllocError) => return Err(FrontStop::NoMemory),
         }
         let Ok(mut all) = Vec::from_slice(self.alloc, &self.kept) else {
             return Err(FrontStop::NoMemory);
@@ -97,29 +143,41 @@ impl Front {
         self.take(&all, bytes)
     }
 
-    /// Keeps bytes that complete nothing.
-    fn keep(&mut self, bytes: &[u8]) -> Result<usize, FrontStop>
+    /// Keeps bytes that complete nothing, if they are such. Else all is as it was.
+    fn keep(&mut self, bytes: &[u8]) -> Result<bool, AllocError>
         requires waiting { self.old.waiting ≡ None }
         requires refusal { self.old.refusal ≡ None }
         requires some { 0 < length self.old.kept.items }
-        requires few { length bytes.now ≤ self.old.free }
-        ensures { Feeds self.old bytes.now result self.new }
+        ensures { Keeps self.old bytes.now result self.new }
     {
-        let there = self.at + self.kept.len() as u64;
-        if u64::MAX - there < bytes.len() as u64 {
-            return Err(FrontStop::NoMemory);
+        if bytes.is_empty() {
+            return Ok(true);
         }
-        if self.kept.extend_from_slice(bytes).is_err() {
-            return Err(FrontStop::NoMemory);
+        if matches!(self.wait, Wait::Nothing) {
+            return Ok(false);
         }
-        self.free -= bytes.len() as u64;
-        Ok(bytes.len())
+        let before = self.kept.len();
+        if u64::MAX - (self.at + before as u64) < bytes.len() as u64 {
+            return Err(AllocError);
+        }
+        self.kept.extend_from_slice(bytes)?;
+        match self.wait.after(&self.kept, bytes, self.at, self.end) {
+            Some(wait) => {
+                self.wait = wait;
+                Ok(true)
+            }
+            None => {
+                self.kept.truncate(before);
+                Ok(false)
+            }
+        }
     }
 
     /// How the module ends, if no further bytes come: with a fault outside its bodies, or without one. Where the bytes end
     /// too soon, the fault's kind is `Ended`, and its offset their number. No memory is taken.
     pub fn end(&mut self) -> Result<(), Refusal>
         ensures answer { refusal_of result ≡ ending_fault (total self.old) (left self.old []).ending }
+        ensures onward { is_at_bodies self.old.steps.stage ≡ false → self.old.waiting ≡ None → EndsOnward self.old (refusal_of result) }
         ensures kept { self.new ≡ self.old }
     {
         match self.ending() {
@@ -129,7 +187,8 @@ impl Front {
     }
 
     fn ending(&self) -> Option<Refusal>
-        ensures { result ≡ ending_fault (total self.now) (left self.now []).ending }
+        ensures answer { result ≡ ending_fault (total self.now) (left self.now []).ending }
+        ensures onward { is_at_bodies self.now.steps.stage ≡ false → self.now.waiting ≡ None → EndsOnward self.now result }
     {
         if let Some(refusal) = self.refusal {
             return Some(refusal);
@@ -158,9 +217,16 @@ impl Front {
     /// Goes on behind the bodies, whose bytes went elsewhere: it is as if they had been fed, whatever they are.
     pub fn skip_to(&mut self, end: u64)
         requires { can_skip self.old end ≡ true }
-        ensures { (bytes more : List ℕ) → total self.old + length bytes ≡ end → left self.old (bytes ++ more) ≡ left self.new more }
+        ensures same { (bytes more : List ℕ) → total self.old + length bytes ≡ end → left self.old (bytes ++ more) ≡ left self.new more }
+        ensures onward { (more : List ℕ) → onward_left self.new more ≡ sections self.old.steps.seen (record { at = end; rest = more; end = no_end }) }
+        ensures stage { self.new.steps.stage ≡ Stage.Between }
+        ensures uncompiled { self.new.steps.uncompiled ≡ self.old.steps.uncompiled }
+        ensures total { total self.new ≡ end }
+        ensures idle { self.new.waiting ≡ None }
     {
         self.at = end;
+        self.end = u64::MAX;
+        self.steps.stage = Stage::Between;
     }
 
     /// The bytes from where reading stands on, if their offsets are small enough.
@@ -179,7 +245,8 @@ impl Front {
         requires waiting { self.old.waiting ≡ None }
         requires refusal { self.old.refusal ≡ None }
         requires joined { all.now ≡ self.old.kept.items ++ bytes.now }
-        ensures { Feeds self.old bytes.now result self.new }
+        ensures fed { Feeds self.old bytes.now result self.new }
+        ensures onward { FeedsOnward self.old bytes.now result self.new }
     {
         let Some(mut fields) = self.fields(all) else {
             return Err(FrontStop::NoMemory);
@@ -191,7 +258,7 @@ impl Front {
                 self.at = fields.offset();
                 self.end = fields.end();
                 self.kept = Vec::new(self.alloc);
-                self.free = 0;
+                self.wait = Wait::Nothing;
                 self.waiting = Some(item);
                 Ok(bytes.len() - untaken)
             }
@@ -199,7 +266,7 @@ impl Front {
                 Ok(kept) => {
                     self.at = fields.offset();
                     self.end = fields.end();
-                    self.free = self.steps.free_bytes(&fields);
+                    self.wait = self.steps.wait(self.alloc, &fields);
                     self.kept = kept;
                     Ok(bytes.len())
                 }
@@ -209,7 +276,7 @@ impl Front {
                 }
             },
             Err(FrontStop::Refused(refusal)) => {
-                self.steps.return_to(mark);
+                self.steps.refuse(mark, &fields);
                 self.refusal = Some(refusal);
                 Err(FrontStop::Refused(refusal))
             }

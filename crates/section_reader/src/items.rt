@@ -1,21 +1,19 @@
 //! Items for a reader that passes over bodies: how many entries a section has, and each of them (WebAssembly Core 1.0, 5.5.2).
 
 ghost use Rattle.std.specs.Prelude.{◌≡◌, ◌+◌, ◌<◌, ◌^◌};
-ghost use Rattle.wasm_defs.specs.Entries.{segment};
 ghost use Rattle.wasm_defs.specs.Outside.{Listed};
 ghost use Rattle.leb_feed.specs.Reads.{Reads};
 ghost use Rattle.section_reader.specs.Outline.{outline_row};
-ghost use Rattle.section_reader.specs.Stages.{Awaits, passes};
+ghost use Rattle.section_reader.specs.Stages.{passes};
 
 use crate::entries::{
     code, element, exported, function, global, imported, memory, segment, signature, start, table,
 };
-use crate::entry_fields::{constant, sole};
 use crate::rows::front;
 use crate::seen::Seen;
 use leb_feed::{Fields, Stop};
 use std::alloc::Global;
-use wasm_defs::{Item, ValType};
+use wasm_defs::Item;
 
 /// How many entries a section has; the code section has one, its count.
 pub fn entry_count(fields: &mut Fields<'_>, alloc: Global, id: u8, seen: &Seen) -> Result<u64, Stop>
@@ -54,26 +52,4 @@ pub fn is_passed_over(id: u8) -> bool
     ensures { result ≡ passes id }
 {
     id == 0 || id == 10 || 11 < id
-}
-
-/// How many bytes of a data segment may come before it is whole, if it is known: all but the last of those that its length
-/// owes.
-pub fn data_bytes_owed(fields: &mut Fields<'_>, seen: &Seen) -> u64
-    ensures { 0 < result → Awaits (segment seen.now) fields.old result }
-{
-    let Ok(_) = sole(fields, seen.memories) else {
-        return 0;
-    };
-    let Ok(_) = constant(fields, ValType::I32) else {
-        return 0;
-    };
-    let Ok(length) = fields.u32() else {
-        return 0;
-    };
-    let owed = u64::from(length.1);
-    let there = fields.rest().len() as u64;
-    if fields.room() < owed || owed <= there {
-        return 0;
-    }
-    owed - there - 1
 }

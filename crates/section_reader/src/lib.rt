@@ -4,6 +4,7 @@
 
 mod entries;
 mod entry_fields;
+mod entry_waits;
 mod front;
 #[cfg(test)]
 mod front_tests;
@@ -18,6 +19,8 @@ mod stage;
 mod steps;
 #[cfg(test)]
 mod tests;
+mod text;
+mod wait;
 
 pub use front::Front;
 pub use part::{Body, Part};

@@ -1,0 +1,180 @@
+-- What a push reader tells of the module, with each piece that it is fed.
+use Rattle.std.proofs.Common.{◌≡◌, ℕ, ◌-◌, ◌<◌, ◌≤◌, true, false, List, [], ◌∷◌, ◌++◌, length, drop, Option, Some, None, refl, sym, ap, ◌∙◌, arith, append_assoc, length-append}
+use Rattle.std.specs.Prelude.{is_some}
+use Rattle.std.proofs.lemmas.List.{nil_from_length}
+use Rattle.wasm_defs.specs.declared.fault.Refusal.{Refusal}
+use Rattle.wasm_defs.specs.declared.item.Item.{Item}
+use Rattle.wasm_defs.specs.Fields.{Cursor}
+use Rattle.wasm_defs.specs.Entries.{Seen}
+use Rattle.wasm_defs.specs.Outside.{Section, Owed, Run, ends, after_part, section, sections, or_section}
+use Rattle.wasm_laws.specs.Steadiness.{with_more}
+use Rattle.leb_feed.specs.declared.stop.Stop.TheVariants as stop
+use Rattle.section_reader.specs.declared.stage.Stage.{Stage}
+use Rattle.section_reader.specs.declared.stage.Stage.TheVariants.{Preamble, Between, Contents, Entries}
+use Rattle.section_reader.specs.declared.steps.Steps.{Steps}
+use Rattle.section_reader.specs.declared.front.Front.{Front}
+use Rattle.section_reader.specs.Outline.{outline_row}
+use Rattle.section_reader.specs.Stages.{prepend, is_owing, is_at_bodies}
+use Rattle.section_reader.specs.Onward.{onward, after_parts, outside_of, first_begun, begun_section, next_part, is_owing_behind, is_stalled, IsStalled, IsOrdered}
+use Rattle.section_reader.specs.Stepped.{Reached, RefusedOnward}
+use Rattle.section_reader.specs.FrontLeft.{from_there, cursor_of}
+use Rattle.section_reader.specs.Waits.{Passes, is_wanting}
+use Rattle.section_reader.specs.FrontOnward.{onward_left, IsBegun, FedOnward, ToldRefused}
+use Rattle.section_reader.proofs.Runs.{sections_are}
+use Rattle.section_reader.proofs.Telling.{first_begun_is, begun_is_section, front_halts, entry_halts}
+use Rattle.section_reader.proofs.Reaching.{end_is, owed_there}
+use Rattle.section_reader.proofs.Keeping.{owing_is, wants_of, entry_wants}
+
+-- ---- where the bytes that are there complete nothing
+
+next_stalls : (at : ℕ) (bytes : List ℕ) → 0 < length bytes → is_owing_behind (after_parts (next_part at bytes) (ends Owed)).parts Owed ≡ true
+next_stalls at [] some = absurd (omega arith)
+next_stalls at (b ∷ bytes) some = refl
+
+begun_stalls : (stage : Stage) (c : Cursor) → 0 < length c.rest → is_stalled stage (after_parts (begun_section stage c) (ends Owed)) ≡ true
+begun_stalls Preamble c some = refl
+begun_stalls Between c some = ap (is_owing_behind (after_parts (next_part c.at c.rest) (ends Owed)).parts) (next_ending c.at c.rest) ∙ next_stalls c.at c.rest some
+  where
+    next_ending : (at : ℕ) (bytes : List ℕ) → (after_parts (next_part at bytes) (ends Owed)).ending ≡ Owed
+    next_ending at [] = refl
+    next_ending at (b ∷ bytes) = refl
+begun_stalls (Contents id) c some = refl
+begun_stalls (Entries id n) c some = refl
+
+pub stalled_of : (old new : Steps) (a c : Cursor) → IsOrdered old.stage old.seen → Reached old a None new c → IsStalled new.stage new.seen c
+stalled_of old new a c o r = λ some apart.
+    ap (is_stalled new.stage) (r.stalls o apart refl ∙ ap (after_parts (begun_section new.stage c)) (owed_there new.stage new.seen c some))
+    ∙ begun_stalls new.stage c some
+
+pub stalled_at : (stage : Stage) (seen : Seen) (d : Cursor) (at end : ℕ) (kept : List ℕ) → at ≡ d.at → end ≡ d.end → kept ≡ d.rest → IsStalled stage seen d → IsStalled stage seen (record { at = at; rest = kept; end = end })
+stalled_at stage seen d at end kept same_at same_end same h = rw (same_at, same_end, same) h
+
+section_stalled : (seen : Seen) (c : Cursor) (rest : List ℕ) → 0 < length rest → is_owing_behind (or_section sections seen c rest).parts (or_section sections seen c rest).ending ≡ true
+    → or_section sections seen c rest ≡ after_parts (next_part c.at rest) (ends Owed)
+section_stalled seen c [] some e = absurd (omega arith)
+section_stalled seen c (b ∷ rest) some e = ap (after_part (Section c.at b)) (owing_is (section sections seen c).parts (section sections seen c).ending e)
+
+pub stalled_is : (stage : Stage) (seen : Seen) (c : Cursor) → 0 < length c.rest → is_stalled stage (onward stage seen c) ≡ true → onward stage seen c ≡ after_parts (begun_section stage c) (ends Owed)
+stalled_is Preamble seen c some e = owing_is _ _ e
+stalled_is Between seen c some e =
+    sections_are seen c ∙ section_stalled seen c c.rest some (sym (ap (λ (r : Run). is_owing_behind r.parts r.ending) (sections_are seen c)) ∙ e)
+stalled_is (Contents id) seen c some e = owing_is _ _ e
+stalled_is (Entries id n) seen c some e = owing_is _ _ e
+
+-- ---- bytes that are kept
+
+-- where what is read next isn't whole, the module's run is owing as the outline's is
+wanting_stalls : (stage : Stage) (seen : Seen) (c : Cursor) → IsOrdered stage seen → is_wanting stage seen c ≡ true → is_stalled stage (onward stage seen c) ≡ true
+wanting_stalls Preamble seen c o h = absurd cc
+wanting_stalls Between seen c o h = absurd cc
+wanting_stalls (Contents id) seen c o h = ap (λ (r : Run). is_owing r.parts r.ending) (front_halts seen c id stop.Wants (wants_of ((outline_row id).front seen c) h))
+wanting_stalls (Entries id n) seen c o h =
+    let entry = entry_wants id n seen c h in
+    ap (λ (r : Run). is_owing r.parts r.ending) (entry_halts seen c id n stop.Wants entry.0 o entry.1)
+
+pub kept_stalled : (old : Front) (bytes : List ℕ) → 0 < length old.kept.items → Passes old.wait (cursor_of old) bytes → IsStalled old.steps.stage old.steps.seen (record { at = old.at; rest = old.kept.items ++ bytes; end = old.end })
+kept_stalled old bytes some passes = λ more apart. wanting_stalls old.steps.stage old.steps.seen _ old.ordered (old.unread some bytes passes)
+
+-- ---- the sections that have begun
+
+next_is : (seen : Seen) (c : Cursor) (b : ℕ) (bytes more : List ℕ) → c.rest ≡ b ∷ bytes → onward Between seen (with_more c more) ≡ after_part (Section c.at b) (section sections seen (with_more c more))
+next_is seen c b bytes more some = sections_are seen (with_more c more) ∙ ap (λ (l : List ℕ). or_section sections seen (with_more c more) (l ++ more)) some
+
+-- what is read behind the id that comes next
+later_run : (stage : Stage) (seen : Seen) (c : Cursor) → (later : List ℕ → Run) × ((more : List ℕ) → onward stage seen (with_more c more) ≡ after_parts (begun_section stage c) (later more))
+later_run Preamble seen c = (λ more. onward Preamble seen (with_more c more), λ more. refl)
+later_run Between seen c = of_rest c.rest refl
+  where
+    of_rest : (rest : List ℕ) → c.rest ≡ rest → (later : List ℕ → Run) × ((more : List ℕ) → onward Between seen (with_more c more) ≡ after_parts (next_part c.at c.rest) (later more))
+    of_rest [] none = (λ more. sections seen (with_more c more), λ more. sym (ap (λ (l : List ℕ). after_parts (next_part c.at l) (sections seen (with_more c more))) none))
+    of_rest (b ∷ bytes) some = (
+      λ more. section sections seen (with_more c more),
+      λ more. next_is seen c b bytes more some ∙ sym (ap (λ (l : List ℕ). after_parts (next_part c.at l) (section sections seen (with_more c more))) some),
+    )
+later_run (Contents id) seen c = (λ more. onward (Contents id) seen (with_more c more), λ more. refl)
+later_run (Entries id n) seen c = (λ more. onward (Entries id n) seen (with_more c more), λ more. refl)
+
+begun_refused : (f : Front) (r : Refusal) → f.refusal ≡ Some r → IsBegun f
+begun_refused f r some = record { told = []; sections = tt; later = onward_left f; run = λ more. refl; first = rw some refl }
+
+begun_waiting : (f : Front) (x : Item) → f.waiting ≡ Some x → f.refusal ≡ None → IsBegun f
+begun_waiting f x some none =
+    let empty : f.kept.items ≡ [] = nil_from_length f.kept.items (f.alone (ap is_some some)).0 in
+    record { told = []; sections = tt; later = onward_left f; run = λ more. refl; first = rw (none, empty) (none_begun f.steps.stage) }
+  where
+    none_begun : (stage : Stage) → outside_of (first_begun stage f.steps.uncompiled f.at []) [] ≡ outside_of f.steps.uncompiled []
+    none_begun Preamble = refl
+    none_begun Between = refl
+    none_begun (Contents id) = refl
+    none_begun (Entries id n) = refl
+
+begun_next : (f : Front) → f.waiting ≡ None → f.refusal ≡ None → IsBegun f
+begun_next f waits none =
+    let later = later_run f.steps.stage f.steps.seen (cursor_of f) in
+    record {
+      told = begun_section f.steps.stage (cursor_of f);
+      sections = begun_is_section f.steps.stage (cursor_of f);
+      later = later.0;
+      run = λ more. rw (waits, none) (later.1 more);
+      first = rw none (first_begun_is f.steps.stage f.steps.uncompiled (cursor_of f));
+    }
+
+pub is_begun : (f : Front) → IsBegun f
+is_begun f = of_refusal f.refusal refl
+  where
+    of_waiting : (x : Option Item) → f.waiting ≡ x → f.refusal ≡ None → IsBegun f
+    of_waiting (Some x) e none = begun_waiting f x e none
+    of_waiting None e none = begun_next f e none
+
+    of_refusal : (x : Option Refusal) → f.refusal ≡ x → IsBegun f
+    of_refusal (Some r) e = begun_refused f r e
+    of_refusal None e = of_waiting f.waiting refl e
+
+-- ---- what was fed
+
+module _ (old : Front) (bytes all : List ℕ) (waiting : old.waiting ≡ None) (refusal : old.refusal ≡ None) (joined : all ≡ old.kept.items ++ bytes) where
+  abbrev there : Cursor
+  there = record { at = old.at; rest = all; end = old.end }
+
+  onward_joined : (more : List ℕ) → onward_left old (bytes ++ more) ≡ onward old.steps.stage old.steps.seen (with_more there more)
+  onward_joined more =
+      ap (λ (x : Option Item). prepend x (from_there old.refusal (onward old.steps.stage old.steps.seen (with_more (cursor_of old) (bytes ++ more))))) waiting
+      ∙ ap (λ (x : Option Refusal). from_there x (onward old.steps.stage old.steps.seen (with_more (cursor_of old) (bytes ++ more)))) refusal
+      ∙ ap (λ (l : List ℕ). onward old.steps.stage old.steps.seen (record { at = old.at; rest = l; end = old.end })) (sym (append_assoc old.kept.items bytes more) ∙ ap (λ (l : List ℕ). l ++ more) (sym joined))
+
+  pub item_told : (new : Front) (x : Item) (d : Cursor) (rest : List ℕ) → rest ≡ d.rest → Reached old.steps there (Some x) new.steps d → length d.rest ≤ length bytes
+      → new.at ≡ d.at → new.end ≡ d.end → new.kept.items ≡ [] → new.waiting ≡ Some x → new.refusal ≡ None
+      → FedOnward old bytes (length bytes - length rest) new
+  item_told new x d rest is reached few same_at same_end kept waits none = rw is (record {
+    count = omega (arith, same_at, ap length kept, reached.passed.at, ap length joined, ap length reached.passed.parts, length-append old.kept.items bytes, length-append reached.passed.taken d.rest);
+    told = λ apart.
+        let t = (reached.tells old.ordered).tells apart in
+        record {
+          told = t.told;
+          sections = t.sections;
+          run = λ more.
+              onward_joined more
+              ∙ t.run more
+              ∙ ap (after_parts t.told) (
+              ap (λ (l : List ℕ). prepend (Some x) (onward new.steps.stage new.steps.seen (record { at = d.at; rest = l ++ more; end = d.end }))) (sym (end_is old.kept.items bytes all reached.passed.taken d.rest joined reached.passed.parts few))
+              ∙ sym (onward_new more));
+          first = t.first;
+        };
+    apart = λ apart h. absurd (let e = sym waits ∙ h in cc);
+  })
+    where
+      onward_new : (more : List ℕ) → onward_left new (drop (length bytes - length d.rest) bytes ++ more) ≡ prepend (Some x) (onward new.steps.stage new.steps.seen (record { at = d.at; rest = drop (length bytes - length d.rest) bytes ++ more; end = d.end }))
+      onward_new more = rw (waits, none, kept, same_at, same_end) refl
+
+  pub refused_told : (new : Front) (r : Refusal) (mid : Steps) (d : Cursor) → is_at_bodies old.steps.stage ≡ false → (IsOrdered old.steps.stage old.steps.seen → is_at_bodies old.steps.stage ≡ false → RefusedOnward old.steps there r mid d)
+      → new.steps.uncompiled ≡ first_begun mid.stage mid.uncompiled d.at d.rest → new.waiting ≡ None → new.refusal ≡ Some r
+      → ToldRefused old bytes r new
+  refused_told new r mid d apart h first waits some =
+      let t = h old.ordered apart in
+      record {
+        told = t.told;
+        sections = t.sections;
+        run = λ more. onward_joined more ∙ t.run more;
+        first = rw some (ap (λ (x : Option ℕ). outside_of x []) first ∙ t.first);
+        stays = λ more. rw (waits, some) refl;
+      }

@@ -1,0 +1,143 @@
+//! What an entry waits for that isn't whole yet (WebAssembly Core 1.0, 5.5).
+
+ghost use Rattle.std.specs.Prelude.{◌≡◌, ◌≤◌, ◌-◌, length};
+ghost use Rattle.wasm_defs.specs.Fields.{Cursor, name};
+ghost use Rattle.wasm_defs.specs.Entries.{signature, imported, exported, element, segment};
+ghost use Rattle.section_reader.specs.Outline.{outline_row};
+ghost use Rattle.section_reader.specs.Waits.{Awaits, AwaitsAt, IsPlaced, place_of};
+
+use crate::entry_fields::{constant, sole};
+use crate::seen::Seen;
+use crate::text::{between, state_after};
+use crate::wait::{Element, Wait};
+use leb_feed::Fields;
+use std::alloc::Global;
+use wasm_defs::{MAX_PARAMS, ValType};
+
+/// What an entry of a section waits for.
+pub fn entry_wait(fields: &Fields<'_>, alloc: Global, id: u8, seen: &Seen) -> Wait
+    ensures awaits { Awaits ((outline_row id).entry seen.now) fields.now result }
+    ensures placed { IsPlaced result fields.now }
+{
+    match id {
+        1 => signature_wait(fields, seen),
+        2 => imported_wait(fields, alloc, seen),
+        7 => exported_wait(fields, seen),
+        9 => element_wait(fields, seen),
+        11 => segment_wait(fields, seen),
+        _ => Wait::Nothing,
+    }
+}
+
+/// What a name waits for: bytes with which it can be right, all but the last of those that its length owes.
+pub fn name_wait(fields: &Fields<'_>) -> Wait
+    ensures awaits { (from : Cursor) → AwaitsAt name fields.now result from }
+    ensures place { place_of result ≡ 0 }
+{
+    let mut next = fields.fork();
+    let Ok(len) = next.u32() else {
+        return Wait::Nothing;
+    };
+    let text = next.rest();
+    if next.room() < u64::from(len.1) || len.1 as usize <= text.len() {
+        return Wait::Nothing;
+    }
+    match state_after(between(), text) {
+        Some(inside) => Wait::Text {
+            owed: len.1 - text.len() as u32,
+            inside,
+        },
+        None => Wait::Nothing,
+    }
+}
+
+/// A list of so many elements that begins where reading stands now.
+fn list_wait(fields: &Fields<'_>, now: &Fields<'_>, owed: u32, element: Element) -> Wait
+    requires { length now.now.rest ≤ length fields.now.rest }
+    ensures { result ≡ Wait.List (length fields.now.rest - length now.now.rest) owed element }
+{
+    Wait::List {
+        place: fields.rest().len() - now.rest().len(),
+        owed,
+        element,
+    }
+}
+
+/// A type's parameters; its results are too few to be waited for.
+fn signature_wait(fields: &Fields<'_>, seen: &Seen) -> Wait
+    ensures awaits { Awaits (signature seen.now) fields.now result }
+    ensures placed { IsPlaced result fields.now }
+{
+    let mut next = fields.fork();
+    let Ok(form) = next.byte() else {
+        return Wait::Nothing;
+    };
+    if form.1 != 0x60 {
+        return Wait::Nothing;
+    }
+    let Ok(params) = next.count(MAX_PARAMS) else {
+        return Wait::Nothing;
+    };
+    list_wait(fields, &next, params.1, Element::ValueType)
+}
+
+/// An import's names.
+fn imported_wait(fields: &Fields<'_>, alloc: Global, seen: &Seen) -> Wait
+    ensures awaits { Awaits (imported seen.now) fields.now result }
+    ensures place { place_of result ≡ 0 }
+{
+    let mut next = fields.fork();
+    let Ok(_) = next.name(alloc) else {
+        return name_wait(fields);
+    };
+    name_wait(&next)
+}
+
+/// An export's name.
+fn exported_wait(fields: &Fields<'_>, seen: &Seen) -> Wait
+    ensures awaits { Awaits (exported seen.now) fields.now result }
+    ensures place { place_of result ≡ 0 }
+{
+    name_wait(fields)
+}
+
+/// An element segment's indices.
+fn element_wait(fields: &Fields<'_>, seen: &Seen) -> Wait
+    ensures awaits { Awaits (element seen.now) fields.now result }
+    ensures placed { IsPlaced result fields.now }
+{
+    let mut next = fields.fork();
+    let Ok(_) = sole(&mut next, seen.tables) else {
+        return Wait::Nothing;
+    };
+    let Ok(_) = constant(&mut next, ValType::I32) else {
+        return Wait::Nothing;
+    };
+    let Ok(indices) = next.u32() else {
+        return Wait::Nothing;
+    };
+    list_wait(fields, &next, indices.1, Element::Index(seen.functions))
+}
+
+/// A data segment's bytes: all but the last of those that its length owes.
+fn segment_wait(fields: &Fields<'_>, seen: &Seen) -> Wait
+    ensures awaits { Awaits (segment seen.now) fields.now result }
+    ensures place { place_of result ≡ 0 }
+{
+    let mut next = fields.fork();
+    let Ok(_) = sole(&mut next, seen.memories) else {
+        return Wait::Nothing;
+    };
+    let Ok(_) = constant(&mut next, ValType::I32) else {
+        return Wait::Nothing;
+    };
+    let Ok(len) = next.u32() else {
+        return Wait::Nothing;
+    };
+    let owed = u64::from(len.1);
+    let there = next.rest().len() as u64;
+    if next.room() < owed || owed <= there {
+        return Wait::Nothing;
+    }
+    Wait::Bytes(owed - there - 1)
+}
