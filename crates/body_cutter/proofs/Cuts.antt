@@ -1,6 +1,6 @@
 -- What a cutter hands over, by where its walk stands.
 use Rattle.std.proofs.Common.{◌≡◌, ℕ, suc, ◌+◌, ◌-◌, ◌<◌, inl, inr, Bool, true, false, leb, eqb, ◌||◌, ◌&&◌, List, [], ◌∷◌, ◌++◌, length, Option, Some, None, refl, sym, ap, subst, ◌∙◌, arith, length-append, eq-eqb}
-use Rattle.std.specs.Prelude.{is_some}
+use Rattle.std.specs.Prelude.{is_some, not}
 use Rattle.std.proofs.lemmas.Bool.{cases_Bool, cases_lt, ne_eqb, eqb-true}
 use Rattle.std.proofs.lemmas.List.{append-nil}
 use Rattle.wasm_defs.specs.declared.fault.Refusal.{Refusal}
@@ -133,6 +133,11 @@ pub is_whole : (o : Option Refusal) (b : Bool) → o ≡ None → (is_some o || 
 is_whole (Some r) b e f = absurd cc
 is_whole None true e f = refl
 is_whole None false e f = absurd cc
+
+pub over_is_whole : (o : Option Refusal) (b : Bool) → o ≡ None → (is_some o || b) ≡ true → (not (is_some o) && b) ≡ true
+over_is_whole (Some r) b e f = absurd cc
+over_is_whole None true e f = refl
+over_is_whole None false e f = absurd cc
 
 pub tells_fault : (o : Option Refusal) (b : Bool) (r : Refusal) → end_of o b ≡ Faulty r → o ≡ Some r
 tells_fault (Some s) b r e = let k : s ≡ r = cc in ap Some k

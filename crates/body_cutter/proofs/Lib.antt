@@ -3,3 +3,4 @@ pub mod Steps
 pub mod Fills
 pub mod Batches
 pub mod Cuts
+pub mod Joined

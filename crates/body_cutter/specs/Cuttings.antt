@@ -1,5 +1,5 @@
 -- What a cutter has still to hand over.
-use Rattle.std.specs.Prelude.{◌≡◌, ℕ, ◌+◌, ◌-◌, min, List, [], ◌++◌, length, take, drop, ◌⊎◌, Option, Some, None, Result, Ok, Err}
+use Rattle.std.specs.Prelude.{◌≡◌, ℕ, ◌+◌, ◌-◌, min, Bool, true, not, ◌&&◌, ◌==◌, is_some, List, [], ◌++◌, length, take, drop, ◌⊎◌, Option, Some, None, Result, Ok, Err}
 use Rattle.wasm_defs.specs.declared.fault.Kind.TheVariants.{Ended}
 use Rattle.wasm_defs.specs.declared.fault.Refusal.{Refusal}
 use Rattle.body_cutter.specs.declared.batch.Batch.{Batch}
@@ -71,9 +71,13 @@ pub record IsEnded (old : Cutting) (r : Refusal) (new : Cutting) : Type 0 where
   pub stays : new.place.stop ≡ Some r
   pub closed : new.queue ≡ all_closed old.queue
 
+-- all bytes of the section came, and it has no fault
+abbrev pub is_whole : Cutting → Bool
+is_whole c = not (is_some c.place.stop) && (c.place.count == 0 && c.place.at == c.place.end)
+
 -- the section is whole; or it has this fault, which was told before, or is that its bytes ended
 abbrev pub Ends : Cutting → Result (Unit {0}) FrontStop → Cutting → Type 0
-Ends old (Ok u) new = ((left old []).ending ≡ Whole) × (new ≡ old)
+Ends old (Ok u) new = (is_whole old ≡ true) × ((left old []).ending ≡ Whole) × (new ≡ old)
 Ends old (Err (stop.Refused r)) new = ((old.place.stop ≡ Some r) × (new ≡ old)) ⊎ IsEnded old r new
 Ends old (Err stop.NoMemory) new = ⊥
 

@@ -10,6 +10,10 @@ pub record Queue : Type 0 where
   pub closed : List Body
   pub begun : List Body
 
+-- all bodies, in order
+abbrev pub bodies_in : Queue → List Body
+bodies_in q = q.closed ++ q.begun
+
 abbrev pub bytes_of : List Body → ℕ
 bytes_of [] = 0
 bytes_of (b ∷ bodies) = length b.bytes + bytes_of bodies

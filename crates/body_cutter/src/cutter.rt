@@ -1,8 +1,8 @@
 //! The cutter: bytes go in as they come, and batches of bodies come out.
 
-ghost use Rattle.std.specs.Prelude.{◌≡◌, ◌<◌, ◌≤◌, ◌+◌, ◌^◌, ◌++◌, ℕ, List, length, take, None, OnOk, OnErr};
-ghost use Rattle.body_cutter.specs.Sections.{bodies_from};
-ghost use Rattle.body_cutter.specs.Cuttings.{left, handed, no_batch, IsPrompt, Feeds, Ends, Takes};
+ghost use Rattle.std.specs.Prelude.{◌≡◌, ◌<◌, ◌≤◌, ◌+◌, ◌^◌, ◌++◌, ℕ, List, length, take, true, false, None, OnOk, OnErr};
+ghost use Rattle.body_cutter.specs.Sections.{bodies_from, Whole};
+ghost use Rattle.body_cutter.specs.Cuttings.{left, handed, no_batch, is_whole, IsPrompt, Feeds, Ends, Takes};
 
 use crate::batch::Batch;
 use crate::queue::Queue;
@@ -94,6 +94,23 @@ impl Cutter {
             self.queue.close();
         }
         Ok(())
+    }
+
+    /// Whether the section is whole: all its bytes came, and it has no fault. Then no body is to come, and no bytes change
+    /// that. Where it has no fault and isn't whole, bytes of it are owed.
+    pub fn is_whole(&self) -> bool
+        ensures is { result ≡ is_whole self.now }
+        ensures whole { result ≡ true → (more : List ℕ) → left self.now more ≡ record { queue = self.now.queue; ending = Whole } }
+        ensures owed { result ≡ false → self.now.place.stop ≡ None → self.now.place.at < self.now.place.end }
+    {
+        self.walk.stop.is_none() && self.walk.is_over()
+    }
+
+    /// The offset at which the section ends.
+    pub fn section_end(&self) -> u64
+        ensures { result ≡ self.now.place.end }
+    {
+        self.walk.end
     }
 
     /// The first closed batch, or none where no batch is closed. It takes no memory.

@@ -5,12 +5,14 @@
 mod batch;
 mod body;
 mod cutter;
+mod laws;
 mod queue;
 mod walk;
 
 pub use batch::{Batch, Bodies};
 pub use body::{Body, BodyBytes};
 pub use cutter::Cutter;
+pub use laws::batches_join_to_the_bodies;
 
 #[cfg(test)]
 mod tests;
