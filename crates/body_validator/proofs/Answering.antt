@@ -17,7 +17,7 @@ use Rattle.body_validator.proofs.Sound.{accepted-viable, finished-body}
 use Rattle.body_validator.proofs.Exact.{checker_exact}
 use Rattle.body_validator.proofs.Heights.{heights_measured, places_kept}
 
-step_frames : (c : Context) (t : Token) (s last : Checker) → step_checker c t s ≡ Some last → step c t s.frames ≡ Some last.frames
+pub step_frames : (c : Context) (t : Token) (s last : Checker) → step_checker c t s ≡ Some last → step c t s.frames ≡ Some last.frames
 step_frames c t s last e =
     let x = through (step c t s.frames) (λ fs. Some (measured s.greatest fs)) last e in
     x.is ∙ ap (λ (y : Checker). Some y.frames) (some_inside (measured s.greatest x.value) last x.then)
@@ -41,7 +41,7 @@ one_more c [] t s = last (step_checker c t s)
     last (Some x) = refl
 one_more c (x ∷ xs) t s = followed c xs t (step_checker c x s) (one_more c xs t)
 
-reaches : (c : Context) (tokens : List Token) (s : Checker) → run_checker c tokens (start_checker c) ≡ Some s → Reaches c tokens s.frames
+pub reaches : (c : Context) (tokens : List Token) (s : Checker) → run_checker c tokens (start_checker c) ≡ Some s → Reaches c tokens s.frames
 reaches c tokens s e = run_frames c tokens (start_checker c) s e
 
 pub answered_exact : (offset : ℕ) (tokens : List Token) (t : Token) (r : Result Step TokenStop) (old new : Checked) → Answered offset t r old new → IsReached tokens old → IsAnswered tokens t r old new
@@ -65,7 +65,7 @@ ends_measured c tokens tree over reach spells body =
     let most = c.checker.greatest in
     heights_measured c.context tokens tree most (reach ∙ ap (λ (fs : Frames). Some (record { frames = fs; greatest = most })) over) spells body
 
-place-parts : (fs : Frames) → place_of fs ≡ guarded (is_live fs) (height fs)
+pub place-parts : (fs : Frames) → place_of fs ≡ guarded (is_live fs) (height fs)
 place-parts [] = refl
 place-parts (f ∷ fs) = refl
 

@@ -49,7 +49,7 @@ step-nests c token.End (f ∷ fs) after e =
     let s = guarded-true (closes f && may_end f.opening f.type) (receive f.type.results fs) after e in
     ap (λ (x : List Opening). Some x) (sym (openings-receive f.type.results fs) ∙ ap openings s.1)
 
-run-nests : (c : Context) (tokens : List Token) (fs after : Frames) → run c tokens fs ≡ Some after → nests tokens (openings fs) ≡ Some (openings after)
+pub run-nests : (c : Context) (tokens : List Token) (fs after : Frames) → run c tokens fs ≡ Some after → nests tokens (openings fs) ≡ Some (openings after)
 run-nests c [] fs after e = ap (λ (x : Frames). Some (openings x)) (some_inside fs after e)
 run-nests c (t ∷ tokens) fs after e =
     let s = through (step c t fs) (run c tokens) after e in

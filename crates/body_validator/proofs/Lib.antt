@@ -12,3 +12,6 @@ pub mod Taking
 pub mod Answering
 pub mod TreeLaws
 pub mod Groups
+pub mod NodeLaws
+pub mod StepLaws
+pub mod Judgements

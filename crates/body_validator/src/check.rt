@@ -1,6 +1,6 @@
 //! The check of a function's body, token by token.
 
-ghost use Rattle.std.specs.Prelude.{◌≡◌, ◌↔◌, IsTrue, IsSome, List, [], ◌∷◌, ◌++◌, IfOk, OnOk};
+ghost use Rattle.std.specs.Prelude.{◌≡◌, ◌↔◌, IsTrue, IsSome, List, [], ◌∷◌, ◌++◌, length, IfOk, OnOk};
 ghost use Rattle.wasm_defs.specs.declared.token.Token.{Token as TokenGiven};
 ghost use Rattle.wasm_defs.specs.declared.types.FuncType.{FuncType as FuncTypeGiven};
 ghost use Rattle.wasm_defs.specs.Bodies.{Group};
@@ -11,13 +11,14 @@ ghost use Rattle.wasm_defs.specs.Places.{places_of, greatest};
 ghost use Rattle.index_spaces.specs.Spaces.{context_in};
 ghost use Rattle.body_validator.specs.Checks.{Answered, IsAnswered, IsPlaced, IsGrouped, IsCounted, before_code, IsReached};
 ghost use Rattle.body_validator.specs.Checking.{start_checker};
+ghost use Rattle.body_validator.specs.declared.check.TokenStop.TheVariants.{NoMemory};
 
 use crate::operands::Stop;
 use crate::scope::Scope;
 use crate::stack::Stack;
 use crate::steps::{kind_of_fault, take};
 use index_spaces::Context;
-use std::alloc::{AllocError, Global};
+use std::alloc::{AllocError, AllocFailed, Global};
 use std::marker::Model;
 use wasm_defs::{Kind, MAX_LOCALS, Refusal, Token, ValType};
 
@@ -36,6 +37,22 @@ pub struct Step {
 pub enum TokenStop {
     Refused(Refusal),
     NoMemory,
+}
+
+impl From<AllocError> for TokenStop {
+    ghost from_gives = { λ _ e. e ≡ NoMemory };
+
+    fn from(_e: AllocError) -> TokenStop {
+        TokenStop::NoMemory
+    }
+}
+
+impl<T: Drop> From<AllocFailed<T>> for TokenStop {
+    ghost from_gives = { λ _ e. e ≡ NoMemory };
+
+    fn from(_e: AllocFailed<T>) -> TokenStop {
+        TokenStop::NoMemory
+    }
 }
 
 /// What a body needs: its greatest live number of operands, and how many parameters and declared locals it has.
@@ -171,6 +188,13 @@ impl<'a> Check<'a> {
         ensures { IsTrue result ↔ (self.now.checker.frames ≡ []) }
     {
         !self.stack.is_open()
+    }
+
+    /// How many results the body's function has.
+    pub(crate) fn result_count(&self) -> usize
+        ensures { result ≡ length self.now.context.results }
+    {
+        self.scope.results.len()
     }
 
     /// Ends the check of a body whose last `end` was taken.

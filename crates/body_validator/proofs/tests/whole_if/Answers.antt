@@ -1,0 +1,43 @@
+use Rattle.std.proofs.Common.{◌≡◌, pos, List, [], ◌∷◌, None, Some, refl, lit≤}
+use Rattle.wasm_defs.specs.declared.nodes.LocalGroup.{LocalGroup}
+use Rattle.wasm_defs.specs.declared.nodes.Node.{Node}
+use Rattle.wasm_defs.specs.declared.token.BlockType.TheVariants.{Value}
+use Rattle.wasm_defs.specs.declared.token.Plain.TheVariants.{Unreachable, LocalGet, Const}
+use Rattle.wasm_defs.specs.declared.token.Token.TheVariants as token
+use Rattle.wasm_defs.specs.declared.types.ValType.TheVariants.{I32, I64}
+use Rattle.wasm_defs.specs.Nodes.{AreNodes}
+use Rattle.wasm_defs.specs.Trees.{Seq, Nothing, Simple, IfElse}
+use Rattle.body_validator.proofs.tests.whole_if.Goals as goal
+
+tree : Seq
+tree = Simple (LocalGet 0) (IfElse (Value I32) (Simple (Const I32 (pos 0)) Nothing) (Simple Unreachable Nothing) Nothing)
+
+abbrev groups : List LocalGroup
+groups = record { count = 3; ty = I64 } ∷ []
+
+abbrev nodes : List Node
+nodes =
+    record { offset = 10; token = token.Plain (LocalGet 0); closed_by = None }
+    ∷ record { offset = 12; token = token.If (Value I32); closed_by = Some 3 }
+    ∷ record { offset = 14; token = token.Plain (Const I32 (pos 0)); closed_by = None }
+    ∷ record { offset = 16; token = token.Else; closed_by = Some 5 }
+    ∷ record { offset = 17; token = token.Plain Unreachable; closed_by = None }
+    ∷ record { offset = 18; token = token.End; closed_by = None }
+    ∷ record { offset = 19; token = token.End; closed_by = None } ∷ []
+
+are_nodes : AreNodes (record { groups = groups; nodes = nodes; fault = None })
+unfolding tree
+are_nodes = record {
+  few = lit≤ tt;
+  most = lit≤ tt;
+  grammatical = ([], tree, refl);
+  matched = (refl, (refl, (refl, (refl, (refl, (refl, (refl, tt)))))));
+  whole = λ none. (tree, refl);
+  before = λ r e. absurd (cc);
+}
+
+pub new-requires : goal.new-requires
+new-requires c =
+    let same_groups : c.in_ok-groups.groups.items ≡ groups = c.in_ok-groups.ensures.items in
+    let same : c.in_ok-nodes.nodes.items ≡ nodes = cc (c.in_ok-nodes.ensures.items) in
+    rw (same_groups, same) are_nodes
