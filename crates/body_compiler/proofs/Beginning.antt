@@ -28,7 +28,7 @@ use Rattle.body_compiler.proofs.Stepping.{rest_bytes}
 use Rattle.body_compiler.proofs.LocalLaws.{length-declared}
 use Rattle.body_compiler.proofs.Outcomes.{stopped}
 
-locals_take : Takes local_groups
+pub locals_take : Takes local_groups
 unfolding local_groups
 locals_take = from_field u32 _ u32_field (λ n. groups_steady (n.0 ∷ []) n.1 0)
 

@@ -66,7 +66,7 @@ byte_is c d at b e = byte_of c d at b (window c) refl e
 
 -- ---- one step of the definition
 
-spelled_step : (most depth last at b : ℕ) (c d : Cursor) → 0 < most → 0 < depth → byte c ≡ Got (at, b) d
+pub spelled_step : (most depth last at b : ℕ) (c d : Cursor) → 0 < most → 0 < depth → byte c ≡ Got (at, b) d
     → spelled_from most depth last c ≡ after_opcode (at, b) (goes_on last (instruction at b d) (λ t e. after_token at t (spelled_from (most - 1) (depth_after t depth) last e)))
 unfolding spelled_from
 spelled_step zero depth last at b c d p q h = absurd (omega arith)
@@ -171,7 +171,7 @@ refused_token c last at b before d e t check code r compiled g h more k is place
 
 -- ---- it is taken
 
-last_byte : (most depth last : ℕ) (e : Cursor) → IsOpen (last + 1) e → last + 1 ≤ e.at → 0 < depth → spelled_from most depth last e ≡ malformed_at last
+pub last_byte : (most depth last : ℕ) (e : Cursor) → IsOpen (last + 1) e → last + 1 ≤ e.at → 0 < depth → spelled_from most depth last e ≡ malformed_at last
 unfolding spelled_from byte
 last_byte zero depth last e o le some = refl
 last_byte (suc n) zero last e o le some = absurd (omega arith)
@@ -267,7 +267,7 @@ ends_behind c last at b before d e t check later code layout front words r g h m
 
 -- ---- the body ends
 
-ends_as : (most last : ℕ) (cursor : Cursor) → 0 < most → spelled_from most 0 last cursor ≡ closed cursor.at cursor.rest
+pub ends_as : (most last : ℕ) (cursor : Cursor) → 0 < most → spelled_from most 0 last cursor ≡ closed cursor.at cursor.rest
 unfolding spelled_from
 ends_as zero last cursor some = absurd (omega arith)
 ends_as (suc n) last cursor some = refl
@@ -299,7 +299,7 @@ has_more c last cursor check code g none some = surplus c last cursor check code
 
 -- ---- no byte is there
 
-stop_step : (most depth last : ℕ) (c : Cursor) (f : Refusal) → 0 < most → 0 < depth → (byte c ≡ Fault f) ⊎ ((byte c ≡ Wants) × (f ≡ record { offset = last; kind = Malformed })) → spelled_from most depth last c ≡ stops (Some f)
+pub stop_step : (most depth last : ℕ) (c : Cursor) (f : Refusal) → 0 < most → 0 < depth → (byte c ≡ Fault f) ⊎ ((byte c ≡ Wants) × (f ≡ record { offset = last; kind = Malformed })) → spelled_from most depth last c ≡ stops (Some f)
 unfolding spelled_from
 stop_step zero depth last c f p q h = absurd (omega arith)
 stop_step (suc n) zero last c f p q h = absurd (omega arith)

@@ -9,3 +9,9 @@ pub mod Overwriting
 pub mod Stepping
 pub mod Beginning
 pub mod Whole
+pub mod Matching
+pub mod Innermost
+pub mod Blocks
+pub mod Grouping
+pub mod NodeReading
+pub mod NodeFaults

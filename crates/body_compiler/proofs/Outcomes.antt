@@ -129,7 +129,7 @@ token_fault_here : (c : Context) (toks : List (ℕ × Token)) (at : ℕ) (t : To
 token_fault_here c toks at t kind s viable faulty = record { before = toks; at = at; token = t; after = s.tokens; parts = refl; viable = viable; faulty = faulty; place = refl }
 
 -- any other token fault is the same
-token_fault_same : (c : Context) (toks later : List (ℕ × Token)) (at : ℕ) (t : Token) (kind : Kind) (r : Refusal) → IsFaulty c (tokens_of toks ++ t ∷ []) kind → IsLater c toks ((at, t) ∷ later) r
+pub token_fault_same : (c : Context) (toks later : List (ℕ × Token)) (at : ℕ) (t : Token) (kind : Kind) (r : Refusal) → IsFaulty c (tokens_of toks ++ t ∷ []) kind → IsLater c toks ((at, t) ∷ later) r
     → r ≡ record { offset = at; kind = kind }
 token_fault_same c toks later at t kind r faulty l = by_between l.between l.parts l.viable l.faulty
   where
@@ -149,7 +149,7 @@ token_fault_same c toks later at t kind r faulty l = by_between l.between l.part
         absurd (faulty_front c (tokens_of toks ++ t ∷ []) (tokens_of between) kind faulty w)
 
 -- no spelling fault counts behind it
-no_spelling_fault : (c : Context) (toks later : List (ℕ × Token)) (at : ℕ) (t : Token) (kind : Kind) (fault : Option Refusal) (r : Refusal) → IsFaulty c (tokens_of toks ++ t ∷ []) kind
+pub no_spelling_fault : (c : Context) (toks later : List (ℕ × Token)) (at : ℕ) (t : Token) (kind : Kind) (fault : Option Refusal) (r : Refusal) → IsFaulty c (tokens_of toks ++ t ∷ []) kind
     → IsSpellingFault c (toks ++ (at, t) ∷ later) fault r → ⊥
 no_spelling_fault c toks later at t kind fault r faulty s =
     let e : tokens_of (toks ++ (at, t) ∷ later) ≡ (tokens_of toks ++ t ∷ []) ++ tokens_of later = tokens_of-append toks ((at, t) ∷ later) ∙ sym (append_assoc (tokens_of toks) (t ∷ []) (tokens_of later)) in

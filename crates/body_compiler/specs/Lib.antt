@@ -4,3 +4,6 @@ pub mod Emitted
 pub mod Going
 pub mod Making
 pub mod Compiling
+pub mod ReadNodes
+pub mod OpenNodes
+pub mod JudgesBody

@@ -3,6 +3,7 @@
 ghost use Rattle.std.specs.Prelude.{◌≡◌, ◌+◌, ◌≤◌, IfOk, OnOk, List, [], ◌∷◌, ◌++◌};
 ghost use Rattle.leb_feed.specs.Reads.{Reads};
 ghost use Rattle.wasm_defs.specs.declared.types.FuncType.{FuncType as FuncTypeGiven};
+ghost use Rattle.wasm_defs.specs.Nodes.{groups_of, declared};
 ghost use Rattle.wasm_defs.specs.Typing.{Context as ContextGiven};
 ghost use Rattle.wasm_defs.specs.Bodies.{Group as GroupGiven, group, groups, local_groups};
 ghost use Rattle.body_validator.specs.Checks.{before_code};
@@ -11,6 +12,7 @@ ghost use Rattle.body_compiler.specs.LocalGroups.{view, total, Declared, Declare
 
 use body_validator::{Check, TokenStop};
 use leb_feed::{Fields, Stop};
+use std::alloc::Global;
 use wasm_defs::{Kind, MAX_LOCALS, ValType};
 
 /// So many locals of one type, whose count stands at an offset.
@@ -83,4 +85,36 @@ pub fn declare_locals(fields: &mut Fields<'_>, check: &mut Check<'_>) -> Result<
         Ok((_, n)) => declare_groups(fields, check, n),
         Err(stop) => Err(stop),
     }
+}
+
+/// Reads so many groups of locals.
+fn read_so_many(
+    fields: &mut Fields<'_>,
+    alloc: Global,
+    n: u32,
+) -> Result<Vec<wasm_defs::LocalGroup>, Stop>
+    ensures read { Reads (groups n 0) (λ gs. groups_of gs.items) result fields.old fields.new }
+    ensures few { IfOk result (λ gs. declared gs.items ≤ 50000) }
+{
+    let mut groups = Vec::new(alloc);
+    let mut declared = 0;
+    for _ in 0..n {
+        let LocalGroup { at: _, count, ty } = group(fields, declared)?;
+        groups.push(wasm_defs::LocalGroup { count, ty })?;
+        declared += count;
+    }
+    Ok(groups)
+}
+
+/// Reads the groups of a body's declared locals.
+#[tactic(auto, unfolding(wasm_defs::specs::Bodies::local_groups))]
+pub fn read_groups(
+    fields: &mut Fields<'_>,
+    alloc: Global,
+) -> Result<Vec<wasm_defs::LocalGroup>, Stop>
+    ensures read { Reads local_groups (λ gs. groups_of gs.items) result fields.old fields.new }
+    ensures few { IfOk result (λ gs. declared gs.items ≤ 50000) }
+{
+    let (_, n) = fields.u32()?;
+    read_so_many(fields, alloc, n)
 }

@@ -1,21 +1,21 @@
 //! Bodies whose words and faults were worked out by hand.
 
-use crate::{BodyStop, compile};
+use crate::{BodyStop, compile, judge_body};
 use index_spaces::{Context, ContextBuilder};
 use rv_isa::Code;
 use std::alloc::{AllocError, Global};
 use std::test::Fail;
-use wasm_defs::{FuncType, Item, Kind, Refusal, ValType, ValTypes};
+use wasm_defs::{FuncType, Item, Kind, MAX_BODY, Refusal, ValType, ValTypes};
 
-/// A module of one function, of two numbers of 32 bits to one.
-fn context_of(alloc: Global) -> Result<Context, AllocError> {
+/// A module of one function, which gives a number of 32 bits.
+fn context_of(alloc: Global, params: &[ValType]) -> Result<Context, AllocError> {
     let mut builder = ContextBuilder::new(alloc);
     builder.add(&Item::Signature {
         form: 11,
         params: 12,
         results: 15,
         ty: FuncType {
-            params: ValTypes::new(Vec::from_slice(alloc, &[ValType::I32, ValType::I32])?),
+            params: ValTypes::new(Vec::from_slice(alloc, params)?),
             results: ValTypes::new(Vec::from_slice(alloc, &[ValType::I32])?),
         },
     })?;
@@ -39,7 +39,7 @@ fn compiled(alloc: Global, context: &Context, bytes: &[u8]) -> Option<Result<Cod
 
 #[test]
 fn bodies_are_compiled(rt: HostRuntime) -> Result<(), Fail> {
-    let context = context_of(rt.alloc())?;
+    let context = context_of(rt.alloc(), &[ValType::I32, ValType::I32])?;
     let want: [u32; 45] = [
         // room for five slots: two parameters, the place to return to, two operands
         0x0000_0293,
@@ -124,7 +124,7 @@ fn refused(offset: u64, kind: Kind) -> Result<(usize, u32), BodyStop> {
 
 #[test]
 fn bodies_are_judged(rt: HostRuntime) -> Result<(), Fail> {
-    let context = context_of(rt.alloc())?;
+    let context = context_of(rt.alloc(), &[ValType::I32, ValType::I32])?;
     let rows: [(&[u8], Result<(usize, u32), BodyStop>); 11] = [
         (&[0x00, 0x41, 0x7F, 0x0B], Ok((31, 4))),
         (&[0x01, 0x01, 0x7F, 0x20, 0x02, 0x0B], Ok((44, 5))),
@@ -160,5 +160,68 @@ fn bodies_are_judged(rt: HostRuntime) -> Result<(), Fail> {
             "{bytes:?}"
         );
     }
+    Ok(())
+}
+
+/// How many tokens a body of the module's one function has, whose first byte has the offset 31; or why it is refused. The
+/// module meets the conditions.
+fn judged(alloc: Global, context: &Context, bytes: &[u8]) -> Option<Result<usize, BodyStop>> {
+    if bytes.len() > MAX_BODY as usize || !context.has_type_of_function(0) {
+        return None;
+    }
+    match judge_body(alloc, context, 0, bytes, 31) {
+        Ok(judged) => Some(Ok(judged.steps().len())),
+        Err(stop) => Some(Err(stop)),
+    }
+}
+
+fn refused_body(offset: u64, kind: Kind) -> Result<usize, BodyStop> {
+    Err(BodyStop::Refused(Refusal { offset, kind }))
+}
+
+#[test]
+fn bodies_are_read_and_judged(rt: HostRuntime) -> Result<(), Fail> {
+    let context = context_of(rt.alloc(), &[ValType::I32])?;
+    let rows: [(&[u8], Result<usize, BodyStop>); 4] = [
+        // an `if` with a result has to have an `else`
+        (
+            &[0x00, 0x20, 0x00, 0x04, 0x7F, 0x41, 0x01, 0x0B, 0x0B],
+            refused_body(38, Kind::Invalid),
+        ),
+        // behind `unreachable` operands need not be there
+        (&[0x00, 0x00, 0x6A, 0x0B], Ok(3)),
+        // an `else` of no `if`
+        (&[0x00, 0x05, 0x0B], refused_body(32, Kind::Malformed)),
+        // no `end`
+        (&[0x00, 0x20, 0x00, 0x01], refused_body(34, Kind::Malformed)),
+    ];
+    for (bytes, want) in rows {
+        assert_eq!(rt;
+            judged(rt.alloc(), &context, bytes),
+            Some(want),
+            "{bytes:?}"
+        );
+    }
+    Ok(())
+}
+
+/// A body of so many blocks, each in the one before it, that gives its function's parameter.
+fn nested_blocks(alloc: Global, depth: usize) -> Result<Vec<u8>, AllocError> {
+    let mut bytes = Vec::from_slice(alloc, &[0x00])?;
+    for _ in 0..depth {
+        bytes.extend_from_slice(&[0x02, 0x40])?;
+    }
+    for _ in 0..depth {
+        bytes.push(0x0B)?;
+    }
+    bytes.extend_from_slice(&[0x20, 0x00, 0x0B])?;
+    Ok(bytes)
+}
+
+#[test]
+fn blocks_may_nest_deeply(rt: HostRuntime) -> Result<(), Fail> {
+    let context = context_of(rt.alloc(), &[ValType::I32])?;
+    let bytes = nested_blocks(rt.alloc(), 300_000)?;
+    assert_eq!(rt; judged(rt.alloc(), &context, &bytes), Some(Ok(600_002)));
     Ok(())
 }
