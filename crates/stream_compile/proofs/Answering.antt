@@ -4,7 +4,7 @@ use Rattle.std.specs.Prelude.{IfOk, nat_lt}
 use Rattle.std.specs.declared.alloc.AllocError.{AllocError}
 use Rattle.wasm_defs.specs.declared.fault.Refusal.{Refusal}
 use Rattle.wasm_defs.specs.Context.{declared_count}
-use Rattle.wasm_defs.specs.Faults.{Module, Accepted, Rejected}
+use Rattle.wasm_defs.specs.Faults.{Accepted, Rejected}
 use Rattle.image_format.specs.declared.image.Image.{Image}
 use Rattle.image_linker.specs.ImageOf.{image_of}
 use Rattle.image_linker.specs.Judging.{IsVerdictOf, IsStoppedAt, lasting}
@@ -13,7 +13,7 @@ use Rattle.stream_compile.specs.declared.answer.Answer.TheVariants as answer
 use Rattle.stream_compile.specs.declared.answer.Built.{Built}
 use Rattle.stream_compile.specs.declared.output.Output.{Output}
 use Rattle.stream_compile.specs.Came.{Came}
-use Rattle.stream_compile.specs.Reading.{Settles, view}
+use Rattle.stream_compile.specs.Reading.{Settles, Settled, view}
 use Rattle.command_words.specs.declared.command.Command.{Command}
 use Rattle.command_words.specs.declared.command.Command.TheVariants.{Check, Run}
 use Rattle.stream_compile.specs.Running.{IsRunnable, NeverFaults}
@@ -69,6 +69,17 @@ stopped_answered read given failed left before now (Err (stop.Refused r)) same f
     let decided = stopped_of_verdict s.bytes (Rejected r) (s.verdict (Rejected r) here) in
     stopped_by (nat_lt before now) left s.bytes (lasting r.kind r) (sym s.failed_is ∙ fails) (subst (λ (b : Bool). Came left b s.bytes) fails s.came) decided
 stopped_answered read given failed left before now (Err stop.NoMemory) same fails s d = tt
+
+-- what a source's bytes come to
+pub source_answered : (failed : Bool) (left : Option (List ℕ)) (before now : ℕ) (compiled : Result Built FrontStop) → failed ≡ false → Settled failed compiled left before now → Answered (nat_lt before now) left (answer_of compiled)
+source_answered failed left before now (Ok built) calm (read, s, d) = whole_answered read read failed left before now (Ok built) refl calm s d
+source_answered failed left before now (Err (stop.Refused r)) calm (read, s, d) = whole_answered read read failed left before now (Err (stop.Refused r)) refl calm s d
+source_answered failed left before now (Err stop.NoMemory) calm t = tt
+
+pub source_stopped : (failed : Bool) (left : Option (List ℕ)) (before now : ℕ) (compiled : Result Built FrontStop) → failed ≡ true → Settled failed compiled left before now → Answered (nat_lt before now) left (stopped_answer compiled)
+source_stopped failed left before now (Ok built) fails (read, s, d) = stopped_answered read read failed left before now (Ok built) refl fails s d
+source_stopped failed left before now (Err (stop.Refused r)) fails (read, s, d) = stopped_answered read read failed left before now (Err (stop.Refused r)) refl fails s d
+source_stopped failed left before now (Err stop.NoMemory) fails t = tt
 
 pub usage_comes : (r : Result Output AllocError) (command : Option Command) (failed : Bool) (left : Option (List ℕ)) → command ≡ None → IfOk r (λ a. view a ≡ usage) → IfOk r (λ o. Comes command failed left (view o))
 usage_comes (Ok a) command failed left none e = rw none (let any = came_any left failed in (any.0, any.1, e))

@@ -1,12 +1,11 @@
 -- A call of an image's function is the call of the module's.
-use Rattle.std.proofs.Common.{◌≡◌, ◌≢◌, ℕ, ◌≤◌, ◌&&◌, Bool, true, false, List, [], ◌∷◌, map, length, Option, Some, None, refl, sym, ap, ◌∙◌, subst, inl, inr, arith}
+use Rattle.std.proofs.Common.{◌≡◌, ◌≢◌, ℕ, ◌≤◌, Bool, true, false, List, [], ◌∷◌, map, length, Option, Some, None, refl, sym, ap, ◌∙◌, subst, inl, inr, arith}
 use Rattle.std.proofs.Common.{◌++◌, Result, Ok, Err}
 use Rattle.std.proofs.lemmas.List.{length-map}
-use Rattle.std.specs.Prelude.{not, if◌then◌else◌, IfOk}
+use Rattle.std.specs.Prelude.{not, IfOk}
 use Rattle.std.specs.declared.alloc.AllocError.{AllocError}
 use Rattle.std.specs.Str.{bytes_eq}
-use Rattle.std.proofs.lemmas.Bool.{cases_Bool, false≢true}
-use Rattle.rv_isa.specs.declared.stepping.FaultKind.{FaultKind}
+use Rattle.std.proofs.lemmas.Bool.{cases_Bool}
 use Rattle.wasm_defs.specs.declared.types.ValType.{ValType}
 use Rattle.wasm_defs.specs.declared.types.FuncType.{FuncType}
 use Rattle.wasm_defs.specs.declared.types.ValType.TheVariants.{I32, I64}
@@ -22,12 +21,11 @@ use Rattle.wasm_defs.specs.ModuleRun.{End, Returns, Traps, Stops, Going, Fails, 
 use Rattle.wasm_defs.specs.ModuleRun as module_runs
 use Rattle.body_validator.proofs.OperandLaws.{same_types-of, same_types-true}
 use Rattle.image_format.specs.declared.image.Image.{Image}
-use Rattle.image_format.specs.declared.image.Import.{Import}
 use Rattle.image_format.specs.declared.image.Export.{Export}
 use Rattle.image_format.specs.ImageRun.{Ending, As, Fault, ImageRun, image_run}
 use Rattle.image_linker.specs.ImageOf.{image_of, export_of, offset_of}
 use Rattle.image_linker.specs.Same.{Same}
-use Rattle.simulation.specs.SameRuns.{SameRuns, as_image}
+use Rattle.simulation.specs.SameRuns.{SameRuns}
 use Rattle.image_run.specs.declared.checks.NotRunnable.{NotRunnable}
 use Rattle.image_run.specs.declared.checks.NotRunnable.TheVariants.{UnknownImport, NoSuchExport, WrongArguments, Unlinkable}
 use Rattle.image_run.specs.Checks.{export_named, not_runnable, unfit, has_unknown_import}

@@ -1,5 +1,5 @@
 -- Codes of bodies, and the words of all of them.
-use Rattle.std.proofs.Common.{◌≡◌, ◌≤◌, ◌<◌, ◌⊎◌, inl, inr, ℕ, suc, ◌+◌, ◌*◌, List, [], ◌∷◌, ◌++◌, map, length, refl, sym, ap, ◌∙◌, subst, append_assoc, arith, length-append}
+use Rattle.std.proofs.Common.{◌≡◌, ℕ, suc, ◌+◌, List, [], ◌∷◌, ◌++◌, map, length, refl, sym, ap, ◌∙◌, append_assoc, arith, length-append}
 use Rattle.std.proofs.lemmas.List.{append-nil}
 use Rattle.rv_isa.specs.declared.compiled.Code.{Code}
 use Rattle.wasm_defs.specs.declared.item.Item.{Item}
@@ -22,7 +22,7 @@ use Rattle.image_linker.specs.Linking.{words_of}
 use Rattle.image_linker.specs.Codes.{IsCodeOf, AreCodesOf}
 use Rattle.image_linker.specs.Judging.{sizes}
 use Rattle.stream_compile.specs.Progress.{AreCodes}
-use Rattle.stream_compile.proofs.Parts.{items_of-append, bodies_of-append}
+use Rattle.stream_compile.proofs.Parts.{items_of-append}
 
 -- ---- one more code
 

@@ -1,33 +1,28 @@
 -- How far the compiling of a module came, and what follows from it.
-use Rattle.std.proofs.Common.{◌≡◌, ◌≤◌, ◌<◌, ◌⊎◌, inl, inr, ℕ, suc, ◌+◌, ◌*◌, List, [], ◌∷◌, ◌++◌, map, length, true, false, Option, Some, None, refl, sym, ap, ◌∙◌, subst, append_assoc, arith, length-append}
-use Rattle.std.proofs.lemmas.List.{append-nil, length-map}
-use Rattle.rv_isa.specs.Words.{word_of}
-use Rattle.rv_isa.specs.declared.operations.Op.{Op}
+use Rattle.std.proofs.Common.{◌≡◌, ◌≤◌, ◌<◌, ◌⊎◌, inl, inr, ℕ, suc, ◌+◌, ◌*◌, List, [], ◌∷◌, ◌++◌, length, true, false, Some, None, refl, sym, ap, ◌∙◌, subst, arith, length-append}
+use Rattle.std.proofs.lemmas.List.{append-nil}
 use Rattle.rv_isa.specs.declared.compiled.Code.{Code}
 use Rattle.wasm_defs.specs.declared.fault.Refusal.{Refusal}
 use Rattle.wasm_defs.specs.declared.item.Item.{Item}
 use Rattle.wasm_defs.specs.Limits.{max_text}
-use Rattle.wasm_defs.specs.Trees.{Seq, Tree}
-use Rattle.wasm_defs.specs.Typing.{Context}
+use Rattle.wasm_defs.specs.Trees.{Seq}
 use Rattle.wasm_defs.specs.Entries.{Seen}
-use Rattle.wasm_defs.specs.Context.{import_count, declared_count}
 use Rattle.wasm_defs.specs.Outside.{Part, Section, Listed, Coded, Body, Run, Whole, after_part, ends, module_run}
 use Rattle.wasm_defs.specs.Supported.{is_compiled_section}
-use Rattle.wasm_defs.specs.Faults.{first_outside, ending_fault, sections_of, items_of, bodies_of, tokens_of, earlier, unsupported_at, read_of, context_at, IsCodeFault, IsValidCode, IsFaultInside, IsFault, Module, IsModule, Accepted, Rejected, IsVerdict}
+use Rattle.wasm_defs.specs.Faults.{first_outside, ending_fault, sections_of, items_of, bodies_of, earlier, unsupported_at, read_of, context_at, IsCodeFault, IsValidCode, IsFaultInside, Module, IsModule, Rejected, IsVerdict}
 use Rattle.wasm_laws.specs.Order.{AreOrdered, BodyStands, end_of, first_section}
 use Rattle.wasm_laws.proofs.Order.{around_body, around_section, parts_before_fault, parts_in_module}
-use Rattle.wasm_laws.proofs.Verdicts.{code_fault_inside, valid_has_no_fault}
-use Rattle.index_spaces.specs.Spaces.{Spaces, spaces_of, with_item, context_in}
-use Rattle.body_validator.proofs.TreeLaws.{trees_one}
-use Rattle.image_linker.specs.ImageOf.{size_of, front_size}
+use Rattle.wasm_laws.proofs.Verdicts.{valid_has_no_fault}
+use Rattle.index_spaces.specs.Spaces.{Spaces, spaces_of, with_item}
+use Rattle.image_linker.specs.ImageOf.{size_of}
 use Rattle.image_linker.specs.Linking.{words_of}
 use Rattle.image_linker.specs.Codes.{IsCodeOf, AreCodesOf}
-use Rattle.image_linker.specs.Judging.{text_bytes, limit_at, sizes, IsTextFault, IsFaultOf, IsModuleOf, IsVerdictOf}
-use Rattle.stream_compile.specs.Progress.{AreCodes, IsJudged, IsJudging, body_of_spaces, front_of}
+use Rattle.image_linker.specs.Judging.{text_bytes, limit_at, IsTextFault, IsFaultOf, IsVerdictOf}
+use Rattle.stream_compile.specs.Progress.{IsJudging, body_of_spaces}
 use Rattle.stream_compile.proofs.Parts.{items_of-append, bodies_of-append}
 use Rattle.stream_compile.proofs.Order.{fault_after, section_after}
 use Rattle.stream_compile.proofs.TextFaults.{text_after, tree_once}
-use Rattle.stream_compile.proofs.Codes.{words_more, codes_both, codes_of_module, words_are_sizes}
+use Rattle.stream_compile.proofs.Codes.{words_more, codes_both, codes_of_module}
 use Rattle.stream_compile.proofs.Judging as judging
 use Rattle.stream_compile.proofs.Judging.{context_is, inside_rest, outside_rest}
 

@@ -1,22 +1,16 @@
 -- Reading refuses nothing as Ended: that is said of bytes that are owed alone.
-use Rattle.std.proofs.Common.{◌≡◌, ◌<◌, ℕ, zero, suc, ◌+◌, Bool, true, false, cond, leb, ltb, eqb, List, [], ◌∷◌, length, take, drop, Option, Some, None, subst, arith, inl, inr}
+use Rattle.std.proofs.Common.{◌<◌, ℕ, zero, suc, ◌+◌, Bool, true, false, cond, leb, ltb, eqb, List, [], ◌∷◌, length, take, drop, arith, inl, inr}
 use Rattle.std.proofs.lemmas.Bool.{cases_Bool}
 use Rattle.wasm_defs.specs.declared.fault.Kind.{Kind}
 use Rattle.wasm_defs.specs.declared.fault.Kind.TheVariants.{Malformed, Unsupported, Limit, Invalid}
-use Rattle.wasm_defs.specs.declared.fault.Refusal.{Refusal}
 use Rattle.wasm_defs.specs.declared.item.Item.{Item}
-use Rattle.wasm_defs.specs.declared.operation.Access.{Access}
-use Rattle.wasm_defs.specs.declared.operation.Operation.{Operation}
-use Rattle.wasm_defs.specs.declared.token.BlockType.{BlockType}
-use Rattle.wasm_defs.specs.declared.token.Plain.{Plain}
-use Rattle.wasm_defs.specs.declared.token.Token.{Token}
 use Rattle.wasm_defs.specs.declared.types.ValType.{ValType}
 use Rattle.wasm_defs.specs.Limits.{max_name}
 use Rattle.wasm_defs.specs.Numbers.{Reading, Number, CutOff, Bad, number_at}
 use Rattle.wasm_defs.specs.Text.{between, completes}
-use Rattle.wasm_defs.specs.Fields.{Cursor, Read, Got, Fault, Wants, Reader, then_go, ◌>>=◌, done, refused, repeated, room_of, window, cut, first_of, byte, from_reading, number, u32, count, vector, run, room, here, stop, counted_bytes, text_after, least, length_owed, name_from, nat_of, name, agree, fixed}
+use Rattle.wasm_defs.specs.Fields.{Cursor, Read, Got, Fault, Wants, Reader, then_go, ◌>>=◌, done, refused, repeated, room_of, window, cut, first_of, byte, from_reading, number, u32, count, vector, run, room, here, stop, counted_bytes, text_after, least, name_from, nat_of, name, agree, fixed}
 use Rattle.wasm_defs.specs.Entries.{Seen, is_left_out, is_opcode, wrong_opcode, index, value_type, listed_type, limits, constant, results, signature, imported, function, table, memory, mutability, global, extern_kind, exported, start, sole, listed_index, element, code, segment}
-use Rattle.wasm_defs.specs.Outside.{Nothing, Row, row, listed, entries_of, code_entry, left_over, rest_of_section, number_of, at_most_one, function_count, custom_name, body, header, preamble, section_end}
+use Rattle.wasm_defs.specs.Outside.{Row, row, listed, entries_of, code_entry, left_over, rest_of_section, number_of, at_most_one, function_count, custom_name, body, header, preamble, section_end}
 use Rattle.wasm_defs.specs.Faults.{rank}
 
 abbrev pub Lasts : {A : Type 0} → Read A → Type 0

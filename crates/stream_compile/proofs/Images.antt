@@ -1,16 +1,16 @@
 -- What is linked of a whole module's codes is its image, and it can be run.
-use Rattle.std.proofs.Common.{◌≡◌, ℕ, zero, suc, ◌+◌, ◌*◌, ◌≤◌, ◌<◌, Bool, true, List, [], ◌∷◌, ◌++◌, map, length, Some, None, refl, sym, ap, ◌∙◌, subst, arith, length-append}
-use Rattle.std.specs.Prelude.{slice_index, replicate, All, not}
+use Rattle.std.proofs.Common.{◌≡◌, ℕ, zero, suc, ◌+◌, ◌*◌, ◌<◌, Bool, true, List, [], ◌∷◌, ◌++◌, map, length, None, refl, sym, ap, ◌∙◌, arith}
+use Rattle.std.specs.Prelude.{replicate, All, not}
 use Rattle.std.proofs.Common.{get_or}
 use Rattle.std.proofs.lemmas.Bool.{false≢true}
-use Rattle.std.proofs.lemmas.List.{map-append, append-nil}
+use Rattle.std.proofs.lemmas.List.{map-append}
 use Rattle.rv_isa.specs.Words.{word_of}
 use Rattle.rv_isa.specs.declared.operations.Op.{Op}
 use Rattle.rv_isa.specs.declared.compiled.Code.{Code}
 use Rattle.wasm_defs.specs.declared.item.Item.{Item}
 use Rattle.wasm_defs.specs.declared.item.Item.TheVariants.{Signature, Function, Table, Memory, Global, Exported, Code as CodeCount}
 use Rattle.wasm_defs.specs.Typing.{Context}
-use Rattle.wasm_defs.specs.Context.{context_of, globals_of, import_count, type_of_function}
+use Rattle.wasm_defs.specs.Context.{context_of, globals_of}
 use Rattle.wasm_defs.specs.Faults.{Module}
 use Rattle.wasm_defs.specs.Instances.{is_linkable, exports_of, rows_of, pages_of, cap_of, values_of, all_over}
 use Rattle.wasm_defs.specs.Values.{Value, words_of as value_words}
@@ -23,11 +23,11 @@ use Rattle.image_format.specs.declared.image.Segment.{Segment}
 use Rattle.image_format.specs.declared.image.Import.{Import}
 use Rattle.image_format.specs.declared.image.Export.{Export}
 use Rattle.index_spaces.specs.Entries.{function_exports, all_exports_of, initials_of, initial_values}
-use Rattle.index_spaces.specs.Spaces.{Spaces, spaces_of, context_in}
+use Rattle.index_spaces.specs.Spaces.{spaces_of}
 use Rattle.index_spaces.proofs.EntriesOfItems.{exports_are_of_items, values_are_of_items}
-use Rattle.image_linker.specs.ImageOf.{image_of, text_of, stubs_from, code_from, places_from, places_of_functions, stub_places, stub_size, front_size, imports_of, export_of, offset_of, row_of, table_of, segment_of, placed_segments, start_offset}
+use Rattle.image_linker.specs.ImageOf.{image_of, text_of, stubs_from, code_from, places_from, places_of_functions, stub_places, stub_size, front_size, imports_of, export_of, row_of, table_of, segment_of, placed_segments, start_offset}
 use Rattle.image_linker.specs.Codes.{AreCodesOf}
-use Rattle.image_linker.specs.Linking.{words_of, starts_from, starts_of, front_words, empty_row, linked, linked_export}
+use Rattle.image_linker.specs.Linking.{words_of, starts_of, front_words, empty_row, linked, linked_export}
 use Rattle.image_linker.proofs.Items.{no_stubs}
 use Rattle.image_linker.proofs.Linked.{words_linked, places_linked}
 

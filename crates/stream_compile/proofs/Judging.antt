@@ -2,12 +2,10 @@
 use Rattle.std.proofs.Common.{◌≡◌, ◌≤◌, ◌<◌, ◌⊎◌, inl, inr, ℕ, suc, ◌+◌, List, [], ◌∷◌, ◌++◌, length, true, false, Option, Some, None, refl, sym, ap, ◌∙◌, append_assoc, arith, length-append}
 use Rattle.std.specs.Prelude.{IsSome}
 use Rattle.std.proofs.lemmas.List.{append-nil}
-use Rattle.std.proofs.lemmas.Bool.{cases_Bool}
 use Rattle.wasm_defs.specs.declared.fault.Refusal.{Refusal}
 use Rattle.wasm_defs.specs.declared.item.Item.{Item}
 use Rattle.wasm_defs.specs.Typing.{function_type}
 use Rattle.wasm_defs.specs.Trees.{Seq}
-use Rattle.wasm_defs.specs.declared.item.Item.TheVariants.{Signature, Imported, Function, Table, Memory, Global, Exported, Start, Element, Code, Segment}
 use Rattle.wasm_defs.specs.Entries.{Seen}
 use Rattle.wasm_defs.specs.Context.{import_count, declared_count, functions_of}
 use Rattle.wasm_defs.specs.Outside.{Part, Section, Listed, Coded, Body, Run, Whole, after_part, ends, module_run}
@@ -19,7 +17,7 @@ use Rattle.wasm_laws.proofs.Typed.{functions_have_types}
 use Rattle.wasm_laws.proofs.Earlier.{equal_is_no_later, IsEarlier, earlier_is, no_later_offset}
 use Rattle.wasm_laws.proofs.Order.{around_body, around_section, parts_before_fault, parts_in_module}
 use Rattle.wasm_laws.proofs.Few.{parts_are_few}
-use Rattle.wasm_laws.proofs.Verdicts.{code_fault_inside, valid_bodies}
+use Rattle.wasm_laws.proofs.Verdicts.{code_fault_inside}
 use Rattle.index_spaces.specs.Spaces.{Spaces, spaces_of, with_item, context_in}
 use Rattle.stream_compile.specs.Progress.{IsJudged, body_of_spaces}
 use Rattle.index_spaces.proofs.SpaceLaws.{spaces_of-append, functions_of-counts}

@@ -1,10 +1,10 @@
 -- A fault outside bodies that more bytes bring stands behind the ids of the sections that were told before.
-use Rattle.std.proofs.Common.{◌≡◌, ℕ, zero, suc, ◌+◌, ◌-◌, ◌≤◌, ◌<◌, eqb, leb, List, [], ◌∷◌, ◌++◌, length, refl, sym, ap, ◌∙◌, arith, length-append, length-take, inl, inr}
+use Rattle.std.proofs.Common.{◌≡◌, ℕ, zero, suc, ◌+◌, ◌-◌, ◌≤◌, ◌<◌, eqb, leb, List, [], ◌∷◌, ◌++◌, length, refl, ap, arith, length-append, length-take, inl, inr}
 use Rattle.std.specs.Prelude.{nat_lt, nat_le, ◌==◌, if◌then◌else◌}
 use Rattle.std.proofs.lemmas.Bool.{cases_Bool, cases_lt}
 use Rattle.wasm_defs.specs.declared.fault.Kind.TheVariants.{Malformed, Unsupported, Limit}
 use Rattle.wasm_defs.specs.Limits.{max_module}
-use Rattle.wasm_defs.specs.Fields.{Cursor, Read, Got, Fault, Wants, Reader, then_go, ◌>>=◌, done, refused, room_of, window, byte, u32, here}
+use Rattle.wasm_defs.specs.Fields.{Cursor, Read, Got, Fault, Wants, Reader, then_go, ◌>>=◌, done, refused, room_of, byte, u32, here}
 use Rattle.wasm_defs.specs.Entries.{Seen, nothing}
 use Rattle.wasm_defs.specs.Outside.{Part, Section, Listed, Coded, Row, row, is_misplaced, header, entered, noted, inside, no_end, Ending, Whole, Refused, Owed, Run, after_part, runs_on, Next, finish, entries, contents, section, owes_code, at_the_end, or_section, sections_up_to, sections, beginning, module_run}
 use Rattle.wasm_defs.specs.Faults.{sections_of}

@@ -6,9 +6,15 @@ pub mod Judging
 pub mod Codes
 pub mod Compiled
 pub mod Taking
+pub mod CutRuns
+pub mod Cutting
+pub mod CodeEnds
+pub mod Told
+pub mod Streaming
 pub mod Images
 pub mod Wholes
 pub mod Settling
+pub mod Pumping
 pub mod Once
 pub mod Answering
 pub mod Calls

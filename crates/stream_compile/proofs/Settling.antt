@@ -1,21 +1,16 @@
 -- What was read settles the verdict of all that came.
-use Rattle.std.proofs.Common.{◌≡◌, ◌⊎◌, inl, inr, subst, ℕ, ◌^◌, ◌-◌, ◌<◌, ◌≤◌, Bool, true, false, List, [], ◌++◌, length, Option, Some, None, Result, Ok, Err, refl, sym, ap, ◌∙◌, arith}
-use Rattle.std.specs.Prelude.{IfOk}
-use Rattle.std.specs.declared.alloc.AllocError.{AllocError}
+use Rattle.std.proofs.Common.{◌≡◌, ◌⊎◌, inl, inr, subst, ℕ, ◌^◌, ◌-◌, ◌<◌, ◌≤◌, Bool, true, false, List, [], ◌++◌, length, Option, Some, None, refl, sym, ap, ◌∙◌, take, drop, append_assoc, length-append, length-take, arith}
 use Rattle.std.specs.Io.KnownBytes.{prepend_known, IsAtEnd}
-use Rattle.std.proofs.lemmas.Bool.{lt-ltb, le-ltb}
-use Rattle.std.proofs.lemmas.List.{append-nil}
+use Rattle.std.proofs.lemmas.Bool.{lt-ltb, le-ltb, cases_lt}
+use Rattle.std.proofs.lemmas.List.{append-nil, take-append-drop}
 use Rattle.wasm_defs.specs.declared.fault.Refusal.{Refusal}
 use Rattle.wasm_defs.specs.Outside.{Run, Ending, Refused, module_run}
 use Rattle.wasm_defs.specs.Supported.{is_compiled_section}
 use Rattle.wasm_defs.specs.Faults.{Module, Verdict, Accepted, Rejected, IsFirst, IsFaultInside, ending_fault, first_outside, sections_of}
 use Rattle.wasm_laws.proofs.Bounded.{module_is_refused, module_stays}
 use Rattle.image_linker.specs.Judging.{IsTextFault, IsVerdictOf}
-use Rattle.io_edges.specs.declared.reading.Input.{Input}
-use Rattle.io_edges.specs.declared.reading.Stop.{Stop}
-use Rattle.io_edges.specs.declared.reading.Stop.TheVariants.{End, Failed, Full}
-use Rattle.io_edges.specs.Stops.{StopsFor}
-use Rattle.stream_compile.specs.Reading.{is_failed, Settles}
+use Rattle.io_edges.specs.Causes.{Rose}
+use Rattle.stream_compile.specs.Reading.{Settles}
 use Rattle.stream_compile.specs.Came.{Came}
 
 -- ---- what came
@@ -66,36 +61,62 @@ when_full read None new e le = (read, tt, λ v p. p)
 when_full read (Some l) None e le = absurd cc
 when_full read (Some l) (Some r) e le = let h : l ≡ read ++ r = cc in (l, refl, λ v p. rw h (verdict_stays read r le v p))
 
-settled : (read : List ℕ) (stop : Stop) (old new : Option (List ℕ)) (before now : ℕ) → before < 2 ^ 64 - 1 → old ≡ prepend_known read new → StopsFor stop new before now (length read) 67108869 → Settles read (is_failed stop) old before now
-settled read End old new before now few e s = record {
-  failed_is = sym (le-ltb before now (omega (arith, s.1)));
+pub settled_end : (read : List ℕ) (old new : Option (List ℕ)) (before now : ℕ) → old ≡ prepend_known read new → IsAtEnd new → now ≡ before → Settles read false old before now
+settled_end read old new before now e end same = record {
+  failed_is = sym (le-ltb before now (omega (arith, same)));
   bytes = read;
-  came = at_end read old new e s.0;
+  came = at_end read old new e end;
   verdict = λ v p. p;
   whole = λ m p. refl;
 }
-settled read Failed old new before now few e s = record {
+
+pub settled_fault : (read : List ℕ) (old new : Option (List ℕ)) (before now : ℕ) → before < 2 ^ 64 - 1 → old ≡ prepend_known read new → Rose before now → Settles read true old before now
+settled_fault read old new before now few e rose = record {
   failed_is = sym (lt-ltb before now (omega arith));
   bytes = read;
   came = at_fault read old new e;
   verdict = λ v p. p;
   whole = λ m p. refl;
 }
-settled read Full old new before now few e s =
-    let le : 67108869 ≤ length read = omega (arith, s.0) in
+
+pub settled_full : (read : List ℕ) (old new : Option (List ℕ)) (before now : ℕ) → old ≡ prepend_known read new → 67108869 ≤ length read → now ≡ before → Settles read false old before now
+settled_full read old new before now e le same =
     let f = when_full read old new e le in
     record {
-      failed_is = sym (le-ltb before now (omega (arith, s.1)));
+      failed_is = sym (le-ltb before now (omega (arith, same)));
       bytes = f.0;
       came = f.1;
       verdict = f.2;
       whole = λ m p. absurd (no_module read le m p);
     }
 
-pub gathered : (r : Result Input AllocError) (old new : Option (List ℕ)) (before now : ℕ) → before < 2 ^ 64 - 1 → IfOk r (λ input. old ≡ prepend_known input.bytes.items new) → IfOk r (λ input. StopsFor input.stop new before now (length input.bytes.items) 67108869)
-    → IfOk r (λ input. Settles input.bytes.items (is_failed input.stop) old before now)
-gathered (Ok input) old new before now few took stop = settled input.bytes.items input.stop old new before now few took stop
-gathered (Err e) old new before now few took stop = tt
+-- the bytes that came have a fault, whatever follows, as far as bytes are read: reading goes no further
+pub settled_early : (came : List ℕ) (r : Refusal) (old new : Option (List ℕ)) (before now : ℕ) → old ≡ prepend_known came new → now ≡ before → length came ≤ 67108869
+    → ((more : List ℕ) → length (came ++ more) ≤ 67108869 → IsVerdictOf (came ++ more) (Rejected r)) → (read : List ℕ) × Settles read false old before now × IsVerdictOf read (Rejected r)
+settled_early came r None new before now e same few v = (
+  came,
+  record { failed_is = sym (le-ltb before now (omega (arith, same))); bytes = came; came = tt; verdict = λ w p. p; whole = λ m p. refl },
+  subst (λ (l : List ℕ). IsVerdictOf l (Rejected r)) (append-nil came) (v [] (omega (arith, ap length (append-nil came)))),
+)
+settled_early came r (Some l) None before now e same few v = absurd cc
+settled_early came r (Some l) (Some rest) before now e same few v =
+    let all : l ≡ came ++ rest = cc in
+    let n = 67108869 - length came in
+    let read = came ++ take n rest in
+    elim (cases_lt n (length rest)) [
+      | inl over ↦
+          let full : 67108869 ≤ length read = omega (arith, length-append came (take n rest), length-take n rest) in
+          let whole : l ≡ read ++ drop n rest = all ∙ ap (λ (x : List ℕ). came ++ x) (sym (take-append-drop n rest)) ∙ sym (append_assoc came (take n rest) (drop n rest)) in (
+            read,
+            settled_full read (Some l) (Some (drop n rest)) before now (ap (λ (x : List ℕ). Some x) whole) full same,
+            v (take n rest) (omega (arith, length-append came (take n rest), length-take n rest)),
+          )
+      | inr fits ↦ (
+        came ++ rest,
+        record { failed_is = sym (le-ltb before now (omega (arith, same))); bytes = l; came = refl; verdict = λ w p. subst (λ (x : List ℕ). IsVerdictOf x w) (sym all) p; whole = λ m p. all },
+        v rest (omega (arith, length-append came rest)),
+      )
+    ]
 
 -- bytes that came, where none are asked for
 pub came_any : (old : Option (List ℕ)) (failed : Bool) → (bytes : List ℕ) × Came old failed bytes

@@ -7,20 +7,18 @@ use Rattle.wasm_defs.specs.declared.fault.Refusal.{Refusal}
 use Rattle.wasm_defs.specs.declared.item.Item.{Item}
 use Rattle.wasm_defs.specs.declared.token.Token.{Token}
 use Rattle.wasm_defs.specs.Entries.{Seen}
-use Rattle.wasm_defs.specs.Trees.{Seq}
 use Rattle.wasm_defs.specs.Typing.{Context}
 use Rattle.wasm_defs.specs.Viable.{IsFaulty}
-use Rattle.wasm_defs.specs.Limits.{max_text}
 use Rattle.wasm_defs.specs.Outside.{Part, Section, Listed, Coded, Body, Ending, Whole, Refused, Owed, Run, module_run}
 use Rattle.wasm_defs.specs.Supported.{is_compiled_section}
-use Rattle.wasm_defs.specs.Faults.{rank, IsNoLater, IsFirst, unsupported_at, first_outside, ending_fault, sections_of, tokens_of, IsTokenFault, IsSpellingFault, IsCodeFault, IsOutsideFault, IsFaultInside, IsValidCode, read_of, context_at, Verdict, Accepted, Rejected}
+use Rattle.wasm_defs.specs.Faults.{rank, IsNoLater, IsFirst, unsupported_at, first_outside, ending_fault, sections_of, tokens_of, IsTokenFault, IsSpellingFault, IsCodeFault, IsFaultInside, read_of, context_at, Verdict, Accepted, Rejected}
 use Rattle.wasm_defs.specs.Supported.{is_compiled_opcode}
 use Rattle.wasm_laws.specs.Runs.{Becomes}
 use Rattle.wasm_laws.specs.Order.{AreOrdered, end_of, first_section}
 use Rattle.wasm_laws.proofs.Order.{parts_before_fault, parts_in_module}
 use Rattle.wasm_laws.proofs.Runs.{module_goes_on}
 use Rattle.image_linker.specs.ImageOf.{size_of}
-use Rattle.image_linker.specs.Judging.{limit_at, text_bytes, IsTextFault, IsFaultOf, IsVerdictOf, IsStoppedAt, lasting, lasting_fault}
+use Rattle.image_linker.specs.Judging.{IsTextFault, IsFaultOf, IsVerdictOf, IsStoppedAt, lasting, lasting_fault}
 use Rattle.stream_compile.proofs.Parts.{sections_of-append}
 use Rattle.stream_compile.proofs.Order.{fault_after, section_after}
 use Rattle.stream_compile.proofs.TextFaults.{text_after, text_before}

@@ -1,10 +1,9 @@
 -- What taking a part comes to.
-use Rattle.std.proofs.Common.{◌≡◌, ◌≤◌, ◌<◌, ◌+◌, ◌*◌, ◌^◌, ◌⊎◌, inl, inr, ℕ, List, [], ◌∷◌, ◌++◌, map, length, false, Result, Ok, Err, refl, sym, ap, ◌∙◌, subst, arith}
+use Rattle.std.proofs.Common.{◌≡◌, ◌≤◌, ◌+◌, ◌^◌, inl, inr, ℕ, List, map, length, Result, Ok, Err, refl, sym, ap, ◌∙◌, subst, arith}
 use Rattle.std.proofs.lemmas.List.{length-map}
 use Rattle.rv_isa.specs.Words.{word_of}
 use Rattle.rv_isa.specs.declared.compiled.Code.{Code}
 use Rattle.wasm_defs.specs.declared.item.Item.{Item}
-use Rattle.wasm_defs.specs.Limits.{max_body, max_text}
 use Rattle.wasm_defs.specs.Typing.{Context}
 use Rattle.wasm_laws.specs.Kept.{TypeIsSmall, TypesAreSmall}
 use Rattle.wasm_laws.proofs.Behind.{bodies_stand_behind}
@@ -14,7 +13,6 @@ use Rattle.wasm_defs.specs.Bodies.{BodyRead, body_read}
 use Rattle.wasm_defs.specs.Context.{context_of, type_of_function}
 use Rattle.wasm_defs.specs.Outside.{Body, Run, Part, after_part}
 use Rattle.wasm_defs.specs.Outside as outside
-use Rattle.wasm_defs.specs.Supported.{is_compiled_section}
 use Rattle.wasm_defs.specs.Faults.{IsValidCode, read_of, context_at, items_of, bodies_of}
 use Rattle.frame_layout.specs.Templates.{Around}
 use Rattle.frame_layout.specs.Functions.{function_code}
@@ -22,31 +20,21 @@ use Rattle.index_spaces.specs.Spaces.{Spaces, spaces_of, context_in}
 use Rattle.body_compiler.specs.declared.code.BodyStop.{BodyStop}
 use Rattle.body_compiler.specs.declared.code.BodyStop.TheVariants as body
 use Rattle.body_compiler.specs.Compiling.{Compiles}
-use Rattle.section_reader.specs.declared.part.Body.{Body as GivenBody}
+use Rattle.body_cutter.specs.declared.body.Body.{Body as GivenBody}
 use Rattle.wasm_defs.specs.declared.front_stop.FrontStop.{FrontStop}
 use Rattle.wasm_defs.specs.declared.front_stop.FrontStop.TheVariants.{Refused, NoMemory}
-use Rattle.section_reader.specs.declared.part.Part.{Part as Given}
-use Rattle.section_reader.specs.declared.part.Part.TheVariants as given
-use Rattle.section_reader.specs.PartOf.{part_of, LiesBefore, IsSized}
-use Rattle.section_reader.specs.Left.{State, left, total}
-use Rattle.section_reader.specs.Advances.{Advances}
 use Rattle.image_linker.specs.ImageOf.{around, no_distance, front_size}
 use Rattle.image_linker.specs.Codes.{IsCodeOf}
-use Rattle.stream_compile.specs.declared.answer.Built.{Built}
-use Rattle.stream_compile.specs.Progress.{IsJudged, IsJudging, CanTake, CanTakePart, TakesPart, TakesBody, TakesCode, Uncompiled, Decides, front_stop, front_of, body_of_spaces}
+use Rattle.wasm_laws.specs.Order.{first_section}
+use Rattle.wasm_laws.proofs.Order.{around_body, parts_in_module}
+use Rattle.stream_compile.specs.Progress.{IsJudged, IsJudging, CanTake, TakesPart, TakesBody, TakesCode, front_stop, front_of, body_of_spaces}
 use Rattle.stream_compile.proofs.Judging.{typed_there, few_functions, few_bodies, few_imports}
-use Rattle.stream_compile.proofs.Compiled.{after_body, text_passes, body_refused, section_refused, header_refused, is_refused}
-
--- a section that isn't compiled
-pub uncompiled_taken : (bytes : List ℕ) (left : Run) (spaces : Spaces) (codes : List Code) (words at id total : ℕ) (s : FrontStop) → IsJudging bytes (after_part (outside.Section at id) left) spaces codes words → total ≡ length bytes → is_compiled_section id ≡ false → Uncompiled at total left s → TakesPart bytes (Err s) left spaces codes
-uncompiled_taken bytes left spaces codes words at id total (Refused r) j len out (inl h) = rw h.0 (section_refused bytes left spaces codes words at id total j len out h.1)
-uncompiled_taken bytes left spaces codes words at id total (Refused r) j len out (inr h) = rw h.3 (header_refused bytes left spaces codes words at id total j len out h.0 h.1 h.2)
-uncompiled_taken bytes left spaces codes words at id total NoMemory j len out h = tt
+use Rattle.stream_compile.proofs.Compiled.{after_body, text_passes, body_refused}
 
 -- ---- a body
 
 abbrev pub given_body : GivenBody → Body
-given_body b = record { size = b.size; first = b.first; bytes = b.bytes.now }
+given_body b = record { size = b.size; first = b.first; bytes = b.bytes }
 
 -- by the index spaces that the code has
 pub moved_body : (spaces context : Spaces) (bodies imported : ℕ) (read : BodyRead) (r : Result Code BodyStop) → context ≡ spaces → imported ≡ context.imported
@@ -56,7 +44,7 @@ moved_body spaces context bodies imported read r same count h =
     let g = subst (λ (x : Spaces). Compiles (context_in x) (imported + bodies) read r) same h in
     subst (λ (n : ℕ). Compiles (context_in spaces) (n + bodies) read r) k g
 
-pub stops_as : (spaces : Spaces) (bodies : ℕ) (b : GivenBody) (s : BodyStop) → Compiles (context_in spaces) (spaces.imported + bodies) (body_read b.first b.bytes.now) (Err s) → TakesBody spaces bodies b (Err (front_stop s))
+pub stops_as : (spaces : Spaces) (bodies : ℕ) (b : GivenBody) (s : BodyStop) → Compiles (context_in spaces) (spaces.imported + bodies) (body_read b.first b.bytes) (Err s) → TakesBody spaces bodies b (Err (front_stop s))
 stops_as spaces bodies b (body.Refused r) h = h
 stops_as spaces bodies b body.NoMemory h = tt
 
@@ -114,29 +102,17 @@ small_type bytes left spaces bodies b j =
     let front : TypesAreSmall (context_of (items_of j.front)).types = subst (λ (c : Context). TypesAreSmall c.types) behind.same.context (types_are_small bytes) in
     function_is_small (context_in spaces) (spaces.imported + bodies) (subst (λ (s : Spaces). TypesAreSmall (context_in s).types) (sym j.spaces_are) front)
 
-pub can_take : (bytes : List ℕ) (left : Run) (spaces : Spaces) (codes : List Code) (words total : ℕ) (b : GivenBody) → length bytes ≤ 67108869 → total ≡ length bytes → b.first + length b.bytes.now ≤ total → length b.bytes.now ≤ max_body
+pub can_take : (bytes : List ℕ) (left : Run) (spaces : Spaces) (codes : List Code) (words : ℕ) (b : GivenBody) → length bytes ≤ 67108869
     → IsJudging bytes (after_part (outside.Coded (given_body b)) left) spaces codes words → CanTake spaces (length codes) b × (words ≤ 2 ^ 26)
-can_take bytes left spaces codes words total b few len lies most j =
+can_take bytes left spaces codes words b few j =
     let next = after_part (outside.Coded (given_body b)) left in
     let f = few_functions bytes next spaces (length codes) j.judged in
     let k = few_bodies bytes next spaces (length codes) j.judged in
     let i = few_imports bytes next spaces (length codes) j.judged in
-    (record { typed = typed_there bytes left spaces (length codes) (given_body b) j.judged; few = omega arith; index = omega arith; small = small_type bytes left spaces (length codes) b j.judged; most = most; offset = omega arith }, omega (arith, j.fits))
-
-pub can_take_part : (bytes : List ℕ) (left : Run) (spaces : Spaces) (codes : List Code) (words total : ℕ) (x : Given) → length bytes ≤ 67108869 → total ≡ length bytes → LiesBefore total x → IsSized x → IsJudging bytes (after_part (part_of x) left) spaces codes words → CanTakePart spaces codes words x
-can_take_part bytes left spaces codes words total (given.Section at id) few len lies sized j = tt
-can_take_part bytes left spaces codes words total (given.Listed x) few len lies sized j = tt
-can_take_part bytes left spaces codes words total (given.Coded b) few len lies sized j = can_take bytes left spaces codes words total b few len lies sized.1 j
+    let stands = (around_body first_section (length bytes) j.judged.front (given_body b) left.parts (rw j.judged.parts at (parts_in_module bytes))).1 in
+    (record { typed = typed_there bytes left spaces (length codes) (given_body b) j.judged; few = omega arith; index = omega arith; small = small_type bytes left spaces (length codes) b j.judged; most = stands.most; offset = omega (arith, stands.before) }, omega (arith, j.fits))
 
 -- ---- the whole
-
-pub refused_at_once : (bytes : List ℕ) (old new : State) (spaces : Spaces) (codes : List Code) (words : ℕ) (s : FrontStop) → IsJudging bytes (left old) spaces codes words → total old ≡ length bytes → Advances old (Err s) new → Decides bytes (Err s)
-refused_at_once bytes old new spaces codes words (Refused r) j len a = is_refused bytes (left old) spaces codes words (total old) r j len a.none a.fault
-refused_at_once bytes old new spaces codes words NoMemory j len a = tt
-
-pub decided : (bytes : List ℕ) (run : Run) (spaces : Spaces) (codes : List Code) (s : FrontStop) → TakesPart bytes (Err s) run spaces codes → Decides bytes (Err s)
-decided bytes run spaces codes (Refused r) h = h
-decided bytes run spaces codes NoMemory h = tt
 
 pub judging_on : (bytes : List ℕ) (run next : Run) (spaces : Spaces) (codes : List Code) (words : ℕ) → run ≡ next → IsJudging bytes run spaces codes words → IsJudging bytes next spaces codes words
 judging_on bytes run next spaces codes words e j = subst (λ (r : Run). IsJudging bytes r spaces codes words) e j
@@ -146,11 +122,7 @@ pub stop_taken : (spaces : Spaces) (codes new : List Code) (words : ℕ) (b : Gi
 stop_taken spaces codes new words b (Refused r) h = inl h
 stop_taken spaces codes new words b NoMemory h = tt
 
--- a part was taken
-pub goes_on : (bytes : List ℕ) (old next new : State) (spaces spaces' : Spaces) (codes codes' : List Code) (words more : ℕ) (x : Part) → left old ≡ after_part x (left next) → new ≡ next → total next ≡ total old → total old ≡ length bytes
-    → IsJudging bytes (left old) spaces codes words
-    → (IsJudging bytes (after_part x (left next)) spaces codes words → total next ≡ length bytes → IsJudging bytes (left next) spaces' codes' more)
-    → IsJudging bytes (left new) spaces' codes' more × (total new ≡ length bytes)
-goes_on bytes old next new spaces spaces' codes codes' words more x advances stays kept whole j takes =
-    let here = takes (judging_on bytes (left old) (after_part x (left next)) spaces codes words advances j) (kept ∙ whole) in
-    (subst (λ (s : State). IsJudging bytes (left s) spaces' codes' more) (sym stays) here, ap total stays ∙ kept ∙ whole)
+-- a fault is one of the module, whatever was left
+pub fault_taken : (bytes : List ℕ) (s : FrontStop) (run next : Run) (spaces later : Spaces) (codes new : List Code) → TakesPart bytes (Err s) run spaces codes → TakesPart bytes (Err s) next later new
+fault_taken bytes (Refused r) run next spaces later codes new h = h
+fault_taken bytes NoMemory run next spaces later codes new h = tt

@@ -1,20 +1,18 @@
 -- Where the fault of a text stands, beside the others.
-use Rattle.std.proofs.Common.{◌≡◌, ◌≤◌, ◌<◌, ◌⊎◌, inl, inr, ℕ, suc, ◌+◌, ◌*◌, List, [], ◌∷◌, ◌++◌, length, Some, refl, sym, ap, ◌∙◌, subst, arith, append_assoc}
+use Rattle.std.proofs.Common.{◌≡◌, ◌≤◌, ◌<◌, ◌⊎◌, inl, inr, ℕ, suc, ◌+◌, List, [], ◌∷◌, ◌++◌, length, Some, sym, ap, ◌∙◌, subst, arith}
 use Rattle.std.proofs.lemmas.Bool.{cases_Bool}
-use Rattle.std.proofs.lemmas.List.{append-nil}
 use Rattle.wasm_defs.specs.declared.fault.Refusal.{Refusal}
 use Rattle.wasm_defs.specs.declared.item.Item.{Item}
 use Rattle.wasm_defs.specs.Trees.{Seq}
 use Rattle.wasm_defs.specs.Outside.{Part, Section, Listed, Coded, Body, module_run}
-use Rattle.wasm_defs.specs.Limits.{max_text}
 use Rattle.wasm_defs.specs.Supported.{is_compiled_section}
-use Rattle.wasm_defs.specs.Faults.{first_outside, ending_fault, sections_of, items_of, bodies_of, tokens_of, read_of, context_at, IsOutsideFault, IsFaultInside, IsValidCode, AreValid}
+use Rattle.wasm_defs.specs.Faults.{first_outside, ending_fault, sections_of, tokens_of, read_of, context_at, IsOutsideFault, IsFaultInside, IsValidCode}
 use Rattle.wasm_laws.specs.Order.{AreOrdered, end_of, first_section}
 use Rattle.wasm_laws.proofs.Order.{parts_before_fault, parts_in_module}
-use Rattle.wasm_laws.proofs.Verdicts.{code_fault_inside, valid_has_no_fault}
+use Rattle.wasm_laws.proofs.Verdicts.{valid_has_no_fault}
 use Rattle.body_validator.proofs.TreeLaws.{trees_one}
 use Rattle.image_linker.specs.ImageOf.{size_of}
-use Rattle.image_linker.specs.Judging.{text_bytes, limit_at, IsTextFault}
+use Rattle.image_linker.specs.Judging.{text_bytes, IsTextFault}
 use Rattle.stream_compile.proofs.Order.{fault_after, section_after}
 
 -- ---- it stands behind what came before, and before the end

@@ -1,5 +1,5 @@
 -- A module whose parts were all taken.
-use Rattle.std.proofs.Common.{◌≡◌, ℕ, ◌+◌, ◌*◌, ◌≤◌, ◌<◌, ◌^◌, inl, inr, List, [], ◌∷◌, ◌++◌, map, length, Option, Some, None, Result, Ok, Err, refl, sym, ap, ◌∙◌, subst, arith, length-append}
+use Rattle.std.proofs.Common.{◌≡◌, ℕ, ◌+◌, ◌*◌, ◌≤◌, ◌<◌, inl, inr, List, [], ◌∷◌, map, length, Some, Result, Ok, Err, refl, sym, ap, ◌∙◌, subst, arith, length-append}
 use Rattle.std.specs.Prelude.{All}
 use Rattle.std.specs.Str.{bytes_eq}
 use Rattle.std.proofs.lemmas.Bool.{cases_Bool}
@@ -8,12 +8,10 @@ use Rattle.rv_isa.specs.declared.compiled.Code.{Code}
 use Rattle.wasm_defs.specs.declared.item.Item.{Item}
 use Rattle.wasm_defs.specs.Limits.{max_text}
 use Rattle.wasm_defs.specs.Entries.{Seen}
-use Rattle.wasm_defs.specs.Typing.{Context}
-use Rattle.wasm_defs.specs.Context.{types_of, globals_of, declared_count}
+use Rattle.wasm_defs.specs.Context.{types_of, globals_of}
 use Rattle.wasm_defs.specs.Instances.{rows_of}
 use Rattle.wasm_defs.specs.Values.{Value, word_of as value_word}
-use Rattle.wasm_defs.specs.Outside.{Run, Whole, ends, module_run}
-use Rattle.wasm_defs.specs.Faults.{items_of, Module, IsModule}
+use Rattle.wasm_defs.specs.Outside.{Run, Whole, ends}
 use Rattle.wasm_laws.specs.Plain.{ArePlain}
 use Rattle.wasm_laws.specs.Kept.{TypeIsSmall, TypesAreSmall, SpacesAreSmall, ConstantsFit}
 use Rattle.wasm_laws.proofs.Constants.{constants_fit}
@@ -31,7 +29,7 @@ use Rattle.wasm_defs.specs.declared.front_stop.FrontStop.{FrontStop}
 use Rattle.wasm_defs.specs.declared.front_stop.FrontStop.TheVariants.{Refused, NoMemory}
 use Rattle.image_linker.specs.ImageOf.{image_of, stub_size, front_size}
 use Rattle.image_linker.specs.Linking.{NumbersFit, words_of, front_words, starts_of, empty_row, linked, linked_export}
-use Rattle.image_linker.specs.Judging.{sizes, text_bytes, IsModuleOf}
+use Rattle.image_linker.specs.Judging.{IsModuleOf}
 use Rattle.image_linker.specs.Same.{Same}
 use Rattle.image_linker.proofs.Items.{numbers_fit}
 use Rattle.image_linker.proofs.Modules.{images_behave_alike}
@@ -39,7 +37,7 @@ use Rattle.stream_compile.specs.declared.answer.Built.{Built}
 use Rattle.stream_compile.specs.Running.{IsRunnable}
 use Rattle.stream_compile.specs.Progress.{IsJudging, Links, Decides}
 use Rattle.stream_compile.proofs.Codes.{words_are_sizes}
-use Rattle.stream_compile.proofs.Compiled.{IsWhole, is_whole}
+use Rattle.stream_compile.proofs.Compiled.{is_whole}
 use Rattle.stream_compile.proofs.Images.{linked_is_image}
 
 -- the exports of an image that was linked have types of the module
@@ -74,7 +72,7 @@ numbers_of_whole bytes left spaces codes words seen fits j whole =
     subst (λ (s : Spaces). NumbersFit s.globals s.initials) (sym w.1.spaces_are) (numbers_fit w.0.items constants)
 
 pub links_decide : (bytes : List ℕ) (left : Run) (spaces : Spaces) (codes : List Code) (words : ℕ) (seen : Seen) (r : Result Built FrontStop) → All (λ b. b < 256) bytes
-    → IsJudging bytes left spaces codes words → left ≡ ends (Whole seen) → Links spaces codes bytes r → Decides bytes r
+    → IsJudging bytes left spaces codes words → left ≡ ends (Whole seen) → Links spaces codes (length bytes) r → Decides bytes r
 links_decide bytes left spaces codes words seen (Ok built) fits j whole (image, functions, count) =
     let w = is_whole bytes left spaces codes words seen j whole in
     let m = w.0 in

@@ -8,8 +8,6 @@ use Rattle.wasm_defs.specs.Faults.{Module, Accepted, Rejected}
 use Rattle.image_linker.specs.ImageOf.{image_of}
 use Rattle.image_linker.specs.Same.{Same}
 use Rattle.image_linker.specs.Judging.{IsVerdictOf, IsStoppedAt, lasting}
-use Rattle.io_edges.specs.declared.reading.Stop.{Stop}
-use Rattle.io_edges.specs.declared.reading.Stop.TheVariants.{End, Failed, Full}
 use Rattle.stream_compile.specs.declared.answer.Built.{Built}
 use Rattle.stream_compile.specs.declared.answer.Answer.{Answer}
 use Rattle.stream_compile.specs.declared.answer.Answer.TheVariants as answer

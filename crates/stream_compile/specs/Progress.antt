@@ -1,6 +1,5 @@
 -- How far the compiling of a module came.
-use Rattle.std.specs.Prelude.{◌≡◌, ◌<◌, ◌≤◌, ◌⊎◌, ◌+◌, ◌*◌, ◌^◌, ℕ, suc, List, [], ◌∷◌, ◌++◌, length, map, None, Some, IsSome, Result, Ok, Err}
-use Rattle.rv_isa.specs.Words.{word_of}
+use Rattle.std.specs.Prelude.{◌≡◌, ◌<◌, ◌≤◌, ◌⊎◌, ◌+◌, ◌*◌, ◌^◌, ℕ, suc, List, [], ◌∷◌, ◌++◌, length, None, IsSome, Result, Ok, Err}
 use Rattle.rv_isa.specs.declared.compiled.Code.{Code}
 use Rattle.wasm_defs.specs.declared.fault.Refusal.{Refusal}
 use Rattle.wasm_defs.specs.declared.item.Item.{Item}
@@ -12,11 +11,10 @@ use Rattle.wasm_defs.specs.Context.{body_context, type_of_function, declared_cou
 use Rattle.wasm_defs.specs.Bodies.{body_read}
 use Rattle.wasm_defs.specs.Outside.{Part, Section, Listed, Coded, Body, Run, module_run}
 use Rattle.wasm_defs.specs.Supported.{is_compiled_section}
-use Rattle.wasm_defs.specs.Faults.{first_outside, ending_fault, earlier, unsupported_at, sections_of, items_of, bodies_of, read_of, AreValid, IsCodeFault, IsValidCode, Module, Rejected}
+use Rattle.wasm_defs.specs.Faults.{first_outside, sections_of, items_of, bodies_of, read_of, AreValid, Module, Rejected}
 use Rattle.index_spaces.specs.Spaces.{Spaces, spaces_of, context_in}
-use Rattle.section_reader.specs.declared.part.Part.{Part as Given}
-use Rattle.section_reader.specs.declared.part.Part.TheVariants as given
-use Rattle.section_reader.specs.declared.part.Body.{Body as GivenBody}
+use Rattle.section_reader.specs.Onward.{after_parts}
+use Rattle.body_cutter.specs.declared.body.Body.{Body as GivenBody}
 use Rattle.wasm_defs.specs.declared.front_stop.FrontStop.{FrontStop}
 use Rattle.wasm_defs.specs.declared.front_stop.FrontStop.TheVariants.{Refused, NoMemory}
 use Rattle.body_compiler.specs.declared.code.BodyStop.{BodyStop}
@@ -24,12 +22,13 @@ use Rattle.body_compiler.specs.declared.code.BodyStop.TheVariants as body
 use Rattle.body_compiler.specs.Compiling.{Compiles}
 use Rattle.frame_layout.specs.Templates.{exit_stub}
 use Rattle.image_linker.specs.ImageOf.{image_of, stub_size}
-use Rattle.image_linker.specs.Linking.{words_of, linked}
+use Rattle.image_linker.specs.Linking.{NumbersFit, words_of, linked}
 use Rattle.image_linker.specs.Codes.{IsCodeOf}
 use Rattle.image_linker.specs.Same.{Same}
 use Rattle.stream_compile.specs.Running.{IsRunnable}
 use Rattle.image_linker.specs.Judging.{limit_at, IsTextFault, IsModuleOf, IsVerdictOf}
 use Rattle.stream_compile.specs.declared.answer.Built.{Built}
+use Rattle.stream_compile.specs.CutBodies.{coded_all}
 
 -- the codes of the bodies of these parts, behind these items and k bodies
 abbrev pub AreCodes : List Item → ℕ → List Part → List Seq → List Code → Type 0
@@ -73,29 +72,20 @@ pub record CanTake (spaces : Spaces) (bodies : ℕ) (b : GivenBody) : Type 0 whe
   pub typed : IsSome (function_type (context_in spaces) (spaces.imported + bodies))
   pub few : length spaces.functions < 2 ^ 32
   pub index : spaces.imported + bodies < 2 ^ 32
-  pub offset : b.first + length b.bytes.now < 2 ^ 63
+  pub offset : b.first + length b.bytes < 2 ^ 63
   pub small : TypeIsSmall (type_of_function (context_in spaces) (spaces.imported + bodies))
-  pub most : length b.bytes.now ≤ max_body
+  pub most : length b.bytes ≤ max_body
 
--- a part can be taken: a body's function is there, and there is room in the count of words
-abbrev pub CanTakePart : Spaces → List Code → (words : ℕ) → Given → Type 0
-CanTakePart spaces codes words (given.Section at id) = Unit {0}
-CanTakePart spaces codes words (given.Listed x) = Unit {0}
-CanTakePart spaces codes words (given.Coded b) = CanTake spaces (length codes) b × (words ≤ 2 ^ 26)
+-- bodies can be taken: of some module they come next, behind what is right
+abbrev pub CanTakeAll : Spaces → List Code → (words : ℕ) → List GivenBody → Type 0
+CanTakeAll spaces codes words bodies =
+    (bytes : List ℕ) × (left : Run) × (length bytes ≤ 67108869) × IsJudging bytes (after_parts (coded_all bodies) left) spaces codes words
 
--- a part was taken, and the reader is where it was; or the module's fault is found
+-- parts were taken; or the module's fault is found
 abbrev pub TakesPart : List ℕ → Result ℕ FrontStop → Run → Spaces → List Code → Type 0
 TakesPart bytes (Ok words) run spaces codes = IsJudging bytes run spaces codes words
 TakesPart bytes (Err (Refused r)) run spaces codes = IsVerdictOf bytes (Rejected r)
 TakesPart bytes (Err NoMemory) run spaces codes = Unit {0}
-
--- behind the id of a section that isn't compiled there is more, or the bytes are whole: it is unsupported; or there is a fault
--- at once, which may come first
-abbrev pub Uncompiled : ℕ → ℕ → Run → FrontStop → Type 0
-Uncompiled at total run (Refused r) =
-    ((r ≡ unsupported_at at) × ((0 < length run.parts) ⊎ (ending_fault total run.ending ≡ None)))
-    ⊎ ((e : Refusal) × (run.parts ≡ []) × (ending_fault total run.ending ≡ Some e) × (r ≡ earlier e (unsupported_at at)))
-Uncompiled at total run NoMemory = Unit {0}
 
 abbrev pub front_stop : BodyStop → FrontStop
 front_stop (body.Refused r) = Refused r
@@ -103,8 +93,8 @@ front_stop body.NoMemory = NoMemory
 
 -- a body's code, or its first fault
 abbrev pub TakesBody : Spaces → ℕ → GivenBody → Result Code FrontStop → Type 0
-TakesBody spaces bodies b (Ok code) = Compiles (context_in spaces) (spaces.imported + bodies) (body_read b.first b.bytes.now) (Ok code)
-TakesBody spaces bodies b (Err (Refused r)) = Compiles (context_in spaces) (spaces.imported + bodies) (body_read b.first b.bytes.now) (Err (body.Refused r))
+TakesBody spaces bodies b (Ok code) = Compiles (context_in spaces) (spaces.imported + bodies) (body_read b.first b.bytes) (Ok code)
+TakesBody spaces bodies b (Err (Refused r)) = Compiles (context_in spaces) (spaces.imported + bodies) (body_read b.first b.bytes) (Err (body.Refused r))
 TakesBody spaces bodies b (Err NoMemory) = Unit {0}
 
 -- the words in front of the functions' words
@@ -123,9 +113,13 @@ TakesCode spaces codes words b (Err (Refused r)) new =
 TakesCode spaces codes words b (Err NoMemory) new = Unit {0}
 
 -- what was linked; or memory ran out
-abbrev pub Links : Spaces → List Code → List ℕ → Result Built FrontStop → Type 0
-Links spaces codes bytes (Ok built) = (built.image ≡ linked spaces codes) × (built.functions ≡ spaces.declared) × (built.bytes ≡ length bytes)
+abbrev pub Links : Spaces → List Code → (bytes : ℕ) → Result Built FrontStop → Type 0
+Links spaces codes bytes (Ok built) = (built.image ≡ linked spaces codes) × (built.functions ≡ spaces.declared) × (built.bytes ≡ bytes)
 Links spaces codes bytes (Err s) = s ≡ NoMemory
+
+-- the codes can be linked: their words are few, and the constants of globals are numbers of their types
+abbrev pub MayLink : Spaces → List Code → Type 0
+MayLink spaces codes = (4 * (2 + length (words_of codes)) ≤ 2 ^ 28) × NumbersFit spaces.globals spaces.initials
 
 -- the module's image, or its fault of least offset
 abbrev pub Decides : List ℕ → Result Built FrontStop → Type 0

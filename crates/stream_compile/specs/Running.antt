@@ -1,5 +1,5 @@
 -- Images that can be run so far, and what a call of an image's function comes to.
-use Rattle.std.specs.Prelude.{◌≡◌, ◌≢◌, ◌≤◌, ◌*◌, ℕ, Bool, true, List, [], length, Option, None, Some, IsTrue}
+use Rattle.std.specs.Prelude.{◌≡◌, ◌≢◌, ◌≤◌, ◌*◌, ℕ, true, List, [], length, Option, None, Some, IsTrue}
 use Rattle.wasm_defs.specs.Memory.{page}
 use Rattle.wasm_defs.specs.Instances.{all_fit}
 use Rattle.wasm_laws.specs.Kept.{TypeIsSmall}

@@ -1,12 +1,12 @@
-//! Compiles the module that a source gives.
+//! Compiles the module that a source gives, while its bytes come.
 
-ghost use Rattle.std.specs.Prelude.{◌≡◌, ◌<◌, ◌≤◌, ◌^◌, ◌-◌, nat_lt, IfOk, length};
-ghost use Rattle.stream_compile.specs.Reading.{Settles, is_failed};
+ghost use Rattle.std.specs.Prelude.{◌≡◌, ◌<◌, ◌^◌, ◌-◌, nat_lt, IfOk, length};
 ghost use Rattle.stream_compile.specs.Compiling.{Answered, answer_of, stopped_answer};
+ghost use Rattle.stream_compile.specs.Reading.{Settled};
 
 use crate::answer::{Answer, Built, Settings};
-use crate::module::compile_module;
-use io_edges::{Gate, Input, Source, Stop, read_all};
+use crate::compilation::Compilation;
+use io_edges::{Gate, Got, Source};
 use std::alloc::{AllocError, Global};
 use std::sync::Wait;
 use std::thread::Threads;
@@ -15,19 +15,67 @@ use wasm_defs::{FrontStop, Kind};
 /// The most bytes that are read: a section's size that begins at the limit on a module's bytes has at most five.
 const MOST_READ: usize = 67_108_869;
 
-fn is_failed(stop: &Stop) -> bool
-    ensures { result ≡ is_failed stop.now }
-{
-    matches!(stop, Stop::Failed)
+/// How many bytes are asked for at a time.
+const CHUNK: usize = 65_536;
+
+/// What the bytes of a source came to.
+#[derive(Drop)]
+struct Ending {
+    compiled: Result<Built, FrontStop>,
+    /// The source failed behind them.
+    failed: bool,
 }
 
-/// The bytes of a source, as many as decide about any module.
-fn gather<S: Source>(alloc: Global, source: &mut S) -> Result<Input, AllocError>
-    requires { S.faults source.old < 2 ^ 64 - 1 }
-    ensures most { IfOk result (λ input. length input.bytes.items ≤ 67108869) }
-    ensures settles { IfOk result (λ input. Settles input.bytes.items (is_failed input.stop) (S.left source.old) (S.faults source.old) (S.faults source.new)) }
+fn buffer_of(alloc: Global, len: usize) -> Result<Vec<u8>, AllocError>
+    ensures { IfOk result (λ buffer. length buffer.items ≡ len) }
 {
-    read_all(alloc, source, MOST_READ)
+    vec![in alloc; 0; len]
+}
+
+/// Compiles the bytes of a source as they come, up to their end or to the first fault.
+fn compile_source<S: Source>(alloc: Global, source: &mut S, batch: u32) -> Ending
+    requires { S.faults source.old < 2 ^ 64 - 1 }
+    ensures { Settled result.failed result.compiled (S.left source.old) (S.faults source.old) (S.faults source.new) }
+{
+    let Ok(mut chunk) = buffer_of(alloc, CHUNK) else {
+        return Ending {
+            compiled: Err(FrontStop::NoMemory),
+            failed: false,
+        };
+    };
+    let buf = chunk.as_mut_slice();
+    let mut compilation = Compilation::new(alloc, batch);
+    let mut count = 0;
+    while count < MOST_READ {
+        let room = (MOST_READ - count).min(buf.len());
+        match source.read(&mut buf[..room]) {
+            Got::Bytes(n) => match compilation.feed(&buf[..n]) {
+                Ok(()) => count += n,
+                Err(stop) => {
+                    return Ending {
+                        compiled: Err(stop),
+                        failed: false,
+                    };
+                }
+            },
+            Got::End => {
+                return Ending {
+                    compiled: compilation.finish(),
+                    failed: false,
+                };
+            }
+            Got::Failed => {
+                return Ending {
+                    compiled: compilation.finish(),
+                    failed: true,
+                };
+            }
+        }
+    }
+    Ending {
+        compiled: compilation.finish(),
+        failed: false,
+    }
 }
 
 /// What bytes come to, read to their source's end.
@@ -60,8 +108,9 @@ fn stopped(compiled: Result<Built, FrontStop>) -> Answer
 /// Compiles the module whose bytes the source gives (WebAssembly Web API 1.0, streaming compilation): its one image, or its fault
 /// of least offset. The image behaves as the module does.
 ///
-/// The answer is the same for all settings, and however the source cuts the bytes. Where the source failed, a fault of the bytes
-/// that came decides, if there is one that more bytes don't mend, and else the answer is `ReadFault`.
+/// Bytes are read as they come, up to the first fault, and no input is kept. The answer is the same for all settings, and
+/// however the source cuts the bytes. Where the source failed, a fault of the bytes that came decides, if there is one that more
+/// bytes don't mend, and else the answer is `ReadFault`.
 pub fn stream_compile<R: Threads + Wait + Sync, S: Source, G: Gate>(
     rt: &R,
     alloc: Global,
@@ -74,14 +123,10 @@ pub fn stream_compile<R: Threads + Wait + Sync, S: Source, G: Gate>(
 {
     let _ = rt;
     let _ = gate;
-    let _ = settings;
-    let Ok(input) = gather(alloc, source) else {
-        return Answer::NoMemory;
-    };
-    let compiled = compile_module(alloc, &input.bytes);
-    if is_failed(&input.stop) {
-        stopped(compiled)
+    let ending = compile_source(alloc, source, settings.batch);
+    if ending.failed {
+        stopped(ending.compiled)
     } else {
-        answer_of(compiled)
+        answer_of(ending.compiled)
     }
 }

@@ -2,10 +2,11 @@
 #![tactic(auto)]
 
 mod answer;
+mod bodies;
 mod command;
+mod compilation;
 mod compiling;
 mod laws;
-mod module;
 mod output;
 mod running;
 
@@ -16,6 +17,8 @@ pub use laws::{
     ended_is_owed, faults_share_no_offset, faults_stay, verdicts_are_one, what_stopped_decides,
 };
 
+#[cfg(test)]
+mod faults;
 #[cfg(test)]
 mod operations;
 #[cfg(test)]

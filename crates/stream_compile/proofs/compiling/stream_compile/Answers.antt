@@ -1,13 +1,10 @@
-use Rattle.std.proofs.Common.{sym, ◌∙◌}
-use Rattle.stream_compile.proofs.Answering.{whole_answered, stopped_answered}
+use Rattle.stream_compile.proofs.Answering.{source_answered, source_stopped}
 use Rattle.stream_compile.proofs.compiling.stream_compile.Goals as goal
 
-pub returns-then-is_failed : goal.returns-then-is_failed
-returns-then-is_failed g c =
-    rw c.stopped.ensures (stopped_answered c.in-Ok.input.bytes.items c.deref.result.now _ (g.S.Source.left c.args.source.now) (g.S.Source.faults c.args.source.now) (g.S.Source.faults c.gather.new.source) c.compile_module-compiled.result
-    c.deref.ensures.value (sym c.is_failed.ensures ∙ c.if-is_failed.true) c.in-Ok.ensures.settles c.compile_module-compiled.ensures)
+pub returns-then-ending : goal.returns-then-ending
+returns-then-ending g c =
+    rw c.stopped.ensures (source_stopped c.compile_source-ending.result.failed (g.S.Source.left c.args.source.now) (g.S.Source.faults c.args.source.now) (g.S.Source.faults c.compile_source-ending.new.source) c.compile_source-ending.result.compiled c.if-ending.true c.compile_source-ending.ensures)
 
-pub returns : goal.returns
-returns g c =
-    rw c.answer_of.ensures (whole_answered c.in-Ok.input.bytes.items c.deref.result.now _ (g.S.Source.left c.args.source.now) (g.S.Source.faults c.args.source.now) (g.S.Source.faults c.gather.new.source) c.compile_module-compiled.result
-    c.deref.ensures.value (sym c.is_failed.ensures ∙ c.if-is_failed.false) c.in-Ok.ensures.settles c.compile_module-compiled.ensures)
+pub returns-else-ending : goal.returns-else-ending
+returns-else-ending g c =
+    rw c.answer_of.ensures (source_answered c.compile_source-ending.result.failed (g.S.Source.left c.args.source.now) (g.S.Source.faults c.args.source.now) (g.S.Source.faults c.compile_source-ending.new.source) c.compile_source-ending.result.compiled c.if-ending.false c.compile_source-ending.ensures)

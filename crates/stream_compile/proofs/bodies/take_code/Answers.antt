@@ -1,7 +1,7 @@
 use Rattle.std.proofs.Common.{◌≡◌, ℕ, length, Err, subst}
 use Rattle.stream_compile.specs.Progress.{TakesBody}
 use Rattle.stream_compile.proofs.Taking.{stop_taken}
-use Rattle.stream_compile.proofs.module.take_code.Goals as goal
+use Rattle.stream_compile.proofs.bodies.take_code.Goals as goal
 
 pub returns-in-Err : goal.returns-in-Err
 returns-in-Err c =

@@ -1,0 +1,50 @@
+-- Bytes that came from a source, piece by piece, and what they settle.
+use Rattle.std.proofs.Common.{◌≡◌, ◌≤◌, ◌<◌, ◌-◌, ◌^◌, ℕ, Bool, false, true, List, [], ◌++◌, length, take, Option, Some, None, Result, Ok, Err, sym, ap, subst, ◌∙◌, arith, append_assoc}
+use Rattle.std.specs.Io.KnownBytes.{prepend_known, IsAtEnd}
+use Rattle.std.proofs.lemmas.List.{append-nil, take-append-le}
+use Rattle.wasm_defs.specs.declared.front_stop.FrontStop.{FrontStop}
+use Rattle.wasm_defs.specs.declared.front_stop.FrontStop.TheVariants.{Refused, NoMemory}
+use Rattle.io_edges.specs.Causes.{Rose}
+use Rattle.stream_compile.specs.declared.answer.Built.{Built}
+use Rattle.stream_compile.specs.declared.compilation.Compilation.{Compilation}
+use Rattle.stream_compile.specs.Progress.{Decides}
+use Rattle.stream_compile.specs.Reading.{Settles, Settled}
+use Rattle.stream_compile.specs.Streaming.{IsGoing, GoesOn}
+use Rattle.stream_compile.proofs.Settling.{settled_end, settled_fault, settled_full, settled_early}
+
+pub came_more : (came piece : List ℕ) (old new : Option (List ℕ)) → old ≡ prepend_known piece new → prepend_known came old ≡ prepend_known (came ++ piece) new
+came_more came piece old None e = ap (prepend_known came) e
+came_more came piece old (Some l) e = ap (prepend_known came) e ∙ ap (λ (x : List ℕ). Some x) (sym (append_assoc came piece l))
+
+-- the bytes of a piece, which stand at the start of the buffer
+pub piece_is : (n : ℕ) (xs ys : List ℕ) → n ≤ length xs → take n (xs ++ ys) ≡ take n xs
+piece_is n xs ys h = take-append-le n xs ys h
+
+-- what was going on goes on with the next piece
+module _ (s : Compilation) (came piece : List ℕ) (going : (more : List ℕ) → length (came ++ more) ≤ 67108869 → IsGoing (came ++ more) s more) where
+  pub going_piece : (more : List ℕ) → length ((came ++ piece) ++ more) ≤ 67108869 → IsGoing ((came ++ piece) ++ more) s (piece ++ more)
+  going_piece more few = subst (λ (l : List ℕ). IsGoing l s (piece ++ more)) (sym (append_assoc came piece more)) (going (piece ++ more) (omega (arith, few, ap length (append_assoc came piece more))))
+
+  pub going_all : length came ≤ 67108869 → IsGoing came s []
+  going_all few = subst (λ (l : List ℕ). IsGoing l s []) (append-nil came) (going [] (omega (arith, few, ap length (append-nil came))))
+
+-- ---- what is settled
+
+module _ (came : List ℕ) (old new : Option (List ℕ)) (before now : ℕ) (e : old ≡ prepend_known came new) where
+  pub early : (s : FrontStop) (state : Compilation) → now ≡ before → length came ≤ 67108869 → ((more : List ℕ) → length (came ++ more) ≤ 67108869 → GoesOn (came ++ more) (Err s) state more) → Settled false (Err s) old before now
+  early (Refused r) state same few v = settled_early came r old new before now e same few v
+  early NoMemory state same few v = tt
+
+  whole : (failed : Bool) (r : Result Built FrontStop) → Settles came failed old before now → Decides came r → Settled failed r old before now
+  whole failed (Ok built) s d = (came, s, d)
+  whole failed (Err (Refused r)) s d = (came, s, d)
+  whole failed (Err NoMemory) s d = tt
+
+  pub at_end : (r : Result Built FrontStop) → IsAtEnd new → now ≡ before → Decides came r → Settled false r old before now
+  at_end r end same d = whole false r (settled_end came old new before now e end same) d
+
+  pub at_fault : (r : Result Built FrontStop) → before < 2 ^ 64 - 1 → Rose before now → Decides came r → Settled true r old before now
+  at_fault r few rose d = whole true r (settled_fault came old new before now few e rose) d
+
+  pub at_limit : (r : Result Built FrontStop) → 67108869 ≤ length came → now ≡ before → Decides came r → Settled false r old before now
+  at_limit r le same d = whole false r (settled_full came old new before now e le same) d

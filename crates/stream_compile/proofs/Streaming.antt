@@ -1,0 +1,490 @@
+-- A module whose bytes come: what each step leaves.
+use Rattle.std.specs.Prelude.{◌⊎◌, IsSome, is_some}
+use Rattle.std.proofs.lemmas.List.{append-nil, nil_from_length}
+use Rattle.std.proofs.Common.{◌≡◌, ℕ, ◌+◌, ◌^◌, ◌≤◌, ◌<◌, inl, inr, true, false, List, [], ◌∷◌, ◌++◌, length, drop, Option, Some, None, Err, refl, sym, ap, subst, ◌∙◌, arith, length-append, length-drop}
+use Rattle.rv_isa.specs.declared.compiled.Code.{Code}
+use Rattle.wasm_defs.specs.declared.fault.Refusal.{Refusal}
+use Rattle.wasm_defs.specs.declared.item.Item.{Item}
+use Rattle.wasm_defs.specs.declared.item.Item.TheVariants as item
+use Rattle.wasm_defs.specs.Supported.{is_compiled_section}
+use Rattle.wasm_defs.specs.Faults.{first_outside, ending_fault, sections_of, unsupported_at, Rejected}
+use Rattle.wasm_defs.specs.Outside.{Part, Listed, Run, Ending, Whole, Refused, Owed, after_part, ends, sections, no_end, module_run}
+use Rattle.index_spaces.specs.Spaces.{Spaces, spaces_of, with_item}
+use Rattle.section_reader.specs.declared.front.Front.{Front}
+use Rattle.section_reader.specs.declared.steps.Steps.{Steps}
+use Rattle.section_reader.specs.declared.stage.Stage.{Stage}
+use Rattle.section_reader.specs.declared.stage.Stage.TheVariants as stage
+use Rattle.section_reader.specs.Stages.{is_at_bodies, prepend}
+use Rattle.section_reader.specs.Onward.{after_parts, AreSections, outside_of, first_begun}
+use Rattle.section_reader.specs.FrontLeft.{total, can_skip}
+use Rattle.section_reader.specs.FrontOnward.{onward_left, begun, Told, FedOnward, ToldRefused, Follows, BodiesCome, EndsOnward}
+use Rattle.wasm_defs.specs.Entries.{Seen}
+use Rattle.body_cutter.specs.Sections.{bodies_from}
+use Rattle.body_cutter.specs.Sections as cut
+use Rattle.body_cutter.specs.Places.{Place}
+use Rattle.body_cutter.specs.Cuttings.{Cutting, Handed, left, handed, no_batch, is_whole, IsFed, IsRefused, Ends}
+use Rattle.image_linker.specs.Judging.{IsVerdictOf}
+use Rattle.stream_compile.specs.declared.compilation.Compilation.{Compilation}
+use Rattle.stream_compile.specs.CutBodies.{coded_all, cut_run, sections_behind}
+use Rattle.wasm_defs.specs.declared.fault.Kind.TheVariants.{Ended}
+use Rattle.wasm_defs.specs.declared.front_stop.FrontStop.{FrontStop}
+use Rattle.wasm_defs.specs.declared.front_stop.FrontStop.TheVariants as stop
+use Rattle.stream_compile.specs.Progress.{IsJudging, TakesPart, Decides}
+use Rattle.stream_compile.specs.Streaming.{mode_weight, work_left, left_of, IsOutside, IsInside, IsPlaced, IsGoing, IsTaking, IsWaiting, TakesBatches, TakesItem, Advances, GoesOn, with_cutter, earliest}
+use Rattle.stream_compile.proofs.CutRuns.{after_append, entries_cut, handed_run}
+use Rattle.stream_compile.proofs.Cutting.{run_fed, count_fed, whole_run, whole_at, refused_run, ended_run, prompt_on, rest_run, split_rest, rest_is}
+use Rattle.stream_compile.proofs.Compiled.{begins, after_item, is_refused}
+use Rattle.stream_compile.proofs.Taking.{judging_on}
+use Rattle.stream_compile.proofs.Judging.{few_functions, few_imports}
+use Rattle.stream_compile.proofs.CodeEnds.{code_ends}
+use Rattle.stream_compile.proofs.Told.{sections_append, first_more, sections_taken, outside_decides, outside_ends, sections_end}
+
+-- ---- what came is right but for the sections that were begun
+
+-- and this is left
+pub record IsRight (bytes : List ℕ) (f : Front) (run : Run) (spaces : Spaces) (codes : List Code) (words : ℕ) : Type 0 where
+  pub few : length bytes ≤ 67108869
+  pub told : List Part
+  pub sections : AreSections told
+  pub first : outside_of f.steps.uncompiled [] ≡ first_outside is_compiled_section (sections_of told)
+  pub judging : IsJudging bytes (after_parts told run) spaces codes words
+
+pub record IsReading (bytes : List ℕ) (f : Front) (spaces : Spaces) (codes : List Code) (words : ℕ) (more : List ℕ) : Type 0 where
+  pub right : IsRight bytes f (onward_left f more) spaces codes words
+  pub place : IsOutside f (length bytes) more
+
+pub record IsCutting (bytes : List ℕ) (f : Front) (c : Cutting) (spaces : Spaces) (codes : List Code) (words : ℕ) (more : List ℕ) : Type 0 where
+  pub few : length bytes ≤ 67108869
+  pub none : outside_of f.steps.uncompiled [] ≡ None
+  pub judging : IsJudging bytes (cut_run (left c more) (sections_behind f.steps.seen c.place.at c.place.end more)) spaces codes words
+  pub skips : can_skip f c.place.end ≡ true
+  pub count : c.place.at + length more ≡ length bytes
+
+module _ (bytes : List ℕ) (s : Compilation) (more : List ℕ) where
+  pub reading_of : s.cutter ≡ None → IsGoing bytes s more → IsReading bytes s.front s.spaces s.codes.items s.words more
+  reading_of e g = record {
+    right = record { few = g.few; told = g.told; sections = g.sections; first = g.first; judging = subst (λ (o : Option Cutting). IsJudging bytes (after_parts g.told (left_of s.front o more)) s.spaces s.codes.items s.words) e g.judging };
+    place = subst (λ (o : Option Cutting). IsPlaced s.front o g.told (length bytes) more) e g.place;
+  }
+
+  pub going_reading : s.cutter ≡ None → IsReading bytes s.front s.spaces s.codes.items s.words more → IsGoing bytes s more
+  going_reading e r = record {
+    few = r.right.few;
+    told = r.right.told;
+    sections = r.right.sections;
+    first = r.right.first;
+    judging = subst (λ (o : Option Cutting). IsJudging bytes (after_parts r.right.told (left_of s.front o more)) s.spaces s.codes.items s.words) (sym e) r.right.judging;
+    place = subst (λ (o : Option Cutting). IsPlaced s.front o r.right.told (length bytes) more) (sym e) r.place;
+  }
+
+  module _ (c : Cutting) (e : s.cutter ≡ Some c) where
+    pub cutting_of : IsGoing bytes s more → IsCutting bytes s.front c s.spaces s.codes.items s.words more
+    cutting_of g =
+        let place : IsInside s.front c g.told (length bytes) more = subst (λ (o : Option Cutting). IsPlaced s.front o g.told (length bytes) more) e g.place in
+        let judging : IsJudging bytes (after_parts g.told (left_of s.front (Some c) more)) s.spaces s.codes.items s.words = subst (λ (o : Option Cutting). IsJudging bytes (after_parts g.told (left_of s.front o more)) s.spaces s.codes.items s.words) e g.judging in
+        record {
+          few = g.few;
+          none = g.first ∙ ap (λ (l : List Part). first_outside is_compiled_section (sections_of l)) place.none;
+          judging = subst (λ (l : List Part). IsJudging bytes (after_parts l (left_of s.front (Some c) more)) s.spaces s.codes.items s.words) place.none judging;
+          skips = place.skips;
+          count = place.count;
+        }
+
+    pub going_cutting : IsCutting bytes s.front c s.spaces s.codes.items s.words more → IsGoing bytes s more
+    going_cutting k = record {
+      few = k.few;
+      told = [];
+      sections = tt;
+      first = k.none;
+      judging = subst (λ (o : Option Cutting). IsJudging bytes (left_of s.front o more) s.spaces s.codes.items s.words) (sym e) k.judging;
+      place = subst (λ (o : Option Cutting). IsPlaced s.front o [] (length bytes) more) (sym e) (record { none = refl; skips = k.skips; count = k.count });
+    }
+
+-- ---- before the first byte
+
+pub reading_begins : (bytes : List ℕ) (f : Front) (spaces : Spaces) → length bytes ≤ 67108869 → onward_left f bytes ≡ module_run bytes → total f ≡ 0 → is_at_bodies f.steps.stage ≡ false → f.steps.uncompiled ≡ None → f.waiting ≡ None → spaces ≡ spaces_of []
+    → IsReading bytes f spaces [] 0 bytes
+reading_begins bytes f spaces few is none apart first idle empty = record {
+  right = record { few = few; told = []; sections = tt; first = ap (λ (o : Option ℕ). outside_of o []) first; judging = begins bytes (onward_left f bytes) spaces is empty };
+  place = record { idle = idle; outside = apart; count = omega (arith, none) };
+}
+
+-- ---- bytes outside the bodies
+
+length_left : (n : ℕ) (xs : List ℕ) → n ≤ length xs → n + length (drop n xs) ≡ length xs
+length_left n xs h = omega (arith, length-drop n xs)
+
+module _ (bytes : List ℕ) (f g h : Front) (spaces : Spaces) (codes : List Code) (words : ℕ) (piece more : List ℕ) (taken : ℕ) (few : taken ≤ length piece) (fed : FedOnward f piece taken g) (item : Option Item)
+    (same : (later : List ℕ) → onward_left g later ≡ prepend item (onward_left h later)) (steps : h.steps ≡ g.steps) (count : total h ≡ total g) where
+  abbrev pub later : List ℕ
+  later = drop taken piece ++ more
+
+  pub right_fed : IsReading bytes f spaces codes words (piece ++ more) → IsRight bytes h (prepend item (onward_left h later)) spaces codes words
+  right_fed r =
+      let t : Told f piece taken g = fed.told r.place.outside in
+      record {
+        few = r.right.few;
+        told = r.right.told ++ t.told;
+        sections = sections_append r.right.told t.told r.right.sections t.sections;
+        first = ap (λ (s : Steps). outside_of s.uncompiled []) steps ∙ first_more r.right.told t.told f.steps.uncompiled g.steps.uncompiled r.right.first t.first;
+        judging = judging_on bytes (after_parts r.right.told (onward_left f (piece ++ more))) (after_parts (r.right.told ++ t.told) (prepend item (onward_left h later))) spaces codes words
+            (ap (after_parts r.right.told) (t.run more ∙ ap (after_parts t.told) (same later)) ∙ sym (after_append r.right.told t.told (prepend item (onward_left h later))))
+            r.right.judging;
+      }
+
+  pub count_later : IsReading bytes f spaces codes words (piece ++ more) → total h + length later ≡ length bytes
+  count_later r = omega (arith, r.place.count, count, fed.count, few, length-append piece more, length-append (drop taken piece) more, length_left taken piece few)
+
+-- no item is whole
+pub reading_on : (bytes : List ℕ) (f g h : Front) (spaces : Spaces) (codes : List Code) (words : ℕ) (piece more : List ℕ) (taken : ℕ) → taken ≤ length piece → FedOnward f piece taken g
+    → ((later : List ℕ) → onward_left g later ≡ onward_left h later) → h.steps ≡ g.steps → total h ≡ total g → g.waiting ≡ None → h.waiting ≡ None
+    → IsReading bytes f spaces codes words (piece ++ more) → IsReading bytes h spaces codes words (drop taken piece ++ more)
+reading_on bytes f g h spaces codes words piece more taken few fed same steps count none idle r = record {
+  right = right_fed bytes f g h spaces codes words piece more taken few fed None same steps count r;
+  place = record {
+    idle = idle;
+    outside = ap (λ (s : Steps). is_at_bodies s.stage) steps ∙ fed.apart r.place.outside none;
+    count = count_later bytes f g h spaces codes words piece more taken few fed None same steps count r;
+  };
+}
+
+-- where an item waits all ids that came are of sections whose headers were read
+known_at : (p : Stage) (first : Option ℕ) (at : ℕ) → first_begun p first at [] ≡ first
+known_at stage.Preamble first at = refl
+known_at stage.Between first at = refl
+known_at (stage.Contents id) first at = refl
+known_at (stage.Entries id n) first at = refl
+
+pub all_known : (f : Front) (x : Item) → f.waiting ≡ Some x → begun f ≡ f.steps.uncompiled
+all_known f x e =
+    let alone = f.alone (ap is_some e) in
+    let kept : f.kept.items ≡ [] = nil_from_length f.kept.items alone.0 in
+    rw (alone.1, kept) (known_at f.steps.stage f.steps.uncompiled f.at)
+
+-- ---- faults outside bodies
+
+-- these sections were begun, and the module ends so
+module _ (bytes : List ℕ) (spaces : Spaces) (codes : List Code) (words : ℕ) (told : List Part) (ending : Ending) (are : AreSections told) where
+  pub ends_at : (first : Option ℕ) (e : Refusal) → outside_of first [] ≡ first_outside is_compiled_section (sections_of told) → ending_fault (length bytes) ending ≡ Some e → IsJudging bytes (after_parts told (ends ending)) spaces codes words → IsVerdictOf bytes (Rejected (earliest first e))
+  ends_at None e first is j = sections_end bytes spaces codes words told ending e are (sym first) is j
+  ends_at (Some at) e first is j = outside_ends bytes spaces codes words told ending (Some e) (unsupported_at at) are (sym first) is j
+
+pub refused_reading : (bytes : List ℕ) (f g : Front) (spaces : Spaces) (codes : List Code) (words : ℕ) (piece more : List ℕ) (r : Refusal) → ToldRefused f piece r g → IsReading bytes f spaces codes words (piece ++ more) → IsVerdictOf bytes (Rejected (earliest (begun g) r))
+refused_reading bytes f g spaces codes words piece more r t p =
+    let told = p.right.told ++ t.told in
+    ends_at bytes spaces codes words told (Refused r) (sections_append p.right.told t.told p.right.sections t.sections) (begun g) r (first_more p.right.told t.told f.steps.uncompiled (begun g) p.right.first t.first) refl
+    (judging_on bytes (after_parts p.right.told (onward_left f (piece ++ more))) (after_parts told (ends (Refused r))) spaces codes words (ap (after_parts p.right.told) (t.run more) ∙ sym (after_append p.right.told t.told (ends (Refused r)))) p.right.judging)
+
+-- ---- the bytes end outside the bodies
+
+whole_of : (len : ℕ) (ending : Ending) → ending_fault len ending ≡ None → (seen : Seen) × (ending ≡ Whole seen)
+whole_of len (Whole seen) e = (seen, refl)
+whole_of len (Refused r) e = absurd cc
+whole_of len Owed e = absurd cc
+
+module _ (bytes : List ℕ) (f : Front) (spaces : Spaces) (codes : List Code) (words : ℕ) (fault : Option Refusal) (t : EndsOnward f fault) (p : IsReading bytes f spaces codes words []) where
+  abbrev all_told : List Part
+  all_told = p.right.told ++ t.told
+
+  are_told : AreSections all_told
+  are_told = sections_append p.right.told t.told p.right.sections t.sections
+
+  first_told : outside_of (begun f) [] ≡ first_outside is_compiled_section (sections_of all_told)
+  first_told = first_more p.right.told t.told f.steps.uncompiled (begun f) p.right.first t.first
+
+  judging_told : IsJudging bytes (after_parts all_told (ends t.ending)) spaces codes words
+  judging_told = judging_on bytes (after_parts p.right.told (onward_left f [])) (after_parts all_told (ends t.ending)) spaces codes words (ap (after_parts p.right.told) t.run ∙ sym (after_append p.right.told t.told (ends t.ending))) p.right.judging
+
+  all_read : total f ≡ length bytes
+  all_read = omega (arith, p.place.count)
+
+  fault_is : ending_fault (length bytes) t.ending ≡ fault
+  fault_is = ap (λ (n : ℕ). ending_fault n t.ending) (sym all_read) ∙ t.fault
+
+  pub end_refused : (e : Refusal) → fault ≡ Some e → IsVerdictOf bytes (Rejected (earliest (begun f) e))
+  end_refused e is = ends_at bytes spaces codes words all_told t.ending are_told (begun f) e first_told (fault_is ∙ is) judging_told
+
+  pub end_outside : (at : ℕ) → fault ≡ None → begun f ≡ Some at → IsVerdictOf bytes (Rejected (unsupported_at at))
+  end_outside at is e = outside_ends bytes spaces codes words all_told t.ending None (unsupported_at at) are_told (sym first_told ∙ ap (λ (o : Option ℕ). outside_of o []) e) (fault_is ∙ is) judging_told
+
+  pub end_whole : fault ≡ None → begun f ≡ None → (seen : Seen) × IsJudging bytes (ends (Whole seen)) spaces codes words
+  end_whole is e =
+      let w = whole_of (length bytes) t.ending (fault_is ∙ is) in
+      let j = sections_taken bytes spaces codes words all_told (ends t.ending) are_told (sym first_told ∙ ap (λ (o : Option ℕ). outside_of o []) e) judging_told in
+      (w.0, judging_on bytes (ends t.ending) (ends (Whole w.0)) spaces codes words (ap ends w.1) j)
+
+-- ---- items
+
+module _ (bytes : List ℕ) (s : Compilation) (x : Item) (more : List ℕ) (t : IsTaking bytes s x more) where
+  first_item : (o : Option ℕ) → begun s.front ≡ o → outside_of o [] ≡ first_outside is_compiled_section (sections_of t.told)
+  first_item o e = ap (λ (p : Option ℕ). outside_of p []) (sym e ∙ t.known) ∙ t.first
+
+  pub item_outside : (at : ℕ) → begun s.front ≡ Some at → IsVerdictOf bytes (Rejected (unsupported_at at))
+  item_outside at e = outside_decides bytes s.spaces s.codes.items s.words t.told (after_part (Listed x) (onward_left s.front more)) (unsupported_at at) t.sections (sym (first_item (Some at) e)) (omega arith) t.judging
+
+  module _ (inside : begun s.front ≡ None) where
+    pub item_next : IsJudging bytes (after_part (Listed x) (onward_left s.front more)) s.spaces s.codes.items s.words
+    item_next = sections_taken bytes s.spaces s.codes.items s.words t.told (after_part (Listed x) (onward_left s.front more)) t.sections (sym (first_item None inside)) t.judging
+
+    pub item_judged : (later : Spaces) → later ≡ with_item s.spaces x → IsJudging bytes (onward_left s.front more) later s.codes.items s.words
+    item_judged later is = after_item bytes (onward_left s.front more) s.codes.items s.words s.spaces later x item_next is
+
+    none_met : outside_of s.front.steps.uncompiled [] ≡ None
+    none_met = ap (λ (o : Option ℕ). outside_of o []) (sym t.known ∙ inside)
+
+    -- no bodies come
+    pub item_reading : (later : Spaces) → later ≡ with_item s.spaces x → is_at_bodies s.front.steps.stage ≡ false → IsReading bytes s.front later s.codes.items s.words more
+    item_reading later is apart = record {
+      right = record { few = t.few; told = []; sections = tt; first = none_met; judging = item_judged later is };
+      place = record { idle = t.idle; outside = apart; count = t.count };
+    }
+
+    -- the bodies come
+    pub item_cutting : (later : Spaces) (c : Cutting) (count end : ℕ) → later ≡ with_item s.spaces x → BodiesCome count end s.front
+        → ((rest : List ℕ) → onward_left s.front rest ≡ cut_run (left c rest) (sections_behind s.front.steps.seen c.place.at c.place.end rest)) → c.place.at ≡ total s.front → c.place.end ≡ end
+        → IsCutting bytes s.front c later s.codes.items s.words more
+    item_cutting later c count end is come run at ends = record {
+      few = t.few;
+      none = none_met;
+      judging = judging_on bytes (onward_left s.front more) (cut_run (left c more) (sections_behind s.front.steps.seen c.place.at c.place.end more)) later s.codes.items s.words (run more) (item_judged later is);
+      skips = subst (λ (n : ℕ). can_skip s.front n ≡ true) (sym ends) come.skip;
+      count = omega (arith, at, t.count);
+    }
+
+-- the bodies, by the cutter
+pub bodies_cut : (f : Front) (c : Cutting) (index count end least : ℕ) → BodiesCome count end f
+    → ((rest : List ℕ) → left c rest ≡ handed (no_batch least) (bodies_from index count (record { at = total f; rest = rest; end = end }))) → c.place.at ≡ total f → c.place.end ≡ end
+    → (rest : List ℕ) → onward_left f rest ≡ cut_run (left c rest) (sections_behind f.steps.seen c.place.at c.place.end rest)
+bodies_cut f c index count end least come is at ends rest =
+    let g = bodies_from index count (record { at = total f; rest = rest; end = end }) in
+    come.run rest
+    ∙ entries_cut count index f.steps.seen come.counted (record { at = total f; rest = rest; end = end }) come.ahead
+    ∙ sym (handed_run least g (sections_behind f.steps.seen (total f) end rest))
+    ∙ ap (λ (h : Handed). cut_run h (sections_behind f.steps.seen (total f) end rest)) (sym (is rest))
+    ∙ ap (λ (n : ℕ). cut_run (left c rest) (sections_behind f.steps.seen n end rest)) (sym at)
+    ∙ ap (λ (n : ℕ). cut_run (left c rest) (sections_behind f.steps.seen c.place.at n rest)) (sym ends)
+
+-- behind an item other than the code section's count the bodies don't come
+pub not_bodies : (x : Item) (f : Front) → ((count : ℕ × ℕ) (end : ℕ) → x ≡ item.Code count end → ⊥) → Follows x f → is_at_bodies f.steps.stage ≡ false
+not_bodies (item.Code count end) f none h = absurd (none count end refl)
+not_bodies (item.Signature form params results ty) f none h = h
+not_bodies (item.Imported from what kind type_index) f none h = h
+not_bodies (item.Function type_index) f none h = h
+not_bodies (item.Table element limits) f none h = h
+not_bodies (item.Memory limits) f none h = h
+not_bodies (item.Global ty mutable init) f none h = h
+not_bodies (item.Exported label kind index) f none h = h
+not_bodies (item.Start index) f none h = h
+not_bodies (item.Element table place functions) f none h = h
+not_bodies (item.Segment memory place bytes) f none h = h
+
+-- the bodies may begin
+pub may_begin : (bytes : List ℕ) (s : Compilation) (count : ℕ × ℕ) (end : ℕ) (more : List ℕ) (t : IsTaking bytes s (item.Code count end) more) (inside : begun s.front ≡ None) (later : Spaces) → later ≡ with_item s.spaces (item.Code count end)
+    → (length later.functions < 2 ^ 32) × (later.imported + count.1 < 2 ^ 32) × (total s.front ≤ end) × (end < 2 ^ 60)
+may_begin bytes s count end more t inside later is =
+    let run = onward_left s.front more in
+    let j = item_judged bytes s (item.Code count end) more t inside later is in
+    let functions = few_functions bytes run later (length s.codes.items) j.judged in
+    let imports = few_imports bytes run later (length s.codes.items) j.judged in
+    let next = item_next bytes s (item.Code count end) more t inside in
+    let near = code_ends bytes next.judged.front run.parts count end next.judged.parts in
+    (omega (arith, t.few), omega (arith, t.few, t.follows.few, t.count), t.follows.ahead, omega arith)
+
+-- ---- each step lessens what is left
+
+pub shorter : (taken : ℕ) (piece : List ℕ) → taken ≤ length piece → length (drop taken piece) ≤ length piece
+shorter taken piece few = omega (arith, length-drop taken piece)
+
+parts_told : (told : List Part) (r : Run) → length (after_parts told r).parts ≡ length told + length r.parts
+parts_told [] r = omega arith
+parts_told (x ∷ told) r = omega (arith, parts_told told r)
+
+module _ (f g h : Front) (piece : List ℕ) (taken : ℕ) (few : taken ≤ length piece) (t : Told f piece taken g) (item : Option Item)
+    (same : (later : List ℕ) → onward_left g later ≡ prepend item (onward_left h later)) where
+  run_is : onward_left f piece ≡ after_parts t.told (prepend item (onward_left h (drop taken piece)))
+  run_is =
+      ap (onward_left f) (sym (append-nil piece))
+      ∙ t.run []
+      ∙ ap (λ (l : List ℕ). after_parts t.told (onward_left g l)) (append-nil (drop taken piece))
+      ∙ ap (after_parts t.told) (same (drop taken piece))
+
+  pub parts_are : length (onward_left f piece).parts ≡ length t.told + length (prepend item (onward_left h (drop taken piece))).parts
+  parts_are = ap (λ (r : Run). length r.parts) run_is ∙ parts_told t.told (prepend item (onward_left h (drop taken piece)))
+
+mode_is_small : (o : Option Cutting) → mode_weight o ≤ 1
+mode_is_small None = omega arith
+mode_is_small (Some c) = omega arith
+
+pub less_item : (old new : Compilation) (g h : Front) (x : Item) (piece : List ℕ) (taken : ℕ) → old.cutter ≡ None → taken ≤ length piece → Told old.front piece taken g → ((later : List ℕ) → onward_left g later ≡ prepend (Some x) (onward_left h later))
+    → ((later : List ℕ) → onward_left h later ≡ left_of new.front new.cutter later) → work_left new (drop taken piece) < work_left old piece
+less_item old new g h x piece taken none few t same took =
+    let there : length (left_of old.front old.cutter piece).parts ≡ length (onward_left old.front piece).parts = ap (λ (o : Option Cutting). length (left_of old.front o piece).parts) none in
+    let here : length (left_of new.front new.cutter (drop taken piece)).parts ≡ length (onward_left h (drop taken piece)).parts = sym (ap (λ (r : Run). length r.parts) (took (drop taken piece))) in
+    omega (arith, there, here, parts_are old.front g h piece taken few t (Some x) same, mode_is_small new.cutter, shorter taken piece few)
+
+pub less_none : (old new : Compilation) (g h : Front) (piece : List ℕ) (taken : ℕ) → old.cutter ≡ None → new.cutter ≡ None → new.front ≡ h → taken ≡ length piece → 0 < length piece → Told old.front piece taken g
+    → ((later : List ℕ) → onward_left g later ≡ onward_left h later) → work_left new (drop taken piece) < work_left old piece
+less_none old new g h piece taken none still front all some t same =
+    let few : taken ≤ length piece = omega arith in
+    let there : length (left_of old.front old.cutter piece).parts ≡ length (onward_left old.front piece).parts = ap (λ (o : Option Cutting). length (left_of old.front o piece).parts) none in
+    let here : length (left_of new.front new.cutter (drop taken piece)).parts ≡ length (onward_left h (drop taken piece)).parts = ap (λ (o : Option Cutting). length (left_of new.front o (drop taken piece)).parts) still ∙ ap (λ (k : Front). length (onward_left k (drop taken piece)).parts) front in
+    let mode : mode_weight new.cutter ≡ 0 = ap mode_weight still in
+    omega (arith, there, here, mode, parts_are old.front g h piece taken few t None same, length-drop taken piece)
+
+-- ---- bytes among the bodies
+
+module _ (bytes : List ℕ) (f : Front) (old mid : Cutting) (spaces : Spaces) (codes : List Code) (words : ℕ) (piece more : List ℕ) (k : IsCutting bytes f old spaces codes words (piece ++ more)) where
+  -- the closed batches come next
+  pub fed_judging : (taken : ℕ) → IsFed old piece taken mid → IsJudging bytes (after_parts (coded_all mid.queue.closed) (rest_run f.steps.seen mid (drop taken piece ++ more))) spaces codes words
+  fed_judging taken fed =
+      judging_on bytes (cut_run (left old (piece ++ more)) (sections_behind f.steps.seen old.place.at old.place.end (piece ++ more))) (after_parts (coded_all mid.queue.closed) (rest_run f.steps.seen mid (drop taken piece ++ more))) spaces codes words
+      (run_fed old mid piece taken fed f.steps.seen more ∙ split_rest f.steps.seen mid (drop taken piece ++ more)) k.judging
+
+  -- and then the section's fault
+  pub refused_judging : (r : Refusal) → IsRefused old piece r mid → IsJudging bytes (after_parts (coded_all mid.queue.closed) (ends (Refused r))) spaces codes words
+  refused_judging r refused =
+      judging_on bytes (cut_run (left old (piece ++ more)) (sections_behind f.steps.seen old.place.at old.place.end (piece ++ more))) (after_parts (coded_all mid.queue.closed) (ends (Refused r))) spaces codes words
+      (refused_run old mid piece more r (sections_behind f.steps.seen old.place.at old.place.end (piece ++ more)) refused) k.judging
+
+-- no part is left, and the module is refused so
+pub refused_at : (bytes : List ℕ) (spaces : Spaces) (codes : List Code) (words : ℕ) (ending : Ending) (r : Refusal) → ending_fault (length bytes) ending ≡ Some r → IsJudging bytes (ends ending) spaces codes words → IsVerdictOf bytes (Rejected r)
+refused_at bytes spaces codes words ending r is j = is_refused bytes (ends ending) spaces codes words (length bytes) r j refl refl is
+
+-- the bodies that were closed are taken
+module _ (bytes : List ℕ) (f : Front) (old mid new : Cutting) (spaces : Spaces) (codes : List Code) (words : ℕ) (piece more : List ℕ) (taken : ℕ) (fed : IsFed old piece taken mid)
+    (place : new.place ≡ mid.place) (closed : new.queue.closed ≡ []) (begun_same : new.queue.begun ≡ mid.queue.begun) where
+  abbrev behind_piece : List ℕ
+  behind_piece = drop taken piece ++ more
+
+  judged_run : (later : List ℕ) → rest_run f.steps.seen mid later ≡ cut_run (left new later) (sections_behind f.steps.seen new.place.at new.place.end later)
+  judged_run later = rest_is f.steps.seen mid new later place closed begun_same
+
+  at_same : new.place.at ≡ mid.place.at
+  at_same = ap (λ (p : Place). p.at) place
+
+  end_same : new.place.end ≡ old.place.end
+  end_same = ap (λ (p : Place). p.end) place ∙ fed.place.1
+
+  pub cutting_on : outside_of f.steps.uncompiled [] ≡ None → can_skip f old.place.end ≡ true → length bytes ≤ 67108869 → old.place.at + length (piece ++ more) ≡ length bytes → IsJudging bytes (rest_run f.steps.seen mid behind_piece) spaces codes words
+      → IsCutting bytes f new spaces codes words behind_piece
+  cutting_on none skips few count j = record {
+    few = few;
+    none = none;
+    judging = judging_on bytes (rest_run f.steps.seen mid behind_piece) (cut_run (left new behind_piece) (sections_behind f.steps.seen new.place.at new.place.end behind_piece)) spaces codes words (judged_run behind_piece) j;
+    skips = subst (λ (n : ℕ). can_skip f n ≡ true) (sym end_same) skips;
+    count = ap (λ (n : ℕ). n + length behind_piece) at_same ∙ count_fed old mid piece taken fed (length bytes) more count;
+  }
+
+  pub waiting_on : is_whole new ≡ false → IsWaiting new
+  waiting_on owed = record {
+    going = ap (λ (p : Place). p.stop) place ∙ fed.going;
+    owed = owed;
+    taken = closed;
+    prompt = prompt_on mid new fed.prompt.queue place;
+  }
+
+  cut_parts : length (cut_run (left old piece) (sections_behind f.steps.seen old.place.at old.place.end piece)).parts ≡ length (coded_all mid.queue.closed) + length (rest_run f.steps.seen mid (drop taken piece)).parts
+  cut_parts =
+      ap (λ (l : List ℕ). length (cut_run (left old l) (sections_behind f.steps.seen old.place.at old.place.end l)).parts) (sym (append-nil piece))
+      ∙ ap (λ (r : Run). length r.parts) (run_fed old mid piece taken fed f.steps.seen [])
+      ∙ ap (λ (l : List ℕ). length (cut_run (left mid l) (sections_behind f.steps.seen mid.place.at mid.place.end l)).parts) (append-nil (drop taken piece))
+      ∙ ap (λ (r : Run). length r.parts) (split_rest f.steps.seen mid (drop taken piece))
+      ∙ parts_told (coded_all mid.queue.closed) (rest_run f.steps.seen mid (drop taken piece))
+
+  -- the section is whole
+  module _ (g : Front) (whole : is_whole new ≡ true) (is : (later : List ℕ) → left new later ≡ record { queue = new.queue; ending = cut.Whole }) (skipped : (later : List ℕ) → onward_left g later ≡ sections f.steps.seen (record { at = new.place.end; rest = later; end = no_end })) where
+    skipped_run : (later : List ℕ) → rest_run f.steps.seen mid later ≡ onward_left g later
+    skipped_run later = judged_run later ∙ whole_run f.steps.seen new later whole (is later) closed ∙ sym (skipped later)
+
+    pub reading_behind : outside_of f.steps.uncompiled [] ≡ None → length bytes ≤ 67108869 → old.place.at + length (piece ++ more) ≡ length bytes → IsJudging bytes (rest_run f.steps.seen mid behind_piece) spaces codes words
+        → g.steps.stage ≡ stage.Between → g.steps.uncompiled ≡ f.steps.uncompiled → total g ≡ new.place.end → g.waiting ≡ None → IsReading bytes g spaces codes words behind_piece
+    reading_behind none few count j between same all idle = record {
+      right = record {
+        few = few;
+        told = [];
+        sections = tt;
+        first = ap (λ (o : Option ℕ). outside_of o []) same ∙ none;
+        judging = judging_on bytes (rest_run f.steps.seen mid behind_piece) (onward_left g behind_piece) spaces codes words (skipped_run behind_piece) j;
+      };
+      place = record {
+        idle = idle;
+        outside = ap is_at_bodies between;
+        count = omega (arith, all, whole_at new whole, at_same, count_fed old mid piece taken fed (length bytes) more count);
+      };
+    }
+
+    pub less_whole : length (onward_left g (drop taken piece)).parts ≤ length (cut_run (left old piece) (sections_behind f.steps.seen old.place.at old.place.end piece)).parts
+    less_whole = omega (arith, ap (λ (r : Run). length r.parts) (skipped_run (drop taken piece)), cut_parts)
+
+  pub less_cut : length (cut_run (left new (drop taken piece)) (sections_behind f.steps.seen new.place.at new.place.end (drop taken piece))).parts ≤ length (cut_run (left old piece) (sections_behind f.steps.seen old.place.at old.place.end piece)).parts
+  less_cut = omega (arith, cut_parts, ap (λ (r : Run). length r.parts) (judged_run (drop taken piece)))
+
+-- ---- faults of bodies
+
+pub fault_batches : (bytes : List ℕ) (s : FrontStop) (run : Run) (spaces : Spaces) (codes : List Code) (state : Compilation) → TakesPart bytes (Err s) run spaces codes → TakesBatches bytes (Err s) run state
+fault_batches bytes (stop.Refused r) run spaces codes state h = h
+fault_batches bytes stop.NoMemory run spaces codes state h = tt
+
+pub fault_advances : (bytes piece : List ℕ) (s : FrontStop) (run : Run) (state : Compilation) (more : List ℕ) → TakesBatches bytes (Err s) run state → Advances bytes piece (Err s) state more
+fault_advances bytes piece (stop.Refused r) run state more h = h
+fault_advances bytes piece stop.NoMemory run state more h = tt
+
+pub fault_decides : (bytes : List ℕ) (s : FrontStop) (run : Run) (state : Compilation) → TakesBatches bytes (Err s) run state → Decides bytes (Err s)
+fault_decides bytes (stop.Refused r) run state h = h
+fault_decides bytes stop.NoMemory run state h = tt
+
+pub going_decides : (bytes : List ℕ) (s : FrontStop) (state : Compilation) (more : List ℕ) → GoesOn bytes (Err s) state more → Decides bytes (Err s)
+going_decides bytes (stop.Refused r) state more h = h
+going_decides bytes stop.NoMemory state more h = tt
+
+pub item_advances : (bytes piece : List ℕ) (s : FrontStop) (old state later : Compilation) (more next : List ℕ) → TakesItem bytes old (Err s) state more → Advances bytes piece (Err s) later next
+item_advances bytes piece (stop.Refused r) old state later more next h = h
+item_advances bytes piece stop.NoMemory old state later more next h = tt
+
+-- ---- the bytes end among the bodies
+
+stops_not : (old : Cutting) (r : Refusal) → old.place.stop ≡ None → old.place.stop ≡ Some r → ⊥
+stops_not old r e f = let t : None ≡ Some r = sym e ∙ f in absurd cc
+
+pub ended_judging : (bytes : List ℕ) (f : Front) (old new : Cutting) (spaces : Spaces) (codes : List Code) (words : ℕ) (s : FrontStop) → IsCutting bytes f old spaces codes words [] → IsWaiting old → Ends old (Err s) new
+    → IsJudging bytes (after_parts (coded_all new.queue.closed) (ends Owed)) spaces codes words × (s ≡ stop.Refused (record { offset = length bytes; kind = Ended }))
+ended_judging bytes f old new spaces codes words (stop.Refused r) k w (inl e) = absurd (stops_not old r w.going e.0)
+ended_judging bytes f old new spaces codes words (stop.Refused r) k w (inr e) =
+    let count : old.place.at ≡ length bytes = omega (arith, k.count) in (
+      judging_on bytes (cut_run (left old []) (sections_behind f.steps.seen old.place.at old.place.end [])) (after_parts (coded_all new.queue.closed) (ends Owed)) spaces codes words
+          (ended_run old new (sections_behind f.steps.seen old.place.at old.place.end []) w.prompt e.owed e.closed) k.judging,
+      ap (λ (x : Refusal). stop.Refused x) (e.fault ∙ ap (λ (n : ℕ). record { offset = n; kind = Ended }) count),
+    )
+ended_judging bytes f old new spaces codes words stop.NoMemory k w e = absurd e
+
+-- with the cutter taken out and put back
+pub taken_out : (bytes : List ℕ) (s t : Compilation) (c : Cutting) (more : List ℕ) → s.cutter ≡ Some c → t.front ≡ s.front → t.spaces ≡ s.spaces → t.codes ≡ s.codes → t.words ≡ s.words → IsGoing bytes s more → IsGoing bytes (with_cutter t c) more
+taken_out bytes s t c more e front spaces codes words g =
+    let k = cutting_of bytes s more c e g in
+    going_cutting bytes (with_cutter t c) more c refl (rw (front, spaces, codes, words) k)
+
+-- ---- an item that was read
+
+pub item_read : (bytes : List ℕ) (s t : Compilation) (g : Front) (x : Item) (piece more : List ℕ) (taken : ℕ) → taken ≤ length piece → FedOnward s.front piece taken g
+    → ((later : List ℕ) → onward_left g later ≡ prepend (Some x) (onward_left t.front later)) → t.front.steps ≡ g.steps → total t.front ≡ total g → begun t.front ≡ begun g → g.waiting ≡ Some x → t.front.waiting ≡ None → Follows x t.front
+    → t.front ≡ t.front → t.cutter ≡ None → t.spaces ≡ s.spaces → t.codes ≡ s.codes → t.words ≡ s.words
+    → IsReading bytes s.front s.spaces s.codes.items s.words (piece ++ more) → IsTaking bytes t x (drop taken piece ++ more)
+item_read bytes s t g x piece more taken few fed same steps count begins_same waits idle follows here none spaces codes words r =
+    let k = right_fed bytes s.front g t.front s.spaces s.codes.items s.words piece more taken few fed (Some x) same steps count r in
+    record {
+      few = k.few;
+      told = k.told;
+      sections = k.sections;
+      first = k.first;
+      known = begins_same ∙ all_known g x waits ∙ ap (λ (p : Steps). p.uncompiled) (sym steps);
+      judging = rw (spaces, codes, words) k.judging;
+      outside = none;
+      idle = idle;
+      follows = follows;
+      count = count_later bytes s.front g t.front s.spaces s.codes.items s.words piece more taken few fed (Some x) same steps count r;
+    }
+
+-- where no item waits, all bytes were taken
+pub none_waits : (g : Front) (len taken : ℕ) → g.waiting ≡ None → (taken ≡ len) ⊎ IsSome g.waiting → taken ≡ len
+none_waits g len taken none (inl all) = all
+none_waits g len taken none (inr some) = absurd (let e = rw none at some in cc)

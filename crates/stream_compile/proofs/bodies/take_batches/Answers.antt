@@ -1,0 +1,54 @@
+use Rattle.std.proofs.Common.{List, ap, ◌∙◌, subst}
+use Rattle.section_reader.specs.Onward.{after_parts}
+use Rattle.body_cutter.specs.declared.body.Body.{Body}
+use Rattle.body_cutter.specs.Cuttings.{Cutting}
+use Rattle.stream_compile.specs.CutBodies.{coded_all}
+use Rattle.stream_compile.specs.Progress.{IsJudging}
+use Rattle.stream_compile.proofs.CutRuns.{cut_append}
+use Rattle.stream_compile.proofs.Cutting.{closed_taken}
+use Rattle.stream_compile.proofs.Taking.{judging_on, fault_taken}
+use Rattle.stream_compile.proofs.bodies.take_batches.Goals as goal
+
+pub take_batch-requires-in-Some : goal.take_batch-requires-in-Some
+take_batch-requires-in-Some c =
+    let bytes = c.requires.0 in
+    let left = c.requires.1 in
+    let l = c.loop-batch in
+    let new = c.take_batch.new.self in (
+      bytes,
+      after_parts (coded_all new.queue.closed) left,
+      c.requires.2,
+      judging_on bytes (after_parts (coded_all l.cutter.queue.closed) left) (after_parts (coded_all c.in-Some.batch.bodies) (after_parts (coded_all new.queue.closed) left)) c.args.spaces.now l.codes.items l.total
+          (ap (λ (x : List Body). after_parts (coded_all x) left) (closed_taken l.cutter new c.in-Some.batch c.in-Some.ensures) ∙ cut_append c.in-Some.batch.bodies new.queue.closed left)
+          (l.invariant.judging bytes left c.requires.2 c.requires.3),
+    )
+
+pub loop-batch-preserved : goal.loop-batch-preserved
+loop-batch-preserved c =
+    let l = c.loop-batch in
+    let new = c.take_batch.new.self in
+    let is = c.in-Some.ensures.3 in
+    record {
+      place = ap (λ (k : Cutting). k.place) is ∙ l.invariant.place;
+      begun = ap (λ (k : Cutting). k.queue.begun) is ∙ l.invariant.begun;
+      judging = λ bytes left few j.
+          c.in-Ok.ensures bytes (after_parts (coded_all new.queue.closed) left) few
+          (judging_on bytes (after_parts (coded_all l.cutter.queue.closed) left) (after_parts (coded_all c.in-Some.batch.bodies) (after_parts (coded_all new.queue.closed) left)) c.args.spaces.now l.codes.items l.total
+          (ap (λ (x : List Body). after_parts (coded_all x) left) (closed_taken l.cutter new c.in-Some.batch c.in-Some.ensures) ∙ cut_append c.in-Some.batch.bodies new.queue.closed left)
+          (l.invariant.judging bytes left few j));
+    }
+
+pub returns-in-Err-clause-takes : goal.returns-in-Err-clause-takes
+returns-in-Err-clause-takes c = λ bytes left few j.
+    let l = c.loop-batch in
+    let new = c.take_batch.new.self in
+    fault_taken bytes c.in-Err.stop (after_parts (coded_all new.queue.closed) left) left c.args.spaces.now c.args.spaces.now c.take_batch-in-Some.new.codes.items c.take_batch-in-Some.new.codes.items
+    (c.in-Err.ensures bytes (after_parts (coded_all new.queue.closed) left) few
+    (judging_on bytes (after_parts (coded_all l.cutter.queue.closed) left) (after_parts (coded_all c.in-Some.batch.bodies) (after_parts (coded_all new.queue.closed) left)) c.args.spaces.now l.codes.items l.total
+    (ap (λ (x : List Body). after_parts (coded_all x) left) (closed_taken l.cutter new c.in-Some.batch c.in-Some.ensures) ∙ cut_append c.in-Some.batch.bodies new.queue.closed left)
+    (l.invariant.judging bytes left few j)))
+
+pub returns-clause-takes : goal.returns-clause-takes
+returns-clause-takes c = λ bytes left few j.
+    let l = c.loop-batch in
+    subst (λ (x : List Body). IsJudging bytes (after_parts (coded_all x) left) c.args.spaces.now l.codes.items l.total) c.in_default.ensures.0 (l.invariant.judging bytes left few j)

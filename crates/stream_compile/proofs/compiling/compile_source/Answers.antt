@@ -1,0 +1,94 @@
+use Rattle.std.proofs.Common.{◌≡◌, ◌≤◌, ◌<◌, ℕ, List, [], ◌++◌, length, take, drop, sym, ap, subst, ◌∙◌, arith, length-append, length-take}
+use Rattle.std.proofs.lemmas.List.{append-nil}
+use Rattle.std.proofs.lemmas.List.Elements.{All-append}
+use Rattle.std.specs.Io.KnownBytes.{prepend_known}
+use Rattle.io_edges.specs.Causes.{Rose}
+use Rattle.stream_compile.specs.Streaming.{IsGoing}
+use Rattle.stream_compile.proofs.Pumping.{came_more, piece_is, going_piece, going_all, early, at_end, at_fault, at_limit}
+use Rattle.stream_compile.proofs.compiling.compile_source.Goals as goal
+
+pub finish-requires : goal.finish-requires
+finish-requires g c =
+    let l = c.loop-count in
+    let i = l.invariant in
+    (i.came, i.are, going_all l.compilation i.came [] i.going (omega (arith, i.count, i.few)))
+
+pub finish-requires-in-Failed : goal.finish-requires-in-Failed
+finish-requires-in-Failed g c =
+    let l = c.loop-count in
+    let i = l.invariant in
+    (i.came, i.are, going_all l.compilation i.came [] i.going (omega (arith, i.count, i.few)))
+
+pub finish-requires-2 : goal.finish-requires-2
+finish-requires-2 g c =
+    let l = c.loop-count in
+    let i = l.invariant in
+    (i.came, i.are, going_all l.compilation i.came [] i.going (omega (arith, i.count, i.few)))
+
+pub returns-in-End : goal.returns-in-End
+returns-in-End g c =
+    let l = c.loop-count in
+    let i = l.invariant in
+    at_end i.came (g.S.Source.left c.args.source.now) (g.S.Source.left l.source) (g.S.Source.faults c.args.source.now) (g.S.Source.faults c.read.new.self) i.left c.finish.result c.in-End.ensures.bytes.0 (c.in-End.ensures.cause ∙ i.calm)
+    (c.finish.ensures i.came i.are (going_all l.compilation i.came [] i.going (omega (arith, i.count, i.few))))
+
+pub returns-in-Failed : goal.returns-in-Failed
+returns-in-Failed g c =
+    let l = c.loop-count in
+    let i = l.invariant in
+    at_fault i.came (g.S.Source.left c.args.source.now) (g.S.Source.left l.source) (g.S.Source.faults c.args.source.now) (g.S.Source.faults c.read.new.self) i.left c.finish-in-Failed.result c.requires
+    (subst (λ (n : ℕ). Rose n (g.S.Source.faults c.read.new.self)) i.calm c.in-Failed.ensures.cause)
+    (c.finish-in-Failed.ensures i.came i.are (going_all l.compilation i.came [] i.going (omega (arith, i.count, i.few))))
+
+pub returns : goal.returns
+returns g c =
+    let l = c.loop-count in
+    let i = l.invariant in
+    at_limit i.came (g.S.Source.left c.args.source.now) (g.S.Source.left l.source) (g.S.Source.faults c.args.source.now) (g.S.Source.faults l.source) i.left c.finish-2.result (omega (arith, i.count, c.loop-count-test.false)) i.calm
+    (c.finish-2.ensures i.came i.are (going_all l.compilation i.came [] i.going (omega (arith, i.count, i.few))))
+
+pub feed-requires : goal.feed-requires
+feed-requires g c =
+    let l = c.loop-count in
+    let i = l.invariant in
+    let n = c.in-Bytes.n in
+    let room = c.min-room.result in
+    let piece = take n (c.read.new.buf ++ drop room l.buf) in
+    let few : length ((i.came ++ piece) ++ []) ≤ 67108869 =
+    omega (arith, i.count, i.few, c.min-room.ensures, c.in-Bytes.ensures.bytes.1, c.read.auto.buf, length-take room l.buf, length-append i.came piece, length-append (i.came ++ piece) [], length-take n (c.read.new.buf ++ drop room l.buf)) in
+    (i.came ++ piece, [], subst (λ (x : List ℕ). IsGoing x l.compilation (piece ++ [])) (append-nil (i.came ++ piece)) (going_piece l.compilation i.came piece i.going [] few))
+
+pub loop-count-preserved : goal.loop-count-preserved
+loop-count-preserved g c =
+    let l = c.loop-count in
+    let i = l.invariant in
+    let n = c.in-Bytes.n in
+    let room = c.min-room.result in
+    let piece = take n (c.read.new.buf ++ drop room l.buf) in
+    let is : piece ≡ take n c.read.new.buf = piece_is n c.read.new.buf (drop room l.buf) c.in-Bytes.ensures.bytes.1 in
+    let len : length piece ≡ n = omega (arith, ap length is, length-take n c.read.new.buf, c.in-Bytes.ensures.bytes.1) in
+    let took : g.S.Source.left l.source ≡ prepend_known piece (g.S.Source.left c.read.new.self) = c.in-Bytes.ensures.bytes.2 ∙ ap (λ (x : List ℕ). prepend_known x (g.S.Source.left c.read.new.self)) (sym is) in
+    record {
+      came = i.came ++ piece;
+      count = omega (arith, i.count, len, length-append i.came piece);
+      few = omega (arith, i.few, c.min-room.ensures, c.in-Bytes.ensures.bytes.1, c.read.auto.buf, length-take room l.buf);
+      are = All-append (λ b. b < 256) i.came piece i.are c.in-Ok-feed.ensures.bytes;
+      left = i.left ∙ came_more i.came piece (g.S.Source.left l.source) (g.S.Source.left c.read.new.self) took;
+      calm = c.in-Bytes.ensures.cause ∙ i.calm;
+      going = λ more few. c.in-Ok-feed.ensures.goes ((i.came ++ piece) ++ more) more (going_piece l.compilation i.came piece i.going more few);
+    }
+
+pub returns-in-Err : goal.returns-in-Err
+returns-in-Err g c =
+    let l = c.loop-count in
+    let i = l.invariant in
+    let n = c.in-Bytes.n in
+    let room = c.min-room.result in
+    let piece = take n (c.read.new.buf ++ drop room l.buf) in
+    let is : piece ≡ take n c.read.new.buf = piece_is n c.read.new.buf (drop room l.buf) c.in-Bytes.ensures.bytes.1 in
+    let took : g.S.Source.left l.source ≡ prepend_known piece (g.S.Source.left c.read.new.self) = c.in-Bytes.ensures.bytes.2 ∙ ap (λ (x : List ℕ). prepend_known x (g.S.Source.left c.read.new.self)) (sym is) in
+    let few : length (i.came ++ piece) ≤ 67108869 =
+    omega (arith, i.count, i.few, c.min-room.ensures, c.in-Bytes.ensures.bytes.1, c.read.auto.buf, length-take room l.buf, length-append i.came piece, length-take n (c.read.new.buf ++ drop room l.buf)) in
+    early (i.came ++ piece) (g.S.Source.left c.args.source.now) (g.S.Source.left c.read.new.self) (g.S.Source.faults c.args.source.now) (g.S.Source.faults c.read.new.self)
+    (i.left ∙ came_more i.came piece (g.S.Source.left l.source) (g.S.Source.left c.read.new.self) took) c.in-Err.stop c.feed.new.self (c.in-Bytes.ensures.cause ∙ i.calm) few
+    (λ more enough. c.in-Err.ensures.goes ((i.came ++ piece) ++ more) more (going_piece l.compilation i.came piece i.going more enough))

@@ -1,0 +1,290 @@
+//! A module that is compiled while its bytes come: its items are kept, its bodies are judged and compiled batch by batch, and at
+//! its end their codes are linked.
+
+ghost use Rattle.std.specs.Prelude.{◌≡◌, ◌<◌, ◌≤◌, ◌++◌, ℕ, List, [], All, length, None, Err, OnOk};
+ghost use Rattle.wasm_defs.specs.Faults.{unsupported_at};
+ghost use Rattle.wasm_defs.specs.Outside.{Run as RunGiven};
+ghost use Rattle.section_reader.specs.FrontLeft.{total};
+ghost use Rattle.section_reader.specs.FrontOnward.{begun};
+ghost use Rattle.section_reader.specs.Onward.{after_parts};
+ghost use Rattle.body_cutter.specs.Sections.{bodies_from};
+ghost use Rattle.body_cutter.specs.Cuttings.{left, handed, no_batch};
+ghost use Rattle.stream_compile.specs.CutBodies.{coded_all};
+ghost use Rattle.stream_compile.specs.Progress.{IsJudging, CanTakeAll, Links, Decides, MayLink};
+ghost use Rattle.stream_compile.specs.Streaming.{IsGoing, MayGo, MayEnd, GoesOn, Advances, Lessens, IsWaiting, AllWait, WaitsAfter, with_cutter, KeepsRest, TakesBatches, IsTaking, MayTake, MayBegin, TakesItem, earliest};
+
+use crate::answer::Built;
+use crate::bodies::take_batches;
+use body_cutter::Cutter;
+use image_linker::link;
+use index_spaces::ContextBuilder;
+use rv_isa::Code;
+use section_reader::Front;
+use std::alloc::Global;
+use wasm_defs::{FrontStop, Item, Kind, Refusal, earlier};
+
+/// What came of a module, and how far it was compiled.
+#[derive(Drop)]
+pub struct Compilation {
+    alloc: Global,
+    /// How many bytes of bodies close a batch.
+    batch: u32,
+    /// Reads what stands outside bodies.
+    front: Front,
+    /// Cuts the bodies, while their section comes.
+    cutter: Option<Cutter>,
+    spaces: ContextBuilder,
+    /// The codes of the bodies that were judged, and how many words they have.
+    codes: Vec<Code>,
+    words: u64,
+}
+
+fn unsupported(offset: u64) -> Refusal
+    ensures { result ≡ unsupported_at offset }
+{
+    Refusal {
+        offset,
+        kind: Kind::Unsupported,
+    }
+}
+
+impl Compilation {
+    /// Before the first byte. A batch closes where its bodies have `batch` bytes.
+    pub fn new(alloc: Global, batch: u32) -> Compilation
+        ensures { (bytes : List ℕ) → length bytes ≤ 67108869 → IsGoing bytes result bytes }
+    {
+        Compilation {
+            alloc,
+            batch,
+            front: Front::new(alloc),
+            cutter: None,
+            spaces: ContextBuilder::new(alloc),
+            codes: Vec::new(alloc),
+            words: 0,
+        }
+    }
+
+    /// Takes the next bytes, however they are cut, up to the module's first fault.
+    pub fn feed(&mut self, piece: &[u8]) -> Result<(), FrontStop>
+        requires { MayGo self.old piece.now }
+        ensures goes { (bytes more : List ℕ) → IsGoing bytes self.old (piece.now ++ more) → GoesOn bytes result self.new more }
+        ensures bytes { All (λ b. b < 256) piece.now }
+    {
+        let mut rest = piece;
+        while !rest.is_empty() {
+            match self.advance(rest) {
+                Ok(taken) => rest = &rest[taken..],
+                Err(stop) => return Err(stop),
+            }
+        }
+        Ok(())
+    }
+
+    /// Takes some of the bytes: all, or those up to an item's end or to that of the bodies' section.
+    fn advance(&mut self, piece: &[u8]) -> Result<usize, FrontStop>
+        requires { MayGo self.old piece.now }
+        ensures goes { (bytes more : List ℕ) → IsGoing bytes self.old (piece.now ++ more) → Advances bytes piece.now result self.new more }
+        ensures less { Lessens self.old piece.now result self.new }
+    {
+        match self.cutter.take() {
+            Some(cutter) => self.cut(cutter, piece),
+            None => self.read(piece),
+        }
+    }
+
+    /// Among the bodies: takes the bytes that lie in their section.
+    fn cut(&mut self, mut cutter: Cutter, piece: &[u8]) -> Result<usize, FrontStop>
+        requires { MayGo (with_cutter self.old cutter) piece.now }
+        ensures goes { (bytes more : List ℕ) → IsGoing bytes (with_cutter self.old cutter) (piece.now ++ more) → Advances bytes piece.now result self.new more }
+        ensures less { Lessens (with_cutter self.old cutter) piece.now result self.new }
+        ensures waits { WaitsAfter result self.new.cutter }
+    {
+        match cutter.feed(piece) {
+            Ok(taken) => match self.judge(&mut cutter) {
+                Ok(()) => {
+                    if cutter.is_whole() {
+                        self.front.skip_to(cutter.section_end());
+                        self.cutter = None;
+                    } else {
+                        self.cutter = Some(cutter);
+                    }
+                    Ok(taken)
+                }
+                Err(stop) => Err(stop),
+            },
+            Err(FrontStop::Refused(refusal)) => match self.judge(&mut cutter) {
+                Ok(()) => Err(FrontStop::Refused(refusal)),
+                Err(stop) => Err(stop),
+            },
+            Err(FrontStop::NoMemory) => Err(FrontStop::NoMemory),
+        }
+    }
+
+    /// Judges and compiles the bodies of the batches that are closed.
+    fn judge(&mut self, cutter: &mut Cutter) -> Result<(), FrontStop>
+        requires { CanTakeAll self.old.spaces self.old.codes.items self.old.words cutter.old.queue.closed }
+        ensures rest { KeepsRest self.old self.new }
+        ensures place { cutter.new.place ≡ cutter.old.place }
+        ensures queue { OnOk result ((cutter.new.queue.closed ≡ []) × (cutter.new.queue.begun ≡ cutter.old.queue.begun)) }
+        ensures takes { (bytes : List ℕ) (left : RunGiven) → length bytes ≤ 67108869
+            → IsJudging bytes (after_parts (coded_all cutter.old.queue.closed) left) self.old.spaces self.old.codes.items self.old.words
+            → TakesBatches bytes result left self.new }
+    {
+        match take_batches(
+            self.alloc,
+            &self.spaces,
+            &mut self.codes,
+            self.words,
+            cutter,
+        ) {
+            Ok(words) => {
+                self.words = words;
+                Ok(())
+            }
+            Err(stop) => Err(stop),
+        }
+    }
+
+    /// Outside the bodies: takes the bytes up to the end of an item.
+    fn read(&mut self, piece: &[u8]) -> Result<usize, FrontStop>
+        requires none { self.old.cutter ≡ None }
+        requires goes { MayGo self.old piece.now }
+        ensures goes { (bytes more : List ℕ) → IsGoing bytes self.old (piece.now ++ more) → Advances bytes piece.now result self.new more }
+        ensures less { Lessens self.old piece.now result self.new }
+    {
+        match self.front.feed(piece) {
+            Ok(taken) => match self.front.take_item() {
+                Some(item) => match self.take_item(&item) {
+                    Ok(()) => Ok(taken),
+                    Err(stop) => Err(stop),
+                },
+                None => Ok(taken),
+            },
+            Err(FrontStop::Refused(refusal)) => Err(FrontStop::Refused(self.earliest(refusal))),
+            Err(FrontStop::NoMemory) => Err(FrontStop::NoMemory),
+        }
+    }
+
+    /// Takes an item that was read; behind the code section's count the bodies come.
+    fn take_item(&mut self, item: &Item) -> Result<(), FrontStop>
+        requires { MayTake self.old item.now }
+        ensures { (bytes more : List ℕ) → IsTaking bytes self.old item.now more → TakesItem bytes self.old result self.new more }
+    {
+        if let Some(at) = self.front.uncompiled() {
+            return Err(FrontStop::Refused(unsupported(at)));
+        }
+        match self.spaces.add(item) {
+            Ok(()) => {}
+            Err(_) => return Err(FrontStop::NoMemory),
+        }
+        if let Item::Code {
+            count: (_, count),
+            end,
+        } = item
+        {
+            self.cutter = Some(self.begun_bodies(*count, *end));
+        }
+        Ok(())
+    }
+
+    /// The cutter of so many bodies, which come next, in a section that ends there.
+    fn begun_bodies(&self, count: u32, end: u64) -> Cutter
+        requires { MayBegin self.now count end }
+        ensures left { (more : List ℕ) → left result more ≡ handed (no_batch self.now.batch) (bodies_from self.now.spaces.imported count (record { at = total self.now.front; rest = more; end = end })) }
+        ensures at { result.place.at ≡ total self.now.front }
+        ensures end { result.place.end ≡ end }
+    {
+        Cutter::new(
+            self.alloc,
+            count,
+            self.spaces.context().imported(),
+            self.front.offset(),
+            end,
+            self.batch,
+        )
+    }
+
+    /// The first of a fault and of the section that isn't compiled, if one has begun.
+    fn earliest(&self, refusal: Refusal) -> Refusal
+        ensures { result ≡ earliest (begun self.now.front) refusal }
+    {
+        match self.front.uncompiled() {
+            Some(at) => earlier(refusal, unsupported(at)),
+            None => refusal,
+        }
+    }
+
+    /// The bytes have ended: links what was compiled, or says what is at fault.
+    pub fn finish(&mut self) -> Result<Built, FrontStop>
+        requires { MayEnd self.old }
+        ensures { (bytes : List ℕ) → All (λ b. b < 256) bytes → IsGoing bytes self.old [] → Decides bytes result }
+    {
+        match self.settle() {
+            Ok(()) => match self.cutter.take() {
+                Some(cutter) => Err(self.end_bodies(cutter)),
+                None => self.end(),
+            },
+            Err(stop) => Err(stop),
+        }
+    }
+
+    /// Judges what can be judged of the bytes that came: where the cutter has closed batches, and where its section is whole.
+    fn settle(&mut self) -> Result<(), FrontStop>
+        requires { MayEnd self.old }
+        ensures goes { (bytes : List ℕ) → IsGoing bytes self.old [] → GoesOn bytes result self.new [] }
+        ensures waits { OnOk result (AllWait self.new.cutter) }
+    {
+        match self.cutter.take() {
+            Some(cutter) => match self.cut(cutter, &[]) {
+                Ok(_) => Ok(()),
+                Err(stop) => Err(stop),
+            },
+            None => Ok(()),
+        }
+    }
+
+    /// The bytes have ended among the bodies.
+    fn end_bodies(&mut self, mut cutter: Cutter) -> FrontStop
+        requires waits { IsWaiting cutter }
+        requires goes { MayEnd (with_cutter self.old cutter) }
+        ensures { (bytes : List ℕ) → IsGoing bytes (with_cutter self.old cutter) [] → Decides bytes (Err result) }
+    {
+        match cutter.end() {
+            Ok(()) => unreachable!(),
+            Err(stop) => match self.judge(&mut cutter) {
+                Ok(()) => stop,
+                Err(earlier) => earlier,
+            },
+        }
+    }
+
+    /// The bytes have ended outside the bodies.
+    fn end(&mut self) -> Result<Built, FrontStop>
+        requires none { self.old.cutter ≡ None }
+        requires goes { MayEnd self.old }
+        ensures { (bytes : List ℕ) → All (λ b. b < 256) bytes → IsGoing bytes self.old [] → Decides bytes result }
+    {
+        match self.front.end() {
+            Ok(()) => match self.front.uncompiled() {
+                Some(at) => Err(FrontStop::Refused(unsupported(at))),
+                None => self.linked(),
+            },
+            Err(refusal) => Err(FrontStop::Refused(self.earliest(refusal))),
+        }
+    }
+
+    /// Links the codes.
+    fn linked(&self) -> Result<Built, FrontStop>
+        requires { MayLink self.now.spaces self.now.codes.items }
+        ensures { Links self.now.spaces self.now.codes.items (total self.now.front) result }
+    {
+        match link(self.alloc, self.spaces.context(), &self.codes) {
+            Ok(image) => Ok(Built {
+                image,
+                functions: self.spaces.context().declared() as u64,
+                bytes: self.front.offset(),
+            }),
+            Err(_) => Err(FrontStop::NoMemory),
+        }
+    }
+}
