@@ -17,13 +17,12 @@ use Rattle.leb_feed.specs.Reads.{Stops}
 use Rattle.section_reader.specs.declared.stage.Stage.{Stage}
 use Rattle.section_reader.specs.declared.stage.Stage.TheVariants.{Preamble, Between, Contents, Entries}
 use Rattle.section_reader.specs.declared.steps.Steps.{Steps}
-use Rattle.section_reader.specs.Left.{IsSound}
+use Rattle.section_reader.specs.Counts.{IsSound}
 use Rattle.section_reader.specs.Outline.{outline_row}
 use Rattle.section_reader.specs.Stages.{passes, is_at_bodies, Passed, Leads, Halts, weight, IsSameButLast}
 use Rattle.section_reader.specs.Onward.{outside_of, first_with, HaltsOnward, IsOrdered}
 use Rattle.section_reader.specs.Stepped.{Goes, GoesOnward, Stepped}
-use Rattle.section_reader.proofs.Takes.{Moved}
-use Rattle.section_reader.proofs.Walk.{sound_moved, sound_entered, sound_noted}
+use Rattle.section_reader.proofs.Sound.{Moved, sound_moved, sound_entered, sound_noted}
 use Rattle.section_reader.proofs.OutlineRuns.{outline_steady, passed_over, not_passed}
 use Rattle.section_reader.proofs.Telling.{first_with_is, ordered_between, preamble_run, header_run, header_id, header_ordered, front_run, front_ordered, front_apart, entry_run, entry_ordered, entry_behind, back_run, pass_run}
 use Rattle.section_reader.proofs.Leading.{preamble_leads, header_leads, front_leads, entry_leads, back_leads, pass_leads}
@@ -151,7 +150,7 @@ module _ (stage : Stage) (seen : Seen) (first : Option ℕ) (c d : Cursor) (soun
       let fewer = got_is (λ y e. length e.rest < length c.rest) ((outline_row id).entry seen c) (Listed x) d read (((outline_steady id).takes seen).some c) in
       record {
         leads = subst (λ (q : Stage). Leads q seen c (Some x) (Entries id (n - 1)) (note seen x) d) (sym is) (entry_leads seen c d id n x some read);
-        sound = sound_noted seen (Listed x) c d sound (moved_some c d p fewer);
+        sound = sound_noted seen x c d sound (moved_some c d p fewer);
         less = λ h. absurd cc;
         same = λ h. absurd cc;
         passed = p;

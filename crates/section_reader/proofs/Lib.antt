@@ -1,11 +1,8 @@
 pub mod Loops
 pub mod NameMaps
-pub mod Takes
-pub mod LeafTakes
-pub mod EntryTakes
-pub mod Runs
-pub mod Walk
+pub mod Sound
 pub mod OutlineRuns
+pub mod Runs
 pub mod Leading
 pub mod Telling
 pub mod Going

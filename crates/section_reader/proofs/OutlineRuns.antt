@@ -25,7 +25,7 @@ outline_steady id = either_row (eqb id 10) _ _ counted_steady (row_steady id)
 
 -- ---- enough sections are enough
 
-runs_same : {A : Type 0} (most : ℕ) (c : Cursor) (x : Read A) (f g : A → Cursor → Run) → LeavesFewer c x → length c.rest ≤ suc most
+pub runs_same : {A : Type 0} (most : ℕ) (c : Cursor) (x : Read A) (f g : A → Cursor → Run) → LeavesFewer c x → length c.rest ≤ suc most
     → ((a : A) (d : Cursor) → length d.rest ≤ most → f a d ≡ g a d) → runs_on x f ≡ runs_on x g
 runs_same most c (Got x d) f g fewer h same = same x d (omega arith)
 runs_same most c (Fault r) f g fewer h same = refl

@@ -15,9 +15,8 @@ use Rattle.section_reader.specs.declared.stage.Stage.{Stage}
 use Rattle.section_reader.specs.declared.steps.Steps.{Steps}
 use Rattle.section_reader.specs.declared.steps.Mark.{Mark}
 use Rattle.section_reader.specs.declared.front.Front.{Front}
-use Rattle.section_reader.specs.Left.{IsSound}
 use Rattle.section_reader.specs.declared.stage.Stage.TheVariants.{Preamble, Between, Contents, Entries}
-use Rattle.section_reader.specs.Counts.{IsWithin}
+use Rattle.section_reader.specs.Counts.{IsWithin, IsSound}
 use Rattle.section_reader.specs.Stages.{proceed, prepend, between, unfinished, is_owing, is_at_bodies, IsOwed, Passed, Leads, IsSameButLast}
 use Rattle.section_reader.specs.Onward.{begun_section, first_begun, outside_of, after_parts, HaltsOnward, IsOrdered}
 use Rattle.section_reader.specs.Stepped.{Goes, GoesOnward, Stepped, Reached, Reaches, RefusedOnward, Tells}

@@ -1,7 +1,8 @@
 -- Counts of what a module's items add up to.
-use Rattle.std.specs.Prelude.{ℕ, ◌+◌, ◌<◌, ◌≤◌, ◌^◌, Bool, refl}
+use Rattle.std.specs.Prelude.{ℕ, ◌+◌, ◌<◌, ◌≤◌, ◌^◌, Bool, length, refl}
 use Rattle.std.specs.FinMap as map
 use Rattle.std.specs.Coded.{Coded, code_by, coded×, coded_ℕ, coded_bool, coded_list}
+use Rattle.wasm_defs.specs.Fields.{Cursor}
 use Rattle.wasm_defs.specs.Entries.{Seen, Names}
 
 -- ---- what was seen, stored as a tuple
@@ -38,3 +39,10 @@ pub record IsWithin (s : Seen) (at : ℕ) : Type 0 where
   pub tables : s.tables ≤ at
   pub memories : s.memories ≤ at
   pub globals : s.globals ≤ at
+
+-- ---- what holds at every stage
+
+-- the counts are no more than the offset, and the offsets are those of a slice
+pub record IsSound (seen : Seen) (c : Cursor) : Type 0 where
+  pub counts : IsWithin seen c.at
+  pub fits : c.at + length c.rest < 2 ^ 63

@@ -1,9 +1,5 @@
 pub mod ByText
 pub mod Counts
-pub mod PartOf
-pub mod Left
-pub mod Advances
-pub mod Goes
 pub mod Outline
 pub mod Stages
 pub mod Onward

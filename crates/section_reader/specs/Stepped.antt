@@ -10,7 +10,7 @@ use Rattle.leb_feed.specs.declared.stop.Stop.{Stop}
 use Rattle.wasm_defs.specs.declared.front_stop.FrontStop.{FrontStop}
 use Rattle.wasm_defs.specs.declared.front_stop.FrontStop.TheVariants as front
 use Rattle.section_reader.specs.declared.steps.Steps.{Steps}
-use Rattle.section_reader.specs.Left.{IsSound}
+use Rattle.section_reader.specs.Counts.{IsSound}
 use Rattle.section_reader.specs.Stages.{proceed, prepend, unfinished, is_at_bodies, Passed, Leads, work_left, Halts, IsSameButLast}
 use Rattle.section_reader.specs.Onward.{onward, after_parts, AreSections, outside_of, first_begun, stalled, HaltsOnward, IsOrdered, IsBehind}
 

@@ -1,6 +1,6 @@
-//! Items for a reader that passes over bodies: how many entries a section has, and each of them (WebAssembly Core 1.0, 5.5.2).
+//! Items for a reader that passes over bodies: the entries of each section (WebAssembly Core 1.0, 5.5.2).
 
-ghost use Rattle.std.specs.Prelude.{◌≡◌, ◌+◌, ◌<◌, ◌^◌};
+ghost use Rattle.std.specs.Prelude.{◌≡◌};
 ghost use Rattle.wasm_defs.specs.Outside.{Listed};
 ghost use Rattle.leb_feed.specs.Reads.{Reads};
 ghost use Rattle.section_reader.specs.Outline.{outline_row};
@@ -9,22 +9,10 @@ ghost use Rattle.section_reader.specs.Stages.{passes};
 use crate::entries::{
     code, element, exported, function, global, imported, memory, segment, signature, start, table,
 };
-use crate::rows::front;
 use crate::seen::Seen;
 use leb_feed::{Fields, Stop};
 use std::alloc::Global;
 use wasm_defs::Item;
-
-/// How many entries a section has; the code section has one, its count.
-pub fn entry_count(fields: &mut Fields<'_>, alloc: Global, id: u8, seen: &Seen) -> Result<u64, Stop>
-    requires { seen.now.declared + 1 < 2 ^ 64 }
-    ensures { Reads ((outline_row id).front seen.now) (λ n. n) result fields.old fields.new }
-{
-    if id == 10 {
-        return Ok(1);
-    }
-    front(fields, alloc, id, seen)
-}
 
 /// The next entry.
 pub fn next_item(fields: &mut Fields<'_>, alloc: Global, id: u8, seen: &Seen) -> Result<Item, Stop>

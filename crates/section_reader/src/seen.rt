@@ -1,13 +1,11 @@
-//! What the parts before say of the next one.
+//! What the items before say of the next one.
 
 ghost use Rattle.std.specs.Prelude.{◌≡◌, OnOk, OnErr, is_some};
 ghost use Rattle.std.specs.FinMap as map;
 ghost use Rattle.wasm_defs.specs.Entries.{note, nothing};
-ghost use Rattle.wasm_defs.specs.Outside.{entered, noted, owes_code, is_misplaced};
+ghost use Rattle.wasm_defs.specs.Outside.{entered, owes_code, is_misplaced};
 ghost use Rattle.section_reader.specs.Counts.{HasRoom};
-ghost use Rattle.section_reader.specs.PartOf.{part_of};
 
-use crate::part::Part;
 use std::alloc::{AllocError, Global};
 use std::collections::BTreeMap;
 use std::marker::Model;
@@ -123,18 +121,6 @@ impl Seen {
     {
         if id != 0 {
             self.last = id;
-        }
-    }
-
-    /// A part came.
-    pub fn note(&mut self, alloc: Global, part: &Part<'_>) -> Result<(), AllocError>
-        requires { HasRoom self.old }
-        ensures ok { OnOk result (self.new ≡ noted self.old (part_of part.now)) }
-        ensures err { OnErr result (self.new ≡ self.old) }
-    {
-        match part {
-            Part::Listed(item) => self.note_item(alloc, item),
-            Part::Section { .. } | Part::Coded(_) => Ok(()),
         }
     }
 

@@ -1,15 +1,15 @@
 //! Reading step by step: up to the next stage, or to the next item.
 
 ghost use Rattle.std.specs.Prelude.{◌≡◌, ◌<◌, ◌≤◌, ℕ, length, true, false, None, Some, IfOk, IfSome};
-ghost use Rattle.section_reader.specs.Left.{IsSound};
+ghost use Rattle.section_reader.specs.Counts.{IsSound};
 ghost use Rattle.section_reader.specs.Onward.{first_with, first_with_next, first_begun};
 ghost use Rattle.section_reader.specs.Stages.{passes, cut_there, code_due, silent, is_at_bodies};
 ghost use Rattle.section_reader.specs.Stepped.{Stepped, Reaches};
 ghost use Rattle.section_reader.specs.Waits.{IsFree, IsPlaced};
 
 use crate::entry_waits::{entry_wait, name_wait};
-use crate::items::{entry_count, is_passed_over, next_item};
-use crate::rows::rest_of_section;
+use crate::items::{is_passed_over, next_item};
+use crate::rows::{entry_count, rest_of_section};
 use crate::sections::{header, preamble, section_end};
 use crate::seen::Seen;
 use crate::stage::Stage;
