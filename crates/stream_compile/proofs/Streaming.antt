@@ -437,9 +437,9 @@ pub going_decides : (bytes : List ℕ) (s : FrontStop) (state : Compilation) (mo
 going_decides bytes (stop.Refused r) state more h = h
 going_decides bytes stop.NoMemory state more h = tt
 
-pub item_advances : (bytes piece : List ℕ) (s : FrontStop) (old state later : Compilation) (more next : List ℕ) → TakesItem bytes old (Err s) state more → Advances bytes piece (Err s) later next
-item_advances bytes piece (stop.Refused r) old state later more next h = h
-item_advances bytes piece stop.NoMemory old state later more next h = tt
+pub item_advances : (bytes piece : List ℕ) (s : FrontStop) (old state new : Compilation) (more next : List ℕ) → TakesItem bytes old (Err s) state more → Advances bytes piece (Err s) new next
+item_advances bytes piece (stop.Refused r) old state new more next h = h
+item_advances bytes piece stop.NoMemory old state new more next h = tt
 
 -- ---- the bytes end among the bodies
 

@@ -30,7 +30,7 @@ pub enum Answer {
     Image(Built),
     /// They are none: this is the fault of least offset.
     Refused(Refusal),
-    /// The source failed.
+    /// The source failed, and the bytes that came have no fault that more bytes don't mend.
     ReadFault,
     /// Memory ran out.
     NoMemory,

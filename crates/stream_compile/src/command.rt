@@ -76,8 +76,9 @@ fn answer_to<R: Threads + Wait + Sync, S: Source, G: Gate>(
 ///
 /// `words` begins with the program's name. The result is the status that the program ends with: 0 where the command was
 /// done, 1 where the words are outside the command grammar, 2 where the bytes are no module, 3 where the function can't be
-/// called so, 4 where it trapped, 5 where its run hadn't ended after all steps, 6 where the source failed, 7 where the sink
-/// failed, and 8 where memory ran out, after which nothing is written.
+/// called so, 4 where it trapped, 5 where its run hadn't ended after all steps, 6 where the source failed and the bytes that
+/// came have no fault that more bytes don't mend, 7 where the sink failed, and 8 where memory ran out, after which nothing is
+/// written.
 pub fn top<R: Threads + Wait + Sync, S: Source, O: Sink, G: Gate>(
     rt: &R,
     alloc: Global,
