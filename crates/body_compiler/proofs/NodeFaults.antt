@@ -1,5 +1,5 @@
 -- The fault of a body's nodes is the body's first.
-use Rattle.std.proofs.Common.{◌≡◌, ℕ, ◌+◌, ◌⊎◌, inl, inr, List, [], ◌∷◌, ◌++◌, length, Option, None, Some, Ok, Err, refl, sym, ap, ◌∙◌, subst, append_assoc}
+use Rattle.std.proofs.Common.{◌≡◌, ℕ, ◌⊎◌, inl, inr, List, ◌∷◌, ◌++◌, length, Option, None, Some, Ok, Err, refl, sym, ap, ◌∙◌, subst, append_assoc}
 use Rattle.wasm_defs.specs.declared.fault.Kind.TheVariants.{Malformed}
 use Rattle.wasm_defs.specs.declared.fault.Refusal.{Refusal}
 use Rattle.wasm_defs.specs.declared.nodes.LocalGroup.{LocalGroup}
@@ -13,12 +13,11 @@ use Rattle.wasm_defs.specs.Typing.{Context}
 use Rattle.wasm_laws.proofs.Earlier.{equal_is_no_later}
 use Rattle.wasm_laws.proofs.Faulty.{token_later}
 use Rattle.body_validator.specs.Judging.{JudgedBody, IsJudged, Judges}
+use Rattle.body_validator.proofs.NodeLaws.{length-declared_types}
 use Rattle.body_compiler.specs.Compiling.{context_of_body}
 use Rattle.body_compiler.specs.JudgesBody.{JudgesBody}
-use Rattle.body_compiler.specs.LocalGroups.{total}
 use Rattle.body_compiler.specs.ReadNodes.{AllRead, StopsAt, ReadsNodes}
-use Rattle.body_compiler.specs.declared.code.BodyStop.TheVariants.{Refused}
-use Rattle.body_compiler.proofs.LocalLaws.{length-declared}
+use Rattle.body_compiler.specs.declared.judging.BodyStop.TheVariants.{Refused}
 use Rattle.body_compiler.proofs.Outcomes.{token_fault_same, no_spelling_fault}
 
 -- ---- one fault
@@ -90,12 +89,8 @@ read_fault c read nodes r (inr h) f = stop_fault c read nodes r h f
 
 -- ---- the body
 
-total_declared : (gs : List LocalGroup) → total (groups_of gs) ≡ declared gs
-total_declared [] = refl
-total_declared (g ∷ gs) = ap (λ (n : ℕ). g.count + n) (total_declared gs)
-
 locals_are : (read : BodyRead) (gs : List LocalGroup) → groups_of gs ≡ read.groups → declared gs ≡ length (declared_types read.groups)
-locals_are read gs e = sym (ap (λ (l : List Group). length (declared_types l)) (sym e) ∙ length-declared (groups_of gs) ∙ total_declared gs)
+locals_are read gs e = sym (length-declared_types gs) ∙ ap (λ (l : List Group). length (declared_types l)) e
 
 judged_there : (c d : Context) (params m n : ℕ) (ts us : List Token) (tree : Seq) (judged : JudgedBody) → c ≡ d → m ≡ n → ts ≡ us → IsJudged c params m ts tree judged → IsJudged d params n us tree judged
 judged_there c d params m n ts us tree judged e f g h =
@@ -106,12 +101,13 @@ read_whole : (read : BodyRead) (nodes : BodyNodes) → AllRead read nodes ⊎ St
 read_whole read nodes (inl h) none = h
 read_whole read nodes (inr h) none = let e = h.fault_is in absurd cc
 
-pub judged_body : (c : Context) (index : ℕ) (read : BodyRead) (nodes : BodyNodes) (judged : JudgedBody) → ReadsNodes read nodes → Judges c index nodes (Ok judged) → JudgesBody c index read (Ok judged)
+pub judged_body : (c : Context) (index : ℕ) (read : BodyRead) (nodes : BodyNodes) (judged : JudgedBody) → ReadsNodes read nodes → Judges c index nodes (Ok judged) → JudgesBody c index read (Ok (record { nodes = nodes; judged = judged }))
 judged_body c index read nodes judged h j =
     let all = read_whole read nodes h.1 j.1 in (
       j.0,
       sym all.fault_is ∙ j.1,
       judged_there _ _ _ _ _ _ _ j.0 judged (ap (body_context c (type_of_function c index)) h.0) (locals_are read nodes.groups h.0) (ap tokens_of all.nodes_are) j.2,
+      record { groups = h.0; tokens = all.nodes_are; whole = j.1 },
     )
 
 pub refused_body : (c : Context) (index : ℕ) (read : BodyRead) (nodes : BodyNodes) (r : Refusal)

@@ -30,8 +30,8 @@ use Rattle.body_validator.proofs.Nesting.{spelled-nests, nested-grammatical, nes
 use Rattle.body_compiler.specs.declared.open_nodes.OpenNodes.{OpenNodes}
 use Rattle.body_compiler.specs.OpenNodes.{all_openings, IsHeld, TakesToken, AreBefore, IsReading, of_code, IsRead, IsEnd, Stopped, ReadsOn, ReadsCode}
 use Rattle.body_compiler.specs.ReadNodes.{AllRead, StopsAt, ReadsNodes}
-use Rattle.body_compiler.proofs.Beginning.{locals_take}
-use Rattle.body_compiler.proofs.Going.{byte_is, spelled_step, ends_as, stop_step}
+use Rattle.body_compiler.proofs.LocalLaws.{locals_take}
+use Rattle.body_compiler.proofs.ReadingSteps.{byte_is, spelled_step, ends_as, stop_step}
 use Rattle.body_compiler.proofs.Innermost.{length_openings}
 
 -- ---- tokens that close all are a whole body

@@ -12,8 +12,8 @@ use Rattle.frame_layout.specs.declared.layout.Layout.{Layout}
 use Rattle.frame_layout.specs.Slots.{need}
 use Rattle.frame_layout.specs.Templates.{Around}
 use Rattle.frame_layout.specs.Functions.{function_code}
-use Rattle.body_compiler.specs.declared.code.BodyStop.{BodyStop}
-use Rattle.body_compiler.specs.declared.code.BodyStop.TheVariants.{Refused, NoMemory}
+use Rattle.body_compiler.specs.declared.judging.BodyStop.{BodyStop}
+use Rattle.body_compiler.specs.declared.judging.BodyStop.TheVariants.{Refused, NoMemory}
 
 -- the context of the body of a function in a module
 abbrev pub context_of_body : Context → (index : ℕ) → BodyRead → Context

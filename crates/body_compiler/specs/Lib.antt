@@ -1,7 +1,5 @@
-pub mod Judged
-pub mod LocalGroups
+pub mod Uncompiled
 pub mod Emitted
-pub mod Going
 pub mod Making
 pub mod Compiling
 pub mod ReadNodes

@@ -1,11 +1,11 @@
 //! The nodes of a body that is being read, and which blocks are open (Core 2.4.5).
 
-ghost use Rattle.std.specs.Prelude.{◌≡◌, ◌<◌, false, [], vec_len};
+ghost use Rattle.std.specs.Prelude.{◌≡◌, ◌<◌, false, [], vec_len, IfOk};
 ghost use Rattle.body_validator.specs.Checking.{takes_else};
 ghost use Rattle.body_compiler.specs.OpenNodes.{IsHeld, TakesToken, IsSettled, Settles, opening_of, closed_at};
 
 use leb_feed::{Fields, Stop};
-use std::alloc::Global;
+use std::alloc::{AllocError, Global};
 use wasm_defs::{Kind, Node, Token};
 
 /// The nodes so far, the places of those whose blocks are open, the innermost last, and whether the body's own block has ended.
@@ -36,17 +36,17 @@ fn close(nodes: &mut Vec<Node>, place: usize, closed_by: usize)
 }
 
 impl OpenNodes {
-    /// Before the first token.
-    pub fn new(alloc: Global) -> Self
-        ensures nodes { result.nodes.items ≡ [] }
-        ensures held { IsHeld result }
-        ensures going { result.is_over ≡ false }
+    /// Before the first token. There is room for so many nodes, which aren't moved then.
+    pub fn with_capacity(alloc: Global, most: usize) -> Result<Self, AllocError>
+        ensures nodes { IfOk result (λ body. body.nodes.items ≡ []) }
+        ensures held { IfOk result (λ body. IsHeld body) }
+        ensures going { IfOk result (λ body. body.is_over ≡ false) }
     {
-        OpenNodes {
-            nodes: Vec::new(alloc),
+        Ok(OpenNodes {
+            nodes: Vec::with_capacity(alloc, most)?,
             blocks: Vec::new(alloc),
             is_over: false,
-        }
+        })
     }
 
     /// An `else`: it closes the block of its `if`, and its own is open then.

@@ -70,7 +70,8 @@ pub fn read_nodes(alloc: Global, bytes: &[u8], offset: u64) -> Result<Nodes, All
     let mut fields = Fields::new(bytes, offset, offset + len + 1);
     match read_groups(&mut fields, alloc) {
         Ok(groups) => {
-            let mut body = OpenNodes::new(alloc);
+            // each token takes a byte
+            let mut body = OpenNodes::with_capacity(alloc, fields.rest().len())?;
             let read = read_code(alloc, &mut fields, &mut body);
             let fault = fault_of(read, last)?;
             Ok(Nodes::new(groups, body.nodes, fault))

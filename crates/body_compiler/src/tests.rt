@@ -1,5 +1,6 @@
 //! Bodies whose words and faults were worked out by hand.
 
+use crate::uncompiled::first_uncompiled;
 use crate::{BodyStop, compile, judge_body};
 use index_spaces::{Context, ContextBuilder};
 use rv_isa::Code;
@@ -170,7 +171,7 @@ fn judged(alloc: Global, context: &Context, bytes: &[u8]) -> Option<Result<usize
         return None;
     }
     match judge_body(alloc, context, 0, bytes, 31) {
-        Ok(judged) => Some(Ok(judged.steps().len())),
+        Ok(body) => Some(Ok(body.nodes.nodes().len())),
         Err(stop) => Some(Err(stop)),
     }
 }
@@ -223,5 +224,30 @@ fn blocks_may_nest_deeply(rt: HostRuntime) -> Result<(), Fail> {
     let context = context_of(rt.alloc(), &[ValType::I32])?;
     let bytes = nested_blocks(rt.alloc(), 300_000)?;
     assert_eq!(rt; judged(rt.alloc(), &context, &bytes), Some(Ok(600_002)));
+    Ok(())
+}
+
+/// The first opcode that isn't compiled of a body whose first byte has the offset 31. The body keeps the limit.
+fn uncompiled(alloc: Global, bytes: &[u8]) -> Option<Result<Option<u64>, AllocError>> {
+    if bytes.len() > MAX_BODY as usize {
+        return None;
+    }
+    Some(first_uncompiled(alloc, bytes, 31))
+}
+
+#[test]
+fn what_is_not_compiled_is_found(rt: HostRuntime) -> Result<(), Fail> {
+    let rows: [(&[u8], Option<u64>); 5] = [
+        (&[0x00, 0x00, 0x0B], Some(32)),
+        (&[0x00, 0x01, 0x0B], None),
+        // a `local.get` that is cut off, and a load
+        (&[0x00, 0x20], None),
+        (&[0x00, 0x28], Some(32)),
+        // what follows the last `end` is no instruction
+        (&[0x00, 0x01, 0x0B, 0x00], None),
+    ];
+    for (bytes, want) in rows {
+        assert_eq!(rt; uncompiled(rt.alloc(), bytes), Some(Ok(want)), "{bytes:?}");
+    }
     Ok(())
 }

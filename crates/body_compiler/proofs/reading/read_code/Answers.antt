@@ -1,5 +1,5 @@
 use Rattle.std.proofs.lemmas.Result.{err_from_is_err_and}
-use Rattle.body_compiler.proofs.Going.{tested_empty, tested_some}
+use Rattle.body_compiler.proofs.ReadingSteps.{tested_empty, tested_some}
 use Rattle.body_compiler.proofs.NodeReading.{on_stops, code_ends, code_goes_on}
 use Rattle.body_compiler.proofs.reading.read_code.Goals as goal
 

@@ -1,5 +1,5 @@
 use Rattle.std.proofs.lemmas.Result.{err_from_is_err_and}
-use Rattle.body_compiler.proofs.Going.{on_any}
+use Rattle.body_compiler.proofs.ReadingSteps.{on_any}
 use Rattle.body_compiler.proofs.NodeReading.{byte_stops, instruction_stops, instruction_fewer, reads_on}
 use Rattle.body_compiler.proofs.reading.read_node.Goals as goal
 
