@@ -140,8 +140,8 @@ never_there m same name e arguments steps kind pc passes ranges is faults =
     alike.never_faults steps kind pc
     (sym (end_is (image_of m) (offset_of m found.function) (Results m found.function) arguments steps) ∙ sym (ends_there m name (exports_of m.items) e found arguments steps) ∙ faults)
 
-pub never_faults : (m : Module) (i : Image) → i ≡ image_of m → Same m i → NeverFaults i
-never_faults m i is same = subst NeverFaults (sym is) (never_there m (subst (λ (x : Image). Same m x) is same))
+pub never_faults : (m : Module) (i : Image) → i ≡ image_of m → Same m (image_of m) → NeverFaults i
+never_faults m i is same = subst NeverFaults (sym is) (never_there m same)
 
 -- what an image's end tells of its module
 tells_end : (runs : ℕ → module_runs.Run) (image : ℕ → ImageRun) (n : ℕ) (end : Ending) (o : Outcome) → SameRuns runs image → (image n).end ≡ end → EndsAs end o → TellsEnd end runs o
@@ -179,11 +179,11 @@ checked_done m r o (Some why) same ranges is h = h
 checked_done m r o None same ranges is h = tells_run m r o same ranges is h
 
 -- the line of the call of an image's function is the line of the call of the module's
-pub run_done : (m : Module) (i : Image) (r : Run) (o : Outcome) → i ≡ image_of m → Same m i → RunsAs i r o
+pub run_done : (m : Module) (i : Image) (r : Run) (o : Outcome) → i ≡ image_of m → Same m (image_of m) → RunsAs i r o
     → ChecksAndRuns (not_runnable (image_of m) r.export (types_of_values (arguments_of r.arguments))) m r.export (arguments_of r.arguments) r.steps o
 run_done m i r o is same h =
     let here : RunsAs (image_of m) r o = subst (λ (x : Image). RunsAs x r o) is h in
-    checked_done m r o (not_runnable (image_of m) r.export (types_of_values (arguments_of r.arguments))) (subst (λ (x : Image). Same m x) is same) here.0 refl here.1
+    checked_done m r o (not_runnable (image_of m) r.export (types_of_values (arguments_of r.arguments))) same here.0 refl here.1
 
 -- ---- what was checked of a call
 

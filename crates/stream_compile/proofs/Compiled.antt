@@ -18,54 +18,58 @@ use Rattle.image_linker.specs.ImageOf.{size_of}
 use Rattle.image_linker.specs.Linking.{words_of}
 use Rattle.image_linker.specs.Codes.{IsCodeOf, AreCodesOf}
 use Rattle.image_linker.specs.Judging.{text_bytes, limit_at, IsTextFault, IsFaultOf, IsVerdictOf}
+use Rattle.stream_compile.specs.Codes.{Coding, AreAll, with_code}
 use Rattle.stream_compile.specs.Progress.{IsJudging, body_of_spaces}
 use Rattle.stream_compile.proofs.Parts.{items_of-append, bodies_of-append}
 use Rattle.stream_compile.proofs.Order.{fault_after, section_after}
 use Rattle.stream_compile.proofs.TextFaults.{text_after, tree_once}
-use Rattle.stream_compile.proofs.Codes.{words_more, codes_both, codes_of_module}
+use Rattle.stream_compile.proofs.CodeWords.{all_more, codes_both, codes_of_module}
 use Rattle.stream_compile.proofs.Judging as judging
 use Rattle.stream_compile.proofs.Judging.{context_is, inside_rest, outside_rest}
 
 -- ---- steps
 
-pub begins : (bytes : List ℕ) (left : Run) (spaces : Spaces) → left ≡ module_run bytes → spaces ≡ spaces_of [] → IsJudging bytes left spaces [] 0
-begins bytes left spaces is none = rw (is, none) (record {
-  judged = record { front = []; parts = refl; ending = refl; spaces_are = refl; count = refl; compiled = refl; trees = []; valid = tt };
+pub begins : (bytes : List ℕ) (left : Run) (spaces : Spaces) (codes : Coding) → left ≡ module_run bytes → spaces ≡ spaces_of [] → AreAll codes [] → IsJudging bytes left spaces codes
+begins bytes left spaces codes is none uncoded = rw (is, none) (record {
+  judged = record { front = []; parts = refl; ending = refl; spaces_are = refl; count = uncoded.count; compiled = refl; trees = []; valid = tt };
+  all = [];
+  are_all = uncoded;
   coded = tt;
-  words_are = refl;
-  fits = omega arith;
-  text_left = λ r f. f;
-  text_whole = λ r f. f;
+  fits = omega (arith, uncoded.words);
+  text_left = λ r f. subst (λ (n : ℕ). IsTextFault [] 0 n (module_run bytes).parts r) (sym uncoded.words) f;
+  text_whole = λ r f. subst (λ (n : ℕ). IsTextFault [] 0 n (module_run bytes).parts r) uncoded.words f;
 })
 
-module _ (bytes : List ℕ) (left : Run) (codes : List Code) (words : ℕ) where
+module _ (bytes : List ℕ) (left : Run) (codes : Coding) where
   -- with the same items and bodies in front
-  moved : (items items' : List Item) (k k' : ℕ) (parts : List Part) (r : Refusal) → items ≡ items' → k ≡ k' → IsTextFault items k words parts r → IsTextFault items' k' words parts r
+  moved : (items items' : List Item) (k k' : ℕ) (parts : List Part) (r : Refusal) → items ≡ items' → k ≡ k' → IsTextFault items k codes.words parts r → IsTextFault items' k' codes.words parts r
   moved items items' k k' parts r p q f = rw (p, q) at f
 
-  pub after_section : (spaces : Spaces) (at id : ℕ) → IsJudging bytes (after_part (Section at id) left) spaces codes words → is_compiled_section id ≡ true → IsJudging bytes left spaces codes words
+  pub after_section : (spaces : Spaces) (at id : ℕ) → IsJudging bytes (after_part (Section at id) left) spaces codes → is_compiled_section id ≡ true → IsJudging bytes left spaces codes
   after_section spaces at id j e =
       let front = j.judged.front in
       let items : items_of (front ++ Section at id ∷ []) ≡ items_of front = items_of-append front (Section at id ∷ []) ∙ append-nil (items_of front) in
       let bodies : length (bodies_of (front ++ Section at id ∷ [])) ≡ length (bodies_of front) = ap (λ (l : List Body). length l) (bodies_of-append front (Section at id ∷ []) ∙ append-nil (bodies_of front)) in
       record {
-        judged = judging.after_section bytes left spaces (length codes) at id j.judged e;
-        coded = rw (append-nil codes) at (codes_both [] 0 front (Section at id ∷ []) j.judged.trees [] codes [] j.coded tt);
-        words_are = j.words_are;
+        judged = judging.after_section bytes left spaces codes.count at id j.judged e;
+        all = j.all;
+        are_all = j.are_all;
+        coded = rw (append-nil j.all) at (codes_both [] 0 front (Section at id ∷ []) j.judged.trees [] j.all [] j.coded tt);
         fits = j.fits;
         text_left = λ r f. moved (items_of front) _ (length (bodies_of front)) _ left.parts r (sym items) (sym bodies) (j.text_left r f);
         text_whole = λ r f. j.text_whole r (moved _ (items_of front) _ (length (bodies_of front)) left.parts r items bodies f);
       }
 
-  pub after_item : (spaces later : Spaces) (x : Item) → IsJudging bytes (after_part (Listed x) left) spaces codes words → later ≡ with_item spaces x → IsJudging bytes left later codes words
+  pub after_item : (spaces later : Spaces) (x : Item) → IsJudging bytes (after_part (Listed x) left) spaces codes → later ≡ with_item spaces x → IsJudging bytes left later codes
   after_item spaces later x j e =
       let front = j.judged.front in
       let items : items_of (front ++ Listed x ∷ []) ≡ items_of front ++ x ∷ [] = items_of-append front (Listed x ∷ []) in
       let bodies : length (bodies_of (front ++ Listed x ∷ [])) ≡ length (bodies_of front) = ap (λ (l : List Body). length l) (bodies_of-append front (Listed x ∷ []) ∙ append-nil (bodies_of front)) in
       record {
-        judged = judging.after_item bytes left spaces later (length codes) x j.judged e;
-        coded = rw (append-nil codes) at (codes_both [] 0 front (Listed x ∷ []) j.judged.trees [] codes [] j.coded tt);
-        words_are = j.words_are;
+        judged = judging.after_item bytes left spaces later codes.count x j.judged e;
+        all = j.all;
+        are_all = j.are_all;
+        coded = rw (append-nil j.all) at (codes_both [] 0 front (Listed x ∷ []) j.judged.trees [] j.all [] j.coded tt);
         fits = j.fits;
         text_left = λ r f. moved (items_of front ++ x ∷ []) _ (length (bodies_of front)) _ left.parts r (sym items) (sym bodies) (j.text_left r f);
         text_whole = λ r f. j.text_whole r (moved _ (items_of front ++ x ∷ []) _ (length (bodies_of front)) left.parts r items bodies f);
@@ -82,44 +86,44 @@ no_text_left items k words [] s e f = f
 no_text_left items k words (x ∷ parts) s e f = absurd cc
 
 -- no part is left, and the module has this fault
-pub is_refused : (bytes : List ℕ) (left : Run) (spaces : Spaces) (codes : List Code) (words total : ℕ) (r : Refusal) → IsJudging bytes left spaces codes words → total ≡ length bytes → left.parts ≡ [] → ending_fault total left.ending ≡ Some r → IsVerdictOf bytes (Rejected r)
-is_refused bytes left spaces codes words total r j len none fault =
-    lifted bytes r (judging.is_refused bytes left spaces (length codes) total r j.judged len none fault)
-    (λ s f. absurd (no_text_left (items_of j.judged.front) (length (bodies_of j.judged.front)) words left.parts s none (j.text_left s f)))
+pub is_refused : (bytes : List ℕ) (left : Run) (spaces : Spaces) (codes : Coding) (total : ℕ) (r : Refusal) → IsJudging bytes left spaces codes → total ≡ length bytes → left.parts ≡ [] → ending_fault total left.ending ≡ Some r → IsVerdictOf bytes (Rejected r)
+is_refused bytes left spaces codes total r j len none fault =
+    lifted bytes r (judging.is_refused bytes left spaces codes.count total r j.judged len none fault)
+    (λ s f. absurd (no_text_left (items_of j.judged.front) (length (bodies_of j.judged.front)) codes.words left.parts s none (j.text_left s f)))
 
 -- a body is at fault
-pub body_refused : (bytes : List ℕ) (left : Run) (spaces : Spaces) (codes : List Code) (words : ℕ) (b : Body) (r : Refusal) → IsJudging bytes (after_part (Coded b) left) spaces codes words
-    → IsCodeFault (body_of_spaces spaces (length codes) b) (read_of b).code r → IsVerdictOf bytes (Rejected r)
-body_refused bytes left spaces codes words b r j f =
-    lifted bytes r (judging.body_refused bytes left spaces (length codes) b r j.judged f) (λ s t. no_text s (j.text_left s t))
+pub body_refused : (bytes : List ℕ) (left : Run) (spaces : Spaces) (codes : Coding) (b : Body) (r : Refusal) → IsJudging bytes (after_part (Coded b) left) spaces codes
+    → IsCodeFault (body_of_spaces spaces codes.count b) (read_of b).code r → IsVerdictOf bytes (Rejected r)
+body_refused bytes left spaces codes b r j f =
+    lifted bytes r (judging.body_refused bytes left spaces codes.count b r j.judged f) (λ s t. no_text s (j.text_left s t))
   where
     here : IsCodeFault (context_at (items_of j.judged.front) (length (bodies_of j.judged.front)) b) (read_of b).code r
-    here = rw (context_is bytes (after_part (Coded b) left) spaces (length codes) b j.judged) at f
+    here = rw (context_is bytes (after_part (Coded b) left) spaces codes.count b j.judged) at f
 
-    no_text : (s : Refusal) → IsTextFault (items_of j.judged.front) (length (bodies_of j.judged.front)) words (Coded b ∷ left.parts) s → r.offset ≤ s.offset
+    no_text : (s : Refusal) → IsTextFault (items_of j.judged.front) (length (bodies_of j.judged.front)) codes.words (Coded b ∷ left.parts) s → r.offset ≤ s.offset
     no_text s (tree, v, t) = absurd (valid_has_no_fault (context_at (items_of j.judged.front) (length (bodies_of j.judged.front)) b) (read_of b).code tree r v here)
 
-module _ (bytes : List ℕ) (left : Run) (spaces : Spaces) (codes : List Code) (words at id total : ℕ) (j : IsJudging bytes (after_part (Section at id) left) spaces codes words) (len : total ≡ length bytes) (out : is_compiled_section id ≡ false) where
+module _ (bytes : List ℕ) (left : Run) (spaces : Spaces) (codes : Coding) (at id total : ℕ) (j : IsJudging bytes (after_part (Section at id) left) spaces codes) (len : total ≡ length bytes) (out : is_compiled_section id ≡ false) where
   text_later : (s : Refusal) → IsTextFault [] 0 0 (module_run bytes).parts s → at < s.offset
   text_later s f =
       let around = around_section first_section (length bytes) j.judged.front at id left.parts (rw j.judged.parts at (parts_in_module bytes)) in
-      let k = text_after (suc at) (length bytes) (items_of j.judged.front) (length (bodies_of j.judged.front)) words left.parts s around.3 (j.text_left s f) in
+      let k = text_after (suc at) (length bytes) (items_of j.judged.front) (length (bodies_of j.judged.front)) codes.words left.parts s around.3 (j.text_left s f) in
       omega arith
 
   pub section_refused : (0 < length left.parts) ⊎ (ending_fault total left.ending ≡ None) → IsVerdictOf bytes (Rejected (unsupported_at at))
   section_refused more =
-      lifted bytes (unsupported_at at) (judging.section_refused bytes left spaces (length codes) at id total j.judged len out more)
+      lifted bytes (unsupported_at at) (judging.section_refused bytes left spaces codes.count at id total j.judged len out more)
       (λ s f. let k = text_later s f in omega arith)
 
   pub header_refused : (e : Refusal) → left.parts ≡ [] → ending_fault total left.ending ≡ Some e → IsVerdictOf bytes (Rejected (earlier e (unsupported_at at)))
   header_refused e none fault =
-      lifted bytes (earlier e (unsupported_at at)) (judging.header_refused bytes left spaces (length codes) at id total j.judged len out e none fault)
-      (λ s f. absurd (no_text_left (items_of j.judged.front) (length (bodies_of j.judged.front)) words left.parts s none (j.text_left s f)))
+      lifted bytes (earlier e (unsupported_at at)) (judging.header_refused bytes left spaces codes.count at id total j.judged len out e none fault)
+      (λ s f. absurd (no_text_left (items_of j.judged.front) (length (bodies_of j.judged.front)) codes.words left.parts s none (j.text_left s f)))
 
 -- ---- a body's code
 
-module _ (bytes : List ℕ) (left : Run) (spaces : Spaces) (codes : List Code) (words : ℕ) (b : Body) (j : IsJudging bytes (after_part (Coded b) left) spaces codes words) (tree : Seq) (code : Code)
-    (valid : IsValidCode (body_of_spaces spaces (length codes) b) (read_of b).code tree)
+module _ (bytes : List ℕ) (left : Run) (spaces : Spaces) (codes : Coding) (b : Body) (j : IsJudging bytes (after_part (Coded b) left) spaces codes) (tree : Seq) (code : Code)
+    (valid : IsValidCode (body_of_spaces spaces codes.count b) (read_of b).code tree)
     (is_code : IsCodeOf (items_of j.judged.front) (length (bodies_of j.judged.front)) b tree code) where
   abbrev pub items : List Item
   items = items_of j.judged.front
@@ -128,14 +132,14 @@ module _ (bytes : List ℕ) (left : Run) (spaces : Spaces) (codes : List Code) (
   k = length (bodies_of j.judged.front)
 
   here : IsValidCode (context_at items k b) (read_of b).code tree
-  here = rw (context_is bytes (after_part (Coded b) left) spaces (length codes) b j.judged) at valid
+  here = rw (context_is bytes (after_part (Coded b) left) spaces codes.count b j.judged) at valid
 
   size_is : (t : Seq) → IsValidCode (context_at items k b) (read_of b).code t → size_of items k b t ≡ length code.words
   size_is t v = ap (size_of items k b) (tree_once items k b t tree v here) ∙ sym is_code.size
 
   -- with it the text passes its limit
-  pub text_passes : max_text < text_bytes items (words + length code.words) → IsVerdictOf bytes (Rejected (limit_at b.size))
-  text_passes over = (inr (j.text_whole (limit_at b.size) (tree, here, inl (subst (λ (n : ℕ). max_text < text_bytes items (words + n)) is_code.size over, refl))), λ s f. no_less s f)
+  pub text_passes : max_text < text_bytes items (codes.words + length code.words) → IsVerdictOf bytes (Rejected (limit_at b.size))
+  text_passes over = (inr (j.text_whole (limit_at b.size) (tree, here, inl (subst (λ (n : ℕ). max_text < text_bytes items (codes.words + n)) is_code.size over, refl))), λ s f. no_less s f)
     where
       around : AreOrdered first_section b.size j.judged.front × BodyStands first_section (length bytes) b × AreOrdered (end_of b) (length bytes) left.parts
       around = around_body first_section (length bytes) j.judged.front b left.parts (rw j.judged.parts at (parts_in_module bytes))
@@ -147,7 +151,7 @@ module _ (bytes : List ℕ) (left : Run) (spaces : Spaces) (codes : List Code) (
           omega (arith, stands.sized, stands.before)
       of_outside s (inr e) =
           let stands = around.1 in
-          let later = section_after (end_of b) (length bytes) left.parts s around.2 (sym (outside_rest bytes (after_part (Coded b) left) spaces (length codes) j.judged) ∙ e) in
+          let later = section_after (end_of b) (length bytes) left.parts s around.2 (sym (outside_rest bytes (after_part (Coded b) left) spaces codes.count j.judged) ∙ e) in
           omega (arith, stands.sized)
 
       of_inside : (s : Refusal) → IsFaultInside items k (Coded b ∷ left.parts) s → b.size ≤ s.offset
@@ -157,57 +161,48 @@ module _ (bytes : List ℕ) (left : Run) (spaces : Spaces) (codes : List Code) (
           let later = fault_after (end_of b) (length bytes) items (suc k) left.parts s around.2 g in
           omega (arith, stands.sized)
 
-      of_text : (s : Refusal) → IsTextFault items k words (Coded b ∷ left.parts) s → b.size ≤ s.offset
+      of_text : (s : Refusal) → IsTextFault items k codes.words (Coded b ∷ left.parts) s → b.size ≤ s.offset
       of_text s (t, v, inl g) = let at : s.offset ≡ b.size = ap (λ (x : Refusal). x.offset) g.1 in omega arith
       of_text s (t, v, inr g) =
           let stands = around.1 in
-          let later = text_after (end_of b) (length bytes) items (suc k) (words + size_of items k b t) left.parts s around.2 g.1 in
+          let later = text_after (end_of b) (length bytes) items (suc k) (codes.words + size_of items k b t) left.parts s around.2 g.1 in
           omega (arith, stands.sized)
 
       no_less : (s : Refusal) → IsFaultOf bytes s → b.size ≤ s.offset
       no_less s (inl (inl g)) = of_outside s g.0
-      no_less s (inl (inr g)) = of_inside s (inside_rest bytes (after_part (Coded b) left) spaces (length codes) s j.judged g)
+      no_less s (inl (inr g)) = of_inside s (inside_rest bytes (after_part (Coded b) left) spaces codes.count s j.judged g)
       no_less s (inr g) = of_text s (j.text_left s g)
 
   -- with it the text keeps the limit
-  module _ (under : text_bytes items (words + length code.words) ≤ max_text) where
-    here_to_later : (r : Refusal) → IsTextFault items k words (Coded b ∷ left.parts) r → IsTextFault items (suc k) (words + length code.words) left.parts r
+  module _ (under : text_bytes items (codes.words + length code.words) ≤ max_text) where
+    here_to_later : (r : Refusal) → IsTextFault items k codes.words (Coded b ∷ left.parts) r → IsTextFault items (suc k) (codes.words + length code.words) left.parts r
     here_to_later r (t, v, inl f) = absurd (omega (arith, f.0, under, size_is t v))
-    here_to_later r (t, v, inr f) = subst (λ (n : ℕ). IsTextFault items (suc k) (words + n) left.parts r) (size_is t v) f.1
+    here_to_later r (t, v, inr f) = subst (λ (n : ℕ). IsTextFault items (suc k) (codes.words + n) left.parts r) (size_is t v) f.1
 
-    later_to_here : (r : Refusal) → IsTextFault items (suc k) (words + length code.words) left.parts r → IsTextFault items k words (Coded b ∷ left.parts) r
+    later_to_here : (r : Refusal) → IsTextFault items (suc k) (codes.words + length code.words) left.parts r → IsTextFault items k codes.words (Coded b ∷ left.parts) r
     later_to_here r f = (
       tree,
       here,
       inr (
-        subst (λ (n : ℕ). text_bytes items (words + n) ≤ max_text) is_code.size under,
-        subst (λ (n : ℕ). IsTextFault items (suc k) (words + n) left.parts r) is_code.size f,
+        subst (λ (n : ℕ). text_bytes items (codes.words + n) ≤ max_text) is_code.size under,
+        subst (λ (n : ℕ). IsTextFault items (suc k) (codes.words + n) left.parts r) is_code.size f,
       ),
     )
 
-    pub after_body : IsJudging bytes left spaces (codes ++ code ∷ []) (words + length code.words)
+    pub after_body : IsJudging bytes left spaces (with_code codes code)
     after_body =
         let front = j.judged.front in
-        let g = judging.after_body bytes left spaces (length codes) b tree j.judged valid in
         let items_are : items_of (front ++ Coded b ∷ []) ≡ items = items_of-append front (Coded b ∷ []) ∙ append-nil items in
         let count : length (bodies_of (front ++ Coded b ∷ [])) ≡ suc k = omega (arith, ap (λ (l : List Body). length l) (bodies_of-append front (Coded b ∷ [])), length-append (bodies_of front) (b ∷ [])) in
         let e : 0 + k ≡ k = omega arith in
         record {
-          judged = record {
-            front = g.front;
-            parts = g.parts;
-            ending = g.ending;
-            spaces_are = g.spaces_are;
-            count = omega (arith, g.count, length-append codes (code ∷ []));
-            compiled = g.compiled;
-            trees = g.trees;
-            valid = g.valid;
-          };
-          coded = codes_both [] 0 front (Coded b ∷ []) j.judged.trees (tree ∷ []) codes (code ∷ []) j.coded (rw e (is_code, tt));
-          words_are = omega (arith, j.words_are, words_more codes code);
+          judged = judging.after_body bytes left spaces codes.count b tree j.judged valid;
+          all = j.all ++ code ∷ [];
+          are_all = all_more codes j.all code j.are_all;
+          coded = codes_both [] 0 front (Coded b ∷ []) j.judged.trees (tree ∷ []) j.all (code ∷ []) j.coded (rw e (is_code, tt));
           fits = omega (arith, under);
-          text_left = λ r f. moved bytes left (codes ++ code ∷ []) (words + length code.words) items _ (suc k) _ left.parts r (sym items_are) (sym count) (here_to_later r (j.text_left r f));
-          text_whole = λ r f. j.text_whole r (later_to_here r (moved bytes left (codes ++ code ∷ []) (words + length code.words) _ items _ (suc k) left.parts r items_are count f));
+          text_left = λ r f. moved bytes left (with_code codes code) items _ (suc k) _ left.parts r (sym items_are) (sym count) (here_to_later r (j.text_left r f));
+          text_whole = λ r f. j.text_whole r (later_to_here r (moved bytes left (with_code codes code) _ items _ (suc k) left.parts r items_are count f));
         }
 
 -- ---- the whole
@@ -219,16 +214,16 @@ pub record IsWhole (bytes : List ℕ) (spaces : Spaces) (codes : List Code) (m :
   pub coded : AreCodesOf m.items 0 m.bodies m.trees codes
   pub words : 4 * (2 + length (words_of codes)) ≤ max_text
 
-pub is_whole : (bytes : List ℕ) (left : Run) (spaces : Spaces) (codes : List Code) (words : ℕ) (seen : Seen) → IsJudging bytes left spaces codes words → left ≡ ends (Whole seen) → (m : Module) × IsWhole bytes spaces codes m
-is_whole bytes left spaces codes words seen j whole =
+pub is_whole : (bytes : List ℕ) (left : Run) (spaces : Spaces) (codes : Coding) (seen : Seen) → (j : IsJudging bytes left spaces codes) → left ≡ ends (Whole seen) → (m : Module) × IsWhole bytes spaces j.all m
+is_whole bytes left spaces codes seen j whole =
     let all : (module_run bytes).parts ≡ j.judged.front = j.judged.parts ∙ ap (λ (r : Run). j.judged.front ++ r.parts) whole ∙ append-nil j.judged.front in
-    let m = judging.is_module bytes left spaces (length codes) seen spaces.declared j.judged whole refl in
+    let m = judging.is_module bytes left spaces codes.count seen spaces.declared j.judged whole refl in
     let m' : Module = record { items = items_of (module_run bytes).parts; bodies = bodies_of (module_run bytes).parts; trees = j.judged.trees } in (
       m',
       record {
         is = m.1;
         spaces_are = j.judged.spaces_are ∙ ap (λ (l : List Part). spaces_of (items_of l)) (sym all);
-        coded = codes_of_module bytes j.judged.trees codes (rw all j.coded);
-        words = omega (arith, j.fits, j.words_are);
+        coded = codes_of_module bytes j.judged.trees j.all (rw all j.coded);
+        words = omega (arith, j.fits, j.are_all.words);
       },
     )

@@ -35,10 +35,6 @@ parts_after (x ∷ xs) r = ap (λ (l : List Part). x ∷ l) (parts_after xs r)
 
 -- ---- the code section's bodies
 
--- what is behind the section
-behind_cursor : Seen → Cursor → Run
-behind_cursor seen c = sections_behind seen c.at c.end c.rest
-
 -- the section's end
 end_cut : (seen : Seen) (c : Cursor) (r : Read Nothing) → c.at ≤ c.end → Leaves c r
     → runs_on r (λ y e. sections seen e) ≡ given_run (goes_on r (λ x d. cut.ends Whole)) (sections_behind seen c.at c.end c.rest)

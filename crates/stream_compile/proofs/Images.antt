@@ -1,7 +1,6 @@
 -- What is linked of a whole module's codes is its image, and it can be run.
-use Rattle.std.proofs.Common.{◌≡◌, ℕ, zero, suc, ◌+◌, ◌*◌, ◌<◌, Bool, true, List, [], ◌∷◌, ◌++◌, map, length, None, refl, sym, ap, ◌∙◌, arith}
-use Rattle.std.specs.Prelude.{replicate, All, not}
-use Rattle.std.proofs.Common.{get_or}
+use Rattle.std.proofs.Common.{◌≡◌, ℕ, zero, suc, ◌+◌, ◌*◌, Bool, true, List, [], ◌∷◌, ◌++◌, map, length, None, refl, sym, ap, ◌∙◌}
+use Rattle.std.specs.Prelude.{replicate, not}
 use Rattle.std.proofs.lemmas.Bool.{false≢true}
 use Rattle.std.proofs.lemmas.List.{map-append}
 use Rattle.rv_isa.specs.Words.{word_of}
@@ -105,13 +104,3 @@ module _ (m : Module) (codes : List Code) (plain : ArePlain m.items) (coded : Ar
       ∙ ap (λ (l : List Export). image_by (map word_of (text_of m)) (value_words (values_of m.items)) (table_of m true) (pages_of m.items) (cap_of m.items) (placed_segments m true) (image_of m).imports l 0 (not true)) exports_are
       ∙ ap (λ o. image_by (map word_of (text_of m)) (value_words (values_of m.items)) (table_of m true) (pages_of m.items) (cap_of m.items) (placed_segments m true) (image_of m).imports (image_of m).exports (start_offset m o) (not true)) (sym none.start)
       ∙ ap (λ (b : Bool). image_by (map word_of (text_of m)) (value_words (values_of m.items)) (table_of m b) (pages_of m.items) (cap_of m.items) (placed_segments m b) (image_of m).imports (image_of m).exports (image_of m).start (not b)) (sym linkable)
-
--- ---- bytes
-
-each_byte : (bytes : List ℕ) → ((i : ℕ) → get_or bytes i 0 < 256) → (k d : ℕ) → k < length bytes → get_or bytes k d < 256
-each_byte [] h k d lt = absurd (omega arith)
-each_byte (b ∷ bytes) h zero d lt = h 0
-each_byte (b ∷ bytes) h (suc k) d lt = each_byte bytes (λ i. h (suc i)) k d (omega arith)
-
-pub all_bytes : (bytes : List ℕ) → ((i : ℕ) → get_or bytes i 0 < 256) → All (λ b. b < 256) bytes
-all_bytes bytes h = λ k d lt. each_byte bytes h k d lt

@@ -3,7 +3,7 @@ pub mod Parts
 pub mod Order
 pub mod TextFaults
 pub mod Judging
-pub mod Codes
+pub mod CodeWords
 pub mod Compiled
 pub mod Taking
 pub mod CutRuns

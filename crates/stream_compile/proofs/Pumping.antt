@@ -5,9 +5,8 @@ use Rattle.std.proofs.lemmas.List.{append-nil, take-append-le}
 use Rattle.wasm_defs.specs.declared.front_stop.FrontStop.{FrontStop}
 use Rattle.wasm_defs.specs.declared.front_stop.FrontStop.TheVariants.{Refused, NoMemory}
 use Rattle.io_edges.specs.Causes.{Rose}
-use Rattle.stream_compile.specs.declared.answer.Built.{Built}
 use Rattle.stream_compile.specs.declared.compilation.Compilation.{Compilation}
-use Rattle.stream_compile.specs.Progress.{Decides}
+use Rattle.stream_compile.specs.Done.{Decides}
 use Rattle.stream_compile.specs.Reading.{Settles, Settled}
 use Rattle.stream_compile.specs.Streaming.{IsGoing, GoesOn}
 use Rattle.stream_compile.proofs.Settling.{settled_end, settled_fault, settled_full, settled_early}
@@ -31,20 +30,20 @@ module _ (s : Compilation) (came piece : List ℕ) (going : (more : List ℕ) �
 -- ---- what is settled
 
 module _ (came : List ℕ) (old new : Option (List ℕ)) (before now : ℕ) (e : old ≡ prepend_known came new) where
-  pub early : (s : FrontStop) (state : Compilation) → now ≡ before → length came ≤ 67108869 → ((more : List ℕ) → length (came ++ more) ≤ 67108869 → GoesOn (came ++ more) (Err s) state more) → Settled false (Err s) old before now
+  pub early : (s : FrontStop) (state : Compilation) → now ≡ before → length came ≤ 67108869 → ((more : List ℕ) → length (came ++ more) ≤ 67108869 → GoesOn (came ++ more) (Err s) state more) → Settled false (Err s) state old before now
   early (Refused r) state same few v = settled_early came r old new before now e same few v
   early NoMemory state same few v = tt
 
-  whole : (failed : Bool) (r : Result Built FrontStop) → Settles came failed old before now → Decides came r → Settled failed r old before now
-  whole failed (Ok built) s d = (came, s, d)
-  whole failed (Err (Refused r)) s d = (came, s, d)
-  whole failed (Err NoMemory) s d = tt
+  whole : (failed : Bool) (r : Result (Unit {0}) FrontStop) (state : Compilation) → Settles came failed old before now → Decides came r state → Settled failed r state old before now
+  whole failed (Ok done) state s d = (came, s, d)
+  whole failed (Err (Refused r)) state s d = (came, s, d)
+  whole failed (Err NoMemory) state s d = tt
 
-  pub at_end : (r : Result Built FrontStop) → IsAtEnd new → now ≡ before → Decides came r → Settled false r old before now
-  at_end r end same d = whole false r (settled_end came old new before now e end same) d
+  pub at_end : (r : Result (Unit {0}) FrontStop) (state : Compilation) → IsAtEnd new → now ≡ before → Decides came r state → Settled false r state old before now
+  at_end r state end same d = whole false r state (settled_end came old new before now e end same) d
 
-  pub at_fault : (r : Result Built FrontStop) → before < 2 ^ 64 - 1 → Rose before now → Decides came r → Settled true r old before now
-  at_fault r few rose d = whole true r (settled_fault came old new before now few e rose) d
+  pub at_fault : (r : Result (Unit {0}) FrontStop) (state : Compilation) → before < 2 ^ 64 - 1 → Rose before now → Decides came r state → Settled true r state old before now
+  at_fault r state few rose d = whole true r state (settled_fault came old new before now few e rose) d
 
-  pub at_limit : (r : Result Built FrontStop) → 67108869 ≤ length came → now ≡ before → Decides came r → Settled false r old before now
-  at_limit r le same d = whole false r (settled_full came old new before now e le same) d
+  pub at_limit : (r : Result (Unit {0}) FrontStop) (state : Compilation) → 67108869 ≤ length came → now ≡ before → Decides came r state → Settled false r state old before now
+  at_limit r state le same d = whole false r state (settled_full came old new before now e le same) d

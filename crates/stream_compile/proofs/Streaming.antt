@@ -2,7 +2,6 @@
 use Rattle.std.specs.Prelude.{◌⊎◌, IsSome, is_some}
 use Rattle.std.proofs.lemmas.List.{append-nil, nil_from_length}
 use Rattle.std.proofs.Common.{◌≡◌, ℕ, ◌+◌, ◌^◌, ◌≤◌, ◌<◌, inl, inr, true, false, List, [], ◌∷◌, ◌++◌, length, drop, Option, Some, None, Err, refl, sym, ap, subst, ◌∙◌, arith, length-append, length-drop}
-use Rattle.rv_isa.specs.declared.compiled.Code.{Code}
 use Rattle.wasm_defs.specs.declared.fault.Refusal.{Refusal}
 use Rattle.wasm_defs.specs.declared.item.Item.{Item}
 use Rattle.wasm_defs.specs.declared.item.Item.TheVariants as item
@@ -29,8 +28,10 @@ use Rattle.stream_compile.specs.CutBodies.{coded_all, cut_run, sections_behind}
 use Rattle.wasm_defs.specs.declared.fault.Kind.TheVariants.{Ended}
 use Rattle.wasm_defs.specs.declared.front_stop.FrontStop.{FrontStop}
 use Rattle.wasm_defs.specs.declared.front_stop.FrontStop.TheVariants as stop
-use Rattle.stream_compile.specs.Progress.{IsJudging, TakesPart, Decides}
-use Rattle.stream_compile.specs.Streaming.{mode_weight, work_left, left_of, IsOutside, IsInside, IsPlaced, IsGoing, IsTaking, IsWaiting, TakesBatches, TakesItem, Advances, GoesOn, with_cutter, earliest}
+use Rattle.stream_compile.specs.Codes.{Coding, AreAll}
+use Rattle.stream_compile.specs.Progress.{IsJudging, TakesPart}
+use Rattle.stream_compile.specs.Done.{Decides}
+use Rattle.stream_compile.specs.Streaming.{mode_weight, work_left, left_of, IsOutside, IsInside, IsPlaced, IsGoing, IsTaking, IsWaiting, TakesItem, Advances, GoesOn, with_cutter, earliest}
 use Rattle.stream_compile.proofs.CutRuns.{after_append, entries_cut, handed_run}
 use Rattle.stream_compile.proofs.Cutting.{run_fed, count_fed, whole_run, whole_at, refused_run, ended_run, prompt_on, rest_run, split_rest, rest_is}
 use Rattle.stream_compile.proofs.Compiled.{begins, after_item, is_refused}
@@ -42,70 +43,70 @@ use Rattle.stream_compile.proofs.Told.{sections_append, first_more, sections_tak
 -- ---- what came is right but for the sections that were begun
 
 -- and this is left
-pub record IsRight (bytes : List ℕ) (f : Front) (run : Run) (spaces : Spaces) (codes : List Code) (words : ℕ) : Type 0 where
+pub record IsRight (bytes : List ℕ) (f : Front) (run : Run) (spaces : Spaces) (codes : Coding) : Type 0 where
   pub few : length bytes ≤ 67108869
   pub told : List Part
   pub sections : AreSections told
   pub first : outside_of f.steps.uncompiled [] ≡ first_outside is_compiled_section (sections_of told)
-  pub judging : IsJudging bytes (after_parts told run) spaces codes words
+  pub judging : IsJudging bytes (after_parts told run) spaces codes
 
-pub record IsReading (bytes : List ℕ) (f : Front) (spaces : Spaces) (codes : List Code) (words : ℕ) (more : List ℕ) : Type 0 where
-  pub right : IsRight bytes f (onward_left f more) spaces codes words
+pub record IsReading (bytes : List ℕ) (f : Front) (spaces : Spaces) (codes : Coding) (more : List ℕ) : Type 0 where
+  pub right : IsRight bytes f (onward_left f more) spaces codes
   pub place : IsOutside f (length bytes) more
 
-pub record IsCutting (bytes : List ℕ) (f : Front) (c : Cutting) (spaces : Spaces) (codes : List Code) (words : ℕ) (more : List ℕ) : Type 0 where
+pub record IsCutting (bytes : List ℕ) (f : Front) (c : Cutting) (spaces : Spaces) (codes : Coding) (more : List ℕ) : Type 0 where
   pub few : length bytes ≤ 67108869
   pub none : outside_of f.steps.uncompiled [] ≡ None
-  pub judging : IsJudging bytes (cut_run (left c more) (sections_behind f.steps.seen c.place.at c.place.end more)) spaces codes words
+  pub judging : IsJudging bytes (cut_run (left c more) (sections_behind f.steps.seen c.place.at c.place.end more)) spaces codes
   pub skips : can_skip f c.place.end ≡ true
   pub count : c.place.at + length more ≡ length bytes
 
 module _ (bytes : List ℕ) (s : Compilation) (more : List ℕ) where
-  pub reading_of : s.cutter ≡ None → IsGoing bytes s more → IsReading bytes s.front s.spaces s.codes.items s.words more
+  pub reading_of : s.cutter ≡ None → IsGoing bytes s more → IsReading bytes s.front s.spaces s.codes more
   reading_of e g = record {
-    right = record { few = g.few; told = g.told; sections = g.sections; first = g.first; judging = subst (λ (o : Option Cutting). IsJudging bytes (after_parts g.told (left_of s.front o more)) s.spaces s.codes.items s.words) e g.judging };
+    right = record { few = g.few; told = g.told; sections = g.sections; first = g.first; judging = subst (λ (o : Option Cutting). IsJudging bytes (after_parts g.told (left_of s.front o more)) s.spaces s.codes) e g.judging };
     place = subst (λ (o : Option Cutting). IsPlaced s.front o g.told (length bytes) more) e g.place;
   }
 
-  pub going_reading : s.cutter ≡ None → IsReading bytes s.front s.spaces s.codes.items s.words more → IsGoing bytes s more
+  pub going_reading : s.cutter ≡ None → IsReading bytes s.front s.spaces s.codes more → IsGoing bytes s more
   going_reading e r = record {
     few = r.right.few;
     told = r.right.told;
     sections = r.right.sections;
     first = r.right.first;
-    judging = subst (λ (o : Option Cutting). IsJudging bytes (after_parts r.right.told (left_of s.front o more)) s.spaces s.codes.items s.words) (sym e) r.right.judging;
+    judging = subst (λ (o : Option Cutting). IsJudging bytes (after_parts r.right.told (left_of s.front o more)) s.spaces s.codes) (sym e) r.right.judging;
     place = subst (λ (o : Option Cutting). IsPlaced s.front o r.right.told (length bytes) more) (sym e) r.place;
   }
 
   module _ (c : Cutting) (e : s.cutter ≡ Some c) where
-    pub cutting_of : IsGoing bytes s more → IsCutting bytes s.front c s.spaces s.codes.items s.words more
+    pub cutting_of : IsGoing bytes s more → IsCutting bytes s.front c s.spaces s.codes more
     cutting_of g =
         let place : IsInside s.front c g.told (length bytes) more = subst (λ (o : Option Cutting). IsPlaced s.front o g.told (length bytes) more) e g.place in
-        let judging : IsJudging bytes (after_parts g.told (left_of s.front (Some c) more)) s.spaces s.codes.items s.words = subst (λ (o : Option Cutting). IsJudging bytes (after_parts g.told (left_of s.front o more)) s.spaces s.codes.items s.words) e g.judging in
+        let judging : IsJudging bytes (after_parts g.told (left_of s.front (Some c) more)) s.spaces s.codes = subst (λ (o : Option Cutting). IsJudging bytes (after_parts g.told (left_of s.front o more)) s.spaces s.codes) e g.judging in
         record {
           few = g.few;
           none = g.first ∙ ap (λ (l : List Part). first_outside is_compiled_section (sections_of l)) place.none;
-          judging = subst (λ (l : List Part). IsJudging bytes (after_parts l (left_of s.front (Some c) more)) s.spaces s.codes.items s.words) place.none judging;
+          judging = subst (λ (l : List Part). IsJudging bytes (after_parts l (left_of s.front (Some c) more)) s.spaces s.codes) place.none judging;
           skips = place.skips;
           count = place.count;
         }
 
-    pub going_cutting : IsCutting bytes s.front c s.spaces s.codes.items s.words more → IsGoing bytes s more
+    pub going_cutting : IsCutting bytes s.front c s.spaces s.codes more → IsGoing bytes s more
     going_cutting k = record {
       few = k.few;
       told = [];
       sections = tt;
       first = k.none;
-      judging = subst (λ (o : Option Cutting). IsJudging bytes (left_of s.front o more) s.spaces s.codes.items s.words) (sym e) k.judging;
+      judging = subst (λ (o : Option Cutting). IsJudging bytes (left_of s.front o more) s.spaces s.codes) (sym e) k.judging;
       place = subst (λ (o : Option Cutting). IsPlaced s.front o [] (length bytes) more) (sym e) (record { none = refl; skips = k.skips; count = k.count });
     }
 
 -- ---- before the first byte
 
-pub reading_begins : (bytes : List ℕ) (f : Front) (spaces : Spaces) → length bytes ≤ 67108869 → onward_left f bytes ≡ module_run bytes → total f ≡ 0 → is_at_bodies f.steps.stage ≡ false → f.steps.uncompiled ≡ None → f.waiting ≡ None → spaces ≡ spaces_of []
-    → IsReading bytes f spaces [] 0 bytes
-reading_begins bytes f spaces few is none apart first idle empty = record {
-  right = record { few = few; told = []; sections = tt; first = ap (λ (o : Option ℕ). outside_of o []) first; judging = begins bytes (onward_left f bytes) spaces is empty };
+pub reading_begins : (bytes : List ℕ) (f : Front) (spaces : Spaces) (codes : Coding) → length bytes ≤ 67108869 → onward_left f bytes ≡ module_run bytes → total f ≡ 0 → is_at_bodies f.steps.stage ≡ false → f.steps.uncompiled ≡ None → f.waiting ≡ None → spaces ≡ spaces_of [] → AreAll codes []
+    → IsReading bytes f spaces codes bytes
+reading_begins bytes f spaces codes few is none apart first idle empty uncoded = record {
+  right = record { few = few; told = []; sections = tt; first = ap (λ (o : Option ℕ). outside_of o []) first; judging = begins bytes (onward_left f bytes) spaces codes is empty uncoded };
   place = record { idle = idle; outside = apart; count = omega (arith, none) };
 }
 
@@ -114,12 +115,12 @@ reading_begins bytes f spaces few is none apart first idle empty = record {
 length_left : (n : ℕ) (xs : List ℕ) → n ≤ length xs → n + length (drop n xs) ≡ length xs
 length_left n xs h = omega (arith, length-drop n xs)
 
-module _ (bytes : List ℕ) (f g h : Front) (spaces : Spaces) (codes : List Code) (words : ℕ) (piece more : List ℕ) (taken : ℕ) (few : taken ≤ length piece) (fed : FedOnward f piece taken g) (item : Option Item)
+module _ (bytes : List ℕ) (f g h : Front) (spaces : Spaces) (codes : Coding) (piece more : List ℕ) (taken : ℕ) (few : taken ≤ length piece) (fed : FedOnward f piece taken g) (item : Option Item)
     (same : (later : List ℕ) → onward_left g later ≡ prepend item (onward_left h later)) (steps : h.steps ≡ g.steps) (count : total h ≡ total g) where
   abbrev pub later : List ℕ
   later = drop taken piece ++ more
 
-  pub right_fed : IsReading bytes f spaces codes words (piece ++ more) → IsRight bytes h (prepend item (onward_left h later)) spaces codes words
+  pub right_fed : IsReading bytes f spaces codes (piece ++ more) → IsRight bytes h (prepend item (onward_left h later)) spaces codes
   right_fed r =
       let t : Told f piece taken g = fed.told r.place.outside in
       record {
@@ -127,24 +128,24 @@ module _ (bytes : List ℕ) (f g h : Front) (spaces : Spaces) (codes : List Code
         told = r.right.told ++ t.told;
         sections = sections_append r.right.told t.told r.right.sections t.sections;
         first = ap (λ (s : Steps). outside_of s.uncompiled []) steps ∙ first_more r.right.told t.told f.steps.uncompiled g.steps.uncompiled r.right.first t.first;
-        judging = judging_on bytes (after_parts r.right.told (onward_left f (piece ++ more))) (after_parts (r.right.told ++ t.told) (prepend item (onward_left h later))) spaces codes words
+        judging = judging_on bytes (after_parts r.right.told (onward_left f (piece ++ more))) (after_parts (r.right.told ++ t.told) (prepend item (onward_left h later))) spaces codes
             (ap (after_parts r.right.told) (t.run more ∙ ap (after_parts t.told) (same later)) ∙ sym (after_append r.right.told t.told (prepend item (onward_left h later))))
             r.right.judging;
       }
 
-  pub count_later : IsReading bytes f spaces codes words (piece ++ more) → total h + length later ≡ length bytes
+  pub count_later : IsReading bytes f spaces codes (piece ++ more) → total h + length later ≡ length bytes
   count_later r = omega (arith, r.place.count, count, fed.count, few, length-append piece more, length-append (drop taken piece) more, length_left taken piece few)
 
 -- no item is whole
-pub reading_on : (bytes : List ℕ) (f g h : Front) (spaces : Spaces) (codes : List Code) (words : ℕ) (piece more : List ℕ) (taken : ℕ) → taken ≤ length piece → FedOnward f piece taken g
+pub reading_on : (bytes : List ℕ) (f g h : Front) (spaces : Spaces) (codes : Coding) (piece more : List ℕ) (taken : ℕ) → taken ≤ length piece → FedOnward f piece taken g
     → ((later : List ℕ) → onward_left g later ≡ onward_left h later) → h.steps ≡ g.steps → total h ≡ total g → g.waiting ≡ None → h.waiting ≡ None
-    → IsReading bytes f spaces codes words (piece ++ more) → IsReading bytes h spaces codes words (drop taken piece ++ more)
-reading_on bytes f g h spaces codes words piece more taken few fed same steps count none idle r = record {
-  right = right_fed bytes f g h spaces codes words piece more taken few fed None same steps count r;
+    → IsReading bytes f spaces codes (piece ++ more) → IsReading bytes h spaces codes (drop taken piece ++ more)
+reading_on bytes f g h spaces codes piece more taken few fed same steps count none idle r = record {
+  right = right_fed bytes f g h spaces codes piece more taken few fed None same steps count r;
   place = record {
     idle = idle;
     outside = ap (λ (s : Steps). is_at_bodies s.stage) steps ∙ fed.apart r.place.outside none;
-    count = count_later bytes f g h spaces codes words piece more taken few fed None same steps count r;
+    count = count_later bytes f g h spaces codes piece more taken few fed None same steps count r;
   };
 }
 
@@ -164,16 +165,16 @@ all_known f x e =
 -- ---- faults outside bodies
 
 -- these sections were begun, and the module ends so
-module _ (bytes : List ℕ) (spaces : Spaces) (codes : List Code) (words : ℕ) (told : List Part) (ending : Ending) (are : AreSections told) where
-  pub ends_at : (first : Option ℕ) (e : Refusal) → outside_of first [] ≡ first_outside is_compiled_section (sections_of told) → ending_fault (length bytes) ending ≡ Some e → IsJudging bytes (after_parts told (ends ending)) spaces codes words → IsVerdictOf bytes (Rejected (earliest first e))
-  ends_at None e first is j = sections_end bytes spaces codes words told ending e are (sym first) is j
-  ends_at (Some at) e first is j = outside_ends bytes spaces codes words told ending (Some e) (unsupported_at at) are (sym first) is j
+module _ (bytes : List ℕ) (spaces : Spaces) (codes : Coding) (told : List Part) (ending : Ending) (are : AreSections told) where
+  pub ends_at : (first : Option ℕ) (e : Refusal) → outside_of first [] ≡ first_outside is_compiled_section (sections_of told) → ending_fault (length bytes) ending ≡ Some e → IsJudging bytes (after_parts told (ends ending)) spaces codes → IsVerdictOf bytes (Rejected (earliest first e))
+  ends_at None e first is j = sections_end bytes spaces codes told ending e are (sym first) is j
+  ends_at (Some at) e first is j = outside_ends bytes spaces codes told ending (Some e) (unsupported_at at) are (sym first) is j
 
-pub refused_reading : (bytes : List ℕ) (f g : Front) (spaces : Spaces) (codes : List Code) (words : ℕ) (piece more : List ℕ) (r : Refusal) → ToldRefused f piece r g → IsReading bytes f spaces codes words (piece ++ more) → IsVerdictOf bytes (Rejected (earliest (begun g) r))
-refused_reading bytes f g spaces codes words piece more r t p =
+pub refused_reading : (bytes : List ℕ) (f g : Front) (spaces : Spaces) (codes : Coding) (piece more : List ℕ) (r : Refusal) → ToldRefused f piece r g → IsReading bytes f spaces codes (piece ++ more) → IsVerdictOf bytes (Rejected (earliest (begun g) r))
+refused_reading bytes f g spaces codes piece more r t p =
     let told = p.right.told ++ t.told in
-    ends_at bytes spaces codes words told (Refused r) (sections_append p.right.told t.told p.right.sections t.sections) (begun g) r (first_more p.right.told t.told f.steps.uncompiled (begun g) p.right.first t.first) refl
-    (judging_on bytes (after_parts p.right.told (onward_left f (piece ++ more))) (after_parts told (ends (Refused r))) spaces codes words (ap (after_parts p.right.told) (t.run more) ∙ sym (after_append p.right.told t.told (ends (Refused r)))) p.right.judging)
+    ends_at bytes spaces codes told (Refused r) (sections_append p.right.told t.told p.right.sections t.sections) (begun g) r (first_more p.right.told t.told f.steps.uncompiled (begun g) p.right.first t.first) refl
+    (judging_on bytes (after_parts p.right.told (onward_left f (piece ++ more))) (after_parts told (ends (Refused r))) spaces codes (ap (after_parts p.right.told) (t.run more) ∙ sym (after_append p.right.told t.told (ends (Refused r)))) p.right.judging)
 
 -- ---- the bytes end outside the bodies
 
@@ -182,7 +183,7 @@ whole_of len (Whole seen) e = (seen, refl)
 whole_of len (Refused r) e = absurd cc
 whole_of len Owed e = absurd cc
 
-module _ (bytes : List ℕ) (f : Front) (spaces : Spaces) (codes : List Code) (words : ℕ) (fault : Option Refusal) (t : EndsOnward f fault) (p : IsReading bytes f spaces codes words []) where
+module _ (bytes : List ℕ) (f : Front) (spaces : Spaces) (codes : Coding) (fault : Option Refusal) (t : EndsOnward f fault) (p : IsReading bytes f spaces codes []) where
   abbrev all_told : List Part
   all_told = p.right.told ++ t.told
 
@@ -192,8 +193,8 @@ module _ (bytes : List ℕ) (f : Front) (spaces : Spaces) (codes : List Code) (w
   first_told : outside_of (begun f) [] ≡ first_outside is_compiled_section (sections_of all_told)
   first_told = first_more p.right.told t.told f.steps.uncompiled (begun f) p.right.first t.first
 
-  judging_told : IsJudging bytes (after_parts all_told (ends t.ending)) spaces codes words
-  judging_told = judging_on bytes (after_parts p.right.told (onward_left f [])) (after_parts all_told (ends t.ending)) spaces codes words (ap (after_parts p.right.told) t.run ∙ sym (after_append p.right.told t.told (ends t.ending))) p.right.judging
+  judging_told : IsJudging bytes (after_parts all_told (ends t.ending)) spaces codes
+  judging_told = judging_on bytes (after_parts p.right.told (onward_left f [])) (after_parts all_told (ends t.ending)) spaces codes (ap (after_parts p.right.told) t.run ∙ sym (after_append p.right.told t.told (ends t.ending))) p.right.judging
 
   all_read : total f ≡ length bytes
   all_read = omega (arith, p.place.count)
@@ -202,16 +203,16 @@ module _ (bytes : List ℕ) (f : Front) (spaces : Spaces) (codes : List Code) (w
   fault_is = ap (λ (n : ℕ). ending_fault n t.ending) (sym all_read) ∙ t.fault
 
   pub end_refused : (e : Refusal) → fault ≡ Some e → IsVerdictOf bytes (Rejected (earliest (begun f) e))
-  end_refused e is = ends_at bytes spaces codes words all_told t.ending are_told (begun f) e first_told (fault_is ∙ is) judging_told
+  end_refused e is = ends_at bytes spaces codes all_told t.ending are_told (begun f) e first_told (fault_is ∙ is) judging_told
 
   pub end_outside : (at : ℕ) → fault ≡ None → begun f ≡ Some at → IsVerdictOf bytes (Rejected (unsupported_at at))
-  end_outside at is e = outside_ends bytes spaces codes words all_told t.ending None (unsupported_at at) are_told (sym first_told ∙ ap (λ (o : Option ℕ). outside_of o []) e) (fault_is ∙ is) judging_told
+  end_outside at is e = outside_ends bytes spaces codes all_told t.ending None (unsupported_at at) are_told (sym first_told ∙ ap (λ (o : Option ℕ). outside_of o []) e) (fault_is ∙ is) judging_told
 
-  pub end_whole : fault ≡ None → begun f ≡ None → (seen : Seen) × IsJudging bytes (ends (Whole seen)) spaces codes words
+  pub end_whole : fault ≡ None → begun f ≡ None → (seen : Seen) × IsJudging bytes (ends (Whole seen)) spaces codes
   end_whole is e =
       let w = whole_of (length bytes) t.ending (fault_is ∙ is) in
-      let j = sections_taken bytes spaces codes words all_told (ends t.ending) are_told (sym first_told ∙ ap (λ (o : Option ℕ). outside_of o []) e) judging_told in
-      (w.0, judging_on bytes (ends t.ending) (ends (Whole w.0)) spaces codes words (ap ends w.1) j)
+      let j = sections_taken bytes spaces codes all_told (ends t.ending) are_told (sym first_told ∙ ap (λ (o : Option ℕ). outside_of o []) e) judging_told in
+      (w.0, judging_on bytes (ends t.ending) (ends (Whole w.0)) spaces codes (ap ends w.1) j)
 
 -- ---- items
 
@@ -220,20 +221,20 @@ module _ (bytes : List ℕ) (s : Compilation) (x : Item) (more : List ℕ) (t : 
   first_item o e = ap (λ (p : Option ℕ). outside_of p []) (sym e ∙ t.known) ∙ t.first
 
   pub item_outside : (at : ℕ) → begun s.front ≡ Some at → IsVerdictOf bytes (Rejected (unsupported_at at))
-  item_outside at e = outside_decides bytes s.spaces s.codes.items s.words t.told (after_part (Listed x) (onward_left s.front more)) (unsupported_at at) t.sections (sym (first_item (Some at) e)) (omega arith) t.judging
+  item_outside at e = outside_decides bytes s.spaces s.codes t.told (after_part (Listed x) (onward_left s.front more)) (unsupported_at at) t.sections (sym (first_item (Some at) e)) (omega arith) t.judging
 
   module _ (inside : begun s.front ≡ None) where
-    pub item_next : IsJudging bytes (after_part (Listed x) (onward_left s.front more)) s.spaces s.codes.items s.words
-    item_next = sections_taken bytes s.spaces s.codes.items s.words t.told (after_part (Listed x) (onward_left s.front more)) t.sections (sym (first_item None inside)) t.judging
+    pub item_next : IsJudging bytes (after_part (Listed x) (onward_left s.front more)) s.spaces s.codes
+    item_next = sections_taken bytes s.spaces s.codes t.told (after_part (Listed x) (onward_left s.front more)) t.sections (sym (first_item None inside)) t.judging
 
-    pub item_judged : (later : Spaces) → later ≡ with_item s.spaces x → IsJudging bytes (onward_left s.front more) later s.codes.items s.words
-    item_judged later is = after_item bytes (onward_left s.front more) s.codes.items s.words s.spaces later x item_next is
+    pub item_judged : (later : Spaces) → later ≡ with_item s.spaces x → IsJudging bytes (onward_left s.front more) later s.codes
+    item_judged later is = after_item bytes (onward_left s.front more) s.codes s.spaces later x item_next is
 
     none_met : outside_of s.front.steps.uncompiled [] ≡ None
     none_met = ap (λ (o : Option ℕ). outside_of o []) (sym t.known ∙ inside)
 
     -- no bodies come
-    pub item_reading : (later : Spaces) → later ≡ with_item s.spaces x → is_at_bodies s.front.steps.stage ≡ false → IsReading bytes s.front later s.codes.items s.words more
+    pub item_reading : (later : Spaces) → later ≡ with_item s.spaces x → is_at_bodies s.front.steps.stage ≡ false → IsReading bytes s.front later s.codes more
     item_reading later is apart = record {
       right = record { few = t.few; told = []; sections = tt; first = none_met; judging = item_judged later is };
       place = record { idle = t.idle; outside = apart; count = t.count };
@@ -242,11 +243,11 @@ module _ (bytes : List ℕ) (s : Compilation) (x : Item) (more : List ℕ) (t : 
     -- the bodies come
     pub item_cutting : (later : Spaces) (c : Cutting) (count end : ℕ) → later ≡ with_item s.spaces x → BodiesCome count end s.front
         → ((rest : List ℕ) → onward_left s.front rest ≡ cut_run (left c rest) (sections_behind s.front.steps.seen c.place.at c.place.end rest)) → c.place.at ≡ total s.front → c.place.end ≡ end
-        → IsCutting bytes s.front c later s.codes.items s.words more
+        → IsCutting bytes s.front c later s.codes more
     item_cutting later c count end is come run at ends = record {
       few = t.few;
       none = none_met;
-      judging = judging_on bytes (onward_left s.front more) (cut_run (left c more) (sections_behind s.front.steps.seen c.place.at c.place.end more)) later s.codes.items s.words (run more) (item_judged later is);
+      judging = judging_on bytes (onward_left s.front more) (cut_run (left c more) (sections_behind s.front.steps.seen c.place.at c.place.end more)) later s.codes (run more) (item_judged later is);
       skips = subst (λ (n : ℕ). can_skip s.front n ≡ true) (sym ends) come.skip;
       count = omega (arith, at, t.count);
     }
@@ -284,8 +285,8 @@ pub may_begin : (bytes : List ℕ) (s : Compilation) (count : ℕ × ℕ) (end :
 may_begin bytes s count end more t inside later is =
     let run = onward_left s.front more in
     let j = item_judged bytes s (item.Code count end) more t inside later is in
-    let functions = few_functions bytes run later (length s.codes.items) j.judged in
-    let imports = few_imports bytes run later (length s.codes.items) j.judged in
+    let functions = few_functions bytes run later s.codes.count j.judged in
+    let imports = few_imports bytes run later s.codes.count j.judged in
     let next = item_next bytes s (item.Code count end) more t inside in
     let near = code_ends bytes next.judged.front run.parts count end next.judged.parts in
     (omega (arith, t.few), omega (arith, t.few, t.follows.few, t.count), t.follows.ahead, omega arith)
@@ -333,25 +334,25 @@ less_none old new g h piece taken none still front all some t same =
 
 -- ---- bytes among the bodies
 
-module _ (bytes : List ℕ) (f : Front) (old mid : Cutting) (spaces : Spaces) (codes : List Code) (words : ℕ) (piece more : List ℕ) (k : IsCutting bytes f old spaces codes words (piece ++ more)) where
+module _ (bytes : List ℕ) (f : Front) (old mid : Cutting) (spaces : Spaces) (codes : Coding) (piece more : List ℕ) (k : IsCutting bytes f old spaces codes (piece ++ more)) where
   -- the closed batches come next
-  pub fed_judging : (taken : ℕ) → IsFed old piece taken mid → IsJudging bytes (after_parts (coded_all mid.queue.closed) (rest_run f.steps.seen mid (drop taken piece ++ more))) spaces codes words
+  pub fed_judging : (taken : ℕ) → IsFed old piece taken mid → IsJudging bytes (after_parts (coded_all mid.queue.closed) (rest_run f.steps.seen mid (drop taken piece ++ more))) spaces codes
   fed_judging taken fed =
-      judging_on bytes (cut_run (left old (piece ++ more)) (sections_behind f.steps.seen old.place.at old.place.end (piece ++ more))) (after_parts (coded_all mid.queue.closed) (rest_run f.steps.seen mid (drop taken piece ++ more))) spaces codes words
+      judging_on bytes (cut_run (left old (piece ++ more)) (sections_behind f.steps.seen old.place.at old.place.end (piece ++ more))) (after_parts (coded_all mid.queue.closed) (rest_run f.steps.seen mid (drop taken piece ++ more))) spaces codes
       (run_fed old mid piece taken fed f.steps.seen more ∙ split_rest f.steps.seen mid (drop taken piece ++ more)) k.judging
 
   -- and then the section's fault
-  pub refused_judging : (r : Refusal) → IsRefused old piece r mid → IsJudging bytes (after_parts (coded_all mid.queue.closed) (ends (Refused r))) spaces codes words
+  pub refused_judging : (r : Refusal) → IsRefused old piece r mid → IsJudging bytes (after_parts (coded_all mid.queue.closed) (ends (Refused r))) spaces codes
   refused_judging r refused =
-      judging_on bytes (cut_run (left old (piece ++ more)) (sections_behind f.steps.seen old.place.at old.place.end (piece ++ more))) (after_parts (coded_all mid.queue.closed) (ends (Refused r))) spaces codes words
+      judging_on bytes (cut_run (left old (piece ++ more)) (sections_behind f.steps.seen old.place.at old.place.end (piece ++ more))) (after_parts (coded_all mid.queue.closed) (ends (Refused r))) spaces codes
       (refused_run old mid piece more r (sections_behind f.steps.seen old.place.at old.place.end (piece ++ more)) refused) k.judging
 
 -- no part is left, and the module is refused so
-pub refused_at : (bytes : List ℕ) (spaces : Spaces) (codes : List Code) (words : ℕ) (ending : Ending) (r : Refusal) → ending_fault (length bytes) ending ≡ Some r → IsJudging bytes (ends ending) spaces codes words → IsVerdictOf bytes (Rejected r)
-refused_at bytes spaces codes words ending r is j = is_refused bytes (ends ending) spaces codes words (length bytes) r j refl refl is
+pub refused_at : (bytes : List ℕ) (spaces : Spaces) (codes : Coding) (ending : Ending) (r : Refusal) → ending_fault (length bytes) ending ≡ Some r → IsJudging bytes (ends ending) spaces codes → IsVerdictOf bytes (Rejected r)
+refused_at bytes spaces codes ending r is j = is_refused bytes (ends ending) spaces codes (length bytes) r j refl refl is
 
 -- the bodies that were closed are taken
-module _ (bytes : List ℕ) (f : Front) (old mid new : Cutting) (spaces : Spaces) (codes : List Code) (words : ℕ) (piece more : List ℕ) (taken : ℕ) (fed : IsFed old piece taken mid)
+module _ (bytes : List ℕ) (f : Front) (old mid new : Cutting) (spaces : Spaces) (codes : Coding) (piece more : List ℕ) (taken : ℕ) (fed : IsFed old piece taken mid)
     (place : new.place ≡ mid.place) (closed : new.queue.closed ≡ []) (begun_same : new.queue.begun ≡ mid.queue.begun) where
   abbrev behind_piece : List ℕ
   behind_piece = drop taken piece ++ more
@@ -365,12 +366,12 @@ module _ (bytes : List ℕ) (f : Front) (old mid new : Cutting) (spaces : Spaces
   end_same : new.place.end ≡ old.place.end
   end_same = ap (λ (p : Place). p.end) place ∙ fed.place.1
 
-  pub cutting_on : outside_of f.steps.uncompiled [] ≡ None → can_skip f old.place.end ≡ true → length bytes ≤ 67108869 → old.place.at + length (piece ++ more) ≡ length bytes → IsJudging bytes (rest_run f.steps.seen mid behind_piece) spaces codes words
-      → IsCutting bytes f new spaces codes words behind_piece
+  pub cutting_on : outside_of f.steps.uncompiled [] ≡ None → can_skip f old.place.end ≡ true → length bytes ≤ 67108869 → old.place.at + length (piece ++ more) ≡ length bytes → IsJudging bytes (rest_run f.steps.seen mid behind_piece) spaces codes
+      → IsCutting bytes f new spaces codes behind_piece
   cutting_on none skips few count j = record {
     few = few;
     none = none;
-    judging = judging_on bytes (rest_run f.steps.seen mid behind_piece) (cut_run (left new behind_piece) (sections_behind f.steps.seen new.place.at new.place.end behind_piece)) spaces codes words (judged_run behind_piece) j;
+    judging = judging_on bytes (rest_run f.steps.seen mid behind_piece) (cut_run (left new behind_piece) (sections_behind f.steps.seen new.place.at new.place.end behind_piece)) spaces codes (judged_run behind_piece) j;
     skips = subst (λ (n : ℕ). can_skip f n ≡ true) (sym end_same) skips;
     count = ap (λ (n : ℕ). n + length behind_piece) at_same ∙ count_fed old mid piece taken fed (length bytes) more count;
   }
@@ -396,15 +397,15 @@ module _ (bytes : List ℕ) (f : Front) (old mid new : Cutting) (spaces : Spaces
     skipped_run : (later : List ℕ) → rest_run f.steps.seen mid later ≡ onward_left g later
     skipped_run later = judged_run later ∙ whole_run f.steps.seen new later whole (is later) closed ∙ sym (skipped later)
 
-    pub reading_behind : outside_of f.steps.uncompiled [] ≡ None → length bytes ≤ 67108869 → old.place.at + length (piece ++ more) ≡ length bytes → IsJudging bytes (rest_run f.steps.seen mid behind_piece) spaces codes words
-        → g.steps.stage ≡ stage.Between → g.steps.uncompiled ≡ f.steps.uncompiled → total g ≡ new.place.end → g.waiting ≡ None → IsReading bytes g spaces codes words behind_piece
+    pub reading_behind : outside_of f.steps.uncompiled [] ≡ None → length bytes ≤ 67108869 → old.place.at + length (piece ++ more) ≡ length bytes → IsJudging bytes (rest_run f.steps.seen mid behind_piece) spaces codes
+        → g.steps.stage ≡ stage.Between → g.steps.uncompiled ≡ f.steps.uncompiled → total g ≡ new.place.end → g.waiting ≡ None → IsReading bytes g spaces codes behind_piece
     reading_behind none few count j between same all idle = record {
       right = record {
         few = few;
         told = [];
         sections = tt;
         first = ap (λ (o : Option ℕ). outside_of o []) same ∙ none;
-        judging = judging_on bytes (rest_run f.steps.seen mid behind_piece) (onward_left g behind_piece) spaces codes words (skipped_run behind_piece) j;
+        judging = judging_on bytes (rest_run f.steps.seen mid behind_piece) (onward_left g behind_piece) spaces codes (skipped_run behind_piece) j;
       };
       place = record {
         idle = idle;
@@ -421,21 +422,17 @@ module _ (bytes : List ℕ) (f : Front) (old mid new : Cutting) (spaces : Spaces
 
 -- ---- faults of bodies
 
-pub fault_batches : (bytes : List ℕ) (s : FrontStop) (run : Run) (spaces : Spaces) (codes : List Code) (state : Compilation) → TakesPart bytes (Err s) run spaces codes → TakesBatches bytes (Err s) run state
-fault_batches bytes (stop.Refused r) run spaces codes state h = h
-fault_batches bytes stop.NoMemory run spaces codes state h = tt
+pub fault_advances : (bytes piece : List ℕ) (s : FrontStop) (run : Run) (spaces : Spaces) (codes : Coding) (state : Compilation) (more : List ℕ) → TakesPart bytes (Err s) run spaces codes → Advances bytes piece (Err s) state more
+fault_advances bytes piece (stop.Refused r) run spaces codes state more h = h
+fault_advances bytes piece stop.NoMemory run spaces codes state more h = tt
 
-pub fault_advances : (bytes piece : List ℕ) (s : FrontStop) (run : Run) (state : Compilation) (more : List ℕ) → TakesBatches bytes (Err s) run state → Advances bytes piece (Err s) state more
-fault_advances bytes piece (stop.Refused r) run state more h = h
-fault_advances bytes piece stop.NoMemory run state more h = tt
+pub fault_decides : (bytes : List ℕ) (s : FrontStop) (run : Run) (spaces : Spaces) (codes : Coding) (state : Compilation) → TakesPart bytes (Err s) run spaces codes → Decides bytes (Err s) state
+fault_decides bytes (stop.Refused r) run spaces codes state h = h
+fault_decides bytes stop.NoMemory run spaces codes state h = tt
 
-pub fault_decides : (bytes : List ℕ) (s : FrontStop) (run : Run) (state : Compilation) → TakesBatches bytes (Err s) run state → Decides bytes (Err s)
-fault_decides bytes (stop.Refused r) run state h = h
-fault_decides bytes stop.NoMemory run state h = tt
-
-pub going_decides : (bytes : List ℕ) (s : FrontStop) (state : Compilation) (more : List ℕ) → GoesOn bytes (Err s) state more → Decides bytes (Err s)
-going_decides bytes (stop.Refused r) state more h = h
-going_decides bytes stop.NoMemory state more h = tt
+pub going_decides : (bytes : List ℕ) (s : FrontStop) (old state : Compilation) (more : List ℕ) → GoesOn bytes (Err s) old more → Decides bytes (Err s) state
+going_decides bytes (stop.Refused r) old state more h = h
+going_decides bytes stop.NoMemory old state more h = tt
 
 pub item_advances : (bytes piece : List ℕ) (s : FrontStop) (old state new : Compilation) (more next : List ℕ) → TakesItem bytes old (Err s) state more → Advances bytes piece (Err s) new next
 item_advances bytes piece (stop.Refused r) old state new more next h = h
@@ -446,42 +443,42 @@ item_advances bytes piece stop.NoMemory old state new more next h = tt
 stops_not : (old : Cutting) (r : Refusal) → old.place.stop ≡ None → old.place.stop ≡ Some r → ⊥
 stops_not old r e f = let t : None ≡ Some r = sym e ∙ f in absurd cc
 
-pub ended_judging : (bytes : List ℕ) (f : Front) (old new : Cutting) (spaces : Spaces) (codes : List Code) (words : ℕ) (s : FrontStop) → IsCutting bytes f old spaces codes words [] → IsWaiting old → Ends old (Err s) new
-    → IsJudging bytes (after_parts (coded_all new.queue.closed) (ends Owed)) spaces codes words × (s ≡ stop.Refused (record { offset = length bytes; kind = Ended }))
-ended_judging bytes f old new spaces codes words (stop.Refused r) k w (inl e) = absurd (stops_not old r w.going e.0)
-ended_judging bytes f old new spaces codes words (stop.Refused r) k w (inr e) =
+pub ended_judging : (bytes : List ℕ) (f : Front) (old new : Cutting) (spaces : Spaces) (codes : Coding) (s : FrontStop) → IsCutting bytes f old spaces codes [] → IsWaiting old → Ends old (Err s) new
+    → IsJudging bytes (after_parts (coded_all new.queue.closed) (ends Owed)) spaces codes × (s ≡ stop.Refused (record { offset = length bytes; kind = Ended }))
+ended_judging bytes f old new spaces codes (stop.Refused r) k w (inl e) = absurd (stops_not old r w.going e.0)
+ended_judging bytes f old new spaces codes (stop.Refused r) k w (inr e) =
     let count : old.place.at ≡ length bytes = omega (arith, k.count) in (
-      judging_on bytes (cut_run (left old []) (sections_behind f.steps.seen old.place.at old.place.end [])) (after_parts (coded_all new.queue.closed) (ends Owed)) spaces codes words
+      judging_on bytes (cut_run (left old []) (sections_behind f.steps.seen old.place.at old.place.end [])) (after_parts (coded_all new.queue.closed) (ends Owed)) spaces codes
           (ended_run old new (sections_behind f.steps.seen old.place.at old.place.end []) w.prompt e.owed e.closed) k.judging,
       ap (λ (x : Refusal). stop.Refused x) (e.fault ∙ ap (λ (n : ℕ). record { offset = n; kind = Ended }) count),
     )
-ended_judging bytes f old new spaces codes words stop.NoMemory k w e = absurd e
+ended_judging bytes f old new spaces codes stop.NoMemory k w e = absurd e
 
 -- with the cutter taken out and put back
-pub taken_out : (bytes : List ℕ) (s t : Compilation) (c : Cutting) (more : List ℕ) → s.cutter ≡ Some c → t.front ≡ s.front → t.spaces ≡ s.spaces → t.codes ≡ s.codes → t.words ≡ s.words → IsGoing bytes s more → IsGoing bytes (with_cutter t c) more
-taken_out bytes s t c more e front spaces codes words g =
+pub taken_out : (bytes : List ℕ) (s t : Compilation) (c : Cutting) (more : List ℕ) → s.cutter ≡ Some c → t.front ≡ s.front → t.spaces ≡ s.spaces → t.codes ≡ s.codes → IsGoing bytes s more → IsGoing bytes (with_cutter t c) more
+taken_out bytes s t c more e front spaces codes g =
     let k = cutting_of bytes s more c e g in
-    going_cutting bytes (with_cutter t c) more c refl (rw (front, spaces, codes, words) k)
+    going_cutting bytes (with_cutter t c) more c refl (rw (front, spaces, codes) k)
 
 -- ---- an item that was read
 
 pub item_read : (bytes : List ℕ) (s t : Compilation) (g : Front) (x : Item) (piece more : List ℕ) (taken : ℕ) → taken ≤ length piece → FedOnward s.front piece taken g
     → ((later : List ℕ) → onward_left g later ≡ prepend (Some x) (onward_left t.front later)) → t.front.steps ≡ g.steps → total t.front ≡ total g → begun t.front ≡ begun g → g.waiting ≡ Some x → t.front.waiting ≡ None → Follows x t.front
-    → t.front ≡ t.front → t.cutter ≡ None → t.spaces ≡ s.spaces → t.codes ≡ s.codes → t.words ≡ s.words
-    → IsReading bytes s.front s.spaces s.codes.items s.words (piece ++ more) → IsTaking bytes t x (drop taken piece ++ more)
-item_read bytes s t g x piece more taken few fed same steps count begins_same waits idle follows here none spaces codes words r =
-    let k = right_fed bytes s.front g t.front s.spaces s.codes.items s.words piece more taken few fed (Some x) same steps count r in
+    → t.cutter ≡ None → t.spaces ≡ s.spaces → t.codes ≡ s.codes
+    → IsReading bytes s.front s.spaces s.codes (piece ++ more) → IsTaking bytes t x (drop taken piece ++ more)
+item_read bytes s t g x piece more taken few fed same steps count begins_same waits idle follows none spaces codes r =
+    let k = right_fed bytes s.front g t.front s.spaces s.codes piece more taken few fed (Some x) same steps count r in
     record {
       few = k.few;
       told = k.told;
       sections = k.sections;
       first = k.first;
       known = begins_same ∙ all_known g x waits ∙ ap (λ (p : Steps). p.uncompiled) (sym steps);
-      judging = rw (spaces, codes, words) k.judging;
+      judging = rw (spaces, codes) k.judging;
       outside = none;
       idle = idle;
       follows = follows;
-      count = count_later bytes s.front g t.front s.spaces s.codes.items s.words piece more taken few fed (Some x) same steps count r;
+      count = count_later bytes s.front g t.front s.spaces s.codes piece more taken few fed (Some x) same steps count r;
     }
 
 -- where no item waits, all bytes were taken

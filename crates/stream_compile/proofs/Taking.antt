@@ -1,5 +1,5 @@
 -- What taking a part comes to.
-use Rattle.std.proofs.Common.{◌≡◌, ◌≤◌, ◌+◌, ◌^◌, inl, inr, ℕ, List, map, length, Result, Ok, Err, refl, sym, ap, ◌∙◌, subst, arith}
+use Rattle.std.proofs.Common.{◌≡◌, ◌≤◌, ◌+◌, inl, inr, ℕ, List, map, length, Result, Ok, Err, refl, sym, ap, ◌∙◌, subst, arith}
 use Rattle.std.proofs.lemmas.List.{length-map}
 use Rattle.rv_isa.specs.Words.{word_of}
 use Rattle.rv_isa.specs.declared.compiled.Code.{Code}
@@ -17,8 +17,8 @@ use Rattle.wasm_defs.specs.Faults.{IsValidCode, read_of, context_at, items_of, b
 use Rattle.frame_layout.specs.Templates.{Around}
 use Rattle.frame_layout.specs.Functions.{function_code}
 use Rattle.index_spaces.specs.Spaces.{Spaces, spaces_of, context_in}
-use Rattle.body_compiler.specs.declared.code.BodyStop.{BodyStop}
-use Rattle.body_compiler.specs.declared.code.BodyStop.TheVariants as body
+use Rattle.body_compiler.specs.declared.judging.BodyStop.{BodyStop}
+use Rattle.body_compiler.specs.declared.judging.BodyStop.TheVariants as body
 use Rattle.body_compiler.specs.Compiling.{Compiles}
 use Rattle.body_cutter.specs.declared.body.Body.{Body as GivenBody}
 use Rattle.wasm_defs.specs.declared.front_stop.FrontStop.{FrontStop}
@@ -27,7 +27,8 @@ use Rattle.image_linker.specs.ImageOf.{around, no_distance, front_size}
 use Rattle.image_linker.specs.Codes.{IsCodeOf}
 use Rattle.wasm_laws.specs.Order.{first_section}
 use Rattle.wasm_laws.proofs.Order.{around_body, parts_in_module}
-use Rattle.stream_compile.specs.Progress.{IsJudged, IsJudging, CanTake, TakesPart, TakesBody, TakesCode, front_stop, front_of, body_of_spaces}
+use Rattle.stream_compile.specs.Codes.{Coding}
+use Rattle.stream_compile.specs.Progress.{IsJudged, IsJudging, CanTakeNext, TakesPart, TakesBody, TakesCode, front_stop, front_of, body_of_spaces}
 use Rattle.stream_compile.proofs.Judging.{typed_there, few_functions, few_bodies, few_imports}
 use Rattle.stream_compile.proofs.Compiled.{after_body, text_passes, body_refused}
 
@@ -70,28 +71,24 @@ has_code s n items k b code same count =
     let counted = subst (λ (m : ℕ). Compiles (context_in (spaces_of items)) ((spaces_of items).imported + m) (read_of b) (Ok code) → HasCode (spaces_of items) m items k b code) (sym count) here in
     subst (λ (x : Spaces). Compiles (context_in x) (x.imported + n) (read_of b) (Ok code) → HasCode x n items k b code) (sym same) counted
 
-module _ (bytes : List ℕ) (left : Run) (spaces : Spaces) (codes : List Code) (words : ℕ) (b : GivenBody) (j : IsJudging bytes (after_part (outside.Coded (given_body b)) left) spaces codes words) where
-  coded : (code : Code) → TakesBody spaces (length codes) b (Ok code) → HasCode spaces (length codes) (items_of j.judged.front) (length (bodies_of j.judged.front)) (given_body b) code
-  coded code h = has_code spaces (length codes) (items_of j.judged.front) (length (bodies_of j.judged.front)) (given_body b) code j.judged.spaces_are j.judged.count h
+module _ (bytes : List ℕ) (left : Run) (spaces : Spaces) (codes : Coding) (b : GivenBody) (j : IsJudging bytes (after_part (outside.Coded (given_body b)) left) spaces codes) where
+  coded : (code : Code) → TakesBody spaces codes.count b (Ok code) → HasCode spaces codes.count (items_of j.judged.front) (length (bodies_of j.judged.front)) (given_body b) code
+  coded code h = has_code spaces codes.count (items_of j.judged.front) (length (bodies_of j.judged.front)) (given_body b) code j.judged.spaces_are j.judged.count h
 
   front_is : front_of spaces ≡ front_size (items_of j.judged.front)
   front_is = ap front_of j.judged.spaces_are
 
-  pub body_stops : (s : FrontStop) (new : List Code) → TakesCode spaces codes words b (Err s) new → TakesPart bytes (Err s) left spaces new
-  body_stops (Refused r) new (inl h) = body_refused bytes left spaces codes words (given_body b) r j h
+  pub body_stops : (s : FrontStop) (new : Coding) → TakesCode spaces codes b (Err s) new → TakesPart bytes (Err s) left spaces new
+  body_stops (Refused r) new (inl h) = body_refused bytes left spaces codes (given_body b) r j h
   body_stops (Refused r) new (inr (code, h, over, is)) =
       let c = coded code h in
-      rw is (text_passes bytes left spaces codes words (given_body b) j c.tree code c.valid c.is_code (omega (arith, over, front_is)))
+      rw is (text_passes bytes left spaces codes (given_body b) j c.tree code c.valid c.is_code (omega (arith, over, front_is)))
   body_stops NoMemory new h = tt
 
-  pub body_taken : (more : ℕ) (new : List Code) → TakesCode spaces codes words b (Ok more) new → TakesPart bytes (Ok more) left spaces new
-  body_taken more new (code, h, new_is, more_is, under) =
+  pub body_taken : (new : Coding) → TakesCode spaces codes b (Ok tt) new → TakesPart bytes (Ok tt) left spaces new
+  body_taken new (code, h, new_is, under) =
       let c = coded code h in
-      rw (new_is, more_is) (after_body bytes left spaces codes words (given_body b) j c.tree code c.valid c.is_code (omega (arith, under, front_is, more_is)))
-
-  pub code_taken : (r : Result ℕ FrontStop) (new : List Code) → TakesCode spaces codes words b r new → TakesPart bytes r left spaces new
-  code_taken (Ok more) new h = body_taken more new h
-  code_taken (Err s) new h = body_stops s new h
+      rw new_is (after_body bytes left spaces codes (given_body b) j c.tree code c.valid c.is_code (omega (arith, under, front_is, ap (λ (x : Coding). x.words) new_is)))
 
 -- ---- a part can be taken
 
@@ -102,27 +99,27 @@ small_type bytes left spaces bodies b j =
     let front : TypesAreSmall (context_of (items_of j.front)).types = subst (λ (c : Context). TypesAreSmall c.types) behind.same.context (types_are_small bytes) in
     function_is_small (context_in spaces) (spaces.imported + bodies) (subst (λ (s : Spaces). TypesAreSmall (context_in s).types) (sym j.spaces_are) front)
 
-pub can_take : (bytes : List ℕ) (left : Run) (spaces : Spaces) (codes : List Code) (words : ℕ) (b : GivenBody) → length bytes ≤ 67108869
-    → IsJudging bytes (after_part (outside.Coded (given_body b)) left) spaces codes words → CanTake spaces (length codes) b × (words ≤ 2 ^ 26)
-can_take bytes left spaces codes words b few j =
+pub can_take : (bytes : List ℕ) (left : Run) (spaces : Spaces) (codes : Coding) (b : GivenBody) → length bytes ≤ 67108869
+    → IsJudging bytes (after_part (outside.Coded (given_body b)) left) spaces codes → CanTakeNext spaces codes b
+can_take bytes left spaces codes b few j =
     let next = after_part (outside.Coded (given_body b)) left in
-    let f = few_functions bytes next spaces (length codes) j.judged in
-    let k = few_bodies bytes next spaces (length codes) j.judged in
-    let i = few_imports bytes next spaces (length codes) j.judged in
+    let f = few_functions bytes next spaces codes.count j.judged in
+    let k = few_bodies bytes next spaces codes.count j.judged in
+    let i = few_imports bytes next spaces codes.count j.judged in
     let stands = (around_body first_section (length bytes) j.judged.front (given_body b) left.parts (rw j.judged.parts at (parts_in_module bytes))).1 in
-    (record { typed = typed_there bytes left spaces (length codes) (given_body b) j.judged; few = omega arith; index = omega arith; small = small_type bytes left spaces (length codes) b j.judged; most = stands.most; offset = omega (arith, stands.before) }, omega (arith, j.fits))
+    (record { typed = typed_there bytes left spaces codes.count (given_body b) j.judged; few = omega arith; index = omega arith; small = small_type bytes left spaces codes.count b j.judged; most = stands.most; offset = omega (arith, stands.before) }, omega arith, omega (arith, j.fits))
 
 -- ---- the whole
 
-pub judging_on : (bytes : List ℕ) (run next : Run) (spaces : Spaces) (codes : List Code) (words : ℕ) → run ≡ next → IsJudging bytes run spaces codes words → IsJudging bytes next spaces codes words
-judging_on bytes run next spaces codes words e j = subst (λ (r : Run). IsJudging bytes r spaces codes words) e j
+pub judging_on : (bytes : List ℕ) (run next : Run) (spaces : Spaces) (codes : Coding) → run ≡ next → IsJudging bytes run spaces codes → IsJudging bytes next spaces codes
+judging_on bytes run next spaces codes e j = subst (λ (r : Run). IsJudging bytes r spaces codes) e j
 
 -- a body's stop
-pub stop_taken : (spaces : Spaces) (codes new : List Code) (words : ℕ) (b : GivenBody) (s : FrontStop) → TakesBody spaces (length codes) b (Err s) → TakesCode spaces codes words b (Err s) new
-stop_taken spaces codes new words b (Refused r) h = inl h
-stop_taken spaces codes new words b NoMemory h = tt
+pub stop_taken : (spaces : Spaces) (codes new : Coding) (b : GivenBody) (s : FrontStop) → TakesBody spaces codes.count b (Err s) → TakesCode spaces codes b (Err s) new
+stop_taken spaces codes new b (Refused r) h = inl h
+stop_taken spaces codes new b NoMemory h = tt
 
 -- a fault is one of the module, whatever was left
-pub fault_taken : (bytes : List ℕ) (s : FrontStop) (run next : Run) (spaces later : Spaces) (codes new : List Code) → TakesPart bytes (Err s) run spaces codes → TakesPart bytes (Err s) next later new
+pub fault_taken : (bytes : List ℕ) (s : FrontStop) (run next : Run) (spaces later : Spaces) (codes new : Coding) → TakesPart bytes (Err s) run spaces codes → TakesPart bytes (Err s) next later new
 fault_taken bytes (Refused r) run next spaces later codes new h = h
 fault_taken bytes NoMemory run next spaces later codes new h = tt

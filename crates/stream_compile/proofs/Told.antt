@@ -1,7 +1,6 @@
 -- Sections that were begun, and which of them isn't compiled.
 use Rattle.std.proofs.Common.{◌≡◌, ◌<◌, inl, inr, ℕ, suc, List, [], ◌∷◌, ◌++◌, length, false, Option, Some, None, refl, sym, ap, ◌∙◌, subst, arith}
 use Rattle.std.proofs.lemmas.Bool.{cases_Bool, lt-ltb, le-ltb}
-use Rattle.rv_isa.specs.declared.compiled.Code.{Code}
 use Rattle.wasm_defs.specs.declared.fault.Refusal.{Refusal}
 use Rattle.wasm_defs.specs.Outside.{Part, Section, Listed, Coded, Ending, Run, after_part, ends, module_run}
 use Rattle.wasm_defs.specs.Supported.{is_compiled_section}
@@ -11,6 +10,7 @@ use Rattle.wasm_laws.proofs.Order.{around_section, parts_before_fault}
 use Rattle.index_spaces.specs.Spaces.{Spaces}
 use Rattle.image_linker.specs.Judging.{IsVerdictOf}
 use Rattle.section_reader.specs.Onward.{after_parts, AreSections, outside_of}
+use Rattle.stream_compile.specs.Codes.{Coding}
 use Rattle.stream_compile.specs.Progress.{IsJudging}
 use Rattle.stream_compile.proofs.Parts.{sections_of-append}
 use Rattle.stream_compile.proofs.Compiled.{after_section, section_refused, header_refused, is_refused}
@@ -53,13 +53,13 @@ abbrev pub first_of : Option Refusal → Refusal → Refusal
 first_of None r = r
 first_of (Some e) r = earlier e r
 
-module _ (bytes : List ℕ) (spaces : Spaces) (codes : List Code) (words : ℕ) where
+module _ (bytes : List ℕ) (spaces : Spaces) (codes : Coding) where
   -- all of them are compiled
-  pub sections_taken : (told : List Part) (run : Run) → AreSections told → first_outside is_compiled_section (sections_of told) ≡ None → IsJudging bytes (after_parts told run) spaces codes words → IsJudging bytes run spaces codes words
+  pub sections_taken : (told : List Part) (run : Run) → AreSections told → first_outside is_compiled_section (sections_of told) ≡ None → IsJudging bytes (after_parts told run) spaces codes → IsJudging bytes run spaces codes
   sections_taken [] run are none j = j
   sections_taken (Section at id ∷ told) run are none j =
       elim (cases_Bool (is_compiled_section id)) [
-        | inl h ↦ let t : first_outside is_compiled_section (sections_of told) ≡ None = rw h at none in sections_taken told run are t (after_section bytes (after_parts told run) codes words spaces at id j h)
+        | inl h ↦ let t : first_outside is_compiled_section (sections_of told) ≡ None = rw h at none in sections_taken told run are t (after_section bytes (after_parts told run) codes spaces at id j h)
         | inr h ↦ let t = rw h at none in absurd cc
       ]
   sections_taken (Listed x ∷ told) run are none j = absurd are
@@ -70,15 +70,15 @@ module _ (bytes : List ℕ) (spaces : Spaces) (codes : List Code) (words : ℕ) 
   some_left (x ∷ told) run some = omega arith
 
   -- one of them isn't, and more follows
-  pub outside_decides : (told : List Part) (run : Run) (r : Refusal) → AreSections told → first_outside is_compiled_section (sections_of told) ≡ Some r → 0 < length run.parts → IsJudging bytes (after_parts told run) spaces codes words → IsVerdictOf bytes (Rejected r)
+  pub outside_decides : (told : List Part) (run : Run) (r : Refusal) → AreSections told → first_outside is_compiled_section (sections_of told) ≡ Some r → 0 < length run.parts → IsJudging bytes (after_parts told run) spaces codes → IsVerdictOf bytes (Rejected r)
   outside_decides [] run r are first some j = absurd cc
   outside_decides (Section at id ∷ told) run r are first some j =
       elim (cases_Bool (is_compiled_section id)) [
-        | inl h ↦ let t : first_outside is_compiled_section (sections_of told) ≡ Some r = rw h at first in outside_decides told run r are t some (after_section bytes (after_parts told run) codes words spaces at id j h)
+        | inl h ↦ let t : first_outside is_compiled_section (sections_of told) ≡ Some r = rw h at first in outside_decides told run r are t some (after_section bytes (after_parts told run) codes spaces at id j h)
         | inr h ↦
             let t : Some (unsupported_at at) ≡ Some r = rw h at first in
             let is : unsupported_at at ≡ r = cc in
-            subst (λ (x : Refusal). IsVerdictOf bytes (Rejected x)) is (section_refused bytes (after_parts told run) spaces codes words at id (length bytes) j refl h (inl (some_left told run some)))
+            subst (λ (x : Refusal). IsVerdictOf bytes (Rejected x)) is (section_refused bytes (after_parts told run) spaces codes at id (length bytes) j refl h (inl (some_left told run some)))
       ]
   outside_decides (Listed x ∷ told) run r are first some j = absurd are
   outside_decides (Coded b ∷ told) run r are first some j = absurd are
@@ -87,7 +87,7 @@ module _ (bytes : List ℕ) (spaces : Spaces) (codes : List Code) (words : ℕ) 
   earlier_is e r lt = rw (le-ltb e.offset r.offset (omega arith), lt-ltb r.offset e.offset lt) refl
 
   -- a section stands before another one, and that one no later than the fault that ends reading
-  stands_before : (e : Refusal) (at id at' id' : ℕ) (told : List Part) (ending : Ending) → IsJudging bytes (after_part (Section at id) (after_part (Section at' id') (after_parts told (ends ending)))) spaces codes words → ending_fault (length bytes) ending ≡ Some e → at < e.offset
+  stands_before : (e : Refusal) (at id at' id' : ℕ) (told : List Part) (ending : Ending) → IsJudging bytes (after_part (Section at id) (after_part (Section at' id') (after_parts told (ends ending)))) spaces codes → ending_fault (length bytes) ending ≡ Some e → at < e.offset
   stands_before e at id at' id' told ending j fault =
       let is : ending_fault (length bytes) (module_run bytes).ending ≡ Some e = ap (ending_fault (length bytes)) (j.judged.ending ∙ ending_after told ending) ∙ fault in
       let o : AreOrdered first_section e.offset (module_run bytes).parts = (parts_before_fault bytes e is).0 in
@@ -96,24 +96,24 @@ module _ (bytes : List ℕ) (spaces : Spaces) (codes : List Code) (words : ℕ) 
       omega (arith, next.1, next.2)
 
   -- the first one isn't, and the module ends so
-  first_ends : (at id : ℕ) (told : List Part) (ending : Ending) (fault : Option Refusal) → AreSections told → ending_fault (length bytes) ending ≡ fault → IsJudging bytes (after_part (Section at id) (after_parts told (ends ending))) spaces codes words → is_compiled_section id ≡ false
+  first_ends : (at id : ℕ) (told : List Part) (ending : Ending) (fault : Option Refusal) → AreSections told → ending_fault (length bytes) ending ≡ fault → IsJudging bytes (after_part (Section at id) (after_parts told (ends ending))) spaces codes → is_compiled_section id ≡ false
       → IsVerdictOf bytes (Rejected (first_of fault (unsupported_at at)))
-  first_ends at id told ending None are is j out = section_refused bytes (after_parts told (ends ending)) spaces codes words at id (length bytes) j refl out (inr (ap (ending_fault (length bytes)) (ending_after told ending) ∙ is))
-  first_ends at id [] ending (Some e) are is j out = header_refused bytes (ends ending) spaces codes words at id (length bytes) j refl out e refl is
+  first_ends at id told ending None are is j out = section_refused bytes (after_parts told (ends ending)) spaces codes at id (length bytes) j refl out (inr (ap (ending_fault (length bytes)) (ending_after told ending) ∙ is))
+  first_ends at id [] ending (Some e) are is j out = header_refused bytes (ends ending) spaces codes at id (length bytes) j refl out e refl is
   first_ends at id (Section at' id' ∷ told) ending (Some e) are is j out =
       let lt = stands_before e at id at' id' told ending j is in
       subst (λ (x : Refusal). IsVerdictOf bytes (Rejected x)) (sym (earlier_is e (unsupported_at at) lt))
-      (section_refused bytes (after_part (Section at' id') (after_parts told (ends ending))) spaces codes words at id (length bytes) j refl out (inl (omega arith)))
+      (section_refused bytes (after_part (Section at' id') (after_parts told (ends ending))) spaces codes at id (length bytes) j refl out (inl (omega arith)))
   first_ends at id (Listed x ∷ told) ending (Some e) are is j out = absurd are
   first_ends at id (Coded b ∷ told) ending (Some e) are is j out = absurd are
 
   -- one of them isn't compiled, and the module ends so
-  pub outside_ends : (told : List Part) (ending : Ending) (fault : Option Refusal) (r : Refusal) → AreSections told → first_outside is_compiled_section (sections_of told) ≡ Some r → ending_fault (length bytes) ending ≡ fault → IsJudging bytes (after_parts told (ends ending)) spaces codes words
+  pub outside_ends : (told : List Part) (ending : Ending) (fault : Option Refusal) (r : Refusal) → AreSections told → first_outside is_compiled_section (sections_of told) ≡ Some r → ending_fault (length bytes) ending ≡ fault → IsJudging bytes (after_parts told (ends ending)) spaces codes
       → IsVerdictOf bytes (Rejected (first_of fault r))
   outside_ends [] ending fault r are first is j = absurd cc
   outside_ends (Section at id ∷ told) ending fault r are first is j =
       elim (cases_Bool (is_compiled_section id)) [
-        | inl h ↦ let t : first_outside is_compiled_section (sections_of told) ≡ Some r = rw h at first in outside_ends told ending fault r are t is (after_section bytes (after_parts told (ends ending)) codes words spaces at id j h)
+        | inl h ↦ let t : first_outside is_compiled_section (sections_of told) ≡ Some r = rw h at first in outside_ends told ending fault r are t is (after_section bytes (after_parts told (ends ending)) codes spaces at id j h)
         | inr h ↦
             let t : Some (unsupported_at at) ≡ Some r = rw h at first in
             let same : unsupported_at at ≡ r = cc in
@@ -123,5 +123,5 @@ module _ (bytes : List ℕ) (spaces : Spaces) (codes : List Code) (words : ℕ) 
   outside_ends (Coded b ∷ told) ending fault r are first is j = absurd are
 
   -- all are compiled, and the module is refused so
-  pub sections_end : (told : List Part) (ending : Ending) (e : Refusal) → AreSections told → first_outside is_compiled_section (sections_of told) ≡ None → ending_fault (length bytes) ending ≡ Some e → IsJudging bytes (after_parts told (ends ending)) spaces codes words → IsVerdictOf bytes (Rejected e)
-  sections_end told ending e are none is j = is_refused bytes (ends ending) spaces codes words (length bytes) e (sections_taken told (ends ending) are none j) refl refl is
+  pub sections_end : (told : List Part) (ending : Ending) (e : Refusal) → AreSections told → first_outside is_compiled_section (sections_of told) ≡ None → ending_fault (length bytes) ending ≡ Some e → IsJudging bytes (after_parts told (ends ending)) spaces codes → IsVerdictOf bytes (Rejected e)
+  sections_end told ending e are none is j = is_refused bytes (ends ending) spaces codes (length bytes) e (sections_taken told (ends ending) are none j) refl refl is

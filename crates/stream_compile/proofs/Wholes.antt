@@ -1,6 +1,6 @@
 -- A module whose parts were all taken.
-use Rattle.std.proofs.Common.{◌≡◌, ℕ, ◌+◌, ◌*◌, ◌≤◌, ◌<◌, inl, inr, List, [], ◌∷◌, map, length, Some, Result, Ok, Err, refl, sym, ap, ◌∙◌, subst, arith, length-append}
-use Rattle.std.specs.Prelude.{All}
+use Rattle.std.proofs.Common.{◌≡◌, ℕ, ◌+◌, ◌*◌, ◌≤◌, ◌<◌, inl, inr, List, [], ◌∷◌, map, length, Option, Some, None, refl, sym, ap, ◌∙◌, subst, arith, length-append}
+use Rattle.std.specs.Prelude.{◌^◌, All, IfSome}
 use Rattle.std.specs.Str.{bytes_eq}
 use Rattle.std.proofs.lemmas.Bool.{cases_Bool}
 use Rattle.std.proofs.lemmas.List.{length-map, length-replicate}
@@ -19,24 +19,24 @@ use Rattle.wasm_laws.proofs.Spaces.{spaces_are_small}
 use Rattle.wasm_laws.proofs.Plain.{items_are_plain, plain_has_no_more}
 use Rattle.wasm_laws.proofs.Exports.{types_are_small, function_is_small}
 use Rattle.frame_layout.specs.Templates.{exit_stub}
-use Rattle.image_format.specs.declared.image.Image.{Image}
 use Rattle.image_format.specs.declared.image.Export.{Export}
 use Rattle.image_run.specs.Checks.{export_named}
 use Rattle.index_spaces.specs.Entries.{function_exports, all_exports_of, initials_of, initial_values}
 use Rattle.index_spaces.specs.Spaces.{Spaces, spaces_of, context_in}
 use Rattle.index_spaces.proofs.EntriesOfItems.{values_are_of_items}
-use Rattle.wasm_defs.specs.declared.front_stop.FrontStop.{FrontStop}
-use Rattle.wasm_defs.specs.declared.front_stop.FrontStop.TheVariants.{Refused, NoMemory}
 use Rattle.image_linker.specs.ImageOf.{image_of, stub_size, front_size}
 use Rattle.image_linker.specs.Linking.{NumbersFit, words_of, front_words, starts_of, empty_row, linked, linked_export}
 use Rattle.image_linker.specs.Judging.{IsModuleOf}
-use Rattle.image_linker.specs.Same.{Same}
 use Rattle.image_linker.proofs.Items.{numbers_fit}
 use Rattle.image_linker.proofs.Modules.{images_behave_alike}
+use Rattle.section_reader.specs.FrontLeft.{total}
 use Rattle.stream_compile.specs.declared.answer.Built.{Built}
+use Rattle.stream_compile.specs.declared.compilation.Compilation.{Compilation}
 use Rattle.stream_compile.specs.Running.{IsRunnable}
-use Rattle.stream_compile.specs.Progress.{IsJudging, Links, Decides}
-use Rattle.stream_compile.proofs.Codes.{words_are_sizes}
+use Rattle.stream_compile.specs.Progress.{IsJudging}
+use Rattle.stream_compile.specs.Done.{IsDone}
+use Rattle.stream_compile.specs.Compiling.{IsBuilt}
+use Rattle.stream_compile.proofs.CodeWords.{words_are_sizes}
 use Rattle.stream_compile.proofs.Compiled.{is_whole}
 use Rattle.stream_compile.proofs.Images.{linked_is_image}
 
@@ -63,34 +63,55 @@ linked_runs items codes types small fits = record {
   exports = λ name e is. small_export (spaces_of items) (starts_of codes) (function_exports (all_exports_of items)) name e types is;
 }
 
--- the constants of its globals are numbers of their types
-pub numbers_of_whole : (bytes : List ℕ) (left : Run) (spaces : Spaces) (codes : List Code) (words : ℕ) (seen : Seen) → All (λ b. b < 256) bytes
-    → IsJudging bytes left spaces codes words → left ≡ ends (Whole seen) → NumbersFit spaces.globals spaces.initials
-numbers_of_whole bytes left spaces codes words seen fits j whole =
-    let w = is_whole bytes left spaces codes words seen j whole in
-    let constants : ConstantsFit w.0.items = subst ConstantsFit (sym w.1.is.items) (constants_fit bytes fits) in
-    subst (λ (s : Spaces). NumbersFit s.globals s.initials) (sym w.1.spaces_are) (numbers_fit w.0.items constants)
-
-pub links_decide : (bytes : List ℕ) (left : Run) (spaces : Spaces) (codes : List Code) (words : ℕ) (seen : Seen) (r : Result Built FrontStop) → All (λ b. b < 256) bytes
-    → IsJudging bytes left spaces codes words → left ≡ ends (Whole seen) → Links spaces codes (length bytes) r → Decides bytes r
-links_decide bytes left spaces codes words seen (Ok built) fits j whole (image, functions, count) =
-    let w = is_whole bytes left spaces codes words seen j whole in
+-- all bytes of the module came: it is done
+pub whole_done : (bytes : List ℕ) (left : Run) (s : Compilation) (seen : Seen) → All (λ b. b < 256) bytes → IsJudging bytes left s.spaces s.codes → left ≡ ends (Whole seen) → total s.front ≡ length bytes → IsDone bytes s
+whole_done bytes left s seen fits j whole count =
+    let w = is_whole bytes left s.spaces s.codes seen j whole in
     let m = w.0 in
     let h = w.1 in
     let plain : ArePlain m.items = subst ArePlain (sym h.is.items) (items_are_plain bytes h.is.compiled) in
     let front : front_size m.items ≡ 2 = ap (λ (n : ℕ). length exit_stub + stub_size * n) (plain_has_no_more m.items plain).imports in
-    let is : IsModuleOf bytes m = record { is = h.is; fits = omega (arith, front, h.words, words_are_sizes m.items 0 m.bodies m.trees codes h.coded) } in
-    let same : built.image ≡ image_of m = image ∙ ap (λ (s : Spaces). linked s codes) h.spaces_are ∙ linked_is_image m codes plain h.coded in
+    let is : IsModuleOf bytes m = record { is = h.is; fits = omega (arith, front, h.words, words_are_sizes m.items 0 m.bodies m.trees j.all h.coded) } in
+    let image : linked (spaces_of m.items) j.all ≡ image_of m = linked_is_image m j.all plain h.coded in
     let types : TypesAreSmall (types_of m.items) = subst (λ (l : List Item). TypesAreSmall (types_of l)) (sym h.is.items) (types_are_small bytes) in
     let small : SpacesAreSmall m.items = subst SpacesAreSmall (sym h.is.items) (spaces_are_small bytes) in
-    let runs : IsRunnable (linked spaces codes) = subst (λ (s : Spaces). IsRunnable (linked s codes)) (sym h.spaces_are) (linked_runs m.items codes types small h.words) in (
-      m,
-      is,
-      same,
-      subst (λ (i : Image). Same m i) (sym same) (images_behave_alike bytes m fits is),
-      subst IsRunnable (sym image) runs,
-      functions ∙ ap (λ (s : Spaces). s.declared) h.spaces_are,
-      count,
-    )
-links_decide bytes left spaces codes words seen (Err (Refused r)) fits j whole h = absurd cc
-links_decide bytes left spaces codes words seen (Err NoMemory) fits j whole h = tt
+    let constants : ConstantsFit m.items = subst ConstantsFit (sym h.is.items) (constants_fit bytes fits) in
+    record {
+      «module» = m;
+      is = record {
+        is = is;
+        same = images_behave_alike bytes m fits is;
+        functions_are = ap (λ (x : Spaces). x.declared) h.spaces_are;
+        size_is = count;
+      };
+      all = j.all;
+      are_all = j.are_all;
+      image_is = ap (λ (x : Spaces). linked x j.all) h.spaces_are ∙ image;
+      runnable = subst IsRunnable image (linked_runs m.items j.all types small h.words);
+      fits = omega (arith, j.fits);
+      numbers = subst (λ (x : Spaces). NumbersFit x.globals x.initials) (sym h.spaces_are) (numbers_fit m.items constants);
+    }
+
+-- ---- what is linked of a module that is done
+
+kept_are : (o : Option (List Code)) (given all : List Code) → Some given ≡ o → IfSome o (λ k. k ≡ all) → given ≡ all
+kept_are None given all e h = absurd cc
+kept_are (Some k) given all e h = let same : given ≡ k = cc in same ∙ h
+
+module _ (bytes : List ℕ) (s : Compilation) (given : List Code) (d : IsDone bytes s) (is : Some given ≡ s.codes.kept) where
+  given_are : given ≡ d.all
+  given_are = kept_are s.codes.kept given d.all is d.are_all.kept
+
+  -- the words are few
+  pub few_words : 4 * (2 + length (words_of given)) ≤ 2 ^ 28
+  few_words = omega (arith, d.fits, d.are_all.words, ap (λ (l : List Code). length (words_of l)) given_are)
+
+  pub done_built : (built : Built) → built.image ≡ linked s.spaces given → built.functions ≡ s.spaces.declared → built.bytes ≡ total s.front → IsBuilt bytes built
+  done_built built image functions size =
+      let same : built.image ≡ image_of d.«module» = image ∙ ap (linked s.spaces) given_are ∙ d.image_is in
+      record {
+        «module» = d.«module»;
+        is = record { is = d.is.is; same = d.is.same; functions_are = functions ∙ d.is.functions_are; size_is = size ∙ d.is.size_is };
+        image_is = same;
+        runnable = subst IsRunnable (sym same) d.runnable;
+      }

@@ -1,7 +1,9 @@
+pub mod Codes
 pub mod Running
 pub mod CutBodies
 pub mod Progress
 pub mod Streaming
+pub mod Done
 pub mod Came
 pub mod Texts
 pub mod Reading

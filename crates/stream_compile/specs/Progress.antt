@@ -7,27 +7,24 @@ use Rattle.wasm_defs.specs.Limits.{max_body, max_text}
 use Rattle.wasm_laws.specs.Kept.{TypeIsSmall}
 use Rattle.wasm_defs.specs.Typing.{Context, function_type}
 use Rattle.wasm_defs.specs.Trees.{Seq}
-use Rattle.wasm_defs.specs.Context.{body_context, type_of_function, declared_count}
+use Rattle.wasm_defs.specs.Context.{body_context, type_of_function}
 use Rattle.wasm_defs.specs.Bodies.{body_read}
 use Rattle.wasm_defs.specs.Outside.{Part, Section, Listed, Coded, Body, Run, module_run}
 use Rattle.wasm_defs.specs.Supported.{is_compiled_section}
-use Rattle.wasm_defs.specs.Faults.{first_outside, sections_of, items_of, bodies_of, read_of, AreValid, Module, Rejected}
+use Rattle.wasm_defs.specs.Faults.{first_outside, sections_of, items_of, bodies_of, read_of, AreValid, Rejected}
 use Rattle.index_spaces.specs.Spaces.{Spaces, spaces_of, context_in}
 use Rattle.section_reader.specs.Onward.{after_parts}
 use Rattle.body_cutter.specs.declared.body.Body.{Body as GivenBody}
 use Rattle.wasm_defs.specs.declared.front_stop.FrontStop.{FrontStop}
 use Rattle.wasm_defs.specs.declared.front_stop.FrontStop.TheVariants.{Refused, NoMemory}
-use Rattle.body_compiler.specs.declared.code.BodyStop.{BodyStop}
-use Rattle.body_compiler.specs.declared.code.BodyStop.TheVariants as body
+use Rattle.body_compiler.specs.declared.judging.BodyStop.{BodyStop}
+use Rattle.body_compiler.specs.declared.judging.BodyStop.TheVariants as body
 use Rattle.body_compiler.specs.Compiling.{Compiles}
 use Rattle.frame_layout.specs.Templates.{exit_stub}
-use Rattle.image_linker.specs.ImageOf.{image_of, stub_size}
-use Rattle.image_linker.specs.Linking.{NumbersFit, words_of, linked}
+use Rattle.image_linker.specs.ImageOf.{stub_size}
 use Rattle.image_linker.specs.Codes.{IsCodeOf}
-use Rattle.image_linker.specs.Same.{Same}
-use Rattle.stream_compile.specs.Running.{IsRunnable}
-use Rattle.image_linker.specs.Judging.{limit_at, IsTextFault, IsModuleOf, IsVerdictOf}
-use Rattle.stream_compile.specs.declared.answer.Built.{Built}
+use Rattle.image_linker.specs.Judging.{limit_at, IsTextFault, IsVerdictOf}
+use Rattle.stream_compile.specs.Codes.{Coding, AreAll, with_code}
 use Rattle.stream_compile.specs.CutBodies.{coded_all}
 
 -- the codes of the bodies of these parts, behind these items and k bodies
@@ -50,16 +47,17 @@ pub record IsJudged (bytes : List ℕ) (left : Run) (spaces : Spaces) (bodies : 
   pub trees : List Seq
   pub valid : AreValid [] 0 front trees
 
--- and these are the codes of the bodies, of so many words
-pub record IsJudging (bytes : List ℕ) (left : Run) (spaces : Spaces) (codes : List Code) (words : ℕ) : Type 0 where
-  pub judged : IsJudged bytes left spaces (length codes)
-  pub coded : AreCodes [] 0 judged.front judged.trees codes
-  pub words_are : words ≡ length (words_of codes)
-  -- with the exit stub they keep the limit
-  pub fits : 4 * (2 + words) ≤ max_text
+-- and all codes are those of the bodies
+pub record IsJudging (bytes : List ℕ) (left : Run) (spaces : Spaces) (codes : Coding) : Type 0 where
+  pub judged : IsJudged bytes left spaces codes.count
+  pub all : List Code
+  pub are_all : AreAll codes all
+  pub coded : AreCodes [] 0 judged.front judged.trees all
+  -- with the exit stub their words keep the limit
+  pub fits : 4 * (2 + codes.words) ≤ max_text
   -- a fault of the text stands in what is left
-  pub text_left : (r : Refusal) → IsTextFault [] 0 0 (module_run bytes).parts r → IsTextFault (items_of judged.front) (length (bodies_of judged.front)) words left.parts r
-  pub text_whole : (r : Refusal) → IsTextFault (items_of judged.front) (length (bodies_of judged.front)) words left.parts r → IsTextFault [] 0 0 (module_run bytes).parts r
+  pub text_left : (r : Refusal) → IsTextFault [] 0 0 (module_run bytes).parts r → IsTextFault (items_of judged.front) (length (bodies_of judged.front)) codes.words left.parts r
+  pub text_whole : (r : Refusal) → IsTextFault (items_of judged.front) (length (bodies_of judged.front)) codes.words left.parts r → IsTextFault [] 0 0 (module_run bytes).parts r
 
 -- what a body is judged by, before which so many bodies stand
 abbrev pub body_of_spaces : Spaces → ℕ → Body → Context
@@ -76,14 +74,18 @@ pub record CanTake (spaces : Spaces) (bodies : ℕ) (b : GivenBody) : Type 0 whe
   pub small : TypeIsSmall (type_of_function (context_in spaces) (spaces.imported + bodies))
   pub most : length b.bytes ≤ max_body
 
+-- the next one can be taken, and its code can be added
+abbrev pub CanTakeNext : Spaces → Coding → GivenBody → Type 0
+CanTakeNext spaces codes b = CanTake spaces codes.count b × (codes.count < 2 ^ 27) × (codes.words ≤ 2 ^ 26)
+
 -- bodies can be taken: of some module they come next, behind what is right
-abbrev pub CanTakeAll : Spaces → List Code → (words : ℕ) → List GivenBody → Type 0
-CanTakeAll spaces codes words bodies =
-    (bytes : List ℕ) × (left : Run) × (length bytes ≤ 67108869) × IsJudging bytes (after_parts (coded_all bodies) left) spaces codes words
+abbrev pub CanTakeAll : Spaces → Coding → List GivenBody → Type 0
+CanTakeAll spaces codes bodies =
+    (bytes : List ℕ) × (left : Run) × (length bytes ≤ 67108869) × IsJudging bytes (after_parts (coded_all bodies) left) spaces codes
 
 -- parts were taken; or the module's fault is found
-abbrev pub TakesPart : List ℕ → Result ℕ FrontStop → Run → Spaces → List Code → Type 0
-TakesPart bytes (Ok words) run spaces codes = IsJudging bytes run spaces codes words
+abbrev pub TakesPart : List ℕ → Result (Unit {0}) FrontStop → Run → Spaces → Coding → Type 0
+TakesPart bytes (Ok done) run spaces codes = IsJudging bytes run spaces codes
 TakesPart bytes (Err (Refused r)) run spaces codes = IsVerdictOf bytes (Rejected r)
 TakesPart bytes (Err NoMemory) run spaces codes = Unit {0}
 
@@ -101,30 +103,11 @@ TakesBody spaces bodies b (Err NoMemory) = Unit {0}
 abbrev pub front_of : Spaces → ℕ
 front_of s = length exit_stub + stub_size * s.imported
 
--- a body was taken: its code stands behind the others, and there are so many words; or the body has a fault, or with it the text
--- passes its limit
-abbrev pub TakesCode : Spaces → List Code → (words : ℕ) → GivenBody → Result ℕ FrontStop → List Code → Type 0
-TakesCode spaces codes words b (Ok more) new =
-    (code : Code) × TakesBody spaces (length codes) b (Ok code) × (new ≡ codes ++ code ∷ []) × (more ≡ words + length code.words)
-    × (4 * (front_of spaces + more) ≤ max_text)
-TakesCode spaces codes words b (Err (Refused r)) new =
-    TakesBody spaces (length codes) b (Err (Refused r))
-    ⊎ ((code : Code) × TakesBody spaces (length codes) b (Ok code) × (max_text < 4 * (front_of spaces + (words + length code.words))) × (r ≡ limit_at b.size))
-TakesCode spaces codes words b (Err NoMemory) new = Unit {0}
-
--- what was linked; or memory ran out
-abbrev pub Links : Spaces → List Code → (bytes : ℕ) → Result Built FrontStop → Type 0
-Links spaces codes bytes (Ok built) = (built.image ≡ linked spaces codes) × (built.functions ≡ spaces.declared) × (built.bytes ≡ bytes)
-Links spaces codes bytes (Err s) = s ≡ NoMemory
-
--- the codes can be linked: their words are few, and the constants of globals are numbers of their types
-abbrev pub MayLink : Spaces → List Code → Type 0
-MayLink spaces codes = (4 * (2 + length (words_of codes)) ≤ 2 ^ 28) × NumbersFit spaces.globals spaces.initials
-
--- the module's image, or its fault of least offset
-abbrev pub Decides : List ℕ → Result Built FrontStop → Type 0
-Decides bytes (Ok built) =
-    (m : Module) × IsModuleOf bytes m × (built.image ≡ image_of m) × Same m built.image × IsRunnable built.image
-    × (built.functions ≡ declared_count m.items) × (built.bytes ≡ length bytes)
-Decides bytes (Err (Refused r)) = IsVerdictOf bytes (Rejected r)
-Decides bytes (Err NoMemory) = Unit {0}
+-- a body was taken: its code stands behind the others; or the body has a fault, or with it the text passes its limit
+abbrev pub TakesCode : Spaces → Coding → GivenBody → Result (Unit {0}) FrontStop → Coding → Type 0
+TakesCode spaces codes b (Ok done) new =
+    (code : Code) × TakesBody spaces codes.count b (Ok code) × (new ≡ with_code codes code) × (4 * (front_of spaces + new.words) ≤ max_text)
+TakesCode spaces codes b (Err (Refused r)) new =
+    TakesBody spaces codes.count b (Err (Refused r))
+    ⊎ ((code : Code) × TakesBody spaces codes.count b (Ok code) × (max_text < 4 * (front_of spaces + (codes.words + length code.words))) × (r ≡ limit_at b.size))
+TakesCode spaces codes b (Err NoMemory) new = Unit {0}

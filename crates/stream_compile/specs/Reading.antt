@@ -1,13 +1,19 @@
 -- What was read, and what it settles.
-use Rattle.std.specs.Prelude.{◌≡◌, ℕ, Bool, List, Option, nat_lt, string_bytes, Result, Ok, Err}
+use Rattle.std.specs.Prelude.{◌≡◌, ℕ, Bool, false, List, Option, None, Some, nat_lt, string_bytes, Result, Ok, Err}
+use Rattle.wasm_defs.specs.declared.fault.Refusal.{Refusal}
 use Rattle.wasm_defs.specs.declared.front_stop.FrontStop.{FrontStop}
-use Rattle.wasm_defs.specs.declared.front_stop.FrontStop.TheVariants.{Refused, NoMemory}
-use Rattle.wasm_defs.specs.Faults.{Module, Verdict, Accepted}
-use Rattle.image_linker.specs.Judging.{IsVerdictOf}
+use Rattle.wasm_defs.specs.declared.front_stop.FrontStop.TheVariants as stop
+use Rattle.wasm_defs.specs.Faults.{Module, Verdict, Accepted, Rejected}
+use Rattle.section_reader.specs.FrontLeft.{total}
+use Rattle.image_linker.specs.Judging.{IsVerdictOf, lasting}
+use Rattle.stream_compile.specs.declared.answer.Checked.{Checked}
+use Rattle.stream_compile.specs.declared.answer.CheckAnswer.{CheckAnswer}
+use Rattle.stream_compile.specs.declared.answer.CheckAnswer.TheVariants as check
+use Rattle.stream_compile.specs.declared.compilation.Compilation.{Compilation}
 use Rattle.stream_compile.specs.declared.output.Output.{Output}
-use Rattle.stream_compile.specs.declared.answer.Built.{Built}
 use Rattle.stream_compile.specs.Came.{Came}
-use Rattle.stream_compile.specs.Progress.{Decides}
+use Rattle.stream_compile.specs.Compiling.{CheckAnswered}
+use Rattle.stream_compile.specs.Done.{IsDone}
 use Rattle.stream_compile.specs.Texts.{Outcome}
 
 -- reading failed exactly where the count rose; where it didn't, all bytes that came have the verdict of those that were read
@@ -20,10 +26,38 @@ pub record Settles (read : List ℕ) (failed : Bool) (left : Option (List ℕ)) 
   pub whole : (m : Module) → IsVerdictOf read (Accepted m) → bytes ≡ read
 
 -- what the bytes that were read come to, unless memory ran out
-abbrev pub Settled : Bool → Result Built FrontStop → Option (List ℕ) → (before now : ℕ) → Type 0
-Settled failed (Ok built) left before now = (read : List ℕ) × Settles read failed left before now × Decides read (Ok built)
-Settled failed (Err (Refused r)) left before now = (read : List ℕ) × Settles read failed left before now × Decides read (Err (Refused r))
-Settled failed (Err NoMemory) left before now = Unit {0}
+abbrev pub Settled : Bool → Result (Unit {0}) FrontStop → Compilation → Option (List ℕ) → (before now : ℕ) → Type 0
+Settled failed (Ok done) s left before now = (read : List ℕ) × Settles read failed left before now × IsDone read s
+Settled failed (Err (stop.Refused r)) s left before now = (read : List ℕ) × Settles read failed left before now × IsVerdictOf read (Rejected r)
+Settled failed (Err stop.NoMemory) s left before now = Unit {0}
+
+-- ---- what is answered
+
+-- how many functions were declared, and how many bytes there were
+abbrev pub checked_of : Compilation → Checked
+checked_of s = record { functions = s.spaces.declared; bytes = total s.front }
+
+abbrev pub answer_of : Result (Unit {0}) FrontStop → Checked → CheckAnswer
+answer_of (Ok done) checked = check.Valid checked
+answer_of (Err (stop.Refused r)) checked = check.Refused r
+answer_of (Err stop.NoMemory) checked = check.NoMemory
+
+abbrev pub of_lasting : Option Refusal → CheckAnswer
+of_lasting None = check.ReadFault
+of_lasting (Some r) = check.Refused r
+
+-- where the source failed behind the bytes, a fault that lasts is told
+abbrev pub stopped_answer : Result (Unit {0}) FrontStop → CheckAnswer
+stopped_answer (Ok done) = check.ReadFault
+stopped_answer (Err (stop.Refused r)) = of_lasting (lasting r.kind r)
+stopped_answer (Err stop.NoMemory) = check.NoMemory
+
+-- what judging a source answers, and that the compilation of a module is done
+abbrev pub Judged : Bool → Option (List ℕ) → CheckAnswer → Compilation → Type 0
+Judged failed left (check.Valid checked) s = (failed ≡ false) × (bytes : List ℕ) × Came left false bytes × IsDone bytes s × (checked ≡ checked_of s)
+Judged failed left (check.Refused r) s = CheckAnswered failed left (check.Refused r)
+Judged failed left check.ReadFault s = CheckAnswered failed left check.ReadFault
+Judged failed left check.NoMemory s = CheckAnswered failed left check.NoMemory
 
 -- a status and a text in memory as an outcome
 abbrev pub view : Output → Outcome

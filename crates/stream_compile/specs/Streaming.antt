@@ -16,6 +16,7 @@ use Rattle.body_cutter.specs.Queues.{bodies_in}
 use Rattle.body_cutter.specs.Cuttings.{Cutting, left, is_whole}
 use Rattle.image_linker.specs.Judging.{IsVerdictOf}
 use Rattle.stream_compile.specs.declared.compilation.Compilation.{Compilation}
+use Rattle.stream_compile.specs.Codes.{KeepsAlike}
 use Rattle.stream_compile.specs.CutBodies.{cut_run, sections_behind}
 use Rattle.stream_compile.specs.Progress.{IsJudging}
 
@@ -48,8 +49,12 @@ pub record IsGoing (bytes : List ℕ) (s : Compilation) (more : List ℕ) : Type
   pub told : List Part
   pub sections : AreSections told
   pub first : outside_of s.front.steps.uncompiled [] ≡ first_outside is_compiled_section (sections_of told)
-  pub judging : IsJudging bytes (after_parts told (left_of s.front s.cutter more)) s.spaces s.codes.items s.words
+  pub judging : IsJudging bytes (after_parts told (left_of s.front s.cutter more)) s.spaces s.codes
   pub place : IsPlaced s.front s.cutter told (length bytes) more
+
+-- nothing was read yet
+abbrev pub IsUnread : Compilation → Type 0
+IsUnread s = (bytes : List ℕ) → length bytes ≤ 67108869 → IsGoing bytes s bytes
 
 -- there are such bytes
 abbrev pub MayGo : Compilation → List ℕ → Type 0
@@ -80,7 +85,7 @@ pub record IsTaking (bytes : List ℕ) (s : Compilation) (x : Item) (more : List
   pub sections : AreSections told
   pub first : outside_of s.front.steps.uncompiled [] ≡ first_outside is_compiled_section (sections_of told)
   pub known : begun s.front ≡ s.front.steps.uncompiled
-  pub judging : IsJudging bytes (after_parts told (after_part (Listed x) (onward_left s.front more))) s.spaces s.codes.items s.words
+  pub judging : IsJudging bytes (after_parts told (after_part (Listed x) (onward_left s.front more))) s.spaces s.codes
   pub outside : s.cutter ≡ None
   pub idle : s.front.waiting ≡ None
   pub follows : Follows x s.front
@@ -132,11 +137,7 @@ pub record KeepsRest (old new : Compilation) : Type 0 where
   pub front : new.front ≡ old.front
   pub cutter : new.cutter ≡ old.cutter
   pub spaces : new.spaces ≡ old.spaces
-
-abbrev pub TakesBatches : List ℕ → Result (Unit {0}) FrontStop → Run → Compilation → Type 0
-TakesBatches bytes (Ok done) run s = IsJudging bytes run s.spaces s.codes.items s.words
-TakesBatches bytes (Err (Refused r)) run s = IsVerdictOf bytes (Rejected r)
-TakesBatches bytes (Err NoMemory) run s = Unit {0}
+  pub codes : KeepsAlike old.codes new.codes
 
 -- ---- faults outside bodies
 

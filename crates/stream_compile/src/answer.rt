@@ -1,4 +1,4 @@
-//! What compiling comes to.
+//! What judging and compiling come to.
 
 use image_format::Image;
 use wasm_defs::Refusal;
@@ -23,11 +23,33 @@ pub struct Built {
     pub bytes: u64,
 }
 
+/// A module that was judged.
+#[derive(Drop)]
+pub struct Checked {
+    /// How many functions the module declares, imported ones not counted.
+    pub functions: u64,
+    /// The bytes of the module.
+    pub bytes: u64,
+}
+
 /// What compiling comes to.
 #[derive(Drop)]
 pub enum Answer {
     /// The bytes are a module, and this is its image.
     Image(Built),
+    /// They are none: this is the fault of least offset.
+    Refused(Refusal),
+    /// The source failed, and the bytes that came have no fault that more bytes don't mend.
+    ReadFault,
+    /// Memory ran out.
+    NoMemory,
+}
+
+/// What judging comes to.
+#[derive(Drop)]
+pub enum CheckAnswer {
+    /// The bytes are a module.
+    Valid(Checked),
     /// They are none: this is the fault of least offset.
     Refused(Refusal),
     /// The source failed, and the bytes that came have no fault that more bytes don't mend.

@@ -4,9 +4,11 @@ ghost use Rattle.std.specs.Prelude.{◌≡◌, ◌≤◌, ◌<◌, ◌+◌, ◌*
 ghost use Rattle.wasm_defs.specs.Limits.{max_text};
 ghost use Rattle.wasm_defs.specs.Outside.{Run as RunGiven};
 ghost use Rattle.section_reader.specs.Onward.{after_parts};
+ghost use Rattle.stream_compile.specs.Codes.{KeepsAlike};
 ghost use Rattle.stream_compile.specs.CutBodies.{coded_all};
-ghost use Rattle.stream_compile.specs.Progress.{IsJudging, CanTake, CanTakeAll, front_stop, TakesBody, TakesCode, TakesPart};
+ghost use Rattle.stream_compile.specs.Progress.{IsJudging, CanTake, CanTakeNext, CanTakeAll, front_stop, TakesBody, TakesCode, TakesPart};
 
+use crate::codes::Codes;
 use body_compiler::{BodyStop, compile};
 use body_cutter::{Batch, Body, Cutter};
 use index_spaces::ContextBuilder;
@@ -50,31 +52,30 @@ fn passes_limit(imported: u32, words: u64) -> bool
     u64::from(MAX_TEXT) / 4 < 2 + 18 * u64::from(imported) + words
 }
 
-/// Takes the next body, before which functions of so many words stand, and answers how many words there are with it.
+/// Takes the next body, behind those that have these codes.
 fn take_code(
     alloc: Global,
     spaces: &ContextBuilder,
-    codes: &mut Vec<Code>,
-    words: u64,
+    codes: &mut Codes,
     body: &Body,
-) -> Result<u64, FrontStop>
-    requires body { CanTake spaces.now (length codes.old.items) body.now }
-    requires words { words ≤ 2 ^ 26 }
-    ensures { TakesCode spaces.now codes.old.items words body.now result codes.new.items }
+) -> Result<(), FrontStop>
+    requires { CanTakeNext spaces.now codes.old body.now }
+    ensures takes { TakesCode spaces.now codes.old body.now result codes.new }
+    ensures kept { KeepsAlike codes.old codes.new }
 {
-    let code = match take_body(alloc, spaces, codes.len() as u32, body) {
+    let code = match take_body(alloc, spaces, codes.count(), body) {
         Ok(code) => code,
         Err(stop) => return Err(stop),
     };
-    let words = words + code.words.as_slice().len() as u64;
+    let words = codes.words() + code.words.as_slice().len() as u64;
     if passes_limit(spaces.context().imported(), words) {
         return Err(FrontStop::Refused(Refusal {
             offset: body.size,
             kind: Kind::Limit,
         }));
     }
-    match codes.push(code) {
-        Ok(()) => Ok(words),
+    match codes.add(code) {
+        Ok(()) => Ok(()),
         Err(_) => Err(FrontStop::NoMemory),
     }
 }
@@ -83,47 +84,45 @@ fn take_code(
 pub fn take_batch(
     alloc: Global,
     spaces: &ContextBuilder,
-    codes: &mut Vec<Code>,
-    words: u64,
+    codes: &mut Codes,
     batch: Batch,
-) -> Result<u64, FrontStop>
-    requires { CanTakeAll spaces.now codes.old.items words batch.bodies }
-    ensures { (bytes : List ℕ) (left : RunGiven) → length bytes ≤ 67108869
-        → IsJudging bytes (after_parts (coded_all batch.bodies) left) spaces.now codes.old.items words
-        → TakesPart bytes result left spaces.now codes.new.items }
+) -> Result<(), FrontStop>
+    requires { CanTakeAll spaces.now codes.old batch.bodies }
+    ensures takes { (bytes : List ℕ) (left : RunGiven) → length bytes ≤ 67108869
+        → IsJudging bytes (after_parts (coded_all batch.bodies) left) spaces.now codes.old
+        → TakesPart bytes result left spaces.now codes.new }
+    ensures kept { KeepsAlike codes.old codes.new }
 {
-    let mut total = words;
     let mut bodies = batch.bodies.into_list();
     while let Some(body) = bodies.pop_front() {
-        match take_code(alloc, spaces, codes, total, &body) {
-            Ok(more) => total = more,
+        match take_code(alloc, spaces, codes, &body) {
+            Ok(()) => {}
             Err(stop) => return Err(stop),
         }
     }
-    Ok(total)
+    Ok(())
 }
 
 /// Takes the bodies of all batches that are closed.
 pub fn take_batches(
     alloc: Global,
     spaces: &ContextBuilder,
-    codes: &mut Vec<Code>,
-    words: u64,
+    codes: &mut Codes,
     cutter: &mut Cutter,
-) -> Result<u64, FrontStop>
-    requires { CanTakeAll spaces.now codes.old.items words cutter.old.queue.closed }
+) -> Result<(), FrontStop>
+    requires { CanTakeAll spaces.now codes.old cutter.old.queue.closed }
     ensures place { cutter.new.place ≡ cutter.old.place }
     ensures queue { OnOk result ((cutter.new.queue.closed ≡ []) × (cutter.new.queue.begun ≡ cutter.old.queue.begun)) }
     ensures takes { (bytes : List ℕ) (left : RunGiven) → length bytes ≤ 67108869
-        → IsJudging bytes (after_parts (coded_all cutter.old.queue.closed) left) spaces.now codes.old.items words
-        → TakesPart bytes result left spaces.now codes.new.items }
+        → IsJudging bytes (after_parts (coded_all cutter.old.queue.closed) left) spaces.now codes.old
+        → TakesPart bytes result left spaces.now codes.new }
+    ensures kept { KeepsAlike codes.old codes.new }
 {
-    let mut total = words;
     while let Some(batch) = cutter.take_batch() {
-        match take_batch(alloc, spaces, codes, total, batch) {
-            Ok(more) => total = more,
+        match take_batch(alloc, spaces, codes, batch) {
+            Ok(()) => {}
             Err(stop) => return Err(stop),
         }
     }
-    Ok(total)
+    Ok(())
 }

@@ -1,26 +1,21 @@
 //! The commands of the program.
 
-ghost use Rattle.std.specs.Prelude.{◌≡◌, ◌<◌, ◌^◌, ◌-◌, nat_lt, IfOk};
+ghost use Rattle.std.specs.Prelude.{◌≡◌, ◌<◌, ◌^◌, ◌-◌, Some, nat_lt, IfOk};
+ghost use Rattle.command_words.specs.declared.command.Command.TheVariants.{Check, Run as RunCommand};
 ghost use Rattle.stream_compile.specs.Reading.{view};
-ghost use Rattle.stream_compile.specs.Compiling.{Does};
-ghost use Rattle.stream_compile.specs.Running.{IsRunnable, NeverFaults};
 ghost use Rattle.stream_compile.specs.Texts.{command_said, Comes, Answers};
 
-use crate::answer::{Answer, Built, Settings};
-use crate::compiling::stream_compile;
+use crate::answer::{Answer, CheckAnswer, Settings};
+use crate::compiling::{stream_check, stream_compile};
 use crate::output::{Output, accepted, read_fault, rejected, usage};
 use crate::running::run_image;
-use command_words::{Command, WordsStop, command_of};
+use command_words::{Command, Options, Run, WordsStop, command_of};
 use io_edges::{Gate, Sink, Source, write_all};
 use std::alloc::{AllocError, Global};
 use std::sync::Wait;
 use std::thread::Threads;
 
-fn settings_of(command: &Command) -> Settings {
-    let options = match command {
-        Command::Check(options) => options,
-        Command::Run(call) => &call.options,
-    };
+fn settings_of(options: &Options) -> Settings {
     Settings {
         workers: options.workers.min(64) as u32,
         batch: options.batch.min(1_048_576) as u32,
@@ -38,15 +33,41 @@ fn command_in(alloc: Global, words: &Vec<String>) -> Result<Option<Command>, All
     }
 }
 
-/// Does a command with a module that was compiled.
-fn done(alloc: Global, command: &Command, built: &Built) -> Result<Output, AllocError>
-    requires runnable { IsRunnable built.now.image }
-    requires never_faults { NeverFaults built.now.image }
-    ensures { IfOk result (λ o. Does command.now built.now (view o)) }
+/// Judges what the source gives.
+fn check<R: Threads + Wait + Sync, S: Source, G: Gate>(
+    rt: &R,
+    alloc: Global,
+    options: &Options,
+    source: &mut S,
+    gate: &G,
+) -> Result<Output, AllocError>
+    requires { S.faults source.old < 2 ^ 64 - 1 }
+    ensures { IfOk result (λ o. Comes (Some (Check options.now)) (nat_lt (S.faults source.old) (S.faults source.new)) (S.left source.old) (view o)) }
 {
-    match command {
-        Command::Check(_) => accepted(alloc, built.functions, built.bytes),
-        Command::Run(call) => run_image(alloc, &built.image, call),
+    match stream_check(rt, alloc, source, gate, settings_of(options)) {
+        CheckAnswer::Valid(checked) => accepted(alloc, checked.functions, checked.bytes),
+        CheckAnswer::Refused(refusal) => rejected(alloc, refusal),
+        CheckAnswer::ReadFault => read_fault(alloc),
+        CheckAnswer::NoMemory => Err(AllocError),
+    }
+}
+
+/// Compiles what the source gives, and calls one of its functions.
+fn run<R: Threads + Wait + Sync, S: Source, G: Gate>(
+    rt: &R,
+    alloc: Global,
+    call: &Run,
+    source: &mut S,
+    gate: &G,
+) -> Result<Output, AllocError>
+    requires { S.faults source.old < 2 ^ 64 - 1 }
+    ensures { IfOk result (λ o. Comes (Some (RunCommand call.now)) (nat_lt (S.faults source.old) (S.faults source.new)) (S.left source.old) (view o)) }
+{
+    match stream_compile(rt, alloc, source, gate, settings_of(&call.options)) {
+        Answer::Image(built) => run_image(alloc, &built.image, call),
+        Answer::Refused(refusal) => rejected(alloc, refusal),
+        Answer::ReadFault => read_fault(alloc),
+        Answer::NoMemory => Err(AllocError),
     }
 }
 
@@ -61,14 +82,10 @@ fn answer_to<R: Threads + Wait + Sync, S: Source, G: Gate>(
     requires { S.faults source.old < 2 ^ 64 - 1 }
     ensures { IfOk result (λ o. Comes command.now (nat_lt (S.faults source.old) (S.faults source.new)) (S.left source.old) (view o)) }
 {
-    let Some(command) = command else {
-        return usage(alloc);
-    };
-    match stream_compile(rt, alloc, source, gate, settings_of(command)) {
-        Answer::Image(built) => done(alloc, command, &built),
-        Answer::Refused(refusal) => rejected(alloc, refusal),
-        Answer::ReadFault => read_fault(alloc),
-        Answer::NoMemory => Err(AllocError),
+    match command {
+        None => usage(alloc),
+        Some(Command::Check(options)) => check(rt, alloc, options, source, gate),
+        Some(Command::Run(call)) => run(rt, alloc, call, source, gate),
     }
 }
 

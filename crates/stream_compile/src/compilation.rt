@@ -1,7 +1,7 @@
 //! A module that is compiled while its bytes come: its items are kept, its bodies are judged and compiled batch by batch, and at
-//! its end their codes are linked.
+//! its end their codes are linked, where they were kept.
 
-ghost use Rattle.std.specs.Prelude.{◌≡◌, ◌<◌, ◌≤◌, ◌++◌, ℕ, List, [], All, length, None, Err, OnOk};
+ghost use Rattle.std.specs.Prelude.{◌≡◌, ◌<◌, ◌≤◌, ◌++◌, ℕ, List, [], All, length, None, Err, IsSome, OnOk, IfOk};
 ghost use Rattle.wasm_defs.specs.Faults.{unsupported_at};
 ghost use Rattle.wasm_defs.specs.Outside.{Run as RunGiven};
 ghost use Rattle.section_reader.specs.FrontLeft.{total};
@@ -9,18 +9,22 @@ ghost use Rattle.section_reader.specs.FrontOnward.{begun};
 ghost use Rattle.section_reader.specs.Onward.{after_parts};
 ghost use Rattle.body_cutter.specs.Sections.{bodies_from};
 ghost use Rattle.body_cutter.specs.Cuttings.{left, handed, no_batch};
+ghost use Rattle.stream_compile.specs.Codes.{AreAll, KeepsAlike};
 ghost use Rattle.stream_compile.specs.CutBodies.{coded_all};
-ghost use Rattle.stream_compile.specs.Progress.{IsJudging, CanTakeAll, Links, Decides, MayLink};
-ghost use Rattle.stream_compile.specs.Streaming.{IsGoing, MayGo, MayEnd, GoesOn, Advances, Lessens, IsWaiting, AllWait, WaitsAfter, with_cutter, KeepsRest, TakesBatches, IsTaking, MayTake, MayBegin, TakesItem, earliest};
+ghost use Rattle.stream_compile.specs.Progress.{IsJudging, CanTakeAll, TakesPart};
+ghost use Rattle.stream_compile.specs.Done.{IsDone, Decides};
+ghost use Rattle.stream_compile.specs.Compiling.{IsBuilt};
+ghost use Rattle.stream_compile.specs.Reading.{checked_of};
+ghost use Rattle.stream_compile.specs.Streaming.{IsGoing, IsUnread, MayGo, MayEnd, GoesOn, Advances, Lessens, IsWaiting, AllWait, WaitsAfter, with_cutter, KeepsRest, IsTaking, MayTake, MayBegin, TakesItem, earliest};
 
-use crate::answer::Built;
+use crate::answer::{Built, Checked};
 use crate::bodies::take_batches;
+use crate::codes::Codes;
 use body_cutter::Cutter;
 use image_linker::link;
 use index_spaces::ContextBuilder;
-use rv_isa::Code;
 use section_reader::Front;
-use std::alloc::Global;
+use std::alloc::{AllocError, Global};
 use wasm_defs::{FrontStop, Item, Kind, Refusal, earlier};
 
 /// What came of a module, and how far it was compiled.
@@ -34,9 +38,8 @@ pub struct Compilation {
     /// Cuts the bodies, while their section comes.
     cutter: Option<Cutter>,
     spaces: ContextBuilder,
-    /// The codes of the bodies that were judged, and how many words they have.
-    codes: Vec<Code>,
-    words: u64,
+    /// The codes of the bodies that were judged.
+    codes: Codes,
 }
 
 fn unsupported(offset: u64) -> Refusal
@@ -49,9 +52,11 @@ fn unsupported(offset: u64) -> Refusal
 }
 
 impl Compilation {
-    /// Before the first byte. A batch closes where its bodies have `batch` bytes.
-    pub fn new(alloc: Global, batch: u32) -> Compilation
-        ensures { (bytes : List ℕ) → length bytes ≤ 67108869 → IsGoing bytes result bytes }
+    /// Before the first byte. A batch closes where its bodies have `batch` bytes. The codes are none so far.
+    pub fn new(alloc: Global, batch: u32, codes: Codes) -> Compilation
+        requires { AreAll codes [] }
+        ensures unread { IsUnread result }
+        ensures kept { result.codes ≡ codes }
     {
         Compilation {
             alloc,
@@ -59,8 +64,7 @@ impl Compilation {
             front: Front::new(alloc),
             cutter: None,
             spaces: ContextBuilder::new(alloc),
-            codes: Vec::new(alloc),
-            words: 0,
+            codes,
         }
     }
 
@@ -69,6 +73,7 @@ impl Compilation {
         requires { MayGo self.old piece.now }
         ensures goes { (bytes more : List ℕ) → IsGoing bytes self.old (piece.now ++ more) → GoesOn bytes result self.new more }
         ensures bytes { All (λ b. b < 256) piece.now }
+        ensures kept { KeepsAlike self.old.codes self.new.codes }
     {
         let mut rest = piece;
         while !rest.is_empty() {
@@ -85,6 +90,7 @@ impl Compilation {
         requires { MayGo self.old piece.now }
         ensures goes { (bytes more : List ℕ) → IsGoing bytes self.old (piece.now ++ more) → Advances bytes piece.now result self.new more }
         ensures less { Lessens self.old piece.now result self.new }
+        ensures kept { KeepsAlike self.old.codes self.new.codes }
     {
         match self.cutter.take() {
             Some(cutter) => self.cut(cutter, piece),
@@ -98,6 +104,7 @@ impl Compilation {
         ensures goes { (bytes more : List ℕ) → IsGoing bytes (with_cutter self.old cutter) (piece.now ++ more) → Advances bytes piece.now result self.new more }
         ensures less { Lessens (with_cutter self.old cutter) piece.now result self.new }
         ensures waits { WaitsAfter result self.new.cutter }
+        ensures kept { KeepsAlike self.old.codes self.new.codes }
     {
         match cutter.feed(piece) {
             Ok(taken) => match self.judge(&mut cutter) {
@@ -122,27 +129,15 @@ impl Compilation {
 
     /// Judges and compiles the bodies of the batches that are closed.
     fn judge(&mut self, cutter: &mut Cutter) -> Result<(), FrontStop>
-        requires { CanTakeAll self.old.spaces self.old.codes.items self.old.words cutter.old.queue.closed }
+        requires { CanTakeAll self.old.spaces self.old.codes cutter.old.queue.closed }
         ensures rest { KeepsRest self.old self.new }
         ensures place { cutter.new.place ≡ cutter.old.place }
         ensures queue { OnOk result ((cutter.new.queue.closed ≡ []) × (cutter.new.queue.begun ≡ cutter.old.queue.begun)) }
         ensures takes { (bytes : List ℕ) (left : RunGiven) → length bytes ≤ 67108869
-            → IsJudging bytes (after_parts (coded_all cutter.old.queue.closed) left) self.old.spaces self.old.codes.items self.old.words
-            → TakesBatches bytes result left self.new }
+            → IsJudging bytes (after_parts (coded_all cutter.old.queue.closed) left) self.old.spaces self.old.codes
+            → TakesPart bytes result left self.new.spaces self.new.codes }
     {
-        match take_batches(
-            self.alloc,
-            &self.spaces,
-            &mut self.codes,
-            self.words,
-            cutter,
-        ) {
-            Ok(words) => {
-                self.words = words;
-                Ok(())
-            }
-            Err(stop) => Err(stop),
-        }
+        take_batches(self.alloc, &self.spaces, &mut self.codes, cutter)
     }
 
     /// Outside the bodies: takes the bytes up to the end of an item.
@@ -151,6 +146,7 @@ impl Compilation {
         requires goes { MayGo self.old piece.now }
         ensures goes { (bytes more : List ℕ) → IsGoing bytes self.old (piece.now ++ more) → Advances bytes piece.now result self.new more }
         ensures less { Lessens self.old piece.now result self.new }
+        ensures kept { KeepsAlike self.old.codes self.new.codes }
     {
         match self.front.feed(piece) {
             Ok(taken) => match self.front.take_item() {
@@ -168,7 +164,8 @@ impl Compilation {
     /// Takes an item that was read; behind the code section's count the bodies come.
     fn take_item(&mut self, item: &Item) -> Result<(), FrontStop>
         requires { MayTake self.old item.now }
-        ensures { (bytes more : List ℕ) → IsTaking bytes self.old item.now more → TakesItem bytes self.old result self.new more }
+        ensures takes { (bytes more : List ℕ) → IsTaking bytes self.old item.now more → TakesItem bytes self.old result self.new more }
+        ensures kept { self.new.codes ≡ self.old.codes }
     {
         if let Some(at) = self.front.uncompiled() {
             return Err(FrontStop::Refused(unsupported(at)));
@@ -214,10 +211,11 @@ impl Compilation {
         }
     }
 
-    /// The bytes have ended: links what was compiled, or says what is at fault.
-    pub fn finish(&mut self) -> Result<Built, FrontStop>
+    /// The bytes have ended: they are a module, all of whose bodies are compiled, or this is what is at fault.
+    pub fn finish(&mut self) -> Result<(), FrontStop>
         requires { MayEnd self.old }
-        ensures { (bytes : List ℕ) → All (λ b. b < 256) bytes → IsGoing bytes self.old [] → Decides bytes result }
+        ensures decides { (bytes : List ℕ) → All (λ b. b < 256) bytes → IsGoing bytes self.old [] → Decides bytes result self.new }
+        ensures kept { KeepsAlike self.old.codes self.new.codes }
     {
         match self.settle() {
             Ok(()) => match self.cutter.take() {
@@ -233,6 +231,7 @@ impl Compilation {
         requires { MayEnd self.old }
         ensures goes { (bytes : List ℕ) → IsGoing bytes self.old [] → GoesOn bytes result self.new [] }
         ensures waits { OnOk result (AllWait self.new.cutter) }
+        ensures kept { KeepsAlike self.old.codes self.new.codes }
     {
         match self.cutter.take() {
             Some(cutter) => match self.cut(cutter, &[]) {
@@ -247,7 +246,8 @@ impl Compilation {
     fn end_bodies(&mut self, mut cutter: Cutter) -> FrontStop
         requires waits { IsWaiting cutter }
         requires goes { MayEnd (with_cutter self.old cutter) }
-        ensures { (bytes : List ℕ) → IsGoing bytes (with_cutter self.old cutter) [] → Decides bytes (Err result) }
+        ensures decides { (bytes : List ℕ) → IsGoing bytes (with_cutter self.old cutter) [] → Decides bytes (Err result) self.new }
+        ensures kept { KeepsAlike self.old.codes self.new.codes }
     {
         match cutter.end() {
             Ok(()) => unreachable!(),
@@ -259,32 +259,43 @@ impl Compilation {
     }
 
     /// The bytes have ended outside the bodies.
-    fn end(&mut self) -> Result<Built, FrontStop>
+    fn end(&mut self) -> Result<(), FrontStop>
         requires none { self.old.cutter ≡ None }
         requires goes { MayEnd self.old }
-        ensures { (bytes : List ℕ) → All (λ b. b < 256) bytes → IsGoing bytes self.old [] → Decides bytes result }
+        ensures decides { (bytes : List ℕ) → All (λ b. b < 256) bytes → IsGoing bytes self.old [] → Decides bytes result self.new }
+        ensures kept { self.new.codes ≡ self.old.codes }
     {
         match self.front.end() {
             Ok(()) => match self.front.uncompiled() {
                 Some(at) => Err(FrontStop::Refused(unsupported(at))),
-                None => self.linked(),
+                None => Ok(()),
             },
             Err(refusal) => Err(FrontStop::Refused(self.earliest(refusal))),
         }
     }
 
-    /// Links the codes.
-    fn linked(&self) -> Result<Built, FrontStop>
-        requires { MayLink self.now.spaces self.now.codes.items }
-        ensures { Links self.now.spaces self.now.codes.items (total self.now.front) result }
+    /// How many functions were declared, and how many bytes were read.
+    pub fn checked(&self) -> Checked
+        ensures { result ≡ checked_of self.now }
     {
-        match link(self.alloc, self.spaces.context(), &self.codes) {
-            Ok(image) => Ok(Built {
-                image,
-                functions: self.spaces.context().declared() as u64,
-                bytes: self.front.offset(),
-            }),
-            Err(_) => Err(FrontStop::NoMemory),
+        Checked {
+            functions: self.spaces.context().declared() as u64,
+            bytes: self.front.offset(),
         }
+    }
+
+    /// Links the codes, which were kept, of a module that is done.
+    pub fn build(&self) -> Result<Built, AllocError>
+        requires done { (bytes : List ℕ) × IsDone bytes self.now }
+        requires kept { IsSome self.now.codes.kept }
+        ensures { IfOk result (λ built. (bytes : List ℕ) → IsDone bytes self.now → IsBuilt bytes built) }
+    {
+        let image = link(self.alloc, self.spaces.context(), self.codes.as_slice())?;
+        let Checked { functions, bytes } = self.checked();
+        Ok(Built {
+            image,
+            functions,
+            bytes,
+        })
     }
 }

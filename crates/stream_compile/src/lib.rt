@@ -1,18 +1,20 @@
-//! Compiles a module while its bytes arrive, and answers the commands of the program.
+//! Judges or compiles a module while its bytes arrive, and answers the commands of the program.
 #![tactic(auto)]
 
 mod answer;
 mod bodies;
+mod codes;
 mod command;
 mod compilation;
 mod compiling;
 mod laws;
 mod output;
+mod reading;
 mod running;
 
-pub use answer::{Answer, Built, Settings};
+pub use answer::{Answer, Built, CheckAnswer, Checked, Settings};
 pub use command::top;
-pub use compiling::stream_compile;
+pub use compiling::{stream_check, stream_compile};
 pub use laws::{
     ended_is_owed, faults_share_no_offset, faults_stay, verdicts_are_one, what_stopped_decides,
 };

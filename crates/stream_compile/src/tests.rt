@@ -1,11 +1,12 @@
 //! Answers that were worked out by hand.
 
-use crate::top;
+use crate::{CheckAnswer, Checked, Settings, stream_check, top};
 use io_edges::{Flat, OpenGate, Page, Pieces};
 use std::alloc::{AllocError, Global};
 use std::sync::Wait;
 use std::test::Fail;
 use std::thread::Threads;
+use wasm_defs::{Kind, Refusal};
 
 /// The magic bytes and the version.
 pub(crate) const HEADER: &str = "00 61 73 6D 01 00 00 00";
@@ -165,6 +166,37 @@ fn a_source_that_fails_is_told(rt: HostRuntime) -> Result<(), Fail> {
         let told = answer_bytewise(&rt, alloc, &bytes, Some(fails_at))?;
         assert_eq!(rt; told.as_str(), want, "after {fails_at} bytes");
     }
+    Ok(())
+}
+
+/// The answer of `stream_check`, where the source gives the bytes at once.
+fn checked<R: Threads + Wait + Sync>(rt: &R, alloc: Global, bytes: &[u8]) -> CheckAnswer {
+    let settings = Settings {
+        workers: 4,
+        batch: 4096,
+    };
+    stream_check(rt, alloc, &mut Flat::new(bytes), &OpenGate, settings)
+}
+
+#[test]
+fn a_module_is_judged_without_an_image(rt: HostRuntime) -> Result<(), Fail> {
+    let alloc = rt.alloc();
+    let bytes = bytes_of(alloc, &[HEADER, ADD])?;
+    let CheckAnswer::Valid(Checked { functions, bytes }) = checked(&rt, alloc, &bytes) else {
+        return Err(Fail::new("a module is valid"));
+    };
+    assert_eq!(rt; (functions, bytes), (1, 41));
+    let bytes = bytes_of(alloc, &[HEADER, FAULTY_BODIES])?;
+    let CheckAnswer::Refused(refusal) = checked(&rt, alloc, &bytes) else {
+        return Err(Fail::new("a faulty body is refused"));
+    };
+    assert_eq!(rt;
+        refusal,
+        Refusal {
+            offset: 25,
+            kind: Kind::Invalid,
+        }
+    );
     Ok(())
 }
 

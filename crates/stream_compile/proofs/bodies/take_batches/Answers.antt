@@ -18,7 +18,7 @@ take_batch-requires-in-Some c =
       bytes,
       after_parts (coded_all new.queue.closed) left,
       c.requires.2,
-      judging_on bytes (after_parts (coded_all l.cutter.queue.closed) left) (after_parts (coded_all c.in-Some.batch.bodies) (after_parts (coded_all new.queue.closed) left)) c.args.spaces.now l.codes.items l.total
+      judging_on bytes (after_parts (coded_all l.cutter.queue.closed) left) (after_parts (coded_all c.in-Some.batch.bodies) (after_parts (coded_all new.queue.closed) left)) c.args.spaces.now l.codes
           (ap (λ (x : List Body). after_parts (coded_all x) left) (closed_taken l.cutter new c.in-Some.batch c.in-Some.ensures) ∙ cut_append c.in-Some.batch.bodies new.queue.closed left)
           (l.invariant.judging bytes left c.requires.2 c.requires.3),
     )
@@ -31,9 +31,10 @@ loop-batch-preserved c =
     record {
       place = ap (λ (k : Cutting). k.place) is ∙ l.invariant.place;
       begun = ap (λ (k : Cutting). k.queue.begun) is ∙ l.invariant.begun;
+      kept = c.in-Ok.ensures.kept ∙ l.invariant.kept;
       judging = λ bytes left few j.
-          c.in-Ok.ensures bytes (after_parts (coded_all new.queue.closed) left) few
-          (judging_on bytes (after_parts (coded_all l.cutter.queue.closed) left) (after_parts (coded_all c.in-Some.batch.bodies) (after_parts (coded_all new.queue.closed) left)) c.args.spaces.now l.codes.items l.total
+          c.in-Ok.ensures.takes bytes (after_parts (coded_all new.queue.closed) left) few
+          (judging_on bytes (after_parts (coded_all l.cutter.queue.closed) left) (after_parts (coded_all c.in-Some.batch.bodies) (after_parts (coded_all new.queue.closed) left)) c.args.spaces.now l.codes
           (ap (λ (x : List Body). after_parts (coded_all x) left) (closed_taken l.cutter new c.in-Some.batch c.in-Some.ensures) ∙ cut_append c.in-Some.batch.bodies new.queue.closed left)
           (l.invariant.judging bytes left few j));
     }
@@ -42,13 +43,13 @@ pub returns-in-Err-clause-takes : goal.returns-in-Err-clause-takes
 returns-in-Err-clause-takes c = λ bytes left few j.
     let l = c.loop-batch in
     let new = c.take_batch.new.self in
-    fault_taken bytes c.in-Err.stop (after_parts (coded_all new.queue.closed) left) left c.args.spaces.now c.args.spaces.now c.take_batch-in-Some.new.codes.items c.take_batch-in-Some.new.codes.items
-    (c.in-Err.ensures bytes (after_parts (coded_all new.queue.closed) left) few
-    (judging_on bytes (after_parts (coded_all l.cutter.queue.closed) left) (after_parts (coded_all c.in-Some.batch.bodies) (after_parts (coded_all new.queue.closed) left)) c.args.spaces.now l.codes.items l.total
+    fault_taken bytes c.in-Err.stop (after_parts (coded_all new.queue.closed) left) left c.args.spaces.now c.args.spaces.now c.take_batch-in-Some.new.codes c.take_batch-in-Some.new.codes
+    (c.in-Err.ensures.takes bytes (after_parts (coded_all new.queue.closed) left) few
+    (judging_on bytes (after_parts (coded_all l.cutter.queue.closed) left) (after_parts (coded_all c.in-Some.batch.bodies) (after_parts (coded_all new.queue.closed) left)) c.args.spaces.now l.codes
     (ap (λ (x : List Body). after_parts (coded_all x) left) (closed_taken l.cutter new c.in-Some.batch c.in-Some.ensures) ∙ cut_append c.in-Some.batch.bodies new.queue.closed left)
     (l.invariant.judging bytes left few j)))
 
 pub returns-clause-takes : goal.returns-clause-takes
 returns-clause-takes c = λ bytes left few j.
     let l = c.loop-batch in
-    subst (λ (x : List Body). IsJudging bytes (after_parts (coded_all x) left) c.args.spaces.now l.codes.items l.total) c.in_default.ensures.0 (l.invariant.judging bytes left few j)
+    subst (λ (x : List Body). IsJudging bytes (after_parts (coded_all x) left) c.args.spaces.now l.codes) c.in_default.ensures.0 (l.invariant.judging bytes left few j)

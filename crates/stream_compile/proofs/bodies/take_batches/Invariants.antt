@@ -1,6 +1,7 @@
 use Rattle.std.proofs.Common.{◌≡◌, ◌≤◌, ℕ, List, length}
 use Rattle.wasm_defs.specs.Outside.{Run}
 use Rattle.section_reader.specs.Onward.{after_parts}
+use Rattle.stream_compile.specs.Codes.{KeepsAlike}
 use Rattle.stream_compile.specs.CutBodies.{coded_all}
 use Rattle.stream_compile.specs.Progress.{IsJudging}
 use Rattle.stream_compile.proofs.bodies.take_batches.Given as goal
@@ -9,9 +10,10 @@ abbrev pub invariant-loop-batch : goal.invariant-loop-batch
 invariant-loop-batch l = record {
   place : l.cutter.place ≡ l.initial.cutter.place;
   begun : l.cutter.queue.begun ≡ l.initial.cutter.queue.begun;
+  kept : KeepsAlike l.initial.codes l.codes;
   judging : (bytes : List ℕ) (left : Run) → length bytes ≤ 67108869
-      → IsJudging bytes (after_parts (coded_all l.initial.cutter.queue.closed) left) l.spaces l.initial.codes.items l.initial.total
-      → IsJudging bytes (after_parts (coded_all l.cutter.queue.closed) left) l.spaces l.codes.items l.total;
+      → IsJudging bytes (after_parts (coded_all l.initial.cutter.queue.closed) left) l.spaces l.initial.codes
+      → IsJudging bytes (after_parts (coded_all l.cutter.queue.closed) left) l.spaces l.codes;
 }
 
 abbrev pub decreases-loop-batch : goal.decreases-loop-batch

@@ -1,10 +1,11 @@
-use Rattle.stream_compile.proofs.Answering.{source_answered, source_stopped}
+use Rattle.std.specs.Prelude.{nat_lt}
+use Rattle.stream_compile.proofs.Answering.{judged_done, judged_built}
 use Rattle.stream_compile.proofs.compiling.stream_compile.Goals as goal
 
-pub returns-then-ending : goal.returns-then-ending
-returns-then-ending g c =
-    rw c.stopped.ensures (source_stopped c.compile_source-ending.result.failed (g.S.Source.left c.args.source.now) (g.S.Source.faults c.args.source.now) (g.S.Source.faults c.compile_source-ending.new.source) c.compile_source-ending.result.compiled c.if-ending.true c.compile_source-ending.ensures)
+pub build-requires-clause-done : goal.build-requires-clause-done
+build-requires-clause-done g c =
+    judged_done (nat_lt (g.S.Source.faults c.args.source.now) (g.S.Source.faults c.judge_source.new.source)) (g.S.Source.left c.args.source.now) c.in-Valid.field-0 c.judge_source.new.compilation c.in-Valid.ensures.judged
 
-pub returns-else-ending : goal.returns-else-ending
-returns-else-ending g c =
-    rw c.answer_of.ensures (source_answered c.compile_source-ending.result.failed (g.S.Source.left c.args.source.now) (g.S.Source.faults c.args.source.now) (g.S.Source.faults c.compile_source-ending.new.source) c.compile_source-ending.result.compiled c.if-ending.false c.compile_source-ending.ensures)
+pub returns-in-Ok : goal.returns-in-Ok
+returns-in-Ok g c =
+    judged_built (nat_lt (g.S.Source.faults c.args.source.now) (g.S.Source.faults c.judge_source.new.source)) (g.S.Source.left c.args.source.now) c.in-Valid.field-0 c.judge_source.new.compilation c.in-Ok.built c.in-Valid.ensures.judged c.in-Ok.ensures

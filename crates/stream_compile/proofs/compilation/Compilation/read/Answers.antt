@@ -20,7 +20,7 @@ take_item-requires-in-Some c =
       drop c.in-Ok.taken piece ++ more,
       item_read bytes s _ c.feed.new.self c.in-Some.item piece more c.in-Ok.taken (c.in-Ok.ensures.fed).some c.in-Ok.ensures.onward
           (λ later. c.take_item.ensures.onward later ∙ ap (λ (x : Option Item). prepend x (onward_left c.take_item.new.self later)) c.in-Some.is) c.take_item.ensures.steps c.take_item.ensures.total c.take_item.ensures.begun
-          (sym c.take_item.ensures.item ∙ c.in-Some.is) c.take_item.ensures.taken c.in-Some.ensures.follows refl c.requires.none refl refl refl r,
+          (sym c.take_item.ensures.item ∙ c.in-Some.is) c.take_item.ensures.taken c.in-Some.ensures.follows c.requires.none refl refl r,
     )
 
 pub returns-in-Ok-take_item-clause-goes : goal.returns-in-Ok-take_item-clause-goes
@@ -28,10 +28,10 @@ returns-in-Ok-take_item-clause-goes c = λ bytes more g.
     let s = c.args.self.now in
     let piece = c.args.piece.now in
     let r = reading_of bytes s (piece ++ more) c.requires.none g in
-    (c.in-Ok-take_item.ensures bytes (drop c.in-Ok.taken piece ++ more)
+    (c.in-Ok-take_item.ensures.takes bytes (drop c.in-Ok.taken piece ++ more)
     (item_read bytes s _ c.feed.new.self c.in-Some.item piece more c.in-Ok.taken (c.in-Ok.ensures.fed).some c.in-Ok.ensures.onward
     (λ later. c.take_item.ensures.onward later ∙ ap (λ (x : Option Item). prepend x (onward_left c.take_item.new.self later)) c.in-Some.is) c.take_item.ensures.steps c.take_item.ensures.total c.take_item.ensures.begun
-    (sym c.take_item.ensures.item ∙ c.in-Some.is) c.take_item.ensures.taken c.in-Some.ensures.follows refl c.requires.none refl refl refl r)).going
+    (sym c.take_item.ensures.item ∙ c.in-Some.is) c.take_item.ensures.taken c.in-Some.ensures.follows c.requires.none refl refl r)).going
 
 pub returns-in-Ok-take_item-clause-less : goal.returns-in-Ok-take_item-clause-less
 returns-in-Ok-take_item-clause-less c =
@@ -42,9 +42,9 @@ returns-in-Ok-take_item-clause-less c =
     let few = (c.in-Ok.ensures.fed).some in
     let r = reading_of bytes s (piece ++ more) c.requires.none c.requires.goes.2 in
     let same : (later : List ℕ) → onward_left c.feed.new.self later ≡ prepend (Some c.in-Some.item) (onward_left c.take_item.new.self later) = λ later. c.take_item.ensures.onward later ∙ ap (λ (x : Option Item). prepend x (onward_left c.take_item.new.self later)) c.in-Some.is in
-    let took = c.in-Ok-take_item.ensures bytes (drop c.in-Ok.taken piece ++ more)
+    let took = c.in-Ok-take_item.ensures.takes bytes (drop c.in-Ok.taken piece ++ more)
     (item_read bytes s _ c.feed.new.self c.in-Some.item piece more c.in-Ok.taken few c.in-Ok.ensures.onward same c.take_item.ensures.steps c.take_item.ensures.total c.take_item.ensures.begun
-    (sym c.take_item.ensures.item ∙ c.in-Some.is) c.take_item.ensures.taken c.in-Some.ensures.follows refl c.requires.none refl refl refl r) in
+    (sym c.take_item.ensures.item ∙ c.in-Some.is) c.take_item.ensures.taken c.in-Some.ensures.follows c.requires.none refl refl r) in
     (few, λ some. less_item s c.take_item-in-Some.new.self c.feed.new.self c.take_item.new.self c.in-Some.item piece c.in-Ok.taken c.requires.none few ((c.in-Ok.ensures.onward).told r.place.outside) same took.same)
 
 pub returns-in-Some-clause-goes : goal.returns-in-Some-clause-goes
@@ -53,10 +53,10 @@ returns-in-Some-clause-goes c = λ bytes more g.
     let piece = c.args.piece.now in
     let r = reading_of bytes s (piece ++ more) c.requires.none g in
     item_advances bytes piece c.in-Err.stop (record s { front = c.take_item.new.self }) c.take_item-in-Some.new.self c.take_item-in-Some.new.self (drop c.in-Ok.taken piece ++ more) more
-    (c.in-Err.ensures bytes (drop c.in-Ok.taken piece ++ more)
+    (c.in-Err.ensures.takes bytes (drop c.in-Ok.taken piece ++ more)
     (item_read bytes s _ c.feed.new.self c.in-Some.item piece more c.in-Ok.taken (c.in-Ok.ensures.fed).some c.in-Ok.ensures.onward
     (λ later. c.take_item.ensures.onward later ∙ ap (λ (x : Option Item). prepend x (onward_left c.take_item.new.self later)) c.in-Some.is) c.take_item.ensures.steps c.take_item.ensures.total c.take_item.ensures.begun
-    (sym c.take_item.ensures.item ∙ c.in-Some.is) c.take_item.ensures.taken c.in-Some.ensures.follows refl c.requires.none refl refl refl r))
+    (sym c.take_item.ensures.item ∙ c.in-Some.is) c.take_item.ensures.taken c.in-Some.ensures.follows c.requires.none refl refl r))
 
 pub returns-in-Ok-clause-goes : goal.returns-in-Ok-clause-goes
 returns-in-Ok-clause-goes c = λ bytes more g.
@@ -64,7 +64,7 @@ returns-in-Ok-clause-goes c = λ bytes more g.
     let piece = c.args.piece.now in
     let r = reading_of bytes s (piece ++ more) c.requires.none g in
     going_reading bytes _ (drop c.in-Ok.taken piece ++ more) c.requires.none
-    (reading_on bytes s.front c.feed.new.self c.take_item.new.self s.spaces s.codes.items s.words piece more c.in-Ok.taken (c.in-Ok.ensures.fed).some c.in-Ok.ensures.onward
+    (reading_on bytes s.front c.feed.new.self c.take_item.new.self s.spaces s.codes piece more c.in-Ok.taken (c.in-Ok.ensures.fed).some c.in-Ok.ensures.onward
     (λ later. c.take_item.ensures.onward later ∙ ap (λ (x : Option Item). prepend x (onward_left c.take_item.new.self later)) c.in-None.is) c.take_item.ensures.steps c.take_item.ensures.total
     (sym c.take_item.ensures.item ∙ c.in-None.is) c.take_item.ensures.taken r)
 
@@ -89,4 +89,4 @@ returns-in-Err-Refused-clause-goes c = λ bytes more g.
     let piece = c.args.piece.now in
     let r = reading_of bytes s (piece ++ more) c.requires.none g in
     let told = subst (λ (x : FrontStop). FeedsOnward s.front piece (Err x) c.feed.new.self) c.in-Err-Refused.field-0-is c.in-Err-Refused.ensures.onward in
-    subst (λ (x : Refusal). IsVerdictOf bytes (Rejected x)) (sym c.earliest.ensures) (refused_reading bytes s.front c.feed.new.self s.spaces s.codes.items s.words piece more c.in-Err-Refused.refusal (told r.place.outside) r)
+    subst (λ (x : Refusal). IsVerdictOf bytes (Rejected x)) (sym c.earliest.ensures) (refused_reading bytes s.front c.feed.new.self s.spaces s.codes piece more c.in-Err-Refused.refusal (told r.place.outside) r)

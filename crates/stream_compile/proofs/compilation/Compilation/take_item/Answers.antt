@@ -8,8 +8,8 @@ use Rattle.stream_compile.specs.Streaming.{IsTaking}
 use Rattle.stream_compile.proofs.Streaming.{going_reading, going_cutting, item_outside, item_reading, item_cutting, bodies_cut, not_bodies, may_begin}
 use Rattle.stream_compile.proofs.compilation.Compilation.take_item.Goals as goal
 
-pub returns-in-Some : goal.returns-in-Some
-returns-in-Some c = λ bytes more t.
+pub returns-in-Some-clause-takes : goal.returns-in-Some-clause-takes
+returns-in-Some-clause-takes c = λ bytes more t.
     subst (λ (r : Refusal). IsVerdictOf bytes (Rejected r)) (sym c.unsupported.ensures) (item_outside bytes c.args.self.now c.args.item.now more t c.in-Some.at (sym c.uncompiled.ensures.value ∙ c.in-Some.is))
 
 pub begun_bodies-requires : goal.begun_bodies-requires
@@ -20,8 +20,8 @@ begun_bodies-requires c =
     let b = may_begin bytes c.args.self.now _ _ more t (sym c.uncompiled.ensures.value ∙ c.in_default.is) c.add.new.self (rw c.in-Code.is at c.in-Ok.ensures.ok) in
     record { functions = b.0; indices = b.1; ahead = b.2; near = b.3 }
 
-pub returns-in-Code : goal.returns-in-Code
-returns-in-Code c = λ bytes more t.
+pub returns-in-Code-clause-takes : goal.returns-in-Code-clause-takes
+returns-in-Code-clause-takes c = λ bytes more t.
     let f = c.args.self.now.front in
     let k = c.begun_bodies.result in
     let u = subst (λ (x : Item). IsTaking bytes c.args.self.now x more) c.in-Code.is t in
@@ -32,8 +32,8 @@ returns-in-Code c = λ bytes more t.
       same = run;
     }
 
-pub returns-in_default-item : goal.returns-in_default-item
-returns-in_default-item c = λ bytes more t.
+pub returns-in_default-item-clause-takes : goal.returns-in_default-item-clause-takes
+returns-in_default-item-clause-takes c = λ bytes more t.
     let f = c.args.self.now.front in
     let inside : begun f ≡ None = sym c.uncompiled.ensures.value ∙ c.in_default.is in
     let apart = not_bodies c.args.item.now f (λ count end e. c.in_default-item.not-Code _ _ e) t.follows in

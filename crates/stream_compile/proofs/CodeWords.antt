@@ -1,5 +1,6 @@
 -- Codes of bodies, and the words of all of them.
-use Rattle.std.proofs.Common.{◌≡◌, ℕ, suc, ◌+◌, List, [], ◌∷◌, ◌++◌, map, length, refl, sym, ap, ◌∙◌, append_assoc, arith, length-append}
+use Rattle.std.proofs.Common.{◌≡◌, ℕ, suc, ◌+◌, List, [], ◌∷◌, ◌++◌, map, length, refl, sym, ap, ◌∙◌, append_assoc, arith, length-append, Option, Some, None}
+use Rattle.std.specs.Prelude.{IfSome, option_map}
 use Rattle.std.proofs.lemmas.List.{append-nil}
 use Rattle.rv_isa.specs.declared.compiled.Code.{Code}
 use Rattle.wasm_defs.specs.declared.item.Item.{Item}
@@ -21,14 +22,26 @@ use Rattle.image_linker.specs.ImageOf.{size_of, around, like, no_distance}
 use Rattle.image_linker.specs.Linking.{words_of}
 use Rattle.image_linker.specs.Codes.{IsCodeOf, AreCodesOf}
 use Rattle.image_linker.specs.Judging.{sizes}
+use Rattle.stream_compile.specs.Codes.{Coding, AreAll, with_code}
 use Rattle.stream_compile.specs.Progress.{AreCodes}
 use Rattle.stream_compile.proofs.Parts.{items_of-append}
 
 -- ---- one more code
 
-pub words_more : (xs : List Code) (x : Code) → length (words_of (xs ++ x ∷ [])) ≡ length (words_of xs) + length x.words
+words_more : (xs : List Code) (x : Code) → length (words_of (xs ++ x ∷ [])) ≡ length (words_of xs) + length x.words
 words_more [] x = let none : List ℕ = [] in omega (arith, length-append x.words none)
 words_more (y ∷ xs) x = omega (arith, words_more xs x, length-append y.words (words_of (xs ++ x ∷ [])), length-append y.words (words_of xs))
+
+kept_more : (o : Option (List Code)) (all : List Code) (code : Code) → IfSome o (λ k. k ≡ all) → IfSome (option_map (λ codes. codes ++ code ∷ []) o) (λ k. k ≡ all ++ code ∷ [])
+kept_more None all code h = tt
+kept_more (Some k) all code h = ap (λ (l : List Code). l ++ code ∷ []) h
+
+pub all_more : (c : Coding) (all : List Code) (code : Code) → AreAll c all → AreAll (with_code c code) (all ++ code ∷ [])
+all_more c all code a = record {
+  count = omega (arith, a.count, length-append all (code ∷ []));
+  words = omega (arith, a.words, words_more all code);
+  kept = kept_more c.kept all code a.kept;
+}
 
 pub codes_both : (items : List Item) (k : ℕ) (front rest : List Part) (trees more : List Seq) (codes others : List Code) → AreCodes items k front trees codes
     → AreCodes (items ++ items_of front) (k + length (bodies_of front)) rest more others → AreCodes items k (front ++ rest) (trees ++ more) (codes ++ others)

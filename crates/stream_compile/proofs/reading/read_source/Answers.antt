@@ -5,7 +5,7 @@ use Rattle.std.specs.Io.KnownBytes.{prepend_known}
 use Rattle.io_edges.specs.Causes.{Rose}
 use Rattle.stream_compile.specs.Streaming.{IsGoing}
 use Rattle.stream_compile.proofs.Pumping.{came_more, piece_is, going_piece, going_all, early, at_end, at_fault, at_limit}
-use Rattle.stream_compile.proofs.compiling.compile_source.Goals as goal
+use Rattle.stream_compile.proofs.reading.read_source.Goals as goal
 
 pub finish-requires : goal.finish-requires
 finish-requires g c =
@@ -25,27 +25,27 @@ finish-requires-2 g c =
     let i = l.invariant in
     (i.came, i.are, going_all l.compilation i.came [] i.going (omega (arith, i.count, i.few)))
 
-pub returns-in-End : goal.returns-in-End
-returns-in-End g c =
+pub returns-in-End-clause-settled : goal.returns-in-End-clause-settled
+returns-in-End-clause-settled g c =
     let l = c.loop-count in
     let i = l.invariant in
-    at_end i.came (g.S.Source.left c.args.source.now) (g.S.Source.left l.source) (g.S.Source.faults c.args.source.now) (g.S.Source.faults c.read.new.self) i.left c.finish.result c.in-End.ensures.bytes.0 (c.in-End.ensures.cause ∙ i.calm)
-    (c.finish.ensures i.came i.are (going_all l.compilation i.came [] i.going (omega (arith, i.count, i.few))))
+    at_end i.came (g.S.Source.left c.args.source.now) (g.S.Source.left l.source) (g.S.Source.faults c.args.source.now) (g.S.Source.faults c.read.new.self) i.left c.finish.result c.finish.new.self c.in-End.ensures.bytes.0 (c.in-End.ensures.cause ∙ i.calm)
+    (c.finish.ensures.decides i.came i.are (going_all l.compilation i.came [] i.going (omega (arith, i.count, i.few))))
 
-pub returns-in-Failed : goal.returns-in-Failed
-returns-in-Failed g c =
+pub returns-in-Failed-clause-settled : goal.returns-in-Failed-clause-settled
+returns-in-Failed-clause-settled g c =
     let l = c.loop-count in
     let i = l.invariant in
-    at_fault i.came (g.S.Source.left c.args.source.now) (g.S.Source.left l.source) (g.S.Source.faults c.args.source.now) (g.S.Source.faults c.read.new.self) i.left c.finish-in-Failed.result c.requires
+    at_fault i.came (g.S.Source.left c.args.source.now) (g.S.Source.left l.source) (g.S.Source.faults c.args.source.now) (g.S.Source.faults c.read.new.self) i.left c.finish-in-Failed.result c.finish-in-Failed.new.self c.requires.faults
     (subst (λ (n : ℕ). Rose n (g.S.Source.faults c.read.new.self)) i.calm c.in-Failed.ensures.cause)
-    (c.finish-in-Failed.ensures i.came i.are (going_all l.compilation i.came [] i.going (omega (arith, i.count, i.few))))
+    (c.finish-in-Failed.ensures.decides i.came i.are (going_all l.compilation i.came [] i.going (omega (arith, i.count, i.few))))
 
-pub returns : goal.returns
-returns g c =
+pub returns-clause-settled : goal.returns-clause-settled
+returns-clause-settled g c =
     let l = c.loop-count in
     let i = l.invariant in
-    at_limit i.came (g.S.Source.left c.args.source.now) (g.S.Source.left l.source) (g.S.Source.faults c.args.source.now) (g.S.Source.faults l.source) i.left c.finish-2.result (omega (arith, i.count, c.loop-count-test.false)) i.calm
-    (c.finish-2.ensures i.came i.are (going_all l.compilation i.came [] i.going (omega (arith, i.count, i.few))))
+    at_limit i.came (g.S.Source.left c.args.source.now) (g.S.Source.left l.source) (g.S.Source.faults c.args.source.now) (g.S.Source.faults l.source) i.left c.finish-2.result c.finish-2.new.self (omega (arith, i.count, c.loop-count-test.false)) i.calm
+    (c.finish-2.ensures.decides i.came i.are (going_all l.compilation i.came [] i.going (omega (arith, i.count, i.few))))
 
 pub feed-requires : goal.feed-requires
 feed-requires g c =
@@ -75,11 +75,12 @@ loop-count-preserved g c =
       are = All-append (λ b. b < 256) i.came piece i.are c.in-Ok-feed.ensures.bytes;
       left = i.left ∙ came_more i.came piece (g.S.Source.left l.source) (g.S.Source.left c.read.new.self) took;
       calm = c.in-Bytes.ensures.cause ∙ i.calm;
+      kept = c.in-Ok-feed.ensures.kept ∙ i.kept;
       going = λ more few. c.in-Ok-feed.ensures.goes ((i.came ++ piece) ++ more) more (going_piece l.compilation i.came piece i.going more few);
     }
 
-pub returns-in-Err : goal.returns-in-Err
-returns-in-Err g c =
+pub returns-in-Err-clause-settled : goal.returns-in-Err-clause-settled
+returns-in-Err-clause-settled g c =
     let l = c.loop-count in
     let i = l.invariant in
     let n = c.in-Bytes.n in

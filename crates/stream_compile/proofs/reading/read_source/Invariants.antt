@@ -1,8 +1,9 @@
 use Rattle.std.proofs.Common.{◌≡◌, ◌≤◌, ◌<◌, ◌-◌, ℕ, List, ◌++◌, length}
 use Rattle.std.specs.Prelude.{All}
 use Rattle.std.specs.Io.KnownBytes.{prepend_known}
+use Rattle.stream_compile.specs.Codes.{KeepsAlike}
 use Rattle.stream_compile.specs.Streaming.{IsGoing}
-use Rattle.stream_compile.proofs.compiling.compile_source.Given as goal
+use Rattle.stream_compile.proofs.reading.read_source.Given as goal
 
 abbrev pub invariant-loop-count : goal.invariant-loop-count
 invariant-loop-count g l = record {
@@ -12,6 +13,7 @@ invariant-loop-count g l = record {
   are : All (λ b. b < 256) came;
   left : g.S.Source.left l.initial.source ≡ prepend_known came (g.S.Source.left l.source);
   calm : g.S.Source.faults l.source ≡ g.S.Source.faults l.initial.source;
+  kept : KeepsAlike l.initial.compilation.codes l.compilation.codes;
   going : (more : List ℕ) → length (came ++ more) ≤ 67108869 → IsGoing (came ++ more) l.compilation more;
 }
 

@@ -1,0 +1,18 @@
+use Rattle.std.proofs.Common.{ap, ◌∙◌}
+use Rattle.index_spaces.specs.Spaces.{Spaces}
+use Rattle.image_linker.specs.Linking.{linked}
+use Rattle.stream_compile.specs.declared.answer.Checked.{Checked}
+use Rattle.stream_compile.proofs.Wholes.{few_words, done_built}
+use Rattle.stream_compile.proofs.compilation.Compilation.build.Goals as goal
+
+pub link-requires-clause-fits : goal.link-requires-clause-fits
+link-requires-clause-fits c = few_words c.requires.done.0 c.args.self.now c.as_slice.result.now c.requires.done.1 c.as_slice.ensures
+
+pub link-requires-clause-numbers : goal.link-requires-clause-numbers
+link-requires-clause-numbers c = let d = c.requires.done.1 in rw c.context.ensures d.numbers
+
+pub returns : goal.returns
+returns c = λ bytes d.
+    done_built bytes c.args.self.now c.as_slice.result.now d c.as_slice.ensures _
+    (c.in_ok-image.ensures ∙ ap (λ (x : Spaces). linked x c.as_slice.result.now) c.context.ensures)
+    (ap (λ (x : Checked). x.functions) c.checked-functions.ensures) (ap (λ (x : Checked). x.bytes) c.checked-functions.ensures)

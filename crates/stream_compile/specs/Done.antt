@@ -1,0 +1,40 @@
+-- A module whose bytes have ended.
+use Rattle.std.specs.Prelude.{◌≡◌, ◌≤◌, ◌+◌, ◌*◌, ◌^◌, ℕ, List, length, Result, Ok, Err}
+use Rattle.rv_isa.specs.declared.compiled.Code.{Code}
+use Rattle.wasm_defs.specs.declared.front_stop.FrontStop.{FrontStop}
+use Rattle.wasm_defs.specs.declared.front_stop.FrontStop.TheVariants.{Refused, NoMemory}
+use Rattle.wasm_defs.specs.Context.{declared_count}
+use Rattle.wasm_defs.specs.Faults.{Module, Accepted, Rejected}
+use Rattle.section_reader.specs.FrontLeft.{total}
+use Rattle.image_linker.specs.ImageOf.{image_of}
+use Rattle.image_linker.specs.Linking.{NumbersFit, linked}
+use Rattle.image_linker.specs.Judging.{IsVerdictOf}
+use Rattle.image_linker.specs.Same.{Same}
+use Rattle.stream_compile.specs.declared.compilation.Compilation.{Compilation}
+use Rattle.stream_compile.specs.Codes.{AreAll}
+use Rattle.stream_compile.specs.Running.{IsRunnable}
+
+-- the bytes are this module, whose image behaves as it does; it declares so many functions, and has so many bytes
+pub record IsModuleOfSize (bytes : List ℕ) (m : Module) (functions size : ℕ) : Type 0 where
+  pub is : IsVerdictOf bytes (Accepted m)
+  pub same : Same m (image_of m)
+  pub functions_are : functions ≡ declared_count m.items
+  pub size_is : size ≡ length bytes
+
+-- the bytes are a module, all of which was read and compiled: what is linked of its codes is its image
+pub record IsDone (bytes : List ℕ) (s : Compilation) : Type 0 where
+  pub «module» : Module
+  pub is : IsModuleOfSize bytes «module» s.spaces.declared (total s.front)
+  pub all : List Code
+  pub are_all : AreAll s.codes all
+  pub image_is : linked s.spaces all ≡ image_of «module»
+  pub runnable : IsRunnable (image_of «module»)
+  -- the codes can be linked: their words are few, and the constants of globals are numbers of their types
+  pub fits : 4 * (2 + s.codes.words) ≤ 2 ^ 28
+  pub numbers : NumbersFit s.spaces.globals s.spaces.initials
+
+-- the bytes are a module, which was compiled; or this is its fault of least offset
+abbrev pub Decides : List ℕ → Result (Unit {0}) FrontStop → Compilation → Type 0
+Decides bytes (Ok done) s = IsDone bytes s
+Decides bytes (Err (Refused r)) s = IsVerdictOf bytes (Rejected r)
+Decides bytes (Err NoMemory) s = Unit {0}

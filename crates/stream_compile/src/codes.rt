@@ -1,0 +1,91 @@
+//! The codes of bodies, which are kept to be linked or are only counted.
+
+ghost use Rattle.std.specs.Prelude.{◌≡◌, ◌<◌, ◌-◌, ◌+◌, ◌^◌, [], length, Some, None, IsSome, OnOk, OnErr};
+ghost use Rattle.stream_compile.specs.Codes.{no_code, with_code};
+
+use rv_isa::Code;
+use std::alloc::{AllocError, Global};
+use std::marker::Model;
+
+/// The codes of the bodies that were compiled, in order: how many, and how many words they have; they are kept where they will be
+/// linked.
+#[derive(Drop)]
+pub struct Codes {
+    kept: Option<Vec<Code>>,
+    count: u32,
+    words: u64,
+}
+
+impl Model for Codes {
+    ghost use Rattle.std.specs.Prelude.{option_map};
+    ghost use Rattle.stream_compile.specs.Codes.{Coding};
+
+    ghost Value = { Coding };
+
+    ghost view = { λ c. record { count = c.count; words = c.words; kept = option_map (λ codes. codes.items) c.kept } };
+}
+
+impl Codes {
+    /// None so far. They will be kept.
+    pub fn kept(alloc: Global) -> Codes
+        ensures { result ≡ no_code (Some []) }
+    {
+        Codes {
+            kept: Some(Vec::new(alloc)),
+            count: 0,
+            words: 0,
+        }
+    }
+
+    /// None so far. They will only be counted.
+    pub fn counted() -> Codes
+        ensures { result ≡ no_code None }
+    {
+        Codes {
+            kept: None,
+            count: 0,
+            words: 0,
+        }
+    }
+
+    /// One code more, which is let go where codes aren't kept.
+    pub fn add(&mut self, code: Code) -> Result<(), AllocError>
+        requires count { self.old.count < 2 ^ 32 - 1 }
+        requires words { self.old.words + length code.words < 2 ^ 64 }
+        ensures ok { OnOk result (self.new ≡ with_code self.old code) }
+        ensures err { OnErr result (self.new ≡ self.old) }
+    {
+        let words = code.words.as_slice().len() as u64;
+        if let Some(codes) = &mut self.kept {
+            codes.push(code)?;
+        }
+        self.count += 1;
+        self.words += words;
+        Ok(())
+    }
+
+    /// How many there are.
+    pub fn count(&self) -> u32
+        ensures { result ≡ self.now.count }
+    {
+        self.count
+    }
+
+    /// How many words they have.
+    pub fn words(&self) -> u64
+        ensures { result ≡ self.now.words }
+    {
+        self.words
+    }
+
+    /// The codes, which are kept.
+    pub fn as_slice(&self) -> &[Code]
+        requires { IsSome self.now.kept }
+        ensures { Some result.now ≡ self.now.kept }
+    {
+        match &self.kept {
+            Some(codes) => codes.as_slice(),
+            None => unreachable!(),
+        }
+    }
+}
