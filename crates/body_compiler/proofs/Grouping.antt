@@ -1,12 +1,12 @@
 -- Groups of locals, as nodes have them.
-use Rattle.std.proofs.Common.{◌≡◌, ◌<◌, ◌≤◌, ℕ, ◌+◌, ◌-◌, List, [], ◌∷◌, ◌++◌, refl, ap, ◌∙◌, arith}
+use Rattle.std.proofs.Common.{◌≡◌, ◌<◌, ℕ, ◌+◌, ◌-◌, List, [], ◌∷◌, ◌++◌, refl, ap, ◌∙◌, arith}
 use Rattle.leb_feed.specs.declared.stop.Stop.{Stop}
 use Rattle.leb_feed.specs.Reads.{Stops}
 use Rattle.wasm_defs.specs.declared.nodes.LocalGroup.{LocalGroup}
 use Rattle.wasm_defs.specs.Bodies.{Group, group, groups}
 use Rattle.wasm_defs.specs.Fields.{Cursor, Read, Got}
 use Rattle.wasm_defs.specs.Nodes.{groups_of, declared}
-use Rattle.body_compiler.proofs.LocalLaws.{with_front, goes_on, ends, is_done, nothing_before}
+use Rattle.body_compiler.proofs.LocalLaws.{with_front, goes_on, ends}
 
 groups_of-append : (gs : List LocalGroup) (g : LocalGroup) → groups_of (gs ++ g ∷ []) ≡ groups_of gs ++ record { count = g.count; ty = g.ty } ∷ []
 groups_of-append [] g = refl
@@ -21,9 +21,6 @@ pub record HasGroups (count i sum : ℕ) (cursor : Cursor) (gs : List LocalGroup
   pub counted : declared gs ≡ sum
   pub read : with_front (groups_of gs) (groups (count - i) sum) cursor ≡ all
 
-pub has_none : (count : ℕ) (cursor : Cursor) (gs : List LocalGroup) → gs ≡ [] → HasGroups count 0 0 cursor gs (groups count 0 cursor)
-has_none count cursor gs e = rw e (record { counted = refl; read = let k : count - 0 ≡ count = omega arith in rw k (nothing_before (groups count 0 cursor)) })
-
 pub has_more : (count i sum : ℕ) (cursor next : Cursor) (gs more : List LocalGroup) (g : LocalGroup) (all : Read (List Group)) → HasGroups count i sum cursor gs all → i < count
     → group sum cursor ≡ Got (record { count = g.count; ty = g.ty }) next → more ≡ gs ++ g ∷ [] → HasGroups count (i + 1) (sum + g.count) next more all
 has_more count i sum cursor next gs more g all h lt read is = rw is (record {
@@ -33,6 +30,3 @@ has_more count i sum cursor next gs more g all h lt read is = rw is (record {
 
 pub has_stop : (count i sum : ℕ) (cursor : Cursor) (gs : List LocalGroup) (all : Read (List Group)) (s : Stop) → i < count → HasGroups count i sum cursor gs all → Stops s (group sum cursor) → Stops s all
 has_stop count i sum cursor gs all s lt h stops = ends s (groups_of gs) count i sum cursor all lt stops h.read
-
-pub has_all : (count i sum : ℕ) (cursor : Cursor) (gs : List LocalGroup) (all : Read (List Group)) → count ≤ i → HasGroups count i sum cursor gs all → all ≡ Got (groups_of gs) cursor
-has_all count i sum cursor gs all le h = is_done (groups_of gs) count i sum cursor all le h.read
