@@ -27,45 +27,45 @@ use Rattle.stream_compile.specs.Reading.{Settled, Judged, checked_of, answer_of,
 use Rattle.stream_compile.specs.Texts.{Outcome, usage, read_fault, accepted, rejected, IsOutcome, Comes}
 use Rattle.stream_compile.proofs.Stopped.{stopped_of_verdict}
 use Rattle.stream_compile.proofs.Calls.{never_faults, run_done}
-use Rattle.stream_compile.proofs.Settling.{came_any}
 
 -- ---- what bytes come to that were read to their source's end
 
-refused_by : (failed b : Bool) (left : Option (List ℕ)) (bytes : List ℕ) (r : Refusal) → failed ≡ b → Came left b bytes → IsRefused b bytes r → CheckAnswered failed left (check.Refused r)
-refused_by failed b left bytes r e came is = rw e (bytes, came, is)
+refused_by : (failed b : Bool) (left rest : Option (List ℕ)) (bytes : List ℕ) (r : Refusal) → failed ≡ b → Came left rest b bytes → IsRefused b bytes r → CheckAnswered failed left rest (check.Refused r)
+refused_by failed b left rest bytes r e came is = rw e (bytes, came, is)
 
 -- with more bytes behind the module there is none that was read
 same_bytes : (read bytes : List ℕ) (s : Compilation) → bytes ≡ read → IsDone read s → IsDone bytes s
 same_bytes read bytes s e d = subst (λ (l : List ℕ). IsDone l s) (sym e) d
 
-pub source_judged : (failed : Bool) (left : Option (List ℕ)) (before now : ℕ) (judged : Result (Unit {0}) FrontStop) (s : Compilation) → failed ≡ false → Settled failed judged s left before now
-    → Judged (nat_lt before now) left (answer_of judged (checked_of s)) s
-source_judged failed left before now (Ok done) s calm (read, t, d) = (
+pub source_judged : (failed : Bool) (left rest : Option (List ℕ)) (before now : ℕ) (judged : Result (Unit {0}) FrontStop) (s : Compilation) → failed ≡ false → Settled failed judged s left rest before now
+    → Judged (nat_lt before now) left rest (answer_of judged (checked_of s)) s
+source_judged failed left rest before now (Ok done) s calm (read, t, d) = (
   sym t.failed_is ∙ calm,
   t.bytes,
-  subst (λ (b : Bool). Came left b t.bytes) calm t.came,
+  subst (λ (b : Bool). Came left rest b t.bytes) calm t.came,
+  t.ended calm d.«module» d.is.is,
   same_bytes read t.bytes s (t.whole d.«module» d.is.is) d,
   refl,
 )
-source_judged failed left before now (Err (stop.Refused r)) s calm (read, t, v) =
-    refused_by (nat_lt before now) false left t.bytes r (sym t.failed_is ∙ calm) (subst (λ (b : Bool). Came left b t.bytes) calm t.came) (t.verdict (Rejected r) v)
-source_judged failed left before now (Err stop.NoMemory) s calm t = tt
+source_judged failed left rest before now (Err (stop.Refused r)) s calm (read, t, v) =
+    refused_by (nat_lt before now) false left rest t.bytes r (sym t.failed_is ∙ calm) (subst (λ (b : Bool). Came left rest b t.bytes) calm t.came) (t.verdict (Rejected r) v)
+source_judged failed left rest before now (Err stop.NoMemory) s calm t = tt
 
 -- ---- behind which the source failed
 
-stopped_by : (failed : Bool) (left : Option (List ℕ)) (bytes : List ℕ) (o : Option Refusal) (s : Compilation) → failed ≡ true → Came left true bytes → IsStoppedAt bytes o → Judged failed left (of_lasting o) s
-stopped_by failed left bytes None s e came is = rw e (refl, bytes, came, is)
-stopped_by failed left bytes (Some r) s e came is = rw e (bytes, came, is)
+stopped_by : (failed : Bool) (left rest : Option (List ℕ)) (bytes : List ℕ) (o : Option Refusal) (s : Compilation) → failed ≡ true → Came left rest true bytes → IsStoppedAt bytes o → Judged failed left rest (of_lasting o) s
+stopped_by failed left rest bytes None s e came is = rw e (refl, bytes, came, is)
+stopped_by failed left rest bytes (Some r) s e came is = rw e (bytes, came, is)
 
-pub source_stopped : (failed : Bool) (left : Option (List ℕ)) (before now : ℕ) (judged : Result (Unit {0}) FrontStop) (s : Compilation) → failed ≡ true → Settled failed judged s left before now
-    → Judged (nat_lt before now) left (stopped_answer judged) s
-source_stopped failed left before now (Ok done) s fails (read, t, d) =
+pub source_stopped : (failed : Bool) (left rest : Option (List ℕ)) (before now : ℕ) (judged : Result (Unit {0}) FrontStop) (s : Compilation) → failed ≡ true → Settled failed judged s left rest before now
+    → Judged (nat_lt before now) left rest (stopped_answer judged) s
+source_stopped failed left rest before now (Ok done) s fails (read, t, d) =
     let decided = stopped_of_verdict t.bytes (Accepted d.«module») (t.verdict (Accepted d.«module») d.is.is) in
-    stopped_by (nat_lt before now) left t.bytes None s (sym t.failed_is ∙ fails) (subst (λ (b : Bool). Came left b t.bytes) fails t.came) decided
-source_stopped failed left before now (Err (stop.Refused r)) s fails (read, t, v) =
+    stopped_by (nat_lt before now) left rest t.bytes None s (sym t.failed_is ∙ fails) (subst (λ (b : Bool). Came left rest b t.bytes) fails t.came) decided
+source_stopped failed left rest before now (Err (stop.Refused r)) s fails (read, t, v) =
     let decided = stopped_of_verdict t.bytes (Rejected r) (t.verdict (Rejected r) v) in
-    stopped_by (nat_lt before now) left t.bytes (lasting r.kind r) s (sym t.failed_is ∙ fails) (subst (λ (b : Bool). Came left b t.bytes) fails t.came) decided
-source_stopped failed left before now (Err stop.NoMemory) s fails t = tt
+    stopped_by (nat_lt before now) left rest t.bytes (lasting r.kind r) s (sym t.failed_is ∙ fails) (subst (λ (b : Bool). Came left rest b t.bytes) fails t.came) decided
+source_stopped failed left rest before now (Err stop.NoMemory) s fails t = tt
 
 -- ---- what the calls answer
 
@@ -73,57 +73,57 @@ valid_of : (bytes : List ℕ) (checked : Checked) (s : Compilation) (d : IsDone 
 valid_of bytes checked s d e = rw e d.is
 
 -- without the codes
-pub judged_checked : (failed : Bool) (left : Option (List ℕ)) (r : CheckAnswer) (s : Compilation) → Judged failed left r s → CheckAnswered failed left r
-judged_checked failed left (check.Valid checked) s (calm, bytes, came, d, e) = (calm, bytes, came, (d.«module», valid_of bytes checked s d e))
-judged_checked failed left (check.Refused r) s h = h
-judged_checked failed left check.ReadFault s h = h
-judged_checked failed left check.NoMemory s h = h
+pub judged_checked : (failed : Bool) (left rest : Option (List ℕ)) (r : CheckAnswer) (s : Compilation) → Judged failed left rest r s → CheckAnswered failed left rest r
+judged_checked failed left rest (check.Valid checked) s (calm, bytes, came, end, d, e) = (calm, bytes, came, end, (d.«module», valid_of bytes checked s d e))
+judged_checked failed left rest (check.Refused r) s h = h
+judged_checked failed left rest check.ReadFault s h = h
+judged_checked failed left rest check.NoMemory s h = h
 
-pub judged_done : (failed : Bool) (left : Option (List ℕ)) (checked : Checked) (s : Compilation) → Judged failed left (check.Valid checked) s → (bytes : List ℕ) × IsDone bytes s
-judged_done failed left checked s (calm, bytes, came, d, e) = (bytes, d)
+pub judged_done : (failed : Bool) (left rest : Option (List ℕ)) (checked : Checked) (s : Compilation) → Judged failed left rest (check.Valid checked) s → (bytes : List ℕ) × IsDone bytes s
+judged_done failed left rest checked s (calm, bytes, came, end, d, e) = (bytes, d)
 
-pub judged_built : (failed : Bool) (left : Option (List ℕ)) (checked : Checked) (s : Compilation) (built : Built) → Judged failed left (check.Valid checked) s → ((bytes : List ℕ) → IsDone bytes s → IsBuilt bytes built) → Answered failed left (answer.Image built)
-judged_built failed left checked s built (calm, bytes, came, d, e) is = (calm, bytes, came, is bytes d)
+pub judged_built : (failed : Bool) (left rest : Option (List ℕ)) (checked : Checked) (s : Compilation) (built : Built) → Judged failed left rest (check.Valid checked) s → ((bytes : List ℕ) → IsDone bytes s → IsBuilt bytes built) → Answered failed left rest (answer.Image built)
+judged_built failed left rest checked s built (calm, bytes, came, end, d, e) is = (calm, bytes, came, end, is bytes d)
 
 -- ---- what the program tells
 
-pub usage_comes : (r : Result Output AllocError) (command : Option Command) (failed : Bool) (left : Option (List ℕ)) → command ≡ None → IfOk r (λ a. view a ≡ usage) → IfOk r (λ o. Comes command failed left (view o))
-usage_comes (Ok a) command failed left none e = rw none (let any = came_any left failed in (any.0, any.1, e))
-usage_comes (Err x) command failed left none e = tt
+pub usage_comes : (r : Result Output AllocError) (command : Option Command) (failed : Bool) (left rest : Option (List ℕ)) → command ≡ None → IfOk r (λ a. view a ≡ usage) → IfOk r (λ o. Comes command failed left rest (view o))
+usage_comes (Ok a) command failed left rest none e = rw none e
+usage_comes (Err x) command failed left rest none e = tt
 
-valid_outcome : (options : Options) (bytes : List ℕ) (checked : Checked) (o : Outcome) → ((m : _) × IsModuleOfSize bytes m checked.functions checked.bytes) → o ≡ accepted checked.functions checked.bytes → IsOutcome (Some (Check options)) false bytes o
+valid_outcome : (options : Options) (bytes : List ℕ) (checked : Checked) (o : Outcome) → ((m : _) × IsModuleOfSize bytes m checked.functions checked.bytes) → o ≡ accepted checked.functions checked.bytes → IsOutcome (Check options) false bytes o
 valid_outcome options bytes checked o (m, is) e =
     (Accepted m, is.is, (is.same, e ∙ ap (λ (n : ℕ). accepted n checked.bytes) is.functions_are ∙ ap (λ (n : ℕ). accepted (declared_count m.items) n) is.size_is))
 
-pub valid_comes : (r : Result Output AllocError) (options : Options) (failed : Bool) (left : Option (List ℕ)) (checked : Checked) → CheckAnswered failed left (check.Valid checked)
-    → IfOk r (λ o. view o ≡ accepted checked.functions checked.bytes) → IfOk r (λ o. Comes (Some (Check options)) failed left (view o))
-valid_comes (Ok a) options failed left checked (calm, bytes, came, is) e = rw calm (bytes, came, valid_outcome options bytes checked (view a) is e)
-valid_comes (Err x) options failed left checked h e = tt
+pub valid_comes : (r : Result Output AllocError) (options : Options) (failed : Bool) (left rest : Option (List ℕ)) (checked : Checked) → CheckAnswered failed left rest (check.Valid checked)
+    → IfOk r (λ o. view o ≡ accepted checked.functions checked.bytes) → IfOk r (λ o. Comes (Some (Check options)) failed left rest (view o))
+valid_comes (Ok a) options failed left rest checked (calm, bytes, came, end, is) e = rw calm (bytes, came, valid_outcome options bytes checked (view a) is e)
+valid_comes (Err x) options failed left rest checked h e = tt
 
 -- what a call of an image's function comes to is what that of the module's does
-pub image_comes : (r : Result Output AllocError) (call : Call) (failed : Bool) (left : Option (List ℕ)) (built : Built) → Answered failed left (answer.Image built)
-    → IfOk r (λ o. RunsAs built.image call (view o)) → IfOk r (λ o. Comes (Some (Run call)) failed left (view o))
-image_comes (Ok a) call failed left built (calm, bytes, came, is) e =
+pub image_comes : (r : Result Output AllocError) (call : Call) (failed : Bool) (left rest : Option (List ℕ)) (built : Built) → Answered failed left rest (answer.Image built)
+    → IfOk r (λ o. RunsAs built.image call (view o)) → IfOk r (λ o. Comes (Some (Run call)) failed left rest (view o))
+image_comes (Ok a) call failed left rest built (calm, bytes, came, end, is) e =
     let m = is.«module» in
     rw calm (bytes, came, (Accepted m, is.is.is, (is.is.same, run_done m built.image call (view a) is.image_is is.is.same e)))
-image_comes (Err x) call failed left built h e = tt
+image_comes (Err x) call failed left rest built h e = tt
 
-pub runs_well : (failed : Bool) (left : Option (List ℕ)) (built : Built) → Answered failed left (answer.Image built) → IsRunnable built.image
-runs_well failed left built (calm, bytes, came, is) = is.runnable
+pub runs_well : (failed : Bool) (left rest : Option (List ℕ)) (built : Built) → Answered failed left rest (answer.Image built) → IsRunnable built.image
+runs_well failed left rest built (calm, bytes, came, end, is) = is.runnable
 
-pub runs_without_fault : (failed : Bool) (left : Option (List ℕ)) (built : Built) → Answered failed left (answer.Image built) → NeverFaults built.image
-runs_without_fault failed left built (calm, bytes, came, is) = never_faults is.«module» built.image is.image_is is.is.same
+pub runs_without_fault : (failed : Bool) (left rest : Option (List ℕ)) (built : Built) → Answered failed left rest (answer.Image built) → NeverFaults built.image
+runs_without_fault failed left rest built (calm, bytes, came, end, is) = never_faults is.«module» built.image is.image_is is.is.same
 
-refused_outcome : (c : Command) (failed : Bool) (bytes : List ℕ) (r : Refusal) (o : Outcome) → IsRefused failed bytes r → o ≡ rejected r → IsOutcome (Some c) failed bytes o
+refused_outcome : (c : Command) (failed : Bool) (bytes : List ℕ) (r : Refusal) (o : Outcome) → IsRefused failed bytes r → o ≡ rejected r → IsOutcome c failed bytes o
 refused_outcome c false bytes r o is e = (Rejected r, is, e)
 refused_outcome c true bytes r o is e = (Some r, is, e)
 
-pub rejected_comes : (r : Result Output AllocError) (c : Command) (failed : Bool) (left : Option (List ℕ)) (refusal : Refusal) → CheckAnswered failed left (check.Refused refusal)
-    → IfOk r (λ a. view a ≡ rejected refusal) → IfOk r (λ o. Comes (Some c) failed left (view o))
-rejected_comes (Ok a) c failed left refusal (bytes, came, is) e = (bytes, came, refused_outcome c failed bytes refusal (view a) is e)
-rejected_comes (Err x) c failed left refusal h e = tt
+pub rejected_comes : (r : Result Output AllocError) (c : Command) (failed : Bool) (left rest : Option (List ℕ)) (refusal : Refusal) → CheckAnswered failed left rest (check.Refused refusal)
+    → IfOk r (λ a. view a ≡ rejected refusal) → IfOk r (λ o. Comes (Some c) failed left rest (view o))
+rejected_comes (Ok a) c failed left rest refusal (bytes, came, is) e = (bytes, came, refused_outcome c failed bytes refusal (view a) is e)
+rejected_comes (Err x) c failed left rest refusal h e = tt
 
-pub read_fault_comes : (r : Result Output AllocError) (c : Command) (failed : Bool) (left : Option (List ℕ)) → CheckAnswered failed left check.ReadFault
-    → IfOk r (λ a. view a ≡ read_fault) → IfOk r (λ o. Comes (Some c) failed left (view o))
-read_fault_comes (Ok a) c failed left (fails, bytes, came, is) e = rw fails (bytes, came, (None, is, e))
-read_fault_comes (Err x) c failed left h e = tt
+pub read_fault_comes : (r : Result Output AllocError) (c : Command) (failed : Bool) (left rest : Option (List ℕ)) → CheckAnswered failed left rest check.ReadFault
+    → IfOk r (λ a. view a ≡ read_fault) → IfOk r (λ o. Comes (Some c) failed left rest (view o))
+read_fault_comes (Ok a) c failed left rest (fails, bytes, came, is) e = rw fails (bytes, came, (None, is, e))
+read_fault_comes (Err x) c failed left rest h e = tt

@@ -12,18 +12,18 @@ use Rattle.image_linker.specs.Judging.{IsTextFault, IsVerdictOf}
 use Rattle.io_edges.specs.Causes.{Rose}
 use Rattle.stream_compile.specs.Reading.{Settles}
 use Rattle.stream_compile.specs.Came.{Came}
+use Rattle.stream_compile.proofs.Once.{verdict_once}
 
 -- ---- what came
 
-at_end : (read : List ℕ) (old new : Option (List ℕ)) → old ≡ prepend_known read new → IsAtEnd new → Came old false read
+at_end : (read : List ℕ) (old new : Option (List ℕ)) → old ≡ prepend_known read new → IsAtEnd new → Came old new false read
 at_end read None new e end = tt
 at_end read (Some l) None e end = absurd cc
 at_end read (Some l) (Some r) e end = let h : l ≡ read ++ r = cc in sym (h ∙ ap (λ (x : List ℕ). read ++ x) end ∙ append-nil read)
 
-at_fault : (read : List ℕ) (old new : Option (List ℕ)) → old ≡ prepend_known read new → Came old true read
+at_fault : (read : List ℕ) (old new : Option (List ℕ)) → old ≡ prepend_known read new → Came old new true read
 at_fault read None new e = tt
-at_fault read (Some l) None e = absurd cc
-at_fault read (Some l) (Some r) e = let h : l ≡ read ++ r = cc in (r, h)
+at_fault read (Some l) new e = e
 
 -- a fault of a module with this run, of so many bytes, and its first
 abbrev IsFaultIn : ℕ → Run → Refusal → Type 0
@@ -56,30 +56,32 @@ verdict_stays read more le (Rejected r) v =
     let h = module_is_refused read le in
     first_stays (length read) (length (read ++ more)) (module_run read) (module_run (read ++ more)) h.0 r h.1 (module_stays read more le) v
 
-when_full : (read : List ℕ) (old new : Option (List ℕ)) → old ≡ prepend_known read new → 67108869 ≤ length read → (bytes : List ℕ) × Came old false bytes × ((v : Verdict) → IsVerdictOf read v → IsVerdictOf bytes v)
+when_full : (read : List ℕ) (old new : Option (List ℕ)) → old ≡ prepend_known read new → 67108869 ≤ length read → (bytes : List ℕ) × Came old new false bytes × ((v : Verdict) → IsVerdictOf read v → IsVerdictOf bytes v)
 when_full read None new e le = (read, tt, λ v p. p)
 when_full read (Some l) None e le = absurd cc
 when_full read (Some l) (Some r) e le = let h : l ≡ read ++ r = cc in (l, refl, λ v p. rw h (verdict_stays read r le v p))
 
-pub settled_end : (read : List ℕ) (old new : Option (List ℕ)) (before now : ℕ) → old ≡ prepend_known read new → IsAtEnd new → now ≡ before → Settles read false old before now
+pub settled_end : (read : List ℕ) (old new : Option (List ℕ)) (before now : ℕ) → old ≡ prepend_known read new → IsAtEnd new → now ≡ before → Settles read false old new before now
 settled_end read old new before now e end same = record {
   failed_is = sym (le-ltb before now (omega (arith, same)));
   bytes = read;
   came = at_end read old new e end;
   verdict = λ v p. p;
   whole = λ m p. refl;
+  ended = λ f m p. end;
 }
 
-pub settled_fault : (read : List ℕ) (old new : Option (List ℕ)) (before now : ℕ) → before < 2 ^ 64 - 1 → old ≡ prepend_known read new → Rose before now → Settles read true old before now
+pub settled_fault : (read : List ℕ) (old new : Option (List ℕ)) (before now : ℕ) → before < 2 ^ 64 - 1 → old ≡ prepend_known read new → Rose before now → Settles read true old new before now
 settled_fault read old new before now few e rose = record {
   failed_is = sym (lt-ltb before now (omega arith));
   bytes = read;
   came = at_fault read old new e;
   verdict = λ v p. p;
   whole = λ m p. refl;
+  ended = λ f m p. absurd cc;
 }
 
-pub settled_full : (read : List ℕ) (old new : Option (List ℕ)) (before now : ℕ) → old ≡ prepend_known read new → 67108869 ≤ length read → now ≡ before → Settles read false old before now
+pub settled_full : (read : List ℕ) (old new : Option (List ℕ)) (before now : ℕ) → old ≡ prepend_known read new → 67108869 ≤ length read → now ≡ before → Settles read false old new before now
 settled_full read old new before now e le same =
     let f = when_full read old new e le in
     record {
@@ -88,16 +90,25 @@ settled_full read old new before now e le same =
       came = f.1;
       verdict = f.2;
       whole = λ m p. absurd (no_module read le m p);
+      ended = λ f m p. absurd (no_module read le m p);
     }
 
 -- the bytes that came have a fault, whatever follows, as far as bytes are read: reading goes no further
 pub settled_early : (came : List ℕ) (r : Refusal) (old new : Option (List ℕ)) (before now : ℕ) → old ≡ prepend_known came new → now ≡ before → length came ≤ 67108869
-    → ((more : List ℕ) → length (came ++ more) ≤ 67108869 → IsVerdictOf (came ++ more) (Rejected r)) → (read : List ℕ) × Settles read false old before now × IsVerdictOf read (Rejected r)
-settled_early came r None new before now e same few v = (
-  came,
-  record { failed_is = sym (le-ltb before now (omega (arith, same))); bytes = came; came = tt; verdict = λ w p. p; whole = λ m p. refl },
-  subst (λ (l : List ℕ). IsVerdictOf l (Rejected r)) (append-nil came) (v [] (omega (arith, ap length (append-nil came)))),
-)
+    → ((more : List ℕ) → length (came ++ more) ≤ 67108869 → IsVerdictOf (came ++ more) (Rejected r)) → (read : List ℕ) × Settles read false old new before now × IsVerdictOf read (Rejected r)
+settled_early came r None new before now e same few v =
+    let is = subst (λ (l : List ℕ). IsVerdictOf l (Rejected r)) (append-nil came) (v [] (omega (arith, ap length (append-nil came)))) in (
+      came,
+      record {
+        failed_is = sym (le-ltb before now (omega (arith, same)));
+        bytes = came;
+        came = tt;
+        verdict = λ w p. p;
+        whole = λ m p. refl;
+        ended = λ f m p. absurd (let other : Accepted m ≡ Rejected r = verdict_once came (Accepted m) (Rejected r) p is in cc);
+      },
+      is,
+    )
 settled_early came r (Some l) None before now e same few v = absurd cc
 settled_early came r (Some l) (Some rest) before now e same few v =
     let all : l ≡ came ++ rest = cc in
@@ -108,18 +119,13 @@ settled_early came r (Some l) (Some rest) before now e same few v =
           let full : 67108869 ≤ length read = omega (arith, length-append came (take n rest), length-take n rest) in
           let whole : l ≡ read ++ drop n rest = all ∙ ap (λ (x : List ℕ). came ++ x) (sym (take-append-drop n rest)) ∙ sym (append_assoc came (take n rest) (drop n rest)) in (
             read,
-            settled_full read (Some l) (Some (drop n rest)) before now (ap (λ (x : List ℕ). Some x) whole) full same,
+            (let s = settled_full read (Some l) (Some (drop n rest)) before now (ap (λ (x : List ℕ). Some x) whole) full same in
+            record { failed_is = s.failed_is; bytes = s.bytes; came = s.came; verdict = s.verdict; whole = s.whole; ended = λ f m p. absurd (no_module read full m p) }),
             v (take n rest) (omega (arith, length-append came (take n rest), length-take n rest)),
           )
       | inr fits ↦ (
         came ++ rest,
-        record { failed_is = sym (le-ltb before now (omega (arith, same))); bytes = l; came = refl; verdict = λ w p. subst (λ (x : List ℕ). IsVerdictOf x w) (sym all) p; whole = λ m p. all },
+        record { failed_is = sym (le-ltb before now (omega (arith, same))); bytes = l; came = refl; verdict = λ w p. subst (λ (x : List ℕ). IsVerdictOf x w) (sym all) p; whole = λ m p. all; ended = λ f m p. absurd (let same : Accepted m ≡ Rejected r = verdict_once (came ++ rest) (Accepted m) (Rejected r) p (v rest (omega (arith, length-append came rest))) in cc) },
         v rest (omega (arith, length-append came rest)),
       )
     ]
-
--- bytes that came, where none are asked for
-pub came_any : (old : Option (List ℕ)) (failed : Bool) → (bytes : List ℕ) × Came old failed bytes
-came_any None failed = ([], tt)
-came_any (Some l) false = (l, refl)
-came_any (Some l) true = (l, ([], sym (append-nil l)))

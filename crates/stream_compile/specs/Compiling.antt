@@ -1,5 +1,6 @@
 -- What the judging and the compiling of a source come to.
 use Rattle.std.specs.Prelude.{◌≡◌, ℕ, Bool, true, false, List, Option, None, Some}
+use Rattle.std.specs.Io.KnownBytes.{IsAtEnd}
 use Rattle.wasm_defs.specs.declared.fault.Refusal.{Refusal}
 use Rattle.wasm_defs.specs.Faults.{Module, Rejected}
 use Rattle.image_linker.specs.ImageOf.{image_of}
@@ -30,16 +31,16 @@ abbrev pub IsRefused : Bool → List ℕ → Refusal → Type 0
 IsRefused false bytes r = IsVerdictOf bytes (Rejected r)
 IsRefused true bytes r = IsStoppedAt bytes (Some r)
 
--- by whether the source failed, and what was left in it
-abbrev pub Answered : Bool → Option (List ℕ) → Answer → Type 0
-Answered failed left (answer.Image built) = (failed ≡ false) × (bytes : List ℕ) × Came left false bytes × IsBuilt bytes built
-Answered failed left (answer.Refused r) = (bytes : List ℕ) × Came left failed bytes × IsRefused failed bytes r
-Answered failed left answer.ReadFault = (failed ≡ true) × (bytes : List ℕ) × Came left true bytes × IsStoppedAt bytes None
-Answered failed left answer.NoMemory = Unit {0}
+-- by whether the source failed, and what was left in it before and behind; a good answer comes at its end
+abbrev pub Answered : Bool → (left rest : Option (List ℕ)) → Answer → Type 0
+Answered failed left rest (answer.Image built) = (failed ≡ false) × (bytes : List ℕ) × Came left rest false bytes × IsAtEnd rest × IsBuilt bytes built
+Answered failed left rest (answer.Refused r) = (bytes : List ℕ) × Came left rest failed bytes × IsRefused failed bytes r
+Answered failed left rest answer.ReadFault = (failed ≡ true) × (bytes : List ℕ) × Came left rest true bytes × IsStoppedAt bytes None
+Answered failed left rest answer.NoMemory = Unit {0}
 
 -- the same of an answer that gives no image
-abbrev pub CheckAnswered : Bool → Option (List ℕ) → CheckAnswer → Type 0
-CheckAnswered failed left (check.Valid checked) = (failed ≡ false) × (bytes : List ℕ) × Came left false bytes × IsValid bytes checked
-CheckAnswered failed left (check.Refused r) = (bytes : List ℕ) × Came left failed bytes × IsRefused failed bytes r
-CheckAnswered failed left check.ReadFault = (failed ≡ true) × (bytes : List ℕ) × Came left true bytes × IsStoppedAt bytes None
-CheckAnswered failed left check.NoMemory = Unit {0}
+abbrev pub CheckAnswered : Bool → (left rest : Option (List ℕ)) → CheckAnswer → Type 0
+CheckAnswered failed left rest (check.Valid checked) = (failed ≡ false) × (bytes : List ℕ) × Came left rest false bytes × IsAtEnd rest × IsValid bytes checked
+CheckAnswered failed left rest (check.Refused r) = (bytes : List ℕ) × Came left rest failed bytes × IsRefused failed bytes r
+CheckAnswered failed left rest check.ReadFault = (failed ≡ true) × (bytes : List ℕ) × Came left rest true bytes × IsStoppedAt bytes None
+CheckAnswered failed left rest check.NoMemory = Unit {0}

@@ -1,5 +1,6 @@
 -- What was read, and what it settles.
 use Rattle.std.specs.Prelude.{◌≡◌, ℕ, Bool, false, List, Option, None, Some, nat_lt, string_bytes, Result, Ok, Err}
+use Rattle.std.specs.Io.KnownBytes.{IsAtEnd}
 use Rattle.wasm_defs.specs.declared.fault.Refusal.{Refusal}
 use Rattle.wasm_defs.specs.declared.front_stop.FrontStop.{FrontStop}
 use Rattle.wasm_defs.specs.declared.front_stop.FrontStop.TheVariants as stop
@@ -17,19 +18,20 @@ use Rattle.stream_compile.specs.Done.{IsDone}
 use Rattle.stream_compile.specs.Texts.{Outcome}
 
 -- reading failed exactly where the count rose; where it didn't, all bytes that came have the verdict of those that were read
-pub record Settles (read : List ℕ) (failed : Bool) (left : Option (List ℕ)) (before now : ℕ) : Type 0 where
+pub record Settles (read : List ℕ) (failed : Bool) (left rest : Option (List ℕ)) (before now : ℕ) : Type 0 where
   pub failed_is : failed ≡ nat_lt before now
   pub bytes : List ℕ
-  pub came : Came left failed bytes
+  pub came : Came left rest failed bytes
   pub verdict : (v : Verdict) → IsVerdictOf read v → IsVerdictOf bytes v
   -- and a module was read to its end
   pub whole : (m : Module) → IsVerdictOf read (Accepted m) → bytes ≡ read
+  pub ended : failed ≡ false → (m : Module) → IsVerdictOf read (Accepted m) → IsAtEnd rest
 
 -- what the bytes that were read come to, unless memory ran out
-abbrev pub Settled : Bool → Result (Unit {0}) FrontStop → Compilation → Option (List ℕ) → (before now : ℕ) → Type 0
-Settled failed (Ok done) s left before now = (read : List ℕ) × Settles read failed left before now × IsDone read s
-Settled failed (Err (stop.Refused r)) s left before now = (read : List ℕ) × Settles read failed left before now × IsVerdictOf read (Rejected r)
-Settled failed (Err stop.NoMemory) s left before now = Unit {0}
+abbrev pub Settled : Bool → Result (Unit {0}) FrontStop → Compilation → (left rest : Option (List ℕ)) → (before now : ℕ) → Type 0
+Settled failed (Ok done) s left rest before now = (read : List ℕ) × Settles read failed left rest before now × IsDone read s
+Settled failed (Err (stop.Refused r)) s left rest before now = (read : List ℕ) × Settles read failed left rest before now × IsVerdictOf read (Rejected r)
+Settled failed (Err stop.NoMemory) s left rest before now = Unit {0}
 
 -- ---- what is answered
 
@@ -53,11 +55,11 @@ stopped_answer (Err (stop.Refused r)) = of_lasting (lasting r.kind r)
 stopped_answer (Err stop.NoMemory) = check.NoMemory
 
 -- what judging a source answers, and that the compilation of a module is done
-abbrev pub Judged : Bool → Option (List ℕ) → CheckAnswer → Compilation → Type 0
-Judged failed left (check.Valid checked) s = (failed ≡ false) × (bytes : List ℕ) × Came left false bytes × IsDone bytes s × (checked ≡ checked_of s)
-Judged failed left (check.Refused r) s = CheckAnswered failed left (check.Refused r)
-Judged failed left check.ReadFault s = CheckAnswered failed left check.ReadFault
-Judged failed left check.NoMemory s = CheckAnswered failed left check.NoMemory
+abbrev pub Judged : Bool → (left rest : Option (List ℕ)) → CheckAnswer → Compilation → Type 0
+Judged failed left rest (check.Valid checked) s = (failed ≡ false) × (bytes : List ℕ) × Came left rest false bytes × IsAtEnd rest × IsDone bytes s × (checked ≡ checked_of s)
+Judged failed left rest (check.Refused r) s = CheckAnswered failed left rest (check.Refused r)
+Judged failed left rest check.ReadFault s = CheckAnswered failed left rest check.ReadFault
+Judged failed left rest check.NoMemory s = CheckAnswered failed left rest check.NoMemory
 
 -- a status and a text in memory as an outcome
 abbrev pub view : Output → Outcome

@@ -140,15 +140,15 @@ abbrev pub stopped : Option Refusal → Outcome
 stopped None = read_fault
 stopped (Some r) = rejected r
 
--- by the words, whether the source failed, and the bytes that came
-abbrev pub IsOutcome : Option Command → Bool → List ℕ → Outcome → Type 0
-IsOutcome None failed bytes o = o ≡ usage
-IsOutcome (Some c) true bytes o = (s : Option Refusal) × IsStoppedAt bytes s × (o ≡ stopped s)
-IsOutcome (Some c) false bytes o = (v : Verdict) × IsVerdictOf bytes v × OfVerdict c (length bytes) v o
+-- by the command, whether the source failed, and the bytes that came
+abbrev pub IsOutcome : Command → Bool → List ℕ → Outcome → Type 0
+IsOutcome c true bytes o = (s : Option Refusal) × IsStoppedAt bytes s × (o ≡ stopped s)
+IsOutcome c false bytes o = (v : Verdict) × IsVerdictOf bytes v × OfVerdict c (length bytes) v o
 
--- what the words, the source's failing and what it gave come to
-abbrev pub Comes : Option Command → Bool → Option (List ℕ) → Outcome → Type 0
-Comes command failed left o = (bytes : List ℕ) × Came left failed bytes × IsOutcome command failed bytes o
+-- what the words, the source's failing and what it gave come to: by what was left in it before and behind
+abbrev pub Comes : Option Command → Bool → (left rest : Option (List ℕ)) → Outcome → Type 0
+Comes None failed left rest o = o ≡ usage
+Comes (Some c) failed left rest o = (bytes : List ℕ) × Came left rest failed bytes × IsOutcome c failed bytes o
 
 -- ---- what is written
 
@@ -158,7 +158,7 @@ Told status o true old new = (status ≡ 7) × (n : ℕ) × (new ≡ append_know
 Told status o false old new = (status ≡ o.status) × (new ≡ append_known old o.text)
 
 -- what a call answered and wrote: want of memory, and nothing; else what the words and the bytes come to
-abbrev pub Answers : Option Command → Bool → Option (List ℕ) → ℕ → Bool → Option (List ℕ) → Option (List ℕ) → Type 0
-Answers command source_failed left status sink_failed old new =
+abbrev pub Answers : Option Command → Bool → (left rest : Option (List ℕ)) → ℕ → Bool → Option (List ℕ) → Option (List ℕ) → Type 0
+Answers command source_failed left rest status sink_failed old new =
     ((status ≡ 8) × (sink_failed ≡ false) × (new ≡ old))
-    ⊎ ((o : Outcome) × Comes command source_failed left o × Told status o sink_failed old new)
+    ⊎ ((o : Outcome) × Comes command source_failed left rest o × Told status o sink_failed old new)

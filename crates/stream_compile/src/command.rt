@@ -42,7 +42,7 @@ fn check<R: Threads + Wait + Sync, S: Source, G: Gate>(
     gate: &G,
 ) -> Result<Output, AllocError>
     requires { S.faults source.old < 2 ^ 64 - 1 }
-    ensures { IfOk result (λ o. Comes (Some (Check options.now)) (nat_lt (S.faults source.old) (S.faults source.new)) (S.left source.old) (view o)) }
+    ensures { IfOk result (λ o. Comes (Some (Check options.now)) (nat_lt (S.faults source.old) (S.faults source.new)) (S.left source.old) (S.left source.new) (view o)) }
 {
     match stream_check(rt, alloc, source, gate, settings_of(options)) {
         CheckAnswer::Valid(checked) => accepted(alloc, checked.functions, checked.bytes),
@@ -61,7 +61,7 @@ fn run<R: Threads + Wait + Sync, S: Source, G: Gate>(
     gate: &G,
 ) -> Result<Output, AllocError>
     requires { S.faults source.old < 2 ^ 64 - 1 }
-    ensures { IfOk result (λ o. Comes (Some (RunCommand call.now)) (nat_lt (S.faults source.old) (S.faults source.new)) (S.left source.old) (view o)) }
+    ensures { IfOk result (λ o. Comes (Some (RunCommand call.now)) (nat_lt (S.faults source.old) (S.faults source.new)) (S.left source.old) (S.left source.new) (view o)) }
 {
     match stream_compile(rt, alloc, source, gate, settings_of(&call.options)) {
         Answer::Image(built) => run_image(alloc, &built.image, call),
@@ -80,7 +80,7 @@ fn answer_to<R: Threads + Wait + Sync, S: Source, G: Gate>(
     gate: &G,
 ) -> Result<Output, AllocError>
     requires { S.faults source.old < 2 ^ 64 - 1 }
-    ensures { IfOk result (λ o. Comes command.now (nat_lt (S.faults source.old) (S.faults source.new)) (S.left source.old) (view o)) }
+    ensures { IfOk result (λ o. Comes command.now (nat_lt (S.faults source.old) (S.faults source.new)) (S.left source.old) (S.left source.new) (view o)) }
 {
     match command {
         None => usage(alloc),
@@ -106,7 +106,7 @@ pub fn top<R: Threads + Wait + Sync, S: Source, O: Sink, G: Gate>(
 ) -> u8
     requires source_count { S.faults source.old < 2 ^ 64 - 1 }
     requires sink_count { O.faults out.old < 2 ^ 64 - 1 }
-    ensures answer { Answers (command_said words.now.items) (nat_lt (S.faults source.old) (S.faults source.new)) (S.left source.old) result
+    ensures answer { Answers (command_said words.now.items) (nat_lt (S.faults source.old) (S.faults source.new)) (S.left source.old) (S.left source.new) result
         (nat_lt (O.faults out.old) (O.faults out.new)) (O.written out.old) (O.written out.new) }
 {
     let Ok(command) = command_in(alloc, words) else {

@@ -26,7 +26,7 @@ pub fn stream_compile<R: Threads + Wait + Sync, S: Source, G: Gate>(
     settings: Settings,
 ) -> Answer
     requires { S.faults source.old < 2 ^ 64 - 1 }
-    ensures { Answered (nat_lt (S.faults source.old) (S.faults source.new)) (S.left source.old) result }
+    ensures { Answered (nat_lt (S.faults source.old) (S.faults source.new)) (S.left source.old) (S.left source.new) result }
 {
     let _ = rt;
     let _ = gate;
@@ -56,7 +56,7 @@ pub fn stream_check<R: Threads + Wait + Sync, S: Source, G: Gate>(
     settings: Settings,
 ) -> CheckAnswer
     requires { S.faults source.old < 2 ^ 64 - 1 }
-    ensures { CheckAnswered (nat_lt (S.faults source.old) (S.faults source.new)) (S.left source.old) result }
+    ensures { CheckAnswered (nat_lt (S.faults source.old) (S.faults source.new)) (S.left source.old) (S.left source.new) result }
 {
     let _ = rt;
     let _ = gate;

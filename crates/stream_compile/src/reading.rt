@@ -36,7 +36,7 @@ fn buffer_of(alloc: Global, len: usize) -> Result<Vec<u8>, AllocError>
 fn read_source<S: Source>(alloc: Global, source: &mut S, compilation: &mut Compilation) -> Ending
     requires faults { S.faults source.old < 2 ^ 64 - 1 }
     requires unread { IsUnread compilation.old }
-    ensures settled { Settled result.failed result.judged compilation.new (S.left source.old) (S.faults source.old) (S.faults source.new) }
+    ensures settled { Settled result.failed result.judged compilation.new (S.left source.old) (S.left source.new) (S.faults source.old) (S.faults source.new) }
     ensures kept { KeepsAlike compilation.old.codes compilation.new.codes }
 {
     let Ok(mut chunk) = buffer_of(alloc, CHUNK) else {
@@ -114,7 +114,7 @@ pub fn judge_source<S: Source>(
 ) -> CheckAnswer
     requires faults { S.faults source.old < 2 ^ 64 - 1 }
     requires unread { IsUnread compilation.old }
-    ensures judged { Judged (nat_lt (S.faults source.old) (S.faults source.new)) (S.left source.old) result compilation.new }
+    ensures judged { Judged (nat_lt (S.faults source.old) (S.faults source.new)) (S.left source.old) (S.left source.new) result compilation.new }
     ensures kept { KeepsAlike compilation.old.codes compilation.new.codes }
 {
     let ending = read_source(alloc, source, compilation);

@@ -5,15 +5,15 @@ use Rattle.stream_compile.proofs.command.check.Goals as goal
 
 pub returns-in-Valid : goal.returns-in-Valid
 returns-in-Valid g c =
-    valid_comes c.accepted.result c.args.options.now (nat_lt (g.S.Source.faults c.args.source.now) (g.S.Source.faults c.stream_check.new.source)) (g.S.Source.left c.args.source.now) c.in-Valid.checked
+    valid_comes c.accepted.result c.args.options.now (nat_lt (g.S.Source.faults c.args.source.now) (g.S.Source.faults c.stream_check.new.source)) (g.S.Source.left c.args.source.now) (g.S.Source.left c.stream_check.new.source) c.in-Valid.checked
     c.in-Valid.ensures c.accepted.ensures
 
 pub returns-in-Refused : goal.returns-in-Refused
 returns-in-Refused g c =
-    rejected_comes c.rejected.result (Check c.args.options.now) (nat_lt (g.S.Source.faults c.args.source.now) (g.S.Source.faults c.stream_check.new.source)) (g.S.Source.left c.args.source.now) c.in-Refused.refusal
+    rejected_comes c.rejected.result (Check c.args.options.now) (nat_lt (g.S.Source.faults c.args.source.now) (g.S.Source.faults c.stream_check.new.source)) (g.S.Source.left c.args.source.now) (g.S.Source.left c.stream_check.new.source) c.in-Refused.refusal
     c.in-Refused.ensures c.rejected.ensures
 
 pub returns-in-ReadFault : goal.returns-in-ReadFault
 returns-in-ReadFault g c =
-    read_fault_comes c.read_fault.result (Check c.args.options.now) (nat_lt (g.S.Source.faults c.args.source.now) (g.S.Source.faults c.stream_check.new.source)) (g.S.Source.left c.args.source.now)
+    read_fault_comes c.read_fault.result (Check c.args.options.now) (nat_lt (g.S.Source.faults c.args.source.now) (g.S.Source.faults c.stream_check.new.source)) (g.S.Source.left c.args.source.now) (g.S.Source.left c.stream_check.new.source)
     c.in-ReadFault.ensures c.read_fault.ensures

@@ -6,11 +6,13 @@ returns-then-ending-clause-judged g c =
     let left = g.S.Source.left c.args.source.now in
     let before = g.S.Source.faults c.args.source.now in
     let e = c.read_source-ending in
-    rw c.stopped.ensures (source_stopped e.result.failed left before (g.S.Source.faults e.new.source) e.result.judged e.new.compilation c.if-ending.true e.ensures.settled)
+    let rest = g.S.Source.left e.new.source in
+    rw c.stopped.ensures (source_stopped e.result.failed left rest before (g.S.Source.faults e.new.source) e.result.judged e.new.compilation c.if-ending.true e.ensures.settled)
 
 pub returns-else-ending-clause-judged : goal.returns-else-ending-clause-judged
 returns-else-ending-clause-judged g c =
     let left = g.S.Source.left c.args.source.now in
     let before = g.S.Source.faults c.args.source.now in
     let e = c.read_source-ending in
-    rw (c.answer_of.ensures, c.checked.ensures) (source_judged e.result.failed left before (g.S.Source.faults e.new.source) e.result.judged e.new.compilation c.if-ending.false e.ensures.settled)
+    let rest = g.S.Source.left e.new.source in
+    rw (c.answer_of.ensures, c.checked.ensures) (source_judged e.result.failed left rest before (g.S.Source.faults e.new.source) e.result.judged e.new.compilation c.if-ending.false e.ensures.settled)

@@ -1,7 +1,7 @@
-use Rattle.std.proofs.Common.{◌≡◌, ◌≤◌, ◌<◌, ℕ, List, [], ◌++◌, length, take, drop, sym, ap, subst, ◌∙◌, arith, length-append, length-take}
+use Rattle.std.proofs.Common.{◌≡◌, ◌≤◌, ◌<◌, ℕ, List, [], ◌++◌, length, Option, take, drop, sym, ap, subst, ◌∙◌, arith, length-append, length-take}
 use Rattle.std.proofs.lemmas.List.{append-nil}
 use Rattle.std.proofs.lemmas.List.Elements.{All-append}
-use Rattle.std.specs.Io.KnownBytes.{prepend_known}
+use Rattle.std.specs.Io.KnownBytes.{prepend_known, IsAtEnd}
 use Rattle.io_edges.specs.Causes.{Rose}
 use Rattle.stream_compile.specs.Streaming.{IsGoing}
 use Rattle.stream_compile.proofs.Pumping.{came_more, piece_is, going_piece, going_all, early, at_end, at_fault, at_limit}
@@ -29,14 +29,16 @@ pub returns-in-End-clause-settled : goal.returns-in-End-clause-settled
 returns-in-End-clause-settled g c =
     let l = c.loop-count in
     let i = l.invariant in
-    at_end i.came (g.S.Source.left c.args.source.now) (g.S.Source.left l.source) (g.S.Source.faults c.args.source.now) (g.S.Source.faults c.read.new.self) i.left c.finish.result c.finish.new.self c.in-End.ensures.bytes.0 (c.in-End.ensures.cause ∙ i.calm)
+    at_end i.came (g.S.Source.left c.args.source.now) (g.S.Source.left c.read.new.self) (g.S.Source.faults c.args.source.now) (g.S.Source.faults c.read.new.self)
+    (i.left ∙ ap (prepend_known i.came) (sym c.in-End.ensures.bytes.1)) c.finish.result c.finish.new.self (subst (λ (x : Option (List ℕ)). IsAtEnd x) (sym c.in-End.ensures.bytes.1) c.in-End.ensures.bytes.0) (c.in-End.ensures.cause ∙ i.calm)
     (c.finish.ensures.decides i.came i.are (going_all l.compilation i.came [] i.going (omega (arith, i.count, i.few))))
 
 pub returns-in-Failed-clause-settled : goal.returns-in-Failed-clause-settled
 returns-in-Failed-clause-settled g c =
     let l = c.loop-count in
     let i = l.invariant in
-    at_fault i.came (g.S.Source.left c.args.source.now) (g.S.Source.left l.source) (g.S.Source.faults c.args.source.now) (g.S.Source.faults c.read.new.self) i.left c.finish-in-Failed.result c.finish-in-Failed.new.self c.requires.faults
+    at_fault i.came (g.S.Source.left c.args.source.now) (g.S.Source.left c.read.new.self) (g.S.Source.faults c.args.source.now) (g.S.Source.faults c.read.new.self)
+    (i.left ∙ ap (prepend_known i.came) (sym c.in-Failed.ensures.bytes)) c.finish-in-Failed.result c.finish-in-Failed.new.self c.requires.faults
     (subst (λ (n : ℕ). Rose n (g.S.Source.faults c.read.new.self)) i.calm c.in-Failed.ensures.cause)
     (c.finish-in-Failed.ensures.decides i.came i.are (going_all l.compilation i.came [] i.going (omega (arith, i.count, i.few))))
 
