@@ -1,5 +1,5 @@
 -- A chain of instructions, and the function's end behind it, or a trap.
-use Rattle.std.proofs.Common.{◌≡◌, ℕ, suc, ◌+◌, ◌*◌, ◌^◌, ◌≤◌, ◌⊎◌, inl, inr, ⊎_elim, List, [], ◌∷◌, length, take, Option, Some, refl, sym, ap, ◌∙◌, subst, arith}
+use Rattle.std.proofs.Common.{◌≡◌, ℕ, suc, ◌+◌, ◌*◌, ◌^◌, ◌≤◌, ◌⊎◌, inl, inr, ⊎_elim, List, [], ◌∷◌, length, reverse, take, Option, Some, refl, sym, ap, ◌∙◌, subst, arith}
 use Rattle.std.proofs.lemmas.List.{length-append}
 use Rattle.rv_isa.specs.declared.operations.Op.{Op}
 use Rattle.rv_isa.specs.Steps.{State, Bytes, reg, exec, Called}
@@ -72,7 +72,7 @@ module _ (text : List (Option Op)) (near : length text ≤ 2 ^ 26) (inst : Insta
     pub types_are : types_of_values after ≡ to
     pub high : length after ≤ w.layout.greatest
     pub count : ℕ
-    pub module_ends : ModuleEnds inst store (suc count) (Inside (running f store locals operands tree)) (Returned store (take (length f.ty.results) after))
+    pub module_ends : ModuleEnds inst store (suc count) (Inside (running f store locals operands tree)) (Returned store (reverse (take (length f.ty.results) after)))
     pub steps : ℕ
     pub within : steps ≤ most_steps * count
     pub end : State
@@ -103,7 +103,7 @@ module _ (text : List (Option Op)) (near : length text ≤ 2 ^ 26) (inst : Insta
     types_are = x.typed;
     high = let low = x.low in omega arith;
     count = 0;
-    module_ends = ends_now inst store (Inside (running f store locals operands Nothing)) refl (Returned store (take (length f.ty.results) operands)) tt refl;
+    module_ends = ends_now inst store (Inside (running f store locals operands Nothing)) refl (Returned store (reverse (take (length f.ty.results) operands))) tt refl;
     steps = 0;
     within = omega arith;
     end = s;
@@ -167,7 +167,7 @@ module _ (text : List (Option Op)) (near : length text ≤ 2 ^ 26) (inst : Insta
           types_are = more.types_are;
           high = more.high;
           count = suc more.count;
-          module_ends = ends_later inst store (Inside before) refl (suc more.count) (Inside (running f store one.locals_after one.after rest)) (Returned store (take (length f.ty.results) more.after)) now more.module_ends;
+          module_ends = ends_later inst store (Inside before) refl (suc more.count) (Inside (running f store one.locals_after one.after rest)) (Returned store (reverse (take (length f.ty.results) more.after))) now more.module_ends;
           steps = one.steps + more.steps;
           within = omega (arith, one.short, more.within);
           end = more.end;

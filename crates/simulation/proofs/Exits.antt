@@ -49,7 +49,7 @@ epilogue_beside l (t ∷ ts) b c same = record { globals = same.globals; table =
 
 -- the results stand in the first slots
 results_stand : (l : Layout) (rs : Types) (b : Bytes) (after : List Value) → length rs ≤ 1 → types_of_values after ≡ reverse rs → length b.stack ≡ 8 * max_slots → Operands b (0 + operand l 0) after
-    → results_at (after_epilogue l rs b).stack 0 rs ≡ take (length rs) after
+    → results_at (after_epilogue l rs b).stack 0 rs ≡ reverse (take (length rs) after)
 results_stand l [] b after one are size live = refl
 results_stand l (t ∷ u ∷ ts) b after one are size live = absurd (omega arith)
 results_stand l (t ∷ []) b [] one are size live = absurd cc
@@ -72,7 +72,7 @@ pub record Exits (text : List (Option Op)) (rs : Types) (b : Bytes) (after : Lis
   pub by : (n : ℕ) → exec text (steps + n) s ≡ Called n end
   pub number_is : reg end.registers a7 ≡ 0
   pub beside : SameBeside b end.bytes
-  pub results : results_at end.bytes.stack 0 rs ≡ take (length rs) after
+  pub results : results_at end.bytes.stack 0 rs ≡ reverse (take (length rs) after)
 
 module _ (text : List (Option Op)) (l : Layout) (rs : Types) (b : Bytes) (locals after : List Value) (s : State) (i : ℕ) where
   pub exits : length rs ≤ 1 → length rs ≤ l.greatest → types_of_values after ≡ reverse rs → s.pc ≡ place i → HasAt text i (epilogue l (length rs)) → HasAt text 0 exit_stub

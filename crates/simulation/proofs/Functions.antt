@@ -1,5 +1,5 @@
 -- Whole runs of a function that is called from outside.
-use Rattle.std.proofs.Common.{◌≡◌, ℕ, zero, suc, ◌+◌, ◌*◌, ◌^◌, ◌<◌, ◌≤◌, ◌⊎◌, false, ⊎_elim, List, [], ◌∷◌, ◌++◌, length, map, take, Option, Some, refl, sym, ap, ◌∙◌, subst, arith}
+use Rattle.std.proofs.Common.{reverse, ◌≡◌, ℕ, zero, suc, ◌+◌, ◌*◌, ◌^◌, ◌<◌, ◌≤◌, ◌⊎◌, false, ⊎_elim, List, [], ◌∷◌, ◌++◌, length, map, take, Option, Some, refl, sym, ap, ◌∙◌, subst, arith}
 use Rattle.std.specs.Prelude.{slice_get, nat_lt}
 use Rattle.std.proofs.lemmas.Bool.{cases_lt, cond-true, cond-false, lt-ltb, le-ltb}
 use Rattle.std.proofs.lemmas.List.{length-reverse}
@@ -189,9 +189,9 @@ module _ (inst : Instance) (image : Image) (f : Func) (c : Context) (w : Around)
         let out = exits text w.layout rs r.machine.bytes ends.locals_after ends.after ends.end (begin + size + length body) good.one_result (omega (arith, ends.high)) (ends.types_are ∙ good.results_are)
         (omega (arith, ends.pc_is, entry.does.pc_is, called.at)) has_end stub ends.matches in
         record {
-          values = take (length rs) ends.after;
+          values = reverse (take (length rs) ends.after);
           weight = suc (length f.locals + suc ends.count);
-          in_module = in_body (suc ends.count) (Returned store (take (length rs) ends.after)) ends.module_ends;
+          in_module = in_body (suc ends.count) (Returned store (reverse (take (length rs) ends.after))) ends.module_ends;
           count = entry.steps + (ends.steps + out.steps);
           within = omega (arith, entry.within, ends.within, out.within, good.locals);
           end = out.end;

@@ -22,7 +22,7 @@ abbrev pub finish : Store → List Value → List Frame → List Invocation → 
 finish store values (f ∷ fs) later =
     To (Inside (record { store = store; frame = record f { operands = values ++ f.operands }; callers = fs; owed = 0; later = later }))
 finish store values [] (i ∷ later) = To (Outside store i later)
-finish store values [] [] = Returned store values
+finish store values [] [] = Returned store (reverse values)
 
 abbrev pub enter : Store → Func → List Value → List Frame → List Invocation → Step
 enter store f arguments callers later =
