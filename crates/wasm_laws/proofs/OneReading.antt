@@ -15,10 +15,10 @@ use Rattle.wasm_defs.specs.Outside.{Body}
 use Rattle.wasm_defs.specs.Items.{Spelling, Joined, ◌then◌, exactly, each_is, byte_is, number_is, u32_is, vector_is, Sized, bytes_are, name_is, type_code, listed_type_is, bounds_are, limits_are, mutability_code, listed_index_is, constant_is, extern_code, item_is, section_of, body_is, AllOf, Section, Payload, Custom, Vector, Starting, Bodies, payload_id, HoldsVector, payload_is, section_is, Items}
 
 -- two things that bytes begin with are one, and so is what is left
-record Same {A : Type 0} (x y : A) (f g b c : List ℕ) : Type 0 where
-  value : x ≡ y
-  front : f ≡ g
-  back : b ≡ c
+pub record Same {A : Type 0} (x y : A) (f g b c : List ℕ) : Type 0 where
+  pub value : x ≡ y
+  pub front : f ≡ g
+  pub back : b ≡ c
 
 -- ---- values
 
@@ -51,7 +51,7 @@ coded_one {A} code one m n at f g b c s t e =
     record { value = ap (λ (z : ℕ). (z, m.1)) place ∙ ap (λ (z : A). (n.0, z)) same; front = h.front; back = h.back }
 
 -- bytes of one length
-same_length : (f g b c : List ℕ) → length f ≡ length g → f ++ b ≡ g ++ c → (f ≡ g) × (b ≡ c)
+pub same_length : (f g b c : List ℕ) → length f ≡ length g → f ++ b ≡ g ++ c → (f ≡ g) × (b ≡ c)
 same_length f g b c len e =
     let front : f ≡ g = sym (take_at f b (length g) len) ∙ ap (λ (l : List ℕ). take (length g) l) e ∙ take_at g c (length g) refl in
     (front, append_cancel_left g b c (ap (λ (l : List ℕ). l ++ b) (sym front) ∙ e))
@@ -74,14 +74,14 @@ module _ (p q s t : Spelling) (at : ℕ) (f g b c : List ℕ) (j : Joined p q at
       }
 
 -- the bytes that x stands for don't begin others that y stands for
-abbrev AreOne : {A : Type 0} → Spelling → Spelling → A → A → Type 0
+abbrev pub AreOne : {A : Type 0} → Spelling → Spelling → A → A → Type 0
 AreOne s t x y = (at : ℕ) (f g b c : List ℕ) → s at f → t at g → f ++ b ≡ g ++ c → Same x y f g b c
 
-two_one : {X U : Type 0} (p s q t : Spelling) (x y : X) (u v : U) → AreOne p s x y → (x ≡ y → AreOne q t u v) → AreOne {A = X × U} (p then q) (s then t) (x, u) (y, v)
+pub two_one : {X U : Type 0} (p s q t : Spelling) (x y : X) (u v : U) → AreOne p s x y → (x ≡ y → AreOne q t u v) → AreOne {A = X × U} (p then q) (s then t) (x, u) (y, v)
 two_one p s q t x y u v first rest at f g b c j k e =
     joined_one p q s t at f g b c j k e x y u v (λ d. first at j.front k.front (j.back ++ b) (k.back ++ c) j.first k.first d) (λ d behind h. rest d (at + length j.front) j.back k.back b c j.second behind h)
 
-as_one : {X Y : Type 0} (make : X → Y) (s t : Spelling) (x y : X) → AreOne s t x y → AreOne s t (make x) (make y)
+pub as_one : {X Y : Type 0} (make : X → Y) (s t : Spelling) (x y : X) → AreOne s t x y → AreOne s t (make x) (make y)
 as_one make s t x y h at f g b c p q e =
     let k = h at f g b c p q e in
     record { value = ap make k.value; front = k.front; back = k.back }
@@ -121,10 +121,10 @@ bytes_one m n at f g b c s t e =
 
 -- ---- vectors
 
-abbrev IsOne : {A : Type 0} → (A → Spelling) → Type 0
+abbrev pub IsOne : {A : Type 0} → (A → Spelling) → Type 0
 IsOne {A} S = (x y : A) → AreOne (S x) (S y) x y
 
-each_one : {A : Type 0} (S : A → Spelling) → IsOne S → (xs ys : List A) → length xs ≡ length ys → AreOne (each_is S xs) (each_is S ys) xs ys
+pub each_one : {A : Type 0} (S : A → Spelling) → IsOne S → (xs ys : List A) → length xs ≡ length ys → AreOne (each_is S xs) (each_is S ys) xs ys
 each_one S one [] [] len = λ at f g b c s t e. nothing_one [] f g b c s t e
 each_one S one [] (y ∷ ys) len = absurd (omega arith)
 each_one S one (x ∷ xs) [] len = absurd (omega arith)
@@ -157,12 +157,12 @@ extern_codes extern.Memory extern.Memory e = refl
 extern_codes extern.Global extern.Global e = refl
 extern_codes x y e = absurd (omega (arith, e))
 
-listed_type_one : IsOne listed_type_is
+pub listed_type_one : IsOne listed_type_is
 listed_type_one x y at f g b c s t e =
     let h = coded_one type_code type_codes (at, x) (at, y) at f g b c (refl, s) (refl, t) e in
     record { value = ap (λ (z : ℕ × ValType). z.1) h.value; front = h.front; back = h.back }
 
-listed_index_one : IsOne listed_index_is
+pub listed_index_one : IsOne listed_index_is
 listed_index_one x y at f g b c s t e =
     let h = u32_one (at, x) (at, y) at f g b c (refl, s) (refl, t) e in
     record { value = ap (λ (z : ℕ × ℕ). z.1) h.value; front = h.front; back = h.back }

@@ -1,0 +1,7 @@
+pub mod Rows
+pub mod SpeltTokens
+pub mod SpeltCodes
+pub mod OneCode
+pub mod Compiled
+pub mod SpelledModules
+pub mod Longest

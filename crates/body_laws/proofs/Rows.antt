@@ -1,0 +1,144 @@
+-- The opcodes of operations, loads and stores are the rows of the tables.
+use Rattle.std.proofs.Common.{◌≡◌, ℕ, zero, suc, ◌+◌, ◌-◌, ◌≤◌, Bool, true, ◌&&◌, eqb, List, [], ◌∷◌, Option, None, Some, refl, ap, arith}
+use Rattle.std.specs.Prelude.{slice_get}
+use Rattle.std.proofs.lemmas.Bool.{and_parts, eqb-true}
+use Rattle.wasm_defs.specs.declared.types.ValType.TheVariants.{I32, I64}
+use Rattle.wasm_defs.specs.declared.operation.UnaryOp.TheVariants.{Clz, Ctz, Popcnt}
+use Rattle.wasm_defs.specs.declared.operation.BinaryOp.TheVariants.{Add, Sub, Mul, DivS, DivU, RemS, RemU, And, Or, Xor, Shl, ShrS, ShrU, Rotl, Rotr}
+use Rattle.wasm_defs.specs.declared.operation.CompareOp.TheVariants.{Eq, Ne, LtS, LtU, GtS, GtU, LeS, LeU, GeS, GeU}
+use Rattle.wasm_defs.specs.declared.operation.ConvertOp.TheVariants.{Wrap, ExtendS, ExtendU}
+use Rattle.wasm_defs.specs.declared.operation.Operation.{Operation}
+use Rattle.wasm_defs.specs.declared.operation.Operation.TheVariants.{Unary, Test, Binary, Compare, Convert}
+use Rattle.wasm_defs.specs.declared.operation.LoadOp.{LoadOp}
+use Rattle.wasm_defs.specs.declared.operation.LoadOp.TheVariants.{I32Load, I64Load, I32Load8S, I32Load8U, I32Load16S, I32Load16U, I64Load8S, I64Load8U, I64Load16S, I64Load16U, I64Load32S, I64Load32U}
+use Rattle.wasm_defs.specs.declared.operation.StoreOp.{StoreOp}
+use Rattle.wasm_defs.specs.declared.operation.StoreOp.TheVariants.{I32Store, I64Store, I32Store8, I32Store16, I64Store8, I64Store16, I64Store32}
+use Rattle.wasm_defs.specs.declared.operation.Access.{Access}
+use Rattle.wasm_defs.specs.declared.operation.Access.TheVariants.{Load, Store}
+use Rattle.wasm_defs.specs.Opcodes.{operations, accesses}
+use Rattle.wasm_defs.specs.Codes.{load_code, store_code, operation_code}
+
+-- ---- a table's rows stand at their codes
+
+abbrev are_rows : {A : Type 0} → (A → ℕ) → ℕ → List (Option A) → Bool
+are_rows code n [] = true
+are_rows code n (None ∷ rows) = are_rows code (suc n) rows
+are_rows code n (Some x ∷ rows) = eqb (code x) n && are_rows code (suc n) rows
+
+row_code : {A : Type 0} (code : A → ℕ) (n i : ℕ) (rows : List (Option A)) (x : A) → are_rows code n rows ≡ true → slice_get rows i ≡ Some (Some x) → code x ≡ n + i
+row_code code n i [] x e h = absurd cc
+row_code code n zero (None ∷ rows) x e h = absurd cc
+row_code code n zero (Some y ∷ rows) x e h =
+    let p = and_parts (eqb (code y) n) (are_rows code (suc n) rows) e in
+    let same : y ≡ x = cc in
+    omega (arith, ap code same, eqb-true (code y) n p.0)
+row_code code n (suc i) (None ∷ rows) x e h = omega (arith, row_code code (suc n) i rows x e h)
+row_code code n (suc i) (Some y ∷ rows) x e h =
+    let p = and_parts (eqb (code y) n) (are_rows code (suc n) rows) e in
+    omega (arith, row_code code (suc n) i rows x p.1 h)
+
+-- ---- operations
+
+pub operation_row : (op : Operation) → slice_get operations (operation_code op - 0x45) ≡ Some (Some op)
+operation_row (Test I32) = refl
+operation_row (Compare I32 Eq) = refl
+operation_row (Compare I32 Ne) = refl
+operation_row (Compare I32 LtS) = refl
+operation_row (Compare I32 LtU) = refl
+operation_row (Compare I32 GtS) = refl
+operation_row (Compare I32 GtU) = refl
+operation_row (Compare I32 LeS) = refl
+operation_row (Compare I32 LeU) = refl
+operation_row (Compare I32 GeS) = refl
+operation_row (Compare I32 GeU) = refl
+operation_row (Test I64) = refl
+operation_row (Compare I64 Eq) = refl
+operation_row (Compare I64 Ne) = refl
+operation_row (Compare I64 LtS) = refl
+operation_row (Compare I64 LtU) = refl
+operation_row (Compare I64 GtS) = refl
+operation_row (Compare I64 GtU) = refl
+operation_row (Compare I64 LeS) = refl
+operation_row (Compare I64 LeU) = refl
+operation_row (Compare I64 GeS) = refl
+operation_row (Compare I64 GeU) = refl
+operation_row (Unary I32 Clz) = refl
+operation_row (Unary I32 Ctz) = refl
+operation_row (Unary I32 Popcnt) = refl
+operation_row (Binary I32 Add) = refl
+operation_row (Binary I32 Sub) = refl
+operation_row (Binary I32 Mul) = refl
+operation_row (Binary I32 DivS) = refl
+operation_row (Binary I32 DivU) = refl
+operation_row (Binary I32 RemS) = refl
+operation_row (Binary I32 RemU) = refl
+operation_row (Binary I32 And) = refl
+operation_row (Binary I32 Or) = refl
+operation_row (Binary I32 Xor) = refl
+operation_row (Binary I32 Shl) = refl
+operation_row (Binary I32 ShrS) = refl
+operation_row (Binary I32 ShrU) = refl
+operation_row (Binary I32 Rotl) = refl
+operation_row (Binary I32 Rotr) = refl
+operation_row (Unary I64 Clz) = refl
+operation_row (Unary I64 Ctz) = refl
+operation_row (Unary I64 Popcnt) = refl
+operation_row (Binary I64 Add) = refl
+operation_row (Binary I64 Sub) = refl
+operation_row (Binary I64 Mul) = refl
+operation_row (Binary I64 DivS) = refl
+operation_row (Binary I64 DivU) = refl
+operation_row (Binary I64 RemS) = refl
+operation_row (Binary I64 RemU) = refl
+operation_row (Binary I64 And) = refl
+operation_row (Binary I64 Or) = refl
+operation_row (Binary I64 Xor) = refl
+operation_row (Binary I64 Shl) = refl
+operation_row (Binary I64 ShrS) = refl
+operation_row (Binary I64 ShrU) = refl
+operation_row (Binary I64 Rotl) = refl
+operation_row (Binary I64 Rotr) = refl
+operation_row (Convert Wrap) = refl
+operation_row (Convert ExtendS) = refl
+operation_row (Convert ExtendU) = refl
+
+operations_are_rows : are_rows operation_code 0x45 operations ≡ true
+operations_are_rows = refl
+
+pub operation_at : (b : ℕ) (op : Operation) → 0x45 ≤ b → slice_get operations (b - 0x45) ≡ Some (Some op) → operation_code op ≡ b
+operation_at b op ge h = omega (arith, row_code operation_code 0x45 (b - 0x45) operations op operations_are_rows h)
+
+-- ---- loads and stores
+
+abbrev pub access_code : Access → ℕ
+access_code (Load op) = load_code op
+access_code (Store op) = store_code op
+
+pub load_row : (op : LoadOp) → slice_get accesses (load_code op - 0x28) ≡ Some (Some (Load op))
+load_row I32Load = refl
+load_row I64Load = refl
+load_row I32Load8S = refl
+load_row I32Load8U = refl
+load_row I32Load16S = refl
+load_row I32Load16U = refl
+load_row I64Load8S = refl
+load_row I64Load8U = refl
+load_row I64Load16S = refl
+load_row I64Load16U = refl
+load_row I64Load32S = refl
+load_row I64Load32U = refl
+
+pub store_row : (op : StoreOp) → slice_get accesses (store_code op - 0x28) ≡ Some (Some (Store op))
+store_row I32Store = refl
+store_row I64Store = refl
+store_row I32Store8 = refl
+store_row I32Store16 = refl
+store_row I64Store8 = refl
+store_row I64Store16 = refl
+store_row I64Store32 = refl
+
+accesses_are_rows : are_rows access_code 0x28 accesses ≡ true
+accesses_are_rows = refl
+
+pub access_at : (b : ℕ) (op : Access) → 0x28 ≤ b → slice_get accesses (b - 0x28) ≡ Some (Some op) → access_code op ≡ b
+access_at b op ge h = omega (arith, row_code access_code 0x28 (b - 0x28) accesses op accesses_are_rows h)

@@ -1,0 +1,136 @@
+-- The bodies of a module are spelled, and what is spelled is a module.
+use Rattle.std.proofs.Common.{◌≡◌, ℕ, suc, ◌+◌, List, [], ◌∷◌, ◌++◌, length, None, refl, sym, ap, ◌∙◌, subst, append_assoc}
+use Rattle.std.proofs.lemmas.List.{append-nil}
+use Rattle.wasm_defs.specs.declared.item.Item.{Item}
+use Rattle.wasm_defs.specs.declared.token.Token.{Token}
+use Rattle.wasm_defs.specs.Bodies.{Group}
+use Rattle.wasm_defs.specs.Codes.{listed_vector_is, group_is, Code}
+use Rattle.wasm_defs.specs.Context.{context_of, import_count, body_context, type_of_function}
+use Rattle.wasm_defs.specs.Entries.{Seen}
+use Rattle.wasm_defs.specs.Faults.{ending_fault, first_outside, sections_of, tokens_of, read_of, context_at, items_of, bodies_of, IsValidCode, AreValid, Module, IsModule}
+use Rattle.wasm_defs.specs.Items.{Section, ◌then◌, each_is}
+use Rattle.wasm_defs.specs.Outside.{Body, Part, Section as Headed, Listed, Coded, Ending, Whole, Refused, Owed, Run, module_run}
+use Rattle.wasm_defs.specs.Supported.{is_compiled_section}
+use Rattle.wasm_defs.specs.Trees.{Seq, Tree}
+use Rattle.wasm_defs.specs.Typing.{Context, IsBody}
+use Rattle.wasm_laws.specs.Behind.{SayTheSame, AreValidIn}
+use Rattle.wasm_laws.specs.Sections.{AreBytes, parts_in}
+use Rattle.wasm_laws.proofs.Behind.{bodies_stand_behind, bodies_are_valid}
+use Rattle.wasm_laws.proofs.Bytes.{each_byte, HaveBytes, bodies_have_bytes}
+use Rattle.wasm_laws.proofs.Described.{items_of_parts, bodies_of_parts, whole_is_described}
+use Rattle.wasm_laws.proofs.Locals.{locals_are_few}
+use Rattle.wasm_laws.proofs.WholeModules.{described_is_whole}
+use Rattle.body_laws.specs.Spelled.{compiled_token_is, IsSpelled, AreSpelled, IsSpelledModule}
+use Rattle.body_laws.proofs.SpeltCodes.{spelled_is_read}
+use Rattle.body_laws.proofs.Compiled.{each_plain, body_compiled, opcodes_compiled}
+
+-- ---- a body
+
+valid_is_spelled : (items : List Item) (k : ℕ) (b : Body) (tree : Seq) → AreBytes b.bytes → IsValidCode (context_at items k b) (read_of b).code tree → IsSpelled items k b tree
+valid_is_spelled items k b tree fits v = record {
+  groups = (read_of b).groups;
+  tokens = (read_of b).code.tokens;
+  spelled = body_compiled b.first b.bytes (each_byte b.bytes fits) v.whole v.compiled;
+  few = locals_are_few b.first b.bytes;
+  nests = v.tree_is;
+  typed = v.typed;
+}
+
+-- whether its opcodes are compiled or not
+any_code : (b : Body) (gs : List Group) (ts : List (ℕ × Token)) → (listed_vector_is group_is gs then each_is compiled_token_is ts) b.first b.bytes → Code gs ts b.first b.bytes
+any_code b gs ts j = record { front = j.front; back = j.back; parts = j.parts; first = j.first; second = each_plain ts (b.first + length j.front) j.back j.second }
+
+spelled_is_valid : (items : List Item) (k : ℕ) (b : Body) (tree : Seq) → IsSpelled items k b tree → IsValidCode (context_at items k b) (read_of b).code tree
+spelled_is_valid items k b tree s =
+    let c = context_of items in
+    let is = spelled_is_read b.first b.bytes s.groups s.tokens tree s.nests (any_code b s.groups s.tokens s.spelled) s.few in
+    record {
+      whole = is.whole;
+      tree_is = subst (λ (ts : List (ℕ × Token)). Tree (tokens_of ts) tree) (sym is.code) s.nests;
+      typed = subst (λ (gs : List Group). IsBody (body_context c (type_of_function c (import_count items + k)) gs) tree) (sym is.locals) s.typed;
+      compiled = opcodes_compiled b.first b.bytes s.groups s.tokens tree s.nests s.spelled s.few;
+    }
+
+-- ---- bodies
+
+valid_are_spelled : (items : List Item) (k : ℕ) (bodies : List Body) (trees : List Seq) → HaveBytes bodies → AreValidIn items k bodies trees → AreSpelled items k bodies trees
+valid_are_spelled items k [] [] fits v = tt
+valid_are_spelled items k [] (tree ∷ trees) fits v = absurd v
+valid_are_spelled items k (b ∷ bodies) [] fits v = absurd v
+valid_are_spelled items k (b ∷ bodies) (tree ∷ trees) fits v = (valid_is_spelled items k b tree fits.0 v.0, valid_are_spelled items (suc k) bodies trees fits.1 v.1)
+
+spelled_are_valid : (items : List Item) (k : ℕ) (bodies : List Body) (trees : List Seq) → AreSpelled items k bodies trees → AreValidIn items k bodies trees
+spelled_are_valid items k [] [] s = tt
+spelled_are_valid items k [] (tree ∷ trees) s = absurd s
+spelled_are_valid items k (b ∷ bodies) [] s = absurd s
+spelled_are_valid items k (b ∷ bodies) (tree ∷ trees) s = (spelled_is_valid items k b tree s.0, spelled_are_valid items (suc k) bodies trees s.1)
+
+-- ---- all items say of a body what those before it say
+
+same_context : (all first : List Item) (k : ℕ) (b : Body) → SayTheSame all first → context_at all k b ≡ context_at first k b
+same_context all first k b h = made_at (context_of all) (context_of first) (import_count all) (import_count first) h.context h.imports
+  where
+    made_at : (c d : Context) (m n : ℕ) → c ≡ d → m ≡ n → body_context c (type_of_function c (m + k)) (read_of b).groups ≡ body_context d (type_of_function d (n + k)) (read_of b).groups
+    made_at c d m n e f = rw (e, f) refl
+
+items_with : (front : List Part) (x : Part) → items_of (front ++ x ∷ []) ≡ items_of front ++ items_of (x ∷ [])
+items_with [] x = refl
+items_with (Headed at id ∷ front) x = items_with front x
+items_with (Listed y ∷ front) x = ap (λ (l : List Item). y ∷ l) (items_with front x)
+items_with (Coded a ∷ front) x = items_with front x
+
+valid_at_parts : (bytes : List ℕ) (front : List Part) (items : List Item) (k : ℕ) (parts : List Part) (trees : List Seq) → (module_run bytes).parts ≡ front ++ parts → items_of front ≡ items
+    → AreValidIn (items_of (module_run bytes).parts) k (bodies_of parts) trees → AreValid items k parts trees
+valid_at_parts bytes front items k [] [] e same h = tt
+valid_at_parts bytes front items k [] (tree ∷ trees) e same h = absurd h
+valid_at_parts bytes front items k (Headed at id ∷ parts) trees e same h =
+    valid_at_parts bytes (front ++ Headed at id ∷ []) items k parts trees (e ∙ sym (append_assoc front (Headed at id ∷ []) parts)) (items_with front (Headed at id) ∙ append-nil (items_of front) ∙ same) h
+valid_at_parts bytes front items k (Listed x ∷ parts) trees e same h =
+    valid_at_parts bytes (front ++ Listed x ∷ []) (items ++ x ∷ []) k parts trees (e ∙ sym (append_assoc front (Listed x ∷ []) parts)) (items_with front (Listed x) ∙ ap (λ (l : List Item). l ++ x ∷ []) same) h
+valid_at_parts bytes front items k (Coded b ∷ parts) [] e same h = absurd h
+valid_at_parts bytes front items k (Coded b ∷ parts) (tree ∷ trees) e same h =
+    let all = items_of (module_run bytes).parts in
+    let stands = bodies_stand_behind bytes front b parts e in
+    let here : context_at all k b ≡ context_at items k b = same_context all (items_of front) k b stands.same ∙ ap (λ (l : List Item). context_at l k b) same in (
+      subst (λ (c : Context). IsValidCode c (read_of b).code tree) here h.0,
+      valid_at_parts bytes (front ++ Coded b ∷ []) items (suc k) parts trees (e ∙ sym (append_assoc front (Coded b ∷ []) parts)) (items_with front (Coded b) ∙ append-nil (items_of front) ∙ same) h.1,
+    )
+
+-- ---- modules
+
+whole_ending : (len : ℕ) (ending : Ending) → ending_fault len ending ≡ None → (seen : Seen) × (ending ≡ Whole seen)
+whole_ending len (Whole seen) e = (seen, refl)
+whole_ending len (Refused r) e = absurd cc
+whole_ending len Owed e = absurd cc
+
+pub module_is_spelled : (bytes : List ℕ) (m : Module) → AreBytes bytes → IsModule bytes m → (sections : List Section) × IsSpelledModule bytes m sections
+module_is_spelled bytes m fits is =
+    let run = module_run bytes in
+    let whole = whole_ending (length bytes) run.ending is.whole in
+    let d = whole_is_described bytes run.parts (each_byte bytes fits) whole.0 (ap (λ (z : Ending). record { parts = run.parts; ending = z }) whole.1) in
+    let valid = valid_are_spelled m.items 0 m.bodies m.trees (subst HaveBytes (sym is.bodies) (bodies_have_bytes bytes fits)) (bodies_are_valid bytes m is) in (
+      d.0,
+      record {
+        is = d.1;
+        items = is.items ∙ ap items_of d.2 ∙ items_of_parts d.0;
+        bodies = is.bodies ∙ ap bodies_of d.2 ∙ bodies_of_parts d.0;
+        spelled = valid;
+        compiled = subst (λ (l : List Part). first_outside is_compiled_section (sections_of l) ≡ None) d.2 is.compiled;
+      },
+    )
+
+pub spelled_is_module : (bytes : List ℕ) (m : Module) (sections : List Section) → IsSpelledModule bytes m sections → IsModule bytes m
+spelled_is_module bytes m sections s =
+    let w = described_is_whole bytes sections s.is in
+    let parts : (module_run bytes).parts ≡ parts_in sections = ap (λ (r : Run). r.parts) w.1 in
+    let items : m.items ≡ items_of (module_run bytes).parts = s.items ∙ sym (items_of_parts sections) ∙ ap items_of (sym parts) in
+    let bodies : m.bodies ≡ bodies_of (module_run bytes).parts = s.bodies ∙ sym (bodies_of_parts sections) ∙ ap bodies_of (sym parts) in
+    let valid = spelled_are_valid m.items 0 m.bodies m.trees s.spelled in
+    record {
+      whole = ap (λ (r : Run). ending_fault (length bytes) r.ending) w.1;
+      compiled = ap (λ (l : List Part). first_outside is_compiled_section (sections_of l)) parts ∙ s.compiled;
+      items = items;
+      bodies = bodies;
+      valid = valid_at_parts bytes [] [] 0 (module_run bytes).parts m.trees refl refl
+          (subst (λ (l : List Body). AreValidIn (items_of (module_run bytes).parts) 0 l m.trees) bodies (subst (λ (l : List Item). AreValidIn l 0 m.bodies m.trees) items valid));
+    }

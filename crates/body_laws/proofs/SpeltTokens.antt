@@ -1,0 +1,424 @@
+-- Instructions are read as they are spelled.
+use Rattle.std.proofs.Common.{◌≡◌, ◌≤◌, ℕ, ◌-◌, ℤ, true, eqb, nat_lt, nat_le, ◌||◌, List, [], ◌∷◌, length, Option, Some, None, refl, sym, ap, subst, ◌∙◌}
+use Rattle.std.specs.Prelude.{slice_get}
+use Rattle.std.specs.List.{All}
+use Rattle.std.proofs.lemmas.Bool.{eqb-true, ltb-false}
+use Rattle.wasm_defs.specs.declared.fault.Kind.{Kind}
+use Rattle.wasm_defs.specs.declared.fault.Kind.TheVariants.{Malformed, Unsupported}
+use Rattle.wasm_defs.specs.declared.types.ValType.{ValType}
+use Rattle.wasm_defs.specs.declared.types.ValType.TheVariants.{I32, I64}
+use Rattle.wasm_defs.specs.declared.operation.UnaryOp.TheVariants.{Clz, Ctz, Popcnt}
+use Rattle.wasm_defs.specs.declared.operation.BinaryOp.TheVariants.{Add, Sub, Mul, DivS, DivU, RemS, RemU, And, Or, Xor, Shl, ShrS, ShrU, Rotl, Rotr}
+use Rattle.wasm_defs.specs.declared.operation.CompareOp.TheVariants.{Eq, Ne, LtS, LtU, GtS, GtU, LeS, LeU, GeS, GeU}
+use Rattle.wasm_defs.specs.declared.operation.ConvertOp.TheVariants.{Wrap, ExtendS, ExtendU}
+use Rattle.wasm_defs.specs.declared.operation.Operation.{Operation}
+use Rattle.wasm_defs.specs.declared.operation.Operation.TheVariants.{Unary, Test, Binary, Compare, Convert}
+use Rattle.wasm_defs.specs.declared.operation.LoadOp.{LoadOp}
+use Rattle.wasm_defs.specs.declared.operation.LoadOp.TheVariants.{I32Load, I64Load, I32Load8S, I32Load8U, I32Load16S, I32Load16U, I64Load8S, I64Load8U, I64Load16S, I64Load16U, I64Load32S, I64Load32U}
+use Rattle.wasm_defs.specs.declared.operation.StoreOp.{StoreOp}
+use Rattle.wasm_defs.specs.declared.operation.StoreOp.TheVariants.{I32Store, I64Store, I32Store8, I32Store16, I64Store8, I64Store16, I64Store32}
+use Rattle.wasm_defs.specs.declared.operation.Access.{Access}
+use Rattle.wasm_defs.specs.declared.operation.Access.TheVariants as access
+use Rattle.wasm_defs.specs.declared.token.BlockType.{BlockType}
+use Rattle.wasm_defs.specs.declared.token.BlockType.TheVariants.{Empty, Value, Index}
+use Rattle.wasm_defs.specs.declared.token.MemArg.{MemArg}
+use Rattle.wasm_defs.specs.declared.token.Plain.{Plain}
+use Rattle.wasm_defs.specs.declared.token.Plain.TheVariants.{Unreachable, Nop, Br, BrIf, BrTable, Return, Call, CallIndirect, Discard, Select, LocalGet, LocalSet, LocalTee, GlobalGet, GlobalSet, Load, Store, MemorySize, MemoryGrow, Const, Operate}
+use Rattle.wasm_defs.specs.declared.token.Token.{Token}
+use Rattle.wasm_defs.specs.declared.token.Token.TheVariants as token
+use Rattle.wasm_defs.specs.Opcodes.{operations, accesses}
+use Rattle.wasm_defs.specs.Entries.{const_opcode, bits_of, within}
+use Rattle.wasm_defs.specs.Fields.{Cursor, Got, Reader, ◌>>=◌, byte, number, u32, vector}
+use Rattle.wasm_defs.specs.Items.{Spelling, ◌then◌, exactly, byte_is, vector_is, listed_index_is}
+use Rattle.wasm_defs.specs.Bodies.{plain, with_index, block_type, with_type, label, branch_table, zero_byte, indirect, with_zero, mem_arg, accessed, with_mem_arg, constant, control, variable, accessed_at, memory, operated_at, numeric, instruction}
+use Rattle.wasm_defs.specs.Codes.{load_code, store_code, operation_code, listed_vector_is, block_type_is, mem_arg_is, signed_is, plain_is, instruction_is, token_is}
+use Rattle.wasm_laws.specs.Steadiness.{token}
+use Rattle.wasm_laws.proofs.Steady.{IfGot}
+use Rattle.wasm_laws.proofs.Parts.{either_got}
+use Rattle.wasm_laws.proofs.Spelt.{Ready, Found, found_then, found_as, read, Reads, reads_then, reads_on, Spelt}
+use Rattle.wasm_laws.proofs.SpeltFields.{Always, byte_spelt, number_spelt, u32_spelt}
+use Rattle.wasm_laws.proofs.SpeltLists.{vector_spelt}
+use Rattle.wasm_laws.proofs.SpeltParts.{placed_spelt, ruled_spelt}
+use Rattle.body_laws.proofs.Rows.{operation_at, access_code, access_at}
+
+-- ---- fields whose offset their place tells
+
+-- a field at any offset, and what is behind it
+pub reads_past : {A B : Type 0} (p : Reader (ℕ × A)) (f : ℕ × A → Reader B) (x : A) (y : B) (s t : Spelling) → ((o : ℕ) → Reads p (o, x) (λ at bytes. (o ≡ at) × s at bytes)) → ((o : ℕ) → Reads (f (o, x)) y t) → Reads (p >>= f) y (s then t)
+reads_past p f x y s t h k = record {
+  by = λ at end bytes back fits j.
+      (reads_then p f (at, x) y (λ a b. (at ≡ a) × s a b) t (h at) (k at)).by at end bytes back fits (record { front = j.front; back = j.back; parts = j.parts; first = (refl, j.first); second = j.second });
+}
+
+pub reads_only : {A B : Type 0} (p : Reader (ℕ × A)) (f : ℕ × A → Reader B) (x : A) (y : B) (s : Spelling) → ((o : ℕ) → Reads p (o, x) (λ at bytes. (o ≡ at) × s at bytes)) → ((o : ℕ) (c : Cursor) → f (o, x) c ≡ Got y c) → Reads (p >>= f) y s
+reads_only p f x y s h e = record { by = λ at end front back fits k. (reads_on p f (at, x) y (λ a b. (at ≡ a) × s a b) (h at) (e at)).by at end front back fits (refl, k) }
+
+pub reads_as : {A : Type 0} (p : Reader A) (x : A) (s t : Spelling) → ((at : ℕ) (bytes : List ℕ) → t at bytes → s at bytes) → Reads p x s → Reads p x t
+reads_as p x s t f h = record { by = λ at end front back fits k. h.by at end front back fits (f at front k) }
+
+pub byte_reads : (b o : ℕ) → Reads byte (o, b) (λ at bytes. (o ≡ at) × exactly (b ∷ []) at bytes)
+byte_reads b o = byte_spelt.complete (o, b) tt
+
+pub index_reads : (i o : ℕ) → Reads u32 (o, i) (λ at bytes. (o ≡ at) × listed_index_is i at bytes)
+index_reads i o = u32_spelt.complete (o, i) tt
+
+-- what stands at an offset, without it
+pub opened : (o b : ℕ) (s : Spelling) (at : ℕ) (bytes : List ℕ) → (byte_is o b then s) at bytes → (o ≡ at) × (exactly (b ∷ []) then s) at bytes
+opened o b s at bytes j = (j.first.0, record { front = j.front; back = j.back; parts = j.parts; first = j.first.1; second = j.second })
+
+-- a list behind its count
+pub vector_as_listed : {A : Type 0} (S : A → Spelling) (o : ℕ) (xs : List A) (at : ℕ) (bytes : List ℕ) → vector_is S o xs at bytes → listed_vector_is S xs at bytes
+vector_as_listed S o xs at bytes j = record { front = j.front; back = j.back; parts = j.parts; first = j.first.1; second = j.second }
+
+pub listed_as_vector : {A : Type 0} (S : A → Spelling) (o : ℕ) (xs : List A) (at : ℕ) (bytes : List ℕ) → (o ≡ at) × listed_vector_is S xs at bytes → vector_is S o xs at bytes
+listed_as_vector S o xs at bytes k = let j = k.1 in record { front = j.front; back = j.back; parts = j.parts; first = (k.0, j.first); second = j.second }
+
+-- ---- immediates
+
+label_spelt : Spelt listed_index_is Always label
+unfolding label
+label_spelt = placed_spelt (λ i bytes. listed_index_is i 0 bytes) Always u32 u32_spelt
+
+labels_spelt : Spelt (λ xs. vector_is listed_index_is xs.0 xs.1) Always (vector u32 label)
+labels_spelt =
+    ruled_spelt _ (λ (xs : ℕ × List ℕ). Always {A = ℕ × ℕ} (xs.0, length xs.1) × All Always xs.1) Always (vector u32 label) (λ xs k. tt) (λ xs k. (tt, λ i d lt. tt))
+    (vector_spelt listed_index_is Always Always u32 label u32_spelt label_spelt)
+
+block_type_found : (c : Cursor) → Ready c → IfGot (λ t d. Found (block_type_is t) (Always t) c d) (block_type c)
+unfolding block_type
+block_type_found c ready =
+    read _ _ byte _ _ c byte_spelt ready (λ b d found ready.
+    either_got _ (eqb b.1 0x40) _ _ d (λ e. found_as (block_type_is Empty) _ c d found (λ at bytes s. s.1 ∙ ap (λ (n : ℕ). n ∷ []) (eqb-true b.1 0x40 e)) tt) (λ no.
+    either_got _ (eqb b.1 0x7F) _ _ d (λ e. found_as (block_type_is (Value I32)) _ c d found (λ at bytes s. s.1 ∙ ap (λ (n : ℕ). n ∷ []) (eqb-true b.1 0x7F e)) tt) (λ no.
+    either_got _ (eqb b.1 0x7E) _ _ d (λ e. found_as (block_type_is (Value I64)) _ c d found (λ at bytes s. s.1 ∙ ap (λ (n : ℕ). n ∷ []) (eqb-true b.1 0x7E e)) tt) (λ no.
+    either_got _ (eqb b.1 0x7D || eqb b.1 0x7C || nat_lt b.1 0x40 || nat_le 0x80 b.1) _ _ d (λ e. tt) (λ no. tt)))))
+
+block_type_read : (t : BlockType) → Reads block_type t (block_type_is t)
+unfolding block_type
+block_type_read Empty = reads_only byte _ 0x40 Empty (exactly (0x40 ∷ [])) (byte_reads 0x40) (λ o c. refl)
+block_type_read (Value I32) = reads_only byte _ 0x7F (Value I32) (exactly (0x7F ∷ [])) (byte_reads 0x7F) (λ o c. refl)
+block_type_read (Value I64) = reads_only byte _ 0x7E (Value I64) (exactly (0x7E ∷ [])) (byte_reads 0x7E) (λ o c. refl)
+block_type_read (Index i) = record { by = λ at end front back fits k. absurd k }
+
+block_type_spelt : Spelt block_type_is Always block_type
+block_type_spelt = record { sound = block_type_found; complete = λ t k. block_type_read t }
+
+zero_found : (kind : Kind) (c : Cursor) → Ready c → IfGot (λ x d. Found (exactly (0x00 ∷ [])) (Unit {0}) c d) (zero_byte kind c)
+unfolding zero_byte
+zero_found kind c ready =
+    read _ _ byte _ _ c byte_spelt ready (λ b d found ready.
+    either_got _ (eqb b.1 0) _ _ d (λ e. found_as (exactly (0x00 ∷ [])) _ c d found (λ at bytes s. s.1 ∙ ap (λ (n : ℕ). n ∷ []) (eqb-true b.1 0 e)) tt) (λ no. tt))
+
+zero_spelt : (kind : Kind) → Spelt (λ x. exactly (0x00 ∷ [])) Always (zero_byte kind)
+unfolding zero_byte
+zero_spelt kind = record { sound = zero_found kind; complete = λ x k. reads_only byte _ 0 tt (exactly (0x00 ∷ [])) (byte_reads 0) (λ o c. refl) }
+
+mem_arg_spelt : Spelt mem_arg_is Always mem_arg
+unfolding mem_arg
+mem_arg_spelt = record {
+  sound = λ c ready.
+      read _ _ u32 _ _ c u32_spelt ready (λ align d align_found ready.
+      read _ _ u32 _ _ d u32_spelt ready (λ offset e offset_found ready.
+      found_as (mem_arg_is (record { align = align.1; offset = offset.1 })) _ c e (found_then (Unit {0}) c d e align_found offset_found tt)
+      (λ at bytes j. record { front = j.front; back = j.back; parts = j.parts; first = j.first.1; second = j.second.1 }) tt));
+  complete = λ m k.
+      reads_past u32 _ m.align m (listed_index_is m.align) (listed_index_is m.offset) (index_reads m.align) (λ o.
+      reads_only u32 _ m.offset m (listed_index_is m.offset) (index_reads m.offset) (λ o c. refl));
+}
+
+-- ---- what is got behind an opcode is spelled with it
+
+module _ (o b : ℕ) (c d : Cursor) (found : Found (byte_is o b) (Unit {0}) c d) (ready : Ready d) where
+  abbrev pub Q : Token → Cursor → Type 0
+  Q t e = Found (token_is (o, t)) (Unit {0}) c e
+
+  found_code : (n : ℕ) → b ≡ n → Found (byte_is o n) (Unit {0}) c d
+  found_code n e = subst (λ (k : ℕ). Found (byte_is o k) (Unit {0}) c d) e found
+
+  -- no immediates
+  bare : (n : ℕ) (t : Token) → b ≡ n → ((at : ℕ) (bytes : List ℕ) → exactly (n ∷ []) at bytes → instruction_is t at bytes) → Q t d
+  bare n t e f = found_as (token_is (o, t)) _ c d (found_code n e) (λ at bytes s. (s.0, f at bytes s.1)) tt
+
+  -- these immediates
+  followed : {s : Spelling} {K : Type 0} (n : ℕ) (t : Token) (e : Cursor) → b ≡ n → Found s K d e → ((at : ℕ) (bytes : List ℕ) → (exactly (n ∷ []) then s) at bytes → instruction_is t at bytes) → Q t e
+  followed {s} n t e is behind f =
+      found_as (token_is (o, t)) _ c e (found_then (Unit {0}) c d e (found_code n is) behind tt) (λ at bytes j. let k = opened o n s at bytes j in (k.0, f at bytes k.1)) tt
+
+  is : (n : ℕ) → eqb b n ≡ true → b ≡ n
+  is n e = eqb-true b n e
+
+  indexed : (n : ℕ) (make : ℕ → Plain) → eqb b n ≡ true → ((i at : ℕ) (bytes : List ℕ) → (exactly (n ∷ []) then listed_index_is i) at bytes → plain_is (make i) at bytes) → IfGot Q (with_index make d)
+  unfolding with_index
+  indexed n make e f =
+      read _ _ u32 _ _ d u32_spelt ready (λ i g index ready.
+      followed n (token.Plain (make i.1)) g (is n e) (found_as (listed_index_is i.1) (Unit {0}) d g index (λ at bytes s. s.1) tt) (f i.1))
+
+  typed : (n : ℕ) (make : BlockType → Token) → eqb b n ≡ true → ((t : BlockType) (at : ℕ) (bytes : List ℕ) → (exactly (n ∷ []) then block_type_is t) at bytes → instruction_is (make t) at bytes) → IfGot Q (with_type make d)
+  unfolding with_type
+  typed n make e f = read _ _ block_type _ _ d block_type_spelt ready (λ t g ty ready. followed n (make t) g (is n e) ty (f t))
+
+  branches : eqb b 0x0E ≡ true → IfGot Q (branch_table d)
+  unfolding branch_table
+  branches e =
+      read _ _ (vector u32 label) _ _ d labels_spelt ready (λ labels f labels_found ready.
+      read _ _ label _ _ f label_spelt ready (λ last g last_found ready.
+      followed 0x0E (token.Plain (BrTable labels.1 last)) g (is 0x0E e)
+      (found_then (Unit {0}) d f g (found_as (listed_vector_is listed_index_is labels.1) (Unit {0}) d f labels_found (vector_as_listed listed_index_is labels.0 labels.1) tt) last_found tt)
+      (λ at bytes s. s)))
+
+  calls_indirect : eqb b 0x11 ≡ true → IfGot Q (indirect d)
+  unfolding indirect
+  calls_indirect e =
+      read _ _ u32 _ _ d u32_spelt ready (λ i f index ready.
+      read _ _ (zero_byte Unsupported) _ _ f (zero_spelt Unsupported) ready (λ x g zero ready.
+      followed 0x11 (token.Plain (CallIndirect i.1)) g (is 0x11 e)
+      (found_then (Unit {0}) d f g (found_as (listed_index_is i.1) (Unit {0}) d f index (λ at bytes s. s.1) tt) zero tt)
+      (λ at bytes s. s)))
+
+  zeroed : (n : ℕ) (p : Plain) → eqb b n ≡ true → ((at : ℕ) (bytes : List ℕ) → (exactly (n ∷ []) then exactly (0x00 ∷ [])) at bytes → plain_is p at bytes) → IfGot Q (with_zero p d)
+  unfolding with_zero
+  zeroed n p e f = read _ _ (zero_byte Malformed) _ _ d (zero_spelt Malformed) ready (λ x g zero ready. followed n (token.Plain p) g (is n e) zero f)
+
+  accesses_memory : (op : Access) → access_code op ≡ b → IfGot Q (with_mem_arg op d)
+  unfolding with_mem_arg
+  accesses_memory op e =
+      read _ _ mem_arg _ _ d mem_arg_spelt ready (λ m g arg ready. as_access op e m g arg)
+    where
+      as_access : (op : Access) → access_code op ≡ b → (m : MemArg) (g : Cursor) → Found (mem_arg_is m) (Always m) d g → Q (token.Plain (accessed op m)) g
+      as_access (access.Load op) e m g arg = followed (load_code op) (token.Plain (Load op m)) g (sym e) arg (λ at bytes s. s)
+      as_access (access.Store op) e m g arg = followed (store_code op) (token.Plain (Store op m)) g (sym e) arg (λ at bytes s. s)
+
+  constants : (ty : ValType) → eqb b (const_opcode ty) ≡ true → IfGot Q (constant ty d)
+  unfolding constant
+  constants ty e =
+      read _ _ (number true (bits_of ty)) _ _ d (number_spelt true (bits_of ty)) ready (λ n g value ready.
+      followed (const_opcode ty) (token.Plain (Const ty n.1)) g (is (const_opcode ty) e) (found_as (signed_is ty n.1) (Unit {0}) d g value (λ at bytes s. s.1) tt) (λ at bytes s. s))
+
+  control_found : IfGot Q (control o b d)
+  unfolding control
+  control_found =
+      either_got Q (eqb b 0x00) _ _ d (λ e. bare 0x00 (token.Plain Unreachable) (is 0x00 e) (λ at bytes s. s)) (λ no.
+      either_got Q (eqb b 0x01) _ _ d (λ e. bare 0x01 (token.Plain Nop) (is 0x01 e) (λ at bytes s. s)) (λ no.
+      either_got Q (eqb b 0x02) _ _ d (λ e. typed 0x02 token.Block e (λ t at bytes s. s)) (λ no.
+      either_got Q (eqb b 0x03) _ _ d (λ e. typed 0x03 token.Loop e (λ t at bytes s. s)) (λ no.
+      either_got Q (eqb b 0x04) _ _ d (λ e. typed 0x04 token.If e (λ t at bytes s. s)) (λ no.
+      either_got Q (eqb b 0x05) _ _ d (λ e. bare 0x05 token.Else (is 0x05 e) (λ at bytes s. s)) (λ no.
+      either_got Q (eqb b 0x0B) _ _ d (λ e. bare 0x0B token.End (is 0x0B e) (λ at bytes s. s)) (λ no.
+      either_got Q (eqb b 0x0C) _ _ d (λ e. indexed 0x0C Br e (λ i at bytes s. s)) (λ no.
+      either_got Q (eqb b 0x0D) _ _ d (λ e. indexed 0x0D BrIf e (λ i at bytes s. s)) (λ no.
+      either_got Q (eqb b 0x0E) _ _ d (λ e. branches e) (λ no.
+      either_got Q (eqb b 0x0F) _ _ d (λ e. bare 0x0F (token.Plain Return) (is 0x0F e) (λ at bytes s. s)) (λ no.
+      either_got Q (eqb b 0x10) _ _ d (λ e. indexed 0x10 Call e (λ i at bytes s. s)) (λ no.
+      either_got Q (eqb b 0x11) _ _ d (λ e. calls_indirect e) (λ no.
+      either_got Q (eqb b 0x1A) _ _ d (λ e. bare 0x1A (token.Plain Discard) (is 0x1A e) (λ at bytes s. s)) (λ no.
+      either_got Q (eqb b 0x1B) _ _ d (λ e. bare 0x1B (token.Plain Select) (is 0x1B e) (λ at bytes s. s)) (λ no.
+      tt)))))))))))))))
+
+  variable_found : IfGot Q (variable o b d)
+  unfolding variable
+  variable_found =
+      either_got Q (eqb b 0x20) _ _ d (λ e. indexed 0x20 LocalGet e (λ i at bytes s. s)) (λ no.
+      either_got Q (eqb b 0x21) _ _ d (λ e. indexed 0x21 LocalSet e (λ i at bytes s. s)) (λ no.
+      either_got Q (eqb b 0x22) _ _ d (λ e. indexed 0x22 LocalTee e (λ i at bytes s. s)) (λ no.
+      either_got Q (eqb b 0x23) _ _ d (λ e. indexed 0x23 GlobalGet e (λ i at bytes s. s)) (λ no.
+      either_got Q (eqb b 0x24) _ _ d (λ e. indexed 0x24 GlobalSet e (λ i at bytes s. s)) (λ no.
+      tt)))))
+
+  memory_found : 0x28 ≤ b → IfGot Q (memory o b d)
+  unfolding memory
+  memory_found ge =
+      either_got Q (eqb b 0x3F) _ _ d (λ e. zeroed 0x3F MemorySize e (λ at bytes s. s)) (λ no.
+      either_got Q (eqb b 0x40) _ _ d (λ e. zeroed 0x40 MemoryGrow e (λ at bytes s. s)) (λ no.
+      in_table (slice_get accesses (b - 0x28)) refl))
+    where
+      in_table : (row : Option (Option Access)) → slice_get accesses (b - 0x28) ≡ row → IfGot Q (accessed_at o row d)
+      in_table None e = tt
+      in_table (Some None) e = tt
+      in_table (Some (Some op)) e = accesses_memory op (access_at b op ge e)
+
+  numeric_found : IfGot Q (numeric o b d)
+  unfolding numeric
+  numeric_found =
+      either_got Q (eqb b 0x41) _ _ d (λ e. constants I32 e) (λ no.
+      either_got Q (eqb b 0x42) _ _ d (λ e. constants I64 e) (λ no.
+      either_got Q (nat_lt b 0x45) _ _ d (λ e. tt) (λ ge.
+      in_table (ltb-false b 0x45 ge) (slice_get operations (b - 0x45)) refl)))
+    where
+      in_table : 0x45 ≤ b → (row : Option (Option Operation)) → slice_get operations (b - 0x45) ≡ row → IfGot Q (operated_at o b row d)
+      in_table ge None e = either_got Q (within 0xC0 0xC4 b || eqb b 0xFC) _ _ d (λ y. tt) (λ n. tt)
+      in_table ge (Some None) e = tt
+      in_table ge (Some (Some op)) e = bare (operation_code op) (token.Plain (Operate op)) (sym (operation_at b op ge e)) (λ at bytes s. s)
+
+  pub instruction_found : IfGot Q (instruction o b d)
+  unfolding instruction
+  instruction_found =
+      either_got Q (nat_lt b 0x20) _ _ d (λ e. control_found) (λ n.
+      either_got Q (nat_lt b 0x28) _ _ d (λ e. variable_found) (λ n.
+      either_got Q (nat_lt b 0x41) _ _ d (λ e. memory_found (ltb-false b 0x28 n)) (λ n. numeric_found)))
+
+-- ---- what is spelled is read
+
+alone : (n : ℕ) (t : Token) → ((o : ℕ) (c : Cursor) → instruction o n c ≡ Got t c) → Reads token t (exactly (n ∷ []))
+alone n t e = reads_only byte _ n t (exactly (n ∷ [])) (byte_reads n) e
+
+before : (n : ℕ) (t : Token) (s : Spelling) → ((o : ℕ) → Reads (instruction o n) t s) → Reads token t (exactly (n ∷ []) then s)
+before n t s h = reads_past byte _ n t (exactly (n ∷ [])) s (byte_reads n) h
+
+index_read : (make : ℕ → Plain) (i : ℕ) → Reads (with_index make) (token.Plain (make i)) (listed_index_is i)
+unfolding with_index
+index_read make i = reads_only u32 _ i _ (listed_index_is i) (index_reads i) (λ o c. refl)
+
+type_read : (make : BlockType → Token) (t : BlockType) → Reads (with_type make) (make t) (block_type_is t)
+unfolding with_type
+type_read make t = reads_on block_type _ t _ (block_type_is t) (block_type_read t) (λ c. refl)
+
+branches_read : (labels : List ℕ) (last : ℕ) → Reads branch_table (token.Plain (BrTable labels last)) (listed_vector_is listed_index_is labels then listed_index_is last)
+unfolding branch_table
+branches_read labels last =
+    reads_past (vector u32 label) _ labels _ (listed_vector_is listed_index_is labels) (listed_index_is last)
+    (λ o. reads_as (vector u32 label) (o, labels) (vector_is listed_index_is o labels) _ (listed_as_vector listed_index_is o labels) (labels_spelt.complete (o, labels) tt))
+    (λ o. reads_on label _ last _ (listed_index_is last) (label_spelt.complete last tt) (λ c. refl))
+
+indirect_read : (i : ℕ) → Reads indirect (token.Plain (CallIndirect i)) (listed_index_is i then exactly (0x00 ∷ []))
+unfolding indirect
+indirect_read i =
+    reads_past u32 _ i _ (listed_index_is i) (exactly (0x00 ∷ [])) (index_reads i)
+    (λ o. reads_on (zero_byte Unsupported) _ tt _ (exactly (0x00 ∷ [])) ((zero_spelt Unsupported).complete tt tt) (λ c. refl))
+
+zero_read : (p : Plain) → Reads (with_zero p) (token.Plain p) (exactly (0x00 ∷ []))
+unfolding with_zero
+zero_read p = reads_on (zero_byte Malformed) _ tt _ (exactly (0x00 ∷ [])) ((zero_spelt Malformed).complete tt tt) (λ c. refl)
+
+mem_arg_read : (op : Access) (m : MemArg) → Reads (with_mem_arg op) (token.Plain (accessed op m)) (mem_arg_is m)
+unfolding with_mem_arg
+mem_arg_read op m = reads_on mem_arg _ m _ (mem_arg_is m) (mem_arg_spelt.complete m tt) (λ c. refl)
+
+constant_read : (ty : ValType) (n : ℤ) → Reads (constant ty) (token.Plain (Const ty n)) (signed_is ty n)
+unfolding constant
+constant_read ty n = reads_only (number true (bits_of ty)) _ n _ (signed_is ty n) (λ o. (number_spelt true (bits_of ty)).complete (o, n) tt) (λ o c. refl)
+
+loads : (op : LoadOp) (o : ℕ) → instruction o (load_code op) ≡ with_mem_arg (access.Load op)
+unfolding instruction memory
+loads I32Load o = refl
+loads I64Load o = refl
+loads I32Load8S o = refl
+loads I32Load8U o = refl
+loads I32Load16S o = refl
+loads I32Load16U o = refl
+loads I64Load8S o = refl
+loads I64Load8U o = refl
+loads I64Load16S o = refl
+loads I64Load16U o = refl
+loads I64Load32S o = refl
+loads I64Load32U o = refl
+
+stores : (op : StoreOp) (o : ℕ) → instruction o (store_code op) ≡ with_mem_arg (access.Store op)
+unfolding instruction memory
+stores I32Store o = refl
+stores I64Store o = refl
+stores I32Store8 o = refl
+stores I32Store16 o = refl
+stores I64Store8 o = refl
+stores I64Store16 o = refl
+stores I64Store32 o = refl
+
+operates : (op : Operation) (o : ℕ) → instruction o (operation_code op) ≡ plain (Operate op)
+unfolding instruction numeric
+operates (Test I32) o = refl
+operates (Compare I32 Eq) o = refl
+operates (Compare I32 Ne) o = refl
+operates (Compare I32 LtS) o = refl
+operates (Compare I32 LtU) o = refl
+operates (Compare I32 GtS) o = refl
+operates (Compare I32 GtU) o = refl
+operates (Compare I32 LeS) o = refl
+operates (Compare I32 LeU) o = refl
+operates (Compare I32 GeS) o = refl
+operates (Compare I32 GeU) o = refl
+operates (Test I64) o = refl
+operates (Compare I64 Eq) o = refl
+operates (Compare I64 Ne) o = refl
+operates (Compare I64 LtS) o = refl
+operates (Compare I64 LtU) o = refl
+operates (Compare I64 GtS) o = refl
+operates (Compare I64 GtU) o = refl
+operates (Compare I64 LeS) o = refl
+operates (Compare I64 LeU) o = refl
+operates (Compare I64 GeS) o = refl
+operates (Compare I64 GeU) o = refl
+operates (Unary I32 Clz) o = refl
+operates (Unary I32 Ctz) o = refl
+operates (Unary I32 Popcnt) o = refl
+operates (Binary I32 Add) o = refl
+operates (Binary I32 Sub) o = refl
+operates (Binary I32 Mul) o = refl
+operates (Binary I32 DivS) o = refl
+operates (Binary I32 DivU) o = refl
+operates (Binary I32 RemS) o = refl
+operates (Binary I32 RemU) o = refl
+operates (Binary I32 And) o = refl
+operates (Binary I32 Or) o = refl
+operates (Binary I32 Xor) o = refl
+operates (Binary I32 Shl) o = refl
+operates (Binary I32 ShrS) o = refl
+operates (Binary I32 ShrU) o = refl
+operates (Binary I32 Rotl) o = refl
+operates (Binary I32 Rotr) o = refl
+operates (Unary I64 Clz) o = refl
+operates (Unary I64 Ctz) o = refl
+operates (Unary I64 Popcnt) o = refl
+operates (Binary I64 Add) o = refl
+operates (Binary I64 Sub) o = refl
+operates (Binary I64 Mul) o = refl
+operates (Binary I64 DivS) o = refl
+operates (Binary I64 DivU) o = refl
+operates (Binary I64 RemS) o = refl
+operates (Binary I64 RemU) o = refl
+operates (Binary I64 And) o = refl
+operates (Binary I64 Or) o = refl
+operates (Binary I64 Xor) o = refl
+operates (Binary I64 Shl) o = refl
+operates (Binary I64 ShrS) o = refl
+operates (Binary I64 ShrU) o = refl
+operates (Binary I64 Rotl) o = refl
+operates (Binary I64 Rotr) o = refl
+operates (Convert Wrap) o = refl
+operates (Convert ExtendS) o = refl
+operates (Convert ExtendU) o = refl
+
+as_reads : (p q : Reader Token) (t : Token) (s : Spelling) → p ≡ q → Reads q t s → Reads p t s
+as_reads p q t s e h = subst (λ (r : Reader Token). Reads r t s) (sym e) h
+
+plain_read : (p : Plain) → Reads token (token.Plain p) (plain_is p)
+unfolding instruction control variable memory numeric
+plain_read Unreachable = alone 0x00 _ (λ o c. refl)
+plain_read Nop = alone 0x01 _ (λ o c. refl)
+plain_read (Br l) = before 0x0C _ (listed_index_is l) (λ o. index_read Br l)
+plain_read (BrIf l) = before 0x0D _ (listed_index_is l) (λ o. index_read BrIf l)
+plain_read (BrTable labels last) = before 0x0E _ (listed_vector_is listed_index_is labels then listed_index_is last) (λ o. branches_read labels last)
+plain_read Return = alone 0x0F _ (λ o c. refl)
+plain_read (Call x) = before 0x10 _ (listed_index_is x) (λ o. index_read Call x)
+plain_read (CallIndirect i) = before 0x11 _ (listed_index_is i then exactly (0x00 ∷ [])) (λ o. indirect_read i)
+plain_read Discard = alone 0x1A _ (λ o c. refl)
+plain_read Select = alone 0x1B _ (λ o c. refl)
+plain_read (LocalGet x) = before 0x20 _ (listed_index_is x) (λ o. index_read LocalGet x)
+plain_read (LocalSet x) = before 0x21 _ (listed_index_is x) (λ o. index_read LocalSet x)
+plain_read (LocalTee x) = before 0x22 _ (listed_index_is x) (λ o. index_read LocalTee x)
+plain_read (GlobalGet x) = before 0x23 _ (listed_index_is x) (λ o. index_read GlobalGet x)
+plain_read (GlobalSet x) = before 0x24 _ (listed_index_is x) (λ o. index_read GlobalSet x)
+plain_read (Load op m) = before (load_code op) _ (mem_arg_is m) (λ o. as_reads _ _ _ (mem_arg_is m) (loads op o) (mem_arg_read (access.Load op) m))
+plain_read (Store op m) = before (store_code op) _ (mem_arg_is m) (λ o. as_reads _ _ _ (mem_arg_is m) (stores op o) (mem_arg_read (access.Store op) m))
+plain_read MemorySize = before 0x3F _ (exactly (0x00 ∷ [])) (λ o. zero_read MemorySize)
+plain_read MemoryGrow = before 0x40 _ (exactly (0x00 ∷ [])) (λ o. zero_read MemoryGrow)
+plain_read (Const I32 n) = before 0x41 _ (signed_is I32 n) (λ o. constant_read I32 n)
+plain_read (Const I64 n) = before 0x42 _ (signed_is I64 n) (λ o. constant_read I64 n)
+plain_read (Operate op) = alone (operation_code op) _ (λ o c. ap (λ (r : Reader Token). r c) (operates op o))
+
+pub token_read : (t : Token) → Reads token t (instruction_is t)
+unfolding instruction control
+token_read (token.Plain p) = plain_read p
+token_read (token.Block ty) = before 0x02 _ (block_type_is ty) (λ o. type_read token.Block ty)
+token_read (token.Loop ty) = before 0x03 _ (block_type_is ty) (λ o. type_read token.Loop ty)
+token_read (token.If ty) = before 0x04 _ (block_type_is ty) (λ o. type_read token.If ty)
+token_read token.Else = alone 0x05 _ (λ o c. refl)
+token_read token.End = alone 0x0B _ (λ o c. refl)

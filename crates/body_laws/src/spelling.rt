@@ -1,0 +1,57 @@
+//! The laws of the grammar of bodies: it says which bytes are read whole, and which groups and tokens they are.
+
+ghost use Rattle.std.specs.Prelude.{◌≡◌, ◌↔◌, ◌+◌, ◌-◌, ◌≤◌, ℕ, List, ◌++◌, length, Some, slice_get};
+ghost use Rattle.wasm_defs.specs.declared.operation.Access.TheVariants.{Load, Store};
+ghost use Rattle.wasm_defs.specs.declared.operation.LoadOp.{LoadOp};
+ghost use Rattle.wasm_defs.specs.declared.operation.Operation.{Operation};
+ghost use Rattle.wasm_defs.specs.declared.operation.StoreOp.{StoreOp};
+ghost use Rattle.wasm_defs.specs.declared.token.Token.{Token};
+ghost use Rattle.wasm_defs.specs.Bodies.{body_read, Group, last_of};
+ghost use Rattle.wasm_defs.specs.Codes.{Code, group_is, listed_vector_is, load_code, operation_code, store_code};
+ghost use Rattle.wasm_defs.specs.Opcodes.{accesses, operations};
+ghost use Rattle.wasm_defs.specs.Trees.{Seq, Tree};
+ghost use Rattle.wasm_defs.specs.Faults.{tokens_of, IsModule, Module};
+ghost use Rattle.wasm_defs.specs.Items.{Section};
+ghost use Rattle.wasm_laws.specs.Kept.{LocalsAreFew};
+ghost use Rattle.wasm_laws.specs.Sections.{AreBytes};
+ghost use Rattle.body_laws.specs.Reading.{IsReadAs, IsReadThrough};
+ghost use Rattle.body_laws.specs.Spelled.{IsSpelledModule};
+
+/// The tables of opcodes have a row for each operation, load and store, at its opcode, and no other rows.
+pub fn opcodes_are_rows()
+    ensures operations { (b : ℕ) (op : Operation) → 0x45 ≤ b →
+        (slice_get operations (b - 0x45) ≡ Some (Some op)) ↔ (operation_code op ≡ b) }
+    ensures loads { (b : ℕ) (op : LoadOp) → 0x28 ≤ b →
+        (slice_get accesses (b - 0x28) ≡ Some (Some (Load op))) ↔ (load_code op ≡ b) }
+    ensures stores { (b : ℕ) (op : StoreOp) → 0x28 ≤ b →
+        (slice_get accesses (b - 0x28) ≡ Some (Some (Store op))) ↔ (store_code op ≡ b) }
+{}
+
+/// Bodies are what the grammar spells: of some tokens that nest, bytes are read whole as these groups and tokens, exactly
+/// where they spell them and the locals keep their limit.
+pub fn bodies_are_spelled()
+    ensures { (first : ℕ) (bytes : List ℕ) (groups : List Group) (tokens : List (ℕ × Token)) (tree : Seq) →
+        AreBytes bytes → Tree (tokens_of tokens) tree →
+        IsReadAs groups tokens first bytes ↔ (Code groups tokens first bytes × LocalsAreFew groups) }
+{}
+
+/// The grammar has one reading of any bytes: groups and tokens that spell the same ones are the same.
+pub fn codes_are_one()
+    ensures { (first : ℕ) (bytes : List ℕ) (gs hs : List Group) (ts us : List (ℕ × Token)) →
+        Code gs ts first bytes → Code hs us first bytes → (gs ≡ hs) × (ts ≡ us) }
+{}
+
+/// Of wrong bytes the longest front is read: behind groups of locals that keep their limit, the tokens are those of a front
+/// that they spell, and what follows begins with no token, unless the body is closed before it. There the fault stands.
+pub fn fronts_are_read()
+    ensures { (first : ℕ) (front back : List ℕ) (groups : List Group) →
+        AreBytes (front ++ back) → listed_vector_is group_is groups first front → LocalsAreFew groups →
+        IsReadThrough groups (first + length front) back (last_of first (front ++ back)) (body_read first (front ++ back)) }
+{}
+
+/// A module is what is spelled, its bodies too: the sections keep the grammar and the rules, and the bytes of each body spell
+/// the tokens of its tree, which is typed. What isn't compiled so far doesn't stand in it.
+pub fn modules_have_spelled_bodies()
+    ensures { (bytes : List ℕ) (m : Module) → AreBytes bytes →
+        IsModule bytes m ↔ ((sections : List Section) × IsSpelledModule bytes m sections) }
+{}
