@@ -64,6 +64,11 @@ fn emit_nodes(
     Ok(())
 }
 
+/// Room for the words of so many nodes of most bodies; the words of a large body grow.
+fn room_for(nodes: usize) -> usize {
+    if nodes < 512 { 32 + 8 * nodes } else { 4096 }
+}
+
 /// The code of a function with so many results, from its body's nodes.
 pub fn assemble(
     alloc: Global,
@@ -75,7 +80,7 @@ pub fn assemble(
     ensures { IfOk result (λ code. IsAssembled results (node_tokens nodes.now) judged.now code) }
 {
     let layout = frame_of(judged.shape());
-    let mut words = WordBuffer::new(alloc)?;
+    let mut words = WordBuffer::with_room(alloc, room_for(nodes.len()))?;
     emit_prologue(&mut words, &layout)?;
     emit_nodes(&mut words, &layout, nodes, judged.steps())?;
     emit_return(&mut words, &layout, results)?;

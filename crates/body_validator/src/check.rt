@@ -173,7 +173,7 @@ impl<'a> Check<'a> {
             Err(Stop::NoMemory) => return Err(TokenStop::NoMemory),
         }
         let height_after = self.stack.height();
-        if self.stack.is_live() && self.greatest < height_after {
+        if self.greatest < height_after && self.stack.is_live() {
             self.greatest = height_after;
         }
         Ok(Step {

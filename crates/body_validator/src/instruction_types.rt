@@ -76,7 +76,8 @@ fn are_all_labels(stack: &Stack<'_>, types: &[ValType], indices: &[u32]) -> bool
     true
 }
 
-fn plainly(types: &[ValType]) -> Taken<'_>
+#[inline(always)]
+pub fn plainly(types: &[ValType]) -> Taken<'_>
     ensures { taken_types result ≡ reverse types.now }
 {
     Taken {

@@ -11,6 +11,7 @@ use wasm_defs::ValType;
 /// The type of an operand, where it is known.
 pub type Operand = Option<ValType>;
 
+#[inline(always)]
 fn is_same(t: ValType, u: ValType) -> bool
     ensures { result ≡ is_of (Some t) u }
 {
@@ -38,6 +39,7 @@ pub fn are_same(left: &[ValType], right: &[ValType]) -> bool
     true
 }
 
+#[inline(always)]
 fn is_of_type(operand: Operand, t: ValType) -> bool
     ensures { result ≡ is_of operand t }
 {
@@ -48,6 +50,7 @@ fn is_of_type(operand: Operand, t: ValType) -> bool
 }
 
 /// Whether the topmost operands are of the types; where that is unknown, any others may lie below these.
+#[inline(always)]
 pub fn fits(own: &[Operand], unknown: bool, types: &[ValType]) -> bool
     ensures { result ≡ is_some (take_all unknown (reverse types.now) (reverse own.now)) }
 {
@@ -67,6 +70,7 @@ pub fn fits(own: &[Operand], unknown: bool, types: &[ValType]) -> bool
 }
 
 /// Takes so many operands, or all that lie above the base.
+#[inline(always)]
 pub fn remove(operands: &mut Vec<Operand>, base: usize, count: usize)
     requires { base ≤ vec_len operands.old }
     ensures own { own_of operands.new.items base ≡ drop count (own_of operands.old.items base) }
@@ -84,6 +88,7 @@ pub fn remove(operands: &mut Vec<Operand>, base: usize, count: usize)
 }
 
 /// Puts operands of the types on top, for which there is room.
+#[inline(always)]
 pub fn put_all(operands: &mut Vec<Operand>, types: &[ValType])
     requires { vec_len operands.old + length types.now ≤ vec_capacity operands.old }
     ensures { operands.new.items ≡ operands.old.items ++ map Some types.now }
@@ -104,6 +109,7 @@ pub struct Taken<'a> {
 }
 
 /// How many operands these are.
+#[inline(always)]
 pub fn count_of(types: &[ValType], condition: bool) -> usize
     ensures { result ≡ length (with_condition condition (reverse types.now)) }
 {
@@ -115,6 +121,7 @@ pub fn count_of(types: &[ValType], condition: bool) -> usize
 }
 
 /// Whether an instruction finds what it takes.
+#[inline(always)]
 pub fn finds(own: &[Operand], unknown: bool, taken: Taken<'_>) -> bool
     ensures { result ≡ is_some (take_all unknown (taken_types taken.entry) (reverse own.now)) }
 {
@@ -137,6 +144,7 @@ pub enum Stop {
 }
 
 /// Takes operands from those above the base, and puts others in their place.
+#[inline(always)]
 pub fn exchange(
     operands: &mut Vec<Operand>,
     base: usize,

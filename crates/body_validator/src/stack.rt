@@ -33,6 +33,7 @@ pub struct Frame<'a> {
     pub live: bool,
 }
 
+#[inline(always)]
 fn innermost<'a>(frames: &[Frame<'a>]) -> Option<Frame<'a>>
     ensures { MatchOption result (frames.now ≡ []) (HasLast frames.now) }
 {
@@ -208,6 +209,7 @@ impl<'a> Stack<'a> {
     }
 
     /// Takes operands from the innermost frame, and puts others in their place.
+    #[inline(always)]
     pub fn exchange(&mut self, taken: Taken<'_>, given: &[ValType]) -> Result<(), Stop>
         ensures { Steps (applied (Fixed (taken_types taken.entry) (reverse given.now)) self.old) result
             self.old self.new }

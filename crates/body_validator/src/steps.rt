@@ -1,15 +1,16 @@
 //! One token's step of the open frames.
 
 ghost use Rattle.std.specs.Prelude.{◌≡◌};
-ghost use Rattle.body_validator.specs.Checking.{applied, step, fault_kind};
+ghost use Rattle.body_validator.specs.Checking.{applied, labels, step, fault_kind};
+ghost use Rattle.wasm_defs.specs.Typing.{rule_of};
 ghost use Rattle.body_validator.specs.Exchange.{Steps};
-ghost use Rattle.body_validator.specs.Scopes.{rule_meant, unlabelled, begun};
+ghost use Rattle.body_validator.specs.Scopes.{rule_meant, unlabelled, with_labels, begun};
 
-use crate::instruction_types::{Rule, block_types, rule_for};
+use crate::instruction_types::{Rule, block_types, plainly, rule_for};
 use crate::operands::{Stop, Taken};
 use crate::scope::Scope;
 use crate::stack::{Opening, Stack};
-use wasm_defs::{BlockType, Kind, Token};
+use wasm_defs::{BlockType, Kind, Operation, Plain, Token, ValType};
 
 fn apply<'a>(stack: &mut Stack<'a>, rule: Option<Rule<'a>>) -> Result<(), Stop>
     ensures { Steps (applied (rule_meant rule.entry) stack.old) result stack.old stack.new }
@@ -20,6 +21,35 @@ fn apply<'a>(stack: &mut Stack<'a>, rule: Option<Rule<'a>>) -> Result<(), Stop>
         Some(Rule::Discards) => stack.discard(),
         Some(Rule::Selects) => stack.select(),
         None => Err(Stop::Refused),
+    }
+}
+
+/// Takes one more plain instruction. The commonest have their rules' types here, so that nothing goes over their lists.
+fn take_plain<'a>(scope: &Scope<'a>, stack: &mut Stack<'a>, plain: &Plain) -> Result<(), Stop>
+    ensures { Steps (applied (rule_of (with_labels scope.now (labels stack.old)) plain.now) stack.old) result stack.old stack.new }
+{
+    match plain {
+        Plain::LocalGet(x) => match scope.local(*x) {
+            Some(t) => stack.exchange(plainly(&[]), &[t]),
+            None => Err(Stop::Refused),
+        },
+        Plain::LocalSet(x) => match scope.local(*x) {
+            Some(t) => stack.exchange(plainly(&[t]), &[]),
+            None => Err(Stop::Refused),
+        },
+        Plain::LocalTee(x) => match scope.local(*x) {
+            Some(t) => stack.exchange(plainly(&[t]), &[t]),
+            None => Err(Stop::Refused),
+        },
+        Plain::Const(t, _) => stack.exchange(plainly(&[]), &[*t]),
+        Plain::Operate(Operation::Binary(t, _)) => stack.exchange(plainly(&[*t, *t]), &[*t]),
+        Plain::Operate(Operation::Compare(t, _)) => {
+            stack.exchange(plainly(&[*t, *t]), &[ValType::I32])
+        }
+        _ => {
+            let rule = rule_for(scope, stack, plain);
+            apply(stack, rule)
+        }
     }
 }
 
@@ -47,10 +77,7 @@ pub fn take<'a>(scope: &Scope<'a>, stack: &mut Stack<'a>, token: &Token) -> Resu
     ensures { Steps (step (unlabelled scope.now) token.now stack.old) result stack.old stack.new }
 {
     match token {
-        Token::Plain(plain) => {
-            let rule = rule_for(scope, stack, plain);
-            apply(stack, rule)
-        }
+        Token::Plain(plain) => take_plain(scope, stack, plain),
         Token::Block(block) => begin(scope, stack, Opening::Block, *block, false),
         Token::Loop(block) => begin(scope, stack, Opening::Loop, *block, false),
         Token::If(block) => begin(scope, stack, Opening::If, *block, true),

@@ -11,6 +11,7 @@ pub mod macros;
 mod slots;
 #[cfg(test)]
 mod tests;
+pub mod words;
 
 pub use laws::{
     add_law, const_law, epilogue_law, exhaustion_law, exit_law, local_get_law, prologue_law,

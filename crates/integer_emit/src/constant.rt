@@ -8,7 +8,7 @@ ghost use Rattle.frame_layout.specs.Slots.{operand};
 ghost use Rattle.frame_layout.specs.Templates.{Around, const_words};
 
 use frame_layout::Layout;
-use frame_layout::macros::{const_32, const_64, slot_store};
+use frame_layout::words::{const_32, const_64, slot_store};
 use rv_isa::{Register, WordBuffer};
 use std::alloc::AllocError;
 use wasm_defs::Value;
@@ -36,9 +36,15 @@ pub fn emit_const(
     ensures ok { (w : Around) → w.layout ≡ layout.now → OnOk result (buffer.new ≡ buffer.old ++ map word_of (const_words w height (value_of value).ty (value_of value).number)) }
     ensures err { OnErr result (buffer.new ≡ buffer.old) }
 {
-    let store = slot_store(Register::T0, layout.operand(height));
+    let [x, y, z] = slot_store(Register::T0, layout.operand(height));
     match value {
-        Value::I32(n) => buffer.append_ops(&[&const_32(Register::T0, extended(n)), &store]),
-        Value::I64(n) => buffer.append_ops(&[&const_64(Register::T0, n.cast_unsigned()), &store]),
+        Value::I32(n) => {
+            let [a, b, c, d, e] = const_32(Register::T0, extended(n));
+            buffer.append(&[a, b, c, d, e, x, y, z])
+        }
+        Value::I64(n) => {
+            let [a, b, c, d, e, f, g, h, i, j, k] = const_64(Register::T0, n.cast_unsigned());
+            buffer.append(&[a, b, c, d, e, f, g, h, i, j, k, x, y, z])
+        }
     }
 }

@@ -3,13 +3,20 @@ use Rattle.std.proofs.Common.{◌≡◌, ℕ, ◌+◌, ◌-◌, ◌^◌, ◌<◌
 use Rattle.std.proofs.Common.{to_z, of_z}
 use mir.Syntax.{w128}
 use Rattle.std.proofs.lemmas.Int.{ints}
-use Rattle.std.specs.Prelude.{Bool, ◌↔◌, ◌*ℤ◌, neg_ℤ, ◌≤ℤ◌, ◌<ℤ◌}
-use Rattle.std.proofs.lemmas.Bool.{lt-ltb, le-ltb}
+use Rattle.std.specs.Prelude.{zero, suc, negsuc, true, false, Bool, ◌↔◌, ◌*ℤ◌, neg_ℤ, ◌≤ℤ◌, ◌<ℤ◌}
+use Rattle.std.proofs.Common.{ltb, inl, inr, ◌*◌, ◌%◌}
+use Rattle.std.proofs.lemmas.Bool.{cases_Bool, lt-ltb, le-ltb}
+use Rattle.std.proofs.lemmas.Nat.{pow-add, shl_whole}
+use Rattle.std.proofs.Math.IntN.{zero-*ℤ, suc_ℤ-*ℤ, pos-*ℤ-pos, +ℤ_assoc}
+use Rattle.std.proofs.Math.Nat.{mul-le-mul_left, mul-le-mul_right}
+use Rattle.std.proofs.Math.Pow.{pow_mono}
+use Rattle.std.specs.Prelude.{unsigned_abs, FitsSigned}
+use Rattle.std.proofs.lemmas.Int.{unsigned_abs-mul, fits_signed_from_abs}
 use Rattle.std.proofs.lemmas.List.{drop_more, take-append-drop, length-take, append-nil, get_or-drop}
 use Rattle.leb_feed.specs.declared.number.ReadAt.{ReadAt}
 use Rattle.leb_feed.specs.declared.number.ReadAt.TheVariants as answers
-use Rattle.leb_feed.specs.Answers.{answer}
-use Rattle.wasm_defs.specs.Numbers.{Reading, Number, CutOff, Bad, Means, BeginsWithNumber, IsCutOff, IsNoNumber, IsSmall, number_at}
+use Rattle.leb_feed.specs.Answers.{answer, answer_behind}
+use Rattle.wasm_defs.specs.Numbers.{Reading, Number, CutOff, Bad, Means, BeginsWithNumber, IsCutOff, IsNoNumber, IsSmall, number_at, last_byte, after_byte}
 use Rattle.wasm_defs.proofs.NumberLaws.{AreBytes, reading_means, bytes_from, prefix_free}
 
 -- the number that was answered was read
@@ -28,22 +35,166 @@ answered_small place bits (Number m len) n next e s = let h : n ≡ m = cc in rw
 answered_small place bits CutOff n next e s = absurd cc
 answered_small place bits Bad n next e s = absurd cc
 
--- one byte from 128 on, before a number
-joins : (signed : Bool) (bits place : ℕ) (bytes : List ℕ) (b : ℕ) (n : ℤ) (next len : ℕ) → place < length bytes → b ≡ get_or bytes place 0 → 128 ≤ b → 7 < bits
-    → number_at signed (bits - 7) (drop (place + 1) bytes) ≡ Number n len → next ≡ place + (len + 1)
-    → answers.Number (pos (b - 128) +ℤ (pos 128 *ℤ n)) next ≡ answer place (number_at signed bits (drop place bytes))
-unfolding number_at
-joins signed bits place bytes b n next len lt is ge wide read ends =
-    let cut : drop place bytes ≡ b ∷ drop (place + 1) bytes = rw is (drop_more bytes place 0 lt) in
-    rw (cut, le-ltb b 128 ge, lt-ltb 7 bits wide, read, ends) refl
+-- ---- one byte alone
 
--- the same, by what was answered of the rest
-pub goes_on : (signed : Bool) (bits place : ℕ) (bytes : List ℕ) (b : ℕ) (n : ℤ) (next : ℕ) → place < length bytes → b ≡ get_or bytes place 0 → 128 ≤ b → 7 < bits
-    → answers.Number n next ≡ answer (place + 1) (number_at signed (bits - 7) (drop (place + 1) bytes))
-    → answers.Number (pos (b - 128) +ℤ (pos 128 *ℤ n)) next ≡ answer place (number_at signed bits (drop place bytes))
-goes_on signed bits place bytes b n next lt is ge wide e =
-    let w = was_read (place + 1) (number_at signed (bits - 7) (drop (place + 1) bytes)) n next e in
-    joins signed bits place bytes b n next w.len lt is ge wide w.read (omega (arith, w.ends))
+pub small_byte : (signed : Bool) (bits place : ℕ) (bytes : List ℕ) (b : ℕ) → place < length bytes → b ≡ get_or bytes place 0 → b < 64 → 7 ≤ bits
+    → answers.Number (pos b) (place + 1) ≡ answer place (number_at signed bits (drop place bytes))
+unfolding number_at
+small_byte false bits place bytes b lt is low wide =
+    let cut : drop place bytes ≡ b ∷ drop (place + 1) bytes = rw is (drop_more bytes place 0 lt) in
+    let p : 2 ^ 7 ≤ 2 ^ bits = pow_mono wide in
+    let below : b < 128 = omega arith in
+    let fits : b < 2 ^ bits = omega (arith, p) in
+    rw (cut, lt-ltb b 128 below, lt-ltb b (2 ^ bits) fits) refl
+small_byte true bits place bytes b lt is low wide =
+    let cut : drop place bytes ≡ b ∷ drop (place + 1) bytes = rw is (drop_more bytes place 0 lt) in
+    let fewer : 6 ≤ bits - 1 = omega arith in
+    let p : 2 ^ 6 ≤ 2 ^ (bits - 1) = pow_mono fewer in
+    let below : b < 128 = omega arith in
+    let fits : b < 2 ^ (bits - 1) = omega (arith, p) in
+    rw (cut, lt-ltb b 128 below, lt-ltb b 64 low, lt-ltb b (2 ^ (bits - 1)) fits) refl
+
+-- ---- bytes behind others, which come to a number below 2 ^ k
+
+adds : (a b : ℕ) (n : ℤ) → pos (a + b) *ℤ n ≡ (pos a *ℤ n) +ℤ (pos b *ℤ n)
+adds zero b n = let e : pos zero *ℤ n ≡ pos zero = zero-*ℤ n in omega (arith, ints, e)
+adds (suc a) b n =
+    let e : pos (suc (a + b)) *ℤ n ≡ (pos (a + b) *ℤ n) +ℤ n = suc_ℤ-*ℤ (pos (a + b)) n in
+    let f : pos (suc a) *ℤ n ≡ (pos a *ℤ n) +ℤ n = suc_ℤ-*ℤ (pos a) n in
+    let g = adds a b n in
+    let h : suc a + b ≡ suc (a + b) = omega arith in
+    ap (λ (k : ℕ). pos k *ℤ n) h ∙ omega (arith, ints, e, f, g)
+
+spreads : (s : ℕ) (x y : ℤ) → pos s *ℤ (x +ℤ y) ≡ (pos s *ℤ x) +ℤ (pos s *ℤ y)
+spreads zero x y =
+    let e : pos zero *ℤ (x +ℤ y) ≡ pos zero = zero-*ℤ (x +ℤ y) in
+    let f : pos zero *ℤ x ≡ pos zero = zero-*ℤ x in
+    let g : pos zero *ℤ y ≡ pos zero = zero-*ℤ y in
+    omega (arith, ints, e, f, g)
+spreads (suc s) x y =
+    let e : pos (suc s) *ℤ (x +ℤ y) ≡ (pos s *ℤ (x +ℤ y)) +ℤ (x +ℤ y) = suc_ℤ-*ℤ (pos s) (x +ℤ y) in
+    let f : pos (suc s) *ℤ x ≡ (pos s *ℤ x) +ℤ x = suc_ℤ-*ℤ (pos s) x in
+    let g : pos (suc s) *ℤ y ≡ (pos s *ℤ y) +ℤ y = suc_ℤ-*ℤ (pos s) y in
+    let h = spreads s x y in
+    omega (arith, ints, e, f, g, h)
+
+scaled : (s : ℕ) (n : ℤ) → pos (s * 128) *ℤ n ≡ pos s *ℤ (pos 128 *ℤ n)
+scaled zero n = zero-*ℤ n ∙ sym (zero-*ℤ (pos 128 *ℤ n))
+scaled (suc s) n =
+    let h : suc s * 128 ≡ s * 128 + 128 = omega arith in
+    let e = adds (s * 128) 128 n in
+    let f : pos (suc s) *ℤ (pos 128 *ℤ n) ≡ (pos s *ℤ (pos 128 *ℤ n)) +ℤ (pos 128 *ℤ n) = suc_ℤ-*ℤ (pos s) (pos 128 *ℤ n) in
+    ap (λ (k : ℕ). pos k *ℤ n) h ∙ e ∙ ap (λ (z : ℤ). z +ℤ (pos 128 *ℤ n)) (scaled s n) ∙ sym f
+
+sums : (low a scale : ℕ) (n : ℤ) → pos (low + a * scale) +ℤ (pos (scale * 128) *ℤ n) ≡ pos low +ℤ (pos scale *ℤ (pos a +ℤ (pos 128 *ℤ n)))
+sums low a scale n =
+    let tail = pos scale *ℤ (pos 128 *ℤ n) in
+    let e : pos (low + a * scale) ≡ pos low +ℤ pos (scale * a) = omega (arith, ints) in
+    let f : pos scale *ℤ (pos a +ℤ (pos 128 *ℤ n)) ≡ pos (scale * a) +ℤ tail = spreads scale (pos a) (pos 128 *ℤ n) ∙ ap (λ (z : ℤ). z +ℤ tail) (pos-*ℤ-pos scale a) in
+    ap (λ (z : ℤ). z +ℤ (pos (scale * 128) *ℤ n)) e ∙ ap (λ (z : ℤ). (pos low +ℤ pos (scale * a)) +ℤ z) (scaled scale n) ∙ +ℤ_assoc (pos low) (pos (scale * a)) tail ∙ ap (λ (z : ℤ). pos low +ℤ z) (sym f)
+
+behind_byte : (low b scale place : ℕ) (r : Reading) → answer_behind (low + (b - 128) * scale) (scale * 128) (place + 1) r ≡ answer_behind low scale place (after_byte b r)
+behind_byte low b scale place (Number n len) =
+    let ends : place + 1 + len ≡ place + (len + 1) = omega arith in
+    rw (sums low (b - 128) scale n, ends) refl
+behind_byte low b scale place CutOff = refl
+behind_byte low b scale place Bad = refl
+
+pub goes_on : (signed : Bool) (bits place low k : ℕ) (bytes : List ℕ) (b : ℕ) → place < length bytes → b ≡ get_or bytes place 0 → 128 ≤ b → 7 < bits
+    → answer_behind (low + (b - 128) * 2 ^ k) (2 ^ (k + 7)) (place + 1) (number_at signed (bits - 7) (drop (place + 1) bytes))
+    ≡ answer_behind low (2 ^ k) place (number_at signed bits (drop place bytes))
+unfolding number_at
+goes_on signed bits place low k bytes b lt is ge wide =
+    let cut : drop place bytes ≡ b ∷ drop (place + 1) bytes = rw is (drop_more bytes place 0 lt) in
+    rw (cut, le-ltb b 128 ge, lt-ltb 7 bits wide, pow-add 2 k 7) (behind_byte low b (2 ^ k) place (number_at signed (bits - 7) (drop (place + 1) bytes)))
+
+pub ends_with : (signed : Bool) (bits place low k : ℕ) (bytes : List ℕ) (b : ℕ) (n : ℤ) (next : ℕ) → place < length bytes → b ≡ get_or bytes place 0 → b < 128
+    → answers.Number n next ≡ answer place (last_byte signed bits b)
+    → answers.Number (pos low +ℤ (pos (2 ^ k) *ℤ n)) next ≡ answer_behind low (2 ^ k) place (number_at signed bits (drop place bytes))
+unfolding number_at
+ends_with signed bits place low k bytes b n next lt is below e =
+    let cut : drop place bytes ≡ b ∷ drop (place + 1) bytes = rw is (drop_more bytes place 0 lt) in
+    let w = was_read place (last_byte signed bits b) n next e in
+    rw (cut, lt-ltb b 128 below, w.read) (ap (λ (i : ℕ). answers.Number (pos low +ℤ (pos (2 ^ k) *ℤ n)) i) w.ends)
+
+-- a last byte's number is near zero
+pub near : (signed : Bool) (bits b place : ℕ) (n : ℤ) (next : ℕ) → b < 128 → answers.Number n next ≡ answer place (last_byte signed bits b) → unsigned_abs n ≤ 128
+near false bits b place n next lt e =
+    elim (cases_Bool (ltb b (2 ^ bits))) [
+      | inl h ↦ let t = rw h at e in let is : n ≡ pos b = cc in rw is (omega arith)
+      | inr h ↦ absurd (let t = rw h at e in cc)
+    ]
+near true bits b place n next lt e =
+    elim (cases_Bool (ltb b 64)) [
+      | inl low ↦ let t = rw low at e in elim (cases_Bool (ltb b (2 ^ (bits - 1)))) [
+        | inl h ↦ let u = rw h at t in let is : n ≡ pos b = cc in rw is (omega arith)
+        | inr h ↦ absurd (let u = rw h at t in cc)
+      ]
+      | inr high ↦ let t = rw high at e in elim (cases_Bool (ltb (b + 2 ^ (bits - 1)) 128)) [
+        | inl h ↦ absurd (let u = rw h at t in cc)
+        | inr h ↦ let u = rw h at t in let is : n ≡ negsuc (127 - b) = cc in rw is (omega arith)
+      ]
+    ]
+
+pub more_bits : (b k : ℕ) → 128 ≤ b → b < 256 → 7 + k ≤ 64 → ((b - 128) * 2 ^ k) % 2 ^ 64 ≡ (b - 128) * 2 ^ k
+more_bits b k ge lt few = shl_whole (b - 128) 7 k 64 (omega arith) few
+
+pub more_below : (low b k : ℕ) → low < 2 ^ k → 128 ≤ b → b < 256 → low + (b - 128) * 2 ^ k < 2 ^ (k + 7)
+more_below low b k small ge lt =
+    let p : 2 ^ (k + 7) ≡ 2 ^ k * 128 = pow-add 2 k 7 in
+    let most : b - 128 ≤ 127 = omega arith in
+    let m : (b - 128) * 2 ^ k ≤ 127 * 2 ^ k = mul-le-mul_right (2 ^ k) most in
+    omega (arith, p, m, small)
+
+-- ---- what the code computes, which fits
+
+kept : (z : ℤ) → unsigned_abs z ≤ 2 ^ 70 → to_z w128 (of_z w128 z) ≡ z
+kept z h = omega (arith, ints, h)
+
+scaled_near : (k : ℕ) (n : ℤ) → k < 64 → unsigned_abs n ≤ 128 → unsigned_abs (pos (2 ^ k) *ℤ n) ≤ 2 ^ 70
+scaled_near k n few close =
+    let fewer : k ≤ 63 = omega arith in
+    let q : 2 ^ k ≤ 2 ^ 63 = pow_mono fewer in
+    let m : unsigned_abs (pos (2 ^ k) *ℤ n) ≡ 2 ^ k * unsigned_abs n = unsigned_abs-mul (pos (2 ^ k)) n in
+    let most : 2 ^ k * unsigned_abs n ≤ 2 ^ k * 128 = mul-le-mul_left (2 ^ k) close in
+    omega (arith, m, most, q)
+
+scale_kept : (scale : ℤ) (k : ℕ) → scale ≡ pos (2 ^ k) → k < 64 → to_z w128 (of_z w128 scale) ≡ pos (2 ^ k)
+scale_kept scale k times few =
+    let fewer : k ≤ 63 = omega arith in
+    let q : 2 ^ k ≤ 2 ^ 63 = pow_mono fewer in
+    omega (arith, ints, q, times)
+
+low_kept : (low : ℤ) (l : ℕ) → low ≡ pos l → l < 2 ^ 64 → to_z w128 (of_z w128 low) ≡ pos l
+low_kept low l is small = omega (arith, ints, is, small)
+
+pub product_fits : (scale : ℤ) (k : ℕ) (n : ℤ) → scale ≡ pos (2 ^ k) → k < 64 → unsigned_abs n ≤ 128
+    → FitsSigned w128 (to_z w128 (of_z w128 scale) *ℤ to_z w128 (of_z w128 n))
+product_fits scale k n times few close =
+    let two : to_z w128 (of_z w128 n) ≡ n = kept n (omega (arith, close)) in
+    let bound = scaled_near k n few close in
+    rw (scale_kept scale k times few, two) (fits_signed_from_abs w128 (pos (2 ^ k) *ℤ n) (omega (arith, bound)))
+
+pub sum_fits : (low scale : ℤ) (l k : ℕ) (n : ℤ) → low ≡ pos l → scale ≡ pos (2 ^ k) → l < 2 ^ 64 → k < 64 → unsigned_abs n ≤ 128
+    → FitsSigned w128 (to_z w128 (of_z w128 low) +ℤ to_z w128 (of_z w128 (to_z w128 (of_z w128 scale) *ℤ to_z w128 (of_z w128 n))))
+sum_fits low scale l k n is times small few close =
+    let two : to_z w128 (of_z w128 n) ≡ n = kept n (omega (arith, close)) in
+    let bound = scaled_near k n few close in
+    rw (scale_kept scale k times few, two, low_kept low l is small, kept (pos (2 ^ k) *ℤ n) bound)
+    (fits_signed_from_abs w128 (pos l +ℤ (pos (2 ^ k) *ℤ n)) (sum_near (pos (2 ^ k) *ℤ n) l bound small))
+  where
+    sum_near : (z : ℤ) (l : ℕ) → unsigned_abs z ≤ 2 ^ 70 → l < 2 ^ 64 → unsigned_abs (pos l +ℤ z) < 2 ^ 127
+    sum_near z l h g = omega (arith, ints, h, g)
+
+pub joined : (low scale : ℤ) (l k : ℕ) (n : ℤ) → low ≡ pos l → scale ≡ pos (2 ^ k) → l < 2 ^ 64 → k < 64 → unsigned_abs n ≤ 128
+    → to_z w128 (of_z w128 (to_z w128 (of_z w128 low) +ℤ to_z w128 (of_z w128 (to_z w128 (of_z w128 scale) *ℤ to_z w128 (of_z w128 n))))) ≡ pos l +ℤ (pos (2 ^ k) *ℤ n)
+joined low scale l k n is times small few close =
+    let two : to_z w128 (of_z w128 n) ≡ n = kept n (omega (arith, close)) in
+    let bound = scaled_near k n few close in
+    rw (scale_kept scale k times few, two, low_kept low l is small) (whole (pos (2 ^ k) *ℤ n) l bound small)
+  where
+    whole : (z : ℤ) (l : ℕ) → unsigned_abs z ≤ 2 ^ 70 → l < 2 ^ 64 → to_z w128 (of_z w128 (pos l +ℤ to_z w128 (of_z w128 z))) ≡ pos l +ℤ z
+    whole z l h g = let k = kept z h in rw k (omega (arith, ints, h, g))
 
 abbrev pub HasNumber : Bool → ℕ → ℕ → List ℕ → ℤ → ℕ → Type 0
 HasNumber signed bits place bytes n next = (len : ℕ) × (next ≡ place + len) × BeginsWithNumber signed bits bytes n len
@@ -93,8 +244,3 @@ module _ (signed : Bool) (bits place : ℕ) (bytes : List ℕ) where
 
 pub bytes_after : (place : ℕ) (bytes : List ℕ) → ((i : ℕ) → get_or bytes i 0 < 256) → AreBytes (drop place bytes)
 bytes_after place bytes h = bytes_from (drop place bytes) (λ i. rw get_or-drop (h (place + i)))
-
--- what the code computes, which fits
-pub joined : (low : ℤ) (b : ℕ) (high : ℤ) → low ≡ pos b → b < 128 → neg_ℤ (pos (2 ^ 57)) ≤ℤ high → high ≤ℤ pos (2 ^ 57)
-    → to_z w128 (of_z w128 (to_z w128 (of_z w128 low) +ℤ to_z w128 (of_z w128 (pos 128 *ℤ to_z w128 (of_z w128 high))))) ≡ pos b +ℤ (pos 128 *ℤ high)
-joined low b high is lt least most = omega (arith, ints)

@@ -1,5 +1,5 @@
 -- What a reading of a slice is told as.
-use Rattle.std.specs.Prelude.{ℕ, ◌+◌}
+use Rattle.std.specs.Prelude.{ℕ, ◌+◌, pos, ◌+ℤ◌, ◌*ℤ◌}
 use Rattle.leb_feed.specs.declared.number.ReadAt.{ReadAt}
 use Rattle.leb_feed.specs.declared.number.ReadAt.TheVariants as answers
 use Rattle.wasm_defs.specs.Numbers.{Reading, Number, CutOff, Bad}
@@ -9,3 +9,9 @@ abbrev pub answer : ℕ → Reading → ReadAt
 answer place (Number n len) = answers.Number n (place + len)
 answer place CutOff = answers.CutOff
 answer place Bad = answers.Bad
+
+-- the same where the bytes before that place come to `low`, and what stands there counts so many times
+abbrev pub answer_behind : (low scale : ℕ) → ℕ → Reading → ReadAt
+answer_behind low scale place (Number n len) = answers.Number (pos low +ℤ (pos scale *ℤ n)) (place + len)
+answer_behind low scale place CutOff = answers.CutOff
+answer_behind low scale place Bad = answers.Bad

@@ -65,6 +65,7 @@ impl<'a> Fields<'a> {
     }
 
     /// The offset of the next byte.
+    #[inline(always)]
     pub fn offset(&self) -> u64
         ensures { result ≡ self.now.at }
     {
@@ -95,6 +96,7 @@ impl<'a> Fields<'a> {
     }
 
     /// How many bytes the section has left.
+    #[inline(always)]
     pub fn room(&self) -> u64
         ensures { result ≡ room_of self.now }
     {
@@ -102,6 +104,7 @@ impl<'a> Fields<'a> {
     }
 
     /// The bytes that aren't read yet, those behind the section's end too.
+    #[inline(always)]
     pub fn rest(&self) -> &'a [u8]
         ensures { result.now ≡ self.now.rest }
     {
@@ -109,6 +112,7 @@ impl<'a> Fields<'a> {
     }
 
     /// The bytes of the section that are there.
+    #[inline(always)]
     fn window(&self) -> &'a [u8]
         ensures { result.now ≡ window self.now }
     {
@@ -120,6 +124,7 @@ impl<'a> Fields<'a> {
         &rest[..room as usize]
     }
 
+    #[inline(always)]
     fn advance(&mut self, len: usize)
         requires { len ≤ length (window self.old) }
         ensures { self.new ≡ past self.old len }
@@ -128,6 +133,7 @@ impl<'a> Fields<'a> {
     }
 
     /// The stop that a fault is.
+    #[inline(always)]
     pub fn refused(kind: Kind, offset: u64) -> Stop
         ensures { result ≡ Stop.Refused (record { offset = offset; kind = kind }) }
     {
@@ -146,6 +152,7 @@ impl<'a> Fields<'a> {
     }
 
     /// One byte.
+    #[inline(always)]
     #[tactic(auto, unfolding(wasm_defs::specs::Fields::byte))]
     pub fn byte(&mut self) -> Result<(u64, u8), Stop>
         ensures { Reads byte (λ n. n) result self.old self.new }
@@ -162,6 +169,7 @@ impl<'a> Fields<'a> {
     }
 
     /// A LEB128 number of so many bits (Core 5.2.2).
+    #[inline]
     #[tactic(auto, unfolding(wasm_defs::specs::Fields::number))]
     pub fn number(&mut self, signed: bool, bits: u32) -> Result<(u64, i128), Stop>
         requires some_bits { 1 ≤ bits }
@@ -181,6 +189,7 @@ impl<'a> Fields<'a> {
     }
 
     /// An unsigned number of 32 bits.
+    #[inline]
     #[tactic(auto, unfolding(wasm_defs::specs::Fields::u32))]
     pub fn u32(&mut self) -> Result<(u64, u32), Stop>
         ensures { Reads u32 (λ n. n) result self.old self.new }
@@ -190,6 +199,7 @@ impl<'a> Fields<'a> {
     }
 
     /// A signed number of 32 or 64 bits.
+    #[inline]
     pub fn signed(&mut self, bits: u32) -> Result<(u64, i64), Stop>
         requires some_bits { 1 ≤ bits }
         requires few_bits { bits ≤ 64 }

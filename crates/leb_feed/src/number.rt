@@ -16,6 +16,7 @@ pub enum ReadAt {
 }
 
 /// The number of 1 to 64 bits at a place of a slice, signed or unsigned.
+#[inline(always)]
 pub fn read_at(bytes: &[u8], place: usize, bits: u32, signed: bool) -> ReadAt
     requires some_bits { 1 ≤ bits }
     requires few_bits { bits ≤ 64 }
@@ -29,26 +30,55 @@ pub fn read_at(bytes: &[u8], place: usize, bits: u32, signed: bool) -> ReadAt
     number_from(bytes, place, bits, signed)
 }
 
-#[tactic(auto, unfolding(wasm_defs::specs::Numbers::number_at))]
+/// Most numbers have one byte.
+#[inline(always)]
 fn number_from(bytes: &[u8], place: usize, bits: u32, signed: bool) -> ReadAt
+    requires some_bits { 1 ≤ bits }
     requires few_bits { bits ≤ 64 }
     requires inside { place ≤ length bytes.now }
     ensures exact { result ≡ answer place (number_at signed bits (drop place bytes.now)) }
 {
-    if place == bytes.len() {
-        return ReadAt::CutOff;
+    if 7 <= bits && place < bytes.len() {
+        let byte = bytes[place];
+        if byte < 64 {
+            return ReadAt::Number(i128::from(byte), place + 1);
+        }
     }
-    let byte = bytes[place];
-    if byte < 128 {
-        return last_byte(byte, place + 1, bits, signed);
+    number_of_bytes(bytes, place, bits, signed)
+}
+
+/// The bytes so far come to `low`, which has `low_bits` bits.
+#[tactic(auto, unfolding(wasm_defs::specs::Numbers::number_at))]
+fn number_of_bytes(bytes: &[u8], place: usize, bits: u32, signed: bool) -> ReadAt
+    requires some_bits { 1 ≤ bits }
+    requires few_bits { bits ≤ 64 }
+    requires inside { place ≤ length bytes.now }
+    ensures exact { result ≡ answer place (number_at signed bits (drop place bytes.now)) }
+{
+    let mut at = place;
+    let mut left = bits;
+    let mut low_bits: u32 = 0;
+    let mut low: u64 = 0;
+    while at < bytes.len() {
+        let byte = bytes[at];
+        if byte < 128 {
+            return match last_byte(byte, at + 1, left, signed) {
+                ReadAt::Number(high, next) => {
+                    let scale = i128::from(1u64 << low_bits);
+                    ReadAt::Number(i128::from(low) + scale * high, next)
+                }
+                other => other,
+            };
+        }
+        if left <= 7 {
+            return ReadAt::Bad;
+        }
+        low += u64::from(byte - 128) << low_bits;
+        at += 1;
+        left -= 7;
+        low_bits += 7;
     }
-    if bits <= 7 {
-        return ReadAt::Bad;
-    }
-    match number_from(bytes, place + 1, bits - 7, signed) {
-        ReadAt::Number(high, next) => { ReadAt::Number(i128::from(byte - 128) + 128 * high, next) }
-        other => other,
-    }
+    ReadAt::CutOff
 }
 
 // A byte below 128, after which the number ends.

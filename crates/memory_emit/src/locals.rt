@@ -6,7 +6,7 @@ ghost use Rattle.frame_layout.specs.Slots.{operand};
 ghost use Rattle.frame_layout.specs.Templates.{Around, local_get_words, local_set_words};
 
 use frame_layout::Layout;
-use frame_layout::macros::{slot_load, slot_store};
+use frame_layout::words::{slot_load, slot_store};
 use rv_isa::{Register, WordBuffer};
 use std::alloc::AllocError;
 
@@ -21,10 +21,9 @@ pub fn emit_local_get(
     ensures ok { (w : Around) → w.layout ≡ layout.now → OnOk result (buffer.new ≡ buffer.old ++ map word_of (local_get_words w height index)) }
     ensures err { OnErr result (buffer.new ≡ buffer.old) }
 {
-    buffer.append_ops(&[
-        &slot_load(Register::T0, layout.local(index)),
-        &slot_store(Register::T0, layout.operand(height)),
-    ])
+    let [a, b, c] = slot_load(Register::T0, layout.local(index));
+    let [x, y, z] = slot_store(Register::T0, layout.operand(height));
+    buffer.append(&[a, b, c, x, y, z])
 }
 
 /// Appends the words of `local.set`, which takes the topmost of so many operands, or none for want of memory.
@@ -39,10 +38,9 @@ pub fn emit_local_set(
     ensures ok { (w : Around) → w.layout ≡ layout.now → OnOk result (buffer.new ≡ buffer.old ++ map word_of (local_set_words w height index)) }
     ensures err { OnErr result (buffer.new ≡ buffer.old) }
 {
-    buffer.append_ops(&[
-        &slot_load(Register::T0, layout.operand(height - 1)),
-        &slot_store(Register::T0, layout.local(index)),
-    ])
+    let [a, b, c] = slot_load(Register::T0, layout.operand(height - 1));
+    let [x, y, z] = slot_store(Register::T0, layout.local(index));
+    buffer.append(&[a, b, c, x, y, z])
 }
 
 /// Appends the words of `local.tee`, or none for want of memory: those of `local.set`, since the operand stays where it is.

@@ -6,8 +6,8 @@ ghost use Rattle.frame_layout.specs.Slots.{operand};
 ghost use Rattle.frame_layout.specs.Templates.{Around, select_words};
 
 use frame_layout::Layout;
-use frame_layout::macros::{branch, slot_load, slot_store};
-use rv_isa::{BranchOp, Register, WordBuffer};
+use frame_layout::words::{slot_load, slot_store};
+use rv_isa::{BranchOp, Imm12, Register, WordBuffer, encode_branch};
 use std::alloc::AllocError;
 
 /// Appends the words of `select`, or none for want of memory. Of the three topmost operands the topmost is the condition: where
@@ -18,10 +18,9 @@ pub fn emit_select(buffer: &mut WordBuffer, layout: &Layout, height: u32) -> Res
     ensures ok { (w : Around) → w.layout ≡ layout.now → OnOk result (buffer.new ≡ buffer.old ++ map word_of (select_words w height)) }
     ensures err { OnErr result (buffer.new ≡ buffer.old) }
 {
-    buffer.append_ops(&[
-        &slot_load(Register::T0, layout.operand(height - 1)),
-        &[branch(BranchOp::Bne, Register::T0, Register::ZERO, 28)],
-        &slot_load(Register::T0, layout.operand(height - 2)),
-        &slot_store(Register::T0, layout.operand(height - 3)),
-    ])
+    let [a, b, c] = slot_load(Register::T0, layout.operand(height - 1));
+    let over = encode_branch(BranchOp::Bne, Register::T0, Register::ZERO, Imm12::new(14));
+    let [d, e, f] = slot_load(Register::T0, layout.operand(height - 2));
+    let [x, y, z] = slot_store(Register::T0, layout.operand(height - 3));
+    buffer.append(&[a, b, c, over, d, e, f, x, y, z])
 }

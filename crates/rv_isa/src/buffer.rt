@@ -50,6 +50,15 @@ impl WordBuffer {
         })
     }
 
+    /// A buffer with no words, and room for so many. More may be appended.
+    pub fn with_room(alloc: Global, words: usize) -> Result<Self, AllocError>
+        ensures { IfOk result (λ b. b ≡ []) }
+    {
+        Ok(WordBuffer {
+            words: Vec::with_capacity(alloc, words)?,
+        })
+    }
+
     /// The place of the word that is appended next: the number of words.
     pub fn place(&self) -> usize
         ensures { result ≡ length self.now }
@@ -67,6 +76,7 @@ impl WordBuffer {
     }
 
     /// Appends some words, or none of them.
+    #[inline]
     pub fn append(&mut self, words: &[u32]) -> Result<(), AllocError>
         ensures ok { OnOk result (self.new ≡ self.old ++ words.now) }
         ensures err { OnErr result (self.new ≡ self.old) }
@@ -87,6 +97,27 @@ impl WordBuffer {
             }
         }
         Ok(())
+    }
+
+    /// Appends some words, those of operations, and more words, or none of them.
+    pub fn append_around(
+        &mut self,
+        front: &[u32],
+        ops: &[Op],
+        back: &[u32],
+    ) -> Result<(), AllocError>
+        ensures ok { OnOk result (self.new ≡ self.old ++ (front.now ++ (map word_of ops.now ++ back.now))) }
+        ensures err { OnErr result (self.new ≡ self.old) }
+    {
+        let start = self.words.len();
+        self.words.extend_from_slice(front)?;
+        let is_whole = encode_all(&mut self.words, ops)
+            && self.words.extend_from_slice(back).is_ok();
+        if is_whole {
+            return Ok(());
+        }
+        self.words.truncate(start);
+        Err(AllocError)
     }
 
     /// Replaces the word at a place.

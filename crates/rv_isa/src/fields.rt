@@ -44,6 +44,7 @@ impl Register {
     pub const T3: Self = Register { bits: 28 };
 
     /// The register of this number.
+    #[inline(always)]
     pub const fn new(bits: u8) -> Self
         requires { bits < 2 ^ 5 }
         ensures { result ≡ bits }
@@ -52,6 +53,7 @@ impl Register {
     }
 
     /// The number of the register.
+    #[inline(always)]
     pub const fn bits(self) -> u8
         ensures value { result ≡ self }
         ensures small { result < 2 ^ 5 }
@@ -81,6 +83,7 @@ impl Model for Imm12 {
 
 impl Imm12 {
     /// The immediate of these bits.
+    #[inline(always)]
     pub const fn new(bits: u16) -> Self
         requires { bits < 2 ^ 12 }
         ensures { result ≡ bits }
@@ -89,6 +92,7 @@ impl Imm12 {
     }
 
     /// The bits of the immediate.
+    #[inline(always)]
     pub const fn bits(self) -> u16
         ensures value { result ≡ self }
         ensures small { result < 2 ^ 12 }
@@ -118,6 +122,7 @@ impl Model for Imm20 {
 
 impl Imm20 {
     /// The immediate of these bits.
+    #[inline(always)]
     pub const fn new(bits: u32) -> Self
         requires { bits < 2 ^ 20 }
         ensures { result ≡ bits }
@@ -126,6 +131,7 @@ impl Imm20 {
     }
 
     /// The bits of the immediate.
+    #[inline(always)]
     pub const fn bits(self) -> u32
         ensures value { result ≡ self }
         ensures small { result < 2 ^ 20 }
@@ -154,6 +160,7 @@ impl Model for Shamt6 {
 
 impl Shamt6 {
     /// The amount of these bits.
+    #[inline(always)]
     pub const fn new(bits: u8) -> Self
         requires { bits < 2 ^ 6 }
         ensures { result ≡ bits }
@@ -162,6 +169,7 @@ impl Shamt6 {
     }
 
     /// The bits of the amount.
+    #[inline(always)]
     pub const fn bits(self) -> u8
         ensures value { result ≡ self }
         ensures small { result < 2 ^ 6 }
@@ -190,6 +198,7 @@ impl Model for Shamt5 {
 
 impl Shamt5 {
     /// The amount of these bits.
+    #[inline(always)]
     pub const fn new(bits: u8) -> Self
         requires { bits < 2 ^ 5 }
         ensures { result ≡ bits }
@@ -198,6 +207,7 @@ impl Shamt5 {
     }
 
     /// The bits of the amount.
+    #[inline(always)]
     pub const fn bits(self) -> u8
         ensures value { result ≡ self }
         ensures small { result < 2 ^ 5 }

@@ -65,6 +65,7 @@ impl Opcode {
     ];
 
     /// The opcode's bits.
+    #[inline(always)]
     pub(crate) fn bits(self) -> u32
         ensures value { result ≡ opcode_bits self }
         ensures small { result < 2 ^ 7 }
@@ -99,6 +100,7 @@ impl Opcode {
 }
 
 /// funct7 and funct3 as one number.
+#[inline(always)]
 fn funct(funct7: u32, funct3: u32) -> u32
     requires funct7_fits { funct7 < 2 ^ 7 }
     requires funct3_fits { funct3 < 2 ^ 3 }
@@ -118,6 +120,7 @@ impl BranchOp {
     ];
 
     /// funct3 of the instruction.
+    #[inline(always)]
     pub(crate) fn funct3(self) -> u32
         ensures value { result ≡ branch_funct3 self }
         ensures small { result < 2 ^ 3 }
@@ -156,6 +159,7 @@ impl LoadOp {
     ];
 
     /// funct3 of the instruction.
+    #[inline(always)]
     pub(crate) fn funct3(self) -> u32
         ensures value { result ≡ load_funct3 self }
         ensures small { result < 2 ^ 3 }
@@ -184,6 +188,7 @@ impl StoreOp {
     const ALL: [StoreOp; 4] = [StoreOp::Sb, StoreOp::Sh, StoreOp::Sw, StoreOp::Sd];
 
     /// funct3 of the instruction.
+    #[inline(always)]
     pub(crate) fn funct3(self) -> u32
         ensures value { result ≡ store_funct3 self }
         ensures small { result < 2 ^ 3 }
@@ -219,6 +224,7 @@ impl ImmOp {
     ];
 
     /// funct3 of the instruction.
+    #[inline(always)]
     pub(crate) fn funct3(self) -> u32
         ensures value { result ≡ imm_funct3 self }
         ensures small { result < 2 ^ 3 }
@@ -270,6 +276,7 @@ impl ShiftOpW {
     const ALL: [ShiftOpW; 3] = [ShiftOpW::Slliw, ShiftOpW::Srliw, ShiftOpW::Sraiw];
 
     /// funct7 and funct3 of the instruction.
+    #[inline(always)]
     pub(crate) fn funct(self) -> u32
         ensures value { result ≡ shift_w_funct self }
         ensures small { result < 2 ^ 9 }
@@ -313,6 +320,7 @@ impl RegOp {
     ];
 
     /// funct7 and funct3 of the instruction.
+    #[inline(always)]
     pub(crate) fn funct(self) -> u32
         ensures value { result ≡ reg_funct self }
         ensures small { result < 2 ^ 10 }
@@ -363,6 +371,7 @@ impl RegOpW {
     ];
 
     /// funct7 and funct3 of the instruction.
+    #[inline(always)]
     pub(crate) fn funct(self) -> u32
         ensures value { result ≡ reg_w_funct self }
         ensures small { result < 2 ^ 10 }

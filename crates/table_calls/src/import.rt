@@ -6,8 +6,8 @@ ghost use Rattle.frame_layout.specs.Templates.{import_stub};
 
 use crate::returning::jump_back;
 use crate::room::room;
-use frame_layout::macros::{const_32, imm};
-use rv_isa::{ImmOp, Op, Register, WordBuffer};
+use frame_layout::words::const_32;
+use rv_isa::{Imm12, ImmOp, Register, WordBuffer, encode_ecall, encode_imm};
 use std::alloc::AllocError;
 
 /// Appends the words that stand for an imported function, or none for want of memory: they trap where the stack has no room for
@@ -16,13 +16,27 @@ pub fn emit_import_stub(buffer: &mut WordBuffer, params: u32, import: u32) -> Re
     ensures ok { OnOk result (buffer.new ≡ buffer.old ++ map word_of (import_stub params import)) }
     ensures err { OnErr result (buffer.new ≡ buffer.old) }
 {
-    buffer.append_ops(&[
-        &room(u64::from(params) + 1),
-        &const_32(Register::A0, u64::from(import)),
-        &[
-            imm(ImmOp::Addi, Register::A7, Register::ZERO, 3),
-            Op::Ecall,
-            jump_back(),
-        ],
+    let [a, b, c, d, e, f, g, h, i, j] = room(u64::from(params) + 1);
+    let [v, w, x, y, z] = const_32(Register::A0, u64::from(import));
+    let ask = encode_imm(ImmOp::Addi, Register::A7, Register::ZERO, Imm12::new(3));
+    buffer.append(&[
+        a,
+        b,
+        c,
+        d,
+        e,
+        f,
+        g,
+        h,
+        i,
+        j,
+        v,
+        w,
+        x,
+        y,
+        z,
+        ask,
+        encode_ecall(),
+        jump_back(),
     ])
 }

@@ -7,7 +7,8 @@ ghost use Rattle.frame_layout.specs.Templates.{prologue, zero_locals};
 
 use crate::room::room;
 use frame_layout::Layout;
-use frame_layout::macros::{branch_back, const_32, imm, reg, slot_store};
+use frame_layout::macros::{branch_back, const_32, imm, reg};
+use frame_layout::words::slot_store;
 use rv_isa::{BranchOp, Imm12, ImmOp, Op, RegOp, Register, StoreOp, WordBuffer};
 use std::alloc::AllocError;
 
@@ -49,11 +50,12 @@ pub fn emit_prologue(buffer: &mut WordBuffer, layout: &Layout) -> Result<(), All
     ensures ok { OnOk result (buffer.new ≡ buffer.old ++ map word_of (prologue layout.now)) }
     ensures err { OnErr result (buffer.new ≡ buffer.old) }
 {
-    let room = room(u64::from(layout.need()));
-    let link = slot_store(Register::RA, layout.link());
+    let [a, b, c, d, e, f, g, h, i, j] = room(u64::from(layout.need()));
+    let [x, y, z] = slot_store(Register::RA, layout.link());
+    let front = [a, b, c, d, e, f, g, h, i, j, x, y, z];
     if layout.locals == 0 {
-        buffer.append_ops(&[&room, &link])
+        buffer.append(&front)
     } else {
-        buffer.append_ops(&[&room, &link, &zeros(layout)])
+        buffer.append_around(&front, &zeros(layout), &[])
     }
 }

@@ -8,19 +8,15 @@ ghost use Rattle.frame_layout.specs.Macros.{x0, ra};
 ghost use Rattle.frame_layout.specs.Templates.{epilogue};
 
 use frame_layout::Layout;
-use frame_layout::macros::{slot_load, slot_store};
-use rv_isa::{Imm12, Op, Register, WordBuffer};
+use frame_layout::words::{slot_load, slot_store};
+use rv_isa::{Imm12, Register, WordBuffer, encode_jalr};
 use std::alloc::AllocError;
 
-/// The jump to the place in ra.
-pub fn jump_back() -> Op
-    ensures { result ≡ JalrGiven x0 ra 0 }
+/// The word of the jump to the place in ra.
+pub fn jump_back() -> u32
+    ensures { result ≡ word_of (JalrGiven x0 ra 0) }
 {
-    Op::Jalr {
-        rd: Register::ZERO,
-        rs1: Register::RA,
-        imm: Imm12::new(0),
-    }
+    encode_jalr(Register::ZERO, Register::RA, Imm12::new(0))
 }
 
 /// Appends the words at the end of a function of so many results, or none for want of memory: its result, of which there is at
@@ -31,15 +27,12 @@ pub fn emit_return(buffer: &mut WordBuffer, layout: &Layout, results: u32) -> Re
     ensures ok { OnOk result (buffer.new ≡ buffer.old ++ map word_of (epilogue layout.now results)) }
     ensures err { OnErr result (buffer.new ≡ buffer.old) }
 {
-    let link = slot_load(Register::RA, layout.link());
+    let [a, b, c] = slot_load(Register::RA, layout.link());
     if results == 0 {
-        buffer.append_ops(&[&link, &[jump_back()]])
+        buffer.append(&[a, b, c, jump_back()])
     } else {
-        buffer.append_ops(&[
-            &link,
-            &slot_load(Register::T0, layout.operand(0)),
-            &slot_store(Register::T0, 0),
-            &[jump_back()],
-        ])
+        let [d, e, f] = slot_load(Register::T0, layout.operand(0));
+        let [x, y, z] = slot_store(Register::T0, 0);
+        buffer.append(&[a, b, c, d, e, f, x, y, z, jump_back()])
     }
 }

@@ -23,6 +23,6 @@ returns c =
           c.in_ok-words.ensures c.in_ok-emit_prologue.ensures.ok (c.in_ok-emit_nodes.ensures w c' (l ∙ sym frame)) c.in_ok-emit_return.ensures.ok
           ∙ ap (λ (x : Layout). map word_of (prologue x ++ (body ++ epilogue x c.args.results))) (frame ∙ sym l)
           ∙ ap (λ (ss : List Step). map word_of (prologue w.layout ++ (emitted w c' tokens ss ++ epilogue w.layout c.args.results))) c.steps.ensures;
-      relocations = c.from_vec.ensures ∙ c.new-2.ensures.items;
+      relocations = c.from_vec.ensures ∙ c.new.ensures.items;
       need_is = c.need.ensures ∙ ap need frame;
     }

@@ -1,7 +1,6 @@
 use Rattle.std.proofs.Common.{Option, ap, ◌∙◌, sym, subst}
 use Rattle.wasm_defs.specs.declared.token.Token.{Token}
-use Rattle.wasm_defs.specs.Typing.{Rule}
-use Rattle.body_validator.specs.Checking.{Frames, applied, step}
+use Rattle.body_validator.specs.Checking.{Frames, step}
 use Rattle.body_validator.specs.Exchange.{Steps}
 use Rattle.body_validator.specs.Scopes.{unlabelled}
 use Rattle.body_validator.proofs.Taking.{plain_step, block_step, loop_step, if_step}
@@ -11,9 +10,9 @@ pub returns-in-Plain : goal.returns-in-Plain
 returns-in-Plain c =
     let scope = c.args.scope.now in
     let frames = c.args.stack.now in
-    let same = ap (λ (r : Rule). applied r frames) c.rule_for-rule.ensures ∙ plain_step scope c.in-Plain.plain frames
+    let same = plain_step scope c.in-Plain.plain frames
     ∙ ap (λ (t : Token). step (unlabelled scope) t frames) (sym c.in-Plain.is) in
-    subst (λ (x : Option Frames). Steps x c.apply.result frames c.apply.new.stack) same c.apply.ensures
+    subst (λ (x : Option Frames). Steps x c.take_plain.result frames c.take_plain.new.stack) same c.take_plain.ensures
 
 pub returns-in-Block : goal.returns-in-Block
 returns-in-Block c =
