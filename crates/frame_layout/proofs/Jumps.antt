@@ -1,6 +1,7 @@
 -- Branches that are taken and passed, jumps to a place in a register, and calls of the environment.
-use Rattle.std.proofs.Common.{◌≡◌, ℕ, suc, ◌+◌, ◌*◌, ◌/◌, ◌%◌, ◌^◌, ◌<◌, true, false, List, [], ◌∷◌, Option, refl, ap, ◌∙◌, arith}
-use Rattle.std.proofs.lemmas.Bool.{eq-eqb, lt-ltb}
+use Rattle.std.proofs.Common.{◌≡◌, ℕ, suc, ◌+◌, ◌*◌, ◌/◌, ◌%◌, ◌^◌, ◌<◌, ◌==◌, true, false, List, [], ◌∷◌, Option, refl, sym, ap, ◌∙◌, arith}
+use Rattle.std.specs.Prelude.{◌||◌, ◌≢◌}
+use Rattle.std.proofs.lemmas.Bool.{eq-eqb, lt-ltb, false≢true, or_parts}
 use Rattle.rv_isa.specs.declared.operations.BranchOp.{BranchOp}
 use Rattle.rv_isa.specs.declared.operations.ImmOp.TheVariants.{Addi}
 use Rattle.rv_isa.specs.declared.operations.Op.{Op}
@@ -10,7 +11,7 @@ use Rattle.rv_isa.specs.Steps.{reg, State, Next, act, branch, jump, exec}
 use Rattle.rv_isa.specs.Runs.{place, HasAt, Reaches, Leaves}
 use Rattle.rv_isa.proofs.RunLaws.{Reaches-then, one_step, one_call}
 use Rattle.frame_layout.specs.Macros.{x0, ra, a0, a7, trap}
-use Rattle.frame_layout.specs.Laws.{Does, Asks, TrapsAt}
+use Rattle.frame_layout.specs.Laws.{is_scratch, is_passed, Does, Asks, TrapsAt}
 use Rattle.frame_layout.proofs.Constants.{block_leaves}
 
 module _ (code : List (Option Op)) (s : State) (i : ℕ) (at : s.pc ≡ place i) where
@@ -57,53 +58,66 @@ module _ (code : List (Option Op)) (s : State) (i : ℕ) (at : s.pc ≡ place i)
 -- ---- calls of the environment
 
 -- a small number, into a register
-number_leaves : (code : List (Option Op)) (s : State) (i r n : ℕ) → HasAt code i (Imm Addi (suc r) x0 n ∷ []) → s.pc ≡ place i → n < 2 ^ 11 → Leaves code 1 s s.bytes (suc r) n
+pub number_leaves : (code : List (Option Op)) (s : State) (i r n : ℕ) → HasAt code i (Imm Addi (suc r) x0 n ∷ []) → s.pc ≡ place i → n < 2 ^ 11 → Leaves code 1 s s.bytes (suc r) n
 unfolding computed
 number_leaves code s i r n has at small =
     let value : plus 0 (i_value n) ≡ n = rw (lt-ltb n (2 ^ 11) small) (omega arith) in
     block_leaves code (Imm Addi (suc r) x0 n ∷ []) i s (suc r) n (rw (eq-eqb (suc r) (suc r) refl) refl) has at (rw (eq-eqb (suc r) (suc r) refl) value)
 
-abbrev pub asks_after : {code : List (Option Op)} {s : State} (k i number : ℕ) (s' : State) → Reaches code k s s' → s'.pc ≡ place i → HasAt code i (Ecall ∷ []) → s'.bytes ≡ s.bytes → reg s'.registers a7 ≡ number → Asks code (k + 1) number s
-asks_after {code} {s} k i number s' reaches at has bytes is =
+-- a register that keeps what it held up to a call of the environment
+pub passed_kept : (r : ℕ) → is_passed r ≡ false → is_scratch r ≡ false
+passed_kept r kept = (or_parts (is_scratch r) (r == a0) (or_parts (is_scratch r || r == a0) (r == a7) kept).0).0
+
+pub passed_apart : (q r : ℕ) → is_passed q ≡ false → is_passed r ≡ true → q ≢ r
+passed_apart q r kept passed same = false≢true (sym kept ∙ ap is_passed same ∙ passed)
+
+abbrev pub asks_after : {code : List (Option Op)} {s : State} (k i words number : ℕ) (s' : State) → Reaches code k s s' → s'.pc ≡ place i → HasAt code i (Ecall ∷ []) → s'.pc ≡ s.pc + 4 * words → s'.bytes ≡ s.bytes → reg s'.registers a7 ≡ number → ((r : ℕ) → is_passed r ≡ false → reg s'.registers r ≡ reg s.registers r) → Asks code (k + 1) (words + 1) number s
+asks_after {code} {s} k i words number s' reaches at has pc bytes is others =
     let end : State = record s' { pc = s'.pc + 4 } in
     record {
       end = end;
       by = λ n.
           let one : k + 1 + n ≡ k + suc n = omega arith in
           ap (λ m. exec code m s) one ∙ reaches.by (suc n) ∙ one_call code s' end i Ecall at has.0 refl n;
+      pc_is = omega arith;
       number_is = is;
       bytes_are = bytes;
+      others = others;
     }
 
-pub trap_traps : (code : List (Option Op)) (s : State) (i kind : ℕ) → HasAt code i (trap kind) → s.pc ≡ place i → kind < 2 ^ 11 → TrapsAt code 3 kind s
+pub trap_traps : (code : List (Option Op)) (s : State) (i kind : ℕ) → HasAt code i (trap kind) → s.pc ≡ place i → kind < 2 ^ 11 → TrapsAt code 3 3 kind s
 trap_traps code s i kind has at small =
     let one = number_leaves code s i 9 kind (has.0, tt) at small in
     let pc_one = one.pc_is in
     let two = number_leaves code one.end (suc i) 16 1 (has.1.0, tt) (omega arith) (omega arith) in
     let pc_two = two.pc_is in
     record {
-      asks = asks_after 2 (suc (suc i)) 1 two.end (Reaches-then one.reaches two.reaches) (omega arith) (has.1.1.0, tt) (two.bytes_are ∙ one.bytes_are) two.value_is;
+      asks = asks_after 2 (suc (suc i)) 2 1 two.end (Reaches-then one.reaches two.reaches) (omega arith) (has.1.1.0, tt) (omega arith) (two.bytes_are ∙ one.bytes_are) two.value_is (λ r kept. two.others r (passed_apart r a7 kept refl) ∙ one.others r (passed_apart r a0 kept refl));
       kind_is = two.others a0 (λ e. absurd cc) ∙ one.value_is;
     }
 
 -- a trap behind steps that change no byte
-pub traps_after : {code : List (Option Op)} {j k kind : ℕ} {s s' : State} → Reaches code j s s' → s'.bytes ≡ s.bytes → TrapsAt code k kind s' → TrapsAt code (j + k) kind s
-traps_after {code} {j} {k} {kind} {s} {s'} reaches same traps =
+pub traps_after : {code : List (Option Op)} {j a k b kind : ℕ} {s : State} → (first : Does code j a s s.bytes) → TrapsAt code k b kind first.end → TrapsAt code (j + k) (a + b) kind s
+traps_after {code} {j} {a} {k} {b} {kind} {s} first traps =
     let asks = traps.asks in
+    let here = first.pc_is in
+    let there = asks.pc_is in
     record {
       asks = record {
         end = asks.end;
         by = λ n.
             let regroup : j + k + n ≡ j + (k + n) = omega arith in
-            ap (λ m. exec code m s) regroup ∙ reaches.by (k + n) ∙ asks.by n;
+            ap (λ m. exec code m s) regroup ∙ first.reaches.by (k + n) ∙ asks.by n;
+        pc_is = omega arith;
         number_is = asks.number_is;
-        bytes_are = asks.bytes_are ∙ same;
+        bytes_are = asks.bytes_are ∙ first.bytes_are;
+        others = λ r kept. asks.others r kept ∙ first.others r (passed_kept r kept);
       };
       kind_is = traps.kind_is;
     }
 
-pub exit_asks : (code : List (Option Op)) (s : State) (i : ℕ) → HasAt code i (Imm Addi a7 x0 0 ∷ Ecall ∷ []) → s.pc ≡ place i → Asks code 2 0 s
+pub exit_asks : (code : List (Option Op)) (s : State) (i : ℕ) → HasAt code i (Imm Addi a7 x0 0 ∷ Ecall ∷ []) → s.pc ≡ place i → Asks code 2 2 0 s
 exit_asks code s i has at =
     let one = number_leaves code s i 16 0 (has.0, tt) at (omega arith) in
     let pc_one = one.pc_is in
-    asks_after 1 (suc i) 0 one.end one.reaches (omega arith) (has.1.0, tt) one.bytes_are one.value_is
+    asks_after 1 (suc i) 1 0 one.end one.reaches (omega arith) (has.1.0, tt) (omega arith) one.bytes_are one.value_is (λ r kept. one.others r (passed_apart r a7 kept refl))

@@ -7,3 +7,4 @@ pub mod Jumps
 pub mod Endings
 pub mod Zeroing
 pub mod Beginnings
+pub mod Imports

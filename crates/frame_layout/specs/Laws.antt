@@ -14,7 +14,7 @@ use Rattle.wasm_defs.specs.Configurations.{max_slots}
 use Rattle.frame_layout.specs.declared.layout.Layout.{Layout}
 use Rattle.frame_layout.specs.Slots.{link, operand, need}
 use Rattle.frame_layout.specs.Macros.{ra, t0, t1, t2, t3, s0, s5, a0, a7}
-use Rattle.frame_layout.specs.Templates.{Around, const_words, local_get_words, operate_words, prologue, epilogue, exit_stub}
+use Rattle.frame_layout.specs.Templates.{Around, const_words, local_get_words, operate_words, prologue, epilogue, import_stub, exit_stub}
 
 -- ---- slots of the stack, counted from its beginning
 
@@ -45,16 +45,23 @@ pub record Does (code : List (Option Op)) (steps words : ℕ) (s : State) (bytes
   pub bytes_are : end.bytes ≡ bytes
   pub others : (r : ℕ) → is_scratch r ≡ false → reg end.registers r ≡ reg s.registers r
 
--- so many steps lead to a call of the environment with this number in a7
-pub record Asks (code : List (Option Op)) (steps number : ℕ) (s : State) : Type 0 where
+-- and those that tell the environment what it is asked
+abbrev pub is_passed : ℕ → Bool
+is_passed r = is_scratch r || r == a0 || r == a7
+
+-- so many steps lead to a call of the environment with this number in a7, and behind so many words, of which the last one is the
+-- call's; other registers stay
+pub record Asks (code : List (Option Op)) (steps words number : ℕ) (s : State) : Type 0 where
   pub end : State
   pub by : (n : ℕ) → exec code (steps + n) s ≡ Called n end
+  pub pc_is : end.pc ≡ s.pc + 4 * words
   pub number_is : reg end.registers a7 ≡ number
   pub bytes_are : end.bytes ≡ s.bytes
+  pub others : (r : ℕ) → is_passed r ≡ false → reg end.registers r ≡ reg s.registers r
 
 -- and to a trap of that kind
-pub record TrapsAt (code : List (Option Op)) (steps kind : ℕ) (s : State) : Type 0 where
-  pub asks : Asks code steps 1 s
+pub record TrapsAt (code : List (Option Op)) (steps words kind : ℕ) (s : State) : Type 0 where
+  pub asks : Asks code steps words 1 s
   pub kind_is : reg asks.end.registers a0 ≡ kind
 
 -- ---- instructions
@@ -106,7 +113,7 @@ PrologueLaw =
 abbrev pub ExhaustionLaw : Type 0
 ExhaustionLaw =
     (code : List (Option Op)) (s : State) (i base : ℕ) (l : Layout) → HasAt code i (prologue l) → s.pc ≡ place i → IsFrame base s
-    → base ≤ max_slots → need l < 2 ^ 24 → max_slots < base + need l → TrapsAt code 10 8 s
+    → base ≤ max_slots → need l < 2 ^ 24 → max_slots < base + need l → TrapsAt code 10 10 8 s
 
 -- the result, if there is one, goes to the frame's first slot, and the machine to the place to return to
 pub record Leaves (code : List (Option Op)) (l : Layout) (results base there : ℕ) (s : State) : Type 0 where
@@ -124,4 +131,28 @@ EpilogueLaw =
 
 -- the function that was called from outside has ended
 abbrev pub ExitLaw : Type 0
-ExitLaw = (code : List (Option Op)) (s : State) (i : ℕ) → HasAt code i exit_stub → s.pc ≡ place i → Asks code 2 0 s
+ExitLaw = (code : List (Option Op)) (s : State) (i : ℕ) → HasAt code i exit_stub → s.pc ≡ place i → Asks code 2 2 0 s
+
+-- ---- the stub of an imported function
+
+-- where there is room for its arguments, it asks with the import's number in a0
+pub record AsksImport (code : List (Option Op)) (import : ℕ) (s : State) : Type 0 where
+  pub asks : Asks code 14 17 3 s
+  pub import_is : reg asks.end.registers a0 ≡ import
+
+abbrev pub ImportLaw : Type 0
+ImportLaw =
+    (code : List (Option Op)) (s : State) (i base params import : ℕ) → HasAt code i (import_stub params import) → s.pc ≡ place i → IsFrame base s
+    → params < 2 ^ 20 → import < 2 ^ 32 → base + (params + 1) ≤ max_slots → length code ≤ 2 ^ 26 → AsksImport code import s
+
+-- where there is none, it traps
+abbrev pub ImportExhaustionLaw : Type 0
+ImportExhaustionLaw =
+    (code : List (Option Op)) (s : State) (i base params import : ℕ) → HasAt code i (import_stub params import) → s.pc ≡ place i → IsFrame base s
+    → params < 2 ^ 20 → base ≤ max_slots → max_slots < base + (params + 1) → TrapsAt code 10 10 8 s
+
+-- behind the call it leads to the place to return to
+abbrev pub ImportReturnLaw : Type 0
+ImportReturnLaw =
+    (code : List (Option Op)) (s : State) (i params import there : ℕ) → HasAt code i (import_stub params import) → s.pc ≡ place (i + 17)
+    → reg s.registers ra ≡ there → there < 2 ^ 64 → there % 4 ≡ 0 → Reaches code 1 s (record s { pc = there })

@@ -1,6 +1,6 @@
 //! Laws of the templates, for the proofs of other crates. Each function does nothing: its contract is the law, which
 //! `specs/Laws.antt` states.
-ghost use Rattle.frame_layout.specs.Laws.{ConstLaw, LocalGetLaw, AddLaw, PrologueLaw, ExhaustionLaw, EpilogueLaw, ExitLaw};
+ghost use Rattle.frame_layout.specs.Laws.{ConstLaw, LocalGetLaw, AddLaw, PrologueLaw, ExhaustionLaw, EpilogueLaw, ExitLaw, ImportLaw, ImportExhaustionLaw, ImportReturnLaw};
 
 /// A constant's words put it into the operand above those on the stack.
 pub fn const_law()
@@ -35,4 +35,19 @@ pub fn epilogue_law()
 /// The exit stub ends the run.
 pub fn exit_law()
     ensures { ExitLaw }
+{}
+
+/// Where there is room for its arguments, the stub of an imported function asks for the import.
+pub fn import_law()
+    ensures { ImportLaw }
+{}
+
+/// Where there is none, it traps.
+pub fn import_exhaustion_law()
+    ensures { ImportExhaustionLaw }
+{}
+
+/// Behind the call it leads to the place to return to.
+pub fn import_return_law()
+    ensures { ImportReturnLaw }
 {}

@@ -14,7 +14,8 @@ mod tests;
 pub mod words;
 
 pub use laws::{
-    add_law, const_law, epilogue_law, exhaustion_law, exit_law, local_get_law, prologue_law,
+    add_law, const_law, epilogue_law, exhaustion_law, exit_law, import_exhaustion_law, import_law,
+    import_return_law, local_get_law, prologue_law,
 };
 pub use layout::Layout;
 pub use slots::{load_slot, store_slot};

@@ -19,7 +19,7 @@ pub cleared : (x : ℕ) → computed Srl (computed Sll x 32) 32 ≡ x % 2 ^ 32
 unfolding computed
 cleared x = omega arith
 
-wrapped : (a : ℕ) → computed_w Addw a 0 ≡ word I32 (a % 2 ^ 32)
+pub wrapped : (a : ℕ) → computed_w Addw a 0 ≡ word I32 (a % 2 ^ 32)
 unfolding computed_word
 wrapped a =
     let same : (a % 2 ^ 32 + 0) % 2 ^ 32 ≡ a % 2 ^ 32 = omega arith in

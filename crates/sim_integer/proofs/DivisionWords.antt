@@ -24,12 +24,17 @@ use Rattle.frame_layout.specs.Bodies.{both, guard, overflow_guard, binary_body}
 use Rattle.frame_layout.specs.Laws.{slot_at, IsFrame, TrapsAt}
 use Rattle.frame_layout.proofs.Jumps.{traps_after}
 use Rattle.frame_layout.proofs.Instructions.{Operands}
-use Rattle.sim_integer.specs.Laws.{Comes}
+use Rattle.sim_integer.specs.Laws.{overflow_words, Comes}
 use Rattle.sim_integer.proofs.Extensions.{eq_i32}
 use Rattle.sim_integer.proofs.Runs.{Gives, two_load, two_body, two_store_does}
 use Rattle.sim_integer.proofs.Sized.{sized_value, exact_value, sized_word, div_s_is}
 use Rattle.sim_integer.proofs.Divisions.{least, zero_traps, guarded_gives, plain_gives, other_gives, overflow_traps}
 use Rattle.sim_integer.proofs.Overflows.{overflow_test}
+
+-- the six words that load the operands, and those up to the trap
+overflow_there : {code : List (Option Op)} {s : State} (t : ValType) (steps : ℕ) → TrapsAt code (6 + steps) (6 + (overflow_words t - 6)) 3 s → TrapsAt code (6 + steps) (overflow_words t) 3 s
+overflow_there I32 steps traps = traps
+overflow_there I64 steps traps = traps
 
 -- ---- the tests on words
 
@@ -91,8 +96,8 @@ module _ (w : Around) (code : List (Option Op)) (s : State) (i base h : ℕ) (t 
     least_is : (c : Bool) → (a == modulus t / 2) ≡ c → (reg mid.registers t0 == least t) ≡ c
     least_is c e = ap (λ (x : ℕ). x == least t) first_is ∙ least_test t a ha ∙ e
 
-    traps_there : (steps kind : ℕ) → TrapsAt code steps kind mid → TrapsAt code (6 + steps) kind s
-    traps_there steps kind traps = traps_after given.does.reaches given.does.bytes_are traps
+    traps_there : (steps words kind : ℕ) → TrapsAt code steps words kind mid → TrapsAt code (6 + steps) (6 + words) kind s
+    traps_there steps words kind traps = traps_after given.does traps
 
     value_there : (o : RegOpW) (wide : RegOp) (n : ℕ) → exact_value t o wide a b ≡ n → sized_value t o wide (reg mid.registers t0) (reg mid.registers t1) ≡ word t n
     value_there o wide n is = ap₂ (sized_value t o wide) first_is second_is ∙ sized_word t o wide a b ha hb ∙ ap (word t) is
@@ -119,7 +124,7 @@ module _ (w : Around) (code : List (Option Op)) (s : State) (i base h : ℕ) (t 
               let zero = eq-eqb b 0 e in
               let which : DividesByZero ≡ (if b == 0 then DividesByZero else Number n) = rw zero refl in
               let traps = zero_traps code start (i + 6) start_at guarded_near (both t o wide) guarded_has (zero_is guarded has true zero) in
-              subst (λ (c : Computed). Comes code (length (on_two w h guarded)) s slot t c) which (10, omega arith, traps_there guarded has 4 2 traps)
+              subst (λ (c : Computed). Comes code (length (on_two w h guarded)) s slot t c) which (10, omega arith, traps_there guarded has 4 4 2 traps)
           | inr ne ↦
               let more = ne_eqb b 0 ne in
               let which : Number n ≡ (if b == 0 then DividesByZero else Number n) = rw more refl in
@@ -160,7 +165,7 @@ module _ (w : Around) (code : List (Option Op)) (s : State) (i base h : ℕ) (t 
         let test = sym (overflow_test t a b ha hb) ∙ and_from (b == modulus t - 1) (a == modulus t / 2) same least_same in
         let which : Overflows ≡ idiv_s t a b = rw (ne_eqb b 0 ne, test) refl in
         let traps = overflow_traps code start (i + 6) (mid_at body has) near t body_has (zero_is body has false (ne_eqb b 0 ne)) (minus_one_is body has true same) (least_is body has true least_same) in
-        subst (λ (c : Computed). Comes code (length (on_two w h body)) s slot t c) which (6 + traps.0, omega (arith, signed_length w h t, traps.1), traps_there body has traps.0 3 traps.2)
+        subst (λ (c : Computed). Comes code (length (on_two w h body)) s slot t c) which (6 + traps.0, omega (arith, signed_length w h t, traps.1), overflow_there t traps.0 (traps_there body has traps.0 (overflow_words t - 6) 3 traps.2))
 
     nonzero_comes : (b ≡ 0 → ⊥) → Comes code (length (on_two w h body)) s slot t (idiv_s t a b)
     nonzero_comes ne =
@@ -187,6 +192,6 @@ module _ (w : Around) (code : List (Option Op)) (s : State) (i base h : ℕ) (t 
               let zero = eq-eqb b 0 e in
               let which : DividesByZero ≡ idiv_s t a b = rw zero refl in
               let traps = zero_traps code start (i + 6) (mid_at body has) near (overflow_guard t ++ both t Divw Div) body_has (zero_is body has true zero) in
-              subst (λ (c : Computed). Comes code (length (on_two w h body)) s slot t c) which (10, omega (arith, signed_length w h t), traps_there body has 4 2 traps)
+              subst (λ (c : Computed). Comes code (length (on_two w h body)) s slot t c) which (10, omega (arith, signed_length w h t), traps_there body has 4 4 2 traps)
           | inr ne ↦ nonzero_comes ne
         ]

@@ -17,7 +17,9 @@ use Rattle.wasm_defs.specs.declared.types.ValType.TheVariants.{I32, I64}
 use Rattle.wasm_defs.specs.declared.operation.BinaryOp.TheVariants.{DivS}
 use Rattle.frame_layout.specs.Macros.{x0, t0, t1, t2, forward, minus_one}
 use Rattle.frame_layout.specs.Bodies.{sized, both, guard, overflow_guard, binary_body}
-use Rattle.frame_layout.specs.Laws.{TrapsAt}
+use Rattle.frame_layout.specs.Laws.{is_scratch, TrapsAt}
+use Rattle.rv_isa.proofs.RunLaws.{blocks_keep}
+use Rattle.sim_integer.specs.Laws.{overflow_words}
 use Rattle.sim_integer.proofs.Runs.{Gives}
 use Rattle.sim_integer.proofs.Sized.{sized_value}
 use Rattle.sim_integer.proofs.Walks.{Walks, starts, computes_on, passes, branches, walk_traps, walk_gives}
@@ -32,11 +34,11 @@ module _ (code : List (Option Op)) (s : State) (j : ℕ) (at : s.pc ≡ place j)
   -- ---- the divisor
 
   module _ (rest : List Op) (has : HasAt code j (guard ++ rest)) where
-    pub zero_traps : (reg s.registers t1 == 0) ≡ true → TrapsAt code 4 2 s
+    pub zero_traps : (reg s.registers t1 == 0) ≡ true → TrapsAt code 4 4 2 s
     unfolding is_taken
     zero_traps zero_is =
         let first = passes code (guard ++ rest) s j has at 0 0 _ (starts code s) Bne t1 x0 (forward 16) refl (ap not zero_is) in
-        walk_traps code (guard ++ rest) s j has at 1 1 _ first 2 rest refl (lit< tt)
+        walk_traps code (guard ++ rest) s j has at 1 1 _ first 2 rest refl (lit< tt) (λ r kept. refl)
 
     past_guard : (reg s.registers t1 == 0) ≡ false → Walks code 1 4 s s.registers
     unfolding is_taken
@@ -85,11 +87,11 @@ module _ (code : List (Option Op)) (s : State) (j : ℕ) (at : s.pc ≡ place j)
         let last = computes_on code (binary_body DivS I32) s j has at 5 11 _ next op_32 refl refl in
         walk_gives code s 6 12 _ (minus_one_32 ∷ least_32 ∷ op_32 ∷ []) last refl refl
 
-    overflow_32 : (reg s.registers t1 == 2 ^ 64 - 1) ≡ true → (reg s.registers t0 == least I32) ≡ true → TrapsAt code 8 3 s
+    overflow_32 : (reg s.registers t1 == 2 ^ 64 - 1) ≡ true → (reg s.registers t0 == least I32) ≡ true → TrapsAt code 8 11 3 s
     unfolding computed is_taken
     overflow_32 same least_is =
         let next = passes code (binary_body DivS I32) s j has at 4 7 _ (made_32 same) Bne t0 t2 (forward 16) refl (ap not least_is) in
-        walk_traps code (binary_body DivS I32) s j has at 5 8 _ next 3 (op_32 ∷ []) refl (lit< tt)
+        walk_traps code (binary_body DivS I32) s j has at 5 8 _ next 3 (op_32 ∷ []) refl (lit< tt) (λ r kept. blocks_keep is_scratch (minus_one_32 ∷ least_32 ∷ []) s.registers r refl kept)
 
   -- ---- of i64
 
@@ -130,11 +132,11 @@ module _ (code : List (Option Op)) (s : State) (j : ℕ) (at : s.pc ≡ place j)
         let last = computes_on code (binary_body DivS I64) s j has at 6 12 _ next op_64 refl refl in
         walk_gives code s 7 13 _ (minus_one_64 ∷ bit_64 ∷ least_64 ∷ op_64 ∷ []) last refl refl
 
-    overflow_64 : (reg s.registers t1 == 2 ^ 64 - 1) ≡ true → (reg s.registers t0 == least I64) ≡ true → TrapsAt code 9 3 s
+    overflow_64 : (reg s.registers t1 == 2 ^ 64 - 1) ≡ true → (reg s.registers t0 == least I64) ≡ true → TrapsAt code 9 12 3 s
     unfolding computed is_taken
     overflow_64 same least_is =
         let next = passes code (binary_body DivS I64) s j has at 5 8 _ (made_64 same) Bne t0 t2 (forward 16) refl (ap not least_is) in
-        walk_traps code (binary_body DivS I64) s j has at 6 9 _ next 3 (op_64 ∷ []) refl (lit< tt)
+        walk_traps code (binary_body DivS I64) s j has at 6 9 _ next 3 (op_64 ∷ []) refl (lit< tt) (λ r kept. blocks_keep is_scratch (minus_one_64 ∷ bit_64 ∷ least_64 ∷ []) s.registers r refl kept)
 
   -- ---- at both types
 
@@ -149,6 +151,6 @@ module _ (code : List (Option Op)) (s : State) (j : ℕ) (at : s.pc ≡ place j)
   other_gives I64 has more same other = (7, omega arith, other_64 has more same other)
 
   -- the quotient isn't representable
-  pub overflow_traps : (t : ValType) → HasAt code j (binary_body DivS t) → (reg s.registers t1 == 0) ≡ false → (reg s.registers t1 == 2 ^ 64 - 1) ≡ true → (reg s.registers t0 == least t) ≡ true → (steps : ℕ) × (steps ≤ 9) × TrapsAt code steps 3 s
+  pub overflow_traps : (t : ValType) → HasAt code j (binary_body DivS t) → (reg s.registers t1 == 0) ≡ false → (reg s.registers t1 == 2 ^ 64 - 1) ≡ true → (reg s.registers t0 == least t) ≡ true → (steps : ℕ) × (steps ≤ 9) × TrapsAt code steps (overflow_words t - 6) 3 s
   overflow_traps I32 has more same least_is = (8, omega arith, overflow_32 has more same least_is)
   overflow_traps I64 has more same least_is = (9, omega arith, overflow_64 has more same least_is)

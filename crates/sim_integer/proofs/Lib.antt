@@ -17,3 +17,4 @@ pub mod Unary
 pub mod Conversions
 pub mod Ranges
 pub mod Lengths
+pub mod SignExtensions

@@ -10,7 +10,7 @@ use Rattle.rv_isa.specs.Steps.{Registers, reg, State, Next, act, branch}
 use Rattle.rv_isa.specs.Runs.{place, HasAt, Reaches, computes, after_one, all_compute, after_all}
 use Rattle.rv_isa.proofs.RunLaws.{Reaches-none, Reaches-then, one_step, word_at, act_computes, blocks_keep}
 use Rattle.frame_layout.specs.Macros.{t0, trap}
-use Rattle.frame_layout.specs.Laws.{is_scratch, TrapsAt}
+use Rattle.frame_layout.specs.Laws.{is_scratch, Does, TrapsAt}
 use Rattle.frame_layout.proofs.Standing.{has_first}
 use Rattle.frame_layout.proofs.Jumps.{taken_reaches, trap_traps, traps_after}
 use Rattle.sim_integer.proofs.Runs.{Gives}
@@ -61,10 +61,11 @@ module _ (code : List (Option Op)) (body : List Op) (s : State) (i : ℕ) (has :
       let aligned : (s.pc + 4 * there) % 4 ≡ 0 = omega arith in
       record { reaches = Reaches-then before.reaches (taken_reaches code here (i + words) here_at op left right field (s.pc + 4 * there) (word_at code body i words (Branch op left right field) has is, tt) taken distance aligned) }
 
-  pub walk_traps : (kind : ℕ) (rest : List Op) → drop words body ≡ trap kind ++ rest → kind < 2 ^ 11 → TrapsAt code (steps + 3) kind s
-  walk_traps kind rest is small =
+  pub walk_traps : (kind : ℕ) (rest : List Op) → drop words body ≡ trap kind ++ rest → kind < 2 ^ 11 → ((r : ℕ) → is_scratch r ≡ false → reg registers r ≡ reg s.registers r) → TrapsAt code (steps + 3) (words + 3) kind s
+  walk_traps kind rest is small kept =
       let stands = has_first code (i + words) (trap kind) rest (subst (HasAt code (i + words)) is (has_part code words i body has)) in
-      traps_after before.reaches refl (trap_traps code here (i + words) kind stands here_at small)
+      let does : Does code steps words s s.bytes = record { end = here; reaches = before.reaches; pc_is = refl; bytes_are = refl; others = kept } in
+      traps_after does (trap_traps code here (i + words) kind stands here_at small)
 
 -- the registers are those behind operations that only compute
 pub walk_gives : (code : List (Option Op)) (s : State) (steps words v : ℕ) (ops : List Op) → Walks code steps words s (after_all ops s.registers) → all_compute is_scratch ops ≡ true → reg (after_all ops s.registers) t0 ≡ v → Gives code steps words s v

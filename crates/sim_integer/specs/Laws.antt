@@ -22,11 +22,16 @@ use Rattle.frame_layout.specs.Laws.{slot_at, with_slot, IsFrame, Does, TrapsAt}
 
 -- ---- operations on two operands
 
+-- behind so many words the environment is called where a quotient isn't representable
+abbrev pub overflow_words : ValType → ℕ
+overflow_words I32 = 17
+overflow_words I64 = 18
+
 -- what the words of an operation come to, whose result goes to a slot: the steps are never more than the words
 abbrev pub Comes : (code : List (Option Op)) (words : ℕ) (s : State) (slot : ℕ) (t : ValType) → Computed → Type 0
 Comes code words s slot t (Number n) = (steps : ℕ) × (steps ≤ words) × Does code steps words s (with_slot s.bytes slot (word t n))
-Comes code words s slot t DividesByZero = (steps : ℕ) × (steps ≤ words) × TrapsAt code steps 2 s
-Comes code words s slot t Overflows = (steps : ℕ) × (steps ≤ words) × TrapsAt code steps 3 s
+Comes code words s slot t DividesByZero = (steps : ℕ) × (steps ≤ words) × TrapsAt code steps 10 2 s
+Comes code words s slot t Overflows = (steps : ℕ) × (steps ≤ words) × TrapsAt code steps (overflow_words t) 3 s
 
 -- the words of divisions branch, so the text has to end below 2 ^ 64
 abbrev pub BinaryLaw : Type 0

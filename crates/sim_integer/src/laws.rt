@@ -1,6 +1,7 @@
 //! Laws of numeric instructions, for the proofs of other crates. Each function does nothing: its contract is the law, which
 //! `specs/Laws.antt` states.
 ghost use Rattle.sim_integer.specs.Laws.{BinaryLaw, CompareLaw, UnaryLaw, TestLaw, ConvertLaw, BinaryRangeLaw, CompareRangeLaw, UnaryRangeLaw, TestRangeLaw, ConvertRangeLaw, LengthLaw};
+ghost use Rattle.sim_integer.specs.SignExtensions.{ExtendI32Law, ExtendI64Law, ExtendRangeLaw};
 
 /// The words of an operation on two operands put the number that it gives into the place of the lower one, or trap where it isn't
 /// defined.
@@ -40,4 +41,19 @@ pub fn range_law()
 /// No numeric instruction has more words than those that count leading zeros.
 pub fn length_law()
     ensures { LengthLaw }
+{}
+
+/// The words that extend the low 8 or 16 bits of an i32 by their sign put it into the operand's place.
+pub fn extend_i32_law()
+    ensures { ExtendI32Law }
+{}
+
+/// The words that extend the low 8, 16 or 32 bits of an i64 by their sign put it into the operand's place.
+pub fn extend_i64_law()
+    ensures { ExtendI64Law }
+{}
+
+/// Such numbers lie below the modulus of their type.
+pub fn extend_range_law()
+    ensures { ExtendRangeLaw }
 {}

@@ -39,7 +39,8 @@ pub record Halts (code : List (Option Op)) (store : Store) (cap : ℕ) (locals o
   pub gives : effect store locals cap p operands ≡ Traps kind
   pub steps : ℕ
   pub short : steps ≤ most_steps
-  pub traps : TrapsAt code steps (trap_number kind) s
+  pub behind : ℕ
+  pub traps : TrapsAt code steps behind (trap_number kind) s
 
 module _ (code : List (Option Op)) (c : Context) (labels : List Label) (w : Around) (base there : ℕ) (b : Bytes) (store : Store) (cap : ℕ) (locals : List Value) (here : ℕ) (s : State) where
   -- what an instruction comes to

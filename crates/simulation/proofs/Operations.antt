@@ -23,7 +23,7 @@ use Rattle.frame_layout.specs.Slots.{operand}
 use Rattle.frame_layout.specs.Templates.{Label, Around, operate_words}
 use Rattle.frame_layout.specs.Laws.{slot_at, with_slot, Does}
 use Rattle.frame_layout.proofs.Steps.{does_nothing}
-use Rattle.sim_integer.specs.Laws.{Comes, converted_from}
+use Rattle.sim_integer.specs.Laws.{overflow_words, Comes, converted_from}
 use Rattle.sim_integer.proofs.Binary.{binary_does}
 use Rattle.sim_integer.proofs.Comparisons.{compare_does, test_does}
 use Rattle.sim_integer.proofs.Unary.{unary_does}
@@ -92,10 +92,10 @@ module _ (code : List (Option Op)) (c : Context) (labels : List Label) (w : Arou
         (omega (arith, comes.1)) comes.2 (binary_is_below t op x.number y.number n x_small y_small e) (omega arith) m m.live.1.1)
     computed_outcome op mid DividesByZero is e comes =
         let size = short two (Binary t op) in
-        inr (record { kind = DivideByZero; gives = ap (computed store locals t below) e; steps = comes.0; short = omega (arith, comes.1); traps = comes.2 })
+        inr (record { kind = DivideByZero; gives = ap (computed store locals t below) e; steps = comes.0; short = omega (arith, comes.1); behind = 10; traps = comes.2 })
     computed_outcome op mid Overflows is e comes =
         let size = short two (Binary t op) in
-        inr (record { kind = Overflow; gives = ap (computed store locals t below) e; steps = comes.0; short = omega (arith, comes.1); traps = comes.2 })
+        inr (record { kind = Overflow; gives = ap (computed store locals t below) e; steps = comes.0; short = omega (arith, comes.1); behind = overflow_words t; traps = comes.2 })
 
     binary_comes : (op : BinaryOp) (mid : Types) → t ∷ types_of_values below ≡ mid → HasAt code i (operate_words w (suc (suc (length below))) (Binary t op)) → length code ≤ 2 ^ 26
         → ComesTo (y ∷ x ∷ below) (Binary t op) mid
