@@ -26,7 +26,7 @@ pub use limits::{
     MAX_BODY, MAX_ENTRIES, MAX_LOCALS, MAX_MODULE, MAX_NAME, MAX_PAGES, MAX_PARAMS, MAX_TABLE,
     MAX_TEXT, TOP_PAGES,
 };
-pub use lists::{Bytes, Indices, Labels, Name, ValTypes};
+pub use lists::{Bytes, Indices, Labels, Name, Sequence, ValTypes};
 pub use nodes::{LocalGroup, Node, Nodes};
 pub use operation::{Access, BinaryOp, CompareOp, ConvertOp, LoadOp, Operation, StoreOp, UnaryOp};
 pub use supported::{is_compiled_opcode, is_compiled_section};

@@ -5,188 +5,54 @@ ghost use Rattle.std.specs.Prelude.{◌≡◌};
 use crate::types::ValType;
 use std::marker::Model;
 
-/// A name's bytes, which are UTF-8 (Core 5.2.4).
+/// Elements in order. Contracts see the list of them.
 #[derive(Debug, Drop)]
-pub struct Name {
-    bytes: Vec<u8>,
+pub struct Sequence<T> {
+    elements: Vec<T>,
 }
 
-impl Model for Name {
-    ghost use Rattle.std.specs.Prelude.{List, ℕ};
+impl<T> Model for Sequence<T> {
+    ghost use Rattle.std.specs.Prelude.{List};
 
-    ghost Value = { List ℕ };
+    ghost Value = { List T };
 
-    ghost view = { λ l. l.bytes.items };
+    ghost view = { λ s. s.elements.items };
 }
 
-impl Name {
+impl<T> Sequence<T> {
     /// The list of the vector's elements.
-    pub fn new(bytes: Vec<u8>) -> Self
-        ensures { result ≡ bytes.items }
+    pub fn new(elements: Vec<T>) -> Self
+        ensures { result ≡ elements.items }
     {
-        Name { bytes }
+        Sequence { elements }
     }
 
     /// The elements in order.
-    pub fn as_slice(&self) -> &[u8]
+    pub fn as_slice(&self) -> &[T]
         ensures { result.now ≡ self.now }
     {
-        self.bytes.as_slice()
+        self.elements.as_slice()
     }
 
     /// Gives the elements back, without taking memory.
-    pub fn into_vec(self) -> Vec<u8>
+    pub fn into_vec(self) -> Vec<T>
         ensures { result.items ≡ self }
     {
-        self.bytes
+        self.elements
     }
 }
+
+/// A name's bytes. Names that were read are UTF-8 (Core 5.2.4); the type doesn't keep that.
+pub type Name = Sequence<u8>;
 
 /// Bytes of a data segment.
-#[derive(Debug, Drop)]
-pub struct Bytes {
-    bytes: Vec<u8>,
-}
-
-impl Model for Bytes {
-    ghost use Rattle.std.specs.Prelude.{List, ℕ};
-
-    ghost Value = { List ℕ };
-
-    ghost view = { λ l. l.bytes.items };
-}
-
-impl Bytes {
-    /// The list of the vector's elements.
-    pub fn new(bytes: Vec<u8>) -> Self
-        ensures { result ≡ bytes.items }
-    {
-        Bytes { bytes }
-    }
-
-    /// The elements in order.
-    pub fn as_slice(&self) -> &[u8]
-        ensures { result.now ≡ self.now }
-    {
-        self.bytes.as_slice()
-    }
-
-    /// Gives the elements back, without taking memory.
-    pub fn into_vec(self) -> Vec<u8>
-        ensures { result.items ≡ self }
-    {
-        self.bytes
-    }
-}
+pub type Bytes = Sequence<u8>;
 
 /// Indices, as those of an element segment's functions.
-#[derive(Debug, Drop)]
-pub struct Indices {
-    indices: Vec<u32>,
-}
-
-impl Model for Indices {
-    ghost use Rattle.std.specs.Prelude.{List, ℕ};
-
-    ghost Value = { List ℕ };
-
-    ghost view = { λ l. l.indices.items };
-}
-
-impl Indices {
-    /// The list of the vector's elements.
-    pub fn new(indices: Vec<u32>) -> Self
-        ensures { result ≡ indices.items }
-    {
-        Indices { indices }
-    }
-
-    /// The elements in order.
-    pub fn as_slice(&self) -> &[u32]
-        ensures { result.now ≡ self.now }
-    {
-        self.indices.as_slice()
-    }
-
-    /// Gives the elements back, without taking memory.
-    pub fn into_vec(self) -> Vec<u32>
-        ensures { result.items ≡ self }
-    {
-        self.indices
-    }
-}
+pub type Indices = Sequence<u32>;
 
 /// The labels of a `br_table` but its last one, 0 being the innermost (Core 2.4.5).
-#[derive(Debug, Drop)]
-pub struct Labels {
-    labels: Vec<u32>,
-}
-
-impl Model for Labels {
-    ghost use Rattle.std.specs.Prelude.{List, ℕ};
-
-    ghost Value = { List ℕ };
-
-    ghost view = { λ l. l.labels.items };
-}
-
-impl Labels {
-    /// The list of the vector's elements.
-    pub fn new(labels: Vec<u32>) -> Self
-        ensures { result ≡ labels.items }
-    {
-        Labels { labels }
-    }
-
-    /// The elements in order.
-    pub fn as_slice(&self) -> &[u32]
-        ensures { result.now ≡ self.now }
-    {
-        self.labels.as_slice()
-    }
-
-    /// Gives the elements back, without taking memory.
-    pub fn into_vec(self) -> Vec<u32>
-        ensures { result.items ≡ self }
-    {
-        self.labels
-    }
-}
+pub type Labels = Sequence<u32>;
 
 /// Value types in the order of the text.
-#[derive(Debug, Drop)]
-pub struct ValTypes {
-    types: Vec<ValType>,
-}
-
-impl Model for ValTypes {
-    ghost use Rattle.std.specs.Prelude.{List};
-    ghost use Rattle.wasm_defs.specs.declared.types.ValType.{ValType};
-
-    ghost Value = { List ValType };
-
-    ghost view = { λ l. l.types.items };
-}
-
-impl ValTypes {
-    /// The list of the vector's elements.
-    pub fn new(types: Vec<ValType>) -> Self
-        ensures { result ≡ types.items }
-    {
-        ValTypes { types }
-    }
-
-    /// The elements in order.
-    pub fn as_slice(&self) -> &[ValType]
-        ensures { result.now ≡ self.now }
-    {
-        self.types.as_slice()
-    }
-
-    /// Gives the elements back, without taking memory.
-    pub fn into_vec(self) -> Vec<ValType>
-        ensures { result.items ≡ self }
-    {
-        self.types
-    }
-}
+pub type ValTypes = Sequence<ValType>;
