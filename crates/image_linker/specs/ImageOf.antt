@@ -1,5 +1,5 @@
 -- The image of a module.
-use Rattle.std.specs.Prelude.{ℕ, zero, suc, ◌+◌, ◌*◌, ◌&&◌, Bool, true, false, not, List, [], ◌∷◌, ◌++◌, map, length, replicate, Option, None, Some, slice_get, slice_index, if◌then◌else◌}
+use Rattle.std.specs.Prelude.{ℕ, zero, suc, ◌+◌, ◌*◌, Bool, true, false, not, List, [], ◌∷◌, ◌++◌, map, length, replicate, Option, None, Some, slice_get, slice_index}
 use Rattle.rv_isa.specs.declared.operations.Op.{Op}
 use Rattle.rv_isa.specs.Words.{word_of}
 use Rattle.rv_isa.specs.Steps.{text_base}
@@ -8,8 +8,8 @@ use Rattle.wasm_defs.specs.declared.item.Item.{Item}
 use Rattle.wasm_defs.specs.declared.item.Item.TheVariants.{Imported}
 use Rattle.wasm_defs.specs.Outside.{Body}
 use Rattle.wasm_defs.specs.Trees.{Seq}
-use Rattle.wasm_defs.specs.Typing.{Context, same_types}
-use Rattle.wasm_defs.specs.Context.{context_of, import_count, type_or_empty, type_of_function, declared_types}
+use Rattle.wasm_defs.specs.Typing.{Context}
+use Rattle.wasm_defs.specs.Context.{context_of, import_count, type_or_empty, type_of_function, declared_types, first_like, like}
 use Rattle.wasm_defs.specs.Faults.{read_of, context_at, Module}
 use Rattle.wasm_defs.specs.Values.{words_of}
 use Rattle.wasm_defs.specs.Places.{places_of, greatest}
@@ -23,14 +23,6 @@ use Rattle.image_format.specs.declared.image.Row.{Row}
 use Rattle.image_format.specs.declared.image.Segment.{Segment}
 use Rattle.image_format.specs.declared.image.Import.{Import}
 use Rattle.image_format.specs.declared.image.Export.{Export}
-
--- the least index of a type that equals the type of an index
-abbrev pub first_like : List FuncType → FuncType → ℕ
-first_like [] ty = 0
-first_like (t ∷ ts) ty = if same_types t.params ty.params && same_types t.results ty.results then 0 else suc (first_like ts ty)
-
-abbrev pub like : List FuncType → ℕ → ℕ
-like types i = first_like types (type_or_empty (slice_get types i))
 
 -- ---- the text: the exit stub, the import stubs, and the functions in the order of their indices
 

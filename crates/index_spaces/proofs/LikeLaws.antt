@@ -6,9 +6,9 @@ use Rattle.std.proofs.lemmas.Bool.{cases_Bool}
 use Rattle.wasm_defs.specs.declared.types.FuncType.{FuncType}
 use Rattle.wasm_defs.specs.declared.types.ValType.TheVariants.{I32, I64}
 use Rattle.wasm_defs.specs.Typing.{Types, same_types}
-use Rattle.wasm_defs.specs.Context.{type_or_empty}
+use Rattle.wasm_defs.specs.Context.{type_or_empty, first_like, like}
 use Rattle.wasm_defs.specs.Items.{type_code}
-use Rattle.index_spaces.specs.Likes.{first_like, like, LikeIsLeast, key_of, first_index}
+use Rattle.index_spaces.specs.Likes.{LikeIsLeast, key_of, first_index}
 
 -- ---- equal types
 

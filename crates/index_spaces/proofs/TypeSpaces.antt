@@ -5,7 +5,8 @@ use Rattle.std.specs.Str.{bytes_eq}
 use Rattle.std.specs.declared.alloc.Global.{Global}
 use Rattle.std.proofs.lemmas.Bool.{cases_Bool}
 use Rattle.wasm_defs.specs.declared.types.FuncType.{FuncType}
-use Rattle.index_spaces.specs.Likes.{first_like, key_of, first_index, Firsts, index_of, HasFirst, AreFirst}
+use Rattle.wasm_defs.specs.Context.{first_like}
+use Rattle.index_spaces.specs.Likes.{key_of, first_index, Firsts, index_of, HasFirst, AreFirst}
 use Rattle.index_spaces.proofs.LikeLaws.{same, same-self, same-equal, key_of-same, first_like-here, first_like-there, first_index-here, first_index-there}
 
 -- ---- the new type's own

@@ -1,24 +1,14 @@
--- Which types of a module are equal. An indirect call tells the types of functions apart by what they are, and not by their
--- indices (WebAssembly Core 1.0, 4.4.5.10), so one index stands for all types that are equal: the least.
-use Rattle.std.specs.Prelude.{◌≡◌, ◌≢◌, ℕ, suc, ◌<◌, ◌≤◌, ◌&&◌, List, [], ◌∷◌, ◌++◌, map, length, Option, None, Some, option_map, slice_get, Vec, if◌then◌else◌}
+-- The least index of an equal type (`like`), and how it is kept.
+use Rattle.std.specs.Prelude.{◌≡◌, ◌≢◌, ℕ, suc, ◌<◌, ◌≤◌, List, [], ◌∷◌, ◌++◌, map, length, Option, None, Some, option_map, slice_get, Vec, if◌then◌else◌}
 use Rattle.std.specs.Ordering.{nat_cmp}
 use Rattle.std.specs.Cmp.Lexicographic.{slice_cmp}
 use Rattle.std.specs.Str.{bytes_eq}
 use Rattle.std.specs.BTreeMap.{BTreeMap, get_by}
 use Rattle.std.specs.declared.alloc.Global.{Global}
 use Rattle.wasm_defs.specs.declared.types.FuncType.{FuncType}
-use Rattle.wasm_defs.specs.Typing.{same_types}
-use Rattle.wasm_defs.specs.Context.{type_or_empty}
+use Rattle.wasm_defs.specs.Typing.{same_function_types}
+use Rattle.wasm_defs.specs.Context.{first_like, like}
 use Rattle.wasm_defs.specs.Items.{type_code}
-
--- the least index of a type that equals this one; where there is none, the number of types
-abbrev pub first_like : List FuncType → FuncType → ℕ
-first_like [] ty = 0
-first_like (t ∷ ts) ty = if same_types t.params ty.params && same_types t.results ty.results then 0 else suc (first_like ts ty)
-
--- the least index of a type that equals the type of an index
-abbrev pub like : List FuncType → ℕ → ℕ
-like types i = first_like types (type_or_empty (slice_get types i))
 
 -- it is the index of an equal type, and no type before it is equal
 abbrev pub LikeIsLeast : Type 0
@@ -35,7 +25,7 @@ key_of ty = map type_code ty.params ++ (0 ∷ map type_code ty.results)
 abbrev pub first_index : List FuncType → FuncType → Option ℕ
 first_index [] ty = None
 first_index (t ∷ ts) ty =
-    if same_types t.params ty.params && same_types t.results ty.results then Some 0 else option_map suc (first_index ts ty)
+    if same_function_types t ty then Some 0 else option_map suc (first_index ts ty)
 
 -- keys, and an index of each
 abbrev pub Firsts : Type 0

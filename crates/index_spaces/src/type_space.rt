@@ -3,7 +3,8 @@
 ghost use Rattle.std.specs.Prelude.{◌≡◌, ◌<◌, ◌≤◌, ◌++◌, [], ◌∷◌, map, length, unwrap_or, OnOk, OnErr, IfOk};
 ghost use Rattle.std.specs.BTreeMap.{IsUnchanged};
 ghost use Rattle.wasm_defs.specs.Items.{type_code};
-ghost use Rattle.index_spaces.specs.Likes.{key_of, like, index_of, HasFirst};
+ghost use Rattle.wasm_defs.specs.Context.{like};
+ghost use Rattle.index_spaces.specs.Likes.{key_of, index_of, HasFirst};
 
 use std::alloc::{AllocError, Global};
 use std::collections::BTreeMap;

@@ -1,13 +1,13 @@
 -- A module's context: what its items declare, each list the items of that sort in order (WebAssembly Core 1.0, 3.1 and
 -- 3.4.10).
-use Rattle.std.specs.Prelude.{ℕ, ◌+◌, List, [], ◌∷◌, ◌++◌, length, replicate, reverse, Option, None, Some}
+use Rattle.std.specs.Prelude.{ℕ, suc, ◌+◌, List, [], ◌∷◌, ◌++◌, length, replicate, reverse, Option, None, Some, slice_get, if◌then◌else◌}
 use Rattle.wasm_defs.specs.declared.context.GlobalType.{GlobalType}
 use Rattle.wasm_defs.specs.declared.item.Item.{Item}
 use Rattle.wasm_defs.specs.declared.item.Item.TheVariants.{Signature, Imported, Function, Table, Memory, Global}
 use Rattle.wasm_defs.specs.declared.item.Limits.{Limits}
 use Rattle.wasm_defs.specs.declared.types.FuncType.{FuncType}
 use Rattle.wasm_defs.specs.Bodies.{Group}
-use Rattle.wasm_defs.specs.Typing.{Types, Context, function_type}
+use Rattle.wasm_defs.specs.Typing.{Types, Context, function_type, same_function_types}
 
 abbrev pub types_of : List Item → List FuncType
 types_of [] = []
@@ -75,3 +75,15 @@ body_context c f gs = record c { locals = f.params ++ declared_types gs; results
 -- the type of the function with that index
 abbrev pub type_of_function : Context → ℕ → FuncType
 type_of_function c i = type_or_empty (function_type c i)
+
+-- ---- which types are equal: an indirect call tells the types of functions apart by what they are, and not by their indices
+-- (4.4.5.11), so one index stands for all types that are equal: the least
+
+-- the least index of a type that equals this one; where there is none, the number of types
+abbrev pub first_like : List FuncType → FuncType → ℕ
+first_like [] ty = 0
+first_like (t ∷ ts) ty = if same_function_types t ty then 0 else suc (first_like ts ty)
+
+-- the least index of a type that equals the type of an index
+abbrev pub like : List FuncType → ℕ → ℕ
+like types i = first_like types (type_or_empty (slice_get types i))

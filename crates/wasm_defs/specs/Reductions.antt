@@ -2,13 +2,13 @@
 --
 -- A weight is one reduction, or one constant that is moved to the operands. The entry of a declared function is one, and owes
 -- one more for each declared local.
-use Rattle.std.specs.Prelude.{ℕ, zero, suc, ◌+◌, Bool, ◌&&◌, List, [], ◌∷◌, ◌++◌, map, take, drop, reverse, length, Option, Some, None, nat_lt, if◌then◌else◌, slice_get, slice_index_or}
+use Rattle.std.specs.Prelude.{ℕ, zero, suc, ◌+◌, List, [], ◌∷◌, ◌++◌, map, take, drop, reverse, length, Option, Some, None, nat_lt, if◌then◌else◌, slice_get, slice_index_or}
 use Rattle.wasm_defs.specs.declared.types.FuncType.{FuncType}
 use Rattle.wasm_defs.specs.declared.value.TrapKind.TheVariants as trap
 use Rattle.wasm_defs.specs.declared.token.Plain.{Plain}
 use Rattle.wasm_defs.specs.declared.token.Plain.TheVariants.{Unreachable, Br, BrIf, BrTable, Return, Call, CallIndirect}
 use Rattle.wasm_defs.specs.Trees.{Seq, Nothing, Simple, Block, Loop, If, IfElse}
-use Rattle.wasm_defs.specs.Typing.{Types, Signature, same_types}
+use Rattle.wasm_defs.specs.Typing.{Types, Signature, same_function_types}
 use Rattle.wasm_defs.specs.Places.{shape}
 use Rattle.wasm_defs.specs.Values.{Value, zero_of}
 use Rattle.wasm_defs.specs.Host.{Reply, Taken, Goes, Stops, taken}
@@ -105,10 +105,6 @@ call c rest operands None = Stuck
 call c rest operands (Some f) =
     let count = length (type_of f).params in
     start_function c.store (Some f) (reverse (take count operands)) (record c.frame { operands = drop count operands; code = rest } ∷ c.callers) c.later
-
--- the types of two functions are the same
-abbrev pub same_function_types : FuncType → FuncType → Bool
-same_function_types f g = same_types f.params g.params && same_types f.results g.results
 
 abbrev pub call_typed : Config → Seq → List Value → Option FuncType → Option Function → Step
 call_typed c rest operands None f = Stuck
