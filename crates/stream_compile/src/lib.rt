@@ -18,10 +18,3 @@ pub use compiling::{stream_check, stream_compile};
 pub use laws::{
     ended_is_owed, faults_share_no_offset, faults_stay, verdicts_are_one, what_stopped_decides,
 };
-
-#[cfg(test)]
-mod faults;
-#[cfg(test)]
-mod operations;
-#[cfg(test)]
-mod tests;

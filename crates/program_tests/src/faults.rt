@@ -1,6 +1,6 @@
 //! Faults of modules, each with its kind and its byte, as they were worked out by hand.
 
-use crate::tests::{ADD, HEADER, OK, answer, answer_bytewise, answer_in_two, bytes_of};
+use crate::answers::{ADD, HEADER, OK, answer, answer_bytewise, answer_in_two, bytes_of};
 use std::alloc::Global;
 use std::sync::Wait;
 use std::test::Fail;

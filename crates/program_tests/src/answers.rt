@@ -1,11 +1,11 @@
 //! Answers that were worked out by hand.
 
-use crate::{CheckAnswer, Checked, Settings, stream_check, top};
 use io_edges::{Flat, OpenGate, Page, Pieces};
 use std::alloc::{AllocError, Global};
 use std::sync::Wait;
 use std::test::Fail;
 use std::thread::Threads;
+use stream_compile::{CheckAnswer, Checked, Settings, stream_check, top};
 use wasm_defs::{Kind, Refusal};
 
 /// The magic bytes and the version.

@@ -1,0 +1,96 @@
+//! Bodies of nested control, made by a generator of pseudo-random numbers, on the machine and by a plain interpreter of the
+//! reduction rules (WebAssembly Core 1.0, 4.4.5).
+
+mod generator;
+mod interpreter;
+mod tokens;
+
+use crate::answers::{HEADER, answer_to_line};
+use generator::body_of;
+use interpreter::{End, run_of};
+use std::alloc::{AllocError, Global};
+use std::sync::Wait;
+use std::test::Fail;
+use std::thread::Threads;
+use tokens::{Token, push_token};
+
+/// How many bodies are tried, each with every argument.
+const BODIES: u64 = 300;
+
+const ARGUMENTS: [i32; 4] = [0, 1, 5, -1];
+
+/// The most reductions of a run: loops end before.
+const MOST_STEPS: usize = 200_000;
+
+/// A length of at most two bytes as LEB128 (Core 5.2.2), always as two, so that lengths don't depend on one another.
+fn push_length(bytes: &mut Vec<u8>, length: usize) -> Result<(), AllocError> {
+    bytes.push((length % 128) as u8 + 128)?;
+    bytes.push((length / 128 % 128) as u8)?;
+    Ok(())
+}
+
+/// The module that exports as `f` a function of type [i32] to [i32], with two locals beside its parameter, and this body.
+fn module_of(alloc: Global, tokens: &[Token]) -> Result<Vec<u8>, Fail> {
+    let mut code = Vec::new(alloc);
+    for byte in [1, 2, 0x7F] {
+        code.push(byte)?;
+    }
+    for token in tokens {
+        push_token(&mut code, *token)?;
+    }
+    let mut module = crate::answers::bytes_of(
+        alloc,
+        &[
+            HEADER,
+            "01 06 01 60 01 7F 01 7F 03 02 01 00 07 05 01 01 66 00 00 0A",
+        ],
+    )?;
+    push_length(&mut module, code.len().saturating_add(3))?;
+    module.push(1)?;
+    push_length(&mut module, code.len())?;
+    for byte in &code {
+        module.push(*byte)?;
+    }
+    Ok(module)
+}
+
+/// The program's answer where the run ends so.
+fn line_of(alloc: Global, end: End) -> Result<String, Fail> {
+    Ok(match end {
+        End::Returned(value) => format!(in alloc; "0 i32 {value}\n")?,
+        End::Trapped => String::from_str(alloc, "4 trap unreachable\n")?,
+        End::Lost(why) => return Err(Fail::new(why)),
+    })
+}
+
+/// What the program answers in another way than the interpreter, or nothing.
+fn difference<R: Threads + Wait + Sync>(
+    rt: &R,
+    alloc: Global,
+    tokens: &[Token],
+) -> Result<String, Fail> {
+    let module = module_of(alloc, tokens)?;
+    for argument in ARGUMENTS {
+        let want = line_of(alloc, run_of(alloc, tokens, argument, MOST_STEPS)?)?;
+        let line = format!(in alloc; "wstream run f i32:{argument}")?;
+        let told = answer_to_line(rt, alloc, line.as_str(), &module)?;
+        if told.as_str() != want.as_str() {
+            return Ok(format!(in alloc; "{line}: {told} and not {want}")?);
+        }
+    }
+    Ok(String::new(alloc))
+}
+
+#[test]
+fn nested_control_runs_by_the_reduction_rules(rt: HostRuntime) -> Result<(), Fail> {
+    let alloc = rt.alloc();
+    for seed in 0..BODIES {
+        let tokens = body_of(alloc, seed)?;
+        assert_eq!(rt;
+            difference(&rt, alloc, &tokens)?.as_str(),
+            "",
+            "seed {seed}"
+        );
+    }
+    Ok(())
+}

@@ -1,0 +1,12 @@
+//! Tests of the whole program, by its one call: answers that were worked out by hand, and answers that others give. They stand in a
+//! crate of their own, so that a change of a test proves nothing else again.
+#![tactic(auto)]
+
+#[cfg(test)]
+mod answers;
+#[cfg(test)]
+mod control;
+#[cfg(test)]
+mod faults;
+#[cfg(test)]
+mod operations;
