@@ -1,5 +1,5 @@
 -- Which types of a module are equal. An indirect call tells the types of functions apart by what they are, and not by their
--- indices (WebAssembly Core 1.0, 4.4.5.10), so one index stands for all types that are equal: the least.
+-- indices (WebAssembly Core 1.0, 4.4.5.11), so one index stands for all types that are equal: the least.
 use Rattle.std.specs.Prelude.{◌≡◌, ◌≢◌, ℕ, suc, ◌<◌, ◌≤◌, ◌&&◌, List, [], ◌∷◌, ◌++◌, map, length, Option, None, Some, option_map, slice_get, Vec, if◌then◌else◌}
 use Rattle.std.specs.Ordering.{nat_cmp}
 use Rattle.std.specs.Cmp.Lexicographic.{slice_cmp}

@@ -5,7 +5,7 @@ ghost use Rattle.std.specs.Prelude.{◌≡◌};
 use crate::types::ValType;
 use std::marker::Model;
 
-/// A name's bytes, which are UTF-8 (Core 5.2.4).
+/// A name's bytes (Core 5.2.4). Those of a module's names are UTF-8, as its readers find; the type holds any bytes.
 #[derive(Debug, Drop)]
 pub struct Name {
     bytes: Vec<u8>,
