@@ -5,3 +5,4 @@ pub mod OneCode
 pub mod Compiled
 pub mod SpelledModules
 pub mod Longest
+pub mod WrongLocals

@@ -1,6 +1,5 @@
 -- Bodies are read as they are spelled.
-use Rattle.std.proofs.Common.{◌≡◌, ◌≤◌, ◌<◌, ℕ, zero, suc, ◌+◌, ◌-◌, ltb, List, [], ◌∷◌, ◌++◌, length, replicate, None, refl, sym, ap, subst, ◌∙◌, arith, length-append}
-use Rattle.std.proofs.Math.ListN.{length-replicate}
+use Rattle.std.proofs.Common.{◌≡◌, ◌≤◌, ◌<◌, ℕ, zero, suc, ◌+◌, ◌-◌, ltb, List, [], ◌∷◌, ◌++◌, length, None, refl, sym, ap, subst, ◌∙◌, arith, length-append}
 use Rattle.std.proofs.lemmas.Bool.{le-ltb}
 use Rattle.wasm_defs.proofs.NumberLaws.{AreBytes}
 use Rattle.wasm_defs.specs.declared.fault.Kind.TheVariants.{Limit}
@@ -22,7 +21,7 @@ use Rattle.wasm_laws.specs.Steadiness as steady
 use Rattle.wasm_laws.proofs.Steady.{IfGot, always}
 use Rattle.wasm_laws.proofs.Windows.{cut_got}
 use Rattle.wasm_laws.proofs.Parts.{then_got, got_map}
-use Rattle.wasm_laws.proofs.Locals.{locals_are_few}
+use Rattle.wasm_laws.proofs.Locals.{types_cons, locals_are_few}
 use Rattle.wasm_laws.proofs.Spelt.{cursor, Ready, Found, later, found_nothing, found_then, found_as, read, unless, Reads, reads_then, reads_last, reads_else}
 use Rattle.wasm_laws.proofs.SpeltFields.{byte_spelt, u32_spelt}
 use Rattle.wasm_laws.proofs.SpeltParts.{value_type_spelt}
@@ -180,7 +179,7 @@ tokens_read (suc n) (suc depth) last at end bytes (t ∷ ts) closes lt fits j =
 
 -- ---- locals
 
-group_found : (declared : ℕ) (c : Cursor) → Ready c → IfGot (λ g d. Found (group_is g) (Unit {0}) c d) (group declared c)
+pub group_found : (declared : ℕ) (c : Cursor) → Ready c → IfGot (λ g d. Found (group_is g) (Unit {0}) c d) (group declared c)
 unfolding group
 group_found declared c ready =
     read _ _ u32 _ _ c u32_spelt ready (λ n d n_found ready.
@@ -212,9 +211,6 @@ group_read declared g fits =
     reads_past u32 _ g.count g (listed_index_is g.count) (listed_type_is g.ty) (index_reads g.count) (λ o.
     reads_else (ltb max_locals (declared + g.count)) _ _ g _ (le-ltb max_locals (declared + g.count) fits)
     (reads_only value_type _ g.ty g (listed_type_is g.ty) (λ o. value_type_spelt.complete (o, g.ty) tt) (λ o c. refl)))
-
-types_cons : (g : Group) (gs : List Group) → length (declared_types (g ∷ gs)) ≡ g.count + length (declared_types gs)
-types_cons g gs = omega (arith, length-append (replicate g.count g.ty) (declared_types gs), length-replicate g.count g.ty)
 
 groups_read : (n declared : ℕ) (gs : List Group) → length gs ≡ n → declared + length (declared_types gs) ≤ max_locals → Reads (groups n declared) gs (each_is group_is gs)
 groups_read zero declared [] len fits = record { by = λ at end front back le e. nothing at end front back e }

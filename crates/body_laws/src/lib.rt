@@ -6,5 +6,5 @@ mod spelling;
 
 pub use spelling::{
     bodies_are_spelled, codes_are_one, fronts_are_read, modules_have_spelled_bodies,
-    opcodes_are_rows,
+    opcodes_are_rows, wrong_locals_are_told,
 };

@@ -6,7 +6,8 @@ ghost use Rattle.wasm_defs.specs.declared.operation.LoadOp.{LoadOp};
 ghost use Rattle.wasm_defs.specs.declared.operation.Operation.{Operation};
 ghost use Rattle.wasm_defs.specs.declared.operation.StoreOp.{StoreOp};
 ghost use Rattle.wasm_defs.specs.declared.token.Token.{Token};
-ghost use Rattle.wasm_defs.specs.Bodies.{body_read, Group, last_of};
+ghost use Rattle.wasm_defs.specs.declared.fault.Refusal.{Refusal};
+ghost use Rattle.wasm_defs.specs.Bodies.{body_read, Group, last_of, no_code, stops};
 ghost use Rattle.wasm_defs.specs.Codes.{Code, group_is, listed_vector_is, load_code, operation_code, store_code};
 ghost use Rattle.wasm_defs.specs.Opcodes.{accesses, operations};
 ghost use Rattle.wasm_defs.specs.Trees.{Seq, Tree};
@@ -16,6 +17,7 @@ ghost use Rattle.wasm_laws.specs.Kept.{LocalsAreFew};
 ghost use Rattle.wasm_laws.specs.Sections.{AreBytes};
 ghost use Rattle.body_laws.specs.Reading.{IsReadAs, IsReadThrough};
 ghost use Rattle.body_laws.specs.Spelled.{IsSpelledModule};
+ghost use Rattle.body_laws.specs.WrongLocals.{AreLocalsWrong, BeginNoLocals};
 
 /// The tables of opcodes have a row for each operation, load and store, at its opcode, and no other rows.
 pub fn opcodes_are_rows()
@@ -47,6 +49,14 @@ pub fn fronts_are_read()
     ensures { (first : ℕ) (front back : List ℕ) (groups : List Group) →
         AreBytes (front ++ back) → listed_vector_is group_is groups first front → LocalsAreFew groups →
         IsReadThrough groups (first + length front) back (last_of first (front ++ back)) (body_read first (front ++ back)) }
+{}
+
+/// Of bytes at whose front no groups of locals are spelled that keep their limit, nothing is read. Behind the fields of groups that
+/// are spelled stands one that isn't, and there stands the fault; or the bytes end in it, and it stands at the last one; or a count
+/// is spelled with which the locals pass their limit, and it stands at that count.
+pub fn wrong_locals_are_told()
+    ensures { (first : ℕ) (bytes : List ℕ) → AreBytes bytes → BeginNoLocals first bytes →
+        (r : Refusal) × (body_read first bytes ≡ no_code (stops (Some r))) × AreLocalsWrong first bytes (last_of first bytes) r }
 {}
 
 /// A module is what is spelled, its bodies too: the sections keep the grammar and the rules, and the bytes of each body spell

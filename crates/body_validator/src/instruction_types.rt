@@ -225,7 +225,7 @@ pub fn rule_for<'a>(scope: &Scope<'a>, stack: &Stack<'a>, plain: &Plain) -> Opti
     }
 }
 
-/// What a block takes and gives (Core 3.2.2).
+/// What a block takes and gives (Core 2.3.2).
 pub fn block_types<'a>(
     scope: &Scope<'a>,
     block: BlockType,

@@ -1,4 +1,4 @@
--- The words of integer operations (WebAssembly Core 1.0, 4.3.2 and 4.3.3) on registers: the first operand is in t0, the second in
+-- The words of integer operations (WebAssembly Core 1.0, 4.3.2 and 4.3.4) on registers: the first operand is in t0, the second in
 -- t1, and the result comes into t0. An i32 stands extended by its sign.
 use Rattle.std.specs.Prelude.{ℕ, List, [], ◌∷◌, ◌++◌}
 use Rattle.rv_isa.specs.declared.operations.BranchOp.TheVariants.{Bne}

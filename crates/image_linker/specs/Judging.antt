@@ -46,8 +46,8 @@ abbrev pub IsVerdictOf : List ℕ → Verdict → Type 0
 IsVerdictOf bytes (Accepted m) = IsModuleOf bytes m
 IsVerdictOf bytes (Rejected r) = IsFaultOf bytes r × ((s : Refusal) → IsFaultOf bytes s → r.offset ≤ s.offset)
 
--- What decides where a source failed behind these bytes: of their faults but that more bytes are owed, the one of least offset; or
--- none (WebAssembly Web API 1.0, streaming compilation).
+-- What decides where a source failed behind these bytes: of their faults, those aside by which more bytes are owed, the one of
+-- least offset; or none (WebAssembly Web API 1.0, streaming compilation).
 abbrev pub IsStoppedAt : List ℕ → Option Refusal → Type 0
 IsStoppedAt bytes None = (r : Refusal) → IsFaultOf bytes r → r.kind ≡ Ended
 IsStoppedAt bytes (Some r) = IsFaultOf bytes r × (r.kind ≢ Ended) × ((s : Refusal) → IsFaultOf bytes s → s.kind ≢ Ended → r.offset ≤ s.offset)

@@ -1,4 +1,4 @@
-//! The words of integer instructions (WebAssembly Core 1.0, 2.4.1, 4.3.2 and 4.3.3): constants, and the operations by their
+//! The words of integer instructions (WebAssembly Core 1.0, 2.4.1, 4.3.2 and 4.3.4): constants, and the operations by their
 //! sorts. `Bodies` and `Templates` of `frame_layout` have the words.
 #![tactic(auto)]
 

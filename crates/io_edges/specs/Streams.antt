@@ -19,6 +19,12 @@ ReadCounts (got.Bytes n) before now = now ≡ before
 ReadCounts got.End before now = now ≡ before
 ReadCounts got.Failed before now = Rose before now
 
+-- bytes leave the source open, so that it may be read again; of the other answers nothing is said
+abbrev pub ReadsOn : Got → Bool → Type 0
+ReadsOn (got.Bytes n) open_now = open_now ≡ true
+ReadsOn got.End open_now = Unit {0}
+ReadsOn got.Failed open_now = Unit {0}
+
 -- What a write added to the bytes written, where they are told: the answer, the piece, the bytes written before and after.
 abbrev pub Writes : Put → List ℕ → Option (List ℕ) → Option (List ℕ) → Type 0
 Writes (put.Took n) piece old new = (0 < n) × (n ≤ length piece) × (new ≡ append_known old (take n piece))
@@ -28,6 +34,11 @@ Writes put.Failed piece old new = new ≡ old
 abbrev pub WriteCounts : Put → ℕ → ℕ → Type 0
 WriteCounts (put.Took n) before now = now ≡ before
 WriteCounts put.Failed before now = Rose before now
+
+-- a write that took bytes leaves the sink open, so that it may be written to again; of `Failed` nothing is said
+abbrev pub WritesOn : Put → Bool → Type 0
+WritesOn (put.Took n) open_now = open_now ≡ true
+WritesOn put.Failed open_now = Unit {0}
 
 -- What the writing of a whole text did: whether the sink took it, the text, the bytes written before and after, and the count of faults before and now.
 abbrev pub WritesText : Bool → List ℕ → Option (List ℕ) → Option (List ℕ) → ℕ → ℕ → Type 0

@@ -1,6 +1,6 @@
 //! Sources and sinks over readers and writers, as standard input and output are.
 
-ghost use Rattle.std.specs.Prelude.{◌≡◌, ◌≤◌, ◌<◌, None, length};
+ghost use Rattle.std.specs.Prelude.{◌≡◌, ◌≤◌, ◌<◌, true, None, length};
 ghost use Rattle.std.specs.Io.{ReadsAtMost, WritesAtMost};
 ghost use Rattle.std.specs.Io.KnownBytes.{ReadConsumes, WriteAppends};
 ghost use Rattle.io_edges.specs.Causes.{one_more};
@@ -44,6 +44,8 @@ impl<R: Read> Source for InputEdge<R> {
     ghost left = { λ _. None };
 
     ghost faults = { λ e. e.faults };
+
+    ghost is_open = { λ _. true };
 
     fn read(&mut self, buf: &mut [u8]) -> Got
         requires { 0 < length buf.old }
@@ -117,6 +119,8 @@ impl<W: Write> Sink for OutputEdge<W> {
     ghost written = { λ _. None };
 
     ghost faults = { λ e. e.faults };
+
+    ghost is_open = { λ _. true };
 
     fn write(&mut self, piece: &[u8]) -> Put
         requires { 0 < length piece.now }

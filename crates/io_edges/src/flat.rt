@@ -1,4 +1,4 @@
-ghost use Rattle.std.specs.Prelude.{◌≡◌, ◌≢◌, ◌<◌, Some, length};
+ghost use Rattle.std.specs.Prelude.{◌≡◌, ◌≢◌, ◌<◌, true, Some, length};
 ghost use Rattle.io_edges.specs.Streams.{Reads};
 
 use crate::source::{Got, Source};
@@ -33,6 +33,8 @@ impl<'a> Source for Flat<'a> {
     ghost left = { λ s. Some s };
 
     ghost faults = { λ _. 0 };
+
+    ghost is_open = { λ _. true };
 
     fn read(&mut self, buf: &mut [u8]) -> Got
         requires { 0 < length buf.old }

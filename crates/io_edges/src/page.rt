@@ -1,4 +1,4 @@
-ghost use Rattle.std.specs.Prelude.{◌≡◌, ◌≤◌, ◌<◌, ◌↔◌, [], Some, IfOk, length};
+ghost use Rattle.std.specs.Prelude.{◌≡◌, ◌≤◌, ◌<◌, ◌↔◌, true, [], Some, IfOk, length};
 
 use crate::sink::{Put, Sink};
 use std::alloc::{AllocError, Global};
@@ -54,6 +54,8 @@ impl Sink for Page {
     ghost written = { λ p. Some p.bytes };
 
     ghost faults = { λ p. p.faults };
+
+    ghost is_open = { λ _. true };
 
     fn write(&mut self, piece: &[u8]) -> Put
         requires { 0 < length piece.now }

@@ -1,4 +1,4 @@
-ghost use Rattle.std.specs.Prelude.{ℕ, ◌≡◌, ◌+◌, ◌≤◌, ◌<◌, ◌↔◌, Some, IfOk, IfSome, EachIndex, slice_index, length};
+ghost use Rattle.std.specs.Prelude.{ℕ, true, ◌≡◌, ◌+◌, ◌≤◌, ◌<◌, ◌↔◌, Some, IfOk, IfSome, EachIndex, slice_index, length};
 
 use crate::source::{Got, Source};
 use std::alloc::{AllocError, Global};
@@ -75,6 +75,8 @@ impl Source for Pieces {
     ghost left = { λ p. Some (bytes_left p) };
 
     ghost faults = { λ p. p.faults };
+
+    ghost is_open = { λ _. true };
 
     fn read(&mut self, buf: &mut [u8]) -> Got
         requires { 0 < length buf.old }

@@ -1,4 +1,4 @@
-ghost use Rattle.std.specs.Prelude.{◌≡◌, ◌≤◌, ◌↔◌, length, IfOk, OnErr, vec_len};
+ghost use Rattle.std.specs.Prelude.{◌≡◌, ◌≤◌, ◌↔◌, true, length, IfOk, OnErr, vec_len};
 ghost use Rattle.std.specs.Io.KnownBytes.{prepend_known};
 ghost use Rattle.io_edges.specs.Stops.{StopsFor};
 
@@ -30,11 +30,12 @@ const CHUNK: usize = 65_536;
 
 /// Reads to the source's end, to its fault, or to `limit` bytes, whichever comes first.
 ///
-/// It asks for no byte beyond the limit, so at `Full` the source may be at its end.
+/// It asks for no byte beyond the limit, so at `Full` the source may be at its end. It doesn't read on after the end or a fault.
 ///
 /// After an `Err` the bytes that came are lost, and the count of faults hasn't changed.
 #[tactic(auto, using(crate::proofs::Known::prepend_more, crate::proofs::Known::prepend_nothing))]
 pub fn read_all<S: Source>(alloc: Global, source: &mut S, limit: usize) -> Result<Input, AllocError>
+    requires { S.is_open source.old ≡ true }
     ensures took { IfOk result (λ input.
         S.left source.old ≡ prepend_known input.bytes.items (S.left source.new)) }
     ensures most { IfOk result (λ input. length input.bytes.items ≤ limit) }

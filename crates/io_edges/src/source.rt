@@ -1,5 +1,5 @@
-ghost use Rattle.std.specs.Prelude.{◌<◌, ◌≤◌, ℕ, List, Option, length};
-ghost use Rattle.io_edges.specs.Streams.{Reads, ReadCounts};
+ghost use Rattle.std.specs.Prelude.{◌≡◌, ◌<◌, ◌≤◌, ℕ, Bool, true, List, Option, length};
+ghost use Rattle.io_edges.specs.Streams.{Reads, ReadCounts, ReadsOn};
 
 /// What a read gave.
 #[derive(Debug, Clone, Copy, PartialEq, Eq)]
@@ -23,16 +23,21 @@ pub trait Source {
     /// How often it has failed.
     ghost faults: { Self → ℕ };
 
+    /// Whether it may be read: `End` and `Failed` don't leave it so.
+    ghost is_open: { Self → Bool };
+
     /// Reads some bytes into a buffer that isn't empty.
     ///
     /// `Bytes(n)` hands over the first n bytes left, `End` comes only where nothing is left, and
     /// `Failed` only where the count of faults rose; the bytes left stay then. Any other answer
     /// leaves the count as it is. What stands in the buffer after the bytes handed over is open.
     ///
-    /// A caller doesn't read on after `End` or `Failed`.
+    /// A caller doesn't read on after `End` or `Failed`: only `Bytes` leaves the source open.
     fn read(&mut self, buf: &mut [u8]) -> Got
-        requires { 0 < length buf.old }
+        requires room { 0 < length buf.old }
+        requires open { is_open self.old ≡ true }
         ensures bytes { Reads result buf.new (left self.old) (left self.new) }
         ensures cause { ReadCounts result (faults self.old) (faults self.new) }
-        ensures never_falls { faults self.old ≤ faults self.new };
+        ensures never_falls { faults self.old ≤ faults self.new }
+        ensures on { ReadsOn result (is_open self.new) };
 }

@@ -1,3 +1,4 @@
+ghost use Rattle.std.specs.Prelude.{◌≡◌, true};
 ghost use Rattle.io_edges.specs.Streams.{WritesText};
 
 use crate::sink::{Put, Sink};
@@ -8,6 +9,7 @@ use crate::sink::{Put, Sink};
 /// written.
 #[tactic(auto, using(crate::proofs::Known::append_more, crate::proofs::Known::append_nothing, crate::proofs::Known::take_step))]
 pub fn write_all<O: Sink>(out: &mut O, text: &[u8]) -> bool
+    requires { O.is_open out.old ≡ true }
     ensures { WritesText result text.now (O.written out.old) (O.written out.new)
         (O.faults out.old) (O.faults out.new) }
 {

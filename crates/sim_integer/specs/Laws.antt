@@ -1,4 +1,4 @@
--- What the words of numeric instructions do (WebAssembly Core 1.0, 4.3.2 and 4.3.3): the operands stand in the uppermost slots of
+-- What the words of numeric instructions do (WebAssembly Core 1.0, 4.3.2 and 4.3.4): the operands stand in the uppermost slots of
 -- the frame, as words of their types, and the result comes into the lowest of them.
 use Rattle.std.specs.Prelude.{◌≡◌, ℕ, ◌+◌, ◌-◌, ◌^◌, ◌<◌, ◌≤◌, List, length, Option}
 use Rattle.rv_isa.specs.declared.operations.Op.{Op}

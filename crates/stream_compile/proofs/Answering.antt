@@ -22,15 +22,15 @@ use Rattle.stream_compile.specs.declared.output.Output.{Output}
 use Rattle.stream_compile.specs.Came.{Came}
 use Rattle.stream_compile.specs.Done.{IsModuleOfSize, IsDone}
 use Rattle.stream_compile.specs.Running.{IsRunnable, NeverFaults, RunsAs}
-use Rattle.stream_compile.specs.Compiling.{IsBuilt, IsRefused, Answered, CheckAnswered}
+use Rattle.stream_compile.specs.Compiling.{IsBuilt, IsRefused, CompilesSource, ChecksSource}
 use Rattle.stream_compile.specs.Reading.{Settled, Judged, checked_of, answer_of, of_lasting, stopped_answer, view}
-use Rattle.stream_compile.specs.Texts.{Outcome, usage, read_fault, accepted, rejected, IsOutcome, Comes}
+use Rattle.stream_compile.specs.Texts.{Outcome, usage, read_fault, accepted, rejected, IsOutcome, ComesTo}
 use Rattle.stream_compile.proofs.Stopped.{stopped_of_verdict}
 use Rattle.stream_compile.proofs.Calls.{never_faults, run_done}
 
 -- ---- what bytes come to that were read to their source's end
 
-refused_by : (failed b : Bool) (left rest : Option (List ℕ)) (bytes : List ℕ) (r : Refusal) → failed ≡ b → Came left rest b bytes → IsRefused b bytes r → CheckAnswered failed left rest (check.Refused r)
+refused_by : (failed b : Bool) (left rest : Option (List ℕ)) (bytes : List ℕ) (r : Refusal) → failed ≡ b → Came left rest b bytes → IsRefused b bytes r → ChecksSource failed left rest (check.Refused r)
 refused_by failed b left rest bytes r e came is = rw e (bytes, came, is)
 
 -- with more bytes behind the module there is none that was read
@@ -73,7 +73,7 @@ valid_of : (bytes : List ℕ) (checked : Checked) (s : Compilation) (d : IsDone 
 valid_of bytes checked s d e = rw e d.is
 
 -- without the codes
-pub judged_checked : (failed : Bool) (left rest : Option (List ℕ)) (r : CheckAnswer) (s : Compilation) → Judged failed left rest r s → CheckAnswered failed left rest r
+pub judged_checked : (failed : Bool) (left rest : Option (List ℕ)) (r : CheckAnswer) (s : Compilation) → Judged failed left rest r s → ChecksSource failed left rest r
 judged_checked failed left rest (check.Valid checked) s (calm, bytes, came, end, d, e) = (calm, bytes, came, end, (d.«module», valid_of bytes checked s d e))
 judged_checked failed left rest (check.Refused r) s h = h
 judged_checked failed left rest check.ReadFault s h = h
@@ -82,12 +82,12 @@ judged_checked failed left rest check.NoMemory s h = h
 pub judged_done : (failed : Bool) (left rest : Option (List ℕ)) (checked : Checked) (s : Compilation) → Judged failed left rest (check.Valid checked) s → (bytes : List ℕ) × IsDone bytes s
 judged_done failed left rest checked s (calm, bytes, came, end, d, e) = (bytes, d)
 
-pub judged_built : (failed : Bool) (left rest : Option (List ℕ)) (checked : Checked) (s : Compilation) (built : Built) → Judged failed left rest (check.Valid checked) s → ((bytes : List ℕ) → IsDone bytes s → IsBuilt bytes built) → Answered failed left rest (answer.Image built)
+pub judged_built : (failed : Bool) (left rest : Option (List ℕ)) (checked : Checked) (s : Compilation) (built : Built) → Judged failed left rest (check.Valid checked) s → ((bytes : List ℕ) → IsDone bytes s → IsBuilt bytes built) → CompilesSource failed left rest (answer.Image built)
 judged_built failed left rest checked s built (calm, bytes, came, end, d, e) is = (calm, bytes, came, end, is bytes d)
 
 -- ---- what the program tells
 
-pub usage_comes : (r : Result Output AllocError) (command : Option Command) (failed : Bool) (left rest : Option (List ℕ)) → command ≡ None → IfOk r (λ a. view a ≡ usage) → IfOk r (λ o. Comes command failed left rest (view o))
+pub usage_comes : (r : Result Output AllocError) (command : Option Command) (failed : Bool) (left rest : Option (List ℕ)) → command ≡ None → IfOk r (λ a. view a ≡ usage) → IfOk r (λ o. ComesTo command failed left rest (view o))
 usage_comes (Ok a) command failed left rest none e = rw none e
 usage_comes (Err x) command failed left rest none e = tt
 
@@ -95,35 +95,35 @@ valid_outcome : (options : Options) (bytes : List ℕ) (checked : Checked) (o : 
 valid_outcome options bytes checked o (m, is) e =
     (Accepted m, is.is, (is.same, e ∙ ap (λ (n : ℕ). accepted n checked.bytes) is.functions_are ∙ ap (λ (n : ℕ). accepted (declared_count m.items) n) is.size_is))
 
-pub valid_comes : (r : Result Output AllocError) (options : Options) (failed : Bool) (left rest : Option (List ℕ)) (checked : Checked) → CheckAnswered failed left rest (check.Valid checked)
-    → IfOk r (λ o. view o ≡ accepted checked.functions checked.bytes) → IfOk r (λ o. Comes (Some (Check options)) failed left rest (view o))
+pub valid_comes : (r : Result Output AllocError) (options : Options) (failed : Bool) (left rest : Option (List ℕ)) (checked : Checked) → ChecksSource failed left rest (check.Valid checked)
+    → IfOk r (λ o. view o ≡ accepted checked.functions checked.bytes) → IfOk r (λ o. ComesTo (Some (Check options)) failed left rest (view o))
 valid_comes (Ok a) options failed left rest checked (calm, bytes, came, end, is) e = rw calm (bytes, came, valid_outcome options bytes checked (view a) is e)
 valid_comes (Err x) options failed left rest checked h e = tt
 
 -- what a call of an image's function comes to is what that of the module's does
-pub image_comes : (r : Result Output AllocError) (call : Call) (failed : Bool) (left rest : Option (List ℕ)) (built : Built) → Answered failed left rest (answer.Image built)
-    → IfOk r (λ o. RunsAs built.image call (view o)) → IfOk r (λ o. Comes (Some (Run call)) failed left rest (view o))
+pub image_comes : (r : Result Output AllocError) (call : Call) (failed : Bool) (left rest : Option (List ℕ)) (built : Built) → CompilesSource failed left rest (answer.Image built)
+    → IfOk r (λ o. RunsAs built.image call (view o)) → IfOk r (λ o. ComesTo (Some (Run call)) failed left rest (view o))
 image_comes (Ok a) call failed left rest built (calm, bytes, came, end, is) e =
     let m = is.«module» in
     rw calm (bytes, came, (Accepted m, is.is.is, (is.is.same, run_done m built.image call (view a) is.image_is is.is.same e)))
 image_comes (Err x) call failed left rest built h e = tt
 
-pub runs_well : (failed : Bool) (left rest : Option (List ℕ)) (built : Built) → Answered failed left rest (answer.Image built) → IsRunnable built.image
+pub runs_well : (failed : Bool) (left rest : Option (List ℕ)) (built : Built) → CompilesSource failed left rest (answer.Image built) → IsRunnable built.image
 runs_well failed left rest built (calm, bytes, came, end, is) = is.runnable
 
-pub runs_without_fault : (failed : Bool) (left rest : Option (List ℕ)) (built : Built) → Answered failed left rest (answer.Image built) → NeverFaults built.image
+pub runs_without_fault : (failed : Bool) (left rest : Option (List ℕ)) (built : Built) → CompilesSource failed left rest (answer.Image built) → NeverFaults built.image
 runs_without_fault failed left rest built (calm, bytes, came, end, is) = never_faults is.«module» built.image is.image_is is.is.same
 
 refused_outcome : (c : Command) (failed : Bool) (bytes : List ℕ) (r : Refusal) (o : Outcome) → IsRefused failed bytes r → o ≡ rejected r → IsOutcome c failed bytes o
 refused_outcome c false bytes r o is e = (Rejected r, is, e)
 refused_outcome c true bytes r o is e = (Some r, is, e)
 
-pub rejected_comes : (r : Result Output AllocError) (c : Command) (failed : Bool) (left rest : Option (List ℕ)) (refusal : Refusal) → CheckAnswered failed left rest (check.Refused refusal)
-    → IfOk r (λ a. view a ≡ rejected refusal) → IfOk r (λ o. Comes (Some c) failed left rest (view o))
+pub rejected_comes : (r : Result Output AllocError) (c : Command) (failed : Bool) (left rest : Option (List ℕ)) (refusal : Refusal) → ChecksSource failed left rest (check.Refused refusal)
+    → IfOk r (λ a. view a ≡ rejected refusal) → IfOk r (λ o. ComesTo (Some c) failed left rest (view o))
 rejected_comes (Ok a) c failed left rest refusal (bytes, came, is) e = (bytes, came, refused_outcome c failed bytes refusal (view a) is e)
 rejected_comes (Err x) c failed left rest refusal h e = tt
 
-pub read_fault_comes : (r : Result Output AllocError) (c : Command) (failed : Bool) (left rest : Option (List ℕ)) → CheckAnswered failed left rest check.ReadFault
-    → IfOk r (λ a. view a ≡ read_fault) → IfOk r (λ o. Comes (Some c) failed left rest (view o))
+pub read_fault_comes : (r : Result Output AllocError) (c : Command) (failed : Bool) (left rest : Option (List ℕ)) → ChecksSource failed left rest check.ReadFault
+    → IfOk r (λ a. view a ≡ read_fault) → IfOk r (λ o. ComesTo (Some c) failed left rest (view o))
 read_fault_comes (Ok a) c failed left rest (fails, bytes, came, is) e = rw fails (bytes, came, (None, is, e))
 read_fault_comes (Err x) c failed left rest h e = tt

@@ -6,6 +6,7 @@ use Rattle.wasm_defs.specs.declared.front_stop.FrontStop.{FrontStop}
 use Rattle.wasm_defs.specs.declared.front_stop.FrontStop.TheVariants.{Refused, NoMemory}
 use Rattle.io_edges.specs.Causes.{Rose}
 use Rattle.stream_compile.specs.declared.compilation.Compilation.{Compilation}
+use Rattle.stream_compile.specs.Came.{IsRead}
 use Rattle.stream_compile.specs.Done.{Decides}
 use Rattle.stream_compile.specs.Reading.{Settles, Settled}
 use Rattle.stream_compile.specs.Streaming.{IsGoing, GoesOn}
@@ -29,10 +30,10 @@ module _ (s : Compilation) (came piece : List ℕ) (going : (more : List ℕ) �
 
 -- ---- what is settled
 
-module _ (came : List ℕ) (old new : Option (List ℕ)) (before now : ℕ) (e : old ≡ prepend_known came new) where
-  pub early : (s : FrontStop) (state : Compilation) → now ≡ before → length came ≤ 67108869 → ((more : List ℕ) → length (came ++ more) ≤ 67108869 → GoesOn (came ++ more) (Err s) state more) → Settled false (Err s) state old new before now
-  early (Refused r) state same few v = settled_early came r old new before now e same few v
-  early NoMemory state same few v = tt
+module _ (came : List ℕ) (old new : Option (List ℕ)) (before now : ℕ) (is : IsRead old new came) where
+  pub early : (s : FrontStop) (state : Compilation) → now ≡ before → ((more : List ℕ) → length (came ++ more) ≤ 67108869 → GoesOn (came ++ more) (Err s) state more) → Settled false (Err s) state old new before now
+  early (Refused r) state same v = settled_early came r old new before now is same v
+  early NoMemory state same v = tt
 
   whole : (failed : Bool) (r : Result (Unit {0}) FrontStop) (state : Compilation) → Settles came failed old new before now → Decides came r state → Settled failed r state old new before now
   whole failed (Ok done) state s d = (came, s, d)
@@ -40,10 +41,10 @@ module _ (came : List ℕ) (old new : Option (List ℕ)) (before now : ℕ) (e :
   whole failed (Err NoMemory) state s d = tt
 
   pub at_end : (r : Result (Unit {0}) FrontStop) (state : Compilation) → IsAtEnd new → now ≡ before → Decides came r state → Settled false r state old new before now
-  at_end r state end same d = whole false r state (settled_end came old new before now e end same) d
+  at_end r state end same d = whole false r state (settled_end came old new before now is end same) d
 
   pub at_fault : (r : Result (Unit {0}) FrontStop) (state : Compilation) → before < 2 ^ 64 - 1 → Rose before now → Decides came r state → Settled true r state old new before now
-  at_fault r state few rose d = whole true r state (settled_fault came old new before now few e rose) d
+  at_fault r state few rose d = whole true r state (settled_fault came old new before now few is rose) d
 
   pub at_limit : (r : Result (Unit {0}) FrontStop) (state : Compilation) → 67108869 ≤ length came → now ≡ before → Decides came r state → Settled false r state old new before now
-  at_limit r state le same d = whole false r state (settled_full came old new before now e le same) d
+  at_limit r state le same d = whole false r state (settled_full came old new before now is le same) d

@@ -1,5 +1,6 @@
 -- What was read settles the verdict of all that came.
 use Rattle.std.proofs.Common.{◌≡◌, ◌⊎◌, inl, inr, subst, ℕ, ◌^◌, ◌-◌, ◌<◌, ◌≤◌, Bool, true, false, List, [], ◌++◌, length, Option, Some, None, refl, sym, ap, ◌∙◌, take, drop, append_assoc, length-append, length-take, arith}
+use Rattle.std.specs.Prelude.{IfSome}
 use Rattle.std.specs.Io.KnownBytes.{prepend_known, IsAtEnd}
 use Rattle.std.proofs.lemmas.Bool.{lt-ltb, le-ltb, cases_lt}
 use Rattle.std.proofs.lemmas.List.{append-nil, take-append-drop}
@@ -11,19 +12,17 @@ use Rattle.wasm_laws.proofs.Bounded.{module_is_refused, module_stays}
 use Rattle.image_linker.specs.Judging.{IsTextFault, IsVerdictOf}
 use Rattle.io_edges.specs.Causes.{Rose}
 use Rattle.stream_compile.specs.Reading.{Settles}
-use Rattle.stream_compile.specs.Came.{Came}
+use Rattle.stream_compile.specs.Came.{IsRead, Came}
 use Rattle.stream_compile.proofs.Once.{verdict_once}
 
 -- ---- what came
 
-at_end : (read : List ℕ) (old new : Option (List ℕ)) → old ≡ prepend_known read new → IsAtEnd new → Came old new false read
-at_end read None new e end = tt
-at_end read (Some l) None e end = absurd cc
-at_end read (Some l) (Some r) e end = let h : l ≡ read ++ r = cc in sym (h ∙ ap (λ (x : List ℕ). read ++ x) end ∙ append-nil read)
+none_left : (rest : Option (List ℕ)) → IsAtEnd rest → IfSome rest (λ l. [] ≡ l)
+none_left None end = tt
+none_left (Some l) end = sym end
 
-at_fault : (read : List ℕ) (old new : Option (List ℕ)) → old ≡ prepend_known read new → Came old new true read
-at_fault read None new e = tt
-at_fault read (Some l) new e = e
+at_end : (read : List ℕ) (old new : Option (List ℕ)) → IsRead old new read → IsAtEnd new → Came old new false read
+at_end read old new is end = (read, [], is, none_left new end, sym (append-nil read))
 
 -- a fault of a module with this run, of so many bytes, and its first
 abbrev IsFaultIn : ℕ → Run → Refusal → Type 0
@@ -56,34 +55,33 @@ verdict_stays read more le (Rejected r) v =
     let h = module_is_refused read le in
     first_stays (length read) (length (read ++ more)) (module_run read) (module_run (read ++ more)) h.0 r h.1 (module_stays read more le) v
 
-when_full : (read : List ℕ) (old new : Option (List ℕ)) → old ≡ prepend_known read new → 67108869 ≤ length read → (bytes : List ℕ) × Came old new false bytes × ((v : Verdict) → IsVerdictOf read v → IsVerdictOf bytes v)
-when_full read None new e le = (read, tt, λ v p. p)
-when_full read (Some l) None e le = absurd cc
-when_full read (Some l) (Some r) e le = let h : l ≡ read ++ r = cc in (l, refl, λ v p. rw h (verdict_stays read r le v p))
+when_full : (read : List ℕ) (old new : Option (List ℕ)) → IsRead old new read → 67108869 ≤ length read → (bytes : List ℕ) × Came old new false bytes × ((v : Verdict) → IsVerdictOf read v → IsVerdictOf bytes v)
+when_full read old None is le = (read, (read, [], is, tt, sym (append-nil read)), λ v p. p)
+when_full read old (Some r) is le = (read ++ r, (read, r, is, refl, refl), λ v p. verdict_stays read r le v p)
 
-pub settled_end : (read : List ℕ) (old new : Option (List ℕ)) (before now : ℕ) → old ≡ prepend_known read new → IsAtEnd new → now ≡ before → Settles read false old new before now
-settled_end read old new before now e end same = record {
+pub settled_end : (read : List ℕ) (old new : Option (List ℕ)) (before now : ℕ) → IsRead old new read → IsAtEnd new → now ≡ before → Settles read false old new before now
+settled_end read old new before now is end same = record {
   failed_is = sym (le-ltb before now (omega (arith, same)));
   bytes = read;
-  came = at_end read old new e end;
+  came = at_end read old new is end;
   verdict = λ v p. p;
   whole = λ m p. refl;
   ended = λ f m p. end;
 }
 
-pub settled_fault : (read : List ℕ) (old new : Option (List ℕ)) (before now : ℕ) → before < 2 ^ 64 - 1 → old ≡ prepend_known read new → Rose before now → Settles read true old new before now
-settled_fault read old new before now few e rose = record {
+pub settled_fault : (read : List ℕ) (old new : Option (List ℕ)) (before now : ℕ) → before < 2 ^ 64 - 1 → IsRead old new read → Rose before now → Settles read true old new before now
+settled_fault read old new before now few is rose = record {
   failed_is = sym (lt-ltb before now (omega arith));
   bytes = read;
-  came = at_fault read old new e;
+  came = is;
   verdict = λ v p. p;
   whole = λ m p. refl;
   ended = λ f m p. absurd cc;
 }
 
-pub settled_full : (read : List ℕ) (old new : Option (List ℕ)) (before now : ℕ) → old ≡ prepend_known read new → 67108869 ≤ length read → now ≡ before → Settles read false old new before now
-settled_full read old new before now e le same =
-    let f = when_full read old new e le in
+pub settled_full : (read : List ℕ) (old new : Option (List ℕ)) (before now : ℕ) → IsRead old new read → 67108869 ≤ length read → now ≡ before → Settles read false old new before now
+settled_full read old new before now is le same =
+    let f = when_full read old new is le in
     record {
       failed_is = sym (le-ltb before now (omega (arith, same)));
       bytes = f.0;
@@ -94,38 +92,50 @@ settled_full read old new before now e le same =
     }
 
 -- the bytes that came have a fault, whatever follows, as far as bytes are read: reading goes no further
-pub settled_early : (came : List ℕ) (r : Refusal) (old new : Option (List ℕ)) (before now : ℕ) → old ≡ prepend_known came new → now ≡ before → length came ≤ 67108869
+pub settled_early : (came : List ℕ) (r : Refusal) (old new : Option (List ℕ)) (before now : ℕ) → IsRead old new came → now ≡ before
     → ((more : List ℕ) → length (came ++ more) ≤ 67108869 → IsVerdictOf (came ++ more) (Rejected r)) → (read : List ℕ) × Settles read false old new before now × IsVerdictOf read (Rejected r)
-settled_early came r None new before now e same few v =
-    let is = subst (λ (l : List ℕ). IsVerdictOf l (Rejected r)) (append-nil came) (v [] (omega (arith, ap length (append-nil came)))) in (
+settled_early came r old None before now is same v =
+    let here = subst (λ (l : List ℕ). IsVerdictOf l (Rejected r)) (append-nil came) (v [] (omega (arith, is.few, ap length (append-nil came)))) in (
       came,
       record {
         failed_is = sym (le-ltb before now (omega (arith, same)));
         bytes = came;
-        came = tt;
+        came = (came, [], is, tt, sym (append-nil came));
         verdict = λ w p. p;
         whole = λ m p. refl;
-        ended = λ f m p. absurd (let other : Accepted m ≡ Rejected r = verdict_once came (Accepted m) (Rejected r) p is in cc);
+        ended = λ f m p. absurd (let other : Accepted m ≡ Rejected r = verdict_once came (Accepted m) (Rejected r) p here in cc);
       },
-      is,
+      here,
     )
-settled_early came r (Some l) None before now e same few v = absurd cc
-settled_early came r (Some l) (Some rest) before now e same few v =
-    let all : l ≡ came ++ rest = cc in
+settled_early came r old (Some rest) before now is same v =
     let n = 67108869 - length came in
     let read = came ++ take n rest in
     elim (cases_lt n (length rest)) [
       | inl over ↦
-          let full : 67108869 ≤ length read = omega (arith, length-append came (take n rest), length-take n rest) in
-          let whole : l ≡ read ++ drop n rest = all ∙ ap (λ (x : List ℕ). came ++ x) (sym (take-append-drop n rest)) ∙ sym (append_assoc came (take n rest) (drop n rest)) in (
+          let full : 67108869 ≤ length read = omega (arith, is.few, length-append came (take n rest), length-take n rest) in
+          let whole : read ++ drop n rest ≡ came ++ rest = append_assoc came (take n rest) (drop n rest) ∙ ap (λ (x : List ℕ). came ++ x) (take-append-drop n rest) in (
             read,
-            (let s = settled_full read (Some l) (Some (drop n rest)) before now (ap (λ (x : List ℕ). Some x) whole) full same in
-            record { failed_is = s.failed_is; bytes = s.bytes; came = s.came; verdict = s.verdict; whole = s.whole; ended = λ f m p. absurd (no_module read full m p) }),
-            v (take n rest) (omega (arith, length-append came (take n rest), length-take n rest)),
+            record {
+              failed_is = sym (le-ltb before now (omega (arith, same)));
+              bytes = came ++ rest;
+              came = (came, rest, is, refl, refl);
+              verdict = λ w p. subst (λ (x : List ℕ). IsVerdictOf x w) whole (verdict_stays read (drop n rest) full w p);
+              whole = λ m p. absurd (no_module read full m p);
+              ended = λ f m p. absurd (no_module read full m p);
+            },
+            v (take n rest) (omega (arith, is.few, length-append came (take n rest), length-take n rest)),
           )
-      | inr fits ↦ (
-        came ++ rest,
-        record { failed_is = sym (le-ltb before now (omega (arith, same))); bytes = l; came = refl; verdict = λ w p. subst (λ (x : List ℕ). IsVerdictOf x w) (sym all) p; whole = λ m p. all; ended = λ f m p. absurd (let same : Accepted m ≡ Rejected r = verdict_once (came ++ rest) (Accepted m) (Rejected r) p (v rest (omega (arith, length-append came rest))) in cc) },
-        v rest (omega (arith, length-append came rest)),
-      )
+      | inr fits ↦
+          let all = v rest (omega (arith, is.few, length-append came rest)) in (
+            came ++ rest,
+            record {
+              failed_is = sym (le-ltb before now (omega (arith, same)));
+              bytes = came ++ rest;
+              came = (came, rest, is, refl, refl);
+              verdict = λ w p. p;
+              whole = λ m p. refl;
+              ended = λ f m p. absurd (let other : Accepted m ≡ Rejected r = verdict_once (came ++ rest) (Accepted m) (Rejected r) p all in cc);
+            },
+            all,
+          )
     ]

@@ -1,10 +1,15 @@
 -- What came from a source.
-use Rattle.std.specs.Prelude.{◌≡◌, ℕ, Bool, true, false, List, Option, None, Some}
+use Rattle.std.specs.Prelude.{◌≡◌, ◌≤◌, ℕ, Bool, true, false, List, ◌++◌, length, Option, IfSome}
 use Rattle.std.specs.Io.KnownBytes.{prepend_known}
+use Rattle.wasm_laws.specs.Runs.{deciding_length}
 
--- these bytes came from the source, which had the first left before, and has the second left behind: all that was left, or,
--- where it failed, what isn't left any more
-abbrev pub Came : (left rest : Option (List ℕ)) → Bool → List ℕ → Type 0
-Came None rest failed bytes = Unit {0}
-Came (Some left) rest false bytes = bytes ≡ left
-Came (Some left) rest true bytes = Some left ≡ prepend_known bytes rest
+-- These bytes were read of a source that had the first left before and has the second left behind: a front of what was left. They
+-- are no more than those that decide about any module.
+pub record IsRead (left rest : Option (List ℕ)) (read : List ℕ) : Type 0 where
+  pub taken : left ≡ prepend_known read rest
+  pub few : length read ≤ deciding_length
+
+-- These bytes came: all that were left, of which a front was read; or, where the source failed, those that were read.
+abbrev pub Came : (left rest : Option (List ℕ)) → (failed : Bool) → List ℕ → Type 0
+Came left rest false bytes = (read more : List ℕ) × IsRead left rest read × IfSome rest (λ l. more ≡ l) × (bytes ≡ read ++ more)
+Came left rest true bytes = IsRead left rest bytes

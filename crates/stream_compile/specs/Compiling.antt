@@ -32,15 +32,15 @@ IsRefused false bytes r = IsVerdictOf bytes (Rejected r)
 IsRefused true bytes r = IsStoppedAt bytes (Some r)
 
 -- by whether the source failed, and what was left in it before and behind; a good answer comes at its end
-abbrev pub Answered : Bool → (left rest : Option (List ℕ)) → Answer → Type 0
-Answered failed left rest (answer.Image built) = (failed ≡ false) × (bytes : List ℕ) × Came left rest false bytes × IsAtEnd rest × IsBuilt bytes built
-Answered failed left rest (answer.Refused r) = (bytes : List ℕ) × Came left rest failed bytes × IsRefused failed bytes r
-Answered failed left rest answer.ReadFault = (failed ≡ true) × (bytes : List ℕ) × Came left rest true bytes × IsStoppedAt bytes None
-Answered failed left rest answer.NoMemory = Unit {0}
+abbrev pub CompilesSource : Bool → (left rest : Option (List ℕ)) → Answer → Type 0
+CompilesSource failed left rest (answer.Image built) = (failed ≡ false) × (bytes : List ℕ) × Came left rest false bytes × IsAtEnd rest × IsBuilt bytes built
+CompilesSource failed left rest (answer.Refused r) = (bytes : List ℕ) × Came left rest failed bytes × IsRefused failed bytes r
+CompilesSource failed left rest answer.ReadFault = (failed ≡ true) × (bytes : List ℕ) × Came left rest true bytes × IsStoppedAt bytes None
+CompilesSource failed left rest answer.NoMemory = Unit {0}
 
 -- the same of an answer that gives no image
-abbrev pub CheckAnswered : Bool → (left rest : Option (List ℕ)) → CheckAnswer → Type 0
-CheckAnswered failed left rest (check.Valid checked) = (failed ≡ false) × (bytes : List ℕ) × Came left rest false bytes × IsAtEnd rest × IsValid bytes checked
-CheckAnswered failed left rest (check.Refused r) = (bytes : List ℕ) × Came left rest failed bytes × IsRefused failed bytes r
-CheckAnswered failed left rest check.ReadFault = (failed ≡ true) × (bytes : List ℕ) × Came left rest true bytes × IsStoppedAt bytes None
-CheckAnswered failed left rest check.NoMemory = Unit {0}
+abbrev pub ChecksSource : Bool → (left rest : Option (List ℕ)) → CheckAnswer → Type 0
+ChecksSource failed left rest (check.Valid checked) = (failed ≡ false) × (bytes : List ℕ) × Came left rest false bytes × IsAtEnd rest × IsValid bytes checked
+ChecksSource failed left rest (check.Refused r) = (bytes : List ℕ) × Came left rest failed bytes × IsRefused failed bytes r
+ChecksSource failed left rest check.ReadFault = (failed ≡ true) × (bytes : List ℕ) × Came left rest true bytes × IsStoppedAt bytes None
+ChecksSource failed left rest check.NoMemory = Unit {0}

@@ -13,7 +13,7 @@ use Rattle.stream_compile.specs.declared.answer.CheckAnswer.TheVariants as check
 use Rattle.stream_compile.specs.declared.compilation.Compilation.{Compilation}
 use Rattle.stream_compile.specs.declared.output.Output.{Output}
 use Rattle.stream_compile.specs.Came.{Came}
-use Rattle.stream_compile.specs.Compiling.{CheckAnswered}
+use Rattle.stream_compile.specs.Compiling.{ChecksSource}
 use Rattle.stream_compile.specs.Done.{IsDone}
 use Rattle.stream_compile.specs.Texts.{Outcome}
 
@@ -57,9 +57,9 @@ stopped_answer (Err stop.NoMemory) = check.NoMemory
 -- what judging a source answers, and that the compilation of a module is done
 abbrev pub Judged : Bool → (left rest : Option (List ℕ)) → CheckAnswer → Compilation → Type 0
 Judged failed left rest (check.Valid checked) s = (failed ≡ false) × (bytes : List ℕ) × Came left rest false bytes × IsAtEnd rest × IsDone bytes s × (checked ≡ checked_of s)
-Judged failed left rest (check.Refused r) s = CheckAnswered failed left rest (check.Refused r)
-Judged failed left rest check.ReadFault s = CheckAnswered failed left rest check.ReadFault
-Judged failed left rest check.NoMemory s = CheckAnswered failed left rest check.NoMemory
+Judged failed left rest (check.Refused r) s = ChecksSource failed left rest (check.Refused r)
+Judged failed left rest check.ReadFault s = ChecksSource failed left rest check.ReadFault
+Judged failed left rest check.NoMemory s = ChecksSource failed left rest check.NoMemory
 
 -- a status and a text in memory as an outcome
 abbrev pub view : Output → Outcome

@@ -120,15 +120,15 @@ ChecksAndRuns (Some why) m name arguments steps o = o ≡ unrunnable why
 ChecksAndRuns None m name arguments steps o = TellsRun m name arguments steps o
 
 -- what a command on a module of so many bytes comes to
-abbrev pub IsDone : Command → (bytes : ℕ) → Module → Outcome → Type 0
-IsDone (Check options) bytes m o = o ≡ accepted (declared_count m.items) bytes
-IsDone (Run r) bytes m o =
+abbrev pub TellsCommand : Command → (bytes : ℕ) → Module → Outcome → Type 0
+TellsCommand (Check options) bytes m o = o ≡ accepted (declared_count m.items) bytes
+TellsCommand (Run r) bytes m o =
     let arguments = arguments_of r.arguments in
     ChecksAndRuns (not_runnable (image_of m) r.export (types_of_values arguments)) m r.export arguments r.steps o
 
 -- the module and its image behave alike, and the command comes to this; or the module is refused
 abbrev pub OfVerdict : Command → (bytes : ℕ) → Verdict → Outcome → Type 0
-OfVerdict c bytes (Accepted m) o = Same m (image_of m) × IsDone c bytes m o
+OfVerdict c bytes (Accepted m) o = Same m (image_of m) × TellsCommand c bytes m o
 OfVerdict c bytes (Rejected r) o = o ≡ rejected r
 
 -- the command that the words are, of which the first is the program's name; or they are outside the command grammar
@@ -146,9 +146,9 @@ IsOutcome c true bytes o = (s : Option Refusal) × IsStoppedAt bytes s × (o ≡
 IsOutcome c false bytes o = (v : Verdict) × IsVerdictOf bytes v × OfVerdict c (length bytes) v o
 
 -- what the words, the source's failing and what it gave come to: by what was left in it before and behind
-abbrev pub Comes : Option Command → Bool → (left rest : Option (List ℕ)) → Outcome → Type 0
-Comes None failed left rest o = o ≡ usage
-Comes (Some c) failed left rest o = (bytes : List ℕ) × Came left rest failed bytes × IsOutcome c failed bytes o
+abbrev pub ComesTo : Option Command → Bool → (left rest : Option (List ℕ)) → Outcome → Type 0
+ComesTo None failed left rest o = o ≡ usage
+ComesTo (Some c) failed left rest o = (bytes : List ℕ) × Came left rest failed bytes × IsOutcome c failed bytes o
 
 -- ---- what is written
 
@@ -158,7 +158,7 @@ Told status o true old new = (status ≡ 7) × (n : ℕ) × (new ≡ append_know
 Told status o false old new = (status ≡ o.status) × (new ≡ append_known old o.text)
 
 -- what a call answered and wrote: want of memory, and nothing; else what the words and the bytes come to
-abbrev pub Answers : Option Command → Bool → (left rest : Option (List ℕ)) → ℕ → Bool → Option (List ℕ) → Option (List ℕ) → Type 0
-Answers command source_failed left rest status sink_failed old new =
+abbrev pub AnswersAndWrites : Option Command → Bool → (left rest : Option (List ℕ)) → ℕ → Bool → Option (List ℕ) → Option (List ℕ) → Type 0
+AnswersAndWrites command source_failed left rest status sink_failed old new =
     ((status ≡ 8) × (sink_failed ≡ false) × (new ≡ old))
-    ⊎ ((o : Outcome) × Comes command source_failed left rest o × Told status o sink_failed old new)
+    ⊎ ((o : Outcome) × ComesTo command source_failed left rest o × Told status o sink_failed old new)

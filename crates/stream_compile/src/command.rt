@@ -1,9 +1,9 @@
 //! The commands of the program.
 
-ghost use Rattle.std.specs.Prelude.{◌≡◌, ◌<◌, ◌^◌, ◌-◌, Some, nat_lt, IfOk};
+ghost use Rattle.std.specs.Prelude.{◌≡◌, ◌<◌, ◌^◌, ◌-◌, true, None, Some, min, nat_lt, IfOk};
 ghost use Rattle.command_words.specs.declared.command.Command.TheVariants.{Check, Run as RunCommand};
 ghost use Rattle.stream_compile.specs.Reading.{view};
-ghost use Rattle.stream_compile.specs.Texts.{command_said, Comes, Answers};
+ghost use Rattle.stream_compile.specs.Texts.{command_said, ComesTo, AnswersAndWrites};
 
 use crate::answer::{Answer, CheckAnswer, Settings};
 use crate::compiling::{stream_check, stream_compile};
@@ -15,7 +15,9 @@ use std::alloc::{AllocError, Global};
 use std::sync::Wait;
 use std::thread::Threads;
 
-fn settings_of(options: &Options) -> Settings {
+fn settings_of(options: &Options) -> Settings
+    ensures { result ≡ record { workers = min options.now.workers 64; batch = min options.now.batch 1048576 } }
+{
     Settings {
         workers: options.workers.min(64) as u32,
         batch: options.batch.min(1_048_576) as u32,
@@ -41,8 +43,9 @@ fn check<R: Threads + Wait + Sync, S: Source, G: Gate>(
     source: &mut S,
     gate: &G,
 ) -> Result<Output, AllocError>
-    requires { S.faults source.old < 2 ^ 64 - 1 }
-    ensures { IfOk result (λ o. Comes (Some (Check options.now)) (nat_lt (S.faults source.old) (S.faults source.new)) (S.left source.old) (S.left source.new) (view o)) }
+    requires faults { S.faults source.old < 2 ^ 64 - 1 }
+    requires open { S.is_open source.old ≡ true }
+    ensures { IfOk result (λ o. ComesTo (Some (Check options.now)) (nat_lt (S.faults source.old) (S.faults source.new)) (S.left source.old) (S.left source.new) (view o)) }
 {
     match stream_check(rt, alloc, source, gate, settings_of(options)) {
         CheckAnswer::Valid(checked) => accepted(alloc, checked.functions, checked.bytes),
@@ -60,8 +63,9 @@ fn run<R: Threads + Wait + Sync, S: Source, G: Gate>(
     source: &mut S,
     gate: &G,
 ) -> Result<Output, AllocError>
-    requires { S.faults source.old < 2 ^ 64 - 1 }
-    ensures { IfOk result (λ o. Comes (Some (RunCommand call.now)) (nat_lt (S.faults source.old) (S.faults source.new)) (S.left source.old) (S.left source.new) (view o)) }
+    requires faults { S.faults source.old < 2 ^ 64 - 1 }
+    requires open { S.is_open source.old ≡ true }
+    ensures { IfOk result (λ o. ComesTo (Some (RunCommand call.now)) (nat_lt (S.faults source.old) (S.faults source.new)) (S.left source.old) (S.left source.new) (view o)) }
 {
     match stream_compile(rt, alloc, source, gate, settings_of(&call.options)) {
         Answer::Image(built) => run_image(alloc, &built.image, call),
@@ -71,7 +75,7 @@ fn run<R: Threads + Wait + Sync, S: Source, G: Gate>(
     }
 }
 
-/// What the source comes to: where there is no command, the words ask for nothing, and none of it is read.
+/// What the source comes to: where there is no command, the words ask for nothing, and the source stays as it is.
 fn answer_to<R: Threads + Wait + Sync, S: Source, G: Gate>(
     rt: &R,
     alloc: Global,
@@ -79,8 +83,10 @@ fn answer_to<R: Threads + Wait + Sync, S: Source, G: Gate>(
     source: &mut S,
     gate: &G,
 ) -> Result<Output, AllocError>
-    requires { S.faults source.old < 2 ^ 64 - 1 }
-    ensures { IfOk result (λ o. Comes command.now (nat_lt (S.faults source.old) (S.faults source.new)) (S.left source.old) (S.left source.new) (view o)) }
+    requires faults { S.faults source.old < 2 ^ 64 - 1 }
+    requires open { S.is_open source.old ≡ true }
+    ensures answer { IfOk result (λ o. ComesTo command.now (nat_lt (S.faults source.old) (S.faults source.new)) (S.left source.old) (S.left source.new) (view o)) }
+    ensures untouched { command.now ≡ None → source.new ≡ source.old }
 {
     match command {
         None => usage(alloc),
@@ -95,7 +101,7 @@ fn answer_to<R: Threads + Wait + Sync, S: Source, G: Gate>(
 /// done, 1 where the words are outside the command grammar, 2 where the bytes are no module, 3 where the function can't be
 /// called so, 4 where it trapped, 5 where its run hadn't ended after all steps, 6 where the source failed and the bytes that
 /// came have no fault that more bytes don't mend, 7 where the sink failed, and 8 where memory ran out, after which nothing is
-/// written.
+/// written. For words outside the command grammar the source isn't read.
 pub fn top<R: Threads + Wait + Sync, S: Source, O: Sink, G: Gate>(
     rt: &R,
     alloc: Global,
@@ -105,9 +111,12 @@ pub fn top<R: Threads + Wait + Sync, S: Source, O: Sink, G: Gate>(
     gate: &G,
 ) -> u8
     requires source_count { S.faults source.old < 2 ^ 64 - 1 }
+    requires source_open { S.is_open source.old ≡ true }
     requires sink_count { O.faults out.old < 2 ^ 64 - 1 }
-    ensures answer { Answers (command_said words.now.items) (nat_lt (S.faults source.old) (S.faults source.new)) (S.left source.old) (S.left source.new) result
+    requires sink_open { O.is_open out.old ≡ true }
+    ensures answer { AnswersAndWrites (command_said words.now.items) (nat_lt (S.faults source.old) (S.faults source.new)) (S.left source.old) (S.left source.new) result
         (nat_lt (O.faults out.old) (O.faults out.new)) (O.written out.old) (O.written out.new) }
+    ensures untouched { command_said words.now.items ≡ None → source.new ≡ source.old }
 {
     let Ok(command) = command_in(alloc, words) else {
         return 8;

@@ -56,6 +56,7 @@ impl Compilation {
     pub fn new(alloc: Global, batch: u32, codes: Codes) -> Compilation
         requires { AreAll codes [] }
         ensures unread { IsUnread result }
+        ensures batch { result.batch ≡ batch }
         ensures kept { result.codes ≡ codes }
     {
         Compilation {

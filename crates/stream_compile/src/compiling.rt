@@ -1,7 +1,7 @@
 //! Judges or compiles the module that a source gives, while its bytes come.
 
-ghost use Rattle.std.specs.Prelude.{◌<◌, ◌^◌, ◌-◌, nat_lt};
-ghost use Rattle.stream_compile.specs.Compiling.{Answered, CheckAnswered};
+ghost use Rattle.std.specs.Prelude.{◌≡◌, ◌<◌, ◌^◌, ◌-◌, true, nat_lt};
+ghost use Rattle.stream_compile.specs.Compiling.{CompilesSource, ChecksSource};
 
 use crate::answer::{Answer, CheckAnswer, Settings};
 use crate::codes::Codes;
@@ -25,8 +25,9 @@ pub fn stream_compile<R: Threads + Wait + Sync, S: Source, G: Gate>(
     gate: &G,
     settings: Settings,
 ) -> Answer
-    requires { S.faults source.old < 2 ^ 64 - 1 }
-    ensures { Answered (nat_lt (S.faults source.old) (S.faults source.new)) (S.left source.old) (S.left source.new) result }
+    requires faults { S.faults source.old < 2 ^ 64 - 1 }
+    requires open { S.is_open source.old ≡ true }
+    ensures { CompilesSource (nat_lt (S.faults source.old) (S.faults source.new)) (S.left source.old) (S.left source.new) result }
 {
     let _ = rt;
     let _ = gate;
@@ -55,8 +56,9 @@ pub fn stream_check<R: Threads + Wait + Sync, S: Source, G: Gate>(
     gate: &G,
     settings: Settings,
 ) -> CheckAnswer
-    requires { S.faults source.old < 2 ^ 64 - 1 }
-    ensures { CheckAnswered (nat_lt (S.faults source.old) (S.faults source.new)) (S.left source.old) (S.left source.new) result }
+    requires faults { S.faults source.old < 2 ^ 64 - 1 }
+    requires open { S.is_open source.old ≡ true }
+    ensures { ChecksSource (nat_lt (S.faults source.old) (S.faults source.new)) (S.left source.old) (S.left source.new) result }
 {
     let _ = rt;
     let _ = gate;

@@ -1,6 +1,6 @@
 //! Reads a source, and judges and compiles the module that it gives while its bytes come.
 
-ghost use Rattle.std.specs.Prelude.{◌≡◌, ◌<◌, ◌^◌, ◌-◌, nat_lt, IfOk, length};
+ghost use Rattle.std.specs.Prelude.{◌≡◌, ◌<◌, ◌^◌, ◌-◌, true, nat_lt, IfOk, length};
 ghost use Rattle.stream_compile.specs.Codes.{KeepsAlike};
 ghost use Rattle.stream_compile.specs.Reading.{Settled, Judged, answer_of, stopped_answer};
 ghost use Rattle.stream_compile.specs.Streaming.{IsUnread};
@@ -32,9 +32,11 @@ fn buffer_of(alloc: Global, len: usize) -> Result<Vec<u8>, AllocError>
     vec![in alloc; 0; len]
 }
 
-/// Judges and compiles the bytes of a source as they come, up to their end or to the first fault.
+/// Judges and compiles the bytes of a source as they come, up to their end or to the first fault. No byte is asked for behind the
+/// answer of the source or of the compilation that ends the reading.
 fn read_source<S: Source>(alloc: Global, source: &mut S, compilation: &mut Compilation) -> Ending
     requires faults { S.faults source.old < 2 ^ 64 - 1 }
+    requires open { S.is_open source.old ≡ true }
     requires unread { IsUnread compilation.old }
     ensures settled { Settled result.failed result.judged compilation.new (S.left source.old) (S.left source.new) (S.faults source.old) (S.faults source.new) }
     ensures kept { KeepsAlike compilation.old.codes compilation.new.codes }
@@ -113,6 +115,7 @@ pub fn judge_source<S: Source>(
     compilation: &mut Compilation,
 ) -> CheckAnswer
     requires faults { S.faults source.old < 2 ^ 64 - 1 }
+    requires open { S.is_open source.old ≡ true }
     requires unread { IsUnread compilation.old }
     ensures judged { Judged (nat_lt (S.faults source.old) (S.faults source.new)) (S.left source.old) (S.left source.new) result compilation.new }
     ensures kept { KeepsAlike compilation.old.codes compilation.new.codes }

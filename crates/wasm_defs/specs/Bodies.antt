@@ -58,7 +58,7 @@ with_index make = do
   i ← u32
   plain (make i.1)
 
--- a block's type (5.4.1): an index of a type, in any spelling, is left out
+-- a block's type (5.3.2): an index of a type, in any spelling, is left out
 unfoldable pub block_type : Reader BlockType
 block_type = do
   b ← byte

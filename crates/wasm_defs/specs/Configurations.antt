@@ -27,7 +27,8 @@ type_of (Imported number ty) = ty
 type_of (Declared f) = f.ty
 
 -- the module's types and what else its code may name; the functions by their indices; the table's rows, each a function's
--- index where it has one; and the most pages that the memory may have
+-- index where it has one; and the most pages that the memory may have. No instruction writes to the table, so it stands here and
+-- not in the store (4.2.3)
 pub record Instance : Type 0 where
   pub context : Context
   pub functions : List Function

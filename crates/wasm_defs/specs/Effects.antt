@@ -1,4 +1,4 @@
--- What the instructions that neither branch nor call do (WebAssembly Core 1.0, 4.4.1 to 4.4.4).
+-- What the instructions that neither branch nor call do (WebAssembly Core 1.0, 4.4.1 to 4.4.4, and `nop`, 4.4.5.1).
 use Rattle.std.specs.Prelude.{ℕ, ◌+◌, ◌-◌, ◌^◌, ◌==◌, List, ◌∷◌, Option, Some, None, if◌then◌else◌, slice_get, slice_set, nat_lt, length}
 use Rattle.wasm_defs.specs.declared.types.ValType.{ValType}
 use Rattle.wasm_defs.specs.declared.types.ValType.TheVariants.{I32}

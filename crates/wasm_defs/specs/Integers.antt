@@ -1,4 +1,4 @@
--- Integer operations (WebAssembly Core 1.0, 4.3.2 and 4.3.3), on numbers below 2 ^ N.
+-- Integer operations (WebAssembly Core 1.0, 4.3.2 and 4.3.4), on numbers below 2 ^ N.
 use Rattle.std.specs.Prelude.{ℕ, ◌+◌, ◌-◌, ◌*◌, ◌/◌, ◌%◌, ◌^◌, pos, Bool, not, nat_lt, nat_le, ◌==◌, if◌then◌else◌, bit_and, bit_or, bit_xor, count_ones, int_lt, int_le, int_div, int_rem}
 use Rattle.std.specs.Ordering.{int_eq}
 use Rattle.std.specs.Int.{int_shr}
@@ -108,7 +108,7 @@ unary Clz t a = count_leading_zeros (bits t) a
 unary Ctz t a = count_trailing_zeros (bits t) a
 unary Popcnt t a = count_ones a
 
--- conversions (4.3.3)
+-- conversions (4.3.4)
 abbrev pub converted : ConvertOp → ℕ → ℕ
 converted Wrap n = n % 2 ^ 32
 converted ExtendS n = unsigned I64 (signed I32 n)

@@ -96,7 +96,7 @@ bounds_are flag min (Some max) = byte_is flag 0x01 then u32_is min then u32_is m
 abbrev pub limits_are : Limits → Spelling
 limits_are l = bounds_are l.flag l.min l.max
 
--- whether a global is set (5.3.6)
+-- whether a global is set (5.3.7)
 abbrev pub mutability_code : Bool → ℕ
 mutability_code false = 0x00
 mutability_code true = 0x01

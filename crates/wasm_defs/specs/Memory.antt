@@ -55,7 +55,7 @@ extended I64Load16U n = n
 extended I64Load32S n = unsigned I64 (cast_signed w32 n)
 extended I64Load32U n = n
 
--- more pages of zeros (4.2.8), of which there may be so many in all
+-- more pages of zeros (4.2.8, 4.5.3.7), of which there may be so many in all
 abbrev pub grown : List ℕ → (more cap : ℕ) → Option (List ℕ)
 grown memory more cap =
     if nat_le (pages_of memory + more) cap then Some (memory ++ replicate (page * more) 0) else None

@@ -1,7 +1,7 @@
 -- Reductions (WebAssembly Core 1.0, 4.4.5 to 4.4.7): a total step with one clause for each rule, and runs by weight.
 --
--- A weight is one reduction, or one constant that is moved to the operands. The entry of a declared function is one, and owes
--- one more for each declared local.
+-- A weight is one reduction, or one constant that is moved to the operands. A call and the entry of the declared function that it
+-- leads to are one together, and owe one more for each declared local.
 use Rattle.std.specs.Prelude.{ℕ, zero, suc, ◌+◌, List, [], ◌∷◌, ◌++◌, map, take, drop, reverse, length, Option, Some, None, nat_lt, if◌then◌else◌, slice_get, slice_index_or}
 use Rattle.wasm_defs.specs.declared.types.FuncType.{FuncType}
 use Rattle.wasm_defs.specs.declared.value.TrapKind.TheVariants as trap
@@ -99,7 +99,7 @@ abbrev pub branch_table : Config → List ℕ → ℕ → List Value → Step
 branch_table c ls l [] = Stuck
 branch_table c ls l (x ∷ below) = branch c below (slice_index_or ls x.number l) c.frame.labels
 
--- a call (4.4.5.9 and 4.4.7.1): the arguments leave the operands
+-- a call (4.4.5.10 and 4.4.7.1): the arguments leave the operands
 abbrev pub call : Config → Seq → List Value → Option Function → Step
 call c rest operands None = Stuck
 call c rest operands (Some f) =
@@ -134,7 +134,7 @@ choose c s body other rest (x ∷ below) = choose_by x.number
     choose_by (suc n) = within c below s (length s.results) rest body rest
 
 module _ (i : Instance) where
-  -- an indirect call (4.4.5.10) by a row of the table
+  -- an indirect call (4.4.5.11) by a row of the table
   abbrev pub call_row : Config → Seq → (type : ℕ) → List Value → Option (Option ℕ) → Step
   call_row c rest type operands None = Trapped c.store trap.UndefinedElement
   call_row c rest type operands (Some None) = Trapped c.store trap.UninitializedElement

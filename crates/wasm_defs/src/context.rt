@@ -2,7 +2,7 @@
 
 use crate::types::ValType;
 
-/// A global's type (Core 2.3.6): that of its value, and whether it may be set.
+/// A global's type (Core 2.3.7): that of its value, and whether it may be set.
 #[derive(Clone, Copy, Debug, PartialEq, Eq)]
 pub struct GlobalType {
     pub ty: ValType,

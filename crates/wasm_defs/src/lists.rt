@@ -42,7 +42,7 @@ impl<T> Sequence<T> {
     }
 }
 
-/// A name's bytes. Names that were read are UTF-8 (Core 5.2.4); the type doesn't keep that.
+/// A name's bytes (Core 5.2.4). Those of a module's names are UTF-8, as its readers find; the type holds any bytes.
 pub type Name = Sequence<u8>;
 
 /// Bytes of a data segment.

@@ -1,4 +1,4 @@
-//! What of WebAssembly 1.0 is compiled so far. Nothing else knows of it.
+//! What of WebAssembly 1.0 is compiled so far. The reader of sections and the compiler of bodies ask it, and nothing else.
 
 ghost use Rattle.std.specs.Prelude.{◌≡◌};
 ghost use Rattle.wasm_defs.specs.Supported.{is_compiled_section, is_compiled_opcode};

@@ -35,11 +35,11 @@ pub enum TrapKind {
     Overflow,
     /// Bytes outside the memory were loaded or stored (4.4.4).
     MemoryBounds,
-    /// An indirect call with an index outside the table (4.4.5.10).
+    /// An indirect call with an index outside the table (4.4.5.11).
     UndefinedElement,
-    /// An indirect call of a table's row that has no function (4.4.5.10).
+    /// An indirect call of a table's row that has no function (4.4.5.11).
     UninitializedElement,
-    /// An indirect call of a function with another type (4.4.5.10).
+    /// An indirect call of a function with another type (4.4.5.11).
     TypeMismatch,
     /// A call for which the stack has no room (appendix "Implementation Limitations").
     StackExhausted,

@@ -17,7 +17,7 @@ use Rattle.wasm_laws.proofs.Steady.{IfGot, always}
 
 -- ---- locals
 
-group_fits : (declared : ℕ) (c : Cursor) → IfGot (λ g d. declared + g.count ≤ max_locals) (group declared c)
+pub group_fits : (declared : ℕ) (c : Cursor) → IfGot (λ g d. declared + g.count ≤ max_locals) (group declared c)
 unfolding group
 group_fits declared c =
     then_got (λ n d. Unit {0}) (λ g d. declared + g.count ≤ max_locals) (u32 c) _ (always (u32 c))
@@ -27,7 +27,7 @@ group_fits declared c =
       | inr fits ↦ rw (le-ltb max_locals (declared + n.1) fits) (then_got (λ ty e. Unit {0}) (λ g e. declared + g.count ≤ max_locals) (value_type d) _ (always (value_type d)) (λ ty e t. fits))
     ])
 
-types_cons : (g : Group) (gs : List Group) → length (declared_types (g ∷ gs)) ≡ g.count + length (declared_types gs)
+pub types_cons : (g : Group) (gs : List Group) → length (declared_types (g ∷ gs)) ≡ g.count + length (declared_types gs)
 types_cons g gs = omega (arith, length-append (replicate g.count g.ty) (declared_types gs), length-replicate g.count g.ty)
 
 groups_fit : (n declared : ℕ) (c : Cursor) → declared ≤ max_locals → IfGot (λ gs d. declared + length (declared_types gs) ≤ max_locals) (groups n declared c)

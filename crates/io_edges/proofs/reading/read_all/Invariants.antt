@@ -1,4 +1,4 @@
-use Rattle.std.proofs.Common.{◌≡◌, ◌≤◌, ◌<◌, ◌-◌, length}
+use Rattle.std.proofs.Common.{◌≡◌, ◌≤◌, ◌<◌, ◌-◌, true, length}
 use Rattle.std.specs.Io.KnownBytes.{prepend_known}
 use Rattle.io_edges.proofs.reading.read_all.Given as goal
 
@@ -8,6 +8,7 @@ invariant-loop-buf g l = record {
   same : g.S.Source.faults l.source ≡ g.S.Source.faults l.fn.source;
   most : length l.bytes.items ≤ l.limit;
   buf : 0 < length l.buf;
+  open_now : g.S.Source.is_open l.source ≡ true;
 }
 
 abbrev pub decreases-loop-buf : goal.decreases-loop-buf

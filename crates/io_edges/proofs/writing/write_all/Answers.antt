@@ -17,4 +17,5 @@ loop-from-preserved g c =
       wrote = now ∙ append_more before (take from text) (take n (drop from text)) ∙ ap (append_known before) (sym (take_step from n text));
       same = c.in-Took.ensures.cause ∙ c.loop-from.invariant.same;
       most = omega (arith, w.1, ap length piece, length-drop from text);
+      open_now = c.in-Took.ensures.on;
     }

@@ -1,4 +1,4 @@
-use Rattle.std.proofs.Common.{◌≡◌, ◌≤◌, ◌-◌, length, take}
+use Rattle.std.proofs.Common.{◌≡◌, ◌≤◌, ◌-◌, true, length, take}
 use Rattle.std.specs.Io.KnownBytes.{append_known}
 use Rattle.io_edges.proofs.writing.write_all.Given as goal
 
@@ -7,6 +7,7 @@ invariant-loop-from g l = record {
   wrote : g.O.Sink.written l.out ≡ append_known (g.O.Sink.written l.fn.out) (take l.from l.text);
   same : g.O.Sink.faults l.out ≡ g.O.Sink.faults l.fn.out;
   most : l.from ≤ length l.text;
+  open_now : g.O.Sink.is_open l.out ≡ true;
 }
 
 abbrev pub decreases-loop-from : goal.decreases-loop-from

@@ -30,7 +30,7 @@ returns-in-End-clause-settled g c =
     let l = c.loop-count in
     let i = l.invariant in
     at_end i.came (g.S.Source.left c.args.source.now) (g.S.Source.left c.read.new.self) (g.S.Source.faults c.args.source.now) (g.S.Source.faults c.read.new.self)
-    (i.left ∙ ap (prepend_known i.came) (sym c.in-End.ensures.bytes.1)) c.finish.result c.finish.new.self (subst (λ (x : Option (List ℕ)). IsAtEnd x) (sym c.in-End.ensures.bytes.1) c.in-End.ensures.bytes.0) (c.in-End.ensures.cause ∙ i.calm)
+    (record { taken = i.left ∙ ap (prepend_known i.came) (sym c.in-End.ensures.bytes.1); few = omega (arith, i.count, i.few) }) c.finish.result c.finish.new.self (subst (λ (x : Option (List ℕ)). IsAtEnd x) (sym c.in-End.ensures.bytes.1) c.in-End.ensures.bytes.0) (c.in-End.ensures.cause ∙ i.calm)
     (c.finish.ensures.decides i.came i.are (going_all l.compilation i.came [] i.going (omega (arith, i.count, i.few))))
 
 pub returns-in-Failed-clause-settled : goal.returns-in-Failed-clause-settled
@@ -38,7 +38,7 @@ returns-in-Failed-clause-settled g c =
     let l = c.loop-count in
     let i = l.invariant in
     at_fault i.came (g.S.Source.left c.args.source.now) (g.S.Source.left c.read.new.self) (g.S.Source.faults c.args.source.now) (g.S.Source.faults c.read.new.self)
-    (i.left ∙ ap (prepend_known i.came) (sym c.in-Failed.ensures.bytes)) c.finish-in-Failed.result c.finish-in-Failed.new.self c.requires.faults
+    (record { taken = i.left ∙ ap (prepend_known i.came) (sym c.in-Failed.ensures.bytes); few = omega (arith, i.count, i.few) }) c.finish-in-Failed.result c.finish-in-Failed.new.self c.requires.faults
     (subst (λ (n : ℕ). Rose n (g.S.Source.faults c.read.new.self)) i.calm c.in-Failed.ensures.cause)
     (c.finish-in-Failed.ensures.decides i.came i.are (going_all l.compilation i.came [] i.going (omega (arith, i.count, i.few))))
 
@@ -46,7 +46,7 @@ pub returns-clause-settled : goal.returns-clause-settled
 returns-clause-settled g c =
     let l = c.loop-count in
     let i = l.invariant in
-    at_limit i.came (g.S.Source.left c.args.source.now) (g.S.Source.left l.source) (g.S.Source.faults c.args.source.now) (g.S.Source.faults l.source) i.left c.finish-2.result c.finish-2.new.self (omega (arith, i.count, c.loop-count-test.false)) i.calm
+    at_limit i.came (g.S.Source.left c.args.source.now) (g.S.Source.left l.source) (g.S.Source.faults c.args.source.now) (g.S.Source.faults l.source) (record { taken = i.left; few = omega (arith, i.count, i.few) }) c.finish-2.result c.finish-2.new.self (omega (arith, i.count, c.loop-count-test.false)) i.calm
     (c.finish-2.ensures.decides i.came i.are (going_all l.compilation i.came [] i.going (omega (arith, i.count, i.few))))
 
 pub feed-requires : goal.feed-requires
@@ -77,6 +77,7 @@ loop-count-preserved g c =
       are = All-append (λ b. b < 256) i.came piece i.are c.in-Ok-feed.ensures.bytes;
       left = i.left ∙ came_more i.came piece (g.S.Source.left l.source) (g.S.Source.left c.read.new.self) took;
       calm = c.in-Bytes.ensures.cause ∙ i.calm;
+      open_now = c.in-Bytes.ensures.on;
       kept = c.in-Ok-feed.ensures.kept ∙ i.kept;
       going = λ more few. c.in-Ok-feed.ensures.goes ((i.came ++ piece) ++ more) more (going_piece l.compilation i.came piece i.going more few);
     }
@@ -93,5 +94,5 @@ returns-in-Err-clause-settled g c =
     let few : length (i.came ++ piece) ≤ 67108869 =
     omega (arith, i.count, i.few, c.min-room.ensures, c.in-Bytes.ensures.bytes.1, c.read.auto.buf, length-take room l.buf, length-append i.came piece, length-take n (c.read.new.buf ++ drop room l.buf)) in
     early (i.came ++ piece) (g.S.Source.left c.args.source.now) (g.S.Source.left c.read.new.self) (g.S.Source.faults c.args.source.now) (g.S.Source.faults c.read.new.self)
-    (i.left ∙ came_more i.came piece (g.S.Source.left l.source) (g.S.Source.left c.read.new.self) took) c.in-Err.stop c.feed.new.self (c.in-Bytes.ensures.cause ∙ i.calm) few
+    (record { taken = i.left ∙ came_more i.came piece (g.S.Source.left l.source) (g.S.Source.left c.read.new.self) took; few = few }) c.in-Err.stop c.feed.new.self (c.in-Bytes.ensures.cause ∙ i.calm)
     (λ more enough. c.in-Err.ensures.goes ((i.came ++ piece) ++ more) more (going_piece l.compilation i.came piece i.going more enough))

@@ -1,4 +1,4 @@
-use Rattle.std.proofs.Common.{◌≡◌, ◌≤◌, ◌<◌, ◌-◌, ℕ, List, ◌++◌, length}
+use Rattle.std.proofs.Common.{◌≡◌, ◌≤◌, ◌<◌, ◌-◌, true, ℕ, List, ◌++◌, length}
 use Rattle.std.specs.Prelude.{All}
 use Rattle.std.specs.Io.KnownBytes.{prepend_known}
 use Rattle.stream_compile.specs.Codes.{KeepsAlike}
@@ -13,6 +13,7 @@ invariant-loop-count g l = record {
   are : All (λ b. b < 256) came;
   left : g.S.Source.left l.initial.source ≡ prepend_known came (g.S.Source.left l.source);
   calm : g.S.Source.faults l.source ≡ g.S.Source.faults l.initial.source;
+  open_now : g.S.Source.is_open l.source ≡ true;
   kept : KeepsAlike l.initial.compilation.codes l.compilation.codes;
   going : (more : List ℕ) → length (came ++ more) ≤ 67108869 → IsGoing (came ++ more) l.compilation more;
 }
