@@ -1,0 +1,73 @@
+//! What the queues carry.
+ghost use Rattle.std.specs.Prelude.{◌≡◌, ◌↔◌, All, IsTrue, IfSome, IfNone};
+ghost use Rattle.std.specs.Arc.{arc_value};
+ghost use Rattle.batch_pool.specs.Low.{IsLow, IsLowBody};
+
+use body_cutter::{Batch, Body};
+use std::alloc::Global;
+use std::collections::LinkedList;
+use std::sync::Arc;
+
+// The offsets in a ticket's batch are below this.
+const FAR: u64 = 1 << 60;
+
+/// A batch that waits for a worker.
+#[derive(Drop)]
+pub struct Ticket {
+    /// How many batches stand before it.
+    pub number: u32,
+    /// The offset of its first body's size, below 2^60.
+    pub start: u64,
+    /// The batch. Its bodies have bytes, and end below 2^60.
+    pub batch: Arc<Batch, Global>,
+    ghost same_number: { number ≡ (arc_value batch).number },
+    ghost same_start: { start ≡ (arc_value batch).start },
+    ghost low: { IsLow (arc_value batch) },
+}
+
+// Whether a body has bytes, and its size and its end stand below 2^60.
+fn is_low_body(body: &Body) -> bool
+    ensures { IsTrue result ↔ IsLowBody body.now }
+{
+    let len = body.bytes.as_slice().len() as u64;
+    body.size < FAR && 0 < len && body.first < FAR && body.first + len < FAR
+}
+
+fn are_low(bodies: &LinkedList<Body>) -> bool
+    ensures { IsTrue result ↔ All IsLowBody bodies.now }
+{
+    for body in bodies.iter() {
+        if !is_low_body(body) {
+            return false;
+        }
+    }
+    true
+}
+
+impl Ticket {
+    /// The ticket of a batch, or none where one of its offsets is 2^60 or more, or one of its bodies is empty.
+    pub fn of(batch: Arc<Batch, Global>) -> Option<Ticket>
+        ensures ticket { IfSome result (λ t. arc_value t.batch ≡ arc_value batch) }
+        ensures none { IfNone result (¬ IsLow (arc_value batch)) }
+    {
+        if batch.start < FAR && are_low(batch.bodies.as_list()) {
+            Some(Ticket::new(batch))
+        } else {
+            None
+        }
+    }
+
+    /// The ticket of a batch.
+    pub fn new(batch: Arc<Batch, Global>) -> Ticket
+        requires { IsLow (arc_value batch) }
+        ensures { arc_value result.batch ≡ arc_value batch }
+    {
+        let number = batch.number;
+        let start = batch.start;
+        Ticket {
+            number,
+            start,
+            batch,
+        }
+    }
+}
