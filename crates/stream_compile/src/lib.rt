@@ -22,6 +22,8 @@ pub use laws::{
 #[cfg(test)]
 mod faults;
 #[cfg(test)]
+mod held_back;
+#[cfg(test)]
 mod operations;
 #[cfg(test)]
 mod tests;
