@@ -56,10 +56,11 @@ pub record IsRefused (old : Cutting) (bytes : List ℕ) (r : Refusal) (new : Cut
   pub stays : new.place.stop ≡ Some r
   pub again : old.place.stop ≡ Some r → new ≡ old
 
+-- want of memory changes nothing, and is answered only where no refusal was told before
 abbrev pub Feeds : Cutting → List ℕ → Result ℕ FrontStop → Cutting → Type 0
 Feeds old bytes (Ok taken) new = IsFed old bytes taken new
 Feeds old bytes (Err (stop.Refused r)) new = IsRefused old bytes r new
-Feeds old bytes (Err stop.NoMemory) new = new ≡ old
+Feeds old bytes (Err stop.NoMemory) new = (old.place.stop ≡ None) × (new ≡ old)
 
 -- the bytes end: the section isn't whole, which is a fault at the number of bytes, and the batch that is begun closes
 abbrev pub ended_at : ℕ → Refusal

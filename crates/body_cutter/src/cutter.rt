@@ -55,11 +55,12 @@ impl Cutter {
         }
     }
 
-    /// The next bytes. All that lie in the section are taken; it says how many.
+    /// The next bytes. All that lie in the section are taken; it says how many. What they decide is told at once, and with no
+    /// bytes what is decided before the first one: that a section which has no room left owes a body.
     ///
     /// # Errors
-    /// `Refused` where a size or the section's end is at fault (Core 5.5.13), and from then on. `NoMemory` leaves the cutter as
-    /// it was.
+    /// `Refused` where a size or the section's end is at fault (Core 5.5.13), and from then on, without taking memory, by each
+    /// later `feed` and `end`. `NoMemory` leaves the cutter as it was.
     pub fn feed(&mut self, bytes: &[u8]) -> Result<usize, FrontStop>
         ensures { Feeds self.old bytes.now result self.new }
     {

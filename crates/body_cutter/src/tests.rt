@@ -60,3 +60,10 @@ fn faults_are_told_for_good(rt: HostRuntime) -> Result<(), Fail> {
     }
     Ok(())
 }
+
+#[test]
+fn a_body_that_has_no_room_is_told_at_once(rt: HostRuntime) -> Result<(), Fail> {
+    let mut cutter = Cutter::new(rt.alloc(), 1, 0, 21, 21, 100);
+    assert_eq!(rt; cutter.feed(&[]), refused(21, Kind::Malformed));
+    Ok(())
+}

@@ -3,3 +3,4 @@ pub mod Casts
 pub mod Readers
 pub mod Loops
 pub mod Feeds
+pub mod Texts

@@ -1,14 +1,14 @@
 //! Fields, read from a slice of a module's bytes. A field's value comes with its offset. Each method does what the reader of
 //! the same name in `wasm_defs` defines: a field that isn't whole stops reading as malformed where its section's end cuts
-//! it off, and else wants more bytes.
+//! it off, and else wants more bytes. Where a method stops, the reader stands where it stood.
 
-ghost use Rattle.std.specs.Prelude.{◌≡◌, ◌≤◌, ◌<◌, ◌+◌, ◌-◌, ◌*◌, ◌^◌, ◌≤ℤ◌, ◌<ℤ◌, neg_ℤ, pos, ℕ, length, false, true, IfOk, List, drop, take};
+ghost use Rattle.std.specs.Prelude.{◌≡◌, ◌≤◌, ◌<◌, ◌+◌, ◌-◌, ◌*◌, ◌^◌, ◌≤ℤ◌, ◌<ℤ◌, neg_ℤ, pos, ℕ, length, false, true, IfOk, List, drop, take, OnErr};
 ghost use Rattle.wasm_defs.specs.Numbers.{Spells};
 ghost use Rattle.wasm_defs.specs.Fields.{Cursor, window, past, cut, room_of, byte, number, u32, count, run, room, here, stop, counted_bytes, text_after, least, length_owed, name, fixed};
 ghost use Rattle.wasm_defs.specs.Fields.{agree};
 ghost use Rattle.wasm_defs.specs.Entries.{value_type};
 ghost use Rattle.wasm_defs.specs.Outside.{inside, no_end};
-ghost use Rattle.leb_feed.specs.Reads.{Reads, Stops};
+ghost use Rattle.leb_feed.specs.Reads.{Reads, Stops, NeedsNoMemory};
 
 use crate::number::{ReadAt, read_at};
 use crate::stop::Stop;
@@ -142,7 +142,8 @@ impl<'a> Fields<'a> {
 
     /// Why a field isn't whole.
     fn cut<T>(&self) -> Result<T, Stop>
-        ensures { Reads cut (λ n. n) result self.now self.now }
+        ensures read { Reads cut (λ n. n) result self.now self.now }
+        ensures free { NeedsNoMemory result }
     {
         if self.room() <= self.rest().len() as u64 {
             Err(Self::refused(Kind::Malformed, self.offset()))
@@ -155,7 +156,9 @@ impl<'a> Fields<'a> {
     #[inline(always)]
     #[tactic(auto, unfolding(wasm_defs::specs::Fields::byte))]
     pub fn byte(&mut self) -> Result<(u64, u8), Stop>
-        ensures { Reads byte (λ n. n) result self.old self.new }
+        ensures read { Reads byte (λ n. n) result self.old self.new }
+        ensures free { NeedsNoMemory result }
+        ensures stays { OnErr result (self.new ≡ self.old) }
     {
         let at = self.offset();
         match self.window() {
@@ -175,6 +178,8 @@ impl<'a> Fields<'a> {
         requires some_bits { 1 ≤ bits }
         requires few_bits { bits ≤ 64 }
         ensures read { Reads (number signed bits) (λ n. n) result self.old self.new }
+        ensures free { NeedsNoMemory result }
+        ensures stays { OnErr result (self.new ≡ self.old) }
         ensures spelled { IfOk result (λ n. (bytes : List ℕ) × Spells n.1 bits signed bytes) }
     {
         let at = self.offset();
@@ -192,7 +197,9 @@ impl<'a> Fields<'a> {
     #[inline]
     #[tactic(auto, unfolding(wasm_defs::specs::Fields::u32))]
     pub fn u32(&mut self) -> Result<(u64, u32), Stop>
-        ensures { Reads u32 (λ n. n) result self.old self.new }
+        ensures read { Reads u32 (λ n. n) result self.old self.new }
+        ensures free { NeedsNoMemory result }
+        ensures stays { OnErr result (self.new ≡ self.old) }
     {
         let (at, n) = self.number(false, 32)?;
         Ok((at, n as u32))
@@ -204,6 +211,8 @@ impl<'a> Fields<'a> {
         requires some_bits { 1 ≤ bits }
         requires few_bits { bits ≤ 64 }
         ensures read { Reads (number true bits) (λ n. n) result self.old self.new }
+        ensures free { NeedsNoMemory result }
+        ensures stays { OnErr result (self.new ≡ self.old) }
         ensures range { IfOk result (λ n. (neg_ℤ (pos (2 ^ (bits - 1))) ≤ℤ n.1) × (n.1 <ℤ pos (2 ^ (bits - 1)))) }
     {
         let (at, n) = self.number(true, bits)?;
@@ -213,19 +222,25 @@ impl<'a> Fields<'a> {
     /// A count, judged where it stands.
     #[tactic(auto, unfolding(wasm_defs::specs::Fields::count))]
     pub fn count(&mut self, most: u32) -> Result<(u64, u32), Stop>
-        ensures { Reads (count most) (λ n. n) result self.old self.new }
+        ensures read { Reads (count most) (λ n. n) result self.old self.new }
+        ensures free { NeedsNoMemory result }
+        ensures stays { OnErr result (self.new ≡ self.old) }
     {
-        let (at, n) = self.u32()?;
+        let mut next = self.fork();
+        let (at, n) = next.u32()?;
         if most < n {
             return Err(Self::refused(Kind::Limit, at));
         }
+        *self = next;
         Ok((at, n))
     }
 
     /// So many bytes of the section.
     #[tactic(auto, unfolding(wasm_defs::specs::Fields::run))]
     pub fn run(&mut self, len: u64) -> Result<&'a [u8], Stop>
-        ensures { Reads (run len) (λ bytes. bytes.now) result self.old self.new }
+        ensures read { Reads (run len) (λ bytes. bytes.now) result self.old self.new }
+        ensures free { NeedsNoMemory result }
+        ensures stays { OnErr result (self.new ≡ self.old) }
     {
         let window = self.window();
         if (window.len() as u64) < len {
@@ -239,34 +254,44 @@ impl<'a> Fields<'a> {
     /// A length, and so many bytes.
     #[tactic(auto, unfolding(wasm_defs::specs::Fields::counted_bytes, wasm_defs::specs::Fields::room))]
     pub fn counted_bytes(&mut self, alloc: Global) -> Result<(u64, Bytes), Stop>
-        ensures { Reads counted_bytes (λ n. n) result self.old self.new }
+        ensures read { Reads counted_bytes (λ n. n) result self.old self.new }
+        ensures stays { OnErr result (self.new ≡ self.old) }
     {
-        let (at, len) = self.u32()?;
-        if self.room() < u64::from(len) {
+        let mut next = self.fork();
+        let (at, len) = next.u32()?;
+        if next.room() < u64::from(len) {
             return Err(Self::refused(Kind::Malformed, at));
         }
-        let bytes = self.run(u64::from(len))?;
-        Ok((at, Bytes::new(Vec::from_slice(alloc, bytes)?)))
+        let bytes = next.run(u64::from(len))?;
+        let bytes = Bytes::new(Vec::from_slice(alloc, bytes)?);
+        *self = next;
+        Ok((at, bytes))
     }
 
     /// A value type (Core 5.3.1).
     #[tactic(auto, unfolding(wasm_defs::specs::Entries::value_type))]
     pub fn value_type(&mut self) -> Result<(u64, ValType), Stop>
-        ensures { Reads value_type (λ n. n) result self.old self.new }
+        ensures read { Reads value_type (λ n. n) result self.old self.new }
+        ensures free { NeedsNoMemory result }
+        ensures stays { OnErr result (self.new ≡ self.old) }
     {
-        let (at, byte) = self.byte()?;
-        match byte {
-            0x7F => Ok((at, ValType::I32)),
-            0x7E => Ok((at, ValType::I64)),
-            0x7D | 0x7C => Err(Self::refused(Kind::Unsupported, at)),
-            _ => Err(Self::refused(Kind::Malformed, at)),
-        }
+        let mut next = self.fork();
+        let (at, byte) = next.byte()?;
+        let ty = match byte {
+            0x7F => ValType::I32,
+            0x7E => ValType::I64,
+            0x7D | 0x7C => return Err(Self::refused(Kind::Unsupported, at)),
+            _ => return Err(Self::refused(Kind::Malformed, at)),
+        };
+        *self = next;
+        Ok((at, ty))
     }
 
     /// A name: its length and its text are one field.
     #[tactic(auto, unfolding(wasm_defs::specs::Fields::name))]
     pub fn name(&mut self, alloc: Global) -> Result<(u64, Name), Stop>
-        ensures { Reads name (λ n. n) result self.old self.new }
+        ensures read { Reads name (λ n. n) result self.old self.new }
+        ensures stays { OnErr result (self.new ≡ self.old) }
     {
         let at = self.offset();
         match read_at(self.window(), 0, 32, false) {
@@ -278,7 +303,8 @@ impl<'a> Fields<'a> {
 
     fn text_after(&mut self, alloc: Global, len: usize, n: u32) -> Result<(u64, Name), Stop>
         requires { len ≤ length (window self.old) }
-        ensures { Reads (text_after len n) (λ n. n) result self.old self.new }
+        ensures read { Reads (text_after len n) (λ n. n) result self.old self.new }
+        ensures stays { OnErr result (self.new ≡ self.old) }
     {
         let at = self.offset();
         let window = self.window();
@@ -303,7 +329,8 @@ impl<'a> Fields<'a> {
     /// Why a name whose length is cut off isn't whole: the shortest one that begins so has to lie in the section.
     fn length_owed(&self) -> Result<(u64, Name), Stop>
         requires { length (window self.now) ≤ 5 }
-        ensures { Reads length_owed (λ n. n) result self.now self.now }
+        ensures read { Reads length_owed (λ n. n) result self.now self.now }
+        ensures free { NeedsNoMemory result }
     {
         let window = self.window();
         if self.room() < window.len() as u64 + 1 + least(window) {
@@ -316,7 +343,9 @@ impl<'a> Fields<'a> {
     /// Bytes that are given.
     #[tactic(auto, unfolding(wasm_defs::specs::Fields::fixed))]
     pub fn fixed(&mut self, bytes: &[u8]) -> Result<u64, Stop>
-        ensures { Reads (fixed bytes.now) (λ n. n) result self.old self.new }
+        ensures read { Reads (fixed bytes.now) (λ n. n) result self.old self.new }
+        ensures free { NeedsNoMemory result }
+        ensures stays { OnErr result (self.new ≡ self.old) }
     {
         let at = self.offset();
         let window = self.window();

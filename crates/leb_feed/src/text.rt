@@ -1,7 +1,8 @@
-//! UTF-8 (WebAssembly Core 1.0, 5.2.4), read from the left.
+//! UTF-8 (WebAssembly Core 1.0, 5.2.4), read from the left, and whose bytes may come in pieces.
 
 ghost use Rattle.std.specs.Prelude.{◌≡◌, ◌≤◌, length, Some};
 ghost use Rattle.wasm_defs.specs.Text.{between, first_byte, next_byte, completes};
+ghost use Rattle.leb_feed.specs.Texts.{text_state};
 
 use wasm_defs::Inside;
 
@@ -41,22 +42,34 @@ fn next_byte(inside: Inside, byte: u8) -> Option<Inside>
     due(inside.due - 1, 0x80, 0xBF)
 }
 
-/// Whether some bytes after these complete a text of so many bytes.
-pub fn completes(room: u32, text: &[u8]) -> bool
-    ensures { result ≡ completes room between text.now }
+/// Where a text stands between two characters.
+pub fn between() -> Inside
+    ensures { Some result ≡ between }
 {
-    let mut left = room;
-    let mut inside = Inside {
+    Inside {
         due: 0,
         least: 0,
         most: 0,
-    };
-    for byte in text {
-        match next_byte(inside, *byte) {
-            None => return false,
-            Some(next) => inside = next,
-        }
-        left = left.saturating_sub(1);
     }
-    u32::from(inside.due) <= left
+}
+
+/// Where a text stands after these bytes, if they are right so far.
+pub fn state_after(mut inside: Inside, bytes: &[u8]) -> Option<Inside>
+    ensures { result ≡ text_state (Some inside) bytes.now }
+{
+    for byte in bytes {
+        inside = next_byte(inside, *byte)?;
+    }
+    Some(inside)
+}
+
+/// Whether some bytes after these complete a text of so many bytes.
+#[tactic(auto, using(crate::proofs::Texts::completes_after))]
+pub fn completes(room: u32, text: &[u8]) -> bool
+    ensures { result ≡ completes room between text.now }
+{
+    match state_after(between(), text) {
+        Some(inside) => usize::from(inside.due) <= (room as usize).saturating_sub(text.len()),
+        None => false,
+    }
 }

@@ -9,4 +9,6 @@ mod control;
 #[cfg(test)]
 mod faults;
 #[cfg(test)]
+mod held_back;
+#[cfg(test)]
 mod operations;

@@ -99,7 +99,7 @@ begun_refused f r some = record { told = []; sections = tt; later = onward_left 
 
 begun_waiting : (f : Front) (x : Item) → f.waiting ≡ Some x → f.refusal ≡ None → IsBegun f
 begun_waiting f x some none =
-    let empty : f.kept.items ≡ [] = nil_from_length f.kept.items (f.alone (ap is_some some)).0 in
+    let empty : f.kept.items ≡ [] = nil_from_length f.kept.items (f.alone (ap is_some some)) in
     record { told = []; sections = tt; later = onward_left f; run = λ more. refl; first = rw (none, empty) (none_begun f.steps.stage) }
   where
     none_begun : (stage : Stage) → outside_of (first_begun stage f.steps.uncompiled f.at []) [] ≡ outside_of f.steps.uncompiled []
@@ -147,6 +147,7 @@ module _ (old : Front) (bytes all : List ℕ) (waiting : old.waiting ≡ None) (
       → FedOnward old bytes (length bytes - length rest) new
   item_told new x d rest is reached few same_at same_end kept waits none = rw is (record {
     count = omega (arith, same_at, ap length kept, reached.passed.at, ap length joined, ap length reached.passed.parts, length-append old.kept.items bytes, length-append reached.passed.taken d.rest);
+    going = λ _. none;
     told = λ apart.
         let t = (reached.tells old.ordered).tells apart in
         record {

@@ -76,6 +76,7 @@ pub kept_told : (old new : Front) (bytes : List ℕ) → old.waiting ≡ None �
     → FedOnward old bytes (length bytes) new
 kept_told old new bytes waiting refusal same_steps same_at same_end kept waits none = record {
   count = omega (arith, same_at, ap length kept, length-append old.kept.items bytes);
+  going = λ _. none;
   told = λ _. record {
     told = [];
     sections = tt;

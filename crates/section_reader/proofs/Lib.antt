@@ -15,3 +15,4 @@ pub mod Awaiting
 pub mod Keeping
 pub mod FrontTelling
 pub mod OnwardSilence
+pub mod Outlining

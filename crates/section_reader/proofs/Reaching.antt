@@ -175,7 +175,7 @@ module _ (old : Front) (bytes all : List ℕ) (waiting : old.waiting ≡ None) (
       left_new more = rw (waits, none, kept, same_at, same_end) refl
 
   pub refused_there : (new : Front) (r : Refusal) → ((more : List ℕ) → proceed old.steps.stage old.steps.seen (with_more there more) ≡ ends (Refused r)) → new.waiting ≡ None → new.refusal ≡ Some r → IsRefused old bytes r new
-  refused_there new r h waits some = record { run = λ more. left_joined more ∙ h more; stays = λ more. rw (waits, some) refl }
+  refused_there new r h waits some = record { run = λ more. left_joined more ∙ h more; stays = λ more. rw (waits, some) refl; kept = (some, waits) }
 
 -- ---- as it was
 

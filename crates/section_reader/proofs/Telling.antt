@@ -139,12 +139,12 @@ id_is seen c b bytes some =
     ])
 
 -- the code section's count: it is that of the declared functions, and its item says where the section ends
-record CodeRead (seen : Seen) (x : Part) (d : Cursor) : Type 0 where
-  count : ℕ × ℕ
-  is : x ≡ Listed (item.Code count d.end)
-  declared : count.1 ≡ seen.declared
+pub record CodeRead (seen : Seen) (x : Part) (d : Cursor) : Type 0 where
+  pub count : ℕ × ℕ
+  pub is : x ≡ Listed (item.Code count d.end)
+  pub declared : count.1 ≡ seen.declared
 
-code_reads : (seen : Seen) (c : Cursor) → IfGot (λ x d. CodeRead seen x d) (listed (code seen) c)
+pub code_reads : (seen : Seen) (c : Cursor) → IfGot (λ x d. CodeRead seen x d) (listed (code seen) c)
 unfolding code stop
 code_reads seen c = of_count (u32 c)
   where
@@ -187,7 +187,7 @@ other_behind x h stage seen end e =
 -- ---- rows
 
 -- all sections but the code section have the same row in both definitions
-other_row : (id : ℕ) → id ≢ 10 → outline_row id ≡ row id
+pub other_row : (id : ℕ) → id ≢ 10 → outline_row id ≡ row id
 other_row id other = rw (ne_eqb id 10 other) refl
 
 owed_other : (id n : ℕ) (seen : Seen) → id ≢ 10 → entries_owed id n seen ≡ n

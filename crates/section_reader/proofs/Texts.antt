@@ -10,28 +10,12 @@ use Rattle.wasm_laws.proofs.Steady.{with_more, field_steady}
 use Rattle.wasm_laws.proofs.Windows.{all_of}
 use Rattle.wasm_laws.proofs.FieldLaws.{u32_field}
 use Rattle.section_reader.specs.declared.wait.Wait.TheVariants as wait
-use Rattle.section_reader.specs.Waits.{text_state, Follows, AwaitsAt}
+use Rattle.leb_feed.specs.Texts.{text_state}
+use Rattle.leb_feed.proofs.Texts.{completes_now, completes_later}
+use Rattle.section_reader.specs.Waits.{Follows, AwaitsAt}
 use Rattle.section_reader.proofs.Leading.{more_got}
 
 -- ---- texts
-
--- what completes a text completes what is left of it
-completes_on : (room : ℕ) (s : Option Inside) (text more : List ℕ) → completes room s (text ++ more) ≡ completes (room - length text) (text_state s text) more
-completes_on room None text more = refl
-completes_on room (Some s) [] more = let e : room - 0 ≡ room = omega arith in rw e refl
-completes_on room (Some s) (b ∷ text) more =
-    let e : room - 1 - length text ≡ room - length (b ∷ text) = omega arith in
-    rw (← e) (completes_on (room - 1) (next_byte s b) text more)
-
-completes_now : (room : ℕ) (s t : Inside) (text : List ℕ) → text_state (Some s) text ≡ Some t → t.due ≤ room - length text → completes room (Some s) text ≡ true
-completes_now room s t text e h =
-    ap (completes room (Some s)) (sym (append-nil text))
-    ∙ completes_on room (Some s) text []
-    ∙ ap (λ (o : Option Inside). completes (room - length text) o []) e
-    ∙ le-leb t.due (room - length text) h
-
-completes_later : (room : ℕ) (s t : Inside) (text more : List ℕ) → text_state (Some s) text ≡ Some t → completes (room - length text) (Some t) more ≡ true → completes room (Some s) (text ++ more) ≡ true
-completes_later room s t text more e h = completes_on room (Some s) text more ∙ ap (λ (o : Option Inside). completes (room - length text) o more) e ∙ h
 
 pub text_follows : (owed : ℕ) (s t : Inside) (c : Cursor) (bytes : List ℕ) → length bytes < owed → text_state (Some s) bytes ≡ Some t → t.due ≤ owed - length bytes → Follows (wait.Text owed s) c bytes (wait.Text (owed - length bytes) t)
 text_follows owed s t c bytes few e h = record {

@@ -32,10 +32,11 @@ pub record Fed (old : Front) (bytes : List ℕ) (taken : ℕ) (new : Front) : Ty
   pub all : (taken ≡ length bytes) ⊎ IsSome new.waiting
   pub stuck : new.waiting ≡ None → left new [] ≡ unfinished new.steps.stage new.steps.seen (cursor_of new)
 
--- refused, for good
+-- refused, for good: the refusal is kept
 pub record IsRefused (old : Front) (bytes : List ℕ) (r : Refusal) (new : Front) : Type 0 where
   pub run : (more : List ℕ) → left old (bytes ++ more) ≡ ends (Refused r)
   pub stays : (more : List ℕ) → left new more ≡ ends (Refused r)
+  pub kept : (new.refusal ≡ Some r) × (new.waiting ≡ None)
 
 abbrev pub Feeds : Front → List ℕ → Result ℕ FrontStop → Front → Type 0
 Feeds old bytes (Ok taken) new = Fed old bytes taken new

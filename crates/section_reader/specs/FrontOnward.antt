@@ -42,6 +42,7 @@ pub record Told (old : Front) (bytes : List ℕ) (taken : ℕ) (new : Front) : T
 -- so many bytes were taken; the bodies don't come next, unless an item waits that says so
 pub record FedOnward (old : Front) (bytes : List ℕ) (taken : ℕ) (new : Front) : Type 0 where
   pub count : total new ≡ total old + taken
+  pub going : old.waiting ≡ None → new.refusal ≡ None
   pub told : is_at_bodies old.steps.stage ≡ false → Told old bytes taken new
   pub apart : is_at_bodies old.steps.stage ≡ false → new.waiting ≡ None → is_at_bodies new.steps.stage ≡ false
 

@@ -8,3 +8,4 @@ pub mod FrontLeft
 pub mod FrontOnward
 pub mod Waits
 pub mod Keeps
+pub mod Outlining

@@ -2,7 +2,7 @@
 use Rattle.std.specs.Prelude.{◌≡◌, ◌<◌, ◌≤◌, ◌+◌, ℕ, Bool, true, false, ◌&&◌, nat_lt, List, [], ◌∷◌, ◌++◌, length, Option, Some, None}
 use Rattle.wasm_defs.specs.declared.text.Inside.{Inside}
 use Rattle.wasm_defs.specs.Fields.{Cursor, Read, Got, Fault, Wants, Reader, ◌>>=◌, done, repeated, past}
-use Rattle.wasm_defs.specs.Text.{next_byte, completes}
+use Rattle.wasm_defs.specs.Text.{completes}
 use Rattle.wasm_defs.specs.Entries.{Seen, value_type, index}
 use Rattle.wasm_defs.specs.Outside.{Nothing}
 use Rattle.wasm_laws.specs.Steadiness.{with_more, Advance}
@@ -22,12 +22,6 @@ element_of ValueType = do
 element_of (Index most) = do
   i ← index most
   done tt
-
--- where a text (5.2.4) stands after these bytes, if they are right so far
-abbrev pub text_state : Option Inside → List ℕ → Option Inside
-text_state None bytes = None
-text_state (Some s) [] = Some s
-text_state (Some s) (b ∷ bytes) = text_state (next_byte s b) bytes
 
 -- ---- waiting
 

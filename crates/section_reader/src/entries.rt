@@ -2,7 +2,7 @@
 
 ghost use Rattle.std.specs.Prelude.{◌≡◌};
 ghost use Rattle.wasm_defs.specs.Entries.{results, signature, imported, function, table, memory, mutability, global, extern_kind, space, exported, start, element, code, segment};
-ghost use Rattle.leb_feed.specs.Reads.{Reads};
+ghost use Rattle.leb_feed.specs.Reads.{Reads, NeedsNoMemory};
 
 use crate::entry_fields::{constant, index, indices, limits, sole, value_types};
 use crate::seen::Seen;
@@ -18,7 +18,8 @@ const TOP_ROWS: u32 = u32::MAX;
 /// The count of a type's results, of which 1.0 has one at most (Core 2.3.3).
 #[tactic(auto, unfolding(wasm_defs::specs::Entries::results))]
 fn results(fields: &mut Fields<'_>) -> Result<(u64, u32), Stop>
-    ensures { Reads results (λ n. n) result fields.old fields.new }
+    ensures read { Reads results (λ n. n) result fields.old fields.new }
+    ensures free { NeedsNoMemory result }
 {
     let (at, n) = fields.u32()?;
     if 1 < n {
@@ -77,7 +78,8 @@ pub fn imported(fields: &mut Fields<'_>, alloc: Global, seen: &Seen) -> Result<I
 /// A function's type (Core 5.5.6).
 #[tactic(auto, unfolding(wasm_defs::specs::Entries::function))]
 pub fn function(fields: &mut Fields<'_>, seen: &Seen) -> Result<Item, Stop>
-    ensures { Reads (function seen.now) (λ n. n) result fields.old fields.new }
+    ensures read { Reads (function seen.now) (λ n. n) result fields.old fields.new }
+    ensures free { NeedsNoMemory result }
 {
     let type_index = index(fields, seen.types)?;
     Ok(Item::Function { type_index })
@@ -86,7 +88,8 @@ pub fn function(fields: &mut Fields<'_>, seen: &Seen) -> Result<Item, Stop>
 /// A table (Core 5.5.7).
 #[tactic(auto, unfolding(wasm_defs::specs::Entries::table))]
 pub fn table(fields: &mut Fields<'_>, seen: &Seen) -> Result<Item, Stop>
-    ensures { Reads (table seen.now) (λ n. n) result fields.old fields.new }
+    ensures read { Reads (table seen.now) (λ n. n) result fields.old fields.new }
+    ensures free { NeedsNoMemory result }
 {
     let (element, byte) = fields.byte()?;
     if byte != 0x70 {
@@ -99,7 +102,8 @@ pub fn table(fields: &mut Fields<'_>, seen: &Seen) -> Result<Item, Stop>
 /// A memory (Core 5.5.8).
 #[tactic(auto, unfolding(wasm_defs::specs::Entries::memory))]
 pub fn memory(fields: &mut Fields<'_>, seen: &Seen) -> Result<Item, Stop>
-    ensures { Reads (memory seen.now) (λ n. n) result fields.old fields.new }
+    ensures read { Reads (memory seen.now) (λ n. n) result fields.old fields.new }
+    ensures free { NeedsNoMemory result }
 {
     let limits = limits(fields, MAX_PAGES, TOP_PAGES)?;
     Ok(Item::Memory { limits })
@@ -107,7 +111,8 @@ pub fn memory(fields: &mut Fields<'_>, seen: &Seen) -> Result<Item, Stop>
 
 #[tactic(auto, unfolding(wasm_defs::specs::Entries::mutability))]
 fn mutability(fields: &mut Fields<'_>) -> Result<(u64, bool), Stop>
-    ensures { Reads mutability (λ n. n) result fields.old fields.new }
+    ensures read { Reads mutability (λ n. n) result fields.old fields.new }
+    ensures free { NeedsNoMemory result }
 {
     let (at, byte) = fields.byte()?;
     if 1 < byte {
@@ -119,7 +124,8 @@ fn mutability(fields: &mut Fields<'_>) -> Result<(u64, bool), Stop>
 /// A global (Core 5.5.9).
 #[tactic(auto, unfolding(wasm_defs::specs::Entries::global))]
 pub fn global(fields: &mut Fields<'_>, seen: &Seen) -> Result<Item, Stop>
-    ensures { Reads (global seen.now) (λ n. n) result fields.old fields.new }
+    ensures read { Reads (global seen.now) (λ n. n) result fields.old fields.new }
+    ensures free { NeedsNoMemory result }
 {
     let ty = fields.value_type()?;
     let mutable = mutability(fields)?;
@@ -129,7 +135,8 @@ pub fn global(fields: &mut Fields<'_>, seen: &Seen) -> Result<Item, Stop>
 
 #[tactic(auto, unfolding(wasm_defs::specs::Entries::extern_kind))]
 fn extern_kind(fields: &mut Fields<'_>) -> Result<(u64, Extern), Stop>
-    ensures { Reads extern_kind (λ n. n) result fields.old fields.new }
+    ensures read { Reads extern_kind (λ n. n) result fields.old fields.new }
+    ensures free { NeedsNoMemory result }
 {
     let (at, byte) = fields.byte()?;
     match byte {
@@ -174,7 +181,8 @@ pub fn exported(fields: &mut Fields<'_>, alloc: Global, seen: &Seen) -> Result<I
 /// The start function (Core 5.5.11).
 #[tactic(auto, unfolding(wasm_defs::specs::Entries::start))]
 pub fn start(fields: &mut Fields<'_>, seen: &Seen) -> Result<Item, Stop>
-    ensures { Reads (start seen.now) (λ n. n) result fields.old fields.new }
+    ensures read { Reads (start seen.now) (λ n. n) result fields.old fields.new }
+    ensures free { NeedsNoMemory result }
 {
     let index = index(fields, seen.functions)?;
     Ok(Item::Start { index })
@@ -199,7 +207,8 @@ pub fn element(fields: &mut Fields<'_>, alloc: Global, seen: &Seen) -> Result<It
 /// The code section's count (Core 5.5.13); its bodies follow.
 #[tactic(auto, unfolding(wasm_defs::specs::Entries::code, wasm_defs::specs::Fields::stop))]
 pub fn code(fields: &mut Fields<'_>, seen: &Seen) -> Result<Item, Stop>
-    ensures { Reads (code seen.now) (λ n. n) result fields.old fields.new }
+    ensures read { Reads (code seen.now) (λ n. n) result fields.old fields.new }
+    ensures free { NeedsNoMemory result }
 {
     let count = fields.u32()?;
     if u64::from(count.1) != seen.declared {

@@ -3,7 +3,7 @@
 ghost use Rattle.std.specs.Prelude.{◌≡◌};
 ghost use Rattle.wasm_defs.specs.Fields.{repeated};
 ghost use Rattle.wasm_defs.specs.Entries.{index, listed_index, listed_type, limits, wrong_opcode, constant, sole};
-ghost use Rattle.leb_feed.specs.Reads.{Reads};
+ghost use Rattle.leb_feed.specs.Reads.{Reads, NeedsNoMemory};
 
 use leb_feed::{Fields, Stop};
 use std::alloc::Global;
@@ -12,7 +12,8 @@ use wasm_defs::{Constant, Indices, Kind, Limits, ValType, ValTypes};
 /// An index into so many.
 #[tactic(auto, unfolding(wasm_defs::specs::Entries::index))]
 pub fn index(fields: &mut Fields<'_>, most: u64) -> Result<(u64, u32), Stop>
-    ensures { Reads (index most) (λ n. n) result fields.old fields.new }
+    ensures read { Reads (index most) (λ n. n) result fields.old fields.new }
+    ensures free { NeedsNoMemory result }
 {
     let (at, i) = fields.u32()?;
     if u64::from(i) < most {
@@ -24,7 +25,8 @@ pub fn index(fields: &mut Fields<'_>, most: u64) -> Result<(u64, u32), Stop>
 /// An index that can only be 0, of what has to be there.
 #[tactic(auto, unfolding(wasm_defs::specs::Entries::sole))]
 pub fn sole(fields: &mut Fields<'_>, there: u64) -> Result<(u64, u32), Stop>
-    ensures { Reads (sole there) (λ n. n) result fields.old fields.new }
+    ensures read { Reads (sole there) (λ n. n) result fields.old fields.new }
+    ensures free { NeedsNoMemory result }
 {
     let (at, i) = fields.u32()?;
     if i == 0 && 0 < there {
@@ -35,7 +37,8 @@ pub fn sole(fields: &mut Fields<'_>, there: u64) -> Result<(u64, u32), Stop>
 
 #[tactic(auto, unfolding(wasm_defs::specs::Entries::listed_index))]
 fn listed_index(fields: &mut Fields<'_>, most: u64) -> Result<u32, Stop>
-    ensures { Reads (listed_index most) (λ n. n) result fields.old fields.new }
+    ensures read { Reads (listed_index most) (λ n. n) result fields.old fields.new }
+    ensures free { NeedsNoMemory result }
 {
     let (_, i) = index(fields, most)?;
     Ok(i)
@@ -54,7 +57,8 @@ pub fn indices(fields: &mut Fields<'_>, alloc: Global, n: u32, most: u64) -> Res
 
 #[tactic(auto, unfolding(wasm_defs::specs::Entries::listed_type))]
 fn listed_type(fields: &mut Fields<'_>) -> Result<ValType, Stop>
-    ensures { Reads listed_type (λ n. n) result fields.old fields.new }
+    ensures read { Reads listed_type (λ n. n) result fields.old fields.new }
+    ensures free { NeedsNoMemory result }
 {
     let (_, ty) = fields.value_type()?;
     Ok(ty)
@@ -74,7 +78,8 @@ pub fn value_types(fields: &mut Fields<'_>, alloc: Global, n: u32) -> Result<Val
 /// Limits (Core 5.3.4): `most` is this implementation's limit on the minimum, `top` the standard's on the maximum.
 #[tactic(auto, unfolding(wasm_defs::specs::Entries::limits))]
 pub fn limits(fields: &mut Fields<'_>, most: u32, top: u32) -> Result<Limits, Stop>
-    ensures { Reads (limits most top) (λ n. n) result fields.old fields.new }
+    ensures read { Reads (limits most top) (λ n. n) result fields.old fields.new }
+    ensures free { NeedsNoMemory result }
 {
     let (flag, kind) = fields.byte()?;
     if 1 < kind {
@@ -116,7 +121,8 @@ fn wrong_opcode(byte: u8) -> Kind
 /// A constant expression of a type (Core 3.3.7, 5.4.6).
 #[tactic(auto, unfolding(wasm_defs::specs::Entries::constant))]
 pub fn constant(fields: &mut Fields<'_>, ty: ValType) -> Result<Constant, Stop>
-    ensures { Reads (constant ty) (λ n. n) result fields.old fields.new }
+    ensures read { Reads (constant ty) (λ n. n) result fields.old fields.new }
+    ensures free { NeedsNoMemory result }
 {
     let (opcode, byte) = fields.byte()?;
     let (wanted, bits) = match ty {

@@ -8,9 +8,8 @@ ghost use Rattle.section_reader.specs.Waits.{Awaits, AwaitsAt, IsPlaced, place_o
 
 use crate::entry_fields::{constant, sole};
 use crate::seen::Seen;
-use crate::text::{between, state_after};
 use crate::wait::{Element, Wait};
-use leb_feed::Fields;
+use leb_feed::{Fields, between, state_after};
 use std::alloc::Global;
 use wasm_defs::{MAX_PARAMS, ValType};
 

@@ -1,6 +1,6 @@
 //! The push reader: bytes go in as they come, and items come out.
 
-ghost use Rattle.std.specs.Prelude.{◌≡◌, ◌≤◌, ◌<◌, ◌+◌, ◌^◌, ℕ, List, ◌++◌, length, [], true, false, None, IfSome, is_some};
+ghost use Rattle.std.specs.Prelude.{◌≡◌, ◌≤◌, ◌<◌, ◌+◌, ◌^◌, ℕ, List, ◌++◌, length, [], true, false, None, Ok, Err, IfSome, IsSome, OnOk, is_some};
 ghost use Rattle.std.proofs.Props.{props};
 ghost use Rattle.wasm_defs.specs.Faults.{ending_fault};
 ghost use Rattle.wasm_defs.specs.Outside.{module_run, sections, no_end};
@@ -44,7 +44,7 @@ pub struct Front {
     ghost fits: { at + length kept.items < 2 ^ 64 },
     ghost ordered: { IsOrdered steps.stage steps.seen },
     ghost behind: { IfSome waiting (λ x. IsBehind x steps.stage steps.seen end) } by { Prim.hlevel props },
-    ghost alone: { is_some waiting ≡ true → (length kept.items ≡ 0) × (is_some refusal ≡ false) },
+    ghost alone: { is_some waiting ≡ true → length kept.items ≡ 0 },
     ghost stalled: { IsStalled steps.stage steps.seen (record { at = at; rest = kept.items; end = end }) },
     ghost owed: { IsOwed steps.stage steps.seen (record { at = at; rest = kept.items; end = end }) },
     ghost unread: { 0 < length kept.items → IsFree steps.stage steps.seen (record { at = at; rest = kept.items; end = end }) wait },
@@ -94,10 +94,11 @@ impl Front {
         ensures onward { (more : List ℕ) → onward_left self.old more ≡ prepend result (onward_left self.new more) }
         ensures item { result ≡ self.old.waiting }
         ensures taken { self.new.waiting ≡ None }
-        ensures follows { IfSome result (λ x. Follows x self.new) }
+        ensures follows { IfSome result (λ x. self.old.refusal ≡ None → Follows x self.new) }
         ensures steps { self.new.steps ≡ self.old.steps }
         ensures total { total self.new ≡ total self.old }
         ensures begun { begun self.new ≡ begun self.old }
+        ensures refusal { self.new.refusal ≡ self.old.refusal }
     {
         self.waiting.take()
     }
@@ -114,11 +115,17 @@ impl Front {
     }
 
     /// Takes the next bytes: all of them, or those up to the end of an item that is waiting then, and none while one waits.
+    /// Where none waits then, the bytes that came have no fault. So behind an item that was taken it is asked again, with no
+    /// bytes if there are none: a fault that stands there already is answered before more bytes come.
     ///
-    /// A refusal is answered for good. After want of memory what is left to tell is as it was.
+    /// # Errors
+    /// `Refused` where the module has this fault outside its bodies, whatever follows. It is answered for good, without taking
+    /// memory, by each later `feed` and `end`. `NoMemory` leaves what is left to tell as it was.
     pub fn feed(&mut self, bytes: &[u8]) -> Result<usize, FrontStop>
         ensures fed { Feeds self.old bytes.now result self.new }
         ensures onward { FeedsOnward self.old bytes.now result self.new }
+        ensures waits { IsSome self.old.waiting → (result ≡ Ok 0) × (self.new ≡ self.old) }
+        ensures again { self.old.waiting ≡ None → IfSome self.old.refusal (λ r. (result ≡ Err (FrontStop.Refused r)) × (self.new ≡ self.old)) }
     {
         if self.waiting.is_some() {
             return Ok(0);
@@ -173,15 +180,28 @@ impl Front {
         }
     }
 
-    /// How the module ends, if no further bytes come: with a fault outside its bodies, or without one. Where the bytes end
-    /// too soon, the fault's kind is `Ended`, and its offset their number. No memory is taken.
+    /// How the module ends, if no further bytes come: with a fault outside its bodies, or without one. No memory is taken.
+    ///
+    /// # Errors
+    /// The fault. Where the bytes end too soon, its kind is `Ended`, and its offset their number. It is answered for good, by
+    /// each later `feed` and `end`.
     pub fn end(&mut self) -> Result<(), Refusal>
         ensures answer { refusal_of result ≡ ending_fault (total self.old) (left self.old []).ending }
         ensures onward { is_at_bodies self.old.steps.stage ≡ false → self.old.waiting ≡ None → EndsOnward self.old (refusal_of result) }
-        ensures kept { self.new ≡ self.old }
+        ensures refusal { self.new.refusal ≡ refusal_of result }
+        ensures same { (total self.new ≡ total self.old) × (begun self.new ≡ begun self.old) × (self.new.waiting ≡ self.old.waiting) }
+        ensures unchanged { OnOk result (self.new ≡ self.old) }
+        ensures again { IfSome self.old.refusal (λ r. (result ≡ Err r) × (self.new ≡ self.old)) }
     {
+        if let Some(refusal) = self.refusal {
+            return Err(refusal);
+        }
         match self.ending() {
-            Some(refusal) => Err(refusal),
+            Some(refusal) => {
+                self.steps.uncompiled = self.uncompiled();
+                self.refusal = Some(refusal);
+                Err(refusal)
+            }
             None => Ok(()),
         }
     }

@@ -406,3 +406,51 @@ fn modules_have_a_limit(rt: HostRuntime) -> Result<(), Fail> {
     }
     Ok(())
 }
+
+/// Why a module is refused by the bytes that came, whose end isn't told.
+fn told_so_far(alloc: Global, bytes: &[u8]) -> Option<FrontStop> {
+    let mut front = Front::new(alloc);
+    let mut rest = bytes;
+    for _ in 0..100 {
+        match front.feed(rest) {
+            Ok(taken) => rest = rest.get(taken..)?,
+            Err(stop) => return Some(stop),
+        }
+        let _item = front.take_item()?;
+    }
+    None
+}
+
+#[test]
+fn faults_are_told_before_more_bytes_come(rt: HostRuntime) -> Result<(), Fail> {
+    let alloc = rt.alloc();
+    let rows: [(&str, Option<FrontStop>); 3] = [
+        ("01 04 02 60 00 00", refused(14, Kind::Malformed)),
+        (
+            "04 04 01 70 00 00 07 05 05 01 61 01 00",
+            refused(21, Kind::Malformed),
+        ),
+        ("01 05 02 60 00 00", None),
+    ];
+    for (text, want) in rows {
+        let bytes = bytes_of(alloc, &[HEADER, text])?;
+        assert_eq!(rt; told_so_far(alloc, &bytes), want, "{text}");
+    }
+    Ok(())
+}
+
+#[test]
+fn a_refusal_at_the_end_is_for_good(rt: HostRuntime) -> Result<(), Fail> {
+    let alloc = rt.alloc();
+    let bytes = bytes_of(alloc, &[HEADER, "01 04 01"])?;
+    let mut front = Front::new(alloc);
+    assert_eq!(rt; front.feed(&bytes), Ok(11));
+    let refusal = Refusal {
+        offset: 11,
+        kind: Kind::Ended,
+    };
+    assert_eq!(rt; front.end(), Err(refusal));
+    assert_eq!(rt; front.feed(&[0x60]), Err(FrontStop::Refused(refusal)));
+    assert_eq!(rt; front.end(), Err(refusal));
+    Ok(())
+}

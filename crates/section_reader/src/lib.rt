@@ -9,12 +9,13 @@ mod front;
 #[cfg(test)]
 mod front_tests;
 mod items;
+mod laws;
 mod rows;
 mod sections;
 mod seen;
 mod stage;
 mod steps;
-mod text;
 mod wait;
 
 pub use front::Front;
+pub use laws::outlines_have_the_items;

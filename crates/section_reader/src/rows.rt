@@ -3,7 +3,7 @@
 
 ghost use Rattle.std.specs.Prelude.{◌≡◌};
 ghost use Rattle.wasm_defs.specs.Outside.{number_of, at_most_one, function_count, custom_name, rest_of_section};
-ghost use Rattle.leb_feed.specs.Reads.{Reads};
+ghost use Rattle.leb_feed.specs.Reads.{Reads, NeedsNoMemory};
 ghost use Rattle.section_reader.specs.Outline.{outline_row};
 
 use crate::seen::Seen;
@@ -13,7 +13,8 @@ use wasm_defs::{Kind, MAX_ENTRIES};
 
 #[tactic(auto, unfolding(wasm_defs::specs::Outside::number_of))]
 fn number_of(fields: &mut Fields<'_>, most: u32) -> Result<u64, Stop>
-    ensures { Reads (number_of most) (λ n. n) result fields.old fields.new }
+    ensures read { Reads (number_of most) (λ n. n) result fields.old fields.new }
+    ensures free { NeedsNoMemory result }
 {
     let (_, n) = fields.count(most)?;
     Ok(u64::from(n))
@@ -22,7 +23,8 @@ fn number_of(fields: &mut Fields<'_>, most: u32) -> Result<u64, Stop>
 /// Of what a module has one at most (Core 2.5).
 #[tactic(auto, unfolding(wasm_defs::specs::Outside::at_most_one))]
 fn at_most_one(fields: &mut Fields<'_>) -> Result<u64, Stop>
-    ensures { Reads at_most_one (λ n. n) result fields.old fields.new }
+    ensures read { Reads at_most_one (λ n. n) result fields.old fields.new }
+    ensures free { NeedsNoMemory result }
 {
     let (at, n) = fields.u32()?;
     if 1 < n {
@@ -34,7 +36,8 @@ fn at_most_one(fields: &mut Fields<'_>) -> Result<u64, Stop>
 /// Imports and functions together have one limit.
 #[tactic(auto, unfolding(wasm_defs::specs::Outside::function_count))]
 fn function_count(fields: &mut Fields<'_>, seen: &Seen) -> Result<u64, Stop>
-    ensures { Reads (function_count seen.now) (λ n. n) result fields.old fields.new }
+    ensures read { Reads (function_count seen.now) (λ n. n) result fields.old fields.new }
+    ensures free { NeedsNoMemory result }
 {
     let (at, n) = fields.u32()?;
     if u128::from(MAX_ENTRIES) < u128::from(seen.functions) + u128::from(n) {
@@ -68,7 +71,8 @@ pub fn entry_count(fields: &mut Fields<'_>, alloc: Global, id: u8, seen: &Seen) 
 /// Passes over what the section has left.
 #[tactic(auto, unfolding(wasm_defs::specs::Outside::rest_of_section, wasm_defs::specs::Fields::room))]
 pub fn rest_of_section(fields: &mut Fields<'_>) -> Result<(), Stop>
-    ensures { Reads rest_of_section (λ n. tt) result fields.old fields.new }
+    ensures read { Reads rest_of_section (λ n. tt) result fields.old fields.new }
+    ensures free { NeedsNoMemory result }
 {
     let room = fields.room();
     fields.run(room)?;

@@ -3,7 +3,7 @@
 ghost use Rattle.std.specs.Prelude.{◌≡◌, ◌≤◌, IfOk};
 ghost use Rattle.wasm_defs.specs.Fields.{here};
 ghost use Rattle.wasm_defs.specs.Outside.{header, section_end, preamble, magic, version};
-ghost use Rattle.leb_feed.specs.Reads.{Reads};
+ghost use Rattle.leb_feed.specs.Reads.{Reads, NeedsNoMemory};
 
 use crate::seen::Seen;
 use leb_feed::{Fields, Stop};
@@ -15,7 +15,8 @@ const DATA_COUNT: u8 = 12;
 /// The magic bytes and the version.
 #[tactic(auto, unfolding(wasm_defs::specs::Outside::preamble))]
 pub fn preamble(fields: &mut Fields<'_>) -> Result<u64, Stop>
-    ensures { Reads preamble (λ n. n) result fields.old fields.new }
+    ensures read { Reads preamble (λ n. n) result fields.old fields.new }
+    ensures free { NeedsNoMemory result }
 {
     fields.fixed(&[0x00, 0x61, 0x73, 0x6D])?;
     fields.fixed(&[0x01, 0x00, 0x00, 0x00])
@@ -26,6 +27,7 @@ pub fn preamble(fields: &mut Fields<'_>) -> Result<u64, Stop>
 pub fn header(fields: &mut Fields<'_>, seen: &Seen) -> Result<(u8, u64), Stop>
     ensures read { Reads (header seen.now) (λ n. n) result fields.old fields.new }
     ensures ahead { IfOk result (λ h. fields.new.at ≤ h.1) }
+    ensures free { NeedsNoMemory result }
 {
     let (at, id) = fields.byte()?;
     if seen.is_misplaced(id) {
@@ -48,7 +50,8 @@ pub fn header(fields: &mut Fields<'_>, seen: &Seen) -> Result<(u8, u64), Stop>
 /// Ends a section. Bytes that it has left are malformed once one came.
 #[tactic(auto, unfolding(wasm_defs::specs::Outside::section_end))]
 pub fn section_end(fields: &mut Fields<'_>) -> Result<(), Stop>
-    ensures { Reads section_end (λ n. tt) result fields.old fields.new }
+    ensures read { Reads section_end (λ n. tt) result fields.old fields.new }
+    ensures free { NeedsNoMemory result }
 {
     if fields.room() == 0 {
         fields.leave();

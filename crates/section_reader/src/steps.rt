@@ -1,6 +1,7 @@
 //! Reading step by step: up to the next stage, or to the next item.
 
 ghost use Rattle.std.specs.Prelude.{◌≡◌, ◌<◌, ◌≤◌, ℕ, length, true, false, None, Some, IfOk, IfSome};
+ghost use Rattle.leb_feed.specs.Reads.{NeedsNoMemory};
 ghost use Rattle.section_reader.specs.Counts.{IsSound};
 ghost use Rattle.section_reader.specs.Onward.{first_with, first_with_next, first_begun};
 ghost use Rattle.section_reader.specs.Stages.{passes, cut_there, code_due, silent, is_at_bodies};
@@ -182,6 +183,7 @@ impl Steps {
         requires stage { self.old.stage ≡ Stage.Preamble }
         ensures stepped { Stepped self.old fields.old result self.new fields.new }
         ensures none { IfOk result (λ x. x ≡ None) }
+        ensures free { NeedsNoMemory result }
     {
         let mut next = fields.fork();
         preamble(&mut next)?;
@@ -196,6 +198,7 @@ impl Steps {
         requires stage { self.old.stage ≡ Stage.Between }
         ensures stepped { Stepped self.old fields.old result self.new fields.new }
         ensures none { IfOk result (λ x. x ≡ None) }
+        ensures free { NeedsNoMemory result }
     {
         if fields.rest().is_empty() {
             return Err(Stop::Wants);
@@ -263,6 +266,7 @@ impl Steps {
         requires listing { passes id ≡ false }
         ensures stepped { Stepped self.old fields.old result self.new fields.new }
         ensures none { IfOk result (λ x. x ≡ None) }
+        ensures free { NeedsNoMemory result }
     {
         let mut next = fields.fork();
         section_end(&mut next)?;
@@ -278,6 +282,7 @@ impl Steps {
         requires passing { passes id ≡ true }
         ensures stepped { Stepped self.old fields.old result self.new fields.new }
         ensures none { IfOk result (λ x. x ≡ None) }
+        ensures free { NeedsNoMemory result }
     {
         let there = fields.rest().len() as u64;
         let room = fields.room();

@@ -6,12 +6,11 @@
 
 ghost use Rattle.std.specs.Prelude.{◌≡◌, ◌≤◌, ◌<◌, ◌+◌, ◌-◌, ◌^◌, ℕ, List, ◌++◌, length, IfSome};
 ghost use Rattle.wasm_defs.specs.Fields.{Cursor};
-ghost use Rattle.leb_feed.specs.Reads.{Reads};
+ghost use Rattle.leb_feed.specs.Reads.{Reads, NeedsNoMemory};
 ghost use Rattle.section_reader.specs.Waits.{element_of, place_of, IsPlaced, Follows, Stays};
 
 use crate::entry_fields::index;
-use crate::text::state_after;
-use leb_feed::{Fields, Stop};
+use leb_feed::{Fields, Stop, state_after};
 use wasm_defs::Inside;
 
 /// An element of a list.
@@ -45,7 +44,8 @@ pub enum Wait {
 impl Element {
     /// Passes over one.
     fn pass(self, fields: &mut Fields<'_>) -> Result<(), Stop>
-        ensures { Reads (element_of self) (λ n. tt) result fields.old fields.new }
+        ensures read { Reads (element_of self) (λ n. tt) result fields.old fields.new }
+        ensures free { NeedsNoMemory result }
     {
         match self {
             Element::ValueType => {

@@ -158,9 +158,11 @@ known_at (stage.Entries id n) first at = refl
 
 pub all_known : (f : Front) (x : Item) → f.waiting ≡ Some x → begun f ≡ f.steps.uncompiled
 all_known f x e =
-    let alone = f.alone (ap is_some e) in
-    let kept : f.kept.items ≡ [] = nil_from_length f.kept.items alone.0 in
-    rw (alone.1, kept) (known_at f.steps.stage f.steps.uncompiled f.at)
+    of_refusal f.refusal refl (nil_from_length f.kept.items (f.alone (ap is_some e)))
+  where
+    of_refusal : (o : Option Refusal) → f.refusal ≡ o → f.kept.items ≡ [] → begun f ≡ f.steps.uncompiled
+    of_refusal (Some r) is kept = rw is refl
+    of_refusal None is kept = rw (is, kept) (known_at f.steps.stage f.steps.uncompiled f.at)
 
 -- ---- faults outside bodies
 

@@ -69,7 +69,8 @@ impl Compilation {
         }
     }
 
-    /// Takes the next bytes, however they are cut, up to the module's first fault.
+    /// Takes the next bytes, however they are cut, up to the module's first fault. A fault outside the bodies' bytes is told as
+    /// soon as no further byte can mend it.
     pub fn feed(&mut self, piece: &[u8]) -> Result<(), FrontStop>
         requires { MayGo self.old piece.now }
         ensures goes { (bytes more : List ℕ) → IsGoing bytes self.old (piece.now ++ more) → GoesOn bytes result self.new more }
@@ -83,7 +84,20 @@ impl Compilation {
                 Err(stop) => return Err(stop),
             }
         }
-        Ok(())
+        self.tell()
+    }
+
+    /// Tells a fault that stands there before another byte comes: where a section ends with entries owed, or behind the code
+    /// section's count.
+    fn tell(&mut self) -> Result<(), FrontStop>
+        requires { MayGo self.old [] }
+        ensures goes { (bytes more : List ℕ) → IsGoing bytes self.old more → GoesOn bytes result self.new more }
+        ensures kept { KeepsAlike self.old.codes self.new.codes }
+    {
+        match self.advance(&[]) {
+            Ok(_) => Ok(()),
+            Err(stop) => Err(stop),
+        }
     }
 
     /// Takes some of the bytes: all, or those up to an item's end or to that of the bodies' section.

@@ -50,3 +50,4 @@ pub mod Exports
 pub mod Counted
 pub mod Constants
 pub mod Spaces
+pub mod Completing

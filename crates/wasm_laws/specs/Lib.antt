@@ -9,3 +9,4 @@ pub mod Behind
 pub mod Straight
 pub mod Plain
 pub mod Kept
+pub mod Completing

@@ -1,10 +1,11 @@
 //! The laws of how a module's bytes are read.
 
-ghost use Rattle.std.specs.Prelude.{◌≡◌, ◌≤◌, ◌<◌, ℕ, length, List, [], None, Some, suc, true, ◌∷◌, ◌++◌};
+ghost use Rattle.std.specs.Prelude.{◌≡◌, ◌≤◌, ◌<◌, ℕ, Bool, length, List, [], None, Some, suc, true, ◌∷◌, ◌++◌};
 ghost use Rattle.wasm_defs.specs.Bodies.{body_read, instruction, last_of, local_groups};
 ghost use Rattle.wasm_defs.specs.Context.{context_of, declared_count, functions_of, types_of};
 ghost use Rattle.wasm_defs.specs.Entries.{Seen};
 ghost use Rattle.wasm_defs.specs.Faults.{bodies_of, ending_fault, first_outside, IsModule, items_of, Module, sections_of, tokens_of};
+ghost use Rattle.wasm_defs.specs.Fields.{Cursor, Wants, byte, fixed, name, number, room_of};
 ghost use Rattle.wasm_defs.specs.Instances.{exports_of, is_linkable, named};
 ghost use Rattle.wasm_defs.specs.Outside.{Body, Coded, header, module_run, Part, preamble, row, Section, section_end, Whole};
 ghost use Rattle.wasm_defs.specs.Places.{greatest, places_of};
@@ -16,6 +17,7 @@ ghost use Rattle.wasm_defs.specs.declared.item.Item.{Item};
 ghost use Rattle.wasm_defs.specs.declared.token.Token.{Token};
 ghost use Rattle.wasm_laws.specs.Behind.{AreValidIn, StandBehind};
 ghost use Rattle.wasm_laws.specs.BodyOrder.{IsSpelledIn};
+ghost use Rattle.wasm_laws.specs.Completing.{Completes, CompletesOrPasses};
 ghost use Rattle.wasm_laws.specs.Counts.{AreDeclared};
 ghost use Rattle.wasm_laws.specs.Kept.{AreThere, BodiesAreSmall, ConstantsFit, IsThere, LocalsAreFew, SpacesAreSmall, TypesAreSmall};
 ghost use Rattle.wasm_laws.specs.Order.{AreCutFrom, AreOrdered, BodyStands, end_of, first_section};
@@ -41,6 +43,15 @@ pub fn bodies_are_steady()
     ensures locals { Steady [] local_groups }
     ensures instruction { (at b : ℕ) → Steady (at ∷ []) (instruction at b) }
     ensures token { Steady [] token }
+{}
+
+/// A field that wants more bytes can be completed in its section (Core 5.2): what no bytes complete is refused at once. A name
+/// may be longer than this implementation takes; given bytes are completed where the section has room for them.
+pub fn fields_can_be_completed()
+    ensures byte { (c : Cursor) → byte c ≡ Wants → Completes byte c }
+    ensures number { (signed : Bool) (bits : ℕ) (c : Cursor) → number signed bits c ≡ Wants → Completes (number signed bits) c }
+    ensures name { (c : Cursor) → name c ≡ Wants → CompletesOrPasses name c }
+    ensures fixed { (bytes : List ℕ) → AreBytes bytes → (c : Cursor) → length bytes ≤ room_of c → fixed bytes c ≡ Wants → Completes (fixed bytes) c }
 {}
 
 /// More bytes change no part and no refusal of a module: a refused run stays as it is, and any other goes on.

@@ -5,4 +5,4 @@ use Rattle.section_reader.proofs.entry_fields.value_types.Goals as goal
 
 pub loop-preserved : goal.loop-preserved
 loop-preserved c =
-    rw c.in_ok-push.ensures.items (goes_on listed_type c.loop.types.items c.args.n c.loop.counter c.loop.fields c.listed_type.new.fields _ (repeated c.args.n listed_type c.args.fields.now) c.loop-test.true c.in_ok-listed_type.ensures c.loop.invariant)
+    rw c.in_ok-push.ensures.items (goes_on listed_type c.loop.types.items c.args.n c.loop.counter c.loop.fields c.listed_type.new.fields _ (repeated c.args.n listed_type c.args.fields.now) c.loop-test.true c.in_ok-listed_type.ensures.read c.loop.invariant)

@@ -11,4 +11,4 @@ returns c =
     let spelled = c.in_ok-at.ensures.spelled in
     let bounds = signed_bounds c.in_ok-at.n c.args.bits spelled.0 spelled.1 in
     let e = signed_is c.in_ok-at.n c.args.bits c.requires.few_bits bounds in
-    rw e (record { read = c.in_ok-at.ensures.read; range = (bounds.least, bounds.most) })
+    rw e (record { read = c.in_ok-at.ensures.read; free = tt; stays = tt; range = (bounds.least, bounds.most) })

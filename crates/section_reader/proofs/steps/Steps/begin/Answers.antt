@@ -10,10 +10,10 @@ returns-in_err-preamble-clause-stepped c =
     let o = c.args.self.now in
     let f = c.args.fields.now in
     let p = err_from_is_err_and c.from_residual.result c.from_residual.ensures.1 in
-    let h = rw c.fork-next.ensures at c.in_err-preamble.ensures in
+    let h = rw c.fork-next.ensures at c.in_err-preamble.ensures.read in
     rw (p.1, p.2) (stops_at o Preamble f _ c.requires.stage (preamble_halts o.seen f _ h) (λ order apart. telling.preamble_halts o.seen f _ h))
 
 pub returns-clause-stepped : goal.returns-clause-stepped
 returns-clause-stepped c =
     let o = c.args.self.now in
-    preamble_goes o.stage o.seen o.uncompiled c.args.fields.now c.preamble.new.fields c.requires.sound _ c.requires.stage (rw c.fork-next.ensures at c.in_ok-preamble.ensures)
+    preamble_goes o.stage o.seen o.uncompiled c.args.fields.now c.preamble.new.fields c.requires.sound _ c.requires.stage (rw c.fork-next.ensures at c.in_ok-preamble.ensures.read)

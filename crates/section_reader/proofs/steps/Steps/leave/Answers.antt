@@ -11,11 +11,11 @@ returns-in_err-section_end-clause-stepped c =
     let f = c.args.fields.now in
     let id = c.args.id in
     let p = err_from_is_err_and c.from_residual.result c.from_residual.ensures.1 in
-    let h = rw c.fork-next.ensures at c.in_err-section_end.ensures in
+    let h = rw c.fork-next.ensures at c.in_err-section_end.ensures.read in
     let back = nothing_back id f c.requires.listing in
     rw (p.1, p.2) (stops_at o (Entries id 0) f _ c.requires.stage (end_halts o.seen f id f _ back h) (λ order apart. telling.end_halts o.seen f id f _ apart back h))
 
 pub returns-clause-stepped : goal.returns-clause-stepped
 returns-clause-stepped c =
     let o = c.args.self.now in
-    back_goes o.stage o.seen o.uncompiled c.args.fields.now c.args.fields.now c.requires.sound c.args.id c.section_end.new.fields c.requires.stage (nothing_back c.args.id c.args.fields.now c.requires.listing) (rw c.fork-next.ensures at c.in_ok-section_end.ensures)
+    back_goes o.stage o.seen o.uncompiled c.args.fields.now c.args.fields.now c.requires.sound c.args.id c.section_end.new.fields c.requires.stage (nothing_back c.args.id c.args.fields.now c.requires.listing) (rw c.fork-next.ensures at c.in_ok-section_end.ensures.read)

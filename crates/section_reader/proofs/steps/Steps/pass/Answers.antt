@@ -14,7 +14,7 @@ returns-in_err-rest_of_section-clause-stepped c =
     let f = c.args.fields.now in
     let id = c.args.id in
     let p = err_from_is_err_and c.from_residual.result c.from_residual.ensures.1 in
-    let h = rw c.fork-next.ensures at c.in_err-rest_of_section.ensures in
+    let h = rw c.fork-next.ensures at c.in_err-rest_of_section.ensures.read in
     rw (p.1, p.2) (stops_at o (Entries id 0) f _ c.requires.stage (back_halts o.seen f id _ (rw (rest_back id f c.requires.passing) h)) (λ order apart. telling.back_halts o.seen f id _ apart (rw (rest_back id f c.requires.passing) h)))
 
 pub returns-in_err-section_end-clause-stepped : goal.returns-in_err-section_end-clause-stepped
@@ -24,14 +24,14 @@ returns-in_err-section_end-clause-stepped c =
     let id = c.args.id in
     let d = c.rest_of_section.new.fields in
     let p = err_from_is_err_and c.from_residual-in_err-section_end.result c.from_residual-in_err-section_end.ensures.1 in
-    let back = rest_back id f c.requires.passing ∙ (rw c.fork-next.ensures at c.in_ok-rest_of_section.ensures) in
-    let h = c.in_err-section_end.ensures in
+    let back = rest_back id f c.requires.passing ∙ (rw c.fork-next.ensures at c.in_ok-rest_of_section.ensures.read) in
+    let h = c.in_err-section_end.ensures.read in
     rw (p.1, p.2) (stops_at o (Entries id 0) f _ c.requires.stage (end_halts o.seen f id d _ back h) (λ order apart. telling.end_halts o.seen f id d _ apart back h))
 
 pub returns-then-room-there-clause-stepped : goal.returns-then-room-there-clause-stepped
 returns-then-room-there-clause-stepped c =
     let o = c.args.self.now in
-    back_goes o.stage o.seen o.uncompiled c.args.fields.now c.rest_of_section.new.fields c.requires.sound c.args.id c.section_end.new.fields c.requires.stage (rest_back c.args.id c.args.fields.now c.requires.passing ∙ (rw c.fork-next.ensures at c.in_ok-rest_of_section.ensures)) c.in_ok-section_end.ensures
+    back_goes o.stage o.seen o.uncompiled c.args.fields.now c.rest_of_section.new.fields c.requires.sound c.args.id c.section_end.new.fields c.requires.stage (rest_back c.args.id c.args.fields.now c.requires.passing ∙ (rw c.fork-next.ensures at c.in_ok-rest_of_section.ensures.read)) c.in_ok-section_end.ensures.read
 
 pub returns-then-there-eq0-clause-stepped : goal.returns-then-there-eq0-clause-stepped
 returns-then-there-eq0-clause-stepped c =
@@ -45,9 +45,9 @@ returns-then-there-eq0-clause-stepped c =
 pub returns-in_err-run-clause-stepped : goal.returns-in_err-run-clause-stepped
 returns-in_err-run-clause-stepped c =
     let p = err_from_is_err_and c.from_residual-in_err-run.result c.from_residual-in_err-run.ensures.1 in
-    rw (p.1, p.2) (run_stops_at c.args.self.now c.args.fields.now _ _ (ap length c.rest.ensures) (omega arith) (rw c.fork-next-2.ensures at c.in_err-run.ensures))
+    rw (p.1, p.2) (run_stops_at c.args.self.now c.args.fields.now _ _ (ap length c.rest.ensures) (omega arith) (rw c.fork-next-2.ensures at c.in_err-run.ensures.read))
 
 pub returns-clause-stepped : goal.returns-clause-stepped
 returns-clause-stepped c =
     let o = c.args.self.now in
-    pass_goes_at o.stage o.seen o.uncompiled c.args.fields.now c.run.new.self c.args.id _ _ c.requires.sound c.requires.stage c.requires.passing (ap length c.rest.ensures) (omega arith) (omega arith) (rw c.fork-next-2.ensures at c.in_ok-run.ensures)
+    pass_goes_at o.stage o.seen o.uncompiled c.args.fields.now c.run.new.self c.args.id _ _ c.requires.sound c.requires.stage c.requires.passing (ap length c.rest.ensures) (omega arith) (omega arith) (rw c.fork-next-2.ensures at c.in_ok-run.ensures.read)

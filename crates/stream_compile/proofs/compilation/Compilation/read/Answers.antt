@@ -20,7 +20,7 @@ take_item-requires-in-Some c =
       drop c.in-Ok.taken piece ++ more,
       item_read bytes s _ c.feed.new.self c.in-Some.item piece more c.in-Ok.taken (c.in-Ok.ensures.fed).some c.in-Ok.ensures.onward
           (λ later. c.take_item.ensures.onward later ∙ ap (λ (x : Option Item). prepend x (onward_left c.take_item.new.self later)) c.in-Some.is) c.take_item.ensures.steps c.take_item.ensures.total c.take_item.ensures.begun
-          (sym c.take_item.ensures.item ∙ c.in-Some.is) c.take_item.ensures.taken c.in-Some.ensures.follows c.requires.none refl refl r,
+          (sym c.take_item.ensures.item ∙ c.in-Some.is) c.take_item.ensures.taken (c.in-Some.ensures.follows (c.in-Ok.ensures.onward.going r.place.idle)) c.requires.none refl refl r,
     )
 
 pub returns-in-Ok-take_item-clause-goes : goal.returns-in-Ok-take_item-clause-goes
@@ -31,7 +31,7 @@ returns-in-Ok-take_item-clause-goes c = λ bytes more g.
     (c.in-Ok-take_item.ensures.takes bytes (drop c.in-Ok.taken piece ++ more)
     (item_read bytes s _ c.feed.new.self c.in-Some.item piece more c.in-Ok.taken (c.in-Ok.ensures.fed).some c.in-Ok.ensures.onward
     (λ later. c.take_item.ensures.onward later ∙ ap (λ (x : Option Item). prepend x (onward_left c.take_item.new.self later)) c.in-Some.is) c.take_item.ensures.steps c.take_item.ensures.total c.take_item.ensures.begun
-    (sym c.take_item.ensures.item ∙ c.in-Some.is) c.take_item.ensures.taken c.in-Some.ensures.follows c.requires.none refl refl r)).going
+    (sym c.take_item.ensures.item ∙ c.in-Some.is) c.take_item.ensures.taken (c.in-Some.ensures.follows (c.in-Ok.ensures.onward.going r.place.idle)) c.requires.none refl refl r)).going
 
 pub returns-in-Ok-take_item-clause-less : goal.returns-in-Ok-take_item-clause-less
 returns-in-Ok-take_item-clause-less c =
@@ -44,7 +44,7 @@ returns-in-Ok-take_item-clause-less c =
     let same : (later : List ℕ) → onward_left c.feed.new.self later ≡ prepend (Some c.in-Some.item) (onward_left c.take_item.new.self later) = λ later. c.take_item.ensures.onward later ∙ ap (λ (x : Option Item). prepend x (onward_left c.take_item.new.self later)) c.in-Some.is in
     let took = c.in-Ok-take_item.ensures.takes bytes (drop c.in-Ok.taken piece ++ more)
     (item_read bytes s _ c.feed.new.self c.in-Some.item piece more c.in-Ok.taken few c.in-Ok.ensures.onward same c.take_item.ensures.steps c.take_item.ensures.total c.take_item.ensures.begun
-    (sym c.take_item.ensures.item ∙ c.in-Some.is) c.take_item.ensures.taken c.in-Some.ensures.follows c.requires.none refl refl r) in
+    (sym c.take_item.ensures.item ∙ c.in-Some.is) c.take_item.ensures.taken (c.in-Some.ensures.follows (c.in-Ok.ensures.onward.going r.place.idle)) c.requires.none refl refl r) in
     (few, λ some. less_item s c.take_item-in-Some.new.self c.feed.new.self c.take_item.new.self c.in-Some.item piece c.in-Ok.taken c.requires.none few ((c.in-Ok.ensures.onward).told r.place.outside) same took.same)
 
 pub returns-in-Some-clause-goes : goal.returns-in-Some-clause-goes
@@ -56,7 +56,7 @@ returns-in-Some-clause-goes c = λ bytes more g.
     (c.in-Err.ensures.takes bytes (drop c.in-Ok.taken piece ++ more)
     (item_read bytes s _ c.feed.new.self c.in-Some.item piece more c.in-Ok.taken (c.in-Ok.ensures.fed).some c.in-Ok.ensures.onward
     (λ later. c.take_item.ensures.onward later ∙ ap (λ (x : Option Item). prepend x (onward_left c.take_item.new.self later)) c.in-Some.is) c.take_item.ensures.steps c.take_item.ensures.total c.take_item.ensures.begun
-    (sym c.take_item.ensures.item ∙ c.in-Some.is) c.take_item.ensures.taken c.in-Some.ensures.follows c.requires.none refl refl r))
+    (sym c.take_item.ensures.item ∙ c.in-Some.is) c.take_item.ensures.taken (c.in-Some.ensures.follows (c.in-Ok.ensures.onward.going r.place.idle)) c.requires.none refl refl r))
 
 pub returns-in-Ok-clause-goes : goal.returns-in-Ok-clause-goes
 returns-in-Ok-clause-goes c = λ bytes more g.
