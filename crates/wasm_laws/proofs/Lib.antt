@@ -50,3 +50,8 @@ pub mod Exports
 pub mod Counted
 pub mod Constants
 pub mod Spaces
+pub mod FieldKinds
+pub mod BodyKinds
+pub mod Later
+pub mod PartLists
+pub mod PartOrder
