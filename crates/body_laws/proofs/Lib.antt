@@ -4,5 +4,7 @@ pub mod SpeltCodes
 pub mod OneCode
 pub mod Compiled
 pub mod SpelledModules
-pub mod Longest
+pub mod WrongFields
+pub mod WrongTokens
 pub mod WrongLocals
+pub mod Longest

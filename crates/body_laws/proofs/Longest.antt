@@ -1,11 +1,12 @@
 -- The tokens that are read are those of the longest front, whatever is wrong behind it.
-use Rattle.std.proofs.Common.{◌≡◌, ◌≤◌, ◌<◌, inl, inr, ℕ, zero, suc, ◌+◌, ℤ, pos, false, List, [], ◌∷◌, ◌++◌, length, Option, Some, None, refl, sym, ap, subst, ◌∙◌, append_assoc, arith, length-append}
+use Rattle.std.proofs.Common.{◌≡◌, ◌≤◌, ◌<◌, inl, inr, ℕ, zero, suc, ◌+◌, ℤ, pos, Bool, true, false, cond, nat_le, List, [], ◌∷◌, ◌++◌, length, Option, Some, None, refl, sym, ap, subst, ◌∙◌, append_assoc, arith, length-append}
+use Rattle.std.proofs.lemmas.Bool.{leb-true}
 use Rattle.wasm_defs.proofs.NumberLaws.{AreBytes}
 use Rattle.wasm_defs.specs.declared.fault.Kind.TheVariants.{Malformed}
 use Rattle.wasm_defs.specs.declared.fault.Refusal.{Refusal}
 use Rattle.wasm_defs.specs.declared.token.Token.{Token}
 use Rattle.wasm_defs.specs.Numbers.{Spells}
-use Rattle.wasm_defs.specs.Fields.{Cursor, Read, Got, Fault, Wants, then_go, byte}
+use Rattle.wasm_defs.specs.Fields.{Cursor, Read, Got, Fault, Wants, then_go, room_of, window, first_of, byte}
 use Rattle.wasm_defs.specs.Items.{each_is, byte_is}
 use Rattle.wasm_defs.specs.Bodies.{Group, local_groups, Spelled, closed, after_opcode, after_token, goes_on, spelled_from, instruction, depth_after, body_cursor, last_of, read_code, body_read}
 use Rattle.wasm_defs.specs.Codes.{listed_vector_is, instruction_is, token_is, group_is}
@@ -13,14 +14,15 @@ use Rattle.wasm_defs.specs.Faults.{tokens_of}
 use Rattle.wasm_laws.specs.Kept.{LocalsAreFew}
 use Rattle.wasm_laws.specs.Steadiness as steady
 use Rattle.wasm_laws.specs.Steadiness.{Stands, StandsIn}
-use Rattle.wasm_laws.proofs.Steady.{IfGot, here_in}
-use Rattle.wasm_laws.proofs.Windows.{byte_field}
-use Rattle.wasm_laws.proofs.BodyLaws.{instruction_steady}
+use Rattle.wasm_laws.proofs.Steady.{IfGot}
 use Rattle.wasm_laws.proofs.Spelt.{cursor, Ready, Found, later, bytes_behind}
 use Rattle.wasm_laws.proofs.SpeltFields.{byte_spelt}
-use Rattle.body_laws.specs.Reading.{Closes, StandsBehind, IsReadThrough}
+use Rattle.body_laws.specs.Reading.{Closes, IsWrongAfter, IsReadThrough}
+use Rattle.body_laws.specs.WrongTokens.{IsWrongToken}
 use Rattle.body_laws.proofs.SpeltTokens.{Q, instruction_found, token_read}
 use Rattle.body_laws.proofs.SpeltCodes.{token_some, locals_read}
+use Rattle.body_laws.proofs.WrongFields.{IfStops, told}
+use Rattle.body_laws.proofs.WrongTokens.{opcode_wrong}
 
 -- ---- tokens
 
@@ -31,7 +33,7 @@ record Longest (at : ℕ) (bytes : List ℕ) (depth last : ℕ) (ts : List (ℕ 
   tokens : each_is token_is ts at front
   longest : (t : Token) (more rest : List ℕ) → back ≡ more ++ rest → instruction_is t (at + length front) more → Closes depth (tokens_of ts)
   whole : fault ≡ None → (back ≡ []) × Closes depth (tokens_of ts)
-  place : (r : Refusal) → fault ≡ Some r → StandsBehind (at + length front) back last r
+  place : (r : Refusal) → fault ≡ Some r → IsWrongAfter depth (tokens_of ts) (at + length front) back last r
 
 closed_longest : (at last : ℕ) (bytes : List ℕ) → Longest at bytes 0 last (closed at bytes).tokens (closed at bytes).fault
 closed_longest at last [] = record { front = []; back = []; parts = refl; tokens = refl; longest = λ t more rest e s. tt; whole = λ e. (refl, tt); place = λ r e. absurd cc }
@@ -42,12 +44,15 @@ closed_longest at last (b ∷ bytes) = record {
   tokens = refl;
   longest = λ t more rest e s. tt;
   whole = λ e. absurd cc;
-  place = λ r e. let k : record { offset = at; kind = Malformed } ≡ r = cc in inl (omega (arith, ap (λ (x : Refusal). x.offset) k));
+  place = λ r e.
+      let k : record { offset = at; kind = Malformed } ≡ r = cc in
+      let here : at ≡ at + 0 = omega arith in
+      inl (tt, sym k ∙ ap (λ (o : ℕ). record { offset = o; kind = Malformed }) here);
 }
 
--- the whole section is before the end
+-- the bytes end before the section does
 abbrev Fits : Cursor → Type 0
-Fits c = c.at + length c.rest ≤ c.end
+Fits c = c.at + length c.rest < c.end
 
 -- what is spelled at the front is read
 begun_is_read : (c : Cursor) (t : Token) (more rest : List ℕ) → Fits c → c.rest ≡ more ++ rest → instruction_is t c.at more → steady.token c ≡ Got t (cursor (c.at + length more) rest c.end)
@@ -55,8 +60,8 @@ begun_is_read c t more rest fits e s =
     ap (λ (l : List ℕ). steady.token (cursor c.at l c.end)) e ∙ (token_read t).by c.at c.end more rest (omega (arith, ap length e, length-append more rest)) s
 
 -- nothing is read, so nothing begins there
-none_begins : (c : Cursor) (depth last : ℕ) (f : Refusal) → Fits c → StandsBehind c.at c.rest last f → ((t : Token) (e : Cursor) → steady.token c ≡ Got t e → ⊥) → Longest c.at c.rest depth last [] (Some f)
-none_begins c depth last f fits stands none =
+none_begins : (c : Cursor) (depth last : ℕ) (f : Refusal) → Fits c → IsWrongToken c.at c.rest last f → ((t : Token) (e : Cursor) → steady.token c ≡ Got t e → ⊥) → Longest c.at c.rest depth last [] (Some f)
+none_begins c depth last f fits wrong none =
     let here : c.at + 0 ≡ c.at = omega arith in
     record {
       front = [];
@@ -65,7 +70,7 @@ none_begins c depth last f fits stands none =
       tokens = refl;
       longest = λ t more rest e s. absurd (none t (cursor (c.at + length more) rest c.end) (begun_is_read c t more rest fits e (subst (λ (at : ℕ). instruction_is t at more) here s)));
       whole = λ e. absurd cc;
-      place = λ r e. let k : f ≡ r = cc in subst (λ (at : ℕ). StandsBehind at c.rest last r) (sym here) (subst (StandsBehind c.at c.rest last) k stands);
+      place = λ r e. let k : f ≡ r = cc in inr (subst (λ (at : ℕ). IsWrongToken at c.rest last r) (sym here) (subst (IsWrongToken c.at c.rest last) k wrong));
     }
 
 one_longer : {K : Type 0} (c : Cursor) (depth last at : ℕ) (t : Token) (e : Cursor) (ts : List (ℕ × Token)) (fault : Option Refusal) → Found (token_is (at, t)) K c e → Longest e.at e.rest (depth_after t (suc depth)) last ts fault → Longest c.at c.rest (suc depth) last ((at, t) ∷ ts) fault
@@ -78,23 +83,35 @@ one_longer c depth last at t e ts fault found l =
       tokens = record { front = found.taken; back = l.front; parts = refl; first = found.spelled; second = subst (λ (o : ℕ). each_is token_is ts o l.front) found.at l.tokens };
       longest = λ u more rest e2 s. l.longest u more rest e2 (subst (λ (o : ℕ). instruction_is u o more) here s);
       whole = l.whole;
-      place = λ r e2. subst (λ (o : ℕ). StandsBehind o l.back last r) (sym here) (l.place r e2);
+      place = λ r e2. subst (λ (o : ℕ). IsWrongAfter (depth_after t (suc depth)) (tokens_of ts) o l.back last r) (sym here) (l.place r e2);
     }
 
--- a missing byte is told at the last one
-at_the_last : (at last : ℕ) (rest : List ℕ) → last + 1 ≡ at + length rest → StandsBehind at rest last (record { offset = last; kind = Malformed })
-at_the_last at last [] e = inr (refl, refl)
-at_the_last at last (b ∷ rest) e = inl (omega arith)
+-- ---- a byte is missing where none is left
+
+byte_there : (c : Cursor) → Fits c → (b : ℕ) (rest : List ℕ) → c.rest ≡ b ∷ rest → byte c ≡ Got (c.at, b) (cursor (c.at + 1) rest c.end)
+byte_there c fits b rest e = ap (λ (l : List ℕ). byte (cursor c.at l c.end)) e ∙ (byte_spelt.complete (c.at, b) tt).by c.at c.end (b ∷ []) rest (omega (arith, fits, ap length e)) (refl, refl)
+
+none_left : (c : Cursor) → Fits c → byte c ≡ Wants → (l : List ℕ) → c.rest ≡ l → l ≡ []
+none_left c fits e [] is = refl
+none_left c fits e (b ∷ rest) is = let there = byte_there c fits b rest is in absurd cc
+
+cut_refuses : (c : Cursor) (r : Refusal) (b : Bool) → Fits c → nat_le (room_of c) (length c.rest) ≡ b → cond b (told (ℕ × ℕ) (record { offset = c.at; kind = Malformed })) Wants ≡ Fault r → ⊥
+cut_refuses c r true fits le e = let h = leb-true (room_of c) (length c.rest) le in absurd (omega (arith, fits, h))
+cut_refuses c r false fits le e = absurd cc
+
+byte_refuses : (c : Cursor) (r : Refusal) → Fits c → byte c ≡ Fault r → ⊥
+unfolding byte
+byte_refuses c r fits e = of (window c) e
+  where
+    of : (w : List ℕ) → first_of c w ≡ Fault r → ⊥
+    of [] e = cut_refuses c r (nat_le (room_of c) (length c.rest)) fits refl e
+    of (b ∷ w) e = absurd cc
 
 -- the rest of the tokens
 abbrev IsLongest : ℕ → ℕ → ℕ → Cursor → Type 0
 IsLongest n depth last c = Longest c.at c.rest depth last (spelled_from n depth last c).tokens (spelled_from n depth last c).fault
 
--- last is the place of the last byte
-abbrev IsLast : ℕ → Cursor → Type 0
-IsLast last c = last + 1 ≡ c.at + length c.rest
-
-module _ (n depth last : ℕ) (c : Cursor) (ready : Ready c) (few : length c.rest < suc n) (fits : Fits c) (near : IsLast last c) (rest : (depth : ℕ) (e : Cursor) → Ready e → length e.rest < n → Fits e → IsLast last e → IsLongest n depth last e) where
+module _ (n depth last : ℕ) (c : Cursor) (ready : Ready c) (few : length c.rest < suc n) (fits : Fits c) (rest : (depth : ℕ) (e : Cursor) → Ready e → length e.rest < n → Fits e → IsLongest n depth last e) where
   abbrev next : ℕ × ℕ → Token → Cursor → Spelled
   next b t e = after_token b.0 t (spelled_from n (depth_after t (suc depth)) last e)
 
@@ -109,27 +126,20 @@ module _ (n depth last : ℕ) (c : Cursor) (ready : Ready c) (few : length c.res
       let one : Q b.0 b.1 c d found (later c d found ready) t e = subst (IfGot (Q b.0 b.1 c d found (later c d found ready))) ey (instruction_found b.0 b.1 c d found (later c d found ready)) in
       let some = token_some t c.at one.taken one.spelled.1 in
       let len : length c.rest ≡ length one.taken + length e.rest = ap length one.parts ∙ length-append one.taken e.rest in
-      one_longer c depth last b.0 t e _ _ one (rest (depth_after t (suc depth)) e (later c e one ready) (omega arith) (omega (arith, one.at, one.end)) (omega (arith, one.at)))
-  behind_opcode b d eb found (Fault r) ey =
-      let one : length found.taken ≡ 1 = ap length found.spelled.1 in
-      let s = instruction_steady (b.0 ∷ []) b.0 b.1 here_in in
-      let stands : Stands c.at d r = subst (StandsIn c.at d) ey (s.place c.at d (omega (arith, found.at)) (omega (arith, found.spelled.0), omega (arith, found.at, found.spelled.0), tt)) in
-      none_begins c (suc depth) last r fits (inl stands.from) (λ t e g. let h = read_as b d (Fault r) eb ey in absurd cc)
-  behind_opcode b d eb found Wants ey = none_begins c (suc depth) last (record { offset = last; kind = Malformed }) fits (at_the_last c.at last c.rest near) (λ t e g. let h = read_as b d Wants eb ey in absurd cc)
+      one_longer c depth last b.0 t e _ _ one (rest (depth_after t (suc depth)) e (later c e one ready) (omega arith) (omega (arith, one.at, one.end)))
+  behind_opcode b d eb found (Fault r) ey = none_begins c (suc depth) last r fits (subst (IfStops (IsWrongToken c.at c.rest last) last) ey (opcode_wrong last c b d ready (omega arith) found)) (λ t e g. let h = read_as b d (Fault r) eb ey in absurd cc)
+  behind_opcode b d eb found Wants ey = none_begins c (suc depth) last (record { offset = last; kind = Malformed }) fits (subst (IfStops (IsWrongToken c.at c.rest last) last) ey (opcode_wrong last c b d ready (omega arith) found)) (λ t e g. let h = read_as b d Wants eb ey in absurd cc)
 
   at_opcode : (x : Read (ℕ × ℕ)) → byte c ≡ x → Ends (goes_on last x (λ b d. after_opcode b (goes_on last (instruction b.0 b.1 d) (next b))))
   at_opcode (Got b d) e = behind_opcode b d e (subst (IfGot (λ b d. Found (byte_is b.0 b.1) (Unit {0}) c d)) e (byte_spelt.sound c ready)) (instruction b.0 b.1 d) refl
-  at_opcode (Fault r) e =
-      let s = byte_field.steady [] in
-      let stands : Stands c.at c r = subst (StandsIn c.at c) e (s.place c.at c (omega arith) tt) in
-      none_begins c (suc depth) last r fits (inl stands.from) (λ t f g. let h : steady.token c ≡ Fault r = ap (λ (z : Read (ℕ × ℕ)). then_go z (λ b. instruction b.0 b.1)) e in absurd cc)
-  at_opcode Wants e = none_begins c (suc depth) last (record { offset = last; kind = Malformed }) fits (at_the_last c.at last c.rest near) (λ t f g. let h : steady.token c ≡ Wants = ap (λ (z : Read (ℕ × ℕ)). then_go z (λ b. instruction b.0 b.1)) e in absurd cc)
+  at_opcode (Fault r) e = absurd (byte_refuses c r fits e)
+  at_opcode Wants e = none_begins c (suc depth) last (record { offset = last; kind = Malformed }) fits (inl (none_left c fits e c.rest refl, refl)) (λ t f g. let h : steady.token c ≡ Wants = ap (λ (z : Read (ℕ × ℕ)). then_go z (λ b. instruction b.0 b.1)) e in absurd cc)
 
-tokens_longest : (n depth last : ℕ) (c : Cursor) → Ready c → length c.rest < n → Fits c → IsLast last c → IsLongest n depth last c
+tokens_longest : (n depth last : ℕ) (c : Cursor) → Ready c → length c.rest < n → Fits c → IsLongest n depth last c
 unfolding spelled_from
-tokens_longest zero depth last c ready few fits near = absurd (omega arith)
-tokens_longest (suc n) zero last c ready few fits near = closed_longest c.at last c.rest
-tokens_longest (suc n) (suc depth) last c ready few fits near = at_opcode n depth last c ready few fits near (λ depth e r l f k. tokens_longest n depth last e r l f k) (byte c) refl
+tokens_longest zero depth last c ready few fits = absurd (omega arith)
+tokens_longest (suc n) zero last c ready few fits = closed_longest c.at last c.rest
+tokens_longest (suc n) (suc depth) last c ready few fits = at_opcode n depth last c ready few fits (λ depth e r l f. tokens_longest n depth last e r l f) (byte c) refl
 
 -- ---- bodies
 
@@ -149,5 +159,5 @@ read_through first front back gs fits s few =
     let e : Cursor = cursor (first + length front) back end in
     let got : local_groups (body_cursor first bytes) ≡ Got gs e = (locals_read gs few).by first end front back (omega arith) s in
     let whole : body_read first bytes ≡ record { groups = gs; code = spelled_from n 1 last e } = ap (λ (x : Read (List Group)). read_code last x n) got in
-    let l = tokens_longest n 1 last e (record { low = omega arith; bytes = bytes_behind front back fits }) (omega arith) (omega arith) (omega arith) in
+    let l = tokens_longest n 1 last e (record { low = omega arith; bytes = bytes_behind front back fits }) (omega arith) (omega arith) in
     subst (IsReadThrough gs (first + length front) back last) (sym whole) (record { locals = refl; front = l.front; back = l.back; parts = l.parts; tokens = l.tokens; longest = l.longest; whole = l.whole; place = l.place })

@@ -75,7 +75,7 @@ listed_as_vector S o xs at bytes k = let j = k.1 in record { front = j.front; ba
 
 -- ---- immediates
 
-label_spelt : Spelt listed_index_is Always label
+pub label_spelt : Spelt listed_index_is Always label
 unfolding label
 label_spelt = placed_spelt (λ i bytes. listed_index_is i 0 bytes) Always u32 u32_spelt
 
@@ -100,7 +100,7 @@ block_type_read (Value I32) = reads_only byte _ 0x7F (Value I32) (exactly (0x7F 
 block_type_read (Value I64) = reads_only byte _ 0x7E (Value I64) (exactly (0x7E ∷ [])) (byte_reads 0x7E) (λ o c. refl)
 block_type_read (Index i) = record { by = λ at end front back fits k. absurd k }
 
-block_type_spelt : Spelt block_type_is Always block_type
+pub block_type_spelt : Spelt block_type_is Always block_type
 block_type_spelt = record { sound = block_type_found; complete = λ t k. block_type_read t }
 
 zero_found : (kind : Kind) (c : Cursor) → Ready c → IfGot (λ x d. Found (exactly (0x00 ∷ [])) (Unit {0}) c d) (zero_byte kind c)
@@ -109,7 +109,7 @@ zero_found kind c ready =
     read _ _ byte _ _ c byte_spelt ready (λ b d found ready.
     either_got _ (eqb b.1 0) _ _ d (λ e. found_as (exactly (0x00 ∷ [])) _ c d found (λ at bytes s. s.1 ∙ ap (λ (n : ℕ). n ∷ []) (eqb-true b.1 0 e)) tt) (λ no. tt))
 
-zero_spelt : (kind : Kind) → Spelt (λ x. exactly (0x00 ∷ [])) Always (zero_byte kind)
+pub zero_spelt : (kind : Kind) → Spelt (λ x. exactly (0x00 ∷ [])) Always (zero_byte kind)
 unfolding zero_byte
 zero_spelt kind = record { sound = zero_found kind; complete = λ x k. reads_only byte _ 0 tt (exactly (0x00 ∷ [])) (byte_reads 0) (λ o c. refl) }
 

@@ -1,90 +1,29 @@
 -- Where the groups of locals are wrong, the fault stands at the first field that isn't spelled.
-use Rattle.std.proofs.Common.{◌≡◌, ◌≤◌, inl, inr, ℕ, zero, suc, ◌+◌, ℤ, Bool, true, false, cond, nat_le, eqb, ◌||◌, List, [], ◌∷◌, ◌++◌, length, Some, refl, sym, ap, subst, ◌∙◌, append_assoc, arith, length-append}
+use Rattle.std.proofs.Common.{◌≡◌, ◌≤◌, inl, inr, ℕ, zero, suc, ◌+◌, Bool, true, false, cond, nat_le, eqb, ◌||◌, List, [], ◌∷◌, ◌++◌, length, Some, refl, sym, ap, subst, ◌∙◌, append_assoc, arith, length-append}
 use Rattle.std.proofs.lemmas.Bool.{cases_lt, lt-ltb, le-ltb}
 use Rattle.wasm_defs.proofs.NumberLaws.{AreBytes}
 use Rattle.wasm_defs.specs.declared.fault.Kind.TheVariants.{Malformed, Unsupported, Limit}
 use Rattle.wasm_defs.specs.declared.fault.Refusal.{Refusal}
 use Rattle.wasm_defs.specs.declared.types.ValType.{ValType}
 use Rattle.wasm_defs.specs.declared.types.ValType.TheVariants.{I32, I64}
-use Rattle.wasm_defs.specs.Numbers.{Reading, Number, CutOff, Bad, number_at}
 use Rattle.wasm_defs.specs.Limits.{max_locals}
-use Rattle.wasm_defs.specs.Fields.{Cursor, Read, Got, Fault, Wants, Reader, then_go, done, refused, room_of, window, past, first_of, from_reading, nat_of, byte, number, u32}
+use Rattle.wasm_defs.specs.Fields.{Cursor, Read, Got, Fault, Wants, Reader, then_go, done, refused, room_of, window, past, first_of, byte, u32}
 use Rattle.wasm_defs.specs.Entries.{value_type}
-use Rattle.wasm_defs.specs.Items.{Spelling, each_is, u32_is, listed_type_is, listed_index_is}
+use Rattle.wasm_defs.specs.Items.{each_is, type_is, listed_type_is, listed_index_is}
 use Rattle.wasm_defs.specs.Bodies.{Group, group, groups, local_groups, stops, body_cursor, last_of, no_code, read_code, body_read}
 use Rattle.wasm_defs.specs.Codes.{listed_vector_is, group_is}
 use Rattle.wasm_defs.specs.Context.{declared_types}
 use Rattle.wasm_laws.specs.Kept.{LocalsAreFew}
 use Rattle.wasm_laws.proofs.Steady.{IfGot}
 use Rattle.wasm_laws.proofs.Locals.{group_fits, types_cons, locals_are_few}
-use Rattle.wasm_laws.proofs.Spelt.{cursor, Ready, Found, Reads, later}
-use Rattle.wasm_laws.proofs.SpeltFields.{Always, u32_spelt}
+use Rattle.wasm_laws.proofs.Spelt.{cursor, Ready, Found, later}
 use Rattle.wasm_laws.proofs.SpeltParts.{value_type_spelt}
-use Rattle.body_laws.specs.WrongLocals.{BeginsNone, IsWrong, IsWrongGroup, AreWrong, AreLocalsWrong, BeginNoLocals}
+use Rattle.body_laws.specs.WrongFields.{IsWrong}
+use Rattle.body_laws.specs.WrongLocals.{IsWrongGroup, AreWrong, AreLocalsWrong, BeginNoLocals}
 use Rattle.body_laws.proofs.SpeltCodes.{group_found, locals_found}
+use Rattle.body_laws.proofs.WrongFields.{IfStops, stops_then, stops_as, Fits, fits_behind, got_of, read_wrong, fault_at, cut_place, index_stops, index_found}
 
--- ---- what a reader stops at: its fault, or the body's last byte where more bytes are owed
-
-abbrev IfStops : {A : Type 0} → (Refusal → Type 0) → ℕ → Read A → Type 0
-IfStops P last (Got x c) = Unit {0}
-IfStops P last (Fault r) = P r
-IfStops P last Wants = P (record { offset = last; kind = Malformed })
-
-stops_then : {A B : Type 0} (P : Refusal → Type 0) (last : ℕ) (x : Read A) (f : A → Reader B) → IfStops P last x → ((a : A) (d : Cursor) → x ≡ Got a d → IfStops P last (f a d)) → IfStops P last (then_go x f)
-stops_then P last (Got a d) f h g = g a d refl
-stops_then P last (Fault r) f h g = h
-stops_then P last Wants f h g = h
-
-stops_as : {A : Type 0} (P Q : Refusal → Type 0) (last : ℕ) (x : Read A) → ((r : Refusal) → P r → Q r) → IfStops P last x → IfStops Q last x
-stops_as P Q last (Got a d) f h = tt
-stops_as P Q last (Fault r) f h = f r h
-stops_as P Q last Wants f h = f (record { offset = last; kind = Malformed }) h
-
--- ---- a field
-
--- the bytes fit before the section's end
-abbrev Fits : Cursor → Type 0
-Fits c = c.at + length c.rest ≤ c.end
-
-module _ {A : Type 0} (is : A → Spelling) (p : Reader (ℕ × A)) (last : ℕ) (c : Cursor) (fits : Fits c) (reads : (o : ℕ) (x : A) → Reads p (o, x) (λ at bytes. (o ≡ at) × is x at bytes)) (place : (r : Refusal) → p c ≡ Fault r → r.offset ≡ c.at) where
-  none_begins : (x : Read (ℕ × A)) → ((y : ℕ × A) (d : Cursor) → x ≡ Got y d → ⊥) → p c ≡ x → BeginsNone is c.at c.rest
-  none_begins x never e v front back parts s =
-      let got : p c ≡ Got (c.at, v) (cursor (c.at + length front) back c.end) =
-      ap (λ (l : List ℕ). p (cursor c.at l c.end)) parts ∙ (reads c.at v).by c.at c.end front back (omega (arith, fits, ap length parts, length-append front back)) (refl, s) in
-      never (c.at, v) (cursor (c.at + length front) back c.end) (sym e ∙ got)
-
-  stops_as_wrong : (x : Read (ℕ × A)) → p c ≡ x → IfStops (IsWrong is c.at c.rest last) last x
-  stops_as_wrong (Got y d) e = tt
-  stops_as_wrong (Fault r) e = (none_begins (Fault r) (λ y d k. absurd cc) e, inl (place r e))
-  stops_as_wrong Wants e = (none_begins Wants (λ y d k. absurd cc) e, inr refl)
-
-  field_stops : IfStops (IsWrong is c.at c.rest last) last (p c)
-  field_stops = stops_as_wrong (p c) refl
-
--- ---- where a field's own fault stands
-
--- a reader's fault
-abbrev told : (A : Type 0) → Refusal → Read A
-told A r = Fault r
-
-fault_at : {A : Type 0} (at : ℕ) (s r : Refusal) → s.offset ≡ at → told A s ≡ Fault r → r.offset ≡ at
-fault_at at s r o e = let same : s ≡ r = cc in ap (λ (x : Refusal). x.offset) (sym same) ∙ o
-
-cut_place : {A B : Type 0} (enough : Bool) (c : Cursor) (f : A → Reader B) (r : Refusal) → then_go (cond enough (refused {A = A} Malformed c.at c) Wants) f ≡ Fault r → r.offset ≡ c.at
-cut_place true c f r e = fault_at c.at (record { offset = c.at; kind = Malformed }) r refl e
-cut_place false c f r e = absurd cc
-
-u32_place : (c : Cursor) (r : Refusal) → u32 c ≡ Fault r → r.offset ≡ c.at
-unfolding u32 number
-u32_place c r e = of (number_at false 32 (window c)) e
-  where
-    as_index : ℕ × ℤ → Reader (ℕ × ℕ)
-    as_index n = done (n.0, nat_of n.1)
-
-    of : (x : Reading) → then_go (from_reading c x) as_index ≡ Fault r → r.offset ≡ c.at
-    of (Number n len) e = absurd cc
-    of CutOff e = cut_place (nat_le (room_of c) (length c.rest)) c as_index r e
-    of Bad e = fault_at c.at (record { offset = c.at; kind = Malformed }) r refl e
+-- ---- the type of a group
 
 abbrev typed : ℕ → ValType → Reader (ℕ × ValType)
 typed at ty = done (at, ty)
@@ -106,19 +45,10 @@ type_place c r e = of (window c) e
     of [] e = cut_place (nat_le (room_of c) (length c.rest)) c test r e
     of (b ∷ w) e = type_tested c.at (past c 1) r (eqb b 0x7F) (eqb b 0x7E) (eqb b 0x7D || eqb b 0x7C) e
 
-index_stops : (last : ℕ) (c : Cursor) → Fits c → IfStops (IsWrong listed_index_is c.at c.rest last) last (u32 c)
-index_stops last c fits = field_stops listed_index_is u32 last c fits (λ o i. u32_spelt.complete (o, i) tt) (u32_place c)
-
 type_stops : (last : ℕ) (c : Cursor) → Fits c → IfStops (IsWrong listed_type_is c.at c.rest last) last (value_type c)
-type_stops last c fits = field_stops listed_type_is value_type last c fits (λ o ty. value_type_spelt.complete (o, ty) tt) (type_place c)
+type_stops last c fits = read_wrong listed_type_is value_type last c (λ ty front back e s. ((c.at, ty), cursor (c.at + length front) back c.end, got_of value_type (c.at, ty) (type_is (c.at, ty)) c fits (value_type_spelt.complete (c.at, ty) tt) front back e (refl, s))) (type_place c)
 
 -- ---- groups
-
-fits_behind : {s : Spelling} {K : Type 0} (c d : Cursor) → Found s K c d → Fits c → Fits d
-fits_behind c d found fits = omega (arith, fits, found.at, found.end, ap length found.parts, length-append found.taken d.rest)
-
-index_found : (c : Cursor) (n : ℕ × ℕ) (d : Cursor) → Ready c → u32 c ≡ Got n d → Found (u32_is n) (Always n) c d
-index_found c n d ready e = subst (IfGot (λ (n : ℕ × ℕ) (d : Cursor). Found (u32_is n) (Always n) c d)) e (u32_spelt.sound c ready)
 
 group_stops : (declared last : ℕ) (c : Cursor) → Ready c → Fits c → IfStops (IsWrongGroup declared c.at c.rest last) last (group declared c)
 unfolding group

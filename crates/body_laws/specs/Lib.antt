@@ -1,3 +1,5 @@
+pub mod WrongFields
+pub mod WrongTokens
+pub mod WrongLocals
 pub mod Reading
 pub mod Spelled
-pub mod WrongLocals

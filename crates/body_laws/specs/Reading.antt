@@ -1,11 +1,13 @@
 -- What the bytes of a body are read as (WebAssembly Core 1.0, 5.5.13).
-use Rattle.std.specs.Prelude.{◌≡◌, ◌≤◌, ◌⊎◌, ℕ, zero, suc, ◌+◌, List, [], ◌∷◌, ◌++◌, length, Some, None}
+use Rattle.std.specs.Prelude.{◌≡◌, ◌⊎◌, ℕ, zero, suc, ◌+◌, List, [], ◌∷◌, ◌++◌, length, Some, None}
+use Rattle.wasm_defs.specs.declared.fault.Kind.TheVariants.{Malformed}
 use Rattle.wasm_defs.specs.declared.fault.Refusal.{Refusal}
 use Rattle.wasm_defs.specs.declared.token.Token.{Token}
 use Rattle.wasm_defs.specs.Bodies.{Group, BodyRead, depth_after, body_read}
 use Rattle.wasm_defs.specs.Codes.{instruction_is, token_is}
 use Rattle.wasm_defs.specs.Faults.{tokens_of}
 use Rattle.wasm_defs.specs.Items.{each_is}
+use Rattle.body_laws.specs.WrongTokens.{IsWrongToken}
 
 -- they are read whole, as these groups of locals and these tokens
 pub record IsReadAs (groups : List Group) (tokens : List (ℕ × Token)) (first : ℕ) (bytes : List ℕ) : Type 0 where
@@ -20,12 +22,13 @@ Closes zero (t ∷ ts) = ⊥
 Closes (suc depth) [] = ⊥
 Closes (suc depth) (t ∷ ts) = Closes (depth_after t (suc depth)) ts
 
--- a fault stands at that place or behind it; or at the body's last byte, where no byte is left
-abbrev pub StandsBehind : ℕ → List ℕ → ℕ → Refusal → Type 0
-StandsBehind at bytes last r = (at ≤ r.offset) ⊎ ((bytes ≡ []) × (r.offset ≡ last))
+-- tokens are wrong behind these: they close the body, and what is left is malformed at its first byte; or they don't, and the bytes
+-- begin no token
+abbrev pub IsWrongAfter : (depth : ℕ) → List Token → (at : ℕ) → List ℕ → (last : ℕ) → Refusal → Type 0
+IsWrongAfter depth tokens at bytes last r = (Closes depth tokens × (r ≡ record { offset = at; kind = Malformed })) ⊎ IsWrongToken at bytes last r
 
 -- behind these groups of locals the tokens are those of the longest front: no token's spelling begins what is behind it, unless
--- the tokens close the body. There the fault stands; there is none where the tokens close the body and nothing is left
+-- the tokens close the body. There stands the wrong field; there is none where the tokens close the body and nothing is left
 pub record IsReadThrough (groups : List Group) (at : ℕ) (bytes : List ℕ) (last : ℕ) (read : BodyRead) : Type 0 where
   pub locals : read.groups ≡ groups
   pub front : List ℕ
@@ -34,4 +37,4 @@ pub record IsReadThrough (groups : List Group) (at : ℕ) (bytes : List ℕ) (la
   pub tokens : each_is token_is read.code.tokens at front
   pub longest : (t : Token) (more rest : List ℕ) → back ≡ more ++ rest → instruction_is t (at + length front) more → Closes 1 (tokens_of read.code.tokens)
   pub whole : read.code.fault ≡ None → (back ≡ []) × Closes 1 (tokens_of read.code.tokens)
-  pub place : (r : Refusal) → read.code.fault ≡ Some r → StandsBehind (at + length front) back last r
+  pub place : (r : Refusal) → read.code.fault ≡ Some r → IsWrongAfter 1 (tokens_of read.code.tokens) (at + length front) back last r

@@ -12,7 +12,7 @@ use Rattle.wasm_defs.specs.Supported.{is_compiled_section, is_compiled_opcode}
 use Rattle.wasm_defs.specs.Trees.{Seq, Tree}
 use Rattle.wasm_defs.specs.Typing.{IsBody}
 use Rattle.wasm_laws.specs.Kept.{LocalsAreFew}
-use Rattle.wasm_laws.specs.Sections.{IsModuleOf, parts_in}
+use Rattle.wasm_laws.specs.Sections.{AreSectionsOf, parts_in}
 
 -- the first byte is an opcode that is compiled
 abbrev pub BeginsCompiled : List ℕ → Type 0
@@ -42,7 +42,7 @@ AreSpelled items k (b ∷ bodies) (tree ∷ trees) = IsSpelled items k b tree ×
 
 -- the bytes are a module of these sections, of which all are compiled, and its bodies are spelled
 pub record IsSpelledModule (bytes : List ℕ) (m : Module) (sections : List Section) : Type 0 where
-  pub is : IsModuleOf sections bytes
+  pub is : AreSectionsOf sections bytes
   pub items : m.items ≡ items_in sections
   pub bodies : m.bodies ≡ bodies_in sections
   pub spelled : AreSpelled m.items 0 m.bodies m.trees

@@ -1,23 +1,15 @@
 -- Where the groups of locals at the front of a body are wrong (WebAssembly Core 1.0, 5.5.13): behind the fields that are spelled,
 -- at the first that isn't.
 use Rattle.std.specs.Prelude.{◌≡◌, ◌≤◌, ◌<◌, ◌⊎◌, ℕ, ◌+◌, List, ◌++◌, length}
-use Rattle.wasm_defs.specs.declared.fault.Kind.TheVariants.{Malformed, Limit}
+use Rattle.wasm_defs.specs.declared.fault.Kind.TheVariants.{Limit}
 use Rattle.wasm_defs.specs.declared.fault.Refusal.{Refusal}
 use Rattle.wasm_defs.specs.Bodies.{Group}
 use Rattle.wasm_defs.specs.Codes.{group_is, listed_vector_is}
 use Rattle.wasm_defs.specs.Context.{declared_types}
-use Rattle.wasm_defs.specs.Items.{Spelling, each_is, listed_type_is, listed_index_is}
+use Rattle.wasm_defs.specs.Items.{each_is, listed_type_is, listed_index_is}
 use Rattle.wasm_defs.specs.Limits.{max_locals}
 use Rattle.wasm_laws.specs.Kept.{LocalsAreFew}
-
--- no front of these bytes spells such a field
-abbrev pub BeginsNone : {A : Type 0} → (A → Spelling) → (at : ℕ) → List ℕ → Type 0
-BeginsNone {A} is at bytes = (x : A) (front back : List ℕ) → bytes ≡ front ++ back → is x at front → ⊥
-
--- there begins no such field. The fault stands at the field's first byte; or, where the bytes end in the field, it is malformed at
--- the body's last byte
-abbrev pub IsWrong : {A : Type 0} → (A → Spelling) → (at : ℕ) → List ℕ → (last : ℕ) → Refusal → Type 0
-IsWrong is at bytes last r = BeginsNone is at bytes × ((r.offset ≡ at) ⊎ (r ≡ record { offset = last; kind = Malformed }))
+use Rattle.body_laws.specs.WrongFields.{IsWrong}
 
 -- a group's count is spelled, and with it the locals pass their limit; or they keep it, and the type behind it is wrong
 pub record IsWrongBehind (declared at : ℕ) (bytes : List ℕ) (last : ℕ) (r : Refusal) : Type 0 where

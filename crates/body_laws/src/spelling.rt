@@ -44,7 +44,8 @@ pub fn codes_are_one()
 {}
 
 /// Of wrong bytes the longest front is read: behind groups of locals that keep their limit, the tokens are those of a front
-/// that they spell, and what follows begins with no token, unless the body is closed before it. There the fault stands.
+/// that they spell, and what follows begins with no token, unless the body is closed before it. There the fault stands: at the
+/// opcode, or behind it at the first field that isn't spelled; or, where the bytes end before that field does, at the last one.
 pub fn fronts_are_read()
     ensures { (first : ℕ) (front back : List ℕ) (groups : List Group) →
         AreBytes (front ++ back) → listed_vector_is group_is groups first front → LocalsAreFew groups →

@@ -24,7 +24,7 @@ use Rattle.image_linker.specs.Codes.{IsCodeOf, AreCodesOf}
 use Rattle.image_linker.specs.Judging.{sizes}
 use Rattle.stream_compile.specs.Codes.{Coding, AreAll, with_code}
 use Rattle.stream_compile.specs.Progress.{AreCodes}
-use Rattle.stream_compile.proofs.Parts.{items_of-append}
+use Rattle.wasm_laws.proofs.PartLists.{items_of-append}
 
 -- ---- one more code
 

@@ -9,7 +9,7 @@ use Rattle.wasm_defs.specs.Trees.{Seq}
 use Rattle.wasm_defs.specs.Entries.{Seen}
 use Rattle.wasm_defs.specs.Outside.{Part, Section, Listed, Coded, Body, Run, Whole, after_part, ends, module_run}
 use Rattle.wasm_defs.specs.Supported.{is_compiled_section}
-use Rattle.wasm_defs.specs.Faults.{first_outside, ending_fault, sections_of, items_of, bodies_of, earlier, unsupported_at, read_of, context_at, IsCodeFault, IsValidCode, IsFaultInside, Module, IsModule, Rejected, IsVerdict}
+use Rattle.wasm_defs.specs.Faults.{first_outside, ending_fault, sections_of, items_of, bodies_of, earlier, unsupported_at, read_of, context_at, IsCodeFault, IsValidCode, IsFaultInside, Module, IsModule, Rejected}
 use Rattle.wasm_laws.specs.Order.{AreOrdered, BodyStands, end_of, first_section}
 use Rattle.wasm_laws.proofs.Order.{around_body, around_section, parts_before_fault, parts_in_module}
 use Rattle.wasm_laws.proofs.Verdicts.{valid_has_no_fault}
@@ -20,12 +20,12 @@ use Rattle.image_linker.specs.Codes.{IsCodeOf, AreCodesOf}
 use Rattle.image_linker.specs.Judging.{text_bytes, limit_at, IsTextFault, IsFaultOf, IsVerdictOf}
 use Rattle.stream_compile.specs.Codes.{Coding, AreAll, with_code}
 use Rattle.stream_compile.specs.Progress.{IsJudging, body_of_spaces}
-use Rattle.stream_compile.proofs.Parts.{items_of-append, bodies_of-append}
-use Rattle.stream_compile.proofs.Order.{fault_after, section_after}
+use Rattle.wasm_laws.proofs.PartLists.{items_of-append, bodies_of-append}
+use Rattle.wasm_laws.proofs.PartOrder.{fault_after, section_after}
 use Rattle.stream_compile.proofs.TextFaults.{text_after, tree_once}
 use Rattle.stream_compile.proofs.CodeWords.{all_more, codes_both, codes_of_module}
 use Rattle.stream_compile.proofs.Judging as judging
-use Rattle.stream_compile.proofs.Judging.{context_is, inside_rest, outside_rest}
+use Rattle.stream_compile.proofs.Judging.{IsVerdictBesideText, context_is, inside_rest, outside_rest}
 
 -- ---- steps
 
@@ -78,7 +78,7 @@ module _ (bytes : List ℕ) (left : Run) (codes : Coding) where
 -- ---- verdicts
 
 -- a fault that comes before that of the text, if there is one
-lifted : (bytes : List ℕ) (r : Refusal) → IsVerdict bytes (Rejected r) → ((s : Refusal) → IsTextFault [] 0 0 (module_run bytes).parts s → r.offset ≤ s.offset) → IsVerdictOf bytes (Rejected r)
+lifted : (bytes : List ℕ) (r : Refusal) → IsVerdictBesideText bytes (Rejected r) → ((s : Refusal) → IsTextFault [] 0 0 (module_run bytes).parts s → r.offset ≤ s.offset) → IsVerdictOf bytes (Rejected r)
 lifted bytes r v first = (inl v.0, λ s f. elim f [ inl g ↦ v.1 s g | inr t ↦ first s t ])
 
 no_text_left : (items : List Item) (k words : ℕ) (parts : List Part) (s : Refusal) → parts ≡ [] → IsTextFault items k words parts s → ⊥

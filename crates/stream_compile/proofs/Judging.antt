@@ -10,7 +10,7 @@ use Rattle.wasm_defs.specs.Entries.{Seen}
 use Rattle.wasm_defs.specs.Context.{import_count, declared_count, functions_of}
 use Rattle.wasm_defs.specs.Outside.{Part, Section, Listed, Coded, Body, Run, Whole, after_part, ends, module_run}
 use Rattle.wasm_defs.specs.Supported.{is_compiled_section}
-use Rattle.wasm_defs.specs.Faults.{IsNoLater, first_outside, ending_fault, sections_of, items_of, bodies_of, earlier, unsupported_at, IsCodeFault, IsValidCode, read_of, context_at, IsFaultInside, AreValid, IsOutsideFault, IsFault, Module, Accepted, Rejected, IsVerdict}
+use Rattle.wasm_defs.specs.Faults.{IsNoLater, first_outside, ending_fault, sections_of, items_of, bodies_of, earlier, unsupported_at, IsCodeFault, IsValidCode, read_of, context_at, IsFaultInside, AreValid, IsOutsideFault, IsFault, Module, IsModule, Verdict, Accepted, Rejected}
 use Rattle.wasm_laws.specs.Order.{AreOrdered, BodyStands, end_of, first_section}
 use Rattle.wasm_laws.specs.Typed.{AreTyped}
 use Rattle.wasm_laws.proofs.Typed.{functions_have_types}
@@ -21,8 +21,8 @@ use Rattle.wasm_laws.proofs.Verdicts.{code_fault_inside}
 use Rattle.index_spaces.specs.Spaces.{Spaces, spaces_of, with_item, context_in}
 use Rattle.stream_compile.specs.Progress.{IsJudged, body_of_spaces}
 use Rattle.index_spaces.proofs.SpaceLaws.{spaces_of-append, functions_of-counts}
-use Rattle.stream_compile.proofs.Parts.{items_of-append, bodies_of-append, sections_of-append, typed_behind, valid_both, fault_behind, fault_of_rest, none_outside, one_inside, one_outside, functions_are_few, bodies_are_few}
-use Rattle.stream_compile.proofs.Order.{fault_after, section_after, some_ordered}
+use Rattle.wasm_laws.proofs.PartLists.{items_of-append, bodies_of-append, sections_of-append, typed_behind, valid_both, fault_behind, fault_of_rest, none_outside, one_inside, one_outside, functions_are_few, bodies_are_few}
+use Rattle.wasm_laws.proofs.PartOrder.{fault_after, section_after, some_ordered}
 
 -- ---- how far judging came
 
@@ -97,8 +97,13 @@ pub outside_rest : (bytes : List ℕ) (left : Run) (spaces : Spaces) (bodies : �
 outside_rest bytes left spaces bodies j =
     ap (λ (l : List Part). first_outside is_compiled_section (sections_of l)) j.parts ∙ ap (first_outside is_compiled_section) (sections_of-append j.front left.parts) ∙ none_outside (sections_of j.front) (sections_of left.parts) j.compiled
 
+-- the module that the bytes are, or their fault of least offset, the limit on the text aside
+abbrev pub IsVerdictBesideText : List ℕ → Verdict → Type 0
+IsVerdictBesideText bytes (Accepted m) = IsModule bytes m
+IsVerdictBesideText bytes (Rejected r) = IsFault bytes r × ((s : Refusal) → IsFault bytes s → r.offset ≤ s.offset)
+
 -- the bytes are a module
-abbrev pub is_module : (bytes : List ℕ) (left : Run) (spaces : Spaces) (bodies : ℕ) (seen : Seen) (functions : ℕ) → IsJudged bytes left spaces bodies → left ≡ ends (Whole seen) → functions ≡ spaces.declared → (m : Module) × IsVerdict bytes (Accepted m) × (functions ≡ declared_count m.items)
+abbrev pub is_module : (bytes : List ℕ) (left : Run) (spaces : Spaces) (bodies : ℕ) (seen : Seen) (functions : ℕ) → IsJudged bytes left spaces bodies → left ≡ ends (Whole seen) → functions ≡ spaces.declared → (m : Module) × IsVerdictBesideText bytes (Accepted m) × (functions ≡ declared_count m.items)
 is_module bytes left spaces bodies seen functions j whole counted =
     let all : (module_run bytes).parts ≡ j.front = j.parts ∙ ap (λ (r : Run). j.front ++ r.parts) whole ∙ append-nil j.front in
     let m : Module = record { items = items_of (module_run bytes).parts; bodies = bodies_of (module_run bytes).parts; trees = j.trees } in (
@@ -114,7 +119,7 @@ is_module bytes left spaces bodies seen functions j whole counted =
     )
 
 -- no part is left, and the module has this fault
-pub is_refused : (bytes : List ℕ) (left : Run) (spaces : Spaces) (bodies total : ℕ) (r : Refusal) → IsJudged bytes left spaces bodies → total ≡ length bytes → left.parts ≡ [] → ending_fault total left.ending ≡ Some r → IsVerdict bytes (Rejected r)
+pub is_refused : (bytes : List ℕ) (left : Run) (spaces : Spaces) (bodies total : ℕ) (r : Refusal) → IsJudged bytes left spaces bodies → total ≡ length bytes → left.parts ≡ [] → ending_fault total left.ending ≡ Some r → IsVerdictBesideText bytes (Rejected r)
 is_refused bytes left spaces bodies total r j len none fault =
     let ends : ending_fault (length bytes) (module_run bytes).ending ≡ Some r = ap (ending_fault (length bytes)) j.ending ∙ ap (λ (n : ℕ). ending_fault n left.ending) (sym len) ∙ fault in
     let no_section : first_outside is_compiled_section (sections_of (module_run bytes).parts) ≡ None = outside_rest bytes left spaces bodies j ∙ ap (λ (l : List Part). first_outside is_compiled_section (sections_of l)) none in
@@ -128,7 +133,7 @@ is_refused bytes left spaces bodies total r j len none fault =
 
 -- ---- a body is at fault
 
-pub body_refused : (bytes : List ℕ) (left : Run) (spaces : Spaces) (bodies : ℕ) (b : Body) (r : Refusal) → IsJudged bytes (after_part (Coded b) left) spaces bodies → IsCodeFault (body_of_spaces spaces bodies b) (read_of b).code r → IsVerdict bytes (Rejected r)
+pub body_refused : (bytes : List ℕ) (left : Run) (spaces : Spaces) (bodies : ℕ) (b : Body) (r : Refusal) → IsJudged bytes (after_part (Coded b) left) spaces bodies → IsCodeFault (body_of_spaces spaces bodies b) (read_of b).code r → IsVerdictBesideText bytes (Rejected r)
 body_refused bytes left spaces bodies b r j f = (inr inside, λ s g. no_less s g)
   where
     next : Run
@@ -188,7 +193,7 @@ module _ (bytes : List ℕ) (left : Run) (spaces : Spaces) (bodies at id total :
   IsCandidate s = (ending_fault (length bytes) (module_run bytes).ending ≡ Some s) ⊎ (first_outside is_compiled_section (sections_of (module_run bytes).parts) ≡ Some s)
 
   -- more follows
-  pub section_refused : (0 < length left.parts) ⊎ (ending_fault total left.ending ≡ None) → IsVerdict bytes (Rejected (unsupported_at at))
+  pub section_refused : (0 < length left.parts) ⊎ (ending_fault total left.ending ≡ None) → IsVerdictBesideText bytes (Rejected (unsupported_at at))
   section_refused more = (inl (inr own_section, λ s p. no_earlier s more p), λ s f. no_less s f)
     where
       no_earlier : (s : Refusal) → (0 < length left.parts) ⊎ (ending_fault total left.ending ≡ None) → IsCandidate s → IsNoLater (unsupported_at at) s
@@ -201,7 +206,7 @@ module _ (bytes : List ℕ) (left : Run) (spaces : Spaces) (bodies at id total :
       no_less s (inr f) = let k = inside_later s f in omega arith
 
   -- the header has a fault
-  pub header_refused : (e : Refusal) → left.parts ≡ [] → ending_fault total left.ending ≡ Some e → IsVerdict bytes (Rejected (earlier e (unsupported_at at)))
+  pub header_refused : (e : Refusal) → left.parts ≡ [] → ending_fault total left.ending ≡ Some e → IsVerdictBesideText bytes (Rejected (earlier e (unsupported_at at)))
   header_refused e none fault = (inl (is_candidate h.is, λ s p. no_earlier s p), λ s f. no_less s f)
     where
       h : IsEarlier e (unsupported_at at) (earlier e (unsupported_at at))

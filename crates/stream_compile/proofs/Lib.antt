@@ -1,6 +1,4 @@
 pub mod Joins
-pub mod Parts
-pub mod Order
 pub mod TextFaults
 pub mod Judging
 pub mod CodeWords
@@ -18,7 +16,4 @@ pub mod Pumping
 pub mod Once
 pub mod Answering
 pub mod Calls
-pub mod FieldKinds
-pub mod BodyKinds
-pub mod Later
 pub mod Stopped

@@ -16,10 +16,10 @@ use Rattle.wasm_defs.specs.Limits.{max_text}
 use Rattle.wasm_laws.proofs.Behind.{bodies_stand_behind}
 use Rattle.frame_layout.specs.Templates.{exit_stub}
 use Rattle.image_linker.specs.ImageOf.{size_of, stub_size, front_size}
-use Rattle.stream_compile.proofs.Parts.{items_of-append}
+use Rattle.wasm_laws.proofs.PartLists.{items_of-append}
 use Rattle.stream_compile.proofs.CodeWords.{same_size}
 use Rattle.image_linker.specs.Judging.{sizes, text_bytes, IsTextFault, IsFaultOf, IsModuleOf, IsVerdictOf}
-use Rattle.stream_compile.proofs.Order.{fault_after, section_after}
+use Rattle.wasm_laws.proofs.PartOrder.{fault_after, section_after}
 use Rattle.stream_compile.proofs.TextFaults.{text_not_outside, text_not_inside, text_once, tree_once}
 
 -- ---- faults of bodies

@@ -19,12 +19,12 @@ use Rattle.wasm_laws.proofs.Order.{parts_before_fault, parts_in_module}
 use Rattle.wasm_laws.proofs.Runs.{module_goes_on}
 use Rattle.image_linker.specs.ImageOf.{size_of}
 use Rattle.image_linker.specs.Judging.{IsTextFault, IsFaultOf, IsVerdictOf, IsStoppedAt, lasting, lasting_fault}
-use Rattle.stream_compile.proofs.Parts.{sections_of-append}
-use Rattle.stream_compile.proofs.Order.{fault_after, section_after}
+use Rattle.wasm_laws.proofs.PartLists.{sections_of-append}
+use Rattle.wasm_laws.proofs.PartOrder.{fault_after, section_after}
 use Rattle.stream_compile.proofs.TextFaults.{text_after, text_before}
 use Rattle.stream_compile.proofs.Once.{before_last, fault_of_once, no_fault_of}
-use Rattle.stream_compile.proofs.BodyKinds.{EndingLasts, body_fault_lasts, module_lasts}
-use Rattle.stream_compile.proofs.Later.{AreBefore, Behind, Keeps, module_keeps}
+use Rattle.wasm_laws.proofs.BodyKinds.{EndingLasts, body_fault_lasts, module_lasts}
+use Rattle.wasm_laws.proofs.Later.{AreBefore, Behind, Keeps, module_keeps}
 
 -- ---- kinds
 

@@ -13,7 +13,7 @@ use Rattle.wasm_laws.proofs.Verdicts.{valid_has_no_fault}
 use Rattle.body_validator.proofs.TreeLaws.{trees_one}
 use Rattle.image_linker.specs.ImageOf.{size_of}
 use Rattle.image_linker.specs.Judging.{text_bytes, IsTextFault}
-use Rattle.stream_compile.proofs.Order.{fault_after, section_after}
+use Rattle.wasm_laws.proofs.PartOrder.{fault_after, section_after}
 
 -- ---- it stands behind what came before, and before the end
 

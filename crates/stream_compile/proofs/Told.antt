@@ -12,7 +12,7 @@ use Rattle.image_linker.specs.Judging.{IsVerdictOf}
 use Rattle.section_reader.specs.Onward.{after_parts, AreSections, outside_of}
 use Rattle.stream_compile.specs.Codes.{Coding}
 use Rattle.stream_compile.specs.Progress.{IsJudging}
-use Rattle.stream_compile.proofs.Parts.{sections_of-append}
+use Rattle.wasm_laws.proofs.PartLists.{sections_of-append}
 use Rattle.stream_compile.proofs.Compiled.{after_section, section_refused, header_refused, is_refused}
 
 pub sections_append : (xs ys : List Part) → AreSections xs → AreSections ys → AreSections (xs ++ ys)

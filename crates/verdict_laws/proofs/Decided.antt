@@ -21,7 +21,7 @@ use Rattle.image_linker.specs.ImageOf.{size_of, stub_size, front_size}
 use Rattle.image_linker.specs.Judging.{sizes, text_bytes, limit_at, IsTextFault, IsFaultOf, IsModuleOf, IsVerdictOf}
 use Rattle.stream_compile.proofs.CodeWords.{same_size}
 use Rattle.stream_compile.proofs.Once.{no_fault_of}
-use Rattle.stream_compile.proofs.Parts.{items_of-append}
+use Rattle.wasm_laws.proofs.PartLists.{items_of-append}
 use Rattle.stream_compile.proofs.TextFaults.{tree_once, text_once}
 use Rattle.body_laws.specs.Spelled.{IsSpelledModule}
 use Rattle.body_laws.proofs.SpelledModules.{module_is_spelled, spelled_is_module}

@@ -1,4 +1,4 @@
--- The faults of a module, and its verdict.
+-- The faults of a module, but for that of its image's text.
 use Rattle.std.specs.Prelude.{◌≡◌, ◌<◌, ◌≤◌, ◌⊎◌, ℕ, suc, ◌+◌, List, [], ◌∷◌, ◌++◌, length, Bool, Option, None, Some, nat_lt, nat_le, if◌then◌else◌}
 use Rattle.wasm_defs.specs.declared.fault.Kind.{Kind}
 use Rattle.wasm_defs.specs.declared.fault.Kind.TheVariants.{Malformed, Unsupported, Limit, Invalid, Ended}
@@ -154,11 +154,7 @@ pub record IsModule (bytes : List ℕ) (m : Module) : Type 0 where
   pub bodies : m.bodies ≡ bodies_of (module_run bytes).parts
   pub valid : AreValid [] 0 (module_run bytes).parts m.trees
 
+-- what bytes can come to. Which it is, the crate that makes images says (`IsVerdictOf`), since the text of an image has a limit too.
 pub data Verdict : Type 0 where
   Accepted : (m : Module) → Verdict
   Rejected : (r : Refusal) → Verdict
-
--- the module that the bytes are, or the fault of least offset
-abbrev pub IsVerdict : List ℕ → Verdict → Type 0
-IsVerdict bytes (Accepted m) = IsModule bytes m
-IsVerdict bytes (Rejected r) = IsFault bytes r × ((s : Refusal) → IsFault bytes s → r.offset ≤ s.offset)

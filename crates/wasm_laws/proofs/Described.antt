@@ -9,7 +9,7 @@ use Rattle.wasm_defs.specs.Entries.{Seen, nothing}
 use Rattle.wasm_defs.specs.Outside.{Body, Part, Listed, Coded, Ending, Whole, Refused, Owed, Run, sections, magic, version, preamble, beginning, module_run}
 use Rattle.wasm_defs.specs.Faults.{items_of, bodies_of, ending_fault, Module, IsModule}
 use Rattle.wasm_defs.specs.Items.{◌then◌, exactly, each_is, Section, Payload, Custom, Vector, Starting, Bodies, section_is, payload_items, payload_bodies, items_in, bodies_in}
-use Rattle.wasm_laws.specs.Sections.{parts_of, parts_in, IsModuleOf}
+use Rattle.wasm_laws.specs.Sections.{parts_of, parts_in, AreSectionsOf}
 use Rattle.wasm_laws.proofs.Steady.{IfGot}
 use Rattle.wasm_laws.proofs.Parts.{then_got}
 use Rattle.wasm_laws.proofs.Counts.{bodies_match}
@@ -82,7 +82,7 @@ module_found bytes fits =
     let between : Between nothing d = record { ready = later (beginning bytes) d found ready; low = omega (arith, found.at); far = found.end; uncounted = λ lt. refl } in
     whole_as (Rest nothing d) (Behind bytes) (sections nothing d) (λ parts rest. record { stop = d; found = found; rest = rest }) (up_to_found (length d.rest + 1) nothing d between))
 
-described : (bytes : List ℕ) (parts : List Part) → Behind bytes parts → length (bodies_of parts) ≡ declared_count (items_of parts) → (sections : List Section) × IsModuleOf sections bytes × (parts ≡ parts_in sections)
+described : (bytes : List ℕ) (parts : List Part) → Behind bytes parts → length (bodies_of parts) ≡ declared_count (items_of parts) → (sections : List Section) × AreSectionsOf sections bytes × (parts ≡ parts_in sections)
 described bytes parts b match =
     let s = b.found.spelled in
     let rest = b.rest in
@@ -108,7 +108,7 @@ described bytes parts b match =
     )
 
 -- a run that is whole describes its module
-pub whole_is_described : (bytes : List ℕ) (parts : List Part) → numbers.AreBytes bytes → (seen : Seen) → module_run bytes ≡ record { parts = parts; ending = Whole seen } → (sections : List Section) × IsModuleOf sections bytes × (parts ≡ parts_in sections)
+pub whole_is_described : (bytes : List ℕ) (parts : List Part) → numbers.AreBytes bytes → (seen : Seen) → module_run bytes ≡ record { parts = parts; ending = Whole seen } → (sections : List Section) × AreSectionsOf sections bytes × (parts ≡ parts_in sections)
 whole_is_described bytes parts fits seen e =
     let same : (module_run bytes).parts ≡ parts = ap (λ (r : Run). r.parts) e in
     let ends : (module_run bytes).ending ≡ Whole seen = ap (λ (r : Run). r.ending) e in
@@ -120,7 +120,7 @@ no_fault len (Refused r) e = absurd cc
 no_fault len Owed e = absurd cc
 
 -- the items and bodies of a module
-pub module_is_described : (bytes : List ℕ) (m : Module) → numbers.AreBytes bytes → IsModule bytes m → (sections : List Section) × IsModuleOf sections bytes × (m.items ≡ items_in sections) × (m.bodies ≡ bodies_in sections)
+pub module_is_described : (bytes : List ℕ) (m : Module) → numbers.AreBytes bytes → IsModule bytes m → (sections : List Section) × AreSectionsOf sections bytes × (m.items ≡ items_in sections) × (m.bodies ≡ bodies_in sections)
 module_is_described bytes m fits is =
     let run = module_run bytes in
     let whole = no_fault (length bytes) run.ending is.whole in

@@ -50,4 +50,9 @@ pub mod Exports
 pub mod Counted
 pub mod Constants
 pub mod Spaces
+pub mod BodyKinds
 pub mod Completing
+pub mod FieldKinds
+pub mod Later
+pub mod PartLists
+pub mod PartOrder

@@ -11,7 +11,7 @@ use Rattle.wasm_defs.specs.Outside as outside
 use Rattle.wasm_defs.specs.Outside.{Body, Part, Row, row, header, entered, inside, no_end, Ending, Whole, Run, after_part, runs_on, Next, contents, section, owes_code, at_the_end, or_section, sections_up_to, sections, magic, version, preamble, beginning, module_run}
 use Rattle.wasm_defs.specs.Items.{each_is, u32_is, AllOf, section_of, Section, Payload, Custom, Vector, Starting, Bodies, payload_id, payload_is, section_is, payload_items, payload_bodies, items_in, bodies_in, StandsBehind, last_with, AreInOrder}
 use Rattle.wasm_defs.specs.Rules.{AllKeep, all_noted, IsSmall, SectionsKeep}
-use Rattle.wasm_laws.specs.Sections.{parts_of, parts_in, IsModuleOf}
+use Rattle.wasm_laws.specs.Sections.{parts_of, parts_in, AreSectionsOf}
 use Rattle.wasm_laws.proofs.Headers.{Follows}
 use Rattle.wasm_laws.proofs.Sorts.{count_cons}
 use Rattle.wasm_laws.proofs.Spelt.{cursor}
@@ -220,7 +220,7 @@ preamble_read front mid back e g fits =
     )
 
 -- a module of sections that keep the rules is read whole
-pub described_is_whole : (bytes : List ℕ) (xs : List Section) → IsModuleOf xs bytes → (seen : Seen) × (module_run bytes ≡ record { parts = parts_in xs; ending = Whole seen })
+pub described_is_whole : (bytes : List ℕ) (xs : List Section) → AreSectionsOf xs bytes → (seen : Seen) × (module_run bytes ≡ record { parts = parts_in xs; ending = Whole seen })
 described_is_whole bytes xs d =
     let j = d.spelled.spelled in
     let k = j.second in

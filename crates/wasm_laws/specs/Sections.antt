@@ -19,8 +19,8 @@ abbrev pub parts_in : List Section → List Part
 parts_in [] = []
 parts_in (s ∷ sections) = outside.Section s.id (payload_id s.payload) ∷ (parts_of s.payload ++ parts_in sections)
 
--- the bytes are a module of these sections, which keep the rules
-pub record IsModuleOf (sections : List Section) (bytes : List ℕ) : Type 0 where
+-- these are the sections of a module, which keep the rules, and the bytes spell them
+pub record AreSectionsOf (sections : List Section) (bytes : List ℕ) : Type 0 where
   pub spelled : Items bytes sections
   pub kept : RulesAreKept bytes sections
 

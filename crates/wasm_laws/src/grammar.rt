@@ -4,16 +4,16 @@ ghost use Rattle.std.specs.Prelude.{◌≡◌, ◌↔◌, ℕ, List};
 ghost use Rattle.wasm_defs.specs.Faults.{IsModule, Module};
 ghost use Rattle.wasm_defs.specs.Items.{bodies_in, Items, items_in, Section};
 ghost use Rattle.wasm_defs.specs.Outside.{Part};
-ghost use Rattle.wasm_laws.specs.Sections.{AreBytes, IsModuleOf, IsReadAs, parts_in};
+ghost use Rattle.wasm_laws.specs.Sections.{AreBytes, AreSectionsOf, IsReadAs, parts_in};
 
 /// Modules are what the grammar spells: some bytes are read whole, with some parts, exactly where they are a module of
 /// sections that keep the rules and have these parts. A module's items and bodies are those of its sections.
 pub fn modules_are_spelled()
     ensures runs { (bytes : List ℕ) (parts : List Part) → AreBytes bytes →
         IsReadAs parts bytes
-        ↔ ((sections : List Section) × IsModuleOf sections bytes × (parts ≡ parts_in sections)) }
+        ↔ ((sections : List Section) × AreSectionsOf sections bytes × (parts ≡ parts_in sections)) }
     ensures modules { (bytes : List ℕ) (m : Module) → AreBytes bytes → IsModule bytes m →
-        (sections : List Section) × IsModuleOf sections bytes × (m.items ≡ items_in sections) × (m.bodies ≡ bodies_in sections) }
+        (sections : List Section) × AreSectionsOf sections bytes × (m.items ≡ items_in sections) × (m.bodies ≡ bodies_in sections) }
 {}
 
 /// The grammar has one reading of any bytes: sections that spell the same module are the same.

@@ -15,7 +15,7 @@ use Rattle.wasm_defs.specs.Entries.{Seen, nothing}
 use Rattle.wasm_defs.specs.Bodies.{Group, Spelled, group, groups, local_groups, with_index, block_type, with_type, label, branch_table, zero_byte, indirect, with_zero, mem_arg, with_mem_arg, constant, control, variable, accessed_at, memory, operated_at, numeric, instruction, malformed_at, closed, goes_on, depth_after, spelled_from, read_code, last_of, body_cursor, body_read}
 use Rattle.wasm_defs.specs.Outside.{Row, row, entered, noted, inside, Ending, Whole, Refused, Owed, Run, runs_on, Next, finish, entries, contents, section, owes_code, or_section, sections_up_to, beginning, module_run}
 use Rattle.wasm_defs.specs.Faults.{rank}
-use Rattle.stream_compile.proofs.FieldKinds.{Lasts, Lasting, LastingRow, lasting, value_type_lasts, bind, done_lasts, refused_lasts, either, unsupported, malformed, byte_lasts, header_lasts, preamble_lasts, end_lasts, row_lasts}
+use Rattle.wasm_laws.proofs.FieldKinds.{Lasts, Lasting, LastingRow, lasting, value_type_lasts, bind, done_lasts, refused_lasts, either, unsupported, malformed, byte_lasts, header_lasts, preamble_lasts, end_lasts, row_lasts}
 
 -- ---- locals
 
