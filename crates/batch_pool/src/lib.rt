@@ -1,21 +1,30 @@
 //! Tickets of batches, in queues from which idle workers steal.
 //!
 //! The feeder has a queue, and so has each hand. A hand takes from its own queue first, and then from the others:
-//! what it steals beside the ticket that it answers goes into its own queue.
+//! what it steals beside the ticket that it answers goes into its own queue. A worker has a hand, and serves what it takes.
 #![tactic(auto)]
 
+mod bodies;
 mod feeder;
 mod hand;
 mod idle;
 mod pool;
 mod queue;
+mod row;
 mod rule;
+mod serving;
 #[cfg(test)]
 mod tests;
 mod thief;
 mod ticket;
+#[cfg(test)]
+mod work_tests;
+mod worker;
 
 pub use feeder::Feeder;
 pub use hand::Hand;
 pub use pool::Pool;
+pub use row::{Row, RowCode, RowCodes, Rows, Worked};
+pub use serving::{fits, serve};
 pub use ticket::Ticket;
+pub use worker::work;

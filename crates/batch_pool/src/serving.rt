@@ -1,0 +1,155 @@
+//! What is done with one ticket.
+ghost use Rattle.std.specs.Prelude.{true, ℕ, ◌≡◌, ◌<◌, ◌^◌, ◌↔◌, ◌++◌, ◌∷◌, [], All, IsTrue, IfOk, IfSome, OnOk, OnErr, length};
+ghost use Rattle.std.specs.Arc.{arc_value};
+ghost use Rattle.wasm_laws.specs.Kept.{TypesAreSmall};
+ghost use Rattle.index_spaces.specs.Spaces.{context_in};
+ghost use Rattle.cancel_drain.specs.Views.{times};
+ghost use Rattle.batch_pool.specs.Low.{IsLow};
+ghost use Rattle.batch_pool.specs.Working.{IsRowOf, FitsBody, Fits, Grows, IsServed};
+ghost use Rattle.batch_pool.specs.Serving.{Tries, Runs, told};
+
+use crate::bodies::compile_batch;
+use crate::row::Row;
+use crate::ticket::Ticket;
+use body_cutter::{Batch, Body};
+use cancel_drain::{Board, BoardSeat, Claim, Drained};
+use index_spaces::Context;
+use io_edges::{Gate, Go};
+use result_cells::Cells;
+use std::alloc::{AllocError, Global};
+use std::collections::LinkedList;
+use std::sync::Arc;
+use std::thread;
+use wasm_defs::Refusal;
+
+/// A batch runs after so many turns, whatever the gate answers.
+const LAST_TURN: u32 = 1_048_576;
+
+/// Whether the function of a body is in the context, and has a cell.
+fn fits_body(cells: &Cells, context: &Context, body: &Body) -> bool
+    ensures { IsTrue result ↔ FitsBody (context_in context.now) (length cells.now) body.now }
+{
+    context.has_type_of_function(body.index) && body.index < cells.count()
+}
+
+/// Whether all bodies fit.
+fn fit_all(cells: &Cells, context: &Context, bodies: &LinkedList<Body>) -> bool
+    ensures { IsTrue result ↔ All (FitsBody (context_in context.now) (length cells.now)) bodies.now }
+{
+    for body in bodies.iter() {
+        if !fits_body(cells, context, body) {
+            return false;
+        }
+    }
+    true
+}
+
+/// Whether the board has a place for a batch, and its bodies fit.
+pub fn fits(board: &Board, cells: &Cells, context: &Context, ticket: &Ticket) -> bool
+    ensures { IsTrue result ↔ Fits (context_in context.now) board.now.functions (length cells.now) ticket.now }
+{
+    ticket.number < board.functions() && fit_all(cells, context, ticket.batch.bodies.as_list())
+}
+
+/// Asks the gate until the batch may run.
+fn enter<G: Gate>(gate: &G, number: u32) {
+    for turn in 0..LAST_TURN + 1 {
+        match gate.enter(number, turn) {
+            Go::Run => return,
+            Go::Hold => thread::yield_now(),
+        }
+    }
+}
+
+/// Drains the batch where a fault before it was reported, or else claims it: whether it is this seat's to run.
+fn try_claim(board: &Board, seat: &mut BoardSeat, number: u32, start: u64) -> bool
+    requires table { seat.old.table ≡ board.now.table }
+    requires number { number < board.now.functions }
+    requires start { start < 2 ^ 60 }
+    ensures table { seat.new.table ≡ seat.old.table }
+    ensures tries { Tries seat.old.view number start result seat.new.view }
+    ensures running { result ≡ true → 0 < times number start seat.new.view.running }
+{
+    let _ = board.look(seat);
+    match board.drain(seat, number, start) {
+        Drained::NotBehind => board.claim(seat, number, start) == Claim::Won,
+        Drained::Yes | Drained::Lost => false,
+    }
+}
+
+/// Reports a fault, if there is one.
+fn report(board: &Board, seat: &mut BoardSeat, fault: Option<Refusal>)
+    requires table { seat.old.table ≡ board.now.table }
+    requires low { IfSome fault (λ r. r.offset < 2 ^ 60) }
+    ensures { (seen : ℕ) × (seat.new ≡ record seat.old { view = told seat.old.view fault seen }) }
+{
+    if let Some(refusal) = fault {
+        board.report(seat, refusal);
+    }
+}
+
+/// Runs a batch that was claimed.
+fn run(
+    alloc: Global,
+    board: &Board,
+    seat: &mut BoardSeat,
+    cells: &Cells,
+    context: &Context,
+    batch: Arc<Batch, Global>,
+) -> Result<Row, AllocError>
+    requires table { seat.old.table ≡ board.now.table }
+    requires fits { All (FitsBody (context_in context.now) (length cells.now)) (arc_value batch).bodies }
+    requires types { TypesAreSmall context.now.types }
+    requires low { IsLow (arc_value batch) }
+    requires running { 0 < times (arc_value batch).number (arc_value batch).start seat.old.view.running }
+    ensures table { seat.new.table ≡ seat.old.table }
+    ensures row { IfOk result (IsRowOf (context_in context.now) cells.now) }
+    ensures batch { IfOk result (λ row. arc_value row.batch ≡ arc_value batch) }
+    ensures runs { IfOk result (λ row. Runs seat.old.view row seat.new.view) }
+    ensures err { OnErr result (seat.new ≡ seat.old) }
+{
+    let number = batch.number;
+    let start = batch.start;
+    let row = compile_batch(alloc, cells, context, batch)?;
+    report(board, seat, row.fault);
+    board.finish(seat, number, start);
+    Ok(row)
+}
+
+/// Takes a ticket out of the work: its batch is drained where a fault before it was reported, or else run, unless another seat was
+/// first. A ticket that doesn't fit is passed over.
+pub fn serve<G: Gate>(
+    alloc: Global,
+    board: &Board,
+    seat: &mut BoardSeat,
+    cells: &Cells,
+    context: &Context,
+    gate: &G,
+    rows: &mut Vec<Row>,
+    ticket: Ticket,
+) -> Result<(), AllocError>
+    requires table { seat.old.table ≡ board.now.table }
+    requires types { TypesAreSmall context.now.types }
+    ensures table { seat.new.table ≡ seat.old.table }
+    ensures grows { Grows (context_in context.now) cells.now seat.old.view seat.new.view rows.old.items rows.new.items }
+    ensures running { OnOk result (seat.new.view.running ≡ seat.old.view.running) }
+    ensures served { OnOk result (Fits (context_in context.now) board.now.functions (length cells.now) ticket → IsServed seat.new.view ticket) }
+{
+    if !fits(board, cells, context, &ticket) {
+        return Ok(());
+    }
+    rows.reserve(1)?;
+    let Ticket {
+        number,
+        start,
+        batch,
+    } = ticket;
+    if !try_claim(board, seat, number, start) {
+        return Ok(());
+    }
+    enter(gate, number);
+    let row = run(alloc, board, seat, cells, context, batch)?;
+    rows.push_reserved(row);
+    gate.finished(number);
+    Ok(())
+}
