@@ -190,13 +190,6 @@ impl<'a> Check<'a> {
         !self.stack.is_open()
     }
 
-    /// How many results the body's function has.
-    pub(crate) fn result_count(&self) -> usize
-        ensures { result ≡ length self.now.context.results }
-    {
-        self.scope.results.len()
-    }
-
     /// Ends the check of a body whose last `end` was taken.
     pub fn end(self) -> Shape
         requires { self.checker.frames ≡ [] }
