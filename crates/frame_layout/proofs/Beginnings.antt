@@ -58,7 +58,7 @@ module _ (code : List (Option Op)) (s : State) (i base slots : ℕ) (has : HasAt
   has_test : HasAt code (i + 6) test
   has_test = has_first code (i + 6) test (trap 8) (has_rest code i (address_words t0 slots) (test ++ trap 8) has)
 
-  room_is : base + slots ≤ max_slots → i < 2 ^ 26 → Does code 7 10 s s.bytes
+  pub room_is : base + slots ≤ max_slots → i < 2 ^ 26 → Does code 7 10 s s.bytes
   unfolding is_taken
   room_is fits near =
       let one = end_made in
@@ -80,7 +80,7 @@ module _ (code : List (Option Op)) (s : State) (i base slots : ℕ) (has : HasAt
       let passed = passed_does code one.end (i + 6) (omega arith) Bgeu s5 t0 (forward 16) has_test (ap not (lt-ltb (reg one.end.registers s5) (reg one.end.registers t0) more)) in
       does_then (does_leave refl one) (does_with one.bytes_are passed)
 
-  none_traps : max_slots < base + slots → TrapsAt code 10 8 s
+  pub none_traps : max_slots < base + slots → TrapsAt code 10 8 s
   none_traps full =
       let does = room_is_none full in
       let pc_is = does.pc_is in

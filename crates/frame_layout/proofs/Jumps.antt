@@ -57,7 +57,7 @@ module _ (code : List (Option Op)) (s : State) (i : ℕ) (at : s.pc ≡ place i)
 -- ---- calls of the environment
 
 -- a small number, into a register
-number_leaves : (code : List (Option Op)) (s : State) (i r n : ℕ) → HasAt code i (Imm Addi (suc r) x0 n ∷ []) → s.pc ≡ place i → n < 2 ^ 11 → Leaves code 1 s s.bytes (suc r) n
+pub number_leaves : (code : List (Option Op)) (s : State) (i r n : ℕ) → HasAt code i (Imm Addi (suc r) x0 n ∷ []) → s.pc ≡ place i → n < 2 ^ 11 → Leaves code 1 s s.bytes (suc r) n
 unfolding computed
 number_leaves code s i r n has at small =
     let value : plus 0 (i_value n) ≡ n = rw (lt-ltb n (2 ^ 11) small) (omega arith) in
