@@ -1,6 +1,6 @@
 //! The words of a body that was judged: the beginning of its function, those of each node, and the end.
 
-ghost use Rattle.std.specs.Prelude.{◌≡◌, ◌<◌, ◌^◌, ◌++◌, map, IfOk, OnOk};
+ghost use Rattle.std.specs.Prelude.{◌≡◌, ◌<◌, ◌≤◌, ◌^◌, ◌++◌, map, IfOk, OnOk};
 ghost use Rattle.rv_isa.specs.Words.{word_of};
 ghost use Rattle.wasm_defs.specs.Nodes.{node_tokens};
 ghost use Rattle.wasm_defs.specs.Typing.{Context as ContextGiven};
@@ -76,7 +76,8 @@ pub fn assemble(
     nodes: &[Node],
     judged: &Judged,
 ) -> Result<Code, AllocError>
-    requires { HasWords (node_tokens nodes.now) judged.now }
+    requires words { HasWords (node_tokens nodes.now) judged.now }
+    requires one { results ≤ 1 }
     ensures { IfOk result (λ code. IsAssembled results (node_tokens nodes.now) judged.now code) }
 {
     let layout = frame_of(judged.shape());

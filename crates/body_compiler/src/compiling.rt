@@ -47,7 +47,8 @@ fn first_fault(alloc: Global, bytes: &[u8], offset: u64, fault: Refusal) -> Body
 
 /// Compiles a valid body of a function with so many results, if all its nodes are compiled so far.
 fn compile_valid(alloc: Global, results: u32, body: &ValidBody) -> Result<Code, BodyStop>
-    requires { first_not_straight (placed body.now.nodes.nodes) ≡ None → HasWords (node_tokens body.now.nodes.nodes) body.now.judged }
+    requires one { results ≤ 1 }
+    requires words { first_not_straight (placed body.now.nodes.nodes) ≡ None → HasWords (node_tokens body.now.nodes.nodes) body.now.judged }
     ensures { Makes results body.now result }
 {
     let nodes = body.nodes.nodes();
