@@ -1,5 +1,5 @@
 -- Heights rise by one at most with each token that is taken.
-use Rattle.std.proofs.Common.{◌≡◌, ◌≤◌, inl, inr, ℕ, zero, suc, ◌+◌, Bool, true, false, List, [], ◌∷◌, ◌++◌, length, max, Option, None, Some, refl, sym, ap, ◌∙◌, subst, arith, length-append}
+use Rattle.std.proofs.Common.{◌≡◌, ◌≤◌, inl, inr, ℕ, zero, suc, ◌+◌, ◌-◌, Bool, true, false, List, [], ◌∷◌, ◌++◌, length, max, Option, None, Some, refl, sym, ap, ◌∙◌, subst, arith, length-append}
 use Rattle.std.specs.Prelude.{slice_get}
 use Rattle.wasm_defs.specs.declared.operation.Operation.{Operation}
 use Rattle.wasm_defs.specs.declared.operation.Operation.TheVariants.{Unary, Test, Binary, Compare, Convert}
@@ -46,7 +46,7 @@ length-known (t ∷ ts) = ap suc (length-known ts)
 
 -- ---- rules that leave one value at most
 
-IsLow : Rule → Type 0
+abbrev pub IsLow : Rule → Type 0
 IsLow Untyped = Unit {0}
 IsLow (Fixed params results) = length results ≤ 1
 IsLow (Stops params) = Unit {0}
@@ -61,7 +61,8 @@ apply_low (Fixed params results) o p low e =
     let same = ap (λ (q : Operands). length q.own) (some_inside (put o (known results ++ x.value)) p x.then) in
     let both = length-append (known results) x.value in
     let n = length-known results in
-    omega (arith, low)
+    let one : length results ≤ 1 = low in
+    omega arith
 apply_low (Stops params) o p low e =
     let x = through (take_all o.unknown params o.own) (λ own. Some (record { own = []; unknown = true; live = false })) p e in
     let same = ap (λ (q : Operands). length q.own) (some_inside _ p x.then) in
@@ -84,7 +85,7 @@ apply_low Selects o p low e =
 
 -- ---- instructions
 
-LabelsAreSmall : List Types → Type 0
+abbrev pub LabelsAreSmall : List Types → Type 0
 LabelsAreSmall labels = (l : ℕ) (ts : Types) → slice_get labels l ≡ Some ts → length ts ≤ 1
 
 type_low : (t : Option Types) (f : Types → Rule) → ((ts : Types) → t ≡ Some ts → IsLow (f ts)) → IsLow (with_type t f)
@@ -224,7 +225,6 @@ low-after check later t left fewer bound none taken less h e =
     let most = h.most in
     let rise = rises.low in
     let same = some_inside (measured check.checker.greatest x.value) later.checker x.then in
-    let room = bound - fewer in
     let top : higher (place_of x.value) check.checker.greatest ≤ bound - fewer = place_low x.value check.checker.greatest (bound - fewer) (omega arith) (omega arith) in
     let fits : fewer ≤ bound = omega arith in
     record {

@@ -1,5 +1,5 @@
 -- What an opcode that is compiled spells.
-use Rattle.std.proofs.Common.{◌≡◌, ◌<◌, inl, inr, ℕ, ◌||◌, Bool, true, false, cond, eqb, nat_lt, List, [], ◌∷◌, drop, length, get_or, refl, sym, ap, ◌∙◌, subst, arith}
+use Rattle.std.proofs.Common.{◌≡◌, ◌<◌, inl, inr, ℕ, ◌||◌, Bool, true, false, cond, eqb, nat_lt, nat_le, List, [], ◌∷◌, drop, length, get_or, refl, sym, ap, ◌∙◌, subst, arith}
 use Rattle.std.proofs.lemmas.Bool.{cases_Bool, eqb-true, ltb-true, ltb-false}
 use Rattle.std.proofs.lemmas.Bool.Decides.{nat_tests}
 use Rattle.std.proofs.lemmas.List.{get_or_default}
@@ -53,10 +53,19 @@ type_spelled : (d : Cursor) → IfGot (λ t e. IsSpelledType t) (block_type d)
 unfolding block_type
 type_spelled d =
     then_got (λ a e. Unit {0}) (λ t e. IsSpelledType t) (byte d) _ (always (byte d)) (λ b e u.
-    either_got (λ t e. IsSpelledType t) _ _ _ e (λ h. tt)
-    (λ h. either_got (λ t e. IsSpelledType t) _ _ _ e (λ h. tt)
-    (λ h. either_got (λ t e. IsSpelledType t) _ _ _ e (λ h. tt)
-    (λ h. either_got (λ t e. IsSpelledType t) _ _ _ e (λ h. tt) (λ h. tt)))))
+    elim (cases_Bool (eqb b.1 0x40)) [
+      | inl h ↦ rw h tt
+      | inr h ↦ rw h (elim (cases_Bool (eqb b.1 0x7F)) [
+        | inl i ↦ rw i tt
+        | inr i ↦ rw i (elim (cases_Bool (eqb b.1 0x7E)) [
+          | inl j ↦ rw j tt
+          | inr j ↦ rw j (elim (cases_Bool (eqb b.1 0x7D || eqb b.1 0x7C || nat_lt b.1 0x40 || nat_le 0x80 b.1)) [
+            | inl k ↦ rw k tt
+            | inr k ↦ rw k tt
+          ])
+        ])
+      ])
+    ])
 
 type_read : (make : BlockType → Token) (d : Cursor) → ((t : BlockType) → IsSpelledType t → (is_control_token (make t) ≡ true) × HasSpelledType (make t)) → IsControlIf true (with_type make d)
 unfolding with_type

@@ -194,6 +194,7 @@ impl<'a> Check<'a> {
     pub fn end(self) -> Shape
         requires { self.checker.frames ≡ [] }
         ensures counts { IsCounted result self.entry }
+        ensures measured { result.greatest ≡ self.entry.checker.greatest }
         ensures greatest { (tokens : List TokenGiven) (tree : Seq) → IsReached tokens self.entry → Tree tokens tree
             → IsBody self.entry.context tree → result.greatest ≡ greatest (places_of self.entry.context tree) }
     {

@@ -6,8 +6,8 @@ use std::alloc::{AllocError, Global};
 use std::process::Abort;
 use std::test::Fail;
 use wasm_defs::{
-    BinaryOp, BlockType, Constant, FuncType, Item, Kind, Labels, Limits, LoadOp,
-    MemArg, Operation, Plain, Refusal, StoreOp, Token, ValType, ValTypes,
+    BinaryOp, BlockType, Constant, FuncType, Item, Kind, Labels, Limits, LoadOp, MemArg, Operation,
+    Plain, Refusal, StoreOp, Token, ValType, ValTypes,
 };
 
 const LIMITS: Limits = Limits {

@@ -108,10 +108,7 @@ pub fn append_topmost(
     requires { operand layout.now height < 2 ^ 32 }
     ensures { (w : Around) → w.layout ≡ layout.now → OnOk result (buffer.new ≡ buffer.old ++ map word_of (load_operand w t0 (height - 1))) }
 {
-    buffer.append(&slot_load(
-        Register::T0,
-        layout.operand(height.saturating_sub(1)),
-    ))
+    buffer.append(&slot_load(Register::T0, layout.operand(height.saturating_sub(1))))
 }
 
 /// Appends the words that pass over a jump, which takes so many values along, where t0 is zero.
@@ -120,12 +117,7 @@ pub fn append_unless(buffer: &mut WordBuffer, takes: u32) -> Result<(), AllocErr
 {
     if takes <= MOST_PASSED {
         let bytes = 12 + 24 * takes as u16;
-        return buffer.append_ops(&[&[branch(
-            BranchOp::Beq,
-            Register::T0,
-            Register::ZERO,
-            bytes,
-        )]]);
+        return buffer.append_ops(&[&[branch(BranchOp::Beq, Register::T0, Register::ZERO, bytes)]]);
     }
     let here = place_in(buffer);
     let past = here + 5 + 6 * takes as usize;

@@ -156,12 +156,7 @@ impl Labels {
     }
 
     /// Opens a label that leads to its block's end.
-    fn open_block(
-        &mut self,
-        buffer: &WordBuffer,
-        base: u32,
-        values: u32,
-    ) -> Result<(), AllocError>
+    fn open_block(&mut self, buffer: &WordBuffer, base: u32, values: u32) -> Result<(), AllocError>
         requires held { IsHeld (draft self.old buffer.now) }
         requires low { base + values < 0x8000_0000 }
         ensures { OnOk result (Opens (draft self.old buffer.now) (draft self.new buffer.now) (end_shape base values) (λ e. [])) }

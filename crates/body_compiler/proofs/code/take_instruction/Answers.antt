@@ -38,13 +38,14 @@ take_step-requires-clause-there c =
 
 pub returns-in-Ok-take_step-clause-tied : goal.returns-in-Ok-take_step-clause-tied
 returns-in-Ok-take_step-clause-tied c =
+    let yes = sym c.is_taken_opcode-compiled.ensures ∙ taken_is_compiled c.is_taken_opcode-compiled.result c.args.at c.args.last c.token.new.self c.in-Ok-after_token.ensures in
     let w = any c.args.draft.now.layout in
     let s = c.in-Ok-token.step in
     let steps = c.in-Ok-token.ensures.steps in
     let shrinks = instruction_shrinks c.args.at c.args.opcode c.args.fields.now c.instruction.new.fields c.in-Ok.token c.in-Ok.ensures in
     tied-after w no_context c.in-Ok.token (guarded s.live s.height_before) (draft c.args.draft.now.labels c.args.draft.now.words) (draft c.take_step.new.draft.labels c.take_step.new.draft.words) c.args.check.now c.token.new.self
     (length c.args.fields.now.rest + 1) (length c.instruction.new.fields.rest) (omega arith)
-    (taken_token c.args.at c.args.opcode c.args.fields.now c.instruction.new.fields c.in-Ok.token c.requires.bytes (compiled c) c.in-Ok.ensures) c.requires.tied
+    (taken_token c.args.at c.args.opcode c.args.fields.now c.instruction.new.fields c.in-Ok.token c.requires.bytes yes c.in-Ok.ensures) c.requires.tied
     (c.in-Ok-take_step.ensures.words w no_context refl) steps.0 steps.1
 
 pub returns-in-Ok-take_step-clause-shrinks : goal.returns-in-Ok-take_step-clause-shrinks
