@@ -1,5 +1,5 @@
 -- What an opcode that is compiled spells.
-use Rattle.std.proofs.Common.{◌≡◌, ◌<◌, inl, inr, ℕ, ◌||◌, Bool, true, false, cond, eqb, nat_lt, nat_le, List, [], ◌∷◌, drop, length, get_or, refl, sym, ap, ◌∙◌, subst, arith}
+use Rattle.std.proofs.Common.{◌≡◌, ◌<◌, inl, inr, ℕ, ◌||◌, ◌==◌, Bool, true, false, cond, eqb, nat_lt, nat_le, List, [], ◌∷◌, drop, length, get_or, refl, sym, ap, ◌∙◌, subst, arith}
 use Rattle.std.proofs.lemmas.Bool.{cases_Bool, eqb-true, ltb-true, ltb-false}
 use Rattle.std.proofs.lemmas.Bool.Decides.{nat_tests}
 use Rattle.std.proofs.lemmas.List.{get_or_default}
@@ -13,6 +13,7 @@ use Rattle.wasm_defs.specs.declared.token.Token.TheVariants as token
 use Rattle.wasm_defs.specs.Bodies.{block_type, branch_table, control, indirect, instruction, label, with_index, with_type, zero_byte}
 use Rattle.wasm_defs.specs.Fields.{Cursor, Read, Got, Reader, byte, u32, vector, then_go}
 use Rattle.wasm_defs.specs.Supported.{is_compiled_opcode}
+use Rattle.wasm_defs.specs.Entries.{within}
 use Rattle.wasm_laws.specs.Sections.{AreBytes}
 use Rattle.wasm_laws.specs.Steadiness.{Advance, Advances, IfGot}
 use Rattle.wasm_laws.specs.Straight.{is_straight_plain, is_straight_token, IsInRange, TokenIsInRange}
@@ -23,10 +24,14 @@ use Rattle.wasm_laws.proofs.Bytes.{each_byte}
 use Rattle.wasm_laws.proofs.Straight.{IsStraightToken, instruction_is_straight}
 use Rattle.wasm_laws.proofs.Ranges.{InRange, instruction_in_range}
 use Rattle.body_compiler.specs.Steps.{is_control_plain, is_control_token, IsSpelledType, IsTaken, IsTakenPlain}
-use Rattle.body_compiler.specs.Taking.{is_control_opcode, is_taken_opcode}
+use Rattle.wasm_defs.specs.Supported.{is_compiled_opcode}
 use Rattle.body_compiler.proofs.Going.{byte_is}
 
 -- ---- control
+
+-- `unreachable`, `block`, `loop`, `if`, `else` and the branches
+abbrev is_control_opcode : ℕ → Bool
+is_control_opcode b = b == 0x00 || within 0x02 0x05 b || within 0x0C 0x0F b
 
 -- a block's type is no type of the module
 abbrev HasSpelledType : Token → Type 0
@@ -132,19 +137,15 @@ control_taken (token.If t) s k = k
 control_taken token.Else s k = tt
 control_taken token.End s k = tt
 
-or_second : (a b : Bool) → a || b ≡ true → a ≡ false → b ≡ true
-or_second true b e f = absurd cc
-or_second false b e f = e
-
-pub taken_token : (at b : ℕ) (d e : Cursor) (t : Token) → AreBytes d.rest → is_taken_opcode b ≡ true → instruction at b d ≡ Got t e → IsTaken t
-taken_token at b d e t bytes taken is =
-    elim (cases_Bool (is_compiled_opcode b)) [
-      | inl h ↦ straight_taken t
-          (subst (λ (x : Read Token). IfGot IsStraightToken x) is (instruction_is_straight at b d h))
-          (subst (λ (x : Read Token). IfGot InRange x) is (instruction_in_range at b d (each_byte d.rest bytes) h))
-      | inr h ↦
-          let k = subst (λ (x : Read Token). IfGot (IsControlAs true) x) is (control_read at b d (or_second (is_compiled_opcode b) (is_control_opcode b) taken h)) in
+pub taken_token : (at b : ℕ) (d e : Cursor) (t : Token) → AreBytes d.rest → is_compiled_opcode b ≡ true → instruction at b d ≡ Got t e → IsTaken t
+taken_token at b d e t bytes compiled is =
+    elim (cases_Bool (is_control_opcode b)) [
+      | inl h ↦
+          let k = subst (λ (x : Read Token). IfGot (IsControlAs true) x) is (control_read at b d h) in
           control_taken t k.0 k.1
+      | inr h ↦ straight_taken t
+          (subst (λ (x : Read Token). IfGot IsStraightToken x) is (instruction_is_straight at b d compiled))
+          (subst (λ (x : Read Token). IfGot InRange x) is (instruction_in_range at b d (each_byte d.rest bytes) compiled))
     ]
 
 -- an instruction that is none of these is straight

@@ -14,11 +14,10 @@ ghost use Rattle.control_emit.specs.Emits.{draft as drafted, IsHeld};
 
 use crate::draft::{Draft, take_step};
 use crate::instructions::instruction;
-use crate::taking::is_taken_opcode;
 use body_validator::{Check, TokenStop};
 use leb_feed::{Fields, Stop};
 use std::alloc::Global;
-use wasm_defs::{Kind, Refusal, earlier};
+use wasm_defs::{Kind, Refusal, earlier, is_compiled_opcode};
 
 /// Why a body isn't compiled.
 #[derive(Clone, Copy, Debug, PartialEq, Eq)]
@@ -94,7 +93,7 @@ fn take_instruction(
     ensures grows { OnOk result (length draft.old.words ≤ length draft.new.words) }
     ensures goes { (c : ContextGiven) (code : SpelledGiven) (before : CursorGiven) (front : List ℕ) → IsCompiling c last before check.old code draft.old.layout front (drafted draft.old.labels draft.old.words) → byte before ≡ Got (at, opcode) fields.old → check.old.checker.frames ≢ [] → Goes c last code draft.old.layout front result fields.new check.new (drafted draft.new.labels draft.new.words) }
 {
-    let compiled = is_taken_opcode(opcode);
+    let compiled = is_compiled_opcode(opcode);
     match instruction(fields, alloc, at, opcode) {
         Ok(token) => match check.token(at, &token) {
             Ok(step) => match after_token(check, compiled, at, last) {

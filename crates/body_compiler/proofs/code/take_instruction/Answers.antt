@@ -1,6 +1,6 @@
 use Rattle.std.proofs.Common.{◌≡◌, ◌≤◌, ◌+◌, ◌∙◌, ℕ, List, true, length, refl, sym, ap, arith}
 use Rattle.wasm_defs.specs.Faults.{tokens_of}
-use Rattle.body_compiler.specs.Taking.{is_taken_opcode}
+use Rattle.wasm_defs.specs.Supported.{is_compiled_opcode}
 use Rattle.body_compiler.proofs.Going.{instruction_shrinks, refused_token, faulty_instruction, cut_instruction}
 use Rattle.body_validator.specs.Checking.{guarded}
 use Rattle.control_emit.specs.Emits.{draft}
@@ -10,8 +10,8 @@ use Rattle.body_compiler.proofs.Tying.{names, tied-after, some-labels}
 use Rattle.body_compiler.proofs.Walking.{any, no_context, taken_is_compiled, held-after, compiles_behind, stops_behind}
 use Rattle.body_compiler.proofs.code.take_instruction.Goals as goal
 
-compiled : (c : goal.After-token-in-Ok-after_token-1) → is_taken_opcode c.args.opcode ≡ true
-compiled c = sym c.is_taken_opcode-compiled.ensures ∙ taken_is_compiled c.is_taken_opcode-compiled.result c.args.at c.args.last c.token.new.self c.in-Ok-after_token.ensures
+compiled : (c : goal.After-token-in-Ok-after_token-1) → is_compiled_opcode c.args.opcode ≡ true
+compiled c = sym c.is_compiled_opcode-compiled.ensures ∙ taken_is_compiled c.is_compiled_opcode-compiled.result c.args.at c.args.last c.token.new.self c.in-Ok-after_token.ensures
 
 pub take_step-requires-clause-taken : goal.take_step-requires-clause-taken
 take_step-requires-clause-taken c = taken_token c.args.at c.args.opcode c.args.fields.now c.instruction.new.fields c.in-Ok.token c.requires.bytes (compiled c) c.in-Ok.ensures
@@ -38,7 +38,7 @@ take_step-requires-clause-there c =
 
 pub returns-in-Ok-take_step-clause-tied : goal.returns-in-Ok-take_step-clause-tied
 returns-in-Ok-take_step-clause-tied c =
-    let yes = sym c.is_taken_opcode-compiled.ensures ∙ taken_is_compiled c.is_taken_opcode-compiled.result c.args.at c.args.last c.token.new.self c.in-Ok-after_token.ensures in
+    let yes = sym c.is_compiled_opcode-compiled.ensures ∙ taken_is_compiled c.is_compiled_opcode-compiled.result c.args.at c.args.last c.token.new.self c.in-Ok-after_token.ensures in
     let w = any c.args.draft.now.layout in
     let s = c.in-Ok-token.step in
     let steps = c.in-Ok-token.ensures.steps in
@@ -60,7 +60,7 @@ pub returns-in-Ok-take_step-clause-goes : goal.returns-in-Ok-take_step-clause-go
 returns-in-Ok-take_step-clause-goes c = λ c' code before front k h more.
     let steps = c.in-Ok-token.ensures.steps in
     let exact = c.in-Ok-token.ensures.exact (tokens_of k.going.tokens) k.going.reached in
-    let yes = sym c.is_taken_opcode-compiled.ensures ∙ taken_is_compiled c.is_taken_opcode-compiled.result c.args.at c.args.last c.token.new.self c.in-Ok-after_token.ensures in
+    let yes = sym c.is_compiled_opcode-compiled.ensures ∙ taken_is_compiled c.is_compiled_opcode-compiled.result c.args.at c.args.last c.token.new.self c.in-Ok-after_token.ensures in
     compiles_behind c' c.args.last c.args.at c.args.opcode before c.args.fields.now c.instruction.new.fields c.in-Ok.token c.in-Ok-token.step c.args.check.now c.token.new.self code c.args.draft.now.layout front
     (draft c.args.draft.now.labels c.args.draft.now.words) (draft c.take_step.new.draft.labels c.take_step.new.draft.words) k h more
     yes c.in-Ok.ensures steps.0 steps.1 exact.0 exact.1 (c.in-Ok-token.ensures.places (tokens_of k.going.tokens) k.going.reached) c.in-Ok-take_step.ensures.words
@@ -69,25 +69,25 @@ pub returns-in-Ok-token-clause-goes : goal.returns-in-Ok-token-clause-goes
 returns-in-Ok-token-clause-goes c = λ c' code before front k h more.
     let g = k.going in
     let exact = c.in-Ok-token.ensures.exact (tokens_of g.tokens) g.reached in
-    stops_behind c' c.args.last c.args.at c.args.opcode before c.args.fields.now c.instruction.new.fields c.in-Ok.token c.args.check.now c.token.new.self code c.args.draft.now.layout front (draft c.args.draft.now.labels c.args.draft.now.words) c.in-Err.stop c.is_taken_opcode-compiled.result g h more
-    (sym c.is_taken_opcode-compiled.ensures) c.in-Ok.ensures c.in-Ok-token.ensures.steps.0 exact.1 c.in-Err.ensures
+    stops_behind c' c.args.last c.args.at c.args.opcode before c.args.fields.now c.instruction.new.fields c.in-Ok.token c.args.check.now c.token.new.self code c.args.draft.now.layout front (draft c.args.draft.now.labels c.args.draft.now.words) c.in-Err.stop c.is_compiled_opcode-compiled.result g h more
+    (sym c.is_compiled_opcode-compiled.ensures) c.in-Ok.ensures c.in-Ok-token.ensures.steps.0 exact.1 c.in-Err.ensures
 
 pub returns-in-Err-Refused-token-clause-goes : goal.returns-in-Err-Refused-token-clause-goes
 returns-in-Err-Refused-token-clause-goes c = λ c' code before front k h more.
     let g = k.going in
     let steps = rw c.in-Err-Refused-token.field-0-is at c.in-Err-Refused-token.ensures.steps in
     let exact = rw c.in-Err-Refused-token.field-0-is at (c.in-Err-Refused-token.ensures.exact (tokens_of g.tokens) g.reached) in
-    rw c.fault_of.ensures (refused_token c' c.args.last c.args.at c.args.opcode before c.args.fields.now c.instruction.new.fields c.in-Ok.token c.args.check.now code _ c.is_taken_opcode-compiled.result g h more
-    (sym c.is_taken_opcode-compiled.ensures) c.in-Ok.ensures (ap (λ r. r.offset) steps.1) exact)
+    rw c.fault_of.ensures (refused_token c' c.args.last c.args.at c.args.opcode before c.args.fields.now c.instruction.new.fields c.in-Ok.token c.args.check.now code _ c.is_compiled_opcode-compiled.result g h more
+    (sym c.is_compiled_opcode-compiled.ensures) c.in-Ok.ensures (ap (λ r. r.offset) steps.1) exact)
 
 pub returns-in-Err-Refused-clause-goes : goal.returns-in-Err-Refused-clause-goes
 returns-in-Err-Refused-clause-goes c = λ c' code before front k h more.
     let stops = rw c.in-Err-Refused.field-0-is at c.in-Err-Refused.ensures in
-    rw c.fault_of-in-Err-Refused.ensures (faulty_instruction c' c.args.last c.args.at c.args.opcode before c.args.fields.now c.args.check.now code _ c.is_taken_opcode-compiled.result k.going h more
-    (sym c.is_taken_opcode-compiled.ensures) stops)
+    rw c.fault_of-in-Err-Refused.ensures (faulty_instruction c' c.args.last c.args.at c.args.opcode before c.args.fields.now c.args.check.now code _ c.is_compiled_opcode-compiled.result k.going h more
+    (sym c.is_compiled_opcode-compiled.ensures) stops)
 
 pub returns-in-Err-Wants-clause-goes : goal.returns-in-Err-Wants-clause-goes
 returns-in-Err-Wants-clause-goes c = λ c' code before front k h more.
     let stops = rw c.in-Err-Wants.field-0-is at c.in-Err-Wants.ensures in
-    rw (c.fault_of-in-Err-Wants.ensures, c.malformed.ensures) (cut_instruction c' c.args.last c.args.at c.args.opcode before c.args.fields.now c.args.check.now code c.is_taken_opcode-compiled.result k.going h more
-    (sym c.is_taken_opcode-compiled.ensures) stops)
+    rw (c.fault_of-in-Err-Wants.ensures, c.malformed.ensures) (cut_instruction c' c.args.last c.args.at c.args.opcode before c.args.fields.now c.args.check.now code c.is_compiled_opcode-compiled.result k.going h more
+    (sym c.is_compiled_opcode-compiled.ensures) stops)
