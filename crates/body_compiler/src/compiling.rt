@@ -1,60 +1,63 @@
-//! Compiling a whole body.
+//! A whole body.
 
-ghost use Rattle.std.specs.Prelude.{◌≡◌, ◌+◌, ◌<◌, ◌≤◌, ◌^◌, None, IsSome, length};
-ghost use Rattle.wasm_defs.specs.Bodies.{body_read};
+ghost use Rattle.std.specs.Prelude.{◌≡◌, ◌+◌, ◌<◌, ◌≤◌, ◌^◌, [], IsSome, length};
+ghost use Rattle.wasm_defs.specs.Bodies.{body_read, Spelled as SpelledGiven};
 ghost use Rattle.wasm_defs.specs.Context.{type_of_function};
-ghost use Rattle.wasm_defs.specs.Faults.{first_outside, unsupported_at};
-ghost use Rattle.wasm_defs.specs.Limits.{max_body};
-ghost use Rattle.wasm_defs.specs.Nodes.{placed, node_tokens};
-ghost use Rattle.wasm_defs.specs.Supported.{is_compiled_opcode};
-ghost use Rattle.wasm_defs.specs.Typing.{function_type};
+ghost use Rattle.wasm_defs.specs.Limits.{max_body, max_locals};
+ghost use Rattle.wasm_defs.specs.Typing.{Context as ContextGiven, function_type};
 ghost use Rattle.index_spaces.specs.Spaces.{context_in};
 ghost use Rattle.wasm_laws.specs.Kept.{TypeIsSmall};
+ghost use Rattle.wasm_laws.specs.Sections.{AreBytes};
+ghost use Rattle.body_validator.specs.Checking.{start_checker};
 ghost use Rattle.body_compiler.specs.Compiling.{Compiles};
-ghost use Rattle.body_compiler.specs.Making.{HasWords, Makes, Refuses};
-ghost use Rattle.body_compiler.specs.Uncompiled.{first_not_straight};
+ghost use Rattle.body_compiler.specs.Making.{Makes};
+ghost use Rattle.body_compiler.specs.Going.{IsGoing};
 
-use crate::assembling::assemble;
-use crate::judging::{BodyStop, ValidBody, judge_body};
-use crate::uncompiled::{first_uncompiled, first_uncompiled_node};
+use crate::code::{BodyStop, judge_code, stop_of};
+use crate::draft::{begin, finish};
+use crate::locals::declare_locals;
+use body_validator::Check;
+use frame_layout::Layout;
 use index_spaces::Context;
+use leb_feed::Fields;
 use rv_isa::Code;
 use std::alloc::Global;
-use wasm_defs::{Kind, Refusal, earlier};
+use wasm_defs::FuncType;
 
-/// The fault of what isn't compiled, at its opcode.
-fn unsupported(at: u64) -> Refusal
-    ensures { result ≡ unsupported_at at }
+/// Compiles the code of a body whose last byte has the offset `last`, of a function of that type with so many declared locals.
+fn compile_code(
+    alloc: Global,
+    function: &FuncType,
+    locals: u32,
+    fields: &mut Fields<'_>,
+    mut check: Check<'_>,
+    last: u64,
+) -> Result<Code, BodyStop>
+    requires small { TypeIsSmall function.now }
+    requires locals { locals ≤ max_locals }
+    requires bytes { AreBytes fields.old.rest }
+    requires few { length fields.old.rest ≤ max_body }
+    requires begun { check.checker ≡ start_checker check.context }
+    requires unlabelled { check.context.labels ≡ [] }
+    requires results { length check.context.results ≡ length function.now.results }
+    ensures { (c : ContextGiven) (code : SpelledGiven) (g : IsGoing c last fields.old check.entry code) → g.tokens ≡ [] → length c.results ≡ length function.now.results → Makes c code (record { params = length function.now.params; locals = locals; greatest = 0 }) (length function.now.results) result }
 {
-    Refusal {
-        offset: at,
-        kind: Kind::Unsupported,
+    let layout = Layout {
+        params: function.params.as_slice().len() as u32,
+        locals,
+        greatest: 0,
+    };
+    let results = function.results.as_slice().len() as u32;
+    let bytes = fields.rest().len();
+    let Ok(mut draft) = begin(alloc, layout, results, bytes) else {
+        return Err(BodyStop::NoMemory);
+    };
+    match judge_code(alloc, fields, &mut check, &mut draft, last) {
+        Ok(()) => {}
+        Err(stop) => return Err(stop),
     }
-}
-
-/// Why a body that has that fault is refused: an opcode that isn't compiled may stand before it.
-fn first_fault(alloc: Global, bytes: &[u8], offset: u64, fault: Refusal) -> BodyStop
-    requires few { length bytes.now ≤ max_body }
-    requires offset { offset + length bytes.now + 1 < 2 ^ 64 }
-    ensures { Refuses fault (first_outside is_compiled_opcode (body_read offset bytes.now).code.opcodes) result }
-{
-    match first_uncompiled(alloc, bytes, offset) {
-        Ok(Some(at)) => BodyStop::Refused(earlier(fault, unsupported(at))),
-        Ok(None) => BodyStop::Refused(fault),
-        Err(_) => BodyStop::NoMemory,
-    }
-}
-
-/// Compiles a valid body of a function with so many results, if all its nodes are compiled so far.
-fn compile_valid(alloc: Global, results: u32, body: &ValidBody) -> Result<Code, BodyStop>
-    requires { first_not_straight (placed body.now.nodes.nodes) ≡ None → HasWords (node_tokens body.now.nodes.nodes) body.now.judged }
-    ensures { Makes results body.now result }
-{
-    let nodes = body.nodes.nodes();
-    if let Some(at) = first_uncompiled_node(nodes) {
-        return Err(BodyStop::Refused(unsupported(at)));
-    }
-    match assemble(alloc, results, nodes, &body.judged) {
+    let greatest = check.end().greatest;
+    match finish(alloc, draft, greatest as u32, results) {
         Ok(code) => Ok(code),
         Err(_) => Err(BodyStop::NoMemory),
     }
@@ -78,13 +81,17 @@ pub fn compile(
     requires fits { offset + length bytes.now < 2 ^ 63 }
     ensures { Compiles (context_in context.now) index (body_read offset bytes.now) result }
 {
-    match judge_body(alloc, context, index, bytes, offset) {
-        Ok(body) => {
+    let len = bytes.len() as u64;
+    let last = offset + len.saturating_sub(1);
+    let mut fields = Fields::new(bytes, offset, offset + len + 1);
+    let Ok(mut check) = Check::new(alloc, context, index) else {
+        return Err(BodyStop::NoMemory);
+    };
+    match declare_locals(&mut fields, &mut check) {
+        Ok(locals) => {
             let function = context.type_of_function(index);
-            let results = function.results.as_slice().len() as u32;
-            compile_valid(alloc, results, &body)
+            compile_code(alloc, function, locals, &mut fields, check, last)
         }
-        Err(BodyStop::Refused(fault)) => Err(first_fault(alloc, bytes, offset, fault)),
-        Err(BodyStop::NoMemory) => Err(BodyStop::NoMemory),
+        Err(stop) => Err(stop_of(stop, last)),
     }
 }

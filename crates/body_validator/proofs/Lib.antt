@@ -12,6 +12,3 @@ pub mod Taking
 pub mod Answering
 pub mod TreeLaws
 pub mod Groups
-pub mod NodeLaws
-pub mod StepLaws
-pub mod Judgements

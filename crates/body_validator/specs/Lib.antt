@@ -4,4 +4,3 @@ pub mod Stacks
 pub mod Exchange
 pub mod Scopes
 pub mod Checks
-pub mod Judging

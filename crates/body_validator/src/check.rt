@@ -190,17 +190,11 @@ impl<'a> Check<'a> {
         !self.stack.is_open()
     }
 
-    /// How many results the body's function has.
-    pub(crate) fn result_count(&self) -> usize
-        ensures { result ≡ length self.now.context.results }
-    {
-        self.scope.results.len()
-    }
-
     /// Ends the check of a body whose last `end` was taken.
     pub fn end(self) -> Shape
         requires { self.checker.frames ≡ [] }
         ensures counts { IsCounted result self.entry }
+        ensures measured { result.greatest ≡ self.entry.checker.greatest }
         ensures greatest { (tokens : List TokenGiven) (tree : Seq) → IsReached tokens self.entry → Tree tokens tree
             → IsBody self.entry.context tree → result.greatest ≡ greatest (places_of self.entry.context tree) }
     {

@@ -1,11 +1,9 @@
-//! Validation of function bodies, token by token in one pass, or of a whole body that was read (WebAssembly Core 1.0, 3.3, and
-//! the algorithm of appendix 7.3).
+//! Validation of function bodies, token by token in one pass (WebAssembly Core 1.0, 3.3, and the algorithm of appendix 7.3).
 #![tactic(auto)]
 
 mod accesses;
 mod check;
 mod instruction_types;
-mod judging;
 mod laws;
 mod operands;
 mod scope;
@@ -15,7 +13,6 @@ mod steps;
 mod tests;
 
 pub use check::{Check, Shape, Step, TokenStop};
-pub use judging::{Judged, judge};
 pub use laws::{
     bodies_are_accepted, checker_is_exact, fronts_are_viable, heights_are_measured,
     places_are_kept, trees_are_one, types_are_compared,

@@ -1,13 +1,13 @@
 ghost use Rattle.std.specs.Prelude.{◌≡◌, pos};
 
-use crate::{Check, Judged, Shape, Step, TokenStop, judge};
+use crate::{Check, Shape, TokenStop};
 use index_spaces::{Context, ContextBuilder};
 use std::alloc::{AllocError, Global};
 use std::process::Abort;
 use std::test::Fail;
 use wasm_defs::{
-    BinaryOp, BlockType, Constant, FuncType, Item, Kind, Labels, Limits, LoadOp, LocalGroup,
-    MemArg, Node, Nodes, Operation, Plain, Refusal, StoreOp, Token, ValType, ValTypes,
+    BinaryOp, BlockType, Constant, FuncType, Item, Kind, Labels, Limits, LoadOp, MemArg, Operation,
+    Plain, Refusal, StoreOp, Token, ValType, ValTypes,
 };
 
 const LIMITS: Limits = Limits {
@@ -315,109 +315,4 @@ fn locals_have_a_limit(rt: HostRuntime) -> Result<(), Fail> {
 fn limit_at(offset: u64) -> Result<(), TokenStop> {
     let kind = Kind::Limit;
     Err(TokenStop::Refused(Refusal { offset, kind }))
-}
-
-fn node(offset: u64, token: Token, closed_by: Option<usize>) -> Node
-    ensures { result ≡ record { offset = offset; token = token; closed_by = closed_by } }
-{
-    Node {
-        offset,
-        token,
-        closed_by,
-    }
-}
-
-/// A body with three locals, whose `if` has a result and an `else`, which doesn't come to its end.
-fn whole_if(alloc: Global) -> Result<Nodes, AllocError> {
-    let group = LocalGroup {
-        count: 3,
-        ty: ValType::I64,
-    };
-    let groups = Vec::from_slice(alloc, &[group])?;
-    let nodes = Vec::from_array(
-        alloc,
-        [
-            node(10, first_local(), None),
-            node(12, Token::If(BlockType::Value(ValType::I32)), Some(3)),
-            node(14, number(ValType::I32), None),
-            node(16, Token::Else, Some(5)),
-            node(17, plain(Plain::Unreachable), None),
-            node(18, Token::End, None),
-            node(19, Token::End, None),
-        ],
-    )?;
-    Ok(Nodes::new(groups, nodes, None))
-}
-
-/// A body whose `if` has a result, and no `else`.
-fn half_if(alloc: Global) -> Result<Nodes, AllocError> {
-    let nodes = Vec::from_array(
-        alloc,
-        [
-            node(10, first_local(), None),
-            node(12, Token::If(BlockType::Value(ValType::I32)), Some(3)),
-            node(14, number(ValType::I32), None),
-            node(16, Token::End, None),
-            node(17, Token::End, None),
-        ],
-    )?;
-    Ok(Nodes::new(Vec::new(alloc), nodes, None))
-}
-
-/// The body is judged as one of function 0, which the module has.
-fn judged(alloc: Global, context: &Context, body: &Nodes) -> Option<Result<Judged, TokenStop>> {
-    if context.has_type_of_function(0) {
-        Some(judge(alloc, context, 0, body))
-    } else {
-        None
-    }
-}
-
-fn at(live: bool, height_before: usize, height_after: usize) -> Step {
-    Step {
-        live,
-        height_before,
-        height_after,
-    }
-}
-
-#[test]
-fn whole_bodies_are_judged(rt: HostRuntime) -> Result<(), Fail> {
-    let m = small_module(rt.alloc())?;
-    let Some(Ok(valid)) = judged(rt.alloc(), &m, &whole_if(rt.alloc())?) else {
-        assert!(rt; false);
-        return Ok(());
-    };
-    let shape = Shape {
-        greatest: 1,
-        params: 1,
-        locals: 3,
-    };
-    assert_eq!(rt; valid.shape(), shape);
-    let steps = [
-        at(true, 0, 1),
-        at(true, 1, 0),
-        at(true, 0, 1),
-        at(true, 1, 0),
-        at(true, 0, 0),
-        at(false, 0, 1),
-        at(true, 1, 1),
-    ];
-    assert_eq!(rt; valid.steps(), steps.as_slice());
-    Ok(())
-}
-
-#[test]
-fn bodies_are_refused_at_their_first_fault(rt: HostRuntime) -> Result<(), Fail> {
-    let m = small_module(rt.alloc())?;
-    let Some(Err(stop)) = judged(rt.alloc(), &m, &half_if(rt.alloc())?) else {
-        assert!(rt; false);
-        return Ok(());
-    };
-    let refusal = Refusal {
-        offset: 16,
-        kind: Kind::Invalid,
-    };
-    assert_eq!(rt; stop, TokenStop::Refused(refusal));
-    Ok(())
 }

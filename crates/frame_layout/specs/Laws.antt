@@ -1,5 +1,5 @@
 -- What the machine does where the words of a template stand: how many steps it makes, and which slots and registers change.
-use Rattle.std.specs.Prelude.{◌≡◌, ℕ, ◌+◌, ◌-◌, ◌*◌, ◌^◌, ◌<◌, ◌≤◌, ◌==◌, ◌||◌, ◌%◌, Bool, false, List, length, Option, if◌then◌else◌}
+use Rattle.std.specs.Prelude.{◌≡◌, ℕ, zero, suc, ◌+◌, ◌-◌, ◌*◌, ◌^◌, ◌<◌, ◌≤◌, ◌==◌, ◌||◌, ◌%◌, Bool, false, List, length, Option}
 use Rattle.rv_isa.specs.declared.operations.Op.{Op}
 use Rattle.rv_isa.specs.declared.stepping.Region.TheVariants.{Stack}
 use Rattle.rv_isa.specs.Steps.{reg, Bytes, State, le_bytes, value_at, put, region_base, exec, Called}
@@ -115,18 +115,23 @@ ExhaustionLaw =
     (code : List (Option Op)) (s : State) (i base : ℕ) (l : Layout) → HasAt code i (prologue l) → s.pc ≡ place i → IsFrame base s
     → base ≤ max_slots → need l < 2 ^ 24 → max_slots < base + need l → TrapsAt code 10 10 8 s
 
--- the result, if there is one, goes to the frame's first slot, and the machine to the place to return to
+-- so many results go from their operands' slots to the frame's first ones, from the one of an index on
+abbrev pub with_results : Layout → (base results index : ℕ) → Bytes → Bytes
+with_results l base zero index b = b
+with_results l base (suc n) index b = with_results l base n (index + 1) (with_slot b (base + index) (slot_at b (base + operand l index)))
+
+-- the results go to the frame's first slots, and the machine to the place to return to
 pub record Leaves (code : List (Option Op)) (l : Layout) (results base there : ℕ) (s : State) : Type 0 where
   pub end : State
   pub reaches : Reaches code (length (epilogue l results)) s end
   pub pc_is : end.pc ≡ there
-  pub bytes_are : end.bytes ≡ (if results == 0 then s.bytes else with_slot s.bytes base (slot_at s.bytes (base + operand l 0)))
+  pub bytes_are : end.bytes ≡ with_results l base results 0 s.bytes
   pub others : (r : ℕ) → is_scratch r ≡ false → (r == ra) ≡ false → reg end.registers r ≡ reg s.registers r
 
 abbrev pub EpilogueLaw : Type 0
 EpilogueLaw =
     (code : List (Option Op)) (s : State) (i base results there : ℕ) (l : Layout) → HasAt code i (epilogue l results) → s.pc ≡ place i
-    → IsFrame base s → base + need l ≤ max_slots → results ≤ l.greatest → results ≤ 1
+    → IsFrame base s → base + need l ≤ max_slots → results ≤ l.greatest
     → slot_at s.bytes (base + link l) ≡ there → there < 2 ^ 64 → there % 4 ≡ 0 → Leaves code l results base there s
 
 -- the function that was called from outside has ended

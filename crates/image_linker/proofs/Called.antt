@@ -15,10 +15,10 @@ use Rattle.image_format.specs.declared.image.Image.{Image}
 use Rattle.image_format.specs.declared.image.Segment.{Segment}
 use Rattle.image_format.specs.Environment.{stack_size, word_at, with_words, row_words, segments_of, loaded}
 use Rattle.image_format.specs.ImageRun.{Running, begin}
-use Rattle.simulation.specs.Straight.{IsCalled}
-use Rattle.simulation.proofs.Arguments.{are_of_types}
-use Rattle.simulation.proofs.Rules.{types_length}
-use Rattle.simulation.proofs.Words.{word_small}
+use Rattle.simulation.specs.Laws.{IsInvoked}
+use Rattle.simulation.proofs.Calls.Arguments.{are_of_types}
+use Rattle.sim_frames.proofs.Rules.{types_length}
+use Rattle.sim_frames.proofs.Words.{word_small}
 use Rattle.image_linker.proofs.Arguments.{with_words_length, with_words_at}
 use Rattle.image_linker.proofs.Regions.{AreWords, word_bytes_length, row_words_length, words_are_read}
 
@@ -32,10 +32,11 @@ pub record IsSmall (i : Image) : Type 0 where
   pub words : AreWords i.globals
 
 -- a store as the image begins with: a memory of zeros, and the values that the globals' words hold
-pub record IsFirst (i : Image) (store : Store) : Type 0 where
+pub record IsFirst (i : Image) (replies : List Reply) (store : Store) : Type 0 where
   pub memory : store.memory ≡ replicate (page * i.pages) 0
   pub globals : words_of store.globals ≡ i.globals
   pub calls : store.calls ≡ []
+  pub replies_are : store.replies ≡ replies
 
 -- the words of arguments in the first slots of a stack
 module _ (stack : List ℕ) (size : length stack ≡ stack_size) (arguments : List Value) (few : length arguments ≤ max_params) (ranges : (k : ℕ) (v : Value) → slice_get arguments k ≡ Some v → word_of v < 2 ^ 64) where
@@ -63,7 +64,7 @@ module _ (i : Image) (small : IsSmall i) where
   first_pages : take (page * i.pages) (all_over (replicate (page * i.cap) 0) (segments_of i.segments)) ≡ replicate (page * i.pages) 0
   first_pages = ap (λ (l : List ℕ). take (page * i.pages) l) memory_is ∙ take-replicate (page * i.pages) (page * i.cap) 0 (omega (arith, small.pages))
 
-  module _ (f : Func) (at : ℕ) (store : Store) (arguments : List Value) (replies : List Reply) (are : are_of f.ty.params arguments ≡ true) (few : length f.ty.params ≤ max_params) (first : IsFirst i store) where
+  module _ (f : Func) (at : ℕ) (store : Store) (arguments : List Value) (replies : List Reply) (are : are_of f.ty.params arguments ≡ true) (few : length f.ty.params ≤ max_params) (first : IsFirst i replies store) where
     abbrev running : Running
     running = begin i replies (record { offset = 4 * at; arguments = arguments }, f.ty.results) []
 
@@ -80,7 +81,7 @@ module _ (i : Image) (small : IsSmall i) where
     size : length {A = ℕ} (replicate stack_size 0) ≡ stack_size
     size = length-replicate {A = ℕ} stack_size 0
 
-    pub is_called : IsCalled f at store arguments (begin i replies (record { offset = 4 * at; arguments = arguments }, f.ty.results) [])
+    pub is_called : IsInvoked f.ty at store arguments (begin i replies (record { offset = 4 * at; arguments = arguments }, f.ty.results) [])
     is_called =
         let stack = with_words (replicate stack_size 0) 0 (words_of arguments) in
         let whole = stack_is (replicate stack_size 0) size arguments few_arguments ranges in
@@ -93,6 +94,8 @@ module _ (i : Image) (small : IsSmall i) where
           results = refl;
           no_more = refl;
           calls = sym first.calls;
+          replies = sym first.replies_are;
           memory = first_pages ∙ sym first.memory;
           globals = words_are_read i.globals small.words ∙ sym first.globals;
+          size = ap (λ (l : List ℕ). length l) first.memory ∙ length-replicate {A = ℕ} (page * i.pages) 0;
         }

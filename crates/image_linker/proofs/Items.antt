@@ -16,7 +16,7 @@ use Rattle.wasm_laws.specs.Kept.{FitsType, ConstantsFit}
 use Rattle.wasm_laws.specs.Plain.{ArePlain}
 use Rattle.wasm_laws.proofs.Ranges.{constant_fits, long_constant_fits}
 use Rattle.index_spaces.specs.Entries.{initials_of, initial_values}
-use Rattle.simulation.proofs.Words.{word_small}
+use Rattle.sim_frames.proofs.Words.{word_small}
 use Rattle.image_linker.specs.ImageOf.{stubs_from}
 use Rattle.image_linker.specs.Linking.{NumbersFit}
 use Rattle.image_linker.proofs.Regions.{AreWords}

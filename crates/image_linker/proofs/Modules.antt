@@ -1,38 +1,51 @@
 -- A module of what is compiled so far behaves as its image does.
-use Rattle.std.proofs.Common.{◌≡◌, ℕ, ◌+◌, ◌*◌, ◌^◌, ◌<◌, ◌≤◌, Bool, true, List, [], ◌++◌, map, length, replicate, Option, Some, None, refl, sym, ap, ◌∙◌, subst, arith}
+use Rattle.std.proofs.Common.{◌≡◌, inl, ℕ, suc, ◌∷◌, ◌+◌, ◌*◌, ◌^◌, ◌<◌, ◌≤◌, Bool, true, List, [], ◌++◌, map, length, replicate, Option, Some, None, refl, sym, ap, ◌∙◌, subst, arith}
 use Rattle.std.specs.Prelude.{slice_get, slice_index, option_map}
 use Rattle.std.proofs.lemmas.Bool.{cond-true, eq-eqb}
 use Rattle.std.proofs.lemmas.List.{length-map, length-replicate}
-use Rattle.std.proofs.lemmas.Option.{slice_get-map}
+use Rattle.std.proofs.lemmas.Option.{slice_get-map, slice_get_within}
 use Rattle.rv_isa.specs.Words.{word_of}
 use Rattle.rv_isa.specs.Steps.{code_of}
 use Rattle.wasm_defs.specs.declared.types.FuncType.{FuncType}
 use Rattle.wasm_defs.specs.Memory.{page}
-use Rattle.wasm_defs.specs.Context.{context_of, import_count, type_of_function}
+use Rattle.wasm_defs.specs.Context.{context_of, import_count, type_or_empty, type_of_function, functions_of as context_functions}
+use Rattle.wasm_defs.specs.Typing.{function_type}
+use Rattle.wasm_defs.specs.declared.item.Item.{Item}
+use Rattle.wasm_defs.specs.Outside.{Body}
+use Rattle.wasm_defs.specs.Trees.{Seq}
+use Rattle.rv_isa.specs.declared.operations.Op.{Op}
+use Rattle.rv_isa.specs.Runs.{HasAt}
 use Rattle.wasm_defs.specs.Faults.{context_at, Module}
 use Rattle.wasm_defs.specs.Values.{Value, word_of as value_word}
 use Rattle.wasm_defs.specs.Host.{Reply, are_of}
-use Rattle.wasm_defs.specs.Configurations.{Func, Function, Declared, Invocation}
+use Rattle.wasm_defs.specs.Configurations.{Func, Function, Imported, Declared, Invocation, type_of}
 use Rattle.wasm_defs.specs.Reductions.{run}
 use Rattle.wasm_defs.specs.ModuleRun.{first_state, module_run}
 use Rattle.wasm_defs.specs.ModuleRun as module_run
-use Rattle.wasm_defs.specs.Instances.{Written, rows_of, pages_of, all_over, is_linkable, instance_of, store_of, start_of, values_of, function_of, declared_functions, functions_of}
+use Rattle.wasm_defs.specs.Instances.{Written, rows_of, pages_of, all_over, is_linkable, instance_of, store_of, start_of, values_of, function_of, declared_from, declared_functions, functions_of}
 use Rattle.wasm_laws.specs.Plain.{HasNoMore}
 use Rattle.wasm_laws.proofs.Plain.{plain_has_no_more, plain_is_linkable}
 use Rattle.frame_layout.specs.Templates.{exit_stub}
 use Rattle.image_format.specs.ImageRun.{Running, begin, first_running, steps, image_run}
 use Rattle.image_format.specs.ImageRun as image_run
 use Rattle.simulation.specs.SameRuns.{SameRuns}
-use Rattle.simulation.specs.Straight.{IsStraightFunction}
-use Rattle.simulation.proofs.Functions.{straight_functions_run_alike}
-use Rattle.image_linker.specs.ImageOf.{around, layout_of, distances, stub_places, places_from, front_size, places_of_functions, offset_of, row_of, table_of, segment_of, placed_segments, start_offset, text_of, image_of}
+use Rattle.sim_frames.specs.Functions.{Compiled, Known}
+use Rattle.simulation.specs.Laws.{IsInvoked, ImportsStand}
+use Rattle.simulation.proofs.Alike.{functions_run_alike}
+use Rattle.image_linker.specs.ImageOf.{around, distances, code_of_function, stub_places, places_from, front_size, places_of_functions, offset_of, row_of, table_of, segment_of, placed_segments, start_offset, text_of, image_of}
 use Rattle.image_linker.specs.Laws.{ImagesBehaveAlike}
 use Rattle.image_linker.specs.Same.{Same}
-use Rattle.image_linker.proofs.StraightModules.{IsStraightModule}
+use Rattle.image_linker.proofs.StraightModules.{AreStraightBodies, IsStraightModule}
 use Rattle.image_linker.proofs.StraightFacts.{module_is_straight}
 use Rattle.image_linker.proofs.Items.{values_are_words}
 use Rattle.image_linker.proofs.Placed.{Placed, code_is_short, text_length, exit_stands, function_stands}
 use Rattle.image_linker.proofs.Called.{IsSmall, IsFirst, is_called}
+
+-- words that stand in a text lie in it
+has_inside : (code : List (Option Op)) (i : ℕ) (ops : List Op) → 0 < length ops → HasAt code i ops → i + length ops ≤ length code
+has_inside code i [] some has = absurd (omega arith)
+has_inside code i (op ∷ []) some has = omega (arith, slice_get_within code i (Some op) has.0)
+has_inside code i (op ∷ next ∷ ops) some has = omega (arith, has_inside code (suc i) (next ∷ ops) (omega arith) has.1)
 
 module _ (m : Module) (good : IsStraightModule m) (short : length (text_of m) ≤ 2 ^ 26) where
   none : HasNoMore m.items
@@ -57,11 +70,12 @@ module _ (m : Module) (good : IsStraightModule m) (short : length (text_of m) �
     words = values_are_words m.items good.constants;
   }
 
-  first : (replies : List Reply) → IsFirst (image_of m) (store_of m replies)
+  first : (replies : List Reply) → IsFirst (image_of m) replies (store_of m replies)
   first replies = record {
     memory = ap (λ (ss : List (Written ℕ)). all_over (replicate (page * pages_of m.items) 0) ss) none.segments;
     globals = refl;
     calls = refl;
+    replies_are = refl;
   }
 
   -- ---- a function that is exported
@@ -88,19 +102,10 @@ module _ (m : Module) (good : IsStraightModule m) (short : length (text_of m) �
         let index : import_count m.items + f ≡ f = omega (arith, none.imports) in
         ap (type_of_function (context_of m.items)) index
 
-    straight : IsStraightFunction (context_at m.items f there.body) func (layout_of m.items f there.body there.tree)
-    straight = record {
-      straight = there.good.straight;
-      typed = there.good.typed;
-      locals_are = refl;
-      results_are = refl;
-      one_result = there.good.one_result;
-      greatest_is = refl;
-      params = refl;
-      locals = refl;
-      greatest = refl;
-      fits = there.good.fits;
-    }
+    -- its place
+    place_at : there.begin ≡ slice_index (places_of_functions m) f
+    place_at =
+        sym (ap (λ (n : ℕ). slice_index (stub_places (length exit_stub) n ++ places_from m.items (front_size m.items) 0 m.bodies m.trees) f) none.imports ∙ there.place_is)
 
     -- no start function runs before
     first_is : (replies : List Reply) (arguments : List Value)
@@ -112,17 +117,86 @@ module _ (m : Module) (good : IsStraightModule m) (short : length (text_of m) �
         ∙ ap (λ (n : ℕ). begin (image_of m) replies (record { offset = n; arguments = arguments }, (type_of_function (context_of m.items) f).results) []) place_is
         ∙ ap (λ (ty : FuncType). begin (image_of m) replies (record { offset = 4 * there.begin; arguments = arguments }, ty.results) []) (sym type_is)
 
+  -- ---- all functions
+
+  abbrev text : List (Option Op)
+  text = code_of (map word_of (text_of m))
+
+  abbrev places : ℕ → ℕ
+  places i = slice_index (places_of_functions m) i
+
+  declared_length : (items : List Item) (k : ℕ) (bodies : List Body) (trees : List Seq) → AreStraightBodies items k bodies trees → length (declared_from items k bodies trees) ≡ length bodies
+  declared_length items k [] [] h = refl
+  declared_length items k [] (tree ∷ trees) h = absurd h
+  declared_length items k (b ∷ bodies) [] h = absurd h
+  declared_length items k (b ∷ bodies) (tree ∷ trees) h = ap suc (declared_length items (suc k) bodies trees h.1)
+
+  within_bodies : (i : ℕ) (h : Function) → slice_get (functions_of m) i ≡ Some h → i < length m.bodies
+  within_bodies i h is =
+      let is' : slice_get (map Declared (declared_functions m)) i ≡ Some h = ap (λ (imported : List Function). slice_get (imported ++ map Declared (declared_functions m)) i) (sym (none.imported (context_of m.items) 0)) ∙ is in
+      omega (arith, slice_get_within (map Declared (declared_functions m)) i h is', length-map (declared_functions m) Declared, declared_length m.items 0 m.bodies m.trees good.bodies)
+
+  typed_within : (g : ℕ) (t : FuncType) → function_type (context_of m.items) g ≡ Some t → g < length m.bodies
+  typed_within g t e = by_index (slice_get (context_functions m.items) g) refl
+    where
+      by_index : (o : Option ℕ) → slice_get (context_functions m.items) g ≡ o → g < length m.bodies
+      by_index None is = let wrong : None ≡ Some t = rw is at e in absurd cc
+      by_index (Some index) is = omega (arith, slice_get_within (context_functions m.items) g index is, good.functions)
+
+  functions_typed : (g : ℕ) (t : FuncType) → function_type (context_of m.items) g ≡ Some t → (h : Function) × (slice_get (functions_of m) g ≡ Some h) × (type_of h ≡ t)
+  functions_typed g t e =
+      let within = typed_within g t e in
+      (Declared (func g within), declared g within, type_is g within ∙ ap type_or_empty e)
+
+  compiled : (f : ℕ) (within : f < length m.bodies) → Compiled text (instance_of m) places (func f within)
+  compiled f within =
+      let x = there f within in
+      record {
+        begin = x.begin;
+        around = around m.items f x.body x.tree (distances (places_of_functions m) x.begin);
+        context = context_at m.items f x.body;
+        covered = x.good.covered;
+        typed = x.good.typed;
+        no_labels = refl;
+        types_are = refl;
+        locals_are = refl;
+        results_are = refl;
+        one_result = x.good.one_result;
+        greatest_is = refl;
+        params = refl;
+        locals = refl;
+        highest = refl;
+        fits = x.good.fits;
+        has = x.has;
+        inside = has_inside text x.begin (code_of_function m.items (places_of_functions m) x.begin f x.body x.tree) (omega arith) x.has;
+        distances = λ here g. refl;
+        functions = functions_typed;
+      }
+
+  known : (i : ℕ) (h : Function) → slice_get (functions_of m) i ≡ Some h → Known text (instance_of m) places i h
+  unfolding compiled
+  known i h is =
+      let within = within_bodies i h is in
+      let there_is = declared i within in
+      record { func = func i within; is = cc; compiled = compiled i within; begin_is = place_at i within }
+
+  -- none is imported
+  no_imports : ImportsStand (instance_of m) (image_of m)
+  no_imports index number ty is = let x = (known index (Imported number ty) is).is in absurd cc
+
+  module _ (f : ℕ) (within : f < length m.bodies) where
     pub function_runs_alike : (arguments : List Value) (replies : List Reply) → are_of (type_of_function (context_of m.items) f).params arguments ≡ true
         → SameRuns (module_run m f arguments replies) (image_run (image_of m) (offset_of m f) (type_of_function (context_of m.items) f).results arguments replies)
     function_runs_alike arguments replies are =
+        let x = there f within in
+        let g = func f within in
         let invoked : Invocation = record { function = f; arguments = arguments } in
         let store = store_of m replies in
-        let typed : are_of func.ty.params arguments ≡ true = ap (λ (ty : FuncType). are_of ty.params arguments) type_is ∙ are in
-        let called = is_called (image_of m) small func there.begin store arguments replies typed there.good.few_params (first replies) in
-        let w = around m.items f there.body there.tree (distances (places_of_functions m) there.begin) in
-        let r = begin (image_of m) replies (record { offset = 4 * there.begin; arguments = arguments }, func.ty.results) [] in
-        let same = straight_functions_run_alike (instance_of m) (image_of m) func (context_at m.items f there.body) w f there.begin store arguments r declared straight called (exit_stands m good) there.has (code_is_short m short) in
-        subst (λ (q : Running). SameRuns (module_run m f arguments replies) (λ n. image_run.run_of (steps (image_of m) n q))) (sym (first_is replies arguments)) (
+        let typed : are_of g.ty.params arguments ≡ true = ap (λ (ty : FuncType). are_of ty.params arguments) (type_is f within) ∙ are in
+        let called = is_called (image_of m) small g x.begin store arguments replies typed x.good.few_params (first replies) in
+        let r = begin (image_of m) replies (record { offset = 4 * x.begin; arguments = arguments }, g.ty.results) [] in
+        let same = functions_run_alike (instance_of m) (image_of m) places (Declared g) f store arguments r (λ i h is. inl (known i h is)) no_imports (declared f within) (subst (λ (n : ℕ). IsInvoked g.ty n store arguments r) (place_at f within) called) (exit_stands m good) (code_is_short m short) in
+        subst (λ (q : Running). SameRuns (module_run m f arguments replies) (λ n. image_run.run_of (steps (image_of m) n q))) (sym (first_is f within replies arguments)) (
         subst (λ (start : Option ℕ). SameRuns (λ k. module_run.run_of (run (instance_of m) k (first_state start store invoked))) (λ n. image_run.run_of (steps (image_of m) n r))) (sym none.start) same)
 
 pub straight_modules_behave_alike : (m : Module) → IsStraightModule m → length (text_of m) ≤ 2 ^ 26 → Same m (image_of m)

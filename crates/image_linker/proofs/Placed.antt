@@ -15,8 +15,9 @@ use Rattle.wasm_defs.specs.Faults.{context_at, Module}
 use Rattle.wasm_defs.specs.Instances.{function_of, declared_from}
 use Rattle.wasm_laws.proofs.Plain.{plain_has_no_more}
 use Rattle.frame_layout.specs.Templates.{exit_stub}
-use Rattle.simulation.proofs.Texts.{has_at, has_first, has_second}
-use Rattle.simulation.proofs.Lengths.{function_length}
+use Rattle.frame_layout.proofs.Standing.{has_first, has_rest as has_second}
+use Rattle.sim_frames.proofs.Sitting.{has_at}
+use Rattle.sim_frames.proofs.Sizes.{function_length}
 use Rattle.simulation.proofs.MacroRanges.{both_in_range}
 use Rattle.simulation.proofs.Ranges.{exit_in_range, function_in_range}
 use Rattle.image_linker.specs.ImageOf.{around, no_distance, distances, size_of, stub_size, front_size, places_from, code_of_function, code_from, stubs_from, places_of_functions, text_of}
@@ -39,8 +40,8 @@ pub record Placed (code : List (Option Op)) (items : List Item) (places : List �
 -- a function's words are as many, whatever the distances
 function_size_is : (items : List Item) (places : List ℕ) (here k : ℕ) (b : Body) (tree : Seq) → IsStraightBody items k b tree → length (code_of_function items places here k b tree) ≡ size_of items k b tree
 function_size_is items places here k b tree good =
-    function_length (around items k b tree (distances places here)) no_distance (context_at items k b) tree good.straight
-    ∙ sym (function_length (around items k b tree no_distance) no_distance (context_at items k b) tree good.straight)
+    function_length (around items k b tree (distances places here)) no_distance (context_at items k b) tree
+    ∙ sym (function_length (around items k b tree no_distance) no_distance (context_at items k b) tree)
 
 module _ (code : List (Option Op)) (items : List Item) (places : List ℕ) where
   first_placed : (here k number : ℕ) (b : Body) (bodies : List Body) (tree : Seq) (trees : List Seq) → k + 0 ≡ number → IsStraightBody items k b tree
@@ -70,7 +71,7 @@ code_in_range items places here k [] (tree ∷ trees) good = absurd good
 code_in_range items places here k (b ∷ bodies) [] good = absurd good
 code_in_range items places here k (b ∷ bodies) (tree ∷ trees) good =
     both_in_range (code_of_function items places here k b tree) (code_from items places (here + size_of items k b tree) (suc k) bodies trees)
-    (function_in_range (around items k b tree (distances places here)) (context_at items k b) tree good.0.straight)
+    (function_in_range (around items k b tree (distances places here)) (context_of items) (context_at items k b) tree good.0.covered)
     (code_in_range items places (here + size_of items k b tree) (suc k) bodies trees good.1)
 
 -- ---- the text

@@ -28,12 +28,13 @@ use Rattle.wasm_laws.proofs.Ranges.{constant_fits, long_constant_fits, tree_is_i
 use Rattle.wasm_laws.proofs.Spaces.{spaces_are_small}
 use Rattle.wasm_laws.proofs.Straight.{tree_is_straight}
 use Rattle.wasm_laws.proofs.Typed.{functions_of-counts}
-use Rattle.simulation.specs.Straight.{IsStraightStep, IsStraight}
+use Rattle.sim_frames.specs.Covered.{IsCoveredStep, IsCovered}
+use Rattle.wasm_defs.specs.Typing.{Context}
 use Rattle.image_linker.proofs.StraightModules.{IsStraightBody, AreStraightBodies, IsStraightModule}
 
 -- ---- bodies
 
-straight_step : (p : Plain) → is_straight_plain p ≡ true → IsInRange p → IsStraightStep p
+straight_step : (p : Plain) → is_straight_plain p ≡ true → IsInRange p → IsCoveredStep p
 straight_step Nop e range = tt
 straight_step Discard e range = tt
 straight_step Select e range = tt
@@ -45,12 +46,12 @@ straight_step (Const I64 n) e range = long_constant_fits n range
 straight_step (Operate op) e range = tt
 straight_step p e range = absurd (false≢true e)
 
-straight_tree : (tree : Seq) → is_straight tree ≡ true → TreeIsInRange tree → IsStraight tree
-straight_tree Nothing e range = tt
-straight_tree (Simple p rest) e range =
+straight_tree : (c : Context) (tree : Seq) → is_straight tree ≡ true → TreeIsInRange tree → IsCovered c tree
+straight_tree c Nothing e range = tt
+straight_tree c (Simple p rest) e range =
     let parts = and_parts (is_straight_plain p) (is_straight rest) e in
-    (straight_step p parts.0 range.0, straight_tree rest parts.1 range.1)
-straight_tree tree e range = absurd (false≢true e)
+    (straight_step p parts.0 range.0, straight_tree c rest parts.1 range.1)
+straight_tree c tree e range = absurd (false≢true e)
 
 module _ (items : List Item) (types : TypesAreSmall (context_of items).types) where
   straight_body : (k : ℕ) (b : Body) (tree : Seq) → AreBytes b.bytes → BodyIsSmall b → IsValidCode (context_at items k b) (read_of b).code tree → IsStraightBody items k b tree
@@ -62,7 +63,7 @@ module _ (items : List Item) (types : TypesAreSmall (context_of items).types) wh
       let few = tokens_are_few b.first b.bytes in
       let locals = small.locals in
       record {
-        straight = straight_tree tree is range;
+        covered = straight_tree (context_of items) tree is range;
         typed = valid.typed;
         few_params = ty.params;
         one_result = ty.results;
@@ -108,5 +109,6 @@ module _ (bytes : List ℕ) (m : Module) (fits : AreBytes bytes) (is : IsModule 
     bodies =
         straight_bodies m.items (subst (λ (items : List Item). TypesAreSmall (context_of items).types) (sym is.items) (types_are_small bytes)) 0 m.bodies m.trees
         (subst HaveBytes (sym is.bodies) (bodies_have_bytes bytes fits)) (subst BodiesAreSmall (sym is.bodies) (bodies_are_small bytes)) (bodies_are_valid bytes m is);
+    functions = functions_match;
     exports = exported;
   }

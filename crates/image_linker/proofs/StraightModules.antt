@@ -1,4 +1,4 @@
--- Plain modules, which keep their limits and whose bodies are chains of instructions: so are all that are compiled so far.
+-- Plain modules, which keep their limits and whose bodies are of covered instructions: so are all that are compiled so far.
 use Rattle.std.proofs.Common.{◌≡◌, ℕ, suc, ◌^◌, ◌<◌, ◌≤◌, List, [], ◌∷◌, length, Some}
 use Rattle.wasm_defs.specs.declared.item.Item.{Item}
 use Rattle.wasm_defs.specs.Limits.{max_params}
@@ -10,12 +10,13 @@ use Rattle.wasm_defs.specs.Instances.{exports_of, named, function_of}
 use Rattle.wasm_laws.specs.Kept.{SpacesAreSmall, ConstantsFit}
 use Rattle.wasm_laws.specs.Plain.{ArePlain}
 use Rattle.frame_layout.specs.Slots.{need}
-use Rattle.simulation.specs.Straight.{IsStraight}
+use Rattle.sim_frames.specs.Covered.{IsCovered}
+use Rattle.wasm_defs.specs.Context.{context_of, functions_of}
 use Rattle.image_linker.specs.ImageOf.{layout_of}
 
 -- the k-th body
 pub record IsStraightBody (items : List Item) (k : ℕ) (b : Body) (tree : Seq) : Type 0 where
-  pub straight : IsStraight tree
+  pub covered : IsCovered (context_of items) tree
   pub typed : IsBody (context_at items k b) tree
   pub few_params : length (function_of items k b tree).ty.params ≤ max_params
   pub one_result : length (function_of items k b tree).ty.results ≤ 1
@@ -32,5 +33,6 @@ pub record IsStraightModule (m : Module) : Type 0 where
   pub spaces : SpacesAreSmall m.items
   pub constants : ConstantsFit m.items
   pub bodies : AreStraightBodies m.items 0 m.bodies m.trees
+  pub functions : length (functions_of m.items) ≡ length m.bodies
   -- exported functions are there
   pub exports : (name : List ℕ) (f : ℕ) → named name (exports_of m.items) ≡ Some f → f < length m.bodies

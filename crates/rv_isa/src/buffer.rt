@@ -1,5 +1,5 @@
 //! Words that grow.
-ghost use Rattle.std.specs.Prelude.{◌≡◌, ◌<◌, [], ◌∷◌, ◌++◌, map, take, length, slice_set, MatchBool, ℕ, IfOk, OnOk, OnErr};
+ghost use Rattle.std.specs.Prelude.{◌≡◌, ◌<◌, ◌≤◌, [], ◌∷◌, ◌++◌, map, take, length, slice_set, MatchBool, ℕ, IfOk, OnOk, OnErr};
 ghost use Rattle.std.specs.Bool.{OnTrue, OnFalse};
 ghost use Rattle.std.specs.List.{flat_map};
 ghost use Rattle.rv_isa.specs.Words.{word_of};
@@ -118,6 +118,14 @@ impl WordBuffer {
         }
         self.words.truncate(start);
         Err(AllocError)
+    }
+
+    /// Keeps so many words in front, and drops those behind.
+    pub fn truncate(&mut self, words: usize)
+        requires { words ≤ length self.old }
+        ensures { self.new ≡ take words self.old }
+    {
+        self.words.truncate(words);
     }
 
     /// Replaces the word at a place.

@@ -17,8 +17,8 @@ use Rattle.wasm_defs.specs.Faults.{IsValidCode, read_of, context_at, items_of, b
 use Rattle.frame_layout.specs.Templates.{Around}
 use Rattle.frame_layout.specs.Functions.{function_code}
 use Rattle.index_spaces.specs.Spaces.{Spaces, spaces_of, context_in}
-use Rattle.body_compiler.specs.declared.judging.BodyStop.{BodyStop}
-use Rattle.body_compiler.specs.declared.judging.BodyStop.TheVariants as body
+use Rattle.body_compiler.specs.declared.code.BodyStop.{BodyStop}
+use Rattle.body_compiler.specs.declared.code.BodyStop.TheVariants as body
 use Rattle.body_compiler.specs.Compiling.{Compiles}
 use Rattle.body_cutter.specs.declared.body.Body.{Body as GivenBody}
 use Rattle.wasm_defs.specs.declared.front_stop.FrontStop.{FrontStop}

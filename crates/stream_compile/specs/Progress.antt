@@ -17,8 +17,8 @@ use Rattle.section_reader.specs.Onward.{after_parts}
 use Rattle.body_cutter.specs.declared.body.Body.{Body as GivenBody}
 use Rattle.wasm_defs.specs.declared.front_stop.FrontStop.{FrontStop}
 use Rattle.wasm_defs.specs.declared.front_stop.FrontStop.TheVariants.{Refused, NoMemory}
-use Rattle.body_compiler.specs.declared.judging.BodyStop.{BodyStop}
-use Rattle.body_compiler.specs.declared.judging.BodyStop.TheVariants as body
+use Rattle.body_compiler.specs.declared.code.BodyStop.{BodyStop}
+use Rattle.body_compiler.specs.declared.code.BodyStop.TheVariants as body
 use Rattle.body_compiler.specs.Compiling.{Compiles}
 use Rattle.frame_layout.specs.Templates.{exit_stub}
 use Rattle.image_linker.specs.ImageOf.{stub_size}

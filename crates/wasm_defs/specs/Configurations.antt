@@ -75,10 +75,12 @@ pub record Config : Type 0 where
   pub owed : ℕ
   pub later : List Invocation
 
--- between two weights: next, a function is invoked from outside, or a frame runs
+-- between two weights: next, a function is invoked from outside, or a frame runs, or results are handed out
 pub data State : Type 0 where
   Outside : (store : Store) (next : Invocation) (later : List Invocation) → State
   Inside : (c : Config) → State
+  -- the function that was invoked from outside has several results, for which this weight is owed and one more
+  Carrying : (store : Store) (owed : ℕ) (values : List Value) (later : List Invocation) → State
 
 pub data Step : Type 0 where
   To : (s : State) → Step

@@ -13,7 +13,6 @@ pub mod Viable
 pub mod Bodies
 pub mod Context
 pub mod Faults
-pub mod Nodes
 pub mod Items
 pub mod Codes
 pub mod Rules

@@ -5,7 +5,7 @@ use Rattle.wasm_defs.specs.declared.value.TrapKind.{TrapKind}
 use Rattle.wasm_defs.specs.Values.{Value, words_of}
 use Rattle.wasm_defs.specs.Host.{HostCall, Reply}
 use Rattle.wasm_defs.specs.Faults.{Module}
-use Rattle.wasm_defs.specs.Configurations.{Store, Invocation, State, Outside, Inside, Step, To, Returned, Trapped, Stopped, Waiting, Stuck}
+use Rattle.wasm_defs.specs.Configurations.{Store, Invocation, State, Outside, Inside, Carrying, Step, To, Returned, Trapped, Stopped, Waiting, Stuck}
 use Rattle.wasm_defs.specs.Reductions.{run}
 use Rattle.wasm_defs.specs.Instances.{instance_of, store_of, start_of}
 
@@ -31,6 +31,7 @@ ended store end = record { calls = store.calls; end = end }
 abbrev pub store_in : State → Store
 store_in (Outside store next later) = store
 store_in (Inside c) = c.store
+store_in (Carrying store owed values later) = store
 
 -- where a call finds no reply, the run goes on for every larger weight
 abbrev pub run_of : Step → Run

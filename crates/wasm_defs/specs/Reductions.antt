@@ -1,7 +1,8 @@
 -- Reductions (WebAssembly Core 1.0, 4.4.5 to 4.4.7): a total step with one clause for each rule, and runs by weight.
 --
 -- A weight is one reduction, or one constant that is moved to the operands. A call and the entry of the declared function that it
--- leads to are one together, and owe one more for each declared local.
+-- leads to are one together, and owe one more for each declared local. A branch or a return that carries several values, and the
+-- end of a function that does, owe one more for each of them.
 use Rattle.std.specs.Prelude.{ℕ, zero, suc, ◌+◌, List, [], ◌∷◌, ◌++◌, map, take, drop, reverse, length, Option, Some, None, nat_lt, if◌then◌else◌, slice_get, slice_index_or}
 use Rattle.wasm_defs.specs.declared.types.FuncType.{FuncType}
 use Rattle.wasm_defs.specs.declared.value.TrapKind.TheVariants as trap
@@ -12,17 +13,29 @@ use Rattle.wasm_defs.specs.Typing.{Types, Signature, same_function_types}
 use Rattle.wasm_defs.specs.Places.{shape}
 use Rattle.wasm_defs.specs.Values.{Value, zero_of}
 use Rattle.wasm_defs.specs.Host.{Reply, Taken, Goes, Stops, taken}
-use Rattle.wasm_defs.specs.Configurations.{Func, Function, Imported, Declared, type_of, Instance, Store, Label, Frame, Invocation, Config, State, Outside, Inside, Step, To, Returned, Trapped, Stopped, Waiting, Stuck, used, need_of, need, max_slots}
+use Rattle.wasm_defs.specs.Configurations.{Func, Function, Imported, Declared, type_of, Instance, Store, Label, Frame, Invocation, Config, State, Outside, Inside, Carrying, Step, To, Returned, Trapped, Stopped, Waiting, Stuck, used, need_of, need, max_slots}
 use Rattle.wasm_defs.specs.Effects.{Effect, Gives, Traps, Fails, effect}
 
 -- ---- returns and entries (4.4.7)
 
--- values go to the caller's operands; or the next function is invoked from outside; or the run is over
-abbrev pub finish : Store → List Value → List Frame → List Invocation → Step
-finish store values (f ∷ fs) later =
-    To (Inside (record { store = store; frame = record f { operands = values ++ f.operands }; callers = fs; owed = 0; later = later }))
-finish store values [] (i ∷ later) = To (Outside store i later)
-finish store values [] [] = Returned store (reverse values)
+-- one more for each of several values that are carried
+abbrev pub carried : (values : ℕ) → ℕ
+carried zero = 0
+carried (suc zero) = 0
+carried (suc (suc n)) = suc (suc n)
+
+-- the results of the function that was invoked from outside, once nothing is owed for them: the next function is invoked, or the
+-- run is over
+abbrev pub hand_out : Store → (owed : ℕ) → List Value → List Invocation → Step
+hand_out store (suc n) values later = To (Carrying store n values later)
+hand_out store zero values (i ∷ later) = To (Outside store i later)
+hand_out store zero values [] = Returned store (reverse values)
+
+-- values, the topmost first, go to the caller's operands, or outside
+abbrev pub finish : Store → (owed : ℕ) → List Value → List Frame → List Invocation → Step
+finish store owed values (f ∷ fs) later =
+    To (Inside (record { store = store; frame = record f { operands = values ++ f.operands }; callers = fs; owed = owed; later = later }))
+finish store owed values [] later = hand_out store owed values later
 
 abbrev pub enter : Store → Func → List Value → List Frame → List Invocation → Step
 enter store f arguments callers later =
@@ -39,7 +52,7 @@ enter store f arguments callers later =
 -- a call of an imported function waits for the host's reply
 abbrev pub replied : Store → List Reply → List Frame → List Invocation → Taken → Step
 replied store replies callers later Stops = Stopped (record store { replies = replies })
-replied store replies callers later (Goes values memory) = finish (record store { memory = memory; replies = replies }) values callers later
+replied store replies callers later (Goes values memory) = finish (record store { memory = memory; replies = replies }) 0 (reverse values) callers later
 
 abbrev pub await_reply : Types → Store → List Reply → List Frame → List Invocation → Step
 await_reply results store [] callers later = Waiting store
@@ -76,13 +89,16 @@ applied c rest Fails = Stuck
 
 -- the function returns (4.4.5.9, 4.4.7.2)
 abbrev pub returns : Config → List Value → Step
-returns c operands = finish c.store (take (length c.frame.function.ty.results) operands) c.callers c.later
+returns c operands =
+    let count = length c.frame.function.ty.results in
+    finish c.store (carried count) (take count operands) c.callers c.later
 
 -- a branch (4.4.5.6) with these operands to a label, or to the function's label, which returns
 abbrev pub branch : Config → List Value → ℕ → List Label → Step
 branch c operands zero [] = returns c operands
 branch c operands (suc l) [] = Stuck
-branch c operands zero (label ∷ labels) = goes_on c c.store c.frame.locals (take label.arity operands ++ label.below) label.target labels
+branch c operands zero (label ∷ labels) =
+    To (Inside (record c { frame = record c.frame { operands = take label.arity operands ++ label.below; code = label.target; labels = labels }; owed = carried label.arity }))
 branch c operands (suc l) (label ∷ labels) = branch c operands l labels
 
 -- where the condition isn't zero (4.4.5.7)
@@ -177,6 +193,7 @@ module _ (i : Instance) where
   abbrev pub next : State → Step
   next (Outside store invocation later) = start_function store (slice_get i.functions invocation.function) invocation.arguments [] later
   next (Inside c) = pay c c.owed
+  next (Carrying store owed values later) = hand_out store owed values later
 
   abbrev pub on : Step → (State → Step) → Step
   on (To s) go = go s

@@ -9,7 +9,6 @@ mod item;
 mod laws;
 mod limits;
 mod lists;
-mod nodes;
 mod operation;
 mod supported;
 mod text;
@@ -27,7 +26,6 @@ pub use limits::{
     MAX_TEXT, TOP_PAGES,
 };
 pub use lists::{Bytes, Indices, Labels, Name, Sequence, ValTypes};
-pub use nodes::{LocalGroup, Node, Nodes};
 pub use operation::{Access, BinaryOp, CompareOp, ConvertOp, LoadOp, Operation, StoreOp, UnaryOp};
 pub use supported::{is_compiled_opcode, is_compiled_section};
 pub use text::Inside;

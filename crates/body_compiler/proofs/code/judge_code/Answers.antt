@@ -1,0 +1,66 @@
+use Rattle.std.proofs.Common.{◌∙◌, ℕ, sym, subst, arith}
+use Rattle.frame_layout.specs.declared.layout.Layout.{Layout}
+use Rattle.body_compiler.specs.Steps.{AreTied}
+use Rattle.body_compiler.specs.Going.{IsCompiling}
+use Rattle.body_compiler.proofs.Going.{byte_shrinks, byte_takes, isnt_over, is_over, stop_judges, goes_judges, has_more, tested_empty, tested_some}
+use Rattle.control_emit.specs.Emits.{draft}
+use Rattle.body_compiler.proofs.Spelled.{bytes_behind}
+use Rattle.body_compiler.proofs.Walking.{judged}
+use Rattle.body_compiler.proofs.code.judge_code.Goals as goal
+
+pub loop-alloc-smaller : goal.loop-alloc-smaller
+loop-alloc-smaller c =
+    let fewer = byte_shrinks c.loop-alloc.fields c.byte.new.self c.in-Ok.at c.in-Ok.opcode c.in-Ok.ensures in
+    let no_more = c.in-Ok-take_instruction.ensures.shrinks in
+    omega (arith, fewer, no_more)
+
+pub take_instruction-requires-clause-bytes : goal.take_instruction-requires-clause-bytes
+take_instruction-requires-clause-bytes c = bytes_behind c.loop-alloc.fields c.byte.new.self c.in-Ok.at c.in-Ok.opcode c.in-Ok.ensures c.loop-alloc.invariant.bytes
+
+pub take_instruction-requires-clause-tied : goal.take_instruction-requires-clause-tied
+take_instruction-requires-clause-tied c =
+    let exact = byte_takes c.loop-alloc.fields c.byte.new.self c.in-Ok.at c.in-Ok.opcode c.in-Ok.ensures in
+    subst (λ (n : ℕ). AreTied c.loop-alloc.draft.labels c.loop-alloc.check n) exact c.loop-alloc.invariant.tied
+
+pub returns-then-is_empty-clause-most : goal.returns-then-is_empty-clause-most
+returns-then-is_empty-clause-most c = let most = c.loop-alloc.invariant.tied.most in omega arith
+
+pub take_instruction-requires-clause-more : goal.take_instruction-requires-clause-more
+take_instruction-requires-clause-more c = isnt_over c.is_over.result c.loop-alloc-test.true c.is_over.ensures
+
+pub loop-alloc-preserved : goal.loop-alloc-preserved
+loop-alloc-preserved c =
+    let i = c.loop-alloc.invariant in
+    let e = c.in-Ok-take_instruction.ensures in
+    record {
+      layout = e.layout ∙ i.layout;
+      held = e.held;
+      tied = e.tied;
+      grows = omega (arith, e.grows, i.grows);
+      bytes = e.bytes;
+      goes = λ c' code front k.
+          let before = subst (λ (l : Layout). IsCompiling c' c.args.last c.loop-alloc.fields c.loop-alloc.check code l front (draft c.loop-alloc.draft.labels c.loop-alloc.draft.words)) (sym i.layout) (i.goes c' code front k) in
+          let after = e.goes c' code c.loop-alloc.fields front before c.in-Ok.ensures (isnt_over c.is_over.result c.loop-alloc-test.true c.is_over.ensures) in
+          subst (λ (l : Layout). IsCompiling c' c.args.last c.take_instruction.new.fields c.take_instruction.new.check code l front (draft c.take_instruction.new.draft.labels c.take_instruction.new.draft.words)) i.layout after;
+    }
+
+pub returns-in-Err-take_instruction-clause-judges : goal.returns-in-Err-take_instruction-clause-judges
+returns-in-Err-take_instruction-clause-judges c = λ c' code front k.
+    let i = c.loop-alloc.invariant in
+    let before = subst (λ (l : Layout). IsCompiling c' c.args.last c.loop-alloc.fields c.loop-alloc.check code l front (draft c.loop-alloc.draft.labels c.loop-alloc.draft.words)) (sym i.layout) (i.goes c' code front k) in
+    goes_judges c' c.args.last c.take_instruction.new.fields c.take_instruction.new.check code c.loop-alloc.draft.layout c.args.draft.now.layout front (draft c.take_instruction.new.draft.labels c.take_instruction.new.draft.words) c.in-Err-take_instruction.stop
+    (c.in-Err-take_instruction.ensures.goes c' code c.loop-alloc.fields front before c.in-Ok.ensures (isnt_over c.is_over.result c.loop-alloc-test.true c.is_over.ensures))
+
+pub returns-in-Err-clause-judges : goal.returns-in-Err-clause-judges
+returns-in-Err-clause-judges c = λ c' code front k.
+    rw c.stop_of.ensures (stop_judges c' c.args.last c.loop-alloc.fields c.loop-alloc.check code c.args.draft.now.layout front (draft c.loop-alloc.draft.labels c.loop-alloc.draft.words) c.in-Err.stop (c.loop-alloc.invariant.goes c' code front k).going (isnt_over c.is_over.result c.loop-alloc-test.true c.is_over.ensures) c.in-Err.ensures)
+
+pub returns-then-is_empty-clause-judges : goal.returns-then-is_empty-clause-judges
+returns-then-is_empty-clause-judges c = λ c' code front k.
+    judged c' c.args.last c.loop-alloc.fields c.loop-alloc.check code c.args.draft.now.layout front (draft c.loop-alloc.draft.labels c.loop-alloc.draft.words) (c.loop-alloc.invariant.goes c' code front k) (is_over c.is_over.result c.loop-alloc-test.false c.is_over.ensures)
+    (tested_empty c.loop-alloc.fields.rest c.rest.result.now c.is_empty.result c.rest.ensures c.is_empty.ensures c.if-is_empty.true)
+
+pub returns-clause-judges : goal.returns-clause-judges
+returns-clause-judges c = λ c' code front k.
+    rw (c.malformed.ensures, c.offset.ensures) (has_more c' c.args.last c.loop-alloc.fields c.loop-alloc.check code (c.loop-alloc.invariant.goes c' code front k).going (is_over c.is_over.result c.loop-alloc-test.false c.is_over.ensures)
+    (tested_some c.loop-alloc.fields.rest c.rest.result.now c.is_empty.result c.rest.ensures c.is_empty.ensures c.if-is_empty.false))

@@ -1,0 +1,22 @@
+use Rattle.std.proofs.Common.{◌≡◌, ◌≤◌, ℕ, List, length}
+use Rattle.wasm_defs.specs.Bodies.{Spelled}
+use Rattle.wasm_defs.specs.Typing.{Context}
+use Rattle.control_emit.specs.Emits.{draft, IsHeld}
+use Rattle.body_compiler.specs.Steps.{AreTied}
+use Rattle.wasm_laws.specs.Sections.{AreBytes}
+use Rattle.body_compiler.specs.Going.{IsCompiling}
+use Rattle.body_compiler.proofs.code.judge_code.Given as goal
+
+abbrev pub invariant-loop-alloc : goal.invariant-loop-alloc
+invariant-loop-alloc l = record {
+  layout : l.draft.layout ≡ l.fn.draft.layout;
+  held : IsHeld (draft l.draft.labels l.draft.words);
+  tied : AreTied l.draft.labels l.check (length l.fields.rest);
+  grows : length l.fn.draft.words ≤ length l.draft.words;
+  bytes : AreBytes l.fields.rest;
+  goes : (c : Context) (code : Spelled) (front : List ℕ) → IsCompiling c l.last l.fn.fields l.fn.check code l.fn.draft.layout front (draft l.fn.draft.labels l.fn.draft.words)
+      → IsCompiling c l.last l.fields l.check code l.fn.draft.layout front (draft l.draft.labels l.draft.words);
+}
+
+abbrev pub decreases-loop-alloc : goal.decreases-loop-alloc
+decreases-loop-alloc l = length l.fields.rest

@@ -1,0 +1,93 @@
+use Rattle.std.proofs.Common.{◌≡◌, ◌≤◌, ◌+◌, ◌∙◌, ℕ, List, true, length, refl, sym, ap, arith}
+use Rattle.wasm_defs.specs.Faults.{tokens_of}
+use Rattle.wasm_defs.specs.Supported.{is_compiled_opcode}
+use Rattle.body_compiler.proofs.Going.{instruction_shrinks, refused_token, faulty_instruction, cut_instruction}
+use Rattle.body_validator.specs.Checking.{guarded}
+use Rattle.control_emit.specs.Emits.{draft}
+use Rattle.body_compiler.proofs.Spelled.{taken_token, bytes_later}
+use Rattle.body_compiler.proofs.Known.{takes_there}
+use Rattle.body_compiler.proofs.Tying.{names, tied-after, some-labels}
+use Rattle.body_compiler.proofs.Walking.{any, no_context, taken_is_compiled, held-after, compiles_behind, stops_behind}
+use Rattle.body_compiler.proofs.code.take_instruction.Goals as goal
+
+compiled : (c : goal.After-token-in-Ok-after_token-1) → is_compiled_opcode c.args.opcode ≡ true
+compiled c = sym c.is_compiled_opcode-compiled.ensures ∙ taken_is_compiled c.is_compiled_opcode-compiled.result c.args.at c.args.last c.token.new.self c.in-Ok-after_token.ensures
+
+pub take_step-requires-clause-taken : goal.take_step-requires-clause-taken
+take_step-requires-clause-taken c = taken_token c.args.at c.args.opcode c.args.fields.now c.instruction.new.fields c.in-Ok.token c.requires.bytes (compiled c) c.in-Ok.ensures
+
+pub returns-in-Ok-take_step-clause-bytes : goal.returns-in-Ok-take_step-clause-bytes
+returns-in-Ok-take_step-clause-bytes c = bytes_later c.args.at c.args.opcode c.args.fields.now c.instruction.new.fields c.in-Ok.token c.in-Ok.ensures c.requires.bytes
+
+pub take_step-requires-clause-some : goal.take_step-requires-clause-some
+take_step-requires-clause-some c = some-labels c.args.draft.now.labels c.args.check.now (length c.args.fields.now.rest + 1) c.requires.tied c.requires.more
+
+pub take_step-requires-clause-names : goal.take_step-requires-clause-names
+take_step-requires-clause-names c = names c.args.draft.now.labels c.args.check.now c.token.new.self c.in-Ok.token (length c.args.fields.now.rest + 1) c.requires.tied c.in-Ok-token.ensures.steps.0
+
+pub take_step-requires-clause-few : goal.take_step-requires-clause-few
+take_step-requires-clause-few c = let count = c.requires.tied.count in let few = c.requires.tied.few in omega arith
+
+pub take_step-requires-clause-high : goal.take_step-requires-clause-high
+take_step-requires-clause-high c = let low = c.requires.tied.low in let is = c.in-Ok-token.ensures.steps.3.1 in omega arith
+
+pub take_step-requires-clause-there : goal.take_step-requires-clause-there
+take_step-requires-clause-there c =
+    let steps = c.in-Ok-token.ensures.steps in
+    takes_there c.args.check.now c.token.new.self c.in-Ok.token c.in-Ok-token.step c.requires.tied.known steps.0 steps.3
+
+pub returns-in-Ok-take_step-clause-tied : goal.returns-in-Ok-take_step-clause-tied
+returns-in-Ok-take_step-clause-tied c =
+    let yes = sym c.is_compiled_opcode-compiled.ensures ∙ taken_is_compiled c.is_compiled_opcode-compiled.result c.args.at c.args.last c.token.new.self c.in-Ok-after_token.ensures in
+    let w = any c.args.draft.now.layout in
+    let s = c.in-Ok-token.step in
+    let steps = c.in-Ok-token.ensures.steps in
+    let shrinks = instruction_shrinks c.args.at c.args.opcode c.args.fields.now c.instruction.new.fields c.in-Ok.token c.in-Ok.ensures in
+    tied-after w no_context c.in-Ok.token (guarded s.live s.height_before) (draft c.args.draft.now.labels c.args.draft.now.words) (draft c.take_step.new.draft.labels c.take_step.new.draft.words) c.args.check.now c.token.new.self
+    (length c.args.fields.now.rest + 1) (length c.instruction.new.fields.rest) (omega arith)
+    (taken_token c.args.at c.args.opcode c.args.fields.now c.instruction.new.fields c.in-Ok.token c.requires.bytes yes c.in-Ok.ensures) c.requires.tied
+    (c.in-Ok-take_step.ensures.words w no_context refl) steps.0 steps.1
+
+pub returns-in-Ok-take_step-clause-shrinks : goal.returns-in-Ok-take_step-clause-shrinks
+returns-in-Ok-take_step-clause-shrinks c = instruction_shrinks c.args.at c.args.opcode c.args.fields.now c.instruction.new.fields c.in-Ok.token c.in-Ok.ensures
+
+pub returns-in-Ok-take_step-clause-held : goal.returns-in-Ok-take_step-clause-held
+returns-in-Ok-take_step-clause-held c =
+    held-after c.args.draft.now.layout c.in-Ok.token (guarded c.in-Ok-token.step.live c.in-Ok-token.step.height_before) (draft c.args.draft.now.labels c.args.draft.now.words) (draft c.take_step.new.draft.labels c.take_step.new.draft.words) c.requires.held
+    c.in-Ok-take_step.ensures.words
+
+pub returns-in-Ok-take_step-clause-goes : goal.returns-in-Ok-take_step-clause-goes
+returns-in-Ok-take_step-clause-goes c = λ c' code before front k h more.
+    let steps = c.in-Ok-token.ensures.steps in
+    let exact = c.in-Ok-token.ensures.exact (tokens_of k.going.tokens) k.going.reached in
+    let yes = sym c.is_compiled_opcode-compiled.ensures ∙ taken_is_compiled c.is_compiled_opcode-compiled.result c.args.at c.args.last c.token.new.self c.in-Ok-after_token.ensures in
+    compiles_behind c' c.args.last c.args.at c.args.opcode before c.args.fields.now c.instruction.new.fields c.in-Ok.token c.in-Ok-token.step c.args.check.now c.token.new.self code c.args.draft.now.layout front
+    (draft c.args.draft.now.labels c.args.draft.now.words) (draft c.take_step.new.draft.labels c.take_step.new.draft.words) k h more
+    yes c.in-Ok.ensures steps.0 steps.1 exact.0 exact.1 (c.in-Ok-token.ensures.places (tokens_of k.going.tokens) k.going.reached) c.in-Ok-take_step.ensures.words
+
+pub returns-in-Ok-token-clause-goes : goal.returns-in-Ok-token-clause-goes
+returns-in-Ok-token-clause-goes c = λ c' code before front k h more.
+    let g = k.going in
+    let exact = c.in-Ok-token.ensures.exact (tokens_of g.tokens) g.reached in
+    stops_behind c' c.args.last c.args.at c.args.opcode before c.args.fields.now c.instruction.new.fields c.in-Ok.token c.args.check.now c.token.new.self code c.args.draft.now.layout front (draft c.args.draft.now.labels c.args.draft.now.words) c.in-Err.stop c.is_compiled_opcode-compiled.result g h more
+    (sym c.is_compiled_opcode-compiled.ensures) c.in-Ok.ensures c.in-Ok-token.ensures.steps.0 exact.1 c.in-Err.ensures
+
+pub returns-in-Err-Refused-token-clause-goes : goal.returns-in-Err-Refused-token-clause-goes
+returns-in-Err-Refused-token-clause-goes c = λ c' code before front k h more.
+    let g = k.going in
+    let steps = rw c.in-Err-Refused-token.field-0-is at c.in-Err-Refused-token.ensures.steps in
+    let exact = rw c.in-Err-Refused-token.field-0-is at (c.in-Err-Refused-token.ensures.exact (tokens_of g.tokens) g.reached) in
+    rw c.fault_of.ensures (refused_token c' c.args.last c.args.at c.args.opcode before c.args.fields.now c.instruction.new.fields c.in-Ok.token c.args.check.now code _ c.is_compiled_opcode-compiled.result g h more
+    (sym c.is_compiled_opcode-compiled.ensures) c.in-Ok.ensures (ap (λ r. r.offset) steps.1) exact)
+
+pub returns-in-Err-Refused-clause-goes : goal.returns-in-Err-Refused-clause-goes
+returns-in-Err-Refused-clause-goes c = λ c' code before front k h more.
+    let stops = rw c.in-Err-Refused.field-0-is at c.in-Err-Refused.ensures in
+    rw c.fault_of-in-Err-Refused.ensures (faulty_instruction c' c.args.last c.args.at c.args.opcode before c.args.fields.now c.args.check.now code _ c.is_compiled_opcode-compiled.result k.going h more
+    (sym c.is_compiled_opcode-compiled.ensures) stops)
+
+pub returns-in-Err-Wants-clause-goes : goal.returns-in-Err-Wants-clause-goes
+returns-in-Err-Wants-clause-goes c = λ c' code before front k h more.
+    let stops = rw c.in-Err-Wants.field-0-is at c.in-Err-Wants.ensures in
+    rw (c.fault_of-in-Err-Wants.ensures, c.malformed.ensures) (cut_instruction c' c.args.last c.args.at c.args.opcode before c.args.fields.now c.args.check.now code c.is_compiled_opcode-compiled.result k.going h more
+    (sym c.is_compiled_opcode-compiled.ensures) stops)

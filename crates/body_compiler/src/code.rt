@@ -1,0 +1,162 @@
+//! A body's code: its tokens are read one after the other, checked, compared with what is compiled so far, and compiled.
+
+ghost use Rattle.std.specs.Prelude.{◌≡◌, ◌≢◌, ◌≤◌, ℕ, ◌+◌, List, [], length, OnOk, if◌then◌else◌};
+ghost use Rattle.wasm_defs.specs.Bodies.{Spelled as SpelledGiven};
+ghost use Rattle.wasm_defs.specs.Fields.{Cursor as CursorGiven, Got, byte};
+ghost use Rattle.wasm_defs.specs.Limits.{max_body};
+ghost use Rattle.wasm_defs.specs.Typing.{Context as ContextGiven};
+ghost use Rattle.wasm_defs.specs.Faults.{earlier, unsupported_at};
+ghost use Rattle.frame_layout.specs.Slots.{link};
+ghost use Rattle.wasm_laws.specs.Sections.{AreBytes};
+ghost use Rattle.body_compiler.specs.Steps.{AreTied};
+ghost use Rattle.body_compiler.specs.Going.{IsCompiling, Goes, Judges, Taken, without_opcode};
+ghost use Rattle.control_emit.specs.Emits.{draft as drafted, IsHeld};
+
+use crate::draft::{Draft, take_step};
+use crate::instructions::instruction;
+use body_validator::{Check, TokenStop};
+use leb_feed::{Fields, Stop};
+use std::alloc::Global;
+use wasm_defs::{Kind, Refusal, earlier, is_compiled_opcode};
+
+/// Why a body isn't compiled.
+#[derive(Clone, Copy, Debug, PartialEq, Eq)]
+pub enum BodyStop {
+    /// Its first fault.
+    Refused(Refusal),
+    /// Memory was wanting.
+    NoMemory,
+}
+
+/// A fault of an instruction whose opcode stands at an offset: what isn't compiled is unsupported there.
+fn fault_of(compiled: bool, at: u64, refusal: Refusal) -> Refusal
+    ensures { result ≡ (if compiled then refusal else earlier refusal (unsupported_at at)) }
+{
+    if compiled {
+        return refusal;
+    }
+    let unsupported = Refusal {
+        offset: at,
+        kind: Kind::Unsupported,
+    };
+    earlier(refusal, unsupported)
+}
+
+fn malformed(offset: u64) -> Refusal
+    ensures { result ≡ record { offset = offset; kind = Kind.Malformed } }
+{
+    Refusal {
+        offset,
+        kind: Kind::Malformed,
+    }
+}
+
+/// What follows an instruction that was taken.
+fn after_token(check: &Check<'_>, compiled: bool, at: u64, last: u64) -> Result<(), BodyStop>
+    ensures { Taken compiled at last check.now result }
+{
+    if compiled {
+        return Ok(());
+    }
+    let refusal = if at == last && !check.is_over() {
+        malformed(last)
+    } else {
+        Refusal {
+            offset: at,
+            kind: Kind::Unsupported,
+        }
+    };
+    Err(BodyStop::Refused(refusal))
+}
+
+/// Reads, checks and compiles the instruction behind an opcode at an offset, in a body whose last byte has the offset `last`.
+#[inline(always)]
+fn take_instruction(
+    alloc: Global,
+    fields: &mut Fields<'_>,
+    check: &mut Check<'_>,
+    draft: &mut Draft,
+    last: u64,
+    at: u64,
+    opcode: u8,
+) -> Result<(), BodyStop>
+    requires held { IsHeld (drafted draft.old.labels draft.old.words) }
+    requires bytes { AreBytes fields.old.rest }
+    requires tied { AreTied draft.old.labels check.old (length fields.old.rest + 1) }
+    requires more { check.old.checker.frames ≢ [] }
+    requires slots { link draft.old.layout ≤ 51000 }
+    ensures shrinks { OnOk result (length fields.new.rest ≤ length fields.old.rest) }
+    ensures layout { draft.new.layout ≡ draft.old.layout }
+    ensures held { OnOk result (IsHeld (drafted draft.new.labels draft.new.words)) }
+    ensures bytes { OnOk result (AreBytes fields.new.rest) }
+    ensures tied { OnOk result (AreTied draft.new.labels check.new (length fields.new.rest)) }
+    ensures grows { OnOk result (length draft.old.words ≤ length draft.new.words) }
+    ensures goes { (c : ContextGiven) (code : SpelledGiven) (before : CursorGiven) (front : List ℕ) → IsCompiling c last before check.old code draft.old.layout front (drafted draft.old.labels draft.old.words) → byte before ≡ Got (at, opcode) fields.old → check.old.checker.frames ≢ [] → Goes c last code draft.old.layout front result fields.new check.new (drafted draft.new.labels draft.new.words) }
+{
+    let compiled = is_compiled_opcode(opcode);
+    match instruction(fields, alloc, at, opcode) {
+        Ok(token) => match check.token(at, &token) {
+            Ok(step) => match after_token(check, compiled, at, last) {
+                Ok(()) => match take_step(draft, &step, &token) {
+                    Ok(()) => Ok(()),
+                    Err(_) => Err(BodyStop::NoMemory),
+                },
+                Err(stop) => Err(stop),
+            },
+            Err(TokenStop::Refused(refusal)) => {
+                Err(BodyStop::Refused(fault_of(compiled, at, refusal)))
+            }
+            Err(TokenStop::NoMemory) => Err(BodyStop::NoMemory),
+        },
+        Err(Stop::Refused(refusal)) => Err(BodyStop::Refused(fault_of(compiled, at, refusal))),
+        Err(Stop::Wants) => Err(BodyStop::Refused(fault_of(compiled, at, malformed(last)))),
+        Err(Stop::NoMemory) => Err(BodyStop::NoMemory),
+    }
+}
+
+/// Why a body's reading stops where no opcode is read.
+pub(crate) fn stop_of(stop: Stop, last: u64) -> BodyStop
+    ensures { result ≡ without_opcode last stop }
+{
+    match stop {
+        Stop::Refused(refusal) => BodyStop::Refused(refusal),
+        Stop::Wants => BodyStop::Refused(malformed(last)),
+        Stop::NoMemory => BodyStop::NoMemory,
+    }
+}
+
+/// Judges and compiles the code of a body whose last byte has the offset `last`.
+pub fn judge_code(
+    alloc: Global,
+    fields: &mut Fields<'_>,
+    check: &mut Check<'_>,
+    draft: &mut Draft,
+    last: u64,
+) -> Result<(), BodyStop>
+    requires held { IsHeld (drafted draft.old.labels draft.old.words) }
+    requires bytes { AreBytes fields.old.rest }
+    requires tied { AreTied draft.old.labels check.old (length fields.old.rest) }
+    requires slots { link draft.old.layout ≤ 51000 }
+    ensures layout { draft.new.layout ≡ draft.old.layout }
+    ensures held { OnOk result (IsHeld (drafted draft.new.labels draft.new.words)) }
+    ensures over { OnOk result (check.new.checker.frames ≡ []) }
+    ensures most { OnOk result (check.new.checker.greatest ≤ max_body) }
+    ensures grows { OnOk result (length draft.old.words ≤ length draft.new.words) }
+    ensures judges { (c : ContextGiven) (code : SpelledGiven) (front : List ℕ) → IsCompiling c last fields.old check.old code draft.old.layout front (drafted draft.old.labels draft.old.words) → Judges c code draft.old.layout front result check.new (drafted draft.new.labels draft.new.words) }
+{
+    while !check.is_over() {
+        match fields.byte() {
+            Ok((at, opcode)) => {
+                match take_instruction(alloc, fields, check, draft, last, at, opcode) {
+                    Ok(()) => {}
+                    Err(stop) => return Err(stop),
+                }
+            }
+            Err(stop) => return Err(stop_of(stop, last)),
+        }
+    }
+    if fields.rest().is_empty() {
+        return Ok(());
+    }
+    Err(BodyStop::Refused(malformed(fields.offset())))
+}

@@ -1,0 +1,9 @@
+pub mod Meanings
+pub mod Moves
+pub mod Composing
+pub mod Sizes
+pub mod Trees
+pub mod Bases
+pub mod Chains
+pub mod Views
+pub mod Calls

@@ -1,0 +1,363 @@
+-- The words of a body's tokens, one after the other, are those of its tree.
+use Rattle.std.proofs.Common.{◌≡◌, ℕ, ◌+◌, ◌-◌, List, [], ◌∷◌, ◌++◌, map, length, None, Some, refl, sym, ap, ◌∙◌, subst, arith, append_assoc}
+use Rattle.std.proofs.lemmas.List.{append-nil}
+use Rattle.rv_isa.specs.declared.operations.Op.{Op}
+use Rattle.rv_isa.specs.Words.{word_of}
+use Rattle.wasm_defs.specs.declared.token.Plain.{Plain}
+use Rattle.wasm_defs.specs.declared.token.Plain.TheVariants.{Unreachable, Nop, Br, BrIf, BrTable, Return, Call, CallIndirect, Discard, Select, LocalGet, LocalSet, LocalTee, GlobalGet, GlobalSet, Load, Store, MemorySize, MemoryGrow, Const, Operate}
+use Rattle.wasm_defs.specs.declared.token.Token.{Token}
+use Rattle.wasm_defs.specs.declared.token.Token.TheVariants as token
+use Rattle.wasm_defs.specs.declared.token.BlockType.{BlockType}
+use Rattle.wasm_defs.specs.declared.token.BlockType.TheVariants.{Empty, Value, Index}
+use Rattle.wasm_defs.specs.Places.{Place, shape, after_rule, after_block, after_if, end_of, places, places_of}
+use Rattle.wasm_defs.specs.Trees.{Seq, Nothing, Simple, Block, Loop, If, IfElse, spelled}
+use Rattle.wasm_defs.specs.Typing.{Types, Signature, Context, Rule, Untyped, Fixed, Stops, Discards, Selects, inside, rule_of}
+use Rattle.frame_layout.specs.Templates.{Label, Around, words}
+use Rattle.frame_layout.specs.Functions.{label, over, test_words, size, code, body_place, body_size}
+use Rattle.control_emit.specs.Pending.{Pending, Shape, shapes, Ends, named, meaning}
+use Rattle.control_emit.specs.Emits.{Draft, IsHeld, Emits, Opens, Turns, Closes}
+use Rattle.control_emit.specs.Walks.{end_shape, start_shape, Walk, begun, WordsLaw}
+use Rattle.control_emit.proofs.Composing.{longer, longer-opens, longer-turns, emits-nothing, emits-as, emits-both, ends_there, enclosed, enclosed-size, both-enclosed, count-more, count-shapes}
+use Rattle.control_emit.proofs.Sizes.{alike-same, size_is, code_dead, over_size}
+
+-- labels of other types are named in blocks
+abbrev pub labelled : Context → List Types → Context
+labelled c ls = record c { labels = ls }
+
+words_labelled : (w : Around) (c : Context) (ls : List Types) (labels : List Label) (h here : ℕ) (p : Plain) → words w c labels h here p ≡ words w (labelled c ls) labels h here p
+words_labelled w c ls labels h here Unreachable = refl
+words_labelled w c ls labels h here Nop = refl
+words_labelled w c ls labels h here (Br l) = refl
+words_labelled w c ls labels h here (BrIf l) = refl
+words_labelled w c ls labels h here (BrTable is l) = refl
+words_labelled w c ls labels h here Return = refl
+words_labelled w c ls labels h here (Call f) = refl
+words_labelled w c ls labels h here (CallIndirect i) = refl
+words_labelled w c ls labels h here Discard = refl
+words_labelled w c ls labels h here Select = refl
+words_labelled w c ls labels h here (LocalGet x) = refl
+words_labelled w c ls labels h here (LocalSet x) = refl
+words_labelled w c ls labels h here (LocalTee x) = refl
+words_labelled w c ls labels h here (GlobalGet x) = refl
+words_labelled w c ls labels h here (GlobalSet x) = refl
+words_labelled w c ls labels h here (Load o m) = refl
+words_labelled w c ls labels h here (Store o m) = refl
+words_labelled w c ls labels h here MemorySize = refl
+words_labelled w c ls labels h here MemoryGrow = refl
+words_labelled w c ls labels h here (Const t n) = refl
+words_labelled w c ls labels h here (Operate o) = refl
+
+shape_labelled : (c : Context) (ls : List Types) (t : BlockType) → shape (labelled c ls) t ≡ shape c t
+shape_labelled c ls Empty = refl
+shape_labelled c ls (Value t) = refl
+shape_labelled c ls (Index i) = refl
+
+-- ---- what isn't live
+
+after_dead : (r : Rule) → after_rule r None ≡ None
+after_dead Untyped = refl
+after_dead (Fixed from to) = refl
+after_dead (Stops from) = refl
+after_dead Discards = refl
+after_dead Selects = refl
+
+end_dead : (c : Context) (t : Seq) → end_of c t None ≡ None
+end_dead c Nothing = refl
+end_dead c (Simple p rest) = ap (end_of c rest) (after_dead (rule_of c p)) ∙ end_dead c rest
+end_dead c (Block type body rest) = end_dead c rest
+end_dead c (Loop type body rest) = end_dead c rest
+end_dead c (If type body rest) = end_dead c rest
+end_dead c (IfElse type body other rest) = end_dead c rest
+
+-- the tokens of a sequence lead through a draft in the middle
+record Through (w : Around) (c : Context) (more : List Token) (after : List Place) (old new : Draft) (ops : List Ends → List Op) : Type 0 where
+  mid : Draft
+  emits : Emits old mid ops
+  walk : Walk w c more after mid new
+
+none_both : (a b c : Draft) → Emits a b (λ es. []) → Emits b c (λ es. []) → Emits a c (λ es. [])
+none_both a b c x y = emits-both a b c (λ es. []) (λ es. []) x y
+
+none_enclosed : (a b c d : Draft) (s : Shape) → Opens a b s (λ e. []) → Emits b c (λ es. []) → Closes c d → Emits a d (λ es. [])
+none_enclosed a b c d s x y z = enclosed a b c d s (λ e. []) (λ labels here. []) x y z
+
+none_turned : (a b c : Draft) (s : Shape) → Opens a b s (λ e. []) → Turns b c (λ n. []) → Opens a c s (λ e. [])
+none_turned a b c s x y =
+    let count = count-more b.labels a.labels s x.shapes_are in
+    record {
+      held = y.held;
+      shapes_are = y.shapes_are ∙ x.shapes_are;
+      words_are = λ e es is.
+          let l : length (e ∷ es) ≡ length b.labels = omega arith in
+          y.words_are e.other e.end es l ∙ append-nil _ ∙ x.words_are (record { other = length c.words; end = e.end }) es is;
+    }
+
+none_more : (a b c : Draft) (s : Shape) → Opens a b s (λ e. []) → Emits b c (λ es. []) → Opens a c s (λ e. [])
+none_more a b c s x y =
+    let count = count-more b.labels a.labels s x.shapes_are in
+    record {
+      held = y.held;
+      shapes_are = y.shapes_are ∙ x.shapes_are;
+      words_are = λ e es is.
+          let l : length (e ∷ es) ≡ length b.labels = omega arith in
+          y.words_are (e ∷ es) l ∙ append-nil _ ∙ x.words_are e es is;
+    }
+
+dead : (w : Around) (c d : Context) (t : Seq) (more : List Token) (after : List Place) (old new : Draft) → IsHeld old → Walk w c (spelled t more) (places d t None after) old new → Through w c more after old new (λ es. [])
+dead w c d Nothing more after old new held x = record { mid = old; emits = emits-nothing old held; walk = x }
+dead w c d (Simple p rest) more after old new held x =
+    let Goes : Place → Type 0 = λ q. Walk w c (spelled rest more) (places d rest q after) x.0 new in
+    let r = dead w c d rest more after x.0 new (subst IsHeld (sym x.1) held) (subst Goes (after_dead (rule_of d p)) x.2) in
+    record { mid = r.mid; emits = subst (λ (y : Draft). Emits y r.mid (λ es. [])) x.1 r.emits; walk = r.walk }
+dead w c d (Block type body rest) more after old new held x =
+    let s = shape d type in
+    let within = inside d s.results in
+    let i = dead w c within body (token.End ∷ spelled rest more) (end_of within body None ∷ places d rest None after) x.0 new x.1.opens.held x.2 in
+    let r = dead w c d rest more after i.walk.0 new i.walk.1.held i.walk.2 in
+    record { mid = r.mid; emits = none_both old i.walk.0 r.mid (none_enclosed old x.0 i.mid i.walk.0 x.1.shape x.1.opens i.emits i.walk.1) r.emits; walk = r.walk }
+dead w c d (Loop type body rest) more after old new held x =
+    let s = shape d type in
+    let within = inside d s.params in
+    let i = dead w c within body (token.End ∷ spelled rest more) (end_of within body None ∷ places d rest None after) x.0 new x.1.opens.held x.2 in
+    let r = dead w c d rest more after i.walk.0 new i.walk.1.held i.walk.2 in
+    record { mid = r.mid; emits = none_both old i.walk.0 r.mid (none_enclosed old x.0 i.mid i.walk.0 x.1.shape x.1.opens i.emits i.walk.1) r.emits; walk = r.walk }
+dead w c d (If type body rest) more after old new held x =
+    let s = shape d type in
+    let within = inside d s.results in
+    let i = dead w c within body (token.End ∷ spelled rest more) (end_of within body None ∷ places d rest None after) x.0 new x.1.opens.held x.2 in
+    let r = dead w c d rest more after i.walk.0 new i.walk.1.held i.walk.2 in
+    record { mid = r.mid; emits = none_both old i.walk.0 r.mid (none_enclosed old x.0 i.mid i.walk.0 x.1.shape x.1.opens i.emits i.walk.1) r.emits; walk = r.walk }
+dead w c d (IfElse type body other rest) more after old new held x =
+    let s = shape d type in
+    let within = inside d s.results in
+    let i = dead w c within body (token.Else ∷ spelled other (token.End ∷ spelled rest more)) (end_of within body None ∷ places within other None (end_of within other None ∷ places d rest None after)) x.0 new x.1.opens.held x.2 in
+    let turn : Turns i.mid i.walk.0 (λ n. []) = subst (λ (q : Place). Turns i.mid i.walk.0 (λ n. over q (length i.mid.words) n)) (end_dead within body) i.walk.1 in
+    let j = dead w c within other (token.End ∷ spelled rest more) (end_of within other None ∷ places d rest None after) i.walk.0 new i.walk.1.held i.walk.2 in
+    let r = dead w c d rest more after j.walk.0 new j.walk.1.held j.walk.2 in
+    let o = none_turned old i.mid i.walk.0 x.1.shape (none_more old x.0 i.mid x.1.shape x.1.opens i.emits) turn in
+    record { mid = r.mid; emits = none_both old j.walk.0 r.mid (none_enclosed old i.walk.0 j.mid j.walk.0 x.1.shape o j.emits j.walk.1) r.emits; walk = r.walk }
+
+-- ---- what is live
+
+-- a block, and what follows it: where it ends is known
+behind : (a b d : Draft) (f g k : List Ends → List Op) (rest : List Label → ℕ → List Op) → Emits a b f → Emits b d (λ es. rest (named (shapes b.labels) es) (length b.words))
+    → ((es : List Ends) → length es ≡ length a.labels → f es ++ rest (named (shapes a.labels) es) (length b.words) ≡ k es) → Emits a d k
+behind a b d f g k rest x y same =
+    emits-as a d (λ es. f es ++ rest (named (shapes b.labels) es) (length b.words)) k
+    (emits-both a b d f (λ es. rest (named (shapes b.labels) es) (length b.words)) x y)
+    (λ es is. ap (λ (ss : List Shape). f es ++ rest (named ss es) (length b.words)) x.shapes_are ∙ same es is)
+
+live : (w : Around) (c : Context) (ls : List Types) (t : Seq) (q : Place) (more : List Token) (after : List Place) (old new : Draft) → IsHeld old → Walk w c (spelled t more) (places (labelled c ls) t q after) old new
+    → Through w c more after old new (λ es. code w (labelled c ls) (named (shapes old.labels) es) q (length old.words) t)
+live w c ls t None more after old new held x =
+    let r = dead w c (labelled c ls) t more after old new held x in
+    record { mid = r.mid; emits = emits-as old r.mid _ _ r.emits (λ es is. sym (code_dead w (labelled c ls) (named (shapes old.labels) es) (length old.words) t)); walk = r.walk }
+live w c ls Nothing (Some h) more after old new held x = record { mid = old; emits = emits-nothing old held; walk = x }
+live w c ls (Simple p rest) (Some h) more after old new held x =
+    let d = labelled c ls in
+    let next = after_rule (rule_of d p) (Some h) in
+    let r = live w c ls rest next more after x.0 new x.1.held x.2 in
+    record {
+      mid = r.mid;
+      emits = behind old x.0 r.mid (λ es. words w c (named (shapes old.labels) es) h (length old.words) p) (λ es. []) _ (λ labels here. code w d labels next here rest) x.1 r.emits
+          (λ es is.
+          let labels = named (shapes old.labels) es in
+          let first = words_labelled w c ls labels h (length old.words) p in
+          let n = longer old x.0 (λ es. words w c (named (shapes old.labels) es) h (length old.words) p) x.1 es is in
+          ap (λ (k : ℕ). words w c labels h (length old.words) p ++ code w d labels next k rest) n
+          ∙ ap (λ (ops : List Op). ops ++ code w d labels next (length old.words + length ops) rest) first);
+      walk = r.walk;
+    }
+live w c ls (Block type body rest) (Some h) more after old new held x =
+    let d = labelled c ls in
+    let s = shape d type in
+    let within = inside d s.results in
+    let base = h - length s.params in
+    let takes = length s.results in
+    let next = after_block s (Some h) in
+    let sh = end_shape base takes in
+    let f : List Label → ℕ → List Op = λ labels here. code w within labels (Some h) here body in
+    let step : Opens old x.0 sh (λ e. []) = subst (λ (y : Signature). Opens old x.0 (end_shape (h - length y.params) (length y.results)) (λ e. [])) (sym (shape_labelled c ls type)) x.1 in
+    let i = live w c (s.results ∷ ls) body (Some h) (token.End ∷ spelled rest more) (end_of within body (Some h) ∷ places d rest next after) x.0 new step.held x.2 in
+    let r = live w c ls rest next more after i.walk.0 new i.walk.1.held i.walk.2 in
+    let n = length i.mid.words in
+    record {
+      mid = r.mid;
+      emits = behind old i.walk.0 r.mid _ (λ es. []) _ (λ labels here. code w d labels next here rest) (enclosed old x.0 i.mid i.walk.0 sh (λ e. []) f step i.emits i.walk.1) r.emits
+          (λ es is.
+          let labels = named (shapes old.labels) es in
+          let here = length old.words in
+          let inner : ℕ → List Label = λ k. label base takes k ∷ labels in
+          let k = enclosed-size old x.0 i.mid sh (λ e. []) f step i.emits (ends_there n) es is in
+          let z = size_is w within (inner 0) (inner n) (Some h) here body (refl, alike-same labels) in
+          let zero : here + 0 ≡ here = omega arith in
+          let end : n ≡ here + size w within (inner 0) (Some h) body = let kk = ap (λ (m : ℕ). length (f (inner n) m)) zero in omega arith in
+          let out : length i.walk.0.words ≡ here + size w within (inner 0) (Some h) body = i.walk.1.size ∙ end in
+          ap (λ (m : ℕ). f (inner n) m ++ code w d labels next (length i.walk.0.words) rest) zero
+          ∙ ap (λ (m : ℕ). f (inner m) here ++ code w d labels next (length i.walk.0.words) rest) end
+          ∙ ap (λ (m : ℕ). f (inner (here + size w within (inner 0) (Some h) body)) here ++ code w d labels next m rest) out);
+      walk = r.walk;
+    }
+live w c ls (Loop type body rest) (Some h) more after old new held x =
+    let d = labelled c ls in
+    let s = shape d type in
+    let within = inside d s.params in
+    let base = h - length s.params in
+    let takes = length s.params in
+    let next = after_block s (Some h) in
+    let sh = start_shape base takes (length old.words) in
+    let f : List Label → ℕ → List Op = λ labels here. code w within labels (Some h) here body in
+    let step : Opens old x.0 sh (λ e. []) = subst (λ (y : Signature). Opens old x.0 (start_shape (h - length y.params) (length y.params) (length old.words)) (λ e. [])) (sym (shape_labelled c ls type)) x.1 in
+    let i = live w c (s.params ∷ ls) body (Some h) (token.End ∷ spelled rest more) (end_of within body (Some h) ∷ places d rest next after) x.0 new step.held x.2 in
+    let r = live w c ls rest next more after i.walk.0 new i.walk.1.held i.walk.2 in
+    let n = length i.mid.words in
+    record {
+      mid = r.mid;
+      emits = behind old i.walk.0 r.mid _ (λ es. []) _ (λ labels here. code w d labels next here rest) (enclosed old x.0 i.mid i.walk.0 sh (λ e. []) f step i.emits i.walk.1) r.emits
+          (λ es is.
+          let labels = named (shapes old.labels) es in
+          let here = length old.words in
+          let inner = label base takes here ∷ labels in
+          let k = enclosed-size old x.0 i.mid sh (λ e. []) f step i.emits (ends_there n) es is in
+          let z = size_is w within inner inner (Some h) here body (refl, alike-same labels) in
+          let zero : here + 0 ≡ here = omega arith in
+          let end : n ≡ here + size w within inner (Some h) body = let kk = ap (λ (m : ℕ). length (f inner m)) zero in omega arith in
+          let out : length i.walk.0.words ≡ here + size w within inner (Some h) body = i.walk.1.size ∙ end in
+          ap (λ (m : ℕ). f inner m ++ code w d labels next (length i.walk.0.words) rest) zero
+          ∙ ap (λ (m : ℕ). f inner here ++ code w d labels next m rest) out);
+      walk = r.walk;
+    }
+live w c ls (If type body rest) (Some h) more after old new held x =
+    let d = labelled c ls in
+    let s = shape d type in
+    let within = inside d s.results in
+    let base = h - 1 - length s.params in
+    let takes = length s.results in
+    let next = after_if s (Some h) in
+    let sh = end_shape base takes in
+    let here = length old.words in
+    let below = h - 1 in
+    let first : Ends → List Op = λ e. test_words w h here e.other in
+    let f : List Label → ℕ → List Op = λ labels here. code w within labels (Some below) here body in
+    let step : Opens old x.0 sh first = subst (λ (y : Signature). Opens old x.0 (end_shape (h - 1 - length y.params) (length y.results)) first) (sym (shape_labelled c ls type)) x.1 in
+    let from : Some (h - 1 + 0) ≡ Some below = ap (λ (m : ℕ). Some m) (let m : h - 1 + 0 ≡ below = omega arith in m) in
+    let Goes : Place → Type 0 = λ q. Walk w c (spelled body (token.End ∷ spelled rest more)) (places within body q (end_of within body q ∷ places d rest next after)) x.0 new in
+    let i = live w c (s.results ∷ ls) body (Some below) (token.End ∷ spelled rest more) (end_of within body (Some below) ∷ places d rest next after) x.0 new step.held (subst Goes from x.2) in
+    let r = live w c ls rest next more after i.walk.0 new i.walk.1.held i.walk.2 in
+    let n = length i.mid.words in
+    record {
+      mid = r.mid;
+      emits = behind old i.walk.0 r.mid _ (λ es. []) _ (λ labels here. code w d labels next here rest) (enclosed old x.0 i.mid i.walk.0 sh first f step i.emits i.walk.1) r.emits
+          (λ es is.
+          let labels = named (shapes old.labels) es in
+          let inner : ℕ → List Label = λ k. label base takes k ∷ labels in
+          let k = enclosed-size old x.0 i.mid sh first f step i.emits (ends_there n) es is in
+          let z = size_is w within (inner 0) (inner n) (Some below) (here + 6) body (refl, alike-same labels) in
+          let end : n ≡ here + 6 + size w within (inner 0) (Some below) body = omega arith in
+          let out : length i.walk.0.words ≡ here + 6 + size w within (inner 0) (Some below) body = i.walk.1.size ∙ end in
+          let there = here + 6 + size w within (inner 0) (Some below) body in
+          ap (λ (m : ℕ). (test_words w h here m ++ f (inner m) (here + 6)) ++ code w d labels next (length i.walk.0.words) rest) end
+          ∙ ap (λ (m : ℕ). (test_words w h here there ++ f (inner there) (here + 6)) ++ code w d labels next m rest) out
+          ∙ append_assoc (test_words w h here there) (f (inner there) (here + 6)) (code w d labels next there rest));
+      walk = r.walk;
+    }
+live w c ls (IfElse type body other rest) (Some h) more after old new held x =
+    let d = labelled c ls in
+    let s = shape d type in
+    let within = inside d s.results in
+    let base = h - 1 - length s.params in
+    let takes = length s.results in
+    let next = after_if s (Some h) in
+    let sh = end_shape base takes in
+    let here = length old.words in
+    let below = h - 1 in
+    let first : Ends → List Op = λ e. test_words w h here e.other in
+    let f : List Label → ℕ → List Op = λ labels here. code w within labels (Some below) here body in
+    let g : List Label → ℕ → List Op = λ labels here. code w within labels (Some below) here other in
+    let step : Opens old x.0 sh first = subst (λ (y : Signature). Opens old x.0 (end_shape (h - 1 - length y.params) (length y.results)) first) (sym (shape_labelled c ls type)) x.1 in
+    let from : Some (h - 1 + 0) ≡ Some below = ap (λ (m : ℕ). Some m) (let m : h - 1 + 0 ≡ below = omega arith in m) in
+    let Goes : Place → Type 0 = λ q. Walk w c (spelled body (token.Else ∷ spelled other (token.End ∷ spelled rest more))) (places within body q (end_of within body q ∷ places within other q (end_of within other q ∷ places d rest next after))) x.0 new in
+    let first_live = end_of within body (Some below) in
+    let i = live w c (s.results ∷ ls) body (Some below) (token.Else ∷ spelled other (token.End ∷ spelled rest more)) (first_live ∷ places within other (Some below) (end_of within other (Some below) ∷ places d rest next after)) x.0 new step.held (subst Goes from x.2) in
+    let t : ℕ → List Op = λ n. over first_live (length i.mid.words) n in
+    let turn : Turns i.mid i.walk.0 t = i.walk.1 in
+    let j = live w c (s.results ∷ ls) other (Some below) (token.End ∷ spelled rest more) (end_of within other (Some below) ∷ places d rest next after) i.walk.0 new turn.held i.walk.2 in
+    let r = live w c ls rest next more after j.walk.0 new j.walk.1.held j.walk.2 in
+    let m = length i.walk.0.words in
+    let n = length j.mid.words in
+    record {
+      mid = r.mid;
+      emits = behind old j.walk.0 r.mid _ (λ es. []) _ (λ labels here. code w d labels next here rest)
+          (both-enclosed old x.0 i.mid i.walk.0 j.mid j.walk.0 sh first f g t (λ i j k. refl) step i.emits turn j.emits j.walk.1) r.emits
+          (λ es is.
+          let labels = named (shapes old.labels) es in
+          let inner : ℕ → List Label = λ k. label base takes k ∷ labels in
+          let counted = inner 0 in
+          let rest_words : ℕ → List Op = λ k. code w d labels next k rest in
+          let first_end = here + 6 + size w within counted (Some below) body in
+          let second = first_end + length (over first_live 0 0) in
+          let end = second + size w within counted (Some below) other in
+          let e = ends_there n in
+          let begins : length x.0.words ≡ here + 6 = longer-opens old x.0 sh first step e es is in
+          let zi = size_is w within counted (inner n) (Some below) (here + 6) body (refl, alike-same labels) in
+          let ki = enclosed-size old x.0 i.mid sh first f step i.emits e es is in
+          let first_is : length i.mid.words ≡ first_end = omega arith in
+          let countb = count-more x.0.labels old.labels sh step.shapes_are in
+          let counti = count-shapes i.mid.labels x.0.labels i.emits.shapes_are in
+          let li : 1 + length es ≡ length i.mid.labels = omega arith in
+          let kt = longer-turns i.mid i.walk.0 t turn n es li in
+          let ot = over_size w first_live 0 0 (length i.mid.words) n in
+          let second_is : m ≡ second = omega arith in
+          let countt = count-shapes i.walk.0.labels i.mid.labels turn.shapes_are in
+          let lj : length (e ∷ es) ≡ length i.walk.0.labels = omega arith in
+          let kj = longer i.walk.0 j.mid (λ fs. g (named (shapes i.walk.0.labels) fs) m) j.emits (e ∷ es) lj in
+          let shapes_same : shapes i.walk.0.labels ≡ sh ∷ shapes old.labels = turn.shapes_are ∙ i.emits.shapes_are ∙ step.shapes_are in
+          let named_same = ap (λ (ss : List Shape). length (g (named ss (e ∷ es)) m)) shapes_same in
+          let zj = size_is w within counted (inner n) (Some below) m other (refl, alike-same labels) in
+          let end_is : n ≡ end = omega arith in
+          let out : length j.walk.0.words ≡ end = j.walk.1.size ∙ end_is in
+          let whole : ℕ → ℕ → ℕ → ℕ → ℕ → List Op = λ a b k l o. (test_words w h here k ++ (f (inner l) a ++ (over first_live b l ++ g (inner l) k))) ++ rest_words o in
+          ap (λ (a : ℕ). whole a (length i.mid.words) m n (length j.walk.0.words)) begins
+          ∙ ap (λ (a : ℕ). whole (here + 6) a m n (length j.walk.0.words)) first_is
+          ∙ ap (λ (a : ℕ). whole (here + 6) first_end a n (length j.walk.0.words)) second_is
+          ∙ ap (λ (a : ℕ). whole (here + 6) first_end second a (length j.walk.0.words)) end_is
+          ∙ ap (λ (a : ℕ). whole (here + 6) first_end second end a) out
+          ∙ append_assoc (test_words w h here second) (f (inner end) (here + 6) ++ (over first_live first_end end ++ g (inner end) second)) (rest_words end)
+          ∙ ap (λ (l : List Op). test_words w h here second ++ l)
+          (append_assoc (f (inner end) (here + 6)) (over first_live first_end end ++ g (inner end) second) (rest_words end)
+          ∙ ap (λ (l : List Op). f (inner end) (here + 6) ++ l) (append_assoc (over first_live first_end end) (g (inner end) second) (rest_words end))));
+      walk = r.walk;
+    }
+
+-- ---- a body
+
+meaning-none : (ls : List Pending) (words : List ℕ) → length ls ≡ 0 → meaning ls [] words ≡ words
+meaning-none [] words h = refl
+meaning-none (l ∷ ls) words h = refl
+
+pub words_are_code : WordsLaw
+words_are_code w c tokens tree front last spells at x =
+    let n = length c.results in
+    let within = inside c c.results in
+    let old = begun n front in
+    let end = end_of within tree (Some 0) in
+    let y : Walk w c (spelled tree (token.End ∷ [])) (places_of c tree) old last = subst (λ (ts : List Token). Walk w c ts (places_of c tree) old last) spells x in
+    let i = live w c (c.results ∷ c.labels) tree (Some 0) (token.End ∷ []) (end ∷ []) old last ((tt, tt), tt) y in
+    let closes = i.walk.1 in
+    let final : last ≡ i.walk.0 = i.walk.2 in
+    let k = length i.mid.words in
+    let e = ends_there k in
+    let here = length front in
+    let f : ℕ → List Op = λ m. code w within (label 0 n m ∷ []) (Some 0) here tree in
+    let size_here = longer old i.mid (λ es. code w within (named (shapes old.labels) es) (Some 0) here tree) i.emits (e ∷ []) refl in
+    let z = size_is w within (label 0 n 0 ∷ []) (label 0 n k ∷ []) (Some 0) here tree (refl, tt) in
+    let ends : k ≡ body_place w + body_size w c tree = omega arith in
+    let none = count-more i.mid.labels i.walk.0.labels closes.shape closes.shapes_are in
+    let one = count-shapes i.mid.labels old.labels i.emits.shapes_are in
+    let empty : length {A = Ends} [] ≡ length i.walk.0.labels = omega arith in
+    ap (λ (d : Draft). d.words) final
+    ∙ sym (meaning-none i.walk.0.labels i.walk.0.words (sym empty))
+    ∙ closes.words_are [] empty
+    ∙ i.emits.words_are (e ∷ []) refl
+    ∙ ap (λ (m : ℕ). front ++ map word_of (f m)) ends
+    ∙ ap (λ (m : ℕ). front ++ map word_of (code w within (label 0 n (body_place w + body_size w c tree) ∷ []) (Some 0) m tree)) at

@@ -1,0 +1,5 @@
+pub mod Choices
+pub mod Pending
+pub mod Emits
+pub mod Walks
+pub mod Begins

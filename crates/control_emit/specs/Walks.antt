@@ -1,0 +1,68 @@
+-- How tokens, each at its place, lead from one draft of a function's words to another.
+use Rattle.std.specs.Prelude.{◌≡◌, ℕ, ◌-◌, Bool, true, false, List, [], ◌∷◌, ◌++◌, length, map, None, Some}
+use Rattle.rv_isa.specs.Words.{word_of}
+use Rattle.wasm_defs.specs.declared.token.Token.{Token}
+use Rattle.wasm_defs.specs.declared.token.Token.TheVariants as token
+use Rattle.wasm_defs.specs.Places.{Place, shape, places_of}
+use Rattle.wasm_defs.specs.Trees.{Seq, Tree}
+use Rattle.wasm_defs.specs.Typing.{Context, Signature}
+use Rattle.frame_layout.specs.Templates.{Around, words}
+use Rattle.frame_layout.specs.Functions.{over, test_words, body_place, body_code}
+use Rattle.control_emit.specs.Pending.{Pending, Shape, shapes, named}
+use Rattle.control_emit.specs.Emits.{Draft, Emits, Opens, Turns, Closes}
+
+abbrev pub end_shape : (base takes : ℕ) → Shape
+end_shape base takes = record { base = base; takes = takes; start = None }
+
+abbrev pub start_shape : (base takes start : ℕ) → Shape
+start_shape base takes start = record { base = base; takes = takes; start = Some start }
+
+-- a block that isn't live has a label too, which nothing names
+pub record OpensDead (old new : Draft) : Type 0 where
+  pub shape : Shape
+  pub opens : Opens old new shape (λ e. [])
+
+abbrev pub Blocks : (h : ℕ) → Signature → Draft → Draft → Type 0
+Blocks h s old new = Opens old new (end_shape (h - length s.params) (length s.results)) (λ e. [])
+
+abbrev pub Loops : (h : ℕ) → Signature → Draft → Draft → Type 0
+Loops h s old new = Opens old new (start_shape (h - length s.params) (length s.params) (length old.words)) (λ e. [])
+
+abbrev pub Tests : Around → (h : ℕ) → Signature → Draft → Draft → Type 0
+Tests w h s old new = Opens old new (end_shape (h - 1 - length s.params) (length s.results)) (λ e. test_words w h (length old.words) e.other)
+
+abbrev pub Step : Around → Context → Token → Place → Draft → Draft → Type 0
+Step w c (token.Plain p) None old new = new ≡ old
+Step w c (token.Plain p) (Some h) old new = Emits old new (λ ends. words w c (named (shapes old.labels) ends) h (length old.words) p)
+Step w c (token.Block t) None old new = OpensDead old new
+Step w c (token.Block t) (Some h) old new = Blocks h (shape c t) old new
+Step w c (token.Loop t) None old new = OpensDead old new
+Step w c (token.Loop t) (Some h) old new = Loops h (shape c t) old new
+Step w c (token.If t) None old new = OpensDead old new
+Step w c (token.If t) (Some h) old new = Tests w h (shape c t) old new
+Step w c token.Else place old new = Turns old new (λ end. over place (length old.words) end)
+Step w c token.End place old new = Closes old new
+
+abbrev pub Walk : Around → Context → List Token → List Place → Draft → Draft → Type 0
+Walk w c [] places old new = new ≡ old
+Walk w c (t ∷ ts) [] old new = ⊥
+Walk w c (t ∷ ts) (q ∷ qs) old new = (mid : Draft) × Step w c t q old mid × Walk w c ts qs mid new
+
+-- a body's own label
+abbrev pub body_label : (results : ℕ) → Pending
+body_label results = record { base = 0; takes = results; start = None; test = None; jumps = [] }
+
+abbrev pub begun : (results : ℕ) → List ℕ → Draft
+begun results front = record { labels = body_label results ∷ []; words = front }
+
+abbrev pub IsLive : Bool → Place → Type 0
+IsLive true None = ⊥
+IsLive true (Some h) = Unit {0}
+IsLive false None = Unit {0}
+IsLive false (Some h) = ⊥
+
+-- a body's tokens, each at its place, lead to its words
+abbrev pub WordsLaw : Type 0
+WordsLaw =
+    (w : Around) (c : Context) (tokens : List Token) (tree : Seq) (front : List ℕ) (last : Draft) → Tree tokens tree → length front ≡ body_place w
+    → Walk w c tokens (places_of c tree) (begun (length c.results) front) last → last.words ≡ front ++ map word_of (body_code w c tree)

@@ -1,0 +1,201 @@
+//! Runs of words of branches.
+
+ghost use Rattle.std.specs.Prelude.{◌≡◌, ◌+◌, ◌-◌, ◌*◌, ◌^◌, ◌<◌, ◌≤◌, ◌++◌, ◌∷◌, [], map, length, OnOk};
+ghost use Rattle.rv_isa.specs.declared.operations.Op.TheVariants.{Branch as BranchGiven};
+ghost use Rattle.rv_isa.specs.declared.operations.BranchOp.TheVariants.{Bne as BneGiven};
+ghost use Rattle.rv_isa.specs.Runs.{hi};
+ghost use Rattle.rv_isa.specs.Words.{word_of};
+ghost use Rattle.frame_layout.specs.Slots.{operand};
+ghost use Rattle.frame_layout.specs.Macros.{x0, t0, distance, far, forward};
+ghost use Rattle.frame_layout.specs.Templates.{Around, load_operand, store_operand, move_words, unless_words, scale_words, table_front};
+ghost use Rattle.control_emit.specs.Choices.{count_words, choice_words};
+
+use frame_layout::Layout;
+use frame_layout::macros::{branch, const_32, imm, reg, shift, zero_extend};
+use frame_layout::words::{slot_load, slot_store};
+use rv_isa::{
+    BranchOp, Imm12, Imm20, ImmOp, Op, RegOp, Register, ShiftOp, WordBuffer, encode_branch,
+};
+use std::alloc::AllocError;
+
+/// So many values are the most that one branch passes over, with the jump that takes them along.
+const MOST_PASSED: u32 = 170;
+
+/// The place of the word that is appended next.
+pub fn place_in(buffer: &WordBuffer) -> usize
+    ensures is { result ≡ length buffer.now }
+    ensures small { result < 2 ^ 62 }
+{
+    buffer.as_slice().len()
+}
+
+/// From one place to another, each counted in words.
+fn distance(here: usize, there: usize) -> u64
+    ensures { result ≡ distance here there }
+{
+    let back = 0x1_0000_0000_0000_0000u128.saturating_sub(4 * here as u128);
+    ((4 * there as u128 + back) % 0x1_0000_0000_0000_0000) as u64
+}
+
+/// The upper part of a distance.
+fn hi(distance: u64) -> Imm20
+    ensures { result ≡ hi distance }
+{
+    let low = distance % 0x1_0000_0000;
+    Imm20::new(((low + 2048) / 4096 % 0x10_0000) as u32)
+}
+
+/// A jump from one place to another.
+pub fn far(here: usize, there: usize) -> [Op; 2]
+    ensures { result ≡ far (distance here there) }
+{
+    let distance = distance(here, there);
+    let upper = hi(distance);
+    let lower = Imm12::new((distance % 4096) as u16);
+    [
+        Op::Auipc {
+            rd: Register::T3,
+            imm: upper,
+        },
+        Op::Jalr {
+            rd: Register::ZERO,
+            rs1: Register::T3,
+            imm: lower,
+        },
+    ]
+}
+
+/// Appends the words that move a value from one operand's slot to another's.
+fn append_move(
+    buffer: &mut WordBuffer,
+    layout: &Layout,
+    from: u32,
+    to: u32,
+) -> Result<(), AllocError>
+    requires from { operand layout.now from < 2 ^ 32 }
+    requires to { operand layout.now to < 2 ^ 32 }
+    ensures { (w : Around) → w.layout ≡ layout.now → OnOk result (buffer.new ≡ buffer.old ++ map word_of (load_operand w t0 from ++ store_operand w t0 to)) }
+{
+    let [a, b, c] = slot_load(Register::T0, layout.operand(from));
+    let [d, e, f] = slot_store(Register::T0, layout.operand(to));
+    buffer.append(&[a, b, c, d, e, f])
+}
+
+/// Appends the words that move so many values, from operand j upward to a label's base and upward.
+pub fn append_moves(
+    buffer: &mut WordBuffer,
+    layout: &Layout,
+    takes: u32,
+    j: u32,
+    base: u32,
+) -> Result<(), AllocError>
+    requires from { operand layout.now (j + takes) < 2 ^ 32 }
+    requires to { operand layout.now (base + takes) < 2 ^ 32 }
+    ensures { (w : Around) → w.layout ≡ layout.now → OnOk result (buffer.new ≡ buffer.old ++ map word_of (move_words w takes j base)) }
+{
+    for i in 0..takes {
+        append_move(buffer, layout, j + i, base + i)?;
+    }
+    Ok(())
+}
+
+/// Appends the words that bring the topmost of so many operands into t0.
+pub fn append_topmost(
+    buffer: &mut WordBuffer,
+    layout: &Layout,
+    height: u32,
+) -> Result<(), AllocError>
+    requires { operand layout.now height < 2 ^ 32 }
+    ensures { (w : Around) → w.layout ≡ layout.now → OnOk result (buffer.new ≡ buffer.old ++ map word_of (load_operand w t0 (height - 1))) }
+{
+    buffer.append(&slot_load(Register::T0, layout.operand(height.saturating_sub(1))))
+}
+
+/// Appends the words that pass over a jump, which takes so many values along, where t0 is zero.
+pub fn append_unless(buffer: &mut WordBuffer, takes: u32) -> Result<(), AllocError>
+    ensures { (w : Around) → OnOk result (buffer.new ≡ buffer.old ++ map word_of (unless_words w (length buffer.old) takes)) }
+{
+    if takes <= MOST_PASSED {
+        let bytes = 12 + 24 * takes as u16;
+        return buffer.append_ops(&[&[branch(BranchOp::Beq, Register::T0, Register::ZERO, bytes)]]);
+    }
+    let here = place_in(buffer);
+    let past = here + 5 + 6 * takes as usize;
+    buffer.append_ops(&[
+        &[branch(BranchOp::Bne, Register::T0, Register::ZERO, 12)],
+        &far(here + 1, past),
+    ])
+}
+
+/// Appends the words that pass over a jump where the topmost operand isn't zero.
+pub fn append_test(buffer: &mut WordBuffer, layout: &Layout, height: u32) -> Result<(), AllocError>
+    requires { operand layout.now height < 2 ^ 32 }
+    ensures { (w : Around) → w.layout ≡ layout.now → OnOk result (buffer.new ≡ buffer.old ++ map word_of (load_operand w t0 (height - 1) ++ (BranchGiven BneGiven t0 x0 (forward 12) ∷ []))) }
+{
+    let [a, b, c] = slot_load(Register::T0, layout.operand(height.saturating_sub(1)));
+    let over = encode_branch(BranchOp::Bne, Register::T0, Register::ZERO, Imm12::new(6));
+    buffer.append(&[a, b, c, over])
+}
+
+/// Appends the words that make of an index in t0 the count, where it is no less.
+fn append_count(buffer: &mut WordBuffer, count: usize) -> Result<(), AllocError>
+    ensures { OnOk result (buffer.new ≡ buffer.old ++ map word_of (count_words count)) }
+{
+    buffer.append_ops(&[
+        &zero_extend(Register::T0),
+        &const_32(Register::T1, count as u64),
+        &[
+            branch(BranchOp::Bltu, Register::T0, Register::T1, 8),
+            imm(ImmOp::Addi, Register::T0, Register::T1, 0),
+        ],
+    ])
+}
+
+/// Appends the words that make of an index in t0 the bytes of so many jumps, each of which takes so many values along.
+fn append_scale(buffer: &mut WordBuffer, takes: u32) -> Result<(), AllocError>
+    ensures { (w : Around) → OnOk result (buffer.new ≡ buffer.old ++ map word_of (scale_words w takes)) }
+{
+    match takes {
+        0 => buffer.append_ops(&[&[shift(ShiftOp::Slli, Register::T0, Register::T0, 3)]]),
+        1 => buffer.append_ops(&[&[shift(ShiftOp::Slli, Register::T0, Register::T0, 5)]]),
+        _ => buffer.append_ops(&[
+            &const_32(Register::T2, 8 + 24 * u64::from(takes)),
+            &[reg(RegOp::Mul, Register::T0, Register::T0, Register::T2)],
+        ]),
+    }
+}
+
+/// Appends the words that go so many bytes on from what stands behind them.
+fn append_choice(buffer: &mut WordBuffer) -> Result<(), AllocError>
+    ensures { OnOk result (buffer.new ≡ buffer.old ++ map word_of choice_words) }
+{
+    buffer.append_ops(&[&[
+        Op::Auipc {
+            rd: Register::T1,
+            imm: Imm20::new(0),
+        },
+        reg(RegOp::Add, Register::T1, Register::T1, Register::T0),
+        Op::Jalr {
+            rd: Register::ZERO,
+            rs1: Register::T1,
+            imm: Imm12::new(12),
+        },
+    ]])
+}
+
+/// Appends the words that choose one of so many jumps, which take so many values along.
+pub fn append_front(
+    buffer: &mut WordBuffer,
+    layout: &Layout,
+    height: u32,
+    count: usize,
+    takes: u32,
+) -> Result<(), AllocError>
+    requires { operand layout.now height < 2 ^ 32 }
+    ensures { (w : Around) → w.layout ≡ layout.now → OnOk result (buffer.new ≡ buffer.old ++ map word_of (table_front w height count takes)) }
+{
+    append_topmost(buffer, layout, height)?;
+    append_count(buffer, count)?;
+    append_scale(buffer, takes)?;
+    append_choice(buffer)
+}

@@ -1,0 +1,436 @@
+//! The labels of a function that are open.
+
+ghost use Rattle.std.specs.Prelude.{◌≡◌, ◌<◌, ◌≤◌, ◌+◌, ◌-◌, ℕ, [], ◌∷◌, ◌++◌, length, map, OnOk, IfOk, slice_index_or};
+ghost use Rattle.rv_isa.specs.Words.{word_of};
+ghost use Rattle.frame_layout.specs.Slots.{link};
+ghost use Rattle.wasm_defs.specs.Places.{Place};
+ghost use Rattle.frame_layout.specs.Templates.{Around, label_at, jump_words, jump_if_words, jumps, jump_table_words};
+ghost use Rattle.frame_layout.specs.Functions.{over, test_words};
+ghost use Rattle.control_emit.specs.Pending.{shapes, named, patched, all_patched, test_patched, AreWithin, IsTestWithin, AreBelow, TakesTest, jumping, end_at, chain, IsBefore, AreLinked};
+ghost use Rattle.frame_layout.specs.Macros.{distance, far};
+ghost use Rattle.control_emit.specs.Emits.{draft, IsHeld, Emits, Opens, Turns, Closes};
+ghost use Rattle.control_emit.specs.Begins.{IsOpening, Begins};
+ghost use Rattle.control_emit.specs.Walks.{body_label, end_shape, start_shape, IsLive};
+
+use crate::jumps::{append_front, append_moves, append_test, append_topmost, append_unless, far};
+use frame_layout::Layout;
+use rv_isa::{WordBuffer, encode};
+use std::alloc::{AllocError, Global};
+use std::marker::Model;
+use wasm_defs::Token;
+
+/// A label that is open. Places are in words from the function's first one.
+#[derive(Clone, Copy)]
+pub struct Open {
+    /// The height below the block.
+    base: u32,
+    /// How many values a branch takes along.
+    takes: u32,
+    /// Where a loop begins.
+    start: Option<u32>,
+    /// Where the jump of an `if` stands that had no `else` yet.
+    test: Option<u32>,
+    /// The last of the jumps to the block's end, by its number among all jumps.
+    last_jump: Option<u32>,
+}
+
+/// A jump to a block's end, which isn't known yet.
+#[derive(Clone, Copy)]
+pub struct Jump {
+    /// Where it stands.
+    place: u32,
+    /// The jump before it to the same end, by its number among all jumps.
+    before: Option<u32>,
+}
+
+/// Where a jump leads, and what it takes along.
+#[derive(Clone, Copy)]
+struct Goal {
+    base: u32,
+    takes: u32,
+    start: Option<u32>,
+}
+
+/// The labels of a function that are open, over the words so far, which all calls of one value take. Where the jumps stand whose
+/// place isn't known yet is kept in one list: there are no more of them than jumps to blocks' ends.
+///
+/// Where a call answers that memory is wanting, it may have appended some of its words, and nothing more is promised of the labels
+/// and the buffer: both are let go then.
+#[derive(Drop)]
+pub struct Labels {
+    labels: Vec<Open>,
+    jumps: Vec<Jump>,
+}
+
+impl Model for Labels {
+    ghost use Rattle.std.specs.Prelude.{List, length};
+    ghost use Rattle.control_emit.specs.Pending.{Pending, pending_in, AreKept, AreLinked};
+
+    ghost Value = { List Pending };
+
+    ghost view = { λ l. pending_in l.jumps.items l.labels.items };
+
+    ghost invariant = { λ l. AreKept (length l.jumps.items) l.labels.items × AreLinked l.jumps.items };
+}
+
+/// A place or a number in 32 bits. Words that need more take 16 GiB, which counts as want of memory.
+fn short(number: usize) -> Result<u32, AllocError>
+    ensures { IfOk result (λ n. n ≡ number) }
+{
+    if 0xFFFF_FFFF < number {
+        return Err(AllocError);
+    }
+    Ok(number as u32)
+}
+
+/// The jump at a place leads there.
+fn patch(words: &mut WordBuffer, place: u32, there: usize)
+    requires { place + 2 ≤ length words.old }
+    ensures { words.new ≡ patched there place words.old }
+{
+    let place = place as usize;
+    let [first, second] = far(place, there);
+    words.patch(place, encode(first));
+    words.patch(place + 1, encode(second));
+}
+
+/// A jump and those before it to the same end lead there.
+fn patch_all(words: &mut WordBuffer, jumps: &[Jump], last: Option<u32>, there: usize)
+    requires linked { AreLinked jumps.now }
+    requires last { IsBefore (length jumps.now) last }
+    requires places { AreWithin (length words.old) (chain jumps.now (length jumps.now) last) }
+    ensures { words.new ≡ all_patched there (chain jumps.now (length jumps.now) last) words.old }
+{
+    let mut next = last;
+    while let Some(number) = next {
+        let jump = jumps[number as usize];
+        patch(words, jump.place, there);
+        next = jump.before;
+    }
+}
+
+/// The jump of an `if`, if there is one, leads there.
+fn patch_test(words: &mut WordBuffer, test: Option<u32>, there: usize)
+    requires { IsTestWithin (length words.old) test }
+    ensures { words.new ≡ test_patched there test words.old }
+{
+    match test {
+        Some(place) => patch(words, place, there),
+        None => {}
+    }
+}
+
+/// Appends a jump to a place that is known.
+fn lead_back(buffer: &mut WordBuffer, place: usize) -> Result<(), AllocError>
+    ensures { OnOk result (buffer.new ≡ buffer.old ++ map word_of (far (distance (length buffer.old) place))) }
+{
+    let here = buffer.place();
+    buffer.append_ops(&[&far(here, place)])
+}
+
+impl Labels {
+    /// The label of a function with so many results: it is open till the function's end.
+    pub fn new(alloc: Global, values: u32) -> Result<Self, AllocError>
+        requires { values < 0x8000_0000 }
+        ensures { IfOk result (λ labels. labels ≡ body_label values ∷ []) }
+    {
+        let mut labels = Vec::new(alloc);
+        labels.push(Open {
+            base: 0,
+            takes: values,
+            start: None,
+            test: None,
+            last_jump: None,
+        })?;
+        Ok(Labels {
+            labels,
+            jumps: Vec::new(alloc),
+        })
+    }
+
+    /// How many labels are open.
+    pub fn len(&self) -> usize
+        ensures { result ≡ length self.now }
+    {
+        self.labels.len()
+    }
+
+    /// Opens a label that leads to its block's end.
+    fn open_block(&mut self, buffer: &WordBuffer, base: u32, values: u32) -> Result<(), AllocError>
+        requires held { IsHeld (draft self.old buffer.now) }
+        requires low { base + values < 0x8000_0000 }
+        ensures { OnOk result (Opens (draft self.old buffer.now) (draft self.new buffer.now) (end_shape base values) (λ e. [])) }
+    {
+        let _ = buffer.place();
+        self.labels.push(Open {
+            base,
+            takes: values,
+            start: None,
+            test: None,
+            last_jump: None,
+        })?;
+        Ok(())
+    }
+
+    /// Opens a label that leads here.
+    fn open_loop(&mut self, buffer: &WordBuffer, base: u32, values: u32) -> Result<(), AllocError>
+        requires held { IsHeld (draft self.old buffer.now) }
+        requires low { base + values < 0x8000_0000 }
+        ensures { OnOk result (Opens (draft self.old buffer.now) (draft self.new buffer.now) (start_shape base values (length buffer.now)) (λ e. [])) }
+    {
+        let here = short(buffer.place())?;
+        self.labels.push(Open {
+            base,
+            takes: values,
+            start: Some(here),
+            test: None,
+            last_jump: None,
+        })?;
+        Ok(())
+    }
+
+    /// Opens the label of an `if` whose condition is the topmost of so many operands, and appends its words.
+    fn open_if(
+        &mut self,
+        buffer: &mut WordBuffer,
+        layout: &Layout,
+        height: u32,
+        base: u32,
+        values: u32,
+    ) -> Result<(), AllocError>
+        requires held { IsHeld (draft self.old buffer.old) }
+        requires low { base + values < 0x8000_0000 }
+        requires high { height < 0x8000_0000 }
+        requires slots { link layout.now < 0x7FFF_FFFF }
+        ensures { (w : Around) → w.layout ≡ layout.now → OnOk result (Opens (draft self.old buffer.old) (draft self.new buffer.new) (end_shape base values) (λ e. test_words w height (length buffer.old) e.other)) }
+    {
+        append_test(buffer, layout, height)?;
+        let here = short(buffer.place())?;
+        lead_back(buffer, here as usize)?;
+        self.labels.push(Open {
+            base,
+            takes: values,
+            start: None,
+            test: Some(here),
+            last_jump: None,
+        })?;
+        Ok(())
+    }
+
+    /// Opens the block, loop or `if` of a token, where so many operands lie. Its label's base is the height below its
+    /// parameters, and a branch to it takes so many values along. The words of an `if` are appended where it is live.
+    pub fn begin(
+        &mut self,
+        buffer: &mut WordBuffer,
+        layout: &Layout,
+        height: u32,
+        token: &Token,
+        base: u32,
+        values: u32,
+        live: bool,
+    ) -> Result<(), AllocError>
+        requires held { IsHeld (draft self.old buffer.old) }
+        requires opens { IsOpening token.now }
+        requires low { base + values < 0x8000_0000 }
+        requires high { height < 0x8000_0000 }
+        requires slots { link layout.now < 0x7FFF_FFFF }
+        ensures { (w : Around) → w.layout ≡ layout.now → OnOk result (Begins w token.now live height base values (draft self.old buffer.old) (draft self.new buffer.new)) }
+    {
+        match token {
+            Token::Block(_) => self.open_block(buffer, base, values),
+            Token::Loop(_) => self.open_loop(buffer, base, values),
+            Token::If(_) => {
+                if live {
+                    self.open_if(buffer, layout, height, base, values)
+                } else {
+                    self.open_block(buffer, base, values)
+                }
+            }
+            _ => unreachable!(),
+        }
+    }
+
+    /// Where a jump to a label leads, and what it takes along.
+    fn goal(&self, label: u32) -> Goal
+        requires { label < length self.now }
+        ensures is { slice_index_or (shapes self.now) label (end_shape 0 0) ≡ record { base = result.base; takes = result.takes; start = result.start } }
+        ensures low { result.base + result.takes < 0x8000_0000 }
+    {
+        let index = self.labels.len() - 1 - label as usize;
+        let open = &self.labels[index];
+        Goal {
+            base: open.base,
+            takes: open.takes,
+            start: open.start,
+        }
+    }
+
+    /// Notes where a jump to the end of a label's block stands.
+    fn wait(&mut self, label: u32, place: usize) -> Result<(), AllocError>
+        requires { label < length self.old }
+        ensures { OnOk result (self.new ≡ jumping place label self.old) }
+    {
+        let place = short(place)?;
+        let number = short(self.jumps.len())?;
+        let index = self.labels.len() - 1 - label as usize;
+        let open = self.labels[index];
+        self.jumps.push(Jump {
+            place,
+            before: open.last_jump,
+        })?;
+        self.labels[index] = Open {
+            last_jump: Some(number),
+            ..open
+        };
+        Ok(())
+    }
+
+    /// Takes the place where the jump of the innermost `if` stands, if it had no `else` yet.
+    fn take_test(&mut self) -> Option<u32>
+        requires { 0 < length self.old }
+        ensures { TakesTest result self.old self.new }
+    {
+        let index = self.labels.len() - 1;
+        let open = self.labels[index];
+        self.labels[index] = Open { test: None, ..open };
+        open.test
+    }
+
+    /// Appends a jump to the end of a label's block.
+    fn lead_behind(&mut self, buffer: &mut WordBuffer, label: u32) -> Result<(), AllocError>
+        requires held { IsHeld (draft self.old buffer.old) }
+        requires label { label < length self.old }
+        ensures { OnOk result (Emits (draft self.old buffer.old) (draft self.new buffer.new) (λ ends. far (distance (length buffer.old) (end_at label ends)))) }
+    {
+        let here = buffer.place();
+        lead_back(buffer, here)?;
+        self.wait(label, here)
+    }
+
+    /// Appends a jump to a label, 0 being the innermost, where so many operands lie: `br`. Its values are the topmost ones.
+    pub fn jump(
+        &mut self,
+        buffer: &mut WordBuffer,
+        layout: &Layout,
+        height: u32,
+        label: u32,
+    ) -> Result<(), AllocError>
+        requires held { IsHeld (draft self.old buffer.old) }
+        requires label { label < length self.old }
+        requires high { height < 0x8000_0000 }
+        requires slots { link layout.now < 0x7FFF_FFFF }
+        ensures { (w : Around) → w.layout ≡ layout.now → OnOk result (Emits (draft self.old buffer.old) (draft self.new buffer.new) (λ ends. jump_words w height (length buffer.old) (label_at w (named (shapes self.old) ends) label))) }
+    {
+        let goal = self.goal(label);
+        let from = height.saturating_sub(goal.takes);
+        append_moves(buffer, layout, goal.takes, from, goal.base)?;
+        match goal.start {
+            Some(place) => lead_back(buffer, place as usize),
+            None => self.lead_behind(buffer, label),
+        }
+    }
+
+    /// Appends a jump that is made where the topmost operand isn't zero: `br_if`.
+    pub fn jump_if(
+        &mut self,
+        buffer: &mut WordBuffer,
+        layout: &Layout,
+        height: u32,
+        label: u32,
+    ) -> Result<(), AllocError>
+        requires held { IsHeld (draft self.old buffer.old) }
+        requires label { label < length self.old }
+        requires high { height < 0x8000_0000 }
+        requires slots { link layout.now < 0x7FFF_FFFF }
+        ensures { (w : Around) → w.layout ≡ layout.now → OnOk result (Emits (draft self.old buffer.old) (draft self.new buffer.new) (λ ends. jump_if_words w height (length buffer.old) (label_at w (named (shapes self.old) ends) label))) }
+    {
+        let takes = self.goal(label).takes;
+        append_topmost(buffer, layout, height)?;
+        append_unless(buffer, takes)?;
+        self.jump(buffer, layout, height.saturating_sub(1), label)
+    }
+
+    /// Appends jumps to labels, one behind the other.
+    fn jump_all(
+        &mut self,
+        buffer: &mut WordBuffer,
+        layout: &Layout,
+        height: u32,
+        labels: &[u32],
+    ) -> Result<(), AllocError>
+        requires held { IsHeld (draft self.old buffer.old) }
+        requires labels { AreBelow (length self.old) labels.now }
+        requires high { height < 0x8000_0000 }
+        requires slots { link layout.now < 0x7FFF_FFFF }
+        ensures { (w : Around) → w.layout ≡ layout.now → OnOk result (Emits (draft self.old buffer.old) (draft self.new buffer.new) (λ ends. jumps w height (length buffer.old) (map (label_at w (named (shapes self.old) ends)) labels.now))) }
+    {
+        for label in labels {
+            self.jump(buffer, layout, height, *label)?;
+        }
+        Ok(())
+    }
+
+    /// Appends jumps to labels by an index, the topmost operand: `br_table`.
+    pub fn jump_table(
+        &mut self,
+        buffer: &mut WordBuffer,
+        layout: &Layout,
+        height: u32,
+        labels: &[u32],
+        last: u32,
+    ) -> Result<(), AllocError>
+        requires held { IsHeld (draft self.old buffer.old) }
+        requires labels { AreBelow (length self.old) labels.now }
+        requires last { last < length self.old }
+        requires high { height < 0x8000_0000 }
+        requires slots { link layout.now < 0x7FFF_FFFF }
+        ensures { (w : Around) → w.layout ≡ layout.now → OnOk result (Emits (draft self.old buffer.old) (draft self.new buffer.new) (λ ends. jump_table_words w height (length buffer.old) (map (label_at w (named (shapes self.old) ends)) labels.now) (label_at w (named (shapes self.old) ends) last))) }
+    {
+        let takes = self.goal(last).takes;
+        append_front(buffer, layout, height, labels.len(), takes)?;
+        let below = height.saturating_sub(1);
+        self.jump_all(buffer, layout, below, labels)?;
+        self.jump(buffer, layout, below, last)
+    }
+
+    /// Appends the jump past the second branch of the innermost `if`, where the end of its first one is live.
+    fn pass_over(&mut self, buffer: &mut WordBuffer, live: bool) -> Result<(), AllocError>
+        requires held { IsHeld (draft self.old buffer.old) }
+        requires some { 0 < length self.old }
+        ensures { (place : Place) → IsLive live place → OnOk result (Emits (draft self.old buffer.old) (draft self.new buffer.new) (λ ends. over place (length buffer.old) (end_at 0 ends))) }
+    {
+        if live {
+            return self.lead_behind(buffer, 0);
+        }
+        Ok(())
+    }
+
+    /// Goes over to the `else` of the innermost `if`. Where the end of its first branch is live, a jump to the block's end is appended.
+    pub fn otherwise(&mut self, buffer: &mut WordBuffer, live: bool) -> Result<(), AllocError>
+        requires held { IsHeld (draft self.old buffer.old) }
+        requires some { 0 < length self.old }
+        ensures { (place : Place) → IsLive live place → OnOk result (Turns (draft self.old buffer.old) (draft self.new buffer.new) (λ end. over place (length buffer.old) end)) }
+    {
+        self.pass_over(buffer, live)?;
+        let there = buffer.place();
+        let test = self.take_test();
+        patch_test(buffer, test, there);
+        Ok(())
+    }
+
+    /// Closes the innermost block: its label leads here, and so do the jumps to it. It takes no memory.
+    pub fn close(&mut self, buffer: &mut WordBuffer)
+        requires held { IsHeld (draft self.old buffer.old) }
+        requires some { 0 < length self.old }
+        ensures { Closes (draft self.old buffer.old) (draft self.new buffer.new) }
+    {
+        let here = buffer.place();
+        match self.labels.pop() {
+            Some(open) => {
+                patch_test(buffer, open.test, here);
+                patch_all(buffer, self.jumps.as_slice(), open.last_jump, here);
+            }
+            None => unreachable!(),
+        }
+    }
+}

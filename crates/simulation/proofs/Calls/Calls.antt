@@ -1,0 +1,230 @@
+-- A call of a declared function.
+use Rattle.std.proofs.Common.{◌≡◌, ℕ, suc, ◌+◌, ◌-◌, ◌^◌, ◌<◌, ◌≤◌, List, [], ◌∷◌, ◌++◌, length, take, drop, reverse, Option, Some, None, refl, sym, ap, ◌∙◌, subst, arith}
+use Rattle.std.specs.Prelude.{slice_get}
+use Rattle.std.proofs.lemmas.Bool.{eq-eqb, false≢true}
+use Rattle.std.proofs.lemmas.List.{length-append, length-reverse, reverse-reverse, take-append-drop, length-take-le}
+use Rattle.std.proofs.Common.{append_assoc}
+use Rattle.rv_isa.specs.declared.operations.Op.{Op}
+use Rattle.rv_isa.specs.declared.operations.Op.TheVariants.{Auipc, Jalr}
+use Rattle.rv_isa.specs.Steps.{State, Bytes, reg}
+use Rattle.rv_isa.specs.Runs.{place, HasAt, Reaches, FitWindows, hi, lo}
+use Rattle.rv_isa.proofs.RunLaws.{Reaches-then}
+use Rattle.wasm_defs.specs.declared.types.FuncType.{FuncType}
+use Rattle.wasm_defs.specs.declared.token.Plain.TheVariants.{Call}
+use Rattle.wasm_defs.specs.Trees.{Seq, Simple}
+use Rattle.wasm_defs.specs.Typing.{Types, Context, Moves, with_type, called, function_type}
+use Rattle.wasm_defs.specs.Places.{Place, after_rule}
+use Rattle.wasm_defs.specs.Context.{type_or_empty, type_of_function}
+use Rattle.wasm_defs.specs.Values.{Value, types_of_values}
+use Rattle.wasm_defs.specs.Configurations.{Func, Function, Declared, type_of, Instance, Frame, Config, belows, part, used, max_slots}
+use Rattle.wasm_defs.specs.Reductions.{call, enter}
+use Rattle.frame_layout.specs.Macros.{ra, s0, s5, distance, shift, back}
+use Rattle.frame_layout.specs.Slots.{operand}
+use Rattle.frame_layout.specs.Templates.{exit_stub}
+use Rattle.frame_layout.specs.Laws.{IsFrame}
+use Rattle.frame_layout.proofs.Standing.{has_first, has_rest}
+use Rattle.sim_frames.specs.Functions.{Known}
+use Rattle.sim_frames.proofs.Frames.{under, Compiled, SitsAt, Returns, CallersStay, FramesStay, KeepsRegisters}
+use Rattle.sim_frames.proofs.Follows.{same_beside, ahead, labels_ahead, Follows}
+use Rattle.sim_frames.proofs.Heights.{peak_here}
+use Rattle.sim_frames.proofs.Holding.{follows_less, follows_after}
+use Rattle.sim_frames.proofs.Jumps.{shift_moves, linked_lands}
+use Rattle.sim_frames.proofs.Leaving.{operands_below}
+use Rattle.sim_frames.proofs.Rules.{types_length, types_split, MovesFixed, moves_fixed, rule_height}
+use Rattle.sim_frames.proofs.Sitting.{has_at, has_words, sits_rest}
+use Rattle.sim_frames.proofs.Values.{Operands, Locals}
+use Rattle.sim_frames.proofs.Reversed.{types_reverse, passed}
+use Rattle.simulation.proofs.Calls.Entered.{enters_follow}
+
+-- what the rule says of types
+pub record CalledAt (o : Option FuncType) (from mid : Types) : Type 0 where
+  pub ty : FuncType
+  pub is : o ≡ Some ty
+  pub moves : MovesFixed (reverse ty.params) (reverse ty.results) from mid
+  pub height : (n : ℕ) → after_rule (with_type o (called [])) (Some (length from + n)) ≡ Some (length mid + n)
+
+pub called_at : (o : Option FuncType) (from mid : Types) → Moves (with_type o (called [])) from mid → CalledAt o from mid
+called_at None from mid m = absurd m.allowed
+called_at (Some t) from mid m =
+    record { ty = t; is = refl; moves = moves_fixed (reverse t.params) (reverse t.results) from mid m; height = λ n. rule_height (called [] t) from mid n tt m }
+
+module _ (text : List (Option Op)) (near : length text ≤ 2 ^ 26) (inst : Instance) (places : ℕ → ℕ) (outer : Types) (stub : HasAt text 0 exit_stub) where
+  module _ (c : Config) (s : State) (g : ℕ) (rest : Seq) (m : FramesStay text inst places outer (record c.frame { code = Simple (Call g) rest }) c.callers s) where
+    abbrev k : Compiled text inst places c.frame.function
+    k = m.running.compiled
+
+    abbrev pub at : Context
+    at = under k.context m.running.os
+
+    abbrev ops : List Value
+    ops = c.frame.operands
+
+    abbrev n : ℕ
+    n = length (belows c.frame.labels)
+
+    abbrev h : ℕ
+    h = length (types_of_values ops) + n
+
+    abbrev size : ℕ
+    size = ahead (Simple (Call g) rest) + labels_ahead c.frame.labels
+
+    pub x : CalledAt (function_type at g) (types_of_values ops) m.running.sits.typed.0
+    x = called_at (function_type at g) (types_of_values ops) m.running.sits.typed.0 m.running.sits.typed.1
+
+    -- to a function of some type, at its place
+    module _ (ty : FuncType) (ty_is : ty ≡ x.ty) (target : places g ≤ length text) where
+      abbrev count : ℕ
+      count = length ty.params
+
+      abbrev passing : List Value
+      passing = take count ops
+
+      abbrev keeping : List Value
+      keeping = drop count ops
+
+      abbrev caller : Frame
+      caller = record c.frame { operands = drop (length ty.params) c.frame.operands; code = rest }
+
+      split : (types_of_values (take count ops) ≡ reverse ty.params) × (types_of_values (drop count ops) ≡ x.moves.below) × (count ≤ length ops)
+      split =
+          let before : types_of_values ops ≡ reverse ty.params ++ x.moves.below = x.moves.before ∙ ap (λ (t : FuncType). reverse t.params ++ x.moves.below) (sym ty_is) in
+          let parts = types_split (reverse ty.params) x.moves.below ops before in
+          let same : length (reverse ty.params) ≡ count = length-reverse ty.params in
+          (ap (λ (i : ℕ). types_of_values (take i ops)) (sym same) ∙ parts.0, ap (λ (i : ℕ). types_of_values (drop i ops)) (sym same) ∙ parts.1, omega (arith, parts.2, same))
+
+      arguments_are : length (type_of_function at g).params ≡ count
+      arguments_are = ap (λ (o : Option FuncType). length (type_or_empty o).params) x.is ∙ ap (λ (t : FuncType). length t.params) (sym ty_is)
+
+      kept_count : length (types_of_values ops) ≡ count + length (drop count ops)
+      kept_count = types_length ops ∙ ap length (sym (take-append-drop count ops)) ∙ length-append (take count ops) (drop count ops) ∙ omega (arith, length-take-le count ops split.2)
+
+      slots_are : operand k.around.layout (h - length (type_of_function at g).params) ≡ part (record c.frame { operands = drop (length ty.params) c.frame.operands; code = rest })
+      slots_are = omega (arith, m.running.width, arguments_are, kept_count, length-append (drop count ops) (belows c.frame.labels))
+
+      small : (part (record c.frame { operands = drop (length ty.params) c.frame.operands; code = rest }) < 2 ^ 24) × (used c.callers ≤ max_slots)
+      small =
+          let room = m.running.room in
+          let width = m.running.width in
+          let low = m.running.sits.low in
+          let peak_is = peak_here at (Simple (Call g) rest) h in
+          (omega (arith, slots_are), omega arith)
+
+      d_is : k.around.distance_to (m.here + 6) g ≡ distance (k.begin + (m.here + 6)) (places g)
+      d_is = k.distances (m.here + 6) g
+
+      abbrev Words : (slots d : ℕ) → List Op
+      Words slots d = shift slots ++ (Auipc ra (hi d) ∷ Jalr ra ra (lo d) ∷ back slots)
+
+      has : HasAt text (k.begin + m.here) (Words (part (record c.frame { operands = drop (length ty.params) c.frame.operands; code = rest })) (distance (k.begin + (m.here + 6)) (places g)))
+      has =
+          subst (λ (d : ℕ). HasAt text (k.begin + m.here) (Words (part caller) d)) d_is
+          (subst (λ (i : ℕ). HasAt text (k.begin + m.here) (Words i (k.around.distance_to (m.here + 6) g))) slots_are
+          (has_words text inst places k m.running.os (Call g) rest h m.here (types_of_values ops) m.running.to m.running.there m.running.sits))
+
+      -- where the caller goes on
+      sits : SitsAt text inst places k m.running.os (Some (length m.running.sits.typed.0 + n)) m.running.sits.typed.0 (m.here + 14) rest m.running.to m.running.there
+      sits =
+          subst (λ (q : Place). SitsAt text inst places k m.running.os q m.running.sits.typed.0 (m.here + 14) rest m.running.to m.running.there) (x.height n)
+          (sits_rest text inst places k m.running.os (Call g) rest h m.here (types_of_values ops) m.running.to m.running.there m.running.sits m.running.sits.typed.0 m.running.sits.typed.2)
+
+      whole_is : ops ++ belows c.frame.labels ≡ take count ops ++ (drop count ops ++ belows c.frame.labels)
+      whole_is = ap (λ (vs : List Value). vs ++ belows c.frame.labels) (sym (take-append-drop count ops)) ∙ append_assoc (take count ops) (drop count ops) (belows c.frame.labels)
+
+      live : Operands s.bytes (used c.callers + operand k.around.layout 0) (take count ops ++ (drop count ops ++ belows c.frame.labels))
+      live = subst (Operands s.bytes (used c.callers + operand k.around.layout 0)) whole_is m.running.live
+
+      awaits : m.running.sits.typed.0 ≡ reverse ty.results ++ types_of_values (drop count ops)
+      awaits = x.moves.after ∙ ap (λ (t : FuncType). reverse t.results ++ x.moves.below) (sym ty_is) ∙ ap (λ (ts : Types). reverse ty.results ++ ts) (sym split.1)
+
+      returns : Returns text inst places outer s.bytes (used c.callers) (reverse ty.results) (place (k.begin + (m.here + 8))) m.address caller
+      returns =
+          let behind = has_rest text (k.begin + m.here) (shift (part caller)) (Auipc ra (hi (distance (k.begin + (m.here + 6)) (places g))) ∷ Jalr ra ra (lo (distance (k.begin + (m.here + 6)) (places g))) ∷ back (part caller)) has in
+          record {
+            at = k.begin + (m.here + 8);
+            here = m.here + 14;
+            is = refl;
+            gives_back = has_at text (suc (suc (k.begin + m.here + 6))) (k.begin + (m.here + 8)) (back (part caller)) (omega arith) behind.1.1;
+            stays = record {
+              compiled = k;
+              os = m.running.os;
+              to = m.running.to;
+              there = m.running.there;
+              room = m.running.room;
+              width = m.running.width;
+              are = m.running.are;
+              values = m.running.values;
+              live = operands_below s.bytes (used c.callers + operand k.around.layout 0) (take count ops) (drop count ops ++ belows c.frame.labels) live;
+              link_is = m.running.link_is;
+              sits = subst (λ (ts : Types). SitsAt text inst places k m.running.os (Some (length ts + n)) ts (m.here + 14) rest m.running.to m.running.there) awaits sits;
+              fit = m.running.fit;
+            };
+            goes_on = omega arith;
+          }
+
+      -- where the function begins
+      pub record Begun : Type 0 where
+        pub end : State
+        pub reaches : Reaches text 8 s end
+        pub bytes_are : end.bytes ≡ s.bytes
+        pub registers : KeepsRegisters s end
+        pub at : end.pc ≡ place (places g)
+        pub frame : IsFrame (used (record c.frame { operands = drop (length ty.params) c.frame.operands; code = rest } ∷ c.callers)) end
+        pub link_is : reg end.registers ra ≡ place (m.running.compiled.begin + (m.here + 8))
+        pub types : types_of_values (reverse (take (length ty.params) c.frame.operands)) ≡ ty.params
+        pub stand : Locals end.bytes (used (record c.frame { operands = drop (length ty.params) c.frame.operands; code = rest } ∷ c.callers)) (reverse (take (length ty.params) c.frame.operands))
+        pub stay : CallersStay text inst places outer end.bytes (place (m.running.compiled.begin + (m.here + 8))) (reverse ty.results) (record c.frame { operands = drop (length ty.params) c.frame.operands; code = rest } ∷ c.callers)
+
+      pub begins : Begun
+      begins =
+          let slots = part caller in
+          let d = distance (k.begin + (m.here + 6)) (places g) in
+          let calls = Auipc ra (hi d) ∷ Jalr ra ra (lo d) ∷ back slots in
+          let behind = has_rest text (k.begin + m.here) (shift slots) calls has in
+          let inside = m.running.sits.inside in
+          let one = shift_moves text s (k.begin + m.here) slots m.at small.0 (used c.callers) (has_first text (k.begin + m.here) (shift slots) calls has) m.frame.first small.1 in
+          let pc_one = one.pc_is in
+          let here_is = m.at in
+          let two = linked_lands text one.end (k.begin + m.here + 6) (k.begin + (m.here + 6)) (places g) (behind.0, (behind.1.0, tt)) (omega arith) (omega arith) (omega arith) (omega arith) in
+          let bytes : two.end.bytes ≡ s.bytes = two.bytes_are ∙ one.bytes_are in
+          let link = two.link_is in
+          let base_is : used c.callers + operand k.around.layout 0 + length (drop count ops ++ belows c.frame.labels) ≡ used (caller ∷ c.callers) = omega (arith, m.running.width) in
+          record {
+            end = two.end;
+            reaches = Reaches-then one.reaches two.reaches;
+            bytes_are = bytes;
+            registers = record { by = λ r a b e. two.others r (λ f. false≢true (sym b ∙ eq-eqb r ra f)) ∙ one.others r a (λ f. false≢true (sym e ∙ eq-eqb r s0 f)) };
+            at = two.pc_is;
+            frame = record {
+              first = two.others s0 (λ e. absurd cc) ∙ one.first_is;
+              end = two.others s5 (λ e. absurd cc) ∙ one.others s5 refl (λ e. absurd cc) ∙ m.frame.end;
+              size = ap (λ (b : Bytes). length b.stack) bytes ∙ m.frame.size;
+              windows = subst FitWindows (sym bytes) m.frame.windows;
+            };
+            link_is = omega arith;
+            types = types_reverse (take count ops) ∙ ap reverse split.0 ∙ reverse-reverse ty.params;
+            stand =
+                subst (λ (b : Bytes). Locals b (used (caller ∷ c.callers)) (reverse (take count ops))) (sym bytes)
+                (subst (λ (i : ℕ). Locals s.bytes i (reverse (take count ops))) base_is
+                (record { holds = λ i u is. passed s.bytes (used c.callers + operand k.around.layout 0) (take count ops) (drop count ops ++ belows c.frame.labels) live i u is }));
+            stay = subst (λ (b : Bytes). CallersStay text inst places outer b (place (k.begin + (m.here + 8))) (reverse ty.results) (caller ∷ c.callers)) (sym bytes) (m.address, returns, m.callers_stay);
+          }
+
+    -- a declared function
+    enters : (f : Func) (callee : Compiled text inst places f) → callee.begin ≡ places g → f.ty ≡ x.ty
+        → Follows text inst places outer c.store c.later 128 size s (enter c.store f (reverse (take (length f.ty.params) c.frame.operands)) (record c.frame { operands = drop (length f.ty.params) c.frame.operands; code = rest } ∷ c.callers) c.later)
+    enters f callee begin_is ty_is =
+        let inside = callee.inside in
+        let b = begins f.ty ty_is (omega arith) in
+        let arguments = reverse (take (length f.ty.params) c.frame.operands) in
+        let callers = record c.frame { operands = drop (length f.ty.params) c.frame.operands; code = rest } ∷ c.callers in
+        let step = enter c.store f arguments callers c.later in
+        follows_less text inst places outer c.store c.later (8 + 24) 128 size s step (omega arith)
+        (follows_after text inst places outer c.store c.later 8 24 size s b.end b.reaches (same_beside s.bytes b.end.bytes b.bytes_are) b.registers step
+        (enters_follow text near inst places outer stub c.store c.later size f callee arguments callers b.end (place (k.begin + (m.here + 8))) (b.at ∙ ap place (sym begin_is)) b.frame b.link_is b.types b.stand b.stay))
+
+    -- by the function's index
+    pub known : (h : Function) → slice_get inst.functions g ≡ Some h → type_of h ≡ x.ty → Known text inst places g h → Follows text inst places outer c.store c.later 128 size s (call c rest ops (slice_get inst.functions g))
+    known h is ty_is y =
+        let found : slice_get inst.functions g ≡ Some (Declared y.func) = is ∙ ap (λ (z : Function). Some z) y.is in
+        subst (λ (o : Option Function). Follows text inst places outer c.store c.later 128 size s (call c rest ops o)) (sym found)
+        (enters y.func y.compiled y.begin_is (ap type_of (sym y.is) ∙ ty_is))

@@ -1,0 +1,218 @@
+-- Globals, loads, stores and the memory's size.
+use Rattle.std.proofs.Common.{◌≡◌, ℕ, suc, ◌+◌, ◌-◌, ◌*◌, ◌^◌, ◌<◌, ◌≤◌, ◌⊎◌, false, inl, inr, slice_set, List, ◌∷◌, length, Option, None, Some, refl, sym, ap, ◌∙◌, subst, arith}
+use Rattle.std.specs.Prelude.{slice_get}
+use Rattle.std.proofs.lemmas.List.Elements.{All-take}
+use Rattle.std.proofs.lemmas.Bool.{lt-ltb}
+use Rattle.std.proofs.lemmas.Option.{slice_get_within}
+use Rattle.rv_isa.specs.declared.operations.Op.{Op}
+use Rattle.rv_isa.specs.Steps.{reg, State, Bytes, value_at, le_bytes, window}
+use Rattle.rv_isa.proofs.ByteLaws.{length-put, length-le_bytes}
+use Rattle.rv_isa.specs.Runs.{place, HasAt, AreBytes, Reaches, FitWindows}
+use Rattle.rv_isa.specs.declared.stepping.Region.TheVariants.{Stack, Globals, Table, Memory}
+use Rattle.wasm_defs.specs.declared.types.ValType.TheVariants.{I32}
+use Rattle.wasm_defs.specs.declared.value.TrapKind.TheVariants.{MemoryBounds}
+use Rattle.wasm_defs.specs.declared.operation.LoadOp.{LoadOp}
+use Rattle.wasm_defs.specs.declared.operation.StoreOp.{StoreOp}
+use Rattle.wasm_defs.specs.declared.token.MemArg.{MemArg}
+use Rattle.wasm_defs.specs.declared.token.Plain.{Plain}
+use Rattle.wasm_defs.specs.declared.token.Plain.TheVariants.{GlobalGet, GlobalSet, Load, MemorySize}
+use Rattle.wasm_defs.specs.declared.token.Plain.TheVariants as plain
+use Rattle.wasm_defs.specs.Typing.{Types, Context, load_type, store_type}
+use Rattle.wasm_defs.specs.Configurations.{Store}
+use Rattle.wasm_defs.specs.Values.{Value, word, word_of, types_of_values}
+use Rattle.wasm_defs.specs.Memory.{page, pages_of, number_of, bytes_at, bytes_of, written_at, load_count, store_count, extended}
+use Rattle.wasm_defs.specs.Effects.{Gives, effect, loaded, stored, pushed, value}
+use Rattle.frame_layout.specs.Slots.{link, operand}
+use Rattle.frame_layout.specs.declared.layout.Layout.{Layout}
+use Rattle.frame_layout.specs.Macros.{s0, s5}
+use Rattle.frame_layout.specs.Templates.{Label, Around, global_get_words, global_set_words, load_words, store_words, size_words, words}
+use Rattle.frame_layout.specs.Laws.{slot_at, with_slot, is_scratch, Does}
+use Rattle.frame_layout.proofs.Steps.{does_with}
+use Rattle.sim_memory.specs.Regions.{with_global, with_memory}
+use Rattle.sim_memory.specs.MemoryLaws.{Loaded, Stored}
+use Rattle.sim_memory.specs.StoreStands.{StoreStands}
+use Rattle.sim_memory.proofs.Globals.{global_get_does, global_set_does}
+use Rattle.sim_memory.proofs.Growing.{size_does, pages_now}
+use Rattle.sim_memory.proofs.Loads.{load_does}
+use Rattle.sim_memory.proofs.Parts.{load_range}
+use Rattle.sim_memory.proofs.Standing.{global_inside, global_read, written_stands}
+use Rattle.sim_memory.proofs.Stores.{store_law_does}
+use Rattle.sim_memory.proofs.StoreStanding.{store_set, store_stored}
+use Rattle.sim_frames.proofs.Values.{Agree, Locals, Operands, Matches, locals_kept, operands_kept}
+use Rattle.simulation.proofs.Straight.Instructions.{most_steps, Follows, Halts, Outcome, put_follows}
+use Rattle.simulation.proofs.Straight.Operations.{typed_word, typed_range}
+
+module _ (code : List (Option Op)) (c : Context) (labels : List Label) (w : Around) (base there : ℕ) (b : Bytes) (store : Store)
+    (cap : ℕ) (locals : List Value) (here : ℕ) (s : State) (i : ℕ) (at : s.pc ≡ place i) (pages : ℕ) (holds : StoreStands store pages cap s) where
+  abbrev Holding : List Value → Type 0
+  Holding operands = Matches w.layout base there b locals operands s
+
+  pub global_get_follows : (operands : List Value) (mid : Types) (x : ℕ) (v : Value) → slice_get store.globals x ≡ Some v → v.ty ∷ types_of_values operands ≡ mid → length operands < w.layout.greatest
+      → HasAt code i (global_get_words w (length operands) x) → Holding operands → Follows code c labels w base there b store cap locals operands (GlobalGet x) mid here s
+  global_get_follows operands mid x v is types high has m =
+      let room = m.room in
+      let within = slice_get_within store.globals x v is in
+      let d = global_get_does w code s i base (length operands) x pages has at m.frame holds.regions (global_inside s.bytes store.globals x holds.globals within) (omega arith) in
+      put_follows code c labels w base there b store cap locals here s (GlobalGet x) operands operands mid v 6 (ap (pushed store locals operands) is) types (omega arith)
+      (does_with (ap (with_slot s.bytes (base + operand w.layout (length operands))) (global_read s.bytes store.globals x v holds.globals is)) d) (holds.in_range x v is) high m m.live
+
+  pub size_follows : (operands : List Value) (mid : Types) → I32 ∷ types_of_values operands ≡ mid → length operands < w.layout.greatest
+      → HasAt code i (size_words w (length operands)) → Holding operands → Follows code c labels w base there b store cap locals operands MemorySize mid here s
+  size_follows operands mid types high has m =
+      let room = m.room in
+      let d = size_does w code s i base (length operands) pages has at m.frame holds.regions (omega arith) in
+      let same = ap (λ (l : List ℕ). with_slot s.bytes (base + operand w.layout (length operands)) (word I32 (pages_of l))) holds.memory in
+      let few : pages_of store.memory < 2 ^ 32 = few_pages in
+      put_follows code c labels w base there b store cap locals here s MemorySize operands operands mid (value I32 (pages_of store.memory)) 4 refl types (omega arith) (does_with same d) few high m m.live
+    where
+      few_pages : pages_of store.memory < 2 ^ 32
+      few_pages =
+          let fit = m.frame.windows Memory in
+          let whole = holds.regions.whole in
+          let count : pages_of store.memory ≡ pages = ap pages_of (sym holds.memory) ∙ pages_now pages s.bytes.memory holds.regions.whole in
+          omega arith
+
+  module _ (x : Value) (below : List Value) (o : LoadOp) (mem : MemArg) (x_ty : x.ty ≡ I32) (high : suc (length below) ≤ w.layout.greatest) (m : Holding (x ∷ below)) where
+    loaded_outcome : (mid : Types) (r : Option (List ℕ)) → load_type o ∷ types_of_values below ≡ mid → bytes_at store.memory (x.number + mem.offset) (load_count o) ≡ r
+        → Loaded code s (base + operand w.layout (length below)) o r → Outcome code c labels w base there b store cap locals here s (x ∷ below) (Load o mem) mid
+    loaded_outcome mid None types e traps = inr (record { kind = MemoryBounds; gives = ap (loaded store locals o below) e; steps = 16; short = omega arith; behind = 16; traps = traps })
+    loaded_outcome mid (Some bytes) types e d =
+        let sound = subst AreBytes holds.memory (All-take (λ (n : ℕ). n < 256) (page * pages) s.bytes.memory holds.are_bytes) in
+        inl (put_follows code c labels w base there b store cap locals here s (Load o mem) (x ∷ below) below mid (value (load_type o) (extended o (number_of bytes))) 18 (ap (loaded store locals o below) e) types (omega arith)
+        d (load_range o store.memory bytes (x.number + mem.offset) sound e) (omega arith) m m.live.1)
+
+    pub load_outcome : (mid : Types) → load_type o ∷ types_of_values below ≡ mid → mem.offset < 2 ^ 32 → HasAt code i (load_words w (suc (length below)) o mem.offset) → length code ≤ 2 ^ 26
+        → Outcome code c labels w base there b store cap locals here s (x ∷ below) (Load o mem) mid
+    load_outcome mid types small has short =
+        let room = m.room in
+        let top : suc (length below) - 1 ≡ length below = omega arith in
+        let there_is : base + operand w.layout (suc (length below) - 1) ≡ base + operand w.layout 0 + length below = omega arith in
+        let slot = slot_at s.bytes (base + operand w.layout 0 + length below) in
+        let x_word = ap (slot_at s.bytes) there_is ∙ typed_word slot x I32 x_ty m.live.0 in
+        let x_small = typed_range slot x I32 x_ty m.live.0 in
+        let d = load_does w code s i base (suc (length below)) x.number mem.offset pages o has at m.frame holds.regions holds.are_bytes (omega arith) x_word x_small small short in
+        let d' = subst (λ (l : List ℕ). Loaded code s (base + operand w.layout (suc (length below) - 1)) o (bytes_at l (x.number + mem.offset) (load_count o))) holds.memory d in
+        loaded_outcome mid (bytes_at store.memory (x.number + mem.offset) (load_count o)) types refl (subst (λ (j : ℕ). Loaded code s (base + operand w.layout j) o (bytes_at store.memory (x.number + mem.offset) (load_count o))) top d')
+
+-- ---- what changes the store
+
+-- slots stay where the regions beside the stack change
+slot_kept : (old bytes : Bytes) → bytes.stack ≡ old.stack → (k : ℕ) → slot_at bytes k ≡ slot_at old k
+slot_kept old bytes same k = ap (λ (stack : List ℕ). value_at 8 (8 * k) stack) same
+
+agrees : (old bytes : Bytes) → bytes.stack ≡ old.stack → (n : ℕ) → Agree n old bytes
+agrees old bytes same n = record { by = λ k less. slot_kept old bytes same k }
+
+module _ {code : List (Option Op)} {l : Layout} {base there : ℕ} {b : Bytes} {locals operands : List Value} {s : State} {steps words : ℕ} (bytes : Bytes) (same : bytes.stack ≡ s.bytes.stack) (fit : FitWindows bytes)
+    (m : Matches l base there b locals operands s) (others : List Value) (live : Operands s.bytes (base + operand l 0) others) where
+  beside_matches : (d : Does code steps words s bytes) → Matches l base there (record d.end.bytes { stack = b.stack }) locals others d.end
+  beside_matches d =
+      let is = d.bytes_are in
+      record {
+        frame = record {
+          first = d.others s0 refl ∙ m.frame.first;
+          end = d.others s5 refl ∙ m.frame.end;
+          size = ap (λ (c : Bytes). length c.stack) is ∙ ap length same ∙ m.frame.size;
+          windows = subst FitWindows (sym is) fit;
+        };
+        room = m.room;
+        width = m.width;
+        values = subst (λ (c : Bytes). Locals c base locals) (sym is) (locals_kept s.bytes bytes base locals (agrees s.bytes bytes same (base + length locals)) m.values);
+        live = subst (λ (c : Bytes). Operands c (base + operand l 0) others) (sym is) (operands_kept s.bytes bytes (base + operand l 0) others (agrees s.bytes bytes same (base + operand l 0 + length others)) live);
+        link_is = ap (λ (c : Bytes). slot_at c (base + link l)) is ∙ slot_kept s.bytes bytes same (base + link l) ∙ m.link_is;
+        beside = record { globals = refl; table = refl; memory = refl };
+        low = record { by = λ k less. ap (λ (c : Bytes). slot_at c k) is ∙ slot_kept s.bytes bytes same k ∙ m.low.by k less };
+      }
+
+pub record Changes (code : List (Option Op)) (c : Context) (labels : List Label) (w : Around) (base there : ℕ) (b : Bytes) (store : Store) (cap pages : ℕ) (locals operands : List Value) (p : Plain)
+    (mid : Types) (here : ℕ) (s : State) : Type 0 where
+  pub store_after : Store
+  pub after : List Value
+  pub gives : effect store locals cap p operands ≡ Gives store_after locals after
+  pub types_are : types_of_values after ≡ mid
+  pub steps : ℕ
+  pub short : steps ≤ most_steps
+  pub end : State
+  pub reaches : Reaches code steps s end
+  pub pc_is : end.pc ≡ s.pc + 4 * length (words w c labels (length operands) here p)
+  pub others : (r : ℕ) → is_scratch r ≡ false → reg end.registers r ≡ reg s.registers r
+  pub matches : Matches w.layout base there (record end.bytes { stack = b.stack }) locals after end
+  pub stands : StoreStands store_after pages cap end
+
+module _ (code : List (Option Op)) (c : Context) (labels : List Label) (w : Around) (base there : ℕ) (b : Bytes) (store : Store)
+    (cap : ℕ) (locals : List Value) (here : ℕ) (s : State) (i : ℕ) (at : s.pc ≡ place i) (pages : ℕ) (holds : StoreStands store pages cap s) where
+  -- a global of the value's type
+  pub global_set_changes : (v u : Value) (below : List Value) (mid : Types) (x : ℕ) → slice_get store.globals x ≡ Some u → types_of_values below ≡ mid → suc (length below) ≤ w.layout.greatest
+      → HasAt code i (global_set_words w (suc (length below)) x) → Matches w.layout base there b locals (v ∷ below) s → Changes code c labels w base there b store cap pages locals (v ∷ below) (GlobalSet x) mid here s
+  global_set_changes v u below mid x is types high has m =
+      let room = m.room in
+      let within = slice_get_within store.globals x u is in
+      let inside = global_inside s.bytes store.globals x holds.globals within in
+      let there_is : base + operand w.layout (suc (length below) - 1) ≡ base + operand w.layout 0 + length below = omega arith in
+      let word_is = ap (slot_at s.bytes) there_is ∙ m.live.0.is in
+      let d = does_with (ap (with_global s.bytes x) word_is) (global_set_does w code s i base (suc (length below)) x pages has at m.frame holds.regions inside (omega arith)) in
+      let bytes = with_global s.bytes x (word_of v) in
+      let size : length bytes.globals ≡ length s.bytes.globals = length-put 8 (8 * x) s.bytes.globals (le_bytes 8 (word_of v)) (omega arith) (length-le_bytes 8 (word_of v)) in
+      record {
+        store_after = record store { globals = slice_set store.globals x v };
+        after = below;
+        gives = rw (lt-ltb x (length store.globals) within) refl;
+        types_are = types;
+        steps = 6;
+        short = omega arith;
+        end = d.end;
+        reaches = d.reaches;
+        pc_is = d.pc_is;
+        others = d.others;
+        matches = beside_matches bytes refl (fits bytes (subst (λ (n : ℕ). n ≤ window) (sym size) (m.frame.windows Globals)) m.frame.windows) m below m.live.1 d;
+        stands = store_set code store pages cap 6 6 x v s holds within m.live.0.range d;
+      }
+    where
+      fits : (bytes : Bytes) → length bytes.globals ≤ window → FitWindows s.bytes → FitWindows (record s.bytes { globals = bytes.globals })
+      fits bytes small fit Stack = fit Stack
+      fits bytes small fit Globals = small
+      fits bytes small fit Table = fit Table
+      fits bytes small fit Memory = fit Memory
+
+  module _ (y x : Value) (below : List Value) (o : StoreOp) (mem : MemArg) (y_ty : y.ty ≡ store_type o) (x_ty : x.ty ≡ I32) (high : suc (suc (length below)) ≤ w.layout.greatest) (m : Matches w.layout base there b locals (y ∷ x ∷ below) s) where
+    abbrev Comes : Types → Type 0
+    Comes mid = Changes code c labels w base there b store cap pages locals (y ∷ x ∷ below) (plain.Store o mem) mid here s ⊎ Halts code store cap locals (y ∷ x ∷ below) (plain.Store o mem) s
+
+    fits : (memory : List ℕ) → length (with_memory s.bytes memory).memory ≤ window → FitWindows s.bytes → FitWindows (with_memory s.bytes memory)
+    fits memory small fit Stack = fit Stack
+    fits memory small fit Globals = fit Globals
+    fits memory small fit Table = fit Table
+    fits memory small fit Memory = small
+
+    stored_comes : (mid : Types) (r : Option (List ℕ)) → types_of_values below ≡ mid → written_at store.memory (x.number + mem.offset) (bytes_of (store_count o) y.number) ≡ r → Stored code s r → Comes mid
+    stored_comes mid None types e traps = inr (record { kind = MemoryBounds; gives = ap (stored store locals below) e; steps = 16; short = omega arith; behind = 16; traps = traps })
+    stored_comes mid (Some memory) types e d =
+        let there = ap (λ (l : List ℕ). written_at l (x.number + mem.offset) (bytes_of (store_count o) y.number)) holds.memory ∙ e in
+        let now = written_stands s.bytes pages (x.number + mem.offset) (bytes_of (store_count o) y.number) memory holds.regions.whole there in
+        inl (record {
+          store_after = record store { memory = memory };
+          after = below;
+          gives = ap (stored store locals below) e;
+          types_are = types;
+          steps = 18;
+          short = omega arith;
+          end = d.end;
+          reaches = d.reaches;
+          pc_is = d.pc_is;
+          others = d.others;
+          matches = beside_matches (with_memory s.bytes memory) refl (fits memory (subst (λ (n : ℕ). n ≤ window) (sym now.size) (m.frame.windows Memory)) m.frame.windows) m below m.live.1.1 d;
+          stands = store_stored code store pages cap 18 21 (x.number + mem.offset) (store_count o) y.number memory s holds e d;
+        })
+
+    pub store_comes : (mid : Types) → types_of_values below ≡ mid → mem.offset < 2 ^ 32 → HasAt code i (store_words w (suc (suc (length below))) o mem.offset) → length code ≤ 2 ^ 26 → Comes mid
+    store_comes mid types small has short =
+        let room = m.room in
+        let x_there : base + operand w.layout (suc (suc (length below)) - 2) ≡ base + operand w.layout 0 + length below = omega arith in
+        let y_there : base + operand w.layout (suc (suc (length below)) - 1) ≡ base + operand w.layout 0 + suc (length below) = omega arith in
+        let x_slot = slot_at s.bytes (base + operand w.layout 0 + length below) in
+        let y_slot = slot_at s.bytes (base + operand w.layout 0 + suc (length below)) in
+        let x_word = ap (slot_at s.bytes) x_there ∙ typed_word x_slot x I32 x_ty m.live.1.0 in
+        let y_word = ap (slot_at s.bytes) y_there ∙ typed_word y_slot y (store_type o) y_ty m.live.0 in
+        let d = store_law_does w code s i base (suc (suc (length below))) x.number y.number mem.offset pages o has at m.frame holds.regions (omega arith) (omega arith) x_word y_word (typed_range x_slot x I32 x_ty m.live.1.0) (typed_range y_slot y (store_type o) y_ty m.live.0) small short in
+        stored_comes mid (written_at store.memory (x.number + mem.offset) (bytes_of (store_count o) y.number)) types refl
+        (subst (λ (l : List ℕ). Stored code s (written_at l (x.number + mem.offset) (bytes_of (store_count o) y.number))) holds.memory d)
