@@ -11,6 +11,7 @@ pub mod Told
 pub mod Streaming
 pub mod Images
 pub mod Wholes
+pub mod RightSoFar
 pub mod Settling
 pub mod Pumping
 pub mod Once

@@ -2,12 +2,19 @@
 use Rattle.std.specs.Prelude.{◌≡◌, ◌≤◌, ℕ, Bool, true, false, List, ◌++◌, length, Option, IfSome}
 use Rattle.std.specs.Io.KnownBytes.{prepend_known}
 use Rattle.wasm_laws.specs.Runs.{deciding_length}
+use Rattle.stream_compile.specs.RightSoFar.{IsRightSoFar}
 
 -- These bytes were read of a source that had the first left before and has the second left behind: a front of what was left. They
--- are no more than those that decide about any module.
+-- are no more than those that decide about any module, and up to the last piece of them, of 65,536 bytes at most, nothing was found
+-- wrong.
 pub record IsRead (left rest : Option (List ℕ)) (read : List ℕ) : Type 0 where
   pub taken : left ≡ prepend_known read rest
   pub few : length read ≤ deciding_length
+  pub before : List ℕ
+  pub piece : List ℕ
+  pub pieces : read ≡ before ++ piece
+  pub short : length piece ≤ 65536
+  pub right : IsRightSoFar before
 
 -- These bytes came: all that were left, of which a front was read; or, where the source failed, those that were read.
 abbrev pub Came : (left rest : Option (List ℕ)) → (failed : Bool) → List ℕ → Type 0

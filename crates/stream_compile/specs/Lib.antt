@@ -4,6 +4,7 @@ pub mod CutBodies
 pub mod Progress
 pub mod Streaming
 pub mod Done
+pub mod RightSoFar
 pub mod Came
 pub mod Texts
 pub mod Reading

@@ -13,6 +13,7 @@ invariant-loop-count g l = record {
   are : All (λ b. b < 256) came;
   left : g.S.Source.left l.initial.source ≡ prepend_known came (g.S.Source.left l.source);
   calm : g.S.Source.faults l.source ≡ g.S.Source.faults l.initial.source;
+  size : length l.buf ≡ 65536;
   open_now : g.S.Source.is_open l.source ≡ true;
   kept : KeepsAlike l.initial.compilation.codes l.compilation.codes;
   going : (more : List ℕ) → length (came ++ more) ≤ 67108869 → IsGoing (came ++ more) l.compilation more;

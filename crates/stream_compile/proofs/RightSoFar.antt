@@ -1,0 +1,109 @@
+-- What a compilation took of a module's bytes is right so far.
+use Rattle.std.proofs.Common.{◌≡◌, ℕ, zero, suc, ◌-◌, ◌<◌, Bool, true, false, cond, List, [], ◌∷◌, ◌++◌, length, drop, Option, Some, None, refl, sym, ap, ◌∙◌, append_assoc, arith}
+use Rattle.std.proofs.lemmas.List.{append-nil}
+use Rattle.wasm_defs.specs.declared.fault.Kind.TheVariants.{Ended}
+use Rattle.wasm_defs.specs.declared.fault.Refusal.{Refusal}
+use Rattle.wasm_defs.specs.Entries.{Seen}
+use Rattle.wasm_defs.specs.Outside.{Part, Section, Listed, Coded, Run, Whole, Owed, Ending, ends, owes_code, no_end, sections_up_to, sections, module_run}
+use Rattle.section_reader.specs.declared.front.Front.{Front}
+use Rattle.section_reader.specs.Stages.{is_at_bodies}
+use Rattle.section_reader.specs.FrontLeft.{total}
+use Rattle.section_reader.specs.FrontOnward.{EndsOnward}
+use Rattle.section_reader.specs.Onward.{after_parts, AreSections}
+use Rattle.section_reader.proofs.OnwardSilence.{refused_ends, kept_ends, silent_ends}
+use Rattle.body_cutter.specs.declared.body.Body.{Body}
+use Rattle.body_cutter.specs.Sections.{End, Whole as AllCut, Faulty, Owed as BytesOwed}
+use Rattle.body_cutter.specs.Queues.{bodies_in}
+use Rattle.body_cutter.specs.Cuttings.{Cutting, left}
+use Rattle.stream_compile.specs.declared.compilation.Compilation.{Compilation}
+use Rattle.stream_compile.specs.CutBodies.{coded_all, behind, cut_run, sections_behind}
+use Rattle.stream_compile.specs.Progress.{IsJudged}
+use Rattle.stream_compile.specs.RightSoFar.{IsRightSoFar}
+use Rattle.stream_compile.specs.Streaming.{left_of, IsGoing, IsPlaced}
+
+-- ---- parts one behind the other
+
+parts_after : (told : List Part) (run : Run) → (after_parts told run).parts ≡ told ++ run.parts
+parts_after [] run = refl
+parts_after (x ∷ told) run = ap (λ (l : List Part). x ∷ l) (parts_after told run)
+
+two_sections : (xs ys : List Part) → AreSections xs → AreSections ys → AreSections (xs ++ ys)
+two_sections [] ys a b = b
+two_sections (Section at id ∷ xs) ys a b = two_sections xs ys a b
+two_sections (Listed x ∷ xs) ys a b = absurd a
+two_sections (Coded x ∷ xs) ys a b = absurd a
+
+-- ---- outside the bodies
+
+front_ends : (f : Front) → f.waiting ≡ None → is_at_bodies f.steps.stage ≡ false → (answer : Option Refusal) × EndsOnward f answer
+front_ends f waits apart = of f.refusal refl
+  where
+    held : f.refusal ≡ None → (l : List ℕ) → f.kept.items ≡ l → (answer : Option Refusal) × EndsOnward f answer
+    held none [] e = (_, silent_ends f waits none apart e)
+    held none (b ∷ l) e = (Some (record { offset = total f; kind = Ended }), kept_ends f waits none apart (omega (arith, ap length e)))
+
+    of : (r : Option Refusal) → f.refusal ≡ r → (answer : Option Refusal) × EndsOnward f answer
+    of None e = held e f.kept.items refl
+    of (Some r) e = (Some r, refused_ends f r waits e)
+
+-- ---- among the bodies
+
+none_dropped : (n : ℕ) (l : List ℕ) → l ≡ [] → drop n l ≡ []
+none_dropped zero [] e = refl
+none_dropped (suc n) [] e = refl
+none_dropped n (b ∷ l) e = absurd cc
+
+no_part : (b : Bool) (seen : Seen) → (cond b (ends Owed) (ends (Whole seen))).parts ≡ []
+no_part true seen = refl
+no_part false seen = refl
+
+no_section : (seen : Seen) (at : ℕ) (l : List ℕ) → l ≡ [] → (sections seen (record { at = at; rest = l; end = no_end })).parts ≡ []
+unfolding sections_up_to
+no_section seen at [] e = no_part (owes_code seen) seen
+no_section seen at (b ∷ l) e = absurd cc
+
+nothing_behind : (e : End) (next : Run) → next.parts ≡ [] → (behind e next).parts ≡ []
+nothing_behind AllCut next h = h
+nothing_behind (Faulty r) next h = refl
+nothing_behind BytesOwed next h = refl
+
+bodies_cut : (f : Front) (c : Cutting) → (left_of f (Some c) []).parts ≡ coded_all (bodies_in (left c []).queue)
+bodies_cut f c =
+    parts_after (coded_all (bodies_in (left c []).queue)) (behind (left c []).ending (sections_behind f.steps.seen c.place.at c.place.end []))
+    ∙ ap (λ (l : List Part). coded_all (bodies_in (left c []).queue) ++ l) (nothing_behind (left c []).ending (sections_behind f.steps.seen c.place.at c.place.end []) (no_section f.steps.seen c.place.end _ (none_dropped (c.place.end - c.place.at) [] refl)))
+    ∙ append-nil (coded_all (bodies_in (left c []).queue))
+
+-- ---- what came
+
+module _ (came : List ℕ) (f : Front) (told : List Part) (are : AreSections told) where
+  right : (cutter : Option Cutting) {spaces : _} {bodies : ℕ} → IsPlaced f cutter told (length came) [] → IsJudged came (after_parts told (left_of f cutter [])) spaces bodies → IsRightSoFar came
+  right None p j =
+      let t = front_ends f p.idle p.outside in
+      let more = t.1.told in
+      let tail : (after_parts told (left_of f None [])).parts ≡ (told ++ more) ++ [] =
+      parts_after told (left_of f None [])
+      ∙ ap (λ (l : List Part). told ++ l) (ap (λ (r : Run). r.parts) t.1.run ∙ parts_after more (ends t.1.ending) ∙ append-nil more)
+      ∙ sym (append-nil (told ++ more)) in
+      record {
+        front = j.front;
+        begun = told ++ more;
+        bodies = [];
+        parts = j.parts ∙ ap (λ (l : List Part). j.front ++ l) tail;
+        compiled = j.compiled;
+        trees = j.trees;
+        valid = j.valid;
+        sections = two_sections told more are t.1.sections;
+      }
+  right (Some c) p j = record {
+    front = j.front;
+    begun = told;
+    bodies = bodies_in (left c []).queue;
+    parts = j.parts ∙ ap (λ (l : List Part). j.front ++ l) (parts_after told (left_of f (Some c) []) ∙ ap (λ (l : List Part). told ++ l) (bodies_cut f c));
+    compiled = j.compiled;
+    trees = j.trees;
+    valid = j.valid;
+    sections = are;
+  }
+
+pub right_so_far : (came : List ℕ) (s : Compilation) → IsGoing came s [] → IsRightSoFar came
+right_so_far came s g = right came s.front g.told g.sections s.cutter g.place g.judging.judged
