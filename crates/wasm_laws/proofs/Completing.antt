@@ -29,14 +29,14 @@ zero_byte = then_byte 0 [] (omega arith) no_bytes
 -- ---- windows
 
 -- where a field wants more, the section has room behind the bytes that are there
-room_left : (A : Type 0) (c : Cursor) → cut {A = A} c ≡ Wants → length c.rest < room_of c
+pub room_left : (A : Type 0) (c : Cursor) → cut {A = A} c ≡ Wants → length c.rest < room_of c
 room_left A c e =
     elim (cases_lt (length c.rest) (room_of c)) [
       | inl lt ↦ lt
       | inr ge ↦ absurd (let t = rw (le-leb (room_of c) (length c.rest) ge) at e in cc)
     ]
 
-window_is : (c : Cursor) → length c.rest ≤ room_of c → window c ≡ c.rest
+pub window_is : (c : Cursor) → length c.rest ≤ room_of c → window c ≡ c.rest
 window_is c h = all_of (room_of c) c.rest h
 
 window_with : (c : Cursor) (more : List ℕ) → length c.rest + length more ≤ room_of c → window (with_more c more) ≡ c.rest ++ more
@@ -64,7 +64,7 @@ last_zero : (signed : Bool) (bits : ℕ) → last_byte signed bits 0 ≡ Number 
 last_zero false bits = rw (lt-ltb 0 (2 ^ bits) (pow_pos bits)) refl
 last_zero true bits = rw (lt-ltb 0 (2 ^ (bits - 1)) (pow_pos (bits - 1))) refl
 
-last_is_whole : (signed : Bool) (bits b : ℕ) → last_byte signed bits b ≡ CutOff → ⊥
+pub last_is_whole : (signed : Bool) (bits b : ℕ) → last_byte signed bits b ≡ CutOff → ⊥
 last_is_whole false bits b e =
     elim (cases_Bool (ltb b (2 ^ bits))) [
       | inl h ↦ absurd (let t = rw h at e in cc)
@@ -82,7 +82,7 @@ last_is_whole true bits b e =
       ]
     ]
 
-after_cut : (b : ℕ) (r : Reading) → after_byte b r ≡ CutOff → r ≡ CutOff
+pub after_cut : (b : ℕ) (r : Reading) → after_byte b r ≡ CutOff → r ≡ CutOff
 after_cut b (Number n len) e = absurd cc
 after_cut b CutOff e = refl
 after_cut b Bad e = absurd cc
@@ -269,12 +269,12 @@ unfolding name
 name_read c n len e h = rw e h
 
 -- a text that isn't whole, in a section with room for it
-record Owes (len n : ℕ) (c : Cursor) : Type 0 where
-  fits : len + n ≤ room_of c
-  right : completes n between (take n (drop len (window c))) ≡ true
-  short : length (take n (drop len (window c))) < n
+pub record Owes (len n : ℕ) (c : Cursor) : Type 0 where
+  pub fits : len + n ≤ room_of c
+  pub right : completes n between (take n (drop len (window c))) ≡ true
+  pub short : length (take n (drop len (window c))) < n
 
-text_owes : (len n : ℕ) (c : Cursor) → text_after len n c ≡ Wants → Owes len n c
+pub text_owes : (len n : ℕ) (c : Cursor) → text_after len n c ≡ Wants → Owes len n c
 text_owes len n c e =
     let text = take n (drop len (window c)) in
     elim (cases_lt (room_of c) (len + n)) [
@@ -311,7 +311,7 @@ drop_past : (xs ys : List ℕ) (b : ℕ) → drop (suc (length xs)) (xs ++ b ∷
 drop_past [] ys b = refl
 drop_past (x ∷ xs) ys b = drop_past xs ys b
 
-owed_fits : (c : Cursor) → length_owed c ≡ Wants → length (window c) + 1 + least (window c) ≤ room_of c
+pub owed_fits : (c : Cursor) → length_owed c ≡ Wants → length (window c) + 1 + least (window c) ≤ room_of c
 owed_fits c e =
     elim (cases_lt (room_of c) (length (window c) + 1 + least (window c))) [
       | inl long ↦ absurd (let t = rw (lt-ltb (room_of c) (length (window c) + 1 + least (window c)) long) at e in cc)
