@@ -95,9 +95,9 @@ run_passes n c d bytes e h =
     elim (cases_lt (length (window c)) n) [
       | inl few ↦ absurd (cut_gives c bytes d (rw (lt-ltb (length (window c)) n few) at e))
       | inr enough ↦
-        let t : Got (take n (window c)) (past c n) ≡ Got bytes d = rw (le-ltb (length (window c)) n enough) at e in
-        let same : past c n ≡ d = cc in
-        omega (arith, ap (λ (k : Cursor). length k.rest) same, length-drop n c.rest)
+          let t : Got (take n (window c)) (past c n) ≡ Got bytes d = rw (le-ltb (length (window c)) n enough) at e in
+          let same : past c n ≡ d = cc in
+          omega (arith, ap (λ (k : Cursor). length k.rest) same, length-drop n c.rest)
     ]
 
 pub run_is_near : (most : ℕ) (stage : Stage) (seen : Seen) (n : ℕ) (c d : Cursor) (bytes : List ℕ) → run n c ≡ Got bytes d → n ≡ length c.rest → IsNear most stage seen d

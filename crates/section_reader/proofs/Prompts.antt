@@ -233,12 +233,12 @@ run_prompt n = record {
       elim (cases_lt (length (window c)) n) [
         | inr ge ↦ absurd (let t = rw (le-ltb (length (window c)) n ge) at e in cc)
         | inl lt ↦
-          let room = room_left (List ℕ) c (rw (lt-ltb (length (window c)) n lt) at e) in
-          let short : length c.rest ≤ n = omega (arith, ap length (window_is c (omega arith)), lt) in
-          elim (cases_lt (length (window (with_more c more))) n) [
-            | inl few ↦ rw (lt-ltb (length (window (with_more c more))) n few) (cut_leaves (List ℕ) (length more) (with_more c more))
-            | inr enough ↦ rw (le-ltb (length (window (with_more c more))) n enough) (past_late c more n short)
-          ]
+            let room = room_left (List ℕ) c (rw (lt-ltb (length (window c)) n lt) at e) in
+            let short : length c.rest ≤ n = omega (arith, ap length (window_is c (omega arith)), lt) in
+            elim (cases_lt (length (window (with_more c more))) n) [
+              | inl few ↦ rw (lt-ltb (length (window (with_more c more))) n few) (cut_leaves (List ℕ) (length more) (with_more c more))
+              | inr enough ↦ rw (le-ltb (length (window (with_more c more))) n enough) (past_late c more n short)
+            ]
       ];
 }
 
@@ -264,8 +264,8 @@ fixed_prompt bytes = record {
         | inl same ↦ let t = rw same at e in elim (cases_lt (length (window c)) (length bytes)) [
           | inr ge ↦ absurd (let u = rw (le-ltb (length (window c)) (length bytes) ge) at t in cc)
           | inl lt ↦
-            let room = room_left ℕ c (rw (lt-ltb (length (window c)) (length bytes) lt) at t) in
-            fixed_leaves bytes c more (omega (arith, ap length (window_is c (omega arith)), lt))
+              let room = room_left ℕ c (rw (lt-ltb (length (window c)) (length bytes) lt) at t) in
+              fixed_leaves bytes c more (omega (arith, ap length (window_is c (omega arith)), lt))
         ]
       ];
 }
@@ -440,17 +440,17 @@ row_prompt id =
     elim (cases_eq id 10) [
       | inl is ↦ rw is (record { front = λ s. done_prompt 1; entry = λ s. listed_prompt (code s) (code_prompt s); back = rest_of_section_prompt })
       | inr other ↦ rw (ne_eqb id 10 other) (
-        either_row (eqb id 1) _ _ (listing _ _ (λ s. number_of_prompt _) signature_prompt)
-        (either_row (eqb id 2) _ _ (listing _ _ (λ s. number_of_prompt _) imported_prompt)
-        (either_row (eqb id 3) _ _ (listing _ _ function_count_prompt function_prompt)
-        (either_row (eqb id 4) _ _ (listing _ _ (λ s. at_most_one_prompt) table_prompt)
-        (either_row (eqb id 5) _ _ (listing _ _ (λ s. at_most_one_prompt) memory_prompt)
-        (either_row (eqb id 6) _ _ (listing _ _ (λ s. number_of_prompt _) global_prompt)
-        (either_row (eqb id 7) _ _ (listing _ _ (λ s. number_of_prompt _) exported_prompt)
-        (either_row (eqb id 8) _ _ (listing _ _ (λ s. done_prompt 1) start_prompt)
-        (either_row (eqb id 9) _ _ (listing _ _ (λ s. number_of_prompt _) element_prompt)
-        (either_row (eqb id 11) _ _ (listing _ _ (λ s. number_of_prompt _) segment_prompt)
-        (record { front = λ s. custom_name_prompt; entry = λ s. listed_prompt (start s) (start_prompt s); back = rest_of_section_prompt })))))))))))
+          either_row (eqb id 1) _ _ (listing _ _ (λ s. number_of_prompt _) signature_prompt)
+          (either_row (eqb id 2) _ _ (listing _ _ (λ s. number_of_prompt _) imported_prompt)
+          (either_row (eqb id 3) _ _ (listing _ _ function_count_prompt function_prompt)
+          (either_row (eqb id 4) _ _ (listing _ _ (λ s. at_most_one_prompt) table_prompt)
+          (either_row (eqb id 5) _ _ (listing _ _ (λ s. at_most_one_prompt) memory_prompt)
+          (either_row (eqb id 6) _ _ (listing _ _ (λ s. number_of_prompt _) global_prompt)
+          (either_row (eqb id 7) _ _ (listing _ _ (λ s. number_of_prompt _) exported_prompt)
+          (either_row (eqb id 8) _ _ (listing _ _ (λ s. done_prompt 1) start_prompt)
+          (either_row (eqb id 9) _ _ (listing _ _ (λ s. number_of_prompt _) element_prompt)
+          (either_row (eqb id 11) _ _ (listing _ _ (λ s. number_of_prompt _) segment_prompt)
+          (record { front = λ s. custom_name_prompt; entry = λ s. listed_prompt (start s) (start_prompt s); back = rest_of_section_prompt })))))))))))
     ]
 
 left_late : (c : Cursor) (most : ℕ) (rest : List ℕ) → Leaves most (left_over c rest)
