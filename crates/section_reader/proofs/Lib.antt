@@ -16,3 +16,5 @@ pub mod Keeping
 pub mod FrontTelling
 pub mod OnwardSilence
 pub mod Outlining
+pub mod Prompts
+pub mod Near

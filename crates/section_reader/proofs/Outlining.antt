@@ -83,9 +83,9 @@ rest_is_passed c d p none =
     let at : c.at + room_of c ≡ d.at = omega (arith, p.at, all) in
     let rest : drop (room_of c) c.rest ≡ d.rest = ap (λ (n : ℕ). drop n c.rest) (sym all) ∙ ap (drop (length p.taken)) p.parts ∙ drop-append_seam p.taken d.rest in
     let same : past c (room_of c) ≡ d =
-        ap (λ (n : ℕ). record { at = n; rest = drop (room_of c) c.rest; end = c.end }) at
-        ∙ ap (λ (l : List ℕ). record { at = d.at; rest = l; end = c.end }) rest
-        ∙ ap (λ (n : ℕ). record { at = d.at; rest = d.rest; end = n }) (sym p.end) in
+    ap (λ (n : ℕ). record { at = n; rest = drop (room_of c) c.rest; end = c.end }) at
+    ∙ ap (λ (l : List ℕ). record { at = d.at; rest = l; end = c.end }) rest
+    ∙ ap (λ (n : ℕ). record { at = d.at; rest = d.rest; end = n }) (sym p.end) in
     rw (le-ltb (length (window c)) (room_of c) there) (ap (Got tt) same)
 
 -- ---- bodies
@@ -201,15 +201,15 @@ module _ (n : ℕ) (next : NextMatch n) where
   contents_match id seen c o few =
       elim (cases_eq id 10) [
         | inl is ↦
-          let ten : IsOrdered (Contents 10) seen = subst (λ (k : ℕ). IsOrdered (Contents k) seen) is o in
-          let uncounted : seen.counted ≡ false = (ten.code refl).counted in
-          let one : seen.declared + 1 ≡ suc seen.declared = add-one seen.declared in
-          rw (is, one) (code_matches seen c uncounted ten few)
+            let ten : IsOrdered (Contents 10) seen = subst (λ (k : ℕ). IsOrdered (Contents k) seen) is o in
+            let uncounted : seen.counted ≡ false = (ten.code refl).counted in
+            let one : seen.declared + 1 ≡ suc seen.declared = add-one seen.declared in
+            rw (is, one) (code_matches seen c uncounted ten few)
         | inr other ↦
-          subst (λ (r : Row). MatchesAll (contents r sections seen c) (contents (outline_row id) outline_sections seen c)) (other_row id other)
-          (runs_match ((outline_row id).front seen c) _ _ (λ k d is.
-          let p = got_is (λ z f. Advance c f) ((outline_row id).front seen c) k d is (((outline_steady id).front seen).moves c) in
-          other_matches id other k seen d (front_ordered seen c d id k is o) (omega (arith, fewer c d p, few))))
+            subst (λ (r : Row). MatchesAll (contents r sections seen c) (contents (outline_row id) outline_sections seen c)) (other_row id other)
+            (runs_match ((outline_row id).front seen c) _ _ (λ k d is.
+            let p = got_is (λ z f. Advance c f) ((outline_row id).front seen c) k d is (((outline_steady id).front seen).moves c) in
+            other_matches id other k seen d (front_ordered seen c d id k is o) (omega (arith, fewer c d p, few))))
       ]
 
   section_match : (seen : Seen) (c : Cursor) → IsOrdered Between seen → length c.rest ≤ n → (rest : List ℕ) → MatchesAll (or_section sections seen c rest) (or_outline outline_sections seen c rest)

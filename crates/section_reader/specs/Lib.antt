@@ -9,3 +9,4 @@ pub mod FrontOnward
 pub mod Waits
 pub mod Keeps
 pub mod Outlining
+pub mod Near

@@ -1,8 +1,9 @@
 //! Reading step by step: up to the next stage, or to the next item.
 
-ghost use Rattle.std.specs.Prelude.{◌≡◌, ◌<◌, ◌≤◌, ℕ, length, true, false, None, Some, IfOk, IfSome};
+ghost use Rattle.std.specs.Prelude.{◌≡◌, ◌<◌, ◌≤◌, ℕ, length, true, false, None, Some, IfOk, IfSome, IfNone};
 ghost use Rattle.leb_feed.specs.Reads.{NeedsNoMemory};
 ghost use Rattle.section_reader.specs.Counts.{IsSound};
+ghost use Rattle.section_reader.specs.Near.{IsNear};
 ghost use Rattle.section_reader.specs.Onward.{first_with, first_with_next, first_begun};
 ghost use Rattle.section_reader.specs.Stages.{passes, cut_there, code_due, silent, is_at_bodies};
 ghost use Rattle.section_reader.specs.Stepped.{Stepped, Reaches};
@@ -45,7 +46,8 @@ impl Steps {
         fields: &mut Fields<'_>,
         most: usize,
     ) -> Result<Option<Item>, FrontStop>
-        requires { IsSound self.old.seen fields.old }
+        requires sound { IsSound self.old.seen fields.old }
+        requires before { IsNear most self.old.stage self.old.seen fields.old }
         ensures reaches { Reaches self.old fields.old result self.new fields.new }
         ensures near { IfOk result (λ x. IfSome x (λ i. length fields.new.rest ≤ most)) }
     {
@@ -157,9 +159,11 @@ impl Steps {
         fields: &mut Fields<'_>,
         most: usize,
     ) -> Result<Option<Item>, Stop>
-        requires { IsSound self.old.seen fields.old }
+        requires sound { IsSound self.old.seen fields.old }
+        requires before { IsNear most self.old.stage self.old.seen fields.old }
         ensures stepped { Stepped self.old fields.old result self.new fields.new }
         ensures near { IfOk result (λ x. IfSome x (λ i. length fields.new.rest ≤ most)) }
+        ensures on { IfOk result (λ x. IfNone x (IsNear most self.new.stage self.new.seen fields.new)) }
     {
         match self.stage {
             Stage::Preamble => self.begin(fields),
@@ -183,6 +187,7 @@ impl Steps {
         requires stage { self.old.stage ≡ Stage.Preamble }
         ensures stepped { Stepped self.old fields.old result self.new fields.new }
         ensures none { IfOk result (λ x. x ≡ None) }
+        ensures on { (most : ℕ) → IsNear most self.old.stage self.old.seen fields.old → IfOk result (λ x. IfNone x (IsNear most self.new.stage self.new.seen fields.new)) }
         ensures free { NeedsNoMemory result }
     {
         let mut next = fields.fork();
@@ -198,6 +203,7 @@ impl Steps {
         requires stage { self.old.stage ≡ Stage.Between }
         ensures stepped { Stepped self.old fields.old result self.new fields.new }
         ensures none { IfOk result (λ x. x ≡ None) }
+        ensures on { (most : ℕ) → IsNear most self.old.stage self.old.seen fields.old → IfOk result (λ x. IfNone x (IsNear most self.new.stage self.new.seen fields.new)) }
         ensures free { NeedsNoMemory result }
     {
         if fields.rest().is_empty() {
@@ -225,6 +231,7 @@ impl Steps {
         requires stage { self.old.stage ≡ Stage.Contents id }
         ensures stepped { Stepped self.old fields.old result self.new fields.new }
         ensures none { IfOk result (λ x. x ≡ None) }
+        ensures on { (most : ℕ) → IsNear most self.old.stage self.old.seen fields.old → IfOk result (λ x. IfNone x (IsNear most self.new.stage self.new.seen fields.new)) }
     {
         let mut next = fields.fork();
         let n = entry_count(&mut next, alloc, id, &self.seen)?;
@@ -245,14 +252,13 @@ impl Steps {
         requires sound { IsSound self.old.seen fields.old }
         requires stage { self.old.stage ≡ Stage.Entries id n }
         requires some { 0 < n }
+        requires before { IsNear most self.old.stage self.old.seen fields.old }
         ensures stepped { Stepped self.old fields.old result self.new fields.new }
         ensures near { IfOk result (λ x. IfSome x (λ i. length fields.new.rest ≤ most)) }
+        ensures on { IfOk result (λ x. IfNone x (IsNear most self.new.stage self.new.seen fields.new)) }
     {
         let mut next = fields.fork();
         let item = next_item(&mut next, alloc, id, &self.seen)?;
-        if most < next.rest().len() {
-            return Err(Stop::NoMemory);
-        }
         self.seen.note_item(alloc, &item)?;
         *fields = next;
         self.stage = Stage::Entries(id, n - 1);
@@ -266,6 +272,7 @@ impl Steps {
         requires listing { passes id ≡ false }
         ensures stepped { Stepped self.old fields.old result self.new fields.new }
         ensures none { IfOk result (λ x. x ≡ None) }
+        ensures on { (most : ℕ) → IsNear most self.old.stage self.old.seen fields.old → IfOk result (λ x. IfNone x (IsNear most self.new.stage self.new.seen fields.new)) }
         ensures free { NeedsNoMemory result }
     {
         let mut next = fields.fork();
@@ -282,6 +289,7 @@ impl Steps {
         requires passing { passes id ≡ true }
         ensures stepped { Stepped self.old fields.old result self.new fields.new }
         ensures none { IfOk result (λ x. x ≡ None) }
+        ensures on { (most : ℕ) → IsNear most self.old.stage self.old.seen fields.old → IfOk result (λ x. IfNone x (IsNear most self.new.stage self.new.seen fields.new)) }
         ensures free { NeedsNoMemory result }
     {
         let there = fields.rest().len() as u64;

@@ -29,14 +29,14 @@ zero_byte = then_byte 0 [] (omega arith) no_bytes
 -- ---- windows
 
 -- where a field wants more, the section has room behind the bytes that are there
-room_left : (A : Type 0) (c : Cursor) → cut {A = A} c ≡ Wants → length c.rest < room_of c
+pub room_left : (A : Type 0) (c : Cursor) → cut {A = A} c ≡ Wants → length c.rest < room_of c
 room_left A c e =
     elim (cases_lt (length c.rest) (room_of c)) [
       | inl lt ↦ lt
       | inr ge ↦ absurd (let t = rw (le-leb (room_of c) (length c.rest) ge) at e in cc)
     ]
 
-window_is : (c : Cursor) → length c.rest ≤ room_of c → window c ≡ c.rest
+pub window_is : (c : Cursor) → length c.rest ≤ room_of c → window c ≡ c.rest
 window_is c h = all_of (room_of c) c.rest h
 
 window_with : (c : Cursor) (more : List ℕ) → length c.rest + length more ≤ room_of c → window (with_more c more) ≡ c.rest ++ more
@@ -64,7 +64,7 @@ last_zero : (signed : Bool) (bits : ℕ) → last_byte signed bits 0 ≡ Number 
 last_zero false bits = rw (lt-ltb 0 (2 ^ bits) (pow_pos bits)) refl
 last_zero true bits = rw (lt-ltb 0 (2 ^ (bits - 1)) (pow_pos (bits - 1))) refl
 
-last_is_whole : (signed : Bool) (bits b : ℕ) → last_byte signed bits b ≡ CutOff → ⊥
+pub last_is_whole : (signed : Bool) (bits b : ℕ) → last_byte signed bits b ≡ CutOff → ⊥
 last_is_whole false bits b e =
     elim (cases_Bool (ltb b (2 ^ bits))) [
       | inl h ↦ absurd (let t = rw h at e in cc)
@@ -82,7 +82,7 @@ last_is_whole true bits b e =
       ]
     ]
 
-after_cut : (b : ℕ) (r : Reading) → after_byte b r ≡ CutOff → r ≡ CutOff
+pub after_cut : (b : ℕ) (r : Reading) → after_byte b r ≡ CutOff → r ≡ CutOff
 after_cut b (Number n len) e = absurd cc
 after_cut b CutOff e = refl
 after_cut b Bad e = absurd cc
@@ -96,10 +96,10 @@ zero_ends signed bits (b ∷ bytes) more e =
       | inl low ↦ absurd (last_is_whole signed bits b (rw low at e))
       | inr high ↦ let t = rw high at e in elim (cases_Bool (ltb 7 bits)) [
         | inl wide ↦
-          let u = rw wide at t in
-          let h = zero_ends signed (bits - 7) bytes more (after_cut b (number_at signed (bits - 7) bytes) u) in
-          let len : length bytes + 1 + 1 ≡ length (b ∷ bytes) + 1 = omega arith in
-          rw (high, wide, h.1) (pos (b - 128) +ℤ (pos 128 *ℤ h.0), ap (Number (pos (b - 128) +ℤ (pos 128 *ℤ h.0))) len)
+            let u = rw wide at t in
+            let h = zero_ends signed (bits - 7) bytes more (after_cut b (number_at signed (bits - 7) bytes) u) in
+            let len : length bytes + 1 + 1 ≡ length (b ∷ bytes) + 1 = omega arith in
+            rw (high, wide, h.1) (pos (b - 128) +ℤ (pos 128 *ℤ h.0), ap (Number (pos (b - 128) +ℤ (pos 128 *ℤ h.0))) len)
         | inr narrow ↦ absurd (let u = rw narrow at t in cc)
       ]
     ]
@@ -113,9 +113,9 @@ zero_is_least bits (b ∷ bytes) more e =
       | inl low ↦ absurd (last_is_whole false bits b (rw low at e))
       | inr high ↦ let t = rw high at e in elim (cases_Bool (ltb 7 bits)) [
         | inl wide ↦
-          let u = rw wide at t in
-          let len : length bytes + 1 + 1 ≡ length (b ∷ bytes) + 1 = omega arith in
-          rw (high, wide, zero_is_least (bits - 7) bytes more (after_cut b (number_at false (bits - 7) bytes) u)) (ap (Number (pos (least (b ∷ bytes)))) len)
+            let u = rw wide at t in
+            let len : length bytes + 1 + 1 ≡ length (b ∷ bytes) + 1 = omega arith in
+            rw (high, wide, zero_is_least (bits - 7) bytes more (after_cut b (number_at false (bits - 7) bytes) u)) (ap (Number (pos (least (b ∷ bytes)))) len)
         | inr narrow ↦ absurd (let u = rw narrow at t in cc)
       ]
     ]
@@ -162,11 +162,11 @@ fixed_completes bytes all c fits e =
       | inl same ↦ let t = rw same at e in elim (cases_lt (length (window c)) (length bytes)) [
         | inr ge ↦ absurd (let u = rw (le-ltb (length (window c)) (length bytes) ge) at t in cc)
         | inl lt ↦
-          let room = room_left ℕ c (rw (lt-ltb (length (window c)) (length bytes) lt) at t) in
-          let whole = window_is c (omega arith) in
-          let short : length c.rest < length bytes = omega (arith, ap length whole) in
-          let more = drop (length c.rest) bytes in
-          (more, All-drop (λ b. b < 256) (length c.rest) bytes all, fixed_got bytes (c.rest ++ more) (with_more c more) (window_with c more (omega (arith, length-drop (length c.rest) bytes))) (agree_filled bytes c.rest (omega arith) (rw whole at same)) (omega (arith, length-append c.rest more, length-drop (length c.rest) bytes)))
+            let room = room_left ℕ c (rw (lt-ltb (length (window c)) (length bytes) lt) at t) in
+            let whole = window_is c (omega arith) in
+            let short : length c.rest < length bytes = omega (arith, ap length whole) in
+            let more = drop (length c.rest) bytes in
+            (more, All-drop (λ b. b < 256) (length c.rest) bytes all, fixed_got bytes (c.rest ++ more) (with_more c more) (window_with c more (omega (arith, length-drop (length c.rest) bytes))) (agree_filled bytes c.rest (omega arith) (rw whole at same)) (omega (arith, length-append c.rest more, length-drop (length c.rest) bytes)))
       ]
     ]
 
@@ -269,12 +269,12 @@ unfolding name
 name_read c n len e h = rw e h
 
 -- a text that isn't whole, in a section with room for it
-record Owes (len n : ℕ) (c : Cursor) : Type 0 where
-  fits : len + n ≤ room_of c
-  right : completes n between (take n (drop len (window c))) ≡ true
-  short : length (take n (drop len (window c))) < n
+pub record Owes (len n : ℕ) (c : Cursor) : Type 0 where
+  pub fits : len + n ≤ room_of c
+  pub right : completes n between (take n (drop len (window c))) ≡ true
+  pub short : length (take n (drop len (window c))) < n
 
-text_owes : (len n : ℕ) (c : Cursor) → text_after len n c ≡ Wants → Owes len n c
+pub text_owes : (len n : ℕ) (c : Cursor) → text_after len n c ≡ Wants → Owes len n c
 text_owes len n c e =
     let text = take n (drop len (window c)) in
     elim (cases_lt (room_of c) (len + n)) [
@@ -302,16 +302,16 @@ text_completes c n len is lies on o =
     let f = finished k between (drop len c.rest) (omega arith, omega arith) (omega (arith, length-drop len c.rest)) (rw text at o.right) in
     let all : window (with_more c f.more) ≡ c.rest ++ f.more = window_with c f.more (omega (arith, f.count, length-drop len c.rest, o.fits)) in
     let behind : take k (drop len (window (with_more c f.more))) ≡ drop len c.rest ++ f.more =
-        ap (λ (l : List ℕ). take k (drop len l)) all
-        ∙ ap (take k) (drop-append-le len c.rest f.more there)
-        ∙ all_of k (drop len c.rest ++ f.more) (omega (arith, f.count, length-append (drop len c.rest) f.more)) in
+    ap (λ (l : List ℕ). take k (drop len l)) all
+    ∙ ap (take k) (drop-append-le len c.rest f.more there)
+    ∙ all_of k (drop len c.rest ++ f.more) (omega (arith, f.count, length-append (drop len c.rest) f.more)) in
     (f.more, f.bytes, name_read (with_more c f.more) n len (ap (number_at false 32) all ∙ ap (λ (l : List ℕ). number_at false 32 (l ++ f.more)) (sym whole) ∙ on f.more) (text_ends len k (with_more c f.more) (drop len c.rest ++ f.more) behind o.fits f.right (omega (arith, f.count, length-append (drop len c.rest) f.more))))
 
 drop_past : (xs ys : List ℕ) (b : ℕ) → drop (suc (length xs)) (xs ++ b ∷ ys) ≡ ys
 drop_past [] ys b = refl
 drop_past (x ∷ xs) ys b = drop_past xs ys b
 
-owed_fits : (c : Cursor) → length_owed c ≡ Wants → length (window c) + 1 + least (window c) ≤ room_of c
+pub owed_fits : (c : Cursor) → length_owed c ≡ Wants → length (window c) + 1 + least (window c) ≤ room_of c
 owed_fits c e =
     elim (cases_lt (room_of c) (length (window c) + 1 + least (window c))) [
       | inl long ↦ absurd (let t = rw (lt-ltb (room_of c) (length (window c) + 1 + least (window c)) long) at e in cc)
@@ -331,10 +331,10 @@ length_completes c is e =
     let reading = zero_is_least 32 c.rest f.more (ap (number_at false 32) (sym whole) ∙ is) in
     let one : length c.rest + 1 ≡ suc (length c.rest) = omega arith in
     let behind : take k (drop (length c.rest + 1) (window (with_more c more))) ≡ f.more =
-        ap (λ (l : List ℕ). take k (drop (length c.rest + 1) l)) all
-        ∙ ap (λ (n : ℕ). take k (drop n (c.rest ++ more))) one
-        ∙ ap (take k) (drop_past c.rest f.more 0)
-        ∙ all_of k f.more (omega (arith, f.count)) in
+    ap (λ (l : List ℕ). take k (drop (length c.rest + 1) l)) all
+    ∙ ap (λ (n : ℕ). take k (drop n (c.rest ++ more))) one
+    ∙ ap (take k) (drop_past c.rest f.more 0)
+    ∙ all_of k f.more (omega (arith, f.count)) in
     (more, then_byte 0 f.more (omega arith) f.bytes, name_read (with_more c more) (pos k) (length c.rest + 1) (ap (number_at false 32) all ∙ reading) (text_ends (length c.rest + 1) k (with_more c more) f.more behind fits f.right f.count))
 
 reads_on : (n : ℤ) (len : ℕ) (r s : Reading) → r ≡ Number n len → ReadsOn r s → s ≡ Number n len

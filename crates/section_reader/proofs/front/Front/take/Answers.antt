@@ -6,11 +6,15 @@ use Rattle.section_reader.specs.declared.steps.Steps.{Steps}
 use Rattle.section_reader.specs.Stepped.{Reached, Reaches}
 use Rattle.section_reader.proofs.Reaching.{item_fed, all_fed, refused_there, restored, left_same, sound_at, owed_of, owed_at}
 use Rattle.section_reader.proofs.Awaiting.{free_at, placed_at}
+use Rattle.section_reader.proofs.Near.{take_near}
 use Rattle.section_reader.proofs.FrontTelling.{stalled_of, stalled_at, item_told, refused_told}
 use Rattle.section_reader.proofs.front.Front.take.Goals as goal
 
 pub until_item-requires : goal.until_item-requires
-until_item-requires c = sound_at _ _ _ _ _ c.in-Some.ensures.there c.args.self.now.counts c.in-Some.ensures.fits
+until_item-requires c = record {
+  sound = sound_at _ _ _ _ _ c.in-Some.ensures.there c.args.self.now.counts c.in-Some.ensures.fits;
+  before = rw c.in-Some.ensures.there (take_near c.args.self.now c.args.bytes.now c.args.all.now c.requires.joined);
+}
 
 pub returns-in-Ok-Some-clause-fed : goal.returns-in-Ok-Some-clause-fed
 returns-in-Ok-Some-clause-fed c =

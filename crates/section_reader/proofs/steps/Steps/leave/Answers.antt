@@ -1,8 +1,12 @@
+use Rattle.std.proofs.Common.{subst}
 use Rattle.std.proofs.lemmas.Result.{err_from_is_err_and}
+use Rattle.section_reader.specs.declared.stage.Stage.{Stage}
+use Rattle.section_reader.specs.Near.{IsNear}
 use Rattle.section_reader.specs.declared.stage.Stage.TheVariants.{Entries}
 use Rattle.section_reader.proofs.Leading.{end_halts}
 use Rattle.section_reader.proofs.Telling as telling
 use Rattle.section_reader.proofs.Going.{stops_at, back_goes, nothing_back}
+use Rattle.section_reader.proofs.Near.{back_near}
 use Rattle.section_reader.proofs.steps.Steps.leave.Goals as goal
 
 pub returns-in_err-section_end-clause-stepped : goal.returns-in_err-section_end-clause-stepped
@@ -19,3 +23,9 @@ pub returns-clause-stepped : goal.returns-clause-stepped
 returns-clause-stepped c =
     let o = c.args.self.now in
     back_goes o.stage o.seen o.uncompiled c.args.fields.now c.args.fields.now c.requires.sound c.args.id c.section_end.new.fields c.requires.stage (nothing_back c.args.id c.args.fields.now c.requires.listing) (rw c.fork-next.ensures at c.in_ok-section_end.ensures.read)
+
+pub returns-clause-on : goal.returns-clause-on
+returns-clause-on c = λ most near.
+    let o = c.args.self.now in
+    let f = c.args.fields.now in
+    back_near most o.seen f f c.args.id c.section_end.new.fields (nothing_back c.args.id f c.requires.listing) (rw c.fork-next.ensures at c.in_ok-section_end.ensures.read) (subst (λ (s : Stage). IsNear most s o.seen f) c.requires.stage near)

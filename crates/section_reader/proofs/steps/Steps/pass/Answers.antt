@@ -1,11 +1,14 @@
-use Rattle.std.proofs.Common.{arith, ap, ◌∙◌, length, ◌<◌, ◌≡◌}
+use Rattle.std.proofs.Common.{subst, arith, ap, ◌∙◌, length, ◌<◌, ◌≡◌}
 use Rattle.std.proofs.lemmas.Result.{err_from_is_err_and}
 use Rattle.wasm_defs.specs.Fields.{room_of}
 use Rattle.leb_feed.specs.declared.stop.Stop.TheVariants as stop
+use Rattle.section_reader.specs.declared.stage.Stage.{Stage}
+use Rattle.section_reader.specs.Near.{IsNear}
 use Rattle.section_reader.specs.declared.stage.Stage.TheVariants.{Entries}
 use Rattle.section_reader.proofs.Leading.{back_halts, end_halts, pass_halts}
 use Rattle.section_reader.proofs.Telling as telling
 use Rattle.section_reader.proofs.Going.{stops_at, back_goes, rest_back, run_stops_at, pass_goes_at}
+use Rattle.section_reader.proofs.Near.{back_near, run_is_near}
 use Rattle.section_reader.proofs.steps.Steps.pass.Goals as goal
 
 pub returns-in_err-rest_of_section-clause-stepped : goal.returns-in_err-rest_of_section-clause-stepped
@@ -51,3 +54,13 @@ pub returns-clause-stepped : goal.returns-clause-stepped
 returns-clause-stepped c =
     let o = c.args.self.now in
     pass_goes_at o.stage o.seen o.uncompiled c.args.fields.now c.run.new.self c.args.id _ _ c.requires.sound c.requires.stage c.requires.passing (ap length c.rest.ensures) (omega arith) (omega arith) (rw c.fork-next-2.ensures at c.in_ok-run.ensures.read)
+
+pub returns-then-room-there-clause-on : goal.returns-then-room-there-clause-on
+returns-then-room-there-clause-on c = λ most near.
+    let o = c.args.self.now in
+    let f = c.args.fields.now in
+    back_near most o.seen f c.rest_of_section.new.fields c.args.id c.section_end.new.fields (rest_back c.args.id f c.requires.passing ∙ (rw c.fork-next.ensures at c.in_ok-rest_of_section.ensures.read)) c.in_ok-section_end.ensures.read (subst (λ (s : Stage). IsNear most s o.seen f) c.requires.stage near)
+
+pub returns-clause-on : goal.returns-clause-on
+returns-clause-on c = λ most near.
+    run_is_near most c.args.self.now.stage c.args.self.now.seen _ c.args.fields.now c.run.new.self _ (rw c.fork-next-2.ensures at c.in_ok-run.ensures.read) (ap length c.rest.ensures)
