@@ -26,9 +26,13 @@ fn no_byte_is_read_behind_a_fault(rt: HostRuntime) -> Result<(), Fail> {
         pieces.push(bytes_of(alloc, &[HEADER, text])?)?;
         pieces.push(bytes_of(alloc, &["00"])?)?;
         let mut source = Pieces::new(alloc, &pieces, None)?;
-        let CheckAnswer::Refused(refusal) =
-            stream_check(&rt, alloc, &mut source, &OpenGate, settings)
-        else {
+        let CheckAnswer::Refused(refusal) = stream_check(
+            &rt,
+            alloc,
+            &mut source,
+            &OpenGate,
+            settings,
+        ) else {
             return Err(Fail::new("a section is at fault"));
         };
         let kind = Kind::Malformed;
