@@ -161,7 +161,6 @@ module _ (m : Module) (good : IsStraightModule m) (short : length (text_of m) â‰
         types_are = refl;
         locals_are = refl;
         results_are = refl;
-        one_result = x.good.one_result;
         greatest_is = refl;
         params = refl;
         locals = refl;

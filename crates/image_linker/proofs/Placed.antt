@@ -71,7 +71,7 @@ code_in_range items places here k [] (tree ∷ trees) good = absurd good
 code_in_range items places here k (b ∷ bodies) [] good = absurd good
 code_in_range items places here k (b ∷ bodies) (tree ∷ trees) good =
     both_in_range (code_of_function items places here k b tree) (code_from items places (here + size_of items k b tree) (suc k) bodies trees)
-    (function_in_range (around items k b tree (distances places here)) (context_of items) (context_at items k b) tree good.0.covered)
+    (function_in_range (around items k b tree (distances places here)) (context_at items k b) tree good.0.covered)
     (code_in_range items places (here + size_of items k b tree) (suc k) bodies trees good.1)
 
 -- ---- the text

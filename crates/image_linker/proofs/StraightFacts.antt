@@ -46,12 +46,12 @@ straight_step (Const I64 n) e range = long_constant_fits n range
 straight_step (Operate op) e range = tt
 straight_step p e range = absurd (false≢true e)
 
-straight_tree : (c : Context) (tree : Seq) → is_straight tree ≡ true → TreeIsInRange tree → IsCovered c tree
-straight_tree c Nothing e range = tt
-straight_tree c (Simple p rest) e range =
+straight_tree : (tree : Seq) → is_straight tree ≡ true → TreeIsInRange tree → IsCovered tree
+straight_tree Nothing e range = tt
+straight_tree (Simple p rest) e range =
     let parts = and_parts (is_straight_plain p) (is_straight rest) e in
-    (straight_step p parts.0 range.0, straight_tree c rest parts.1 range.1)
-straight_tree c tree e range = absurd (false≢true e)
+    (straight_step p parts.0 range.0, straight_tree rest parts.1 range.1)
+straight_tree tree e range = absurd (false≢true e)
 
 module _ (items : List Item) (types : TypesAreSmall (context_of items).types) where
   straight_body : (k : ℕ) (b : Body) (tree : Seq) → AreBytes b.bytes → BodyIsSmall b → IsValidCode (context_at items k b) (read_of b).code tree → IsStraightBody items k b tree
@@ -63,10 +63,9 @@ module _ (items : List Item) (types : TypesAreSmall (context_of items).types) wh
       let few = tokens_are_few b.first b.bytes in
       let locals = small.locals in
       record {
-        covered = straight_tree (context_of items) tree is range;
+        covered = straight_tree tree is range;
         typed = valid.typed;
         few_params = ty.params;
-        one_result = ty.results;
         fits = omega (arith, ty.params, small.most);
       }
 

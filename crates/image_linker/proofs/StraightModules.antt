@@ -16,10 +16,9 @@ use Rattle.image_linker.specs.ImageOf.{layout_of}
 
 -- the k-th body
 pub record IsStraightBody (items : List Item) (k : ℕ) (b : Body) (tree : Seq) : Type 0 where
-  pub covered : IsCovered (context_of items) tree
+  pub covered : IsCovered tree
   pub typed : IsBody (context_at items k b) tree
   pub few_params : length (function_of items k b tree).ty.params ≤ max_params
-  pub one_result : length (function_of items k b tree).ty.results ≤ 1
   pub fits : need (layout_of items k b tree) < 2 ^ 24
 
 -- the bodies, of which the first is the k-th

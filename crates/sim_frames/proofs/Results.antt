@@ -19,8 +19,8 @@ operands_small b first (v ∷ vs) h k less =
     ⊎_elim
     (λ below. operands_small b first vs h.1 k below)
     (λ top.
-        let at : first + length vs ≡ first + k = omega arith in
-        subst (λ (j : ℕ). slot_at b j < 2 ^ 64) at (subst (λ (n : ℕ). n < 2 ^ 64) (sym h.0.is) (word_small v.ty v.number h.0.range)))
+    let at : first + length vs ≡ first + k = omega arith in
+    subst (λ (j : ℕ). slot_at b j < 2 ^ 64) at (subst (λ (n : ℕ). n < 2 ^ 64) (sym h.0.is) (word_small v.ty v.number h.0.range)))
     (cases_lt k (length vs))
 
 -- operands that were moved
@@ -64,7 +64,7 @@ results_moved l base (suc n) index b size windows room small =
           ⊎_elim
           (λ more. x.moved k (omega (arith, more)) (omega arith) ∙ other (base + operand l k) (λ e. omega (arith, e)))
           (λ first.
-              let same : k ≡ index = omega (arith, first) in
-              subst (λ (i : ℕ). slot_at (with_results l base n (index + 1) b1) (base + i) ≡ slot_at b (base + operand l i)) (sym same) (x.others (base + index) (inl (omega arith)) ∙ written))
+          let same : k ≡ index = omega (arith, first) in
+          subst (λ (i : ℕ). slot_at (with_results l base n (index + 1) b1) (base + i) ≡ slot_at b (base + operand l i)) (sym same) (x.others (base + index) (inl (omega arith)) ∙ written))
           (cases_lt index k);
     }

@@ -1,5 +1,5 @@
 -- A call of a declared function.
-use Rattle.std.proofs.Common.{◌≡◌, ℕ, suc, ◌+◌, ◌-◌, ◌^◌, ◌<◌, ◌≤◌, List, [], ◌∷◌, ◌++◌, length, take, drop, reverse, Option, Some, None, refl, sym, ap, ◌∙◌, subst, arith}
+use Rattle.std.proofs.Common.{◌≡◌, ℕ, suc, ◌+◌, ◌-◌, ◌^◌, ◌<◌, ◌≤◌, List, [], ◌∷◌, ◌++◌, length, take, drop, reverse, Option, Some, None, refl, sym, ap, ◌∙◌, subst, arith, ◌*◌}
 use Rattle.std.specs.Prelude.{slice_get}
 use Rattle.std.proofs.lemmas.Bool.{eq-eqb, false≢true}
 use Rattle.std.proofs.lemmas.List.{length-append, length-reverse, reverse-reverse, take-append-drop, length-take-le}
@@ -16,7 +16,7 @@ use Rattle.wasm_defs.specs.Typing.{Types, Context, Moves, with_type, called, fun
 use Rattle.wasm_defs.specs.Places.{Place, after_rule}
 use Rattle.wasm_defs.specs.Context.{type_or_empty, type_of_function}
 use Rattle.wasm_defs.specs.Values.{Value, types_of_values}
-use Rattle.wasm_defs.specs.Configurations.{Func, Function, Declared, type_of, Instance, Frame, Config, belows, part, used, max_slots}
+use Rattle.wasm_defs.specs.Configurations.{Func, Function, Declared, type_of, Instance, Frame, Config, belows, part, used, max_slots, Step}
 use Rattle.wasm_defs.specs.Reductions.{call, enter}
 use Rattle.frame_layout.specs.Macros.{ra, s0, s5, distance, shift, back}
 use Rattle.frame_layout.specs.Slots.{operand}
@@ -25,7 +25,7 @@ use Rattle.frame_layout.specs.Laws.{IsFrame}
 use Rattle.frame_layout.proofs.Standing.{has_first, has_rest}
 use Rattle.sim_frames.specs.Functions.{Known}
 use Rattle.sim_frames.proofs.Frames.{under, Compiled, SitsAt, Returns, CallersStay, FramesStay, KeepsRegisters}
-use Rattle.sim_frames.proofs.Follows.{same_beside, ahead, labels_ahead, Follows}
+use Rattle.sim_frames.proofs.Follows.{same_beside, ahead, labels_ahead, Follows, owed_of}
 use Rattle.sim_frames.proofs.Heights.{peak_here}
 use Rattle.sim_frames.proofs.Holding.{follows_less, follows_after}
 use Rattle.sim_frames.proofs.Jumps.{shift_moves, linked_lands}
@@ -209,22 +209,26 @@ module _ (text : List (Option Op)) (near : length text ≤ 2 ^ 26) (inst : Insta
             stay = subst (λ (b : Bytes). CallersStay text inst places outer b (place (k.begin + (m.here + 8))) (reverse ty.results) (caller ∷ c.callers)) (sym bytes) (m.address, returns, m.callers_stay);
           }
 
+    -- what a call owes is paid
+    abbrev Pays : Step → Type 0
+    Pays step = Follows text inst places outer c.store c.later (128 + 128 * owed_of step) size s step
+
     -- a declared function
     enters : (f : Func) (callee : Compiled text inst places f) → callee.begin ≡ places g → f.ty ≡ x.ty
-        → Follows text inst places outer c.store c.later 128 size s (enter c.store f (reverse (take (length f.ty.params) c.frame.operands)) (record c.frame { operands = drop (length f.ty.params) c.frame.operands; code = rest } ∷ c.callers) c.later)
+        → Pays (enter c.store f (reverse (take (length f.ty.params) c.frame.operands)) (record c.frame { operands = drop (length f.ty.params) c.frame.operands; code = rest } ∷ c.callers) c.later)
     enters f callee begin_is ty_is =
         let inside = callee.inside in
         let b = begins f.ty ty_is (omega arith) in
         let arguments = reverse (take (length f.ty.params) c.frame.operands) in
         let callers = record c.frame { operands = drop (length f.ty.params) c.frame.operands; code = rest } ∷ c.callers in
         let step = enter c.store f arguments callers c.later in
-        follows_less text inst places outer c.store c.later (8 + 24) 128 size s step (omega arith)
-        (follows_after text inst places outer c.store c.later 8 24 size s b.end b.reaches (same_beside s.bytes b.end.bytes b.bytes_are) b.registers step
+        follows_less text inst places outer c.store c.later (8 + (24 + 128 * owed_of step)) (128 + 128 * owed_of step) size s step (omega arith)
+        (follows_after text inst places outer c.store c.later 8 (24 + 128 * owed_of step) size s b.end b.reaches (same_beside s.bytes b.end.bytes b.bytes_are) b.registers step
         (enters_follow text near inst places outer stub c.store c.later size f callee arguments callers b.end (place (k.begin + (m.here + 8))) (b.at ∙ ap place (sym begin_is)) b.frame b.link_is b.types b.stand b.stay))
 
     -- by the function's index
-    pub known : (h : Function) → slice_get inst.functions g ≡ Some h → type_of h ≡ x.ty → Known text inst places g h → Follows text inst places outer c.store c.later 128 size s (call c rest ops (slice_get inst.functions g))
+    pub known : (h : Function) → slice_get inst.functions g ≡ Some h → type_of h ≡ x.ty → Known text inst places g h → Follows text inst places outer c.store c.later (128 + 128 * owed_of (call c rest ops (slice_get inst.functions g))) size s (call c rest ops (slice_get inst.functions g))
     known h is ty_is y =
         let found : slice_get inst.functions g ≡ Some (Declared y.func) = is ∙ ap (λ (z : Function). Some z) y.is in
-        subst (λ (o : Option Function). Follows text inst places outer c.store c.later 128 size s (call c rest ops o)) (sym found)
+        subst (λ (o : Option Function). Pays (call c rest ops o)) (sym found)
         (enters y.func y.compiled y.begin_is (ap type_of (sym y.is) ∙ ty_is))

@@ -25,10 +25,10 @@ use Rattle.frame_layout.specs.Laws.{slot_at, IsFrame, Enters}
 use Rattle.frame_layout.proofs.Beginnings.{prologue_does, exhaustion_does}
 use Rattle.frame_layout.proofs.Standing.{has_first, has_rest}
 use Rattle.sim_frames.proofs.Frames.{labels_of, under, Compiled, own, Ending, SitsAt, CallersStay, FramesStay}
-use Rattle.sim_frames.proofs.Follows.{callers_kept, Reached, halts_at, Follows}
+use Rattle.sim_frames.proofs.Follows.{callers_kept, Reached, halts_at, Follows, owed_of}
 use Rattle.sim_frames.proofs.Heights.{peak, peak_here}
 use Rattle.sim_frames.proofs.Leaving.{address_fits}
-use Rattle.sim_frames.proofs.Rules.{types_length}
+use Rattle.sim_frames.proofs.Rules.{types_length, types_append}
 use Rattle.sim_frames.proofs.Sizes.{code_size}
 use Rattle.sim_frames.proofs.Values.{Holds, holds_as, Locals, Agree, SameBeside}
 use Rattle.sim_frames.proofs.Words.{zero_word, modulus_positive}
@@ -184,7 +184,7 @@ module _ (text : List (Option Op)) (near : length text ≤ 2 ^ 26) (inst : Insta
         callers_stay = callers_kept text inst places outer s.bytes e.does.end.bytes address (reverse f.ty.results) callers low stay;
       }
 
-      reached : Reached text inst places outer store later 24 size s (record { store = store; frame = callee; callers = callers; owed = length f.locals; later = later })
+      reached : Reached text inst places outer store later (24 + 128 * length f.locals) size s (record { store = store; frame = callee; callers = callers; owed = length f.locals; later = later })
       reached = record {
         same_store = refl;
         same_later = refl;
@@ -200,18 +200,22 @@ module _ (text : List (Option Op)) (near : length text ≤ 2 ^ 26) (inst : Insta
         moves = inl (takes_steps e.steps s e.does.end (length (prologue l) - 1) e.does.reaches (omega (arith, e.does.pc_is)));
       }
 
-    entered : used callers + need k.around.layout ≤ max_slots → Follows text inst places outer store later 24 size s (enter store f arguments callers later)
+    -- zeroing locals is paid for by what is owed
+    abbrev Pays : Step → Type 0
+    Pays step = Follows text inst places outer store later (24 + 128 * owed_of step) size s step
+
+    entered : used callers + need k.around.layout ≤ max_slots → Pays (enter store f arguments callers later)
     entered room =
         let fits = address_fits text near inst places outer stub s.bytes address (reverse f.ty.results) callers stay in
         let e = prologue_does text s k.begin (used callers) l has_prologue at frame (omega (arith, fits.0)) room near in
         let none : nat_lt max_slots (used callers + config.need f) ≡ false = le-ltb max_slots (used callers + config.need f) (omega (arith, needs)) in
-        subst (λ (x : Step). Follows text inst places outer store later 24 size s x) (sym (cond-false _ _ _ none)) (reached e room)
+        subst Pays (sym (cond-false _ _ _ none)) (reached e room)
 
-    exhausted : max_slots < used callers + need k.around.layout → Follows text inst places outer store later 24 size s (enter store f arguments callers later)
+    exhausted : max_slots < used callers + need k.around.layout → Pays (enter store f arguments callers later)
     exhausted full =
         let x = exhaustion_does text s k.begin (used callers) l has_prologue at frame (used_fits s.bytes address (reverse f.ty.results) callers stay) k.fits full in
-        subst (λ (y : Step). Follows text inst places outer store later 24 size s y) (sym (cond-true _ _ _ (lt-ltb max_slots (used callers + config.need f) (omega (arith, needs)))))
-        (refl, halts_at text inst places outer store later 24 10 s StackExhausted (omega arith) x)
+        subst Pays (sym (cond-true _ _ _ (lt-ltb max_slots (used callers + config.need f) (omega (arith, needs)))))
+        (refl, halts_at text inst places outer store later (24 + 128 * 0) 10 s StackExhausted (omega arith) x)
 
-    pub enters_follow : Follows text inst places outer store later 24 size s (enter store f arguments callers later)
+    pub enters_follow : Follows text inst places outer store later (24 + 128 * owed_of (enter store f arguments callers later)) size s (enter store f arguments callers later)
     enters_follow = ⊎_elim exhausted entered (cases_lt max_slots (used callers + need k.around.layout))

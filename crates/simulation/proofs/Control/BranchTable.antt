@@ -20,14 +20,15 @@ use Rattle.frame_layout.specs.Slots.{operand}
 use Rattle.frame_layout.specs.Templates.{Label, Around, label_at, jump_words, jumps, table_front, exit_stub}
 use Rattle.frame_layout.proofs.Standing.{has_first, has_rest}
 use Rattle.sim_frames.proofs.Frames.{Open, labels_of, Compiled, FramesStay}
-use Rattle.sim_frames.proofs.Follows.{same_beside, registers_of, ahead, labels_ahead, Follows}
+use Rattle.sim_frames.proofs.Follows.{same_beside, registers_of, ahead, labels_ahead, Follows, owed_of}
 use Rattle.sim_frames.proofs.Holding.{Held, held_after, held_less, follows_less, follows_after}
 use Rattle.sim_frames.proofs.Sitting.{has_at}
-use Rattle.sim_frames.proofs.Sizes.{jump_count, jump_length}
+use Rattle.sim_frames.proofs.Sizes.{jump_count, jump_length, front_count, front_length}
 use Rattle.sim_frames.proofs.Values.{Operands}
-use Rattle.simulation.proofs.Control.Branches.{branch_follows}
+use Rattle.simulation.proofs.Control.Branches.{branch_follows, carried_pays}
 use Rattle.simulation.proofs.Control.Steps.{StopsAt, stops, held_here, has_here, inside_here, high_here, stand_here}
 use Rattle.simulation.proofs.Control.Tables.{chosen, front_lands}
+use Rattle.sim_frames.proofs.Rules.{types_split}
 
 same_type_is : (t u : ValType) → same_type t u ≡ true → t ≡ u
 same_type_is I32 I32 e = refl
@@ -128,7 +129,7 @@ module _ (text : List (Option Op)) (near : length text ≤ 2 ^ 26) (inst : Insta
   at ops = record start { frame = record start.frame { operands = ops } }
 
   abbrev Goes : Step → Type 0
-  Goes step = Follows text inst places outer start.store start.later 128 (ahead (Simple (BrTable ls l) rest) + labels_ahead start.frame.labels) s step
+  Goes step = Follows text inst places outer start.store start.later (128 + 128 * owed_of step) (ahead (Simple (BrTable ls l) rest) + labels_ahead start.frame.labels) s step
 
   module _ (v : Value) (below : List Value) (m : FramesStay text inst places outer (record start.frame { operands = v ∷ below; code = Simple (BrTable ls l) rest }) start.callers s) where
     abbrev c : Config
@@ -170,28 +171,29 @@ module _ (text : List (Option Op)) (near : length text ≤ 2 ^ 26) (inst : Insta
     types : types_of_values below ≡ x.takes ++ x.stops.rest
     types = let e = x.stops.before in cc
 
-    has : HasAt text (k.begin + m.here) (table_front k.around h count (label l).takes ++ jumps k.around (h - 2) (m.here + 16) all)
+    -- where the jumps stand
+    abbrev first : ℕ
+    first = m.here + length (table_front m.running.compiled.around (length ((v ∷ below) ++ belows start.frame.labels)) (length (map (label_at m.running.compiled.around (labels_of m.running.os)) ls)) (label_at m.running.compiled.around (labels_of m.running.os) l).takes)
+
+    has : HasAt text (m.running.compiled.begin + m.here) (table_front m.running.compiled.around (length ((v ∷ below) ++ belows start.frame.labels)) (length (map (label_at m.running.compiled.around (labels_of m.running.os)) ls)) (label_at m.running.compiled.around (labels_of m.running.os) l).takes
+        ++ jumps m.running.compiled.around (length ((v ∷ below) ++ belows start.frame.labels) - 1) first (map (label_at m.running.compiled.around (labels_of m.running.os)) ls ++ label_at m.running.compiled.around (labels_of m.running.os) l ∷ []))
     has = has_here text near inst places outer stub c s (BrTable ls l) rest m
 
-    inside : k.begin + (m.here + (16 + length (jumps k.around (h - 2) (m.here + 16) all))) ≤ length text
-    inside = omega (arith, inside_here text near inst places outer stub c s (BrTable ls l) rest m, length-append front (jumps k.around (h - 2) (m.here + 16) all))
+    inside : m.running.compiled.begin + (first + length (jumps m.running.compiled.around (length ((v ∷ below) ++ belows start.frame.labels) - 1) first (map (label_at m.running.compiled.around (labels_of m.running.os)) ls ++ label_at m.running.compiled.around (labels_of m.running.os) l ∷ []))) ≤ length text
+    inside = omega (arith, inside_here text near inst places outer stub c s (BrTable ls l) rest m, length-append front (jumps k.around (h - 1) first all))
 
     takes_is : (label l).takes ≡ length x.takes
     takes_is = label_takes k.around os l x.takes x.is
 
     -- fewer jumps than words
-    counted : (ns : List Label) → length ns ≤ length (jumps k.around (h - 2) (m.here + 16) ns)
-    counted ns = many ns (m.here + 16)
+    counted : (ns : List Label) → length ns ≤ length (jumps k.around (h - 1) first ns)
+    counted ns = many ns first
       where
-        some : (n : ℕ) → 1 ≤ jump_count n
-        some zero = omega arith
-        some (suc n) = omega arith
-
-        many : (ns : List Label) (here : ℕ) → length ns ≤ length (jumps k.around (h - 2) here ns)
+        many : (ns : List Label) (here : ℕ) → length ns ≤ length (jumps k.around (h - 1) here ns)
         many [] here = omega arith
         many (y ∷ ns) here =
-            let first = jump_words k.around (h - 2) here y in
-            omega (arith, many ns (here + length first), length-append first (jumps k.around (h - 2) (here + length first) ns), jump_length k.around (h - 2) here y, some y.takes)
+            let first = jump_words k.around (h - 1) here y in
+            omega (arith, many ns (here + length first), length-append first (jumps k.around (h - 1) (here + length first) ns), jump_length k.around (h - 1) here y)
 
     few : count < 2 ^ 26
     few = omega (arith, inside, counted all, length-append (map label ls) (label l ∷ []))
@@ -204,24 +206,28 @@ module _ (text : List (Option Op)) (near : length text ≤ 2 ^ 26) (inst : Insta
 
     follows : Goes (branch (record start { frame = record start.frame { operands = v ∷ below } }) below (slice_index_or ls v.number l) start.frame.labels)
     follows =
-        let z = front_lands text near k.around (used start.callers) m.address start.frame.locals s k.begin m.here h m.at v (below ++ belows start.frame.labels)
-        (held_here text near inst places outer stub c s (BrTable ls l) rest m).matches ty refl (high_here text near inst places outer stub c s (BrTable ls l) rest m) count few (label l).takes
-        (has_first text (k.begin + m.here) front (jumps k.around (h - 2) (m.here + 16) all) has) in
-        let y = z.3 in
         let n = length x.takes in
-        let here = m.here + 16 + index * jump_count n in
-        let place_is : k.begin + (m.here + (16 + index * jump_count (label l).takes)) ≡ k.begin + here = omega (arith, ap (λ (i : ℕ). index * jump_count i) takes_is) in
-        let held' = held_after text inst places outer start.frame start.callers k m.address below s y.end held y.bytes_are (y.others s0 refl) (y.others s5 refl) in
-        let jump = jumps_at text k.around k.begin (h - 2) n all (m.here + 16) index (label (slice_index_or ls v.number l)) (all_take k.around os x.takes ls l x.all x.is) (picks label ls l v.number)
-        (has_at text (k.begin + m.here + 16) (k.begin + (m.here + 16)) (jumps k.around (h - 2) (m.here + 16) all) (omega arith) (has_rest text (k.begin + m.here) front (jumps k.around (h - 2) (m.here + 16) all) has)) in
-        let stand' = subst (λ (b : Bytes). Operands b (used start.callers + operand k.around.layout 0) (belows start.frame.labels)) (sym y.bytes_are) (stand_here text near inst places outer stub c s (BrTable ls l) rest m) in
-        let high = high_here text near inst places outer stub c s (BrTable ls l) rest m in
+        let picked = label (slice_index_or ls v.number l) in
+        let jump = jumps_at text k.around k.begin (h - 1) n all first index picked (all_take k.around os x.takes ls l x.all x.is) (picks label ls l v.number)
+        (has_at text (k.begin + m.here + length front) (k.begin + first) (jumps k.around (h - 1) first all) (omega arith) (has_rest text (k.begin + m.here) front (jumps k.around (h - 1) first all) has)) in
         let within = inside in
+        let high = high_here text near inst places outer stub c s (BrTable ls l) rest m in
+        let index_is : index * jump_count (label l).takes ≡ index * jump_count n = ap (λ (i : ℕ). index * jump_count i) takes_is in
+        let split = types_split x.takes x.stops.rest below types in
+        let z = front_lands text near k.around (used start.callers) m.address start.frame.locals s k.begin m.here h m.at v (below ++ belows start.frame.labels)
+        (held_here text near inst places outer stub c s (BrTable ls l) rest m).matches ty refl high count few (label l).takes
+        (omega (arith, takes_is, split.2, length-append below (belows start.frame.labels), m.running.compiled.fits)) (omega (arith, index_is, jump.1))
+        (has_first text (k.begin + m.here) front (jumps k.around (h - 1) first all) has) in
+        let y = z.3 in
+        let here = first + index * jump_count n in
+        let place_is : k.begin + (m.here + (front_count (label l).takes + index * jump_count (label l).takes)) ≡ k.begin + here = omega (arith, index_is, front_length k.around h count (label l).takes) in
+        let held' = held_after text inst places outer start.frame start.callers k m.address below s y.end held y.bytes_are (y.others s0 refl) (y.others s5 refl) in
+        let stand' = subst (λ (b : Bytes). Operands b (used start.callers + operand k.around.layout 0) (belows start.frame.labels)) (sym y.bytes_are) (stand_here text near inst places outer stub c s (BrTable ls l) rest m) in
         let step = branch c below (slice_index_or ls v.number l) start.frame.labels in
-        follows_less text inst places outer start.store start.later (z.0 + 24) 128 size s step (omega (arith, z.2))
-        (follows_after text inst places outer start.store start.later z.0 24 size s y.end y.reaches (same_beside s.bytes y.end.bytes y.bytes_are) (registers_of s y.end y.others) step
-        (branch_follows text near inst places outer stub c k m.address here (h - 2) y.end below (held_c y.end held') (y.pc_is ∙ ap place place_is) (omega arith) (omega arith)
-        size (slice_index_or ls v.number l) start.frame.labels os m.running.to m.running.there m.running.fit x.takes x.stops.rest (picked_is (map (λ (o : Open). o.takes) os) x.takes ls l v.number x.all x.is) types stand' (omega arith) jump.0 (omega (arith, jump.1))))
+        let jumped = branch_follows text near inst places outer stub c k m.address here (h - 1) y.end below (held_c y.end held') (y.pc_is ∙ ap place place_is) (omega arith) (omega arith)
+        size (slice_index_or ls v.number l) start.frame.labels os m.running.to m.running.there m.running.fit x.takes x.stops.rest (picked_is (map (λ (o : Open). o.takes) os) x.takes ls l v.number x.all x.is) types stand' (omega arith) jump.0 (omega (arith, jump.1)) in
+        follows_less text inst places outer start.store start.later (z.0 + (12 + 12 * n)) (128 + 128 * owed_of step) size s step (omega (arith, z.2, jumped.1, carried_pays n))
+        (follows_after text inst places outer start.store start.later z.0 (12 + 12 * n) size s y.end y.reaches (same_beside s.bytes y.end.bytes y.bytes_are) (registers_of s y.end y.others) step jumped.0)
       where
         held_c : (t : State) → Held text inst places outer start.frame start.callers m.running.compiled m.address below t → Held text inst places outer (record start.frame { operands = v ∷ below }) start.callers m.running.compiled m.address below t
         held_c t z = record { matches = z.matches; are = z.are; stay = z.stay }
@@ -234,5 +240,5 @@ module _ (text : List (Option Op)) (near : length text ≤ 2 ^ 26) (inst : Insta
   by_operands (v ∷ below) m = follows v below m
 
   pub br_table_follows : FramesStay text inst places outer (record start.frame { code = Simple (BrTable ls l) rest }) start.callers s
-      → Follows text inst places outer start.store start.later 128 (ahead (Simple (BrTable ls l) rest) + labels_ahead start.frame.labels) s (simple inst start (BrTable ls l) rest)
+      → Follows text inst places outer start.store start.later (128 + 128 * owed_of (simple inst start (BrTable ls l) rest)) (ahead (Simple (BrTable ls l) rest) + labels_ahead start.frame.labels) s (simple inst start (BrTable ls l) rest)
   br_table_follows m = by_operands start.frame.operands m

@@ -54,7 +54,7 @@ module _ (text : List (Option Op)) (inst : Instance) (places : ℕ → ℕ) {f :
     opened end = record { takes = s.results; base = h - 1 - length s.params; place = end }
 
     -- what follows
-    behind_sits : (below : Types) (end : ℕ) → IsCovered inst.context rest → Typed at rest (s.results ++ below) to → peak at rest (after_if s (Some h)) ≤ k.around.layout.greatest → HasAt text (k.begin + end) (code k.around at labels (after_if s (Some h)) end rest)
+    behind_sits : (below : Types) (end : ℕ) → IsCovered rest → Typed at rest (s.results ++ below) to → peak at rest (after_if s (Some h)) ≤ k.around.layout.greatest → HasAt text (k.begin + end) (code k.around at labels (after_if s (Some h)) end rest)
         → k.begin + (end + length (code k.around at labels (after_if s (Some h)) end rest)) ≤ length text → Ending text inst places k (end_of at rest (after_if s (Some h))) (end + length (code k.around at labels (after_if s (Some h)) end rest)) there
         → SitsAt text inst places k os (Some (h - 1 - length s.params + length s.results)) (s.results ++ below) end rest to there
     behind_sits below end covered typed low has inside_text ending =
@@ -79,7 +79,7 @@ module _ (text : List (Option Op)) (inst : Instance) (places : ℕ → ℕ) {f :
         let all = x.inside in
         let test = test_words k.around h here end in
         let has_both = has_rest text (k.begin + here) test (inner ++ behind) x.has in
-        let after = behind_sits b.below end x.covered.2 b.outer (omega (arith, low.1, x.low))
+        let after = behind_sits b.below end x.covered.1 b.outer (omega (arith, low.1, x.low))
         (has_at text (k.begin + here + 6 + length inner) (k.begin + end) behind (omega arith) (has_rest text (k.begin + here + 6) inner behind has_both)) (omega arith)
         (ending_at text inst places k os (end_of at rest (after_if s (Some h))) (here + length (test ++ (inner ++ behind))) (end + length behind) there (omega arith) x.ending) in
         let near : k.begin + end ≤ length text = omega arith in (
@@ -97,7 +97,7 @@ module _ (text : List (Option Op)) (inst : Instance) (places : ℕ → ℕ) {f :
               base_is = refl;
               near = near;
               inner = record {
-                covered = x.covered.1;
+                covered = x.covered.0;
                 typed = b.inner;
                 low = inner_low body k.around.layout.greatest (omega (arith, low.0, x.low));
                 has = has_first text (k.begin + (here + 6)) inner behind (has_at text (k.begin + here + 6) (k.begin + (here + 6)) (inner ++ behind) (omega arith) has_both);
@@ -149,7 +149,7 @@ module _ (text : List (Option Op)) (inst : Instance) (places : ℕ → ℕ) {f :
           let has_one = has_at text (k.begin + here + 6) (k.begin + (here + 6)) (one ++ (jump ++ (two ++ behind))) (omega arith) (has_rest text (k.begin + here) test (one ++ (jump ++ (two ++ behind))) x.has) in
           let has_jump = has_at text (k.begin + (here + 6) + length one) (k.begin + first_end) (jump ++ (two ++ behind)) (omega arith) (has_rest text (k.begin + (here + 6)) one (jump ++ (two ++ behind)) has_one) in
           let has_two = has_at text (k.begin + first_end + length jump) (k.begin + second) (two ++ behind) (omega arith) (has_rest text (k.begin + first_end) jump (two ++ behind) has_jump) in
-          let after = behind_sits b.below end x.covered.3 b.outer (omega (arith, low.2, x.low))
+          let after = behind_sits b.below end x.covered.2 b.outer (omega (arith, low.2, x.low))
           (has_at text (k.begin + second + length two) (k.begin + end) behind (omega arith) (has_rest text (k.begin + second) two behind has_two)) (omega arith)
           (ending_at text inst places k os (end_of at rest (after_if s (Some h))) (here + length (test ++ (one ++ (jump ++ (two ++ behind))))) (end + length behind) there (omega arith) x.ending) in
           let near : k.begin + end ≤ length text = omega arith in (
@@ -167,7 +167,7 @@ module _ (text : List (Option Op)) (inst : Instance) (places : ℕ → ℕ) {f :
                 base_is = refl;
                 near = near;
                 inner = record {
-                  covered = x.covered.1;
+                  covered = x.covered.0;
                   typed = b.inner;
                   low = inner_low body k.around.layout.greatest (omega (arith, low.0, x.low));
                   has = has_first text (k.begin + (here + 6)) one (jump ++ (two ++ behind)) has_one;
@@ -181,7 +181,7 @@ module _ (text : List (Option Op)) (inst : Instance) (places : ℕ → ℕ) {f :
                 base_is = refl;
                 near = near;
                 inner = record {
-                  covered = x.covered.2;
+                  covered = x.covered.1;
                   typed = b.second;
                   low = inner_low other k.around.layout.greatest (omega (arith, low.1, x.low));
                   has = has_first text (k.begin + second) two behind has_two;

@@ -1,5 +1,5 @@
 -- The rules of blocks and loops, and of the end of a block and of a function.
-use Rattle.std.proofs.Common.{◌≡◌, ℕ, ◌+◌, ◌^◌, ◌<◌, ◌≤◌, inr, ⊎_elim, List, [], ◌∷◌, ◌++◌, length, take, drop, reverse, Option, Some, refl, sym, ap, ◌∙◌, subst, append_assoc, arith}
+use Rattle.std.proofs.Common.{◌≡◌, ℕ, ◌+◌, ◌^◌, ◌<◌, ◌≤◌, inr, ⊎_elim, List, [], ◌∷◌, ◌++◌, length, take, drop, reverse, Option, Some, refl, sym, ap, ◌∙◌, subst, append_assoc, arith, ◌*◌}
 use Rattle.std.proofs.lemmas.List.{length-append, append-nil, take_all, length-reverse}
 use Rattle.rv_isa.specs.declared.operations.Op.{Op}
 use Rattle.rv_isa.specs.Steps.{State}
@@ -12,17 +12,18 @@ use Rattle.wasm_defs.specs.Places.{shape}
 use Rattle.wasm_defs.specs.Values.{Value, types_of_values}
 use Rattle.wasm_defs.specs.Configurations.{Func, Instance, Frame, Config, Step, belows, whole, used}
 use Rattle.wasm_defs.specs.Configurations as config
-use Rattle.wasm_defs.specs.Reductions.{within, leave, returns, reduce}
+use Rattle.wasm_defs.specs.Reductions.{within, leave, returns, reduce, carried}
 use Rattle.frame_layout.specs.Macros.{distance, far}
 use Rattle.frame_layout.specs.Templates.{exit_stub}
 use Rattle.sim_frames.proofs.Frames.{Open, under, Compiled, own, Opened, SitsAt, Fit, FramesStay, KeepsRegisters}
-use Rattle.sim_frames.proofs.Follows.{same_beside, callers_kept, ahead, labels_ahead, Reached, Follows}
+use Rattle.sim_frames.proofs.Follows.{same_beside, callers_kept, ahead, labels_ahead, Reached, Follows, owed_of}
 use Rattle.sim_frames.proofs.Heights.{peak_here, shape_by_types}
 use Rattle.sim_frames.proofs.Holding.{Held, held_now, arrives, follows_less, follows_after}
 use Rattle.sim_frames.proofs.Leaving.{own_near, leaves_follow}
 use Rattle.sim_frames.proofs.Rules.{types_length, types_append, types_split}
 use Rattle.sim_frames.proofs.Values.{Matches}
 use Rattle.simulation.proofs.Control.Blocks.{block_stop, loop_stop, block_pieces, loop_pieces, behind_sits, enters}
+use Rattle.simulation.proofs.Control.Branches.{carried_pays, finish_owes}
 use Rattle.simulation.proofs.Control.Moves.{far_jumps}
 
 module _ (text : List (Option Op)) (near : length text ≤ 2 ^ 26) (inst : Instance) (places : ℕ → ℕ) (outer : Types) (stub : HasAt text 0 exit_stub) (c : Config) (s : State) where
@@ -61,7 +62,6 @@ module _ (text : List (Option Op)) (near : length text ≤ 2 ^ 26) (inst : Insta
       let h = length (ops ++ belows c.frame.labels) in
       let sig = Same m type in
       let same = same_shape (Block type body rest) m type in
-      let one : length sig.results ≤ 1 = subst (λ (g : Signature). length g.results ≤ 1) (sym same) m.running.sits.covered.0.1 in
       let p = block_pieces text inst places k os type body rest h m.here (types_of_values ops) m.running.to m.running.there (sits_whole (Block type body rest) m) in
       let stop = block_stop text inst places k os type body h m.here in
       let held = held_now text inst places outer (record c.frame { code = Block type body rest }) c.callers s m in
@@ -69,7 +69,7 @@ module _ (text : List (Option Op)) (near : length text ≤ 2 ^ 26) (inst : Insta
       subst (λ (g : Signature). Goal (Block type body rest) (within c ops g (length g.results) rest body rest)) same
       (still (record c.frame { operands = take (length sig.params) ops; code = body; labels = record { arity = length sig.results; target = rest; below = drop (length sig.params) ops; after = rest } ∷ c.frame.labels })
       (ahead (Block type body rest) + labels_ahead c.frame.labels)
-      (enters text inst places outer (record c.frame { code = Block type body rest }) c.callers k m.address os ops s s held sig sig.results p.0 m.here stop stop body rest m.running.to m.running.there p.1 p.2 rest aims one p.2.near held.matches m.at m.running.fit)
+      (enters text inst places outer (record c.frame { code = Block type body rest }) c.callers k m.address os ops s s held sig sig.results p.0 m.here stop stop body rest m.running.to m.running.there p.1 p.2 rest aims p.2.near held.matches m.at m.running.fit)
       (omega arith))
 
   pub loop_follows : (type : BlockType) (body rest : Seq) → Here (Loop type body rest) → Goal (Loop type body rest) (reduce inst c (Loop type body rest))
@@ -80,7 +80,6 @@ module _ (text : List (Option Op)) (near : length text ≤ 2 ^ 26) (inst : Insta
       let h = length (ops ++ belows c.frame.labels) in
       let sig = Same m type in
       let same = same_shape (Loop type body rest) m type in
-      let one : length sig.params ≤ 1 = subst (λ (g : Signature). length g.params ≤ 1) (sym same) m.running.sits.covered.0.0 in
       let p = loop_pieces text inst places k os type body rest h m.here (types_of_values ops) m.running.to m.running.there (sits_whole (Loop type body rest) m) in
       let stop = loop_stop text inst places k os type body h m.here in
       let held = held_now text inst places outer (record c.frame { code = Loop type body rest }) c.callers s m in
@@ -91,7 +90,7 @@ module _ (text : List (Option Op)) (near : length text ≤ 2 ^ 26) (inst : Insta
       subst (λ (g : Signature). Goal (Loop type body rest) (within c ops g (length g.params) (Loop type body rest) body rest)) same
       (still (record c.frame { operands = take (length sig.params) ops; code = body; labels = record { arity = length sig.params; target = Loop type body rest; below = drop (length sig.params) ops; after = rest } ∷ c.frame.labels })
       (ahead (Loop type body rest) + labels_ahead c.frame.labels)
-      (enters text inst places outer (record c.frame { code = Loop type body rest }) c.callers k m.address os ops s s held sig sig.params p.0 m.here stop m.here body rest m.running.to m.running.there p.1 p.2 (Loop type body rest) aims one (omega arith) held.matches m.at m.running.fit)
+      (enters text inst places outer (record c.frame { code = Loop type body rest }) c.callers k m.address os ops s s held sig sig.params p.0 m.here stop m.here body rest m.running.to m.running.there p.1 p.2 (Loop type body rest) aims (omega arith) held.matches m.at m.running.fit)
       (omega arith))
 
   -- ---- the end of a sequence
@@ -114,7 +113,7 @@ module _ (text : List (Option Op)) (near : length text ≤ 2 ^ 26) (inst : Insta
     ops = c.frame.operands
 
     abbrev Comes : Step → Type 0
-    Comes step = Follows text inst places outer c.store c.later 128 (labels_ahead labels) s step
+    Comes step = Follows text inst places outer c.store c.later (128 + 128 * owed_of step) (labels_ahead labels) s step
 
     held : Held text inst places outer (record c.frame { code = Nothing; labels = labels }) c.callers m.running.compiled m.address c.frame.operands s
     held = held_now text inst places outer (record c.frame { code = Nothing; labels = labels }) c.callers s m
@@ -143,12 +142,15 @@ module _ (text : List (Option Op)) (near : length text ≤ 2 ^ 26) (inst : Insta
         let whole_is : ops ++ belows labels ≡ take (length rs) ops = ap (λ (vs : List Value). ops ++ vs) none ∙ append-nil ops ∙ sym all in
         let low = m.running.sits.low in
         let high = peak_here (under k.context m.running.os) Nothing (length (types_of_values ops) + length (belows labels)) in
-        follows_less text inst places outer c.store c.later (e.steps + 16) 128 (labels_ahead labels) s (returns c ops) (omega (arith, e.short))
-        (follows_after text inst places outer c.store c.later e.steps 16 (labels_ahead labels) s e.end e.reaches e.matches.beside e.registers (returns c ops)
+        let owed = carried (length rs) in
+        let after = 10 + 6 * length rs in
+        let owes = finish_owes c.store owed (take (length rs) ops) c.callers c.later in
+        follows_less text inst places outer c.store c.later (e.steps + after) (128 + 128 * owed_of (returns c ops)) (labels_ahead labels) s (returns c ops) (omega (arith, e.short, owes, carried_pays (length rs)))
+        (follows_after text inst places outer c.store c.later e.steps after (labels_ahead labels) s e.end e.reaches e.matches.beside e.registers (returns c ops)
         (leaves_follow text near inst places outer stub c.store c.later (labels_ahead labels) c.frame c.callers k m.address s.bytes (take (length rs) ops) c.frame.locals e.end
         (subst (λ (vs : List Value). Matches k.around.layout (used c.callers) m.address s.bytes c.frame.locals vs e.end) whole_is e.matches)
         (e.pc_is ∙ ap (λ (n : ℕ). place (k.begin + n)) there_is) (ap types_of_values all ∙ types) (omega (arith, ap length all, types_length ops))
-        (callers_kept text inst places outer s.bytes e.end.bytes m.address (reverse rs) c.callers e.matches.low m.callers_stay)))
+        (callers_kept text inst places outer s.bytes e.end.bytes m.address (reverse rs) c.callers e.matches.low m.callers_stay) owed))
 
     -- of a block
     block_ends : (l : config.Label) (ls : List config.Label) (o : Open) (os : List Open) (outmost : Types) (outmost_there : ℕ) → belows labels ≡ l.below ++ belows ls → ahead l.after + labels_ahead ls < labels_ahead labels
@@ -176,10 +178,10 @@ module _ (text : List (Option Op)) (near : length text ≤ 2 ^ 26) (inst : Insta
         }
 
   by_label : (l : config.Label) (ls : List config.Label) → (m : FramesStay text inst places outer (record c.frame { code = Nothing; labels = l ∷ ls }) c.callers s) → (os : List Open) → Fit text inst places m.running.compiled (l ∷ ls) os m.running.to m.running.there
-      → Follows text inst places outer c.store c.later 128 (labels_ahead (l ∷ ls)) s (leave c (l ∷ ls))
+      → Follows text inst places outer c.store c.later (128 + 128 * owed_of (leave c (l ∷ ls))) (labels_ahead (l ∷ ls)) s (leave c (l ∷ ls))
   by_label l ls m [] fit = absurd fit
   by_label l ls m (o ∷ os) fit = block_ends (l ∷ ls) m l ls o os fit.0 fit.1 refl (omega arith) fit.2 fit.3
 
-  pub end_follows : (labels : List config.Label) → FramesStay text inst places outer (record c.frame { code = Nothing; labels = labels }) c.callers s → Follows text inst places outer c.store c.later 128 (labels_ahead labels) s (leave c labels)
+  pub end_follows : (labels : List config.Label) → FramesStay text inst places outer (record c.frame { code = Nothing; labels = labels }) c.callers s → Follows text inst places outer c.store c.later (128 + 128 * owed_of (leave c labels)) (labels_ahead labels) s (leave c labels)
   end_follows [] m = function_ends [] m refl m.running.fit.1 m.running.fit.2
   end_follows (l ∷ ls) m = by_label l ls m m.running.os m.running.fit

@@ -1,5 +1,5 @@
 -- The rules of `unreachable`, `br`, `br_if` and `return`.
-use Rattle.std.proofs.Common.{◌≡◌, ℕ, ◌+◌, ◌-◌, ◌^◌, ◌≤◌, List, [], ◌∷◌, ◌++◌, length, map, Option, Some, None, refl, ap, ◌∙◌, subst, append_assoc, arith}
+use Rattle.std.proofs.Common.{◌≡◌, ℕ, ◌+◌, ◌-◌, ◌^◌, ◌≤◌, List, [], ◌∷◌, ◌++◌, length, map, Option, Some, None, refl, ap, ◌∙◌, subst, append_assoc, arith, ◌*◌}
 use Rattle.std.specs.Prelude.{slice_get}
 use Rattle.std.proofs.lemmas.List.{length-append}
 use Rattle.rv_isa.specs.declared.operations.Op.{Op}
@@ -21,14 +21,14 @@ use Rattle.frame_layout.specs.Templates.{Label, Around, last_label, jump_words, 
 use Rattle.frame_layout.specs.Functions.{code}
 use Rattle.frame_layout.proofs.Jumps.{trap_traps}
 use Rattle.sim_frames.proofs.Frames.{Open, label_of, labels_of, under, Compiled, own, SitsAt, Fit, FramesStay}
-use Rattle.sim_frames.proofs.Follows.{ahead, labels_ahead, halts_at, Follows}
+use Rattle.sim_frames.proofs.Follows.{ahead, labels_ahead, halts_at, Follows, owed_of}
 use Rattle.sim_frames.proofs.Heights.{peak_here}
 use Rattle.sim_frames.proofs.Holding.{Held, held_now, follows_less}
 use Rattle.sim_frames.proofs.Leaving.{operands_below}
 use Rattle.sim_frames.proofs.Rules.{types_length, MovesFixed, moves_fixed, rule_height}
 use Rattle.sim_frames.proofs.Sitting.{has_words, sits_rest}
 use Rattle.sim_frames.proofs.Values.{Operands}
-use Rattle.simulation.proofs.Control.Branches.{branch_follows, returns_follow}
+use Rattle.simulation.proofs.Control.Branches.{branch_follows, returns_follow, carried_pays}
 use Rattle.simulation.proofs.Control.Entries.{sits_whole}
 
 -- ---- what rules say of types
@@ -133,23 +133,31 @@ module _ (text : List (Option Op)) (near : length text ≤ 2 ^ 26) (inst : Insta
     unreachable_follows rest m =
         (refl, halts_at text inst places outer c.store c.later 128 3 s trap.Unreachable (omega arith) (trap_traps text s (m.running.compiled.begin + m.here) 1 (has_here Unreachable rest m) m.at (omega arith)))
 
-    pub br_follows : (l : ℕ) (rest : Seq) → Here (Br l) rest → Goal (Br l) rest (simple inst c (Br l) rest)
+    -- what a branch owes is paid
+    abbrev Pays : Plain → Seq → Step → Type 0
+    Pays p rest step = Follows text inst places outer c.store c.later (128 + 128 * owed_of step) (ahead (Simple p rest) + labels_ahead c.frame.labels) s step
+
+    pub br_follows : (l : ℕ) (rest : Seq) → Here (Br l) rest → Pays (Br l) rest (simple inst c (Br l) rest)
     br_follows l rest m =
         let k = m.running.compiled in
         let os = m.running.os in
         let size = ahead (Simple (Br l) rest) + labels_ahead c.frame.labels in
         let x = by_label (map (λ (o : Open). o.takes) os) l (types_of_values c.frame.operands) m.running.sits.typed.0 (slice_get (map (λ (o : Open). o.takes) os) l) refl m.running.sits.typed.1 in
-        follows_less text inst places outer c.store c.later 24 128 size s (branch c c.frame.operands l c.frame.labels) (omega arith)
-        (branch_follows text near inst places outer stub c k m.address m.here (length (c.frame.operands ++ belows c.frame.labels) - 1) s c.frame.operands (held_here (Br l) rest m) m.at refl (high_here (Br l) rest m)
-        size l c.frame.labels os m.running.to m.running.there m.running.fit x.takes x.stops.rest x.is x.stops.before (stand_here (Br l) rest m) (omega arith) (has_here (Br l) rest m) (inside_here (Br l) rest m))
+        let step = branch c c.frame.operands l c.frame.labels in
+        let n = length x.takes in
+        let y = branch_follows text near inst places outer stub c k m.address m.here (length (c.frame.operands ++ belows c.frame.labels)) s c.frame.operands (held_here (Br l) rest m) m.at refl (high_here (Br l) rest m)
+        size l c.frame.labels os m.running.to m.running.there m.running.fit x.takes x.stops.rest x.is x.stops.before (stand_here (Br l) rest m) (omega arith) (has_here (Br l) rest m) (inside_here (Br l) rest m) in
+        follows_less text inst places outer c.store c.later (12 + 12 * n) (128 + 128 * owed_of step) size s step (omega (arith, y.1, carried_pays n)) y.0
 
-    pub return_follows : (rest : Seq) → Here Return rest → Goal Return rest (simple inst c Return rest)
+    pub return_follows : (rest : Seq) → Here Return rest → Pays Return rest (simple inst c Return rest)
     return_follows rest m =
         let k = m.running.compiled in
         let size = ahead (Simple Return rest) + labels_ahead c.frame.labels in
         let x = stops k.context.results (types_of_values c.frame.operands) m.running.sits.typed.0 m.running.sits.typed.1 in
         let last = own_is_last k c.frame.labels m.running.os m.running.to m.running.there m.running.fit in
-        let j = length (c.frame.operands ++ belows c.frame.labels) - 1 in
-        follows_less text inst places outer c.store c.later 24 128 size s (returns c c.frame.operands) (omega arith)
-        (returns_follow text near inst places outer stub c k m.address m.here j s c.frame.operands (held_here Return rest m) m.at refl (high_here Return rest m)
-        size x.rest x.before (subst (λ (label : Label). HasAt text (k.begin + m.here) (jump_words k.around j m.here label) × (k.begin + (m.here + length (jump_words k.around j m.here label)) ≤ length text)) last (has_here Return rest m, inside_here Return rest m)))
+        let j = length (c.frame.operands ++ belows c.frame.labels) in
+        let step = returns c c.frame.operands in
+        let n = length k.context.results in
+        let y = returns_follow text near inst places outer stub c k m.address m.here j s c.frame.operands (held_here Return rest m) m.at refl (high_here Return rest m)
+        size x.rest x.before (subst (λ (label : Label). HasAt text (k.begin + m.here) (jump_words k.around j m.here label) × (k.begin + (m.here + length (jump_words k.around j m.here label)) ≤ length text)) last (has_here Return rest m, inside_here Return rest m)) in
+        follows_less text inst places outer c.store c.later (12 + 12 * n) (128 + 128 * owed_of step) size s step (omega (arith, y.1, carried_pays n)) y.0

@@ -1,5 +1,5 @@
 -- The front of a branch by an index: it leads to the jump of that index, or to the last one.
-use Rattle.std.proofs.Common.{◌≡◌, ℕ, zero, suc, ◌+◌, ◌-◌, ◌*◌, ◌/◌, ◌%◌, ◌^◌, ◌<◌, ◌≤◌, true, false, inl, inr, ⊎_elim, List, [], ◌∷◌, ◌++◌, length, Option, refl, sym, ap, ◌∙◌, subst, arith}
+use Rattle.std.proofs.Common.{◌≡◌, ℕ, zero, suc, ◌+◌, ◌-◌, ◌*◌, ◌/◌, ◌%◌, ◌^◌, ◌<◌, ◌≤◌, true, false, inl, inr, ⊎_elim, List, [], ◌∷◌, ◌++◌, length, Option, refl, sym, ap, ◌∙◌, subst, arith, mul_assoc, mul_comm, ap₂}
 use Rattle.std.specs.Prelude.{nat_lt, if◌then◌else◌}
 use Rattle.std.proofs.lemmas.Bool.{cond-true, cond-false, cases_lt, lt-ltb, le-ltb, eq-eqb}
 use Rattle.std.proofs.lemmas.Option.{slice_get_within}
@@ -7,7 +7,7 @@ use Rattle.rv_isa.specs.declared.operations.BranchOp.{BranchOp}
 use Rattle.rv_isa.specs.declared.operations.BranchOp.TheVariants.{Bltu}
 use Rattle.rv_isa.specs.declared.operations.ImmOp.TheVariants.{Addi}
 use Rattle.rv_isa.specs.declared.operations.ShiftOp.TheVariants.{Slli}
-use Rattle.rv_isa.specs.declared.operations.RegOp.TheVariants.{Add}
+use Rattle.rv_isa.specs.declared.operations.RegOp.TheVariants.{Add, Mul}
 use Rattle.rv_isa.specs.declared.operations.Op.{Op}
 use Rattle.rv_isa.specs.declared.operations.Op.TheVariants.{Auipc, Jalr, Branch, Imm, Shift, Reg}
 use Rattle.rv_isa.specs.Values.{is_taken, plus, b_value, i_value, u_value, computed}
@@ -18,8 +18,8 @@ use Rattle.rv_isa.proofs.OffsetLaws.{other_registers_stay}
 use Rattle.wasm_defs.specs.declared.types.ValType.TheVariants.{I32}
 use Rattle.wasm_defs.specs.Values.{Value, modulus, word}
 use Rattle.wasm_defs.specs.declared.types.ValType.{ValType}
-use Rattle.frame_layout.specs.Macros.{x0, t0, t1, forward, const_32, zero_extend}
-use Rattle.frame_layout.specs.Templates.{Around, load_operand, jump_power, table_front}
+use Rattle.frame_layout.specs.Macros.{x0, t0, t1, forward, const_32, zero_extend, t2}
+use Rattle.frame_layout.specs.Templates.{Around, load_operand, scale_words, table_front}
 use Rattle.frame_layout.specs.Laws.{is_scratch}
 use Rattle.frame_layout.proofs.Standing.{has_first, has_rest}
 use Rattle.frame_layout.proofs.Constants.{block_leaves, const_32_leaves}
@@ -27,7 +27,7 @@ use Rattle.frame_layout.proofs.Steps.{apart}
 use Rattle.frame_layout.proofs.Jumps.{taken_reaches}
 use Rattle.sim_frames.proofs.Jumps.{Lands}
 use Rattle.sim_frames.proofs.Sitting.{has_at}
-use Rattle.sim_frames.proofs.Sizes.{jump_count}
+use Rattle.sim_frames.proofs.Sizes.{jump_count, front_count}
 use Rattle.sim_frames.proofs.Values.{Matches}
 use Rattle.simulation.proofs.Control.Tests.{loads}
 
@@ -143,40 +143,94 @@ module _ (code : List (Option Op)) (near : length code ≤ 2 ^ 26) (s : State) (
         (λ more. subst (Held code 12 s (i + 12) t0) (sym (cond-false (nat_lt n count) n count (le-ltb n count more))) (outside more))
         (cases_lt n count)
 
--- by an index, so many words on
-module _ (code : List (Option Op)) (near : length code ≤ 2 ^ 26) (s : State) (i index power words : ℕ) (x : Held code 12 s (i + 12) t0 index) (scaled : (index * 2 ^ (power % 64)) % 2 ^ 64 ≡ 4 * words) (few : words < 2 ^ 30)
-    (has : HasAt code (i + 12) (Shift Slli t0 t0 power ∷ Auipc t1 0 ∷ Reg Add t1 t1 t0 ∷ Jalr x0 t1 12 ∷ [])) where
-  goes_on : (k : ℕ) × (0 < k) × (k ≤ 16) × Lands code k s s.bytes (place (i + 16 + words))
+-- the index times the bytes of a jump
+module _ (code : List (Option Op)) (near : length code ≤ 2 ^ 26) (w : Around) (s : State) (i index : ℕ) (x : Held code 12 s (i + 12) t0 index) where
+  times : (index m : ℕ) → index * (4 * m) ≡ 4 * (index * m)
+  times index m = sym (mul_assoc index 4 m) ∙ ap (λ (n : ℕ). n * m) (mul_comm index 4) ∙ mul_assoc 4 index m
+
+  shifted : (power words : ℕ) → HasAt code (i + 12) (Shift Slli t0 t0 power ∷ []) → (index * 2 ^ (power % 64)) % 2 ^ 64 ≡ 4 * words → Held code 18 s (i + 12 + 1) t0 (4 * words)
   unfolding computed
-  goes_on =
+  shifted power words has scaled =
       let pc_x = x.pc_is in
       let inside = slice_get_within code (i + 12) _ has.0 in
       let is : (reg x.end.registers t0 * 2 ^ (power % 64)) % 2 ^ 64 ≡ 4 * words = ap (λ (n : ℕ). (n * 2 ^ (power % 64)) % 2 ^ 64) x.value_is ∙ scaled in
-      let one = block_leaves code (Shift Slli t0 t0 power ∷ []) (i + 12) x.end t0 (4 * words) refl (has.0, tt) x.pc_is is in
+      let one = block_leaves code (Shift Slli t0 t0 power ∷ []) (i + 12) x.end t0 (4 * words) refl has x.pc_is is in
       let pc_one = one.pc_is in
-      let step_two : suc (i + 12) ≡ i + 13 = omega arith in
-      let step_three : suc (suc (i + 12)) ≡ i + 14 = omega arith in
-      let step_four : suc (suc (suc (i + 12))) ≡ i + 15 = omega arith in
-      let t = one.end in
+      record {
+        steps = x.steps + 1;
+        some = omega arith;
+        short = omega (arith, x.short);
+        end = one.end;
+        reaches = Reaches-then x.reaches one.reaches;
+        pc_is = omega arith;
+        bytes_are = one.bytes_are ∙ x.bytes_are;
+        value_is = one.value_is;
+        others = λ q kept. one.others q (apart q t0 kept refl) ∙ x.others q kept;
+      }
+
+  multiplied : (n : ℕ) → HasAt code (i + 12) (const_32 t2 (8 + 24 * n) ++ Reg Mul t0 t0 t2 ∷ []) → n < 2 ^ 24 → index * jump_count n < 2 ^ 30 → Held code 18 s (i + 12 + 6) t0 (4 * (index * jump_count n))
+  unfolding computed
+  multiplied n has few small =
+      let pc_x = x.pc_is in
+      let inside = slice_get_within code (i + 12) _ has.0 in
+      let number = const_32 t2 (8 + 24 * n) in
+      let product : List Op = Reg Mul t0 t0 t2 ∷ [] in
+      let one = const_32_leaves code x.end (i + 12) t2 (8 + 24 * n) (has_first code (i + 12) number product has) x.pc_is (λ e. absurd cc) (omega arith) in
+      let pc_one = one.pc_is in
+      let first : reg one.end.registers t0 ≡ index = one.others t0 (λ e. absurd cc) ∙ x.value_is in
+      let bytes : 8 + 24 * n ≡ 4 * jump_count n = omega arith in
+      let whole : index * (8 + 24 * n) ≡ 4 * (index * jump_count n) = ap (λ (m : ℕ). index * m) bytes ∙ times index (jump_count n) in
+      let is : (reg one.end.registers t0 * reg one.end.registers t2) % 2 ^ 64 ≡ 4 * (index * jump_count n) =
+      ap₂ (λ (a b : ℕ). (a * b) % 2 ^ 64) first one.value_is ∙ ap (λ (m : ℕ). m % 2 ^ 64) whole ∙ omega arith in
+      let two = block_leaves code product (i + 12 + 5) one.end t0 (4 * (index * jump_count n)) refl (has_rest code (i + 12) number product has) (omega arith) is in
+      let pc_two = two.pc_is in
+      record {
+        steps = x.steps + (5 + 1);
+        some = omega arith;
+        short = omega (arith, x.short);
+        end = two.end;
+        reaches = Reaches-then x.reaches (Reaches-then one.reaches two.reaches);
+        pc_is = omega arith;
+        bytes_are = two.bytes_are ∙ one.bytes_are ∙ x.bytes_are;
+        value_is = two.value_is;
+        others = λ q kept. two.others q (apart q t0 kept refl) ∙ one.others q (apart q t2 kept refl) ∙ x.others q kept;
+      }
+
+  scaled : (takes : ℕ) → HasAt code (i + 12) (scale_words w takes) → takes < 2 ^ 24 → index * jump_count takes < 2 ^ 30 → Held code 18 s (i + 12 + length (scale_words w takes)) t0 (4 * (index * jump_count takes))
+  scaled zero has few small = shifted 3 (index * jump_count 0) has (omega arith)
+  scaled (suc zero) has few small = shifted 5 (index * jump_count 1) has (omega arith)
+  scaled (suc (suc n)) has few small = multiplied (suc (suc n)) has few small
+
+-- so many words on
+module _ (code : List (Option Op)) (near : length code ≤ 2 ^ 26) (s : State) (i words : ℕ) (x : Held code 18 s i t0 (4 * words)) (few : words < 2 ^ 30)
+    (has : HasAt code i (Auipc t1 0 ∷ Reg Add t1 t1 t0 ∷ Jalr x0 t1 12 ∷ [])) where
+  goes_on : (k : ℕ) × (0 < k) × (k ≤ 21) × Lands code k s s.bytes (place (i + 3 + words))
+  unfolding computed
+  goes_on =
+      let pc_x = x.pc_is in
+      let inside = slice_get_within code i _ has.0 in
+      let step_three : suc i ≡ i + 1 = omega arith in
+      let step_four : suc (suc i) ≡ i + 2 = omega arith in
+      let t = x.end in
       let two : State = record t { registers = set_reg t.registers t1 (plus t.pc (u_value 0)); pc = t.pc + 4 } in
-      let to_two = one_step code t two (i + 13) (Auipc t1 0) (omega arith) (has_at code (suc (i + 12)) (i + 13) (Auipc t1 0 ∷ []) step_two (has.1.0, tt)).0 refl in
-      let sum : plus (plus t.pc (u_value 0)) (reg t.registers t0) ≡ place (i + 13) + 4 * words = omega (arith, one.value_is) in
-      let three = block_leaves code (Reg Add t1 t1 t0 ∷ []) (i + 14) two t1 (place (i + 13) + 4 * words) refl (has_at code (suc (suc (i + 12))) (i + 14) (Reg Add t1 t1 t0 ∷ []) step_three (has.1.1.0, tt)) (omega arith) sum in
+      let to_two = one_step code t two i (Auipc t1 0) x.pc_is has.0 refl in
+      let sum : plus (plus t.pc (u_value 0)) (reg t.registers t0) ≡ place i + 4 * words = omega (arith, x.value_is) in
+      let three = block_leaves code (Reg Add t1 t1 t0 ∷ []) (i + 1) two t1 (place i + 4 * words) refl (has_at code (suc i) (i + 1) (Reg Add t1 t1 t0 ∷ []) step_three (has.1.0, tt)) (omega arith) sum in
       let pc_three = three.pc_is in
-      let there = place (i + 16 + words) in
+      let there = place (i + 3 + words) in
       let four : State = record three.end { pc = there } in
       let target : plus (reg three.end.registers t1) (i_value 12) / 2 * 2 ≡ there = omega (arith, three.value_is) in
       let row : act (Jalr x0 t1 12) three.end ≡ Next four = ap (jump three.end 0) target ∙ rw (eq-eqb (there % 4) 0 (omega arith)) refl in
-      let to_four = one_step code three.end four (i + 15) (Jalr x0 t1 12) (omega arith) (has_at code (suc (suc (suc (i + 12)))) (i + 15) (Jalr x0 t1 12 ∷ []) step_four (has.1.1.1.0, tt)).0 row in (
-        x.steps + (1 + (1 + (1 + 1))),
+      let to_four = one_step code three.end four (i + 2) (Jalr x0 t1 12) (omega arith) (has_at code (suc (suc i)) (i + 2) (Jalr x0 t1 12 ∷ []) step_four (has.1.1.0, tt)).0 row in (
+        x.steps + (1 + (1 + 1)),
         omega arith,
         omega (arith, x.short),
         record {
           end = four;
-          reaches = Reaches-then x.reaches (Reaches-then one.reaches (Reaches-then to_two (Reaches-then three.reaches to_four)));
+          reaches = Reaches-then x.reaches (Reaches-then to_two (Reaches-then three.reaches to_four));
           pc_is = refl;
-          bytes_are = three.bytes_are ∙ one.bytes_are ∙ x.bytes_are;
-          others = λ q kept. three.others q (apart q t1 kept refl) ∙ other_registers_stay t.registers t1 q (plus t.pc (u_value 0)) (apart q t1 kept refl) ∙ one.others q (apart q t0 kept refl) ∙ x.others q kept;
+          bytes_are = three.bytes_are ∙ x.bytes_are;
+          others = λ q kept. three.others q (apart q t1 kept refl) ∙ other_registers_stay t.registers t1 q (plus t.pc (u_value 0)) (apart q t1 kept refl) ∙ x.others q kept;
         },
       )
 
@@ -184,14 +238,16 @@ module _ (code : List (Option Op)) (near : length code ≤ 2 ^ 26) (s : State) (
 
 module _ (code : List (Option Op)) (near : length code ≤ 2 ^ 26) (w : Around) (base there : ℕ) (locals : List Value) (s : State) (begin here h : ℕ) (at : s.pc ≡ place (begin + here)) (v : Value) (rest : List Value)
     (m : Matches w.layout base there s.bytes locals (v ∷ rest) s) (ty : v.ty ≡ I32) (h_is : h ≡ suc (length rest)) (high : h ≤ w.layout.greatest) (count : ℕ) (few : count < 2 ^ 26) where
-  front_by : (takes : ℕ) → (scaled : (index : ℕ) → index < 2 ^ 26 + 1 → (index * 2 ^ (jump_power w takes % 64)) % 2 ^ 64 ≡ 4 * (index * jump_count takes)) → ((index : ℕ) → index < 2 ^ 26 + 1 → index * jump_count takes < 2 ^ 30)
-      → HasAt code (begin + here) (table_front w h count takes) → (k : ℕ) × (0 < k) × (k ≤ 16) × Lands code k s s.bytes (place (begin + (here + (16 + chosen v.number count * jump_count takes))))
-  front_by takes scaled low has =
+  pub front_lands : (takes : ℕ) → takes < 2 ^ 24 → chosen v.number count * jump_count takes < 2 ^ 30
+      → HasAt code (begin + here) (table_front w h count takes) → (k : ℕ) × (0 < k) × (k ≤ 21) × Lands code k s s.bytes (place (begin + (here + (front_count takes + chosen v.number count * jump_count takes))))
+  front_lands takes narrow low has =
       let i = begin + here in
       let load = load_operand w t0 (h - 1) in
       let extend = zero_extend t0 in
       let number = const_32 t1 count in
-      let tail = Branch Bltu t0 t1 (forward 8) ∷ Imm Addi t0 t1 0 ∷ Shift Slli t0 t0 (jump_power w takes) ∷ Auipc t1 0 ∷ Reg Add t1 t1 t0 ∷ Jalr x0 t1 12 ∷ [] in
+      let on : List Op = Auipc t1 0 ∷ Reg Add t1 t1 t0 ∷ Jalr x0 t1 12 ∷ [] in
+      let scale = scale_words w takes in
+      let tail = Branch Bltu t0 t1 (forward 8) ∷ Imm Addi t0 t1 0 ∷ scale ++ on in
       let behind_load = has_rest code i load (extend ++ (number ++ tail)) has in
       let behind_extend = has_rest code (i + 3) extend (number ++ tail) behind_load in
       let five : i + 3 + 2 ≡ i + 5 = omega arith in
@@ -203,22 +259,17 @@ module _ (code : List (Option Op)) (near : length code ≤ 2 ^ 26) (w : Around) 
       let x = compared code near s i v.number count range few at one (has_first code (i + 3) extend (number ++ tail) behind_load) has_number in
       let y = indexed code near s i v.number count range few x (has_tail.0, (has_tail.1.0, tt)) in
       let index = chosen v.number count in
-      let below : index ≤ count = chosen_below v.number count in
       let twelve : suc (suc (i + 10)) ≡ i + 12 = omega arith in
-      let last = has_at code (suc (suc (i + 10))) (i + 12) (Shift Slli t0 t0 (jump_power w takes) ∷ Auipc t1 0 ∷ Reg Add t1 t1 t0 ∷ Jalr x0 t1 12 ∷ []) twelve has_tail.1.1 in
-      let z = goes_on code near s i index (jump_power w takes) (index * jump_count takes) y (scaled index (omega arith)) (low index (omega arith)) last in
-      let place_is : i + 16 + index * jump_count takes ≡ begin + (here + (16 + index * jump_count takes)) = omega arith in
-      (z.0, z.1, z.2, subst (λ (n : ℕ). Lands code z.0 s s.bytes (place n)) place_is z.3)
+      let last = has_at code (suc (suc (i + 10))) (i + 12) (scale ++ on) twelve has_tail.1.1 in
+      let z = scaled code near w s i index y takes (has_first code (i + 12) scale on last) narrow low in
+      let u = goes_on code near s (i + 12 + length scale) (index * jump_count takes) z low (has_rest code (i + 12) scale on last) in
+      let place_is : i + 12 + length scale + 3 + index * jump_count takes ≡ begin + (here + (front_count takes + index * jump_count takes)) = omega (arith, scale_count takes) in
+      (u.0, u.1, u.2, subst (λ (n : ℕ). Lands code u.0 s s.bytes (place n)) place_is u.3)
     where
       number_small : v.number < 2 ^ 32
       number_small = subst (λ (t : ValType). v.number < modulus t) ty m.live.0.range
 
-      chosen_below : (n c : ℕ) → chosen n c ≤ c
-      chosen_below n c = ⊎_elim
-          (λ less. subst (λ (k : ℕ). k ≤ c) (sym (cond-true (nat_lt n c) n c (lt-ltb n c less))) (omega arith))
-          (λ more. subst (λ (k : ℕ). k ≤ c) (sym (cond-false (nat_lt n c) n c (le-ltb n c more))) (omega arith))
-          (cases_lt n c)
-
-  pub front_lands : (takes : ℕ) → HasAt code (begin + here) (table_front w h count takes) → (k : ℕ) × (0 < k) × (k ≤ 16) × Lands code k s s.bytes (place (begin + (here + (16 + chosen v.number count * jump_count takes))))
-  front_lands zero has = front_by zero (λ index small. omega arith) (λ index small. omega arith) has
-  front_lands (suc n) has = front_by (suc n) (λ index small. omega arith) (λ index small. omega arith) has
+      scale_count : (takes : ℕ) → 15 + length (scale_words w takes) ≡ front_count takes
+      scale_count zero = refl
+      scale_count (suc zero) = refl
+      scale_count (suc (suc n)) = refl

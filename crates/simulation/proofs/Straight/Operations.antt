@@ -36,10 +36,10 @@ use Rattle.sim_frames.proofs.Stores.{other_operands}
 use Rattle.simulation.proofs.Straight.Instructions.{most_steps, Follows, Outcome, kept_follows, put_follows}
 
 -- the word and the number of a value of a type
-typed_word : (x : ℕ) (v : Value) (t : ValType) → v.ty ≡ t → Holds x v → x ≡ word t v.number
+pub typed_word : (x : ℕ) (v : Value) (t : ValType) → v.ty ≡ t → Holds x v → x ≡ word t v.number
 typed_word x v t e h = h.is ∙ ap (λ (u : ValType). word u v.number) e
 
-typed_range : (x : ℕ) (v : Value) (t : ValType) → v.ty ≡ t → Holds x v → v.number < modulus t
+pub typed_range : (x : ℕ) (v : Value) (t : ValType) → v.ty ≡ t → Holds x v → v.number < modulus t
 typed_range x v t e h = subst (λ (u : ValType). v.number < modulus u) e h.range
 
 module _ (code : List (Option Op)) (c : Context) (labels : List Label) (w : Around) (base there : ℕ) (b : Bytes) (store : Store)
