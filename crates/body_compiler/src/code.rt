@@ -17,14 +17,17 @@ use crate::instructions::instruction;
 use body_validator::{Check, TokenStop};
 use leb_feed::{Fields, Stop};
 use std::alloc::Global;
+use thiserror::Error;
 use wasm_defs::{Kind, Refusal, earlier, is_compiled_opcode};
 
 /// Why a body isn't compiled.
-#[derive(Clone, Copy, Debug, PartialEq, Eq)]
+#[derive(Clone, Copy, Debug, PartialEq, Eq, Error)]
 pub enum BodyStop {
     /// Its first fault.
+    #[error("{:?} at byte {}", .0.kind, .0.offset)]
     Refused(Refusal),
     /// Memory was wanting.
+    #[error("out of memory")]
     NoMemory,
 }
 

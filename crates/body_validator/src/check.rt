@@ -20,6 +20,7 @@ use crate::steps::{kind_of_fault, take};
 use index_spaces::Context;
 use std::alloc::{AllocError, AllocFailed, Global};
 use std::marker::Model;
+use thiserror::Error;
 use wasm_defs::{Kind, MAX_LOCALS, Refusal, Token, ValType};
 
 /// Where a token stands: whether the place before it is live, and the numbers of operands before and after it, those of the
@@ -33,9 +34,13 @@ pub struct Step {
 }
 
 /// Why a token or a group of locals isn't taken.
-#[derive(Clone, Copy, Debug, PartialEq, Eq)]
+#[derive(Clone, Copy, Debug, PartialEq, Eq, Error)]
 pub enum TokenStop {
+    /// No tokens behind it make a valid body, or the locals pass their limit.
+    #[error("{:?} at byte {}", .0.kind, .0.offset)]
     Refused(Refusal),
+    /// Memory was wanting.
+    #[error("out of memory")]
     NoMemory,
 }
 
