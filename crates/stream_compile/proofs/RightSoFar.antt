@@ -1,22 +1,21 @@
 -- What a compilation took of a module's bytes is right so far.
-use Rattle.std.proofs.Common.{◌≡◌, ℕ, zero, suc, ◌-◌, ◌<◌, Bool, true, false, cond, List, [], ◌∷◌, ◌++◌, length, drop, Option, Some, None, refl, sym, ap, ◌∙◌, append_assoc, arith}
+use Rattle.std.proofs.Common.{◌≡◌, ℕ, zero, suc, ◌-◌, Bool, true, false, cond, List, [], ◌∷◌, ◌++◌, length, drop, Option, Some, None, refl, sym, ap, ◌∙◌, arith}
 use Rattle.std.proofs.lemmas.List.{append-nil}
 use Rattle.wasm_defs.specs.declared.fault.Kind.TheVariants.{Ended}
 use Rattle.wasm_defs.specs.declared.fault.Refusal.{Refusal}
 use Rattle.wasm_defs.specs.Entries.{Seen}
-use Rattle.wasm_defs.specs.Outside.{Part, Section, Listed, Coded, Run, Whole, Owed, Ending, ends, owes_code, no_end, sections_up_to, sections, module_run}
+use Rattle.wasm_defs.specs.Outside.{Part, Section, Listed, Coded, Run, Whole, Owed, ends, owes_code, no_end, sections_up_to, sections}
 use Rattle.section_reader.specs.declared.front.Front.{Front}
 use Rattle.section_reader.specs.Stages.{is_at_bodies}
 use Rattle.section_reader.specs.FrontLeft.{total}
 use Rattle.section_reader.specs.FrontOnward.{EndsOnward}
 use Rattle.section_reader.specs.Onward.{after_parts, AreSections}
 use Rattle.section_reader.proofs.OnwardSilence.{refused_ends, kept_ends, silent_ends}
-use Rattle.body_cutter.specs.declared.body.Body.{Body}
 use Rattle.body_cutter.specs.Sections.{End, Whole as AllCut, Faulty, Owed as BytesOwed}
 use Rattle.body_cutter.specs.Queues.{bodies_in}
 use Rattle.body_cutter.specs.Cuttings.{Cutting, left}
 use Rattle.stream_compile.specs.declared.compilation.Compilation.{Compilation}
-use Rattle.stream_compile.specs.CutBodies.{coded_all, behind, cut_run, sections_behind}
+use Rattle.stream_compile.specs.CutBodies.{coded_all, behind, sections_behind}
 use Rattle.stream_compile.specs.Progress.{IsJudged}
 use Rattle.stream_compile.specs.RightSoFar.{IsRightSoFar}
 use Rattle.stream_compile.specs.Streaming.{left_of, IsGoing, IsPlaced}
