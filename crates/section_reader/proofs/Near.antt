@@ -1,11 +1,11 @@
 -- The bytes that came before the last piece complete no item: each step reads them alone as it reads them with the piece, or reads
 -- on into the piece.
-use Rattle.std.proofs.Common.{◌≡◌, ◌≤◌, ◌<◌, ◌-◌, ◌⊎◌, ℕ, suc, true, List, [], ◌∷◌, ◌++◌, length, refl, sym, ap, subst, ◌∙◌, arith, length-append, length-drop, take, inl, inr}
+use Rattle.std.proofs.Common.{◌≡◌, ◌≤◌, ◌<◌, ◌-◌, ℕ, suc, true, List, [], ◌∷◌, ◌++◌, length, refl, sym, ap, subst, ◌∙◌, arith, length-append, length-drop, take, inl, inr}
 use Rattle.std.proofs.lemmas.Bool.{cases_lt, lt-ltb, le-ltb, lt-leb, le-leb}
 use Rattle.wasm_defs.specs.declared.item.Item.{Item}
 use Rattle.wasm_defs.specs.Fields.{Cursor, Read, Got, Fault, Wants, Reader, room_of, window, past, cut, run}
 use Rattle.wasm_defs.specs.Entries.{Seen}
-use Rattle.wasm_defs.specs.Outside.{Part, Listed, Run, after_part, runs_on, preamble, header, entered, inside, noted, contents, entries, section_end}
+use Rattle.wasm_defs.specs.Outside.{Listed, Run, after_part, runs_on, preamble, header, entered, inside, noted, contents, entries, section_end}
 use Rattle.wasm_laws.specs.Steadiness.{with_more}
 use Rattle.section_reader.specs.declared.front.Front.{Front}
 use Rattle.section_reader.specs.declared.stage.Stage.{Stage}

@@ -1,6 +1,6 @@
 -- The outline has the items and the ending of the module's run, but where reading stops among the bodies.
-use Rattle.std.proofs.Common.{◌≡◌, ◌≢◌, ℕ, zero, suc, ◌+◌, ◌-◌, ◌<◌, ◌≤◌, Bool, true, false, eqb, ltb, if◌then◌else◌, ◌||◌, List, [], ◌∷◌, ◌++◌, length, take, drop, refl, sym, ap, subst, ◌∙◌, arith, add-one, length-append, length-take, inl, inr}
-use Rattle.std.proofs.lemmas.Bool.{cases_Bool, cases_eq, eq-eqb, eqb-true, ne_eqb, le-ltb}
+use Rattle.std.proofs.Common.{◌≡◌, ◌≢◌, ℕ, zero, suc, ◌+◌, ◌-◌, ◌<◌, ◌≤◌, Bool, true, false, ltb, if◌then◌else◌, ◌||◌, List, [], ◌∷◌, length, drop, refl, sym, ap, subst, ◌∙◌, arith, add-one, length-append, length-take, inl, inr}
+use Rattle.std.proofs.lemmas.Bool.{cases_Bool, cases_eq, eqb-true, le-ltb}
 use Rattle.std.proofs.Math.Seq.{drop-append_seam}
 use Rattle.wasm_defs.specs.declared.item.Item.{Item}
 use Rattle.wasm_defs.specs.declared.item.Item.TheVariants as item
@@ -8,15 +8,14 @@ use Rattle.wasm_defs.specs.Limits.{max_body}
 use Rattle.wasm_defs.specs.declared.fault.Kind.TheVariants.{Malformed, Limit}
 use Rattle.wasm_defs.specs.Fields.{Cursor, Read, Got, Fault, Wants, ◌>>=◌, done, refused, then_go, room_of, window, past, u32, run, room, here}
 use Rattle.wasm_defs.specs.Entries.{Seen, note, nothing, code}
-use Rattle.wasm_defs.specs.Faults.{items_of}
-use Rattle.wasm_defs.specs.Outside.{Part, Section, Listed, Coded, Body, Nothing, nothing_more, rest_of_section, body, listed, code_entry, Row, row, Ending, Whole, Owed, Refused, Run, ends, after_part, runs_on, Next, noted, entered, inside, no_end, preamble, header, finish, entries, contents, sections, or_section, section_end, beginning, module_run}
-use Rattle.wasm_laws.specs.Steadiness.{IfGot, Advance, Advances, Leaves}
+use Rattle.wasm_defs.specs.Outside.{Part, Section, Listed, Coded, Body, Nothing, rest_of_section, body, listed, code_entry, Row, row, Ending, Whole, Owed, Refused, Run, ends, after_part, runs_on, noted, entered, inside, no_end, preamble, header, finish, entries, contents, sections, or_section, section_end, beginning, module_run}
+use Rattle.wasm_laws.specs.Steadiness.{IfGot, Advance}
 use Rattle.wasm_laws.proofs.Steady.{no_advance, advance_then}
 use Rattle.wasm_laws.proofs.RowLaws.{end_steady}
-use Rattle.wasm_laws.proofs.EntryLaws.{body_steady, header_steady}
+use Rattle.wasm_laws.proofs.EntryLaws.{body_steady}
 use Rattle.wasm_laws.proofs.Takes.{header_takes}
-use Rattle.section_reader.specs.declared.stage.Stage.TheVariants.{Preamble, Between, Contents, Entries}
-use Rattle.section_reader.specs.Outline.{counted_code, outline_row, outline_section, or_outline, outline_sections, outline}
+use Rattle.section_reader.specs.declared.stage.Stage.TheVariants.{Between, Contents, Entries}
+use Rattle.section_reader.specs.Outline.{counted_code, outline_row, or_outline, outline_sections, outline}
 use Rattle.section_reader.specs.Onward.{IsOrdered, is_count}
 use Rattle.section_reader.specs.Outlining.{in_bodies, IsOutlined}
 use Rattle.section_reader.proofs.Runs.{sections_are}

@@ -1,23 +1,23 @@
 -- A reader that wants more bytes reads, where they come, on into them.
-use Rattle.std.proofs.Common.{◌≡◌, ◌≤◌, ◌<◌, ℕ, zero, suc, ◌+◌, ◌-◌, ◌*◌, ◌^◌, Bool, true, false, cond, eqb, ltb, List, [], ◌∷◌, ◌++◌, length, take, drop, refl, sym, ap, ◌∙◌, arith, length-append, length-drop, length-take, inl, inr, ℤ}
-use Rattle.std.proofs.lemmas.Bool.{cases_Bool, cases_eq, cases_lt, eq-eqb, ne_eqb, lt-ltb, le-ltb, lt-leb, le-leb}
+use Rattle.std.proofs.Common.{◌≡◌, ◌≤◌, ◌<◌, ℕ, zero, suc, ◌+◌, ◌-◌, Bool, true, false, cond, eqb, ltb, List, [], ◌∷◌, ◌++◌, length, take, drop, refl, sym, ap, ◌∙◌, arith, length-append, length-drop, length-take, inl, inr, ℤ}
+use Rattle.std.proofs.lemmas.Bool.{cases_Bool, cases_eq, cases_lt, ne_eqb, lt-ltb, le-ltb, lt-leb, le-leb}
 use Rattle.wasm_defs.specs.declared.types.ValType.{ValType}
 use Rattle.wasm_defs.specs.declared.fault.Kind.{Kind}
 use Rattle.wasm_defs.specs.declared.item.Item.{Item}
-use Rattle.wasm_defs.specs.Numbers.{Reading, Number, CutOff, Bad, number_at, last_byte, after_byte}
+use Rattle.wasm_defs.specs.Numbers.{Reading, Number, CutOff, Bad, number_at, after_byte}
 use Rattle.wasm_defs.specs.Limits.{max_name}
 use Rattle.wasm_defs.specs.Text.{between, completes}
 use Rattle.wasm_defs.specs.Fields.{Cursor, Read, Got, Fault, Wants, Reader, then_go, ◌>>=◌, done, refused, repeated, room_of, window, past, cut, first_of, byte, from_reading, number, nat_of, u32, count, vector, run, room, here, stop, counted_bytes, agree, fixed, text_after, least, length_owed, name_from, name}
 use Rattle.wasm_defs.specs.Entries.{Seen, index, value_type, listed_type, limits, constant, results, signature, imported, function, table, memory, mutability, global, extern_kind, exported, start, sole, listed_index, element, code, segment}
-use Rattle.wasm_defs.specs.Outside.{Nothing, listed, Row, entries_of, rest_of_section, nothing_more, number_of, at_most_one, function_count, custom_name, body, header, preamble, row, inside, no_end, left_over, section_end}
-use Rattle.wasm_laws.specs.Steadiness.{IfGot, with_more, Extends, got, faulty, owed, Advance, Advances}
+use Rattle.wasm_defs.specs.Outside.{listed, Row, entries_of, rest_of_section, number_of, at_most_one, function_count, custom_name, header, preamble, left_over, section_end}
+use Rattle.wasm_laws.specs.Steadiness.{IfGot, with_more, Extends, got, faulty, owed, Advances}
 use Rattle.wasm_laws.proofs.Steady.{field_steady}
-use Rattle.wasm_laws.proofs.Windows.{all_of, take_over, window_reads_on, LiesIn, number_lies, ReadsOn, number_reads_on, byte_field, number_field}
+use Rattle.wasm_laws.proofs.Windows.{all_of, take_over, window_reads_on, LiesIn, number_lies, ReadsOn, byte_field, number_field}
 use Rattle.wasm_laws.proofs.FieldLaws.{run_steady, fixed_steady}
 use Rattle.wasm_laws.proofs.Names.{name_field}
 use Rattle.wasm_laws.proofs.Completing.{room_left, window_is, last_is_whole, after_cut, text_owes, owed_fits}
 use Rattle.wasm_laws.proofs.RowLaws.{end_steady}
-use Rattle.section_reader.specs.Outline.{counted_code, outline_row}
+use Rattle.section_reader.specs.Outline.{outline_row}
 
 -- at most so many bytes are left
 abbrev pub Leaves : {A : Type 0} → ℕ → Read A → Type 0

@@ -1,10 +1,9 @@
 -- A text that goes on, and the name that waits for it.
-use Rattle.std.proofs.Common.{◌≡◌, ℕ, ◌+◌, ◌-◌, ◌<◌, ◌≤◌, true, false, List, [], ◌∷◌, ◌++◌, length, take, drop, Option, Some, None, refl, sym, ap, ◌∙◌, arith, length-append, length-drop, inl, inr}
-use Rattle.std.proofs.lemmas.List.{append-nil}
+use Rattle.std.proofs.Common.{◌≡◌, ℕ, ◌+◌, ◌-◌, ◌<◌, ◌≤◌, true, false, List, [], ◌++◌, length, take, drop, Option, Some, refl, sym, ap, ◌∙◌, arith, length-append, length-drop, inl, inr}
 use Rattle.std.proofs.lemmas.Bool.{cases_lt, lt-ltb, le-ltb, lt-leb, le-leb}
 use Rattle.wasm_defs.specs.declared.text.Inside.{Inside}
 use Rattle.wasm_defs.specs.Numbers.{Reading, Number, CutOff, Bad, number_at}
-use Rattle.wasm_defs.specs.Text.{between, next_byte, completes}
+use Rattle.wasm_defs.specs.Text.{between, completes}
 use Rattle.wasm_defs.specs.Fields.{Cursor, Got, Wants, then_go, done, window, room_of, past, from_reading, number, nat_of, u32, name, name_from, text_after}
 use Rattle.wasm_laws.proofs.Steady.{with_more, field_steady}
 use Rattle.wasm_laws.proofs.Windows.{all_of}

@@ -1,5 +1,5 @@
 -- The outline beside the module's run: the same items, and the same ending, but where reading stops among the bodies.
-use Rattle.std.specs.Prelude.{◌≡◌, Bool, true, false, ◌||◌, List, [], ◌∷◌}
+use Rattle.std.specs.Prelude.{◌≡◌, Bool, false, ◌||◌, List, [], ◌∷◌}
 use Rattle.wasm_defs.specs.Faults.{items_of}
 use Rattle.wasm_defs.specs.Outside.{Part, Section, Listed, Coded, Run}
 use Rattle.section_reader.specs.Onward.{is_count}

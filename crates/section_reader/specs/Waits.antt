@@ -1,6 +1,5 @@
 -- What a push reader waits for, and the bytes that may come meanwhile: those with which nothing is read yet.
-use Rattle.std.specs.Prelude.{◌≡◌, ◌<◌, ◌≤◌, ◌+◌, ℕ, Bool, true, false, ◌&&◌, nat_lt, List, [], ◌∷◌, ◌++◌, length, Option, Some, None}
-use Rattle.wasm_defs.specs.declared.text.Inside.{Inside}
+use Rattle.std.specs.Prelude.{◌≡◌, ◌<◌, ◌≤◌, ◌+◌, ℕ, Bool, true, false, ◌&&◌, nat_lt, List, ◌++◌, length, Some}
 use Rattle.wasm_defs.specs.Fields.{Cursor, Read, Got, Fault, Wants, Reader, ◌>>=◌, done, repeated, past}
 use Rattle.wasm_defs.specs.Text.{completes}
 use Rattle.wasm_defs.specs.Entries.{Seen, value_type, index}
