@@ -1,9 +1,9 @@
 -- What completes a text completes what is left of it.
-use Rattle.std.proofs.Common.{◌≡◌, ℕ, ◌-◌, ◌≤◌, Bool, true, false, List, [], ◌∷◌, ◌++◌, length, nat_le, Option, Some, None, refl, sym, ap, ◌∙◌, arith}
+use Rattle.std.proofs.Common.{◌≡◌, ℕ, ◌-◌, ◌≤◌, true, List, [], ◌∷◌, ◌++◌, length, Option, Some, None, refl, sym, ap, ◌∙◌, arith}
 use Rattle.std.proofs.lemmas.List.{append-nil}
 use Rattle.std.proofs.lemmas.Bool.{le-leb}
 use Rattle.wasm_defs.specs.declared.text.Inside.{Inside}
-use Rattle.wasm_defs.specs.Text.{between, next_byte, completes}
+use Rattle.wasm_defs.specs.Text.{next_byte, completes}
 use Rattle.leb_feed.specs.Texts.{text_state}
 
 pub completes_on : (room : ℕ) (s : Option Inside) (text more : List ℕ) → completes room s (text ++ more) ≡ completes (room - length text) (text_state s text) more

@@ -1,19 +1,19 @@
 -- A field that wants more bytes can be completed.
-use Rattle.std.proofs.Common.{◌≡◌, ℕ, zero, suc, ◌+◌, ◌-◌, ◌*◌, ◌^◌, ◌≤◌, ◌<◌, Bool, true, false, ltb, eqb, if◌then◌else◌, ◌||◌, List, [], ◌∷◌, ◌++◌, length, take, drop, Option, Some, None, refl, sym, ap, subst, ◌∙◌, arith, length-append, length-drop, length-take, inl, inr, ◌⊎◌, ℤ, pos, ◌+ℤ◌}
+use Rattle.std.proofs.Common.{◌≡◌, ℕ, zero, suc, ◌+◌, ◌-◌, ◌^◌, ◌≤◌, ◌<◌, Bool, true, false, ltb, eqb, if◌then◌else◌, ◌||◌, List, [], ◌∷◌, ◌++◌, length, take, drop, Option, Some, None, refl, sym, ap, ◌∙◌, arith, length-append, length-drop, length-take, inl, inr, ◌⊎◌, ℤ, pos, ◌+ℤ◌}
 use Rattle.std.specs.Prelude.{◌*ℤ◌}
-use Rattle.std.proofs.lemmas.Bool.{cases_lt, cases_Bool, lt-ltb, le-ltb, lt-leb, le-leb, leb-true, and_parts, and_from, eq-eqb, ne_eqb}
-use Rattle.std.proofs.lemmas.List.{append-nil, take-append-le, drop-append-le}
+use Rattle.std.proofs.lemmas.Bool.{cases_lt, cases_Bool, lt-ltb, le-ltb, le-leb, leb-true, and_parts, and_from, eq-eqb, ne_eqb}
+use Rattle.std.proofs.lemmas.List.{drop-append-le}
 use Rattle.std.proofs.lemmas.List.Elements.{All-nil, All-cons, All-drop}
 use Rattle.std.proofs.lemmas.Nat.{pow_pos}
 use Rattle.wasm_defs.specs.Numbers.{Reading, Number, CutOff, Bad, number_at, last_byte, after_byte}
 use Rattle.wasm_defs.specs.Limits.{max_name}
 use Rattle.wasm_defs.specs.declared.text.Inside.{Inside}
 use Rattle.wasm_defs.specs.Text.{between, due_in, first_byte, next_byte, completes}
-use Rattle.wasm_defs.specs.Fields.{Cursor, Read, Got, Fault, Wants, past, room_of, window, cut, first_of, byte, from_reading, number, nat_of, agree, fixed, text_after, least, length_owed, name_from, name}
+use Rattle.wasm_defs.specs.Fields.{Cursor, Read, Wants, room_of, window, cut, first_of, byte, from_reading, number, nat_of, agree, fixed, text_after, least, length_owed, name_from, name}
 use Rattle.wasm_laws.specs.Sections.{AreBytes}
 use Rattle.wasm_laws.specs.Completing.{IsGot, IsTooLong, Completes, CompletesOrPasses}
 use Rattle.wasm_laws.proofs.Steady.{with_more}
-use Rattle.wasm_laws.proofs.Windows.{all_of, ReadsOn, LiesIn, number_lies, number_reads_on}
+use Rattle.wasm_laws.proofs.Windows.{all_of, ReadsOn, number_lies, number_reads_on}
 
 -- ---- bytes that complete
 
