@@ -11,7 +11,7 @@ use Rattle.wasm_defs.specs.Values.{Value, word_of, words_of}
 use Rattle.wasm_defs.specs.Host.{Reply, are_of}
 use Rattle.wasm_defs.specs.Configurations.{Func, Store}
 use Rattle.wasm_defs.specs.Instances.{all_over}
-use Rattle.image_format.specs.declared.image.Image.{Image}
+use Rattle.image_format.specs.Contents.{Image}
 use Rattle.image_format.specs.declared.image.Segment.{Segment}
 use Rattle.image_format.specs.Environment.{stack_size, word_at, with_words, row_words, segments_of, loaded}
 use Rattle.image_format.specs.ImageRun.{Running, begin}

@@ -1,4 +1,4 @@
--- What a plain module's items come to in its image: no stubs of imports, and words of its globals' constants.
+-- What a plain module's items come to in its image: no imports and none of their stubs, and words of its globals' constants.
 use Rattle.std.proofs.Common.{◌≡◌, ℕ, suc, ◌-◌, ◌^◌, ◌<◌, List, [], ◌∷◌, map, refl, ap, arith, ℤ, pos}
 use Rattle.std.specs.Prelude.{negsuc}
 use Rattle.std.specs.Int.{w64, cast_unsigned}
@@ -17,7 +17,7 @@ use Rattle.wasm_laws.specs.Plain.{ArePlain}
 use Rattle.wasm_laws.proofs.Ranges.{constant_fits, long_constant_fits}
 use Rattle.index_spaces.specs.Entries.{initials_of, initial_values}
 use Rattle.sim_frames.proofs.Words.{word_small}
-use Rattle.image_linker.specs.ImageOf.{stubs_from}
+use Rattle.image_linker.specs.ImageOf.{stubs_from, imports_of}
 use Rattle.image_linker.specs.Linking.{NumbersFit}
 use Rattle.image_linker.proofs.Regions.{AreWords}
 
@@ -31,6 +31,17 @@ no_stubs c number (Global ty mutable init ∷ items) h = no_stubs c number items
 no_stubs c number (Exported name kind index ∷ items) h = no_stubs c number items h.1
 no_stubs c number (Code count end ∷ items) h = no_stubs c number items h.1
 no_stubs c number (x ∷ items) h = absurd (false≢true h.0)
+
+pub no_imports : (c : Context) (items : List Item) → ArePlain items → imports_of c items ≡ []
+no_imports c [] h = refl
+no_imports c (Signature form params results ty ∷ items) h = no_imports c items h.1
+no_imports c (Function index ∷ items) h = no_imports c items h.1
+no_imports c (Table element limits ∷ items) h = no_imports c items h.1
+no_imports c (Memory limits ∷ items) h = no_imports c items h.1
+no_imports c (Global ty mutable init ∷ items) h = no_imports c items h.1
+no_imports c (Exported name kind index ∷ items) h = no_imports c items h.1
+no_imports c (Code count end ∷ items) h = no_imports c items h.1
+no_imports c (x ∷ items) h = absurd (false≢true h.0)
 
 -- ---- the constants of globals
 

@@ -8,3 +8,6 @@ pub mod Arguments
 pub mod Called
 pub mod CoveredFacts
 pub mod Modules
+pub mod WordRanges
+pub mod ExportBounds
+pub mod Bounded

@@ -1,10 +1,10 @@
 -- A module of what is compiled so far behaves as its image does.
-use Rattle.std.proofs.Common.{◌≡◌, inl, ℕ, suc, ◌∷◌, ◌+◌, ◌*◌, ◌^◌, ◌<◌, ◌≤◌, Bool, true, List, [], ◌++◌, map, length, replicate, Option, Some, None, refl, sym, ap, ◌∙◌, subst, arith}
+use Rattle.std.proofs.Common.{◌≡◌, inl, ℕ, suc, ◌∷◌, ◌+◌, ◌*◌, ◌^◌, ◌%◌, ◌<◌, ◌≤◌, Bool, true, List, [], ◌++◌, map, length, replicate, Option, Some, None, refl, sym, ap, ◌∙◌, subst, arith}
 use Rattle.std.specs.Prelude.{slice_get, slice_index, option_map}
 use Rattle.std.proofs.lemmas.Bool.{cond-true, eq-eqb}
 use Rattle.std.proofs.lemmas.List.{length-map, length-replicate}
 use Rattle.std.proofs.lemmas.Option.{slice_get-map, slice_get_within}
-use Rattle.rv_isa.specs.Words.{word_of}
+use Rattle.rv_isa.specs.Words.{word_of, decoded}
 use Rattle.rv_isa.specs.Steps.{code_of}
 use Rattle.wasm_defs.specs.declared.types.FuncType.{FuncType}
 use Rattle.wasm_defs.specs.Memory.{page}
@@ -26,6 +26,7 @@ use Rattle.wasm_defs.specs.Instances.{Written, rows_of, pages_of, all_over, is_l
 use Rattle.wasm_laws.specs.Plain.{HasNoMore}
 use Rattle.wasm_laws.proofs.Plain.{plain_has_no_more, plain_is_linkable}
 use Rattle.frame_layout.specs.Templates.{exit_stub}
+use Rattle.image_format.specs.Bounds.{IsOffset}
 use Rattle.image_format.specs.ImageRun.{Running, begin, first_running, steps, image_run}
 use Rattle.image_format.specs.ImageRun as image_run
 use Rattle.simulation.specs.SameRuns.{SameRuns}
@@ -171,6 +172,18 @@ module _ (m : Module) (good : IsCoveredModule m) (short : length (text_of m) ≤
         distances = λ here g. refl;
         functions = functions_typed;
       }
+
+  -- its offset is that of a word of the text
+  pub function_offset : (f : ℕ) → f < length m.bodies → IsOffset (length (map word_of (text_of m))) (offset_of m f)
+  function_offset f within =
+      let x = there f within in
+      let words = code_of_function m.items (places_of_functions m) x.begin f x.body x.tree in
+      let some : 0 < length words = omega arith in
+      let inside = has_inside text x.begin words some x.has in
+      let count : length text ≡ length (map word_of (text_of m)) = length-map (map word_of (text_of m)) decoded in
+      let few = code_is_short m short in
+      let is = place_is f within in
+      (omega (arith, is, inside, some, few), omega (arith, is), omega (arith, is, inside, some, count))
 
   known : (i : ℕ) (h : Function) → slice_get (functions_of m) i ≡ Some h → Known text (instance_of m) places i h
   unfolding compiled

@@ -112,7 +112,7 @@ module _ (m : Module) (good : IsCoveredModule m) where
   stubs_in_range : AllInRange (stubs_from (context_of m.items) 0 m.items)
   stubs_in_range = subst AllInRange (sym (no_stubs (context_of m.items) 0 m.items good.items)) tt
 
-  text_in_range : AllInRange (text_of m)
+  pub text_in_range : AllInRange (text_of m)
   text_in_range =
       both_in_range exit_stub (stubs ++ functions) exit_in_range (both_in_range stubs functions stubs_in_range (code_in_range m.items (places_of_functions m) (front_size m.items) 0 m.bodies m.trees good.bodies))
 

@@ -18,7 +18,8 @@ use Rattle.frame_layout.specs.declared.layout.Layout.{Layout}
 use Rattle.frame_layout.specs.Macros.{distance}
 use Rattle.frame_layout.specs.Templates.{Around, import_stub, exit_stub}
 use Rattle.frame_layout.specs.Functions.{function_code}
-use Rattle.image_format.specs.declared.image.Image.{Image}
+use Rattle.image_format.specs.declared.version.Version.TheVariants.{One}
+use Rattle.image_format.specs.Contents.{Image}
 use Rattle.image_format.specs.declared.image.Row.{Row}
 use Rattle.image_format.specs.declared.image.Segment.{Segment}
 use Rattle.image_format.specs.declared.image.Import.{Import}
@@ -133,6 +134,7 @@ placed_segments m false = []
 
 abbrev pub image_of : Module → Image
 image_of m = record {
+  version = One;
   text = map word_of (text_of m);
   globals = words_of (values_of m.items);
   table = table_of m (is_linkable m);

@@ -1,7 +1,8 @@
--- The law of simulation, for modules.
+-- The laws of modules' images.
 use Rattle.std.specs.Prelude.{ℕ, List}
 use Rattle.wasm_defs.specs.Faults.{Module}
 use Rattle.wasm_laws.specs.Sections.{AreBytes}
+use Rattle.image_format.specs.Contents.{IsImage}
 use Rattle.image_linker.specs.ImageOf.{image_of}
 use Rattle.image_linker.specs.Judging.{IsModuleOf}
 use Rattle.image_linker.specs.Same.{Same}
@@ -9,3 +10,7 @@ use Rattle.image_linker.specs.Same.{Same}
 -- a module that some bytes are and its image behave alike
 abbrev pub ImagesBehaveAlike : Type 0
 ImagesBehaveAlike = (bytes : List ℕ) (m : Module) → AreBytes bytes → IsModuleOf bytes m → Same m (image_of m)
+
+-- the image of a module that some bytes are keeps the bounds of images
+abbrev pub ImagesKeepBounds : Type 0
+ImagesKeepBounds = (bytes : List ℕ) (m : Module) → AreBytes bytes → IsModuleOf bytes m → IsImage (image_of m)

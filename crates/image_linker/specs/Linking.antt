@@ -8,7 +8,8 @@ use Rattle.wasm_defs.specs.Instances.{first_minimum, first_cap}
 use Rattle.wasm_defs.specs.Values as value
 use Rattle.wasm_laws.specs.Kept.{FitsType}
 use Rattle.frame_layout.specs.Templates.{exit_stub}
-use Rattle.image_format.specs.declared.image.Image.{Image}
+use Rattle.image_format.specs.declared.version.Version.TheVariants.{One}
+use Rattle.image_format.specs.Contents.{Image}
 use Rattle.image_format.specs.declared.image.Row.{Row}
 use Rattle.image_format.specs.declared.image.Export.{Export}
 use Rattle.index_spaces.specs.Entries.{function_exports, initial_values}
@@ -52,6 +53,7 @@ NumbersFit globals numbers = ⊥
 -- the image of a module that imports nothing, and has no segments and no start function
 abbrev pub linked : Spaces → List Code → Image
 linked s codes = record {
+  version = One;
   text = front_words ++ words_of codes;
   globals = global_words s;
   table = replicate (first_minimum s.tables) empty_row;

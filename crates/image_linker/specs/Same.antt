@@ -6,7 +6,7 @@ use Rattle.wasm_defs.specs.Context.{context_of, type_of_function}
 use Rattle.wasm_defs.specs.Faults.{Module}
 use Rattle.wasm_defs.specs.Instances.{exports_of, named, is_linkable}
 use Rattle.wasm_defs.specs.ModuleRun.{module_run}
-use Rattle.image_format.specs.declared.image.Image.{Image}
+use Rattle.image_format.specs.Contents.{Image}
 use Rattle.image_format.specs.ImageRun.{image_run}
 use Rattle.simulation.specs.SameRuns.{SameRuns}
 use Rattle.image_linker.specs.ImageOf.{offset_of}

@@ -1,8 +1,13 @@
-//! The law of simulation. Its function does nothing: its contract is the law, which `specs/Laws.antt` states.
-ghost use Rattle.image_linker.specs.Laws.{ImagesBehaveAlike};
+//! The laws of modules' images. Their functions do nothing: their contracts are the laws, which `specs/Laws.antt` states.
+ghost use Rattle.image_linker.specs.Laws.{ImagesBehaveAlike, ImagesKeepBounds};
 
 /// A module and its image behave alike: each call of an exported function ends in the image as it does in the module, within
 /// 128 steps for each weight and 64 more; nothing else ends; and neither meets a case without a rule or a step.
 pub fn images_behave_alike()
     ensures { ImagesBehaveAlike }
+{}
+
+/// A module's image keeps the bounds of images.
+pub fn images_keep_bounds()
+    ensures { ImagesKeepBounds }
 {}

@@ -1,5 +1,6 @@
 //! One image of a module. `specs/ImageOf.antt` says which one it is, `specs/Same.antt` what it means that both behave alike, and
-//! `specs/Judging.antt` what a module's verdict is, with the limit on its text. `specs/Laws.antt` has the law that they do.
+//! `specs/Judging.antt` what a module's verdict is, with the limit on its text. `specs/Laws.antt` has the law that they do,
+//! and that images keep their bounds.
 #![tactic(auto)]
 
 pub mod laws;

@@ -2,12 +2,13 @@
 
 ghost use Rattle.std.specs.Prelude.{◌≡◌, ◌≤◌, ◌<◌, ◌+◌, ◌*◌, ◌++◌, ◌^◌, ℕ, length, map, slice_index, IfOk};
 ghost use Rattle.wasm_defs.specs.Context.{type_of_function};
+ghost use Rattle.image_format.specs.Contents.{IsImage};
 ghost use Rattle.index_spaces.specs.Spaces.{context_in};
 ghost use Rattle.index_spaces.specs.Entries.{function_exports};
 ghost use Rattle.image_linker.specs.Linking.{NumbersFit, words_of, starts_of, front_words, linked, linked_export};
 
 use crate::spaces::{first_cap, first_minimum, global_words, rows_of};
-use image_format::{Export, Exports, Globals, Image, Imports, Segments, Table, Text};
+use image_format::{Export, Exports, Globals, Image, Imports, Segments, Table, Text, Version};
 use index_spaces::{Context, copy_of_name, copy_of_type};
 use rv_isa::{Code, Imm12, ImmOp, Op, Register, encode};
 use std::alloc::{AllocError, Global};
@@ -100,10 +101,11 @@ fn exports_of(alloc: Global, context: &Context, starts: &[u32]) -> Result<Vec<Ex
 
 /// Links the codes of a module's declared functions, in the order of their indices, to the module's image.
 ///
-/// So far a module has no imports, no segments and no start function. The text has at most 268,435,456 bytes, and the numbers of
-/// the globals' constants are of the globals' types.
+/// So far a module has no imports, no segments and no start function. The text has at most 268,435,456 bytes, what is linked keeps
+/// the bounds of images, and the numbers of the globals' constants are of the globals' types.
 pub fn link(alloc: Global, context: &Context, codes: &[Code]) -> Result<Image, AllocError>
     requires fits { 4 * (2 + length (words_of codes.now)) ≤ 2 ^ 28 }
+    requires bounded { IsImage (linked context.now codes.now) }
     requires numbers { NumbersFit context.now.globals context.now.initials }
     ensures { IfOk result (λ i. i ≡ linked context.now codes.now) }
 {
@@ -113,6 +115,7 @@ pub fn link(alloc: Global, context: &Context, codes: &[Code]) -> Result<Image, A
     let globals = global_words(alloc, context)?;
     let table = rows_of(alloc, context)?;
     Ok(Image {
+        version: Version::One,
         text: Text::new(text),
         globals: Globals::new(globals),
         table: Table::new(table),

@@ -6,7 +6,7 @@ use Rattle.wasm_defs.specs.declared.types.ValType.{ValType}
 use Rattle.wasm_defs.specs.declared.value.Value.{Value as Given}
 use Rattle.wasm_defs.specs.Values.{Value}
 use Rattle.wasm_defs.specs.ModuleRun.{Returns}
-use Rattle.image_format.specs.declared.image.Image.{Image}
+use Rattle.image_format.specs.Contents.{Image}
 use Rattle.image_format.specs.ImageRun.{Stepping, As, environment, finish, results_at, memory_of, globals_of, run_of}
 use Rattle.image_run.specs.declared.outcome.Outcome.TheVariants.{Returned}
 use Rattle.image_run.specs.Ends.{values_of, IsEnd, IsOver}

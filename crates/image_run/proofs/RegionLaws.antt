@@ -6,7 +6,7 @@ use Rattle.wasm_defs.specs.Memory.{page}
 use Rattle.wasm_defs.specs.Instances.{all_over}
 use Rattle.wasm_defs.specs.Values.{Value, value_of, word_of, words_of}
 use Rattle.wasm_defs.specs.declared.value.Value.{Value as Given}
-use Rattle.image_format.specs.declared.image.Image.{Image}
+use Rattle.image_format.specs.Contents.{Image}
 use Rattle.image_format.specs.declared.image.Row.{Row}
 use Rattle.image_format.specs.Environment.{stack_size, loaded, with_words, word_bytes, row_words, segments_of}
 use Rattle.image_run.specs.States.{first_bytes}

@@ -8,7 +8,7 @@ use Rattle.rv_isa.specs.Values.{plus, b_value, is_taken}
 use Rattle.rv_isa.specs.Runs.{OnRan, SameSizes}
 use Rattle.rv_isa.proofs.SizeLaws.{runs_keep_sizes}
 use Rattle.wasm_defs.specs.declared.types.ValType.{ValType}
-use Rattle.image_format.specs.declared.image.Image.{Image}
+use Rattle.image_format.specs.Contents.{Image}
 use Rattle.image_format.specs.Environment.{code_of_image}
 use Rattle.image_format.specs.ImageRun.{Running, Stepping, To, environment, stepped, on, steps, run_of}
 use Rattle.image_format.specs.ImageRun as image

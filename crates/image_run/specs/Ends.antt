@@ -4,7 +4,7 @@ use Rattle.wasm_defs.specs.declared.types.ValType.{ValType}
 use Rattle.wasm_defs.specs.declared.value.Value.{Value as Given}
 use Rattle.wasm_defs.specs.Values.{Value, value_of}
 use Rattle.wasm_defs.specs.ModuleRun.{Returns, Traps, Going}
-use Rattle.image_format.specs.declared.image.Image.{Image}
+use Rattle.image_format.specs.Contents.{Image}
 use Rattle.image_format.specs.ImageRun.{Running, Stepping, To, Ended, Faulted, Waiting, Ending, As, run_of, image_run}
 use Rattle.image_format.specs.ImageRun as image
 use Rattle.image_run.specs.declared.outcome.Outcome.{Outcome}

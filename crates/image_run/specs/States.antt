@@ -3,7 +3,7 @@ use Rattle.std.specs.Prelude.{ℕ, ◌+◌, List, []}
 use Rattle.rv_isa.specs.Steps.{Registers, Bytes, State, text_base}
 use Rattle.wasm_defs.specs.declared.types.ValType.{ValType}
 use Rattle.wasm_defs.specs.Values.{Value, words_of}
-use Rattle.image_format.specs.declared.image.Image.{Image}
+use Rattle.image_format.specs.Contents.{Image}
 use Rattle.image_format.specs.Environment.{loaded, with_words, first_registers}
 use Rattle.image_format.specs.ImageRun.{Running}
 

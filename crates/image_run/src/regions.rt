@@ -87,12 +87,7 @@ pub(crate) fn regions_of(
     image: &Image,
     arguments: &[Value],
 ) -> Result<Regions, AllocError>
-    requires arguments { length arguments.now ≤ 131072 }
-    requires globals { length image.now.globals ≤ 100000 }
-    requires table { length image.now.table ≤ 100000 }
-    requires pages { image.now.pages ≤ image.now.cap }
-    requires cap { image.now.cap ≤ 1024 }
-    requires segments { IsTrue (all_fit (page * image.now.pages) (segments_of image.now.segments)) }
+    requires { length arguments.now ≤ 131072 }
     ensures bytes { IfOk result (λ r. bytes_of r ≡ first_bytes image.now (map value_of arguments.now)) }
     ensures stack { IfOk result (λ r. length r.stack.items ≡ 1048576) }
     ensures globals { IfOk result (λ r. length r.globals.items ≤ 800000) }

@@ -51,13 +51,7 @@ fn machine_for(
     offset: u32,
     arguments: &[Value],
 ) -> Result<Machine, AllocError>
-    requires text { length image.now.text ≤ 67108864 }
     requires arguments { length arguments.now ≤ 131072 }
-    requires globals { length image.now.globals ≤ 100000 }
-    requires table { length image.now.table ≤ 100000 }
-    requires pages { image.now.pages ≤ image.now.cap }
-    requires cap { image.now.cap ≤ 1024 }
-    requires segments { IsTrue (all_fit (page * image.now.pages) (segments_of image.now.segments)) }
     ensures code { IfOk result (λ m. m.code ≡ code_of_image image.now) }
     ensures state { IfOk result (λ m. state_of m ≡ first_state image.now offset (map value_of arguments.now)) }
     ensures stack { IfOk result (λ m. 8 ≤ length m.bytes.stack) }
@@ -96,10 +90,8 @@ fn run(machine: &mut Machine, image: &Image, results: &[ValType], steps: u64) ->
 /// Runs an exported function of an image with these arguments, for at most so many steps of the machine. How it ends is how
 /// the image's run ends that `image_run` of `image_format` defines.
 ///
-/// The conditions are those of images that are run so far: without imports and without a start function; a text of at most
-/// 67,108,864 words, at most 100,000 globals and rows of the table, and at most 1,024 pages up to which the memory may grow; each
-/// segment lies in the pages that are there at first. The function has at most one result, and the words of the arguments, whose
-/// types aren't asked here, have room in the stack.
+/// The conditions are those of images that are run so far: without imports and without a start function. The function has at most
+/// one result, and the words of the arguments, whose types aren't asked here, have room in the stack.
 pub fn run_export(
     alloc: Global,
     image: &Image,
@@ -111,12 +103,6 @@ pub fn run_export(
     requires start { image.now.start ≡ 0 }
     requires results { length export.now.signature.results ≤ 1 }
     requires arguments { length arguments.now ≤ 131072 }
-    requires text { length image.now.text ≤ 67108864 }
-    requires globals { length image.now.globals ≤ 100000 }
-    requires table { length image.now.table ≤ 100000 }
-    requires pages { image.now.pages ≤ image.now.cap }
-    requires cap { image.now.cap ≤ 1024 }
-    requires segments { IsTrue (all_fit (page * image.now.pages) (segments_of image.now.segments)) }
     ensures { IfOk result (RunsTo image.now export.now.offset export.now.signature.results (map value_of arguments.now) steps) }
 {
     let mut machine = machine_for(alloc, image, export.offset, arguments)?;

@@ -1,15 +1,13 @@
-//! Images made by hand, and what their runs come to.
-ghost use Rattle.std.specs.Prelude.{◌≡◌, ◌*◌, ◌≤◌, [], IfOk, IsTrue, length};
-ghost use Rattle.wasm_defs.specs.Memory.{page};
-ghost use Rattle.wasm_defs.specs.Instances.{all_fit};
-ghost use Rattle.image_format.specs.Environment.{segments_of};
+//! Images of bytes, and what their runs come to.
+
+ghost use Rattle.std.specs.Prelude.{◌≤◌, length};
 
 use crate::{NotRunnable, Outcome, find_export, run_checks, run_export};
-use image_format::{Export, Exports, Globals, Image, Imports, Row, Segment, Segments, Table, Text};
+use image_format::{Export, Image, read_image};
 use rv64im_machine::FaultKind;
 use std::alloc::{AllocError, Global};
 use std::test::Fail;
-use wasm_defs::{Bytes, FuncType, Name, TrapKind, ValType, ValTypes, Value};
+use wasm_defs::{FuncType, Name, TrapKind, ValType, ValTypes, Value};
 
 /// An export of the function behind the exit stub.
 fn export(
@@ -31,60 +29,74 @@ fn export(
     })
 }
 
-/// An image of the exit stub and these words, with two globals, a row of the table, a page of memory of two, and two segments
-/// of which the second is written over the first.
-fn image(alloc: Global, words: &[u32]) -> Result<Image, AllocError>
-    requires { length words.now ≤ 100 }
-    ensures imports { IfOk result (λ i. i.imports ≡ []) }
-    ensures start { IfOk result (λ i. i.start ≡ 0) }
-    ensures text { IfOk result (λ i. length i.text ≤ 102) }
-    ensures globals { IfOk result (λ i. length i.globals ≤ 2) }
-    ensures table { IfOk result (λ i. length i.table ≤ 2) }
-    ensures pages { IfOk result (λ i. i.pages ≤ i.cap) }
-    ensures cap { IfOk result (λ i. i.cap ≤ 2) }
-    ensures segments { IfOk result (λ i. IsTrue (all_fit (page * i.pages) (segments_of i.segments))) }
-{
-    let mut text = Vec::from_slice(alloc, &[0x0000_0893, 0x0000_0073])?;
-    text.extend_from_slice(words)?;
-    let globals = Vec::from_slice(alloc, &[7, 8])?;
-    let row = Row {
-        code: 0x1000_0008,
-        like: 3,
-    };
-    let mut table = Vec::new(alloc);
-    table.push(row)?;
-    let mut segments = Vec::new(alloc);
-    segments.push(Segment {
-        place: 2,
-        bytes: Bytes::new(Vec::from_slice(alloc, &[1, 2, 3])?),
-    })?;
-    segments.push(Segment {
-        place: 3,
-        bytes: Bytes::new(Vec::from_slice(alloc, &[9])?),
-    })?;
-    Ok(Image {
-        text: Text::new(text),
-        globals: Globals::new(globals),
-        table: Table::new(table),
-        pages: 1,
-        cap: 2,
-        segments: Segments::new(segments),
-        imports: Imports::new(Vec::new(alloc)),
-        exports: Exports::new(Vec::new(alloc)),
-        start: 0,
-        unlinkable: false,
-    })
+fn put(bytes: &mut Vec<u8>, numbers: &[u32]) -> Result<(), AllocError> {
+    for number in numbers {
+        bytes.extend_from_slice(&number.to_le_bytes())?;
+    }
+    Ok(())
 }
 
-/// How the function of these words ends that is called with 5 and -6.
-fn outcome(alloc: Global, words: &[u32], ty: ValType, steps: u64) -> Result<Outcome, AllocError>
+/// An image of the exit stub and these words, with two globals, a row of the table, a page of memory of two, and two segments
+/// of which the second is written over the first. It exports `f` of an i32, and `g` of an i32 and an i64.
+fn image(alloc: Global, words: &[u32], unlinkable: bool) -> Result<Image, Fail>
     requires { length words.now ≤ 100 }
 {
-    let image = image(alloc, words)?;
+    let mut bytes = Vec::new(alloc);
+    bytes.extend_from_slice(b"WRVI")?;
+    put(&mut bytes, &[1, words.len() as u32 + 2, 0x0000_0893, 0x0000_0073])?;
+    put(&mut bytes, words)?;
+    put(&mut bytes, &[2, 7, 0, 8, 0])?;
+    put(&mut bytes, &[1, 0x1000_0008, 0, 3, 0])?;
+    put(&mut bytes, &[1, 2])?;
+    put(&mut bytes, &[2, 2, 3])?;
+    bytes.extend_from_slice(&[1, 2, 3])?;
+    put(&mut bytes, &[3, 1])?;
+    bytes.extend_from_slice(&[9])?;
+    put(&mut bytes, &[0, 2])?;
+    put(&mut bytes, &[1])?;
+    bytes.extend_from_slice(b"f")?;
+    put(&mut bytes, &[1])?;
+    bytes.extend_from_slice(&[0x7F, 0x40])?;
+    put(&mut bytes, &[8, 1])?;
+    bytes.extend_from_slice(b"g")?;
+    put(&mut bytes, &[2])?;
+    bytes.extend_from_slice(&[0x7F, 0x7E, 0x40])?;
+    put(&mut bytes, &[8, 0, u32::from(unlinkable)])?;
+    Ok(read_image(alloc, &bytes)?)
+}
+
+/// How the function of these words ends that is called with these arguments, if the image has no imports and no start function.
+fn outcome(
+    alloc: Global,
+    words: &[u32],
+    export: &Export,
+    arguments: &[Value],
+    steps: u64,
+) -> Result<Option<Outcome>, Fail>
+    requires words { length words.now ≤ 100 }
+    requires arguments { length arguments.now ≤ 100 }
+    requires results { length export.now.signature.results ≤ 1 }
+{
+    let image = image(alloc, words, false)?;
+    if !image.imports.as_slice().is_empty() || image.start != 0 {
+        return Ok(None);
+    }
+    Ok(Some(run_export(alloc, &image, export, arguments, steps)?))
+}
+
+/// The same of a function of an i64 and an i32, called with 5 and -6.
+fn ended(
+    alloc: Global,
+    words: &[u32],
+    ty: ValType,
+    steps: u64,
+) -> Result<Option<Outcome>, Fail>
+    requires { length words.now ≤ 100 }
+{
     let export = export(alloc, "f", &[ValType::I64, ValType::I32], &[ty])?;
-    run_export(
+    outcome(
         alloc,
-        &image,
+        words,
         &export,
         &[Value::I64(5), Value::I32(-6)],
         steps,
@@ -168,16 +180,16 @@ fn functions_return(rt: HostRuntime) -> Result<(), Fail> {
     ];
     for (words, value) in rows {
         assert!(rt; words.len() <= 100);
-        let ended = outcome(rt.alloc(), words, ValType::I64, 20)?;
-        assert_eq!(rt; ended, Outcome::Returned(Some(Value::I64(value))));
+        let ended = ended(rt.alloc(), words, ValType::I64, 20)?;
+        assert_eq!(rt; ended, Some(Outcome::Returned(Some(Value::I64(value)))));
     }
-    let ended = outcome(
+    let ended = ended(
         rt.alloc(),
         &[0x0084_3503, 0x00A4_3023, 0x0000_8067],
         ValType::I32,
         20,
     )?;
-    assert_eq!(rt; ended, Outcome::Returned(Some(Value::I32(-6))));
+    assert_eq!(rt; ended, Some(Outcome::Returned(Some(Value::I32(-6)))));
     Ok(())
 }
 
@@ -220,30 +232,24 @@ fn runs_end(rt: HostRuntime) -> Result<(), Fail> {
     ];
     for (words, steps, wanted) in rows {
         assert!(rt; words.len() <= 100);
-        assert_eq!(rt; outcome(rt.alloc(), words, ValType::I64, steps)?, wanted);
+        assert_eq!(rt; ended(rt.alloc(), words, ValType::I64, steps)?, Some(wanted));
     }
     Ok(())
 }
 
 #[test]
 fn a_function_without_result_returns_none(rt: HostRuntime) -> Result<(), Fail> {
-    let image = image(rt.alloc(), &[0x0000_8067])?;
     let export = export(rt.alloc(), "f", &[], &[])?;
     assert_eq!(rt;
-        run_export(rt.alloc(), &image, &export, &[], 3)?,
-        Outcome::Returned(None)
+        outcome(rt.alloc(), &[0x0000_8067], &export, &[], 3)?,
+        Some(Outcome::Returned(None))
     );
     Ok(())
 }
 
 #[test]
 fn checks_come_in_order(rt: HostRuntime) -> Result<(), Fail> {
-    let mut exports = Vec::new(rt.alloc());
-    exports.push(export(rt.alloc(), "f", &[ValType::I32], &[])?)?;
-    exports.push(export(rt.alloc(), "g", &[ValType::I32, ValType::I64], &[])?)?;
-    exports.push(export(rt.alloc(), "f", &[], &[])?)?;
-    let mut image = image(rt.alloc(), &[0x0000_8067])?;
-    image.exports = Exports::new(exports);
+    let image = image(rt.alloc(), &[0x0000_8067], false)?;
     assert!(rt; find_export(&image, "h").is_none());
     assert!(rt; find_export(&image, "g").is_some_and(|e| e.signature.params.as_slice().len() == 2));
     assert_eq!(rt; run_checks(&image, "f", &[Value::I32(1)]), None);
@@ -265,7 +271,12 @@ fn checks_come_in_order(rt: HostRuntime) -> Result<(), Fail> {
         run_checks(&image, "", &[]),
         Some(NotRunnable::NoSuchExport)
     );
-    image.unlinkable = true;
+    Ok(())
+}
+
+#[test]
+fn an_unlinkable_image_is_found_so_last(rt: HostRuntime) -> Result<(), Fail> {
+    let image = image(rt.alloc(), &[0x0000_8067], true)?;
     assert_eq!(rt;
         run_checks(&image, "f", &[]),
         Some(NotRunnable::WrongArguments)

@@ -15,7 +15,7 @@ use Rattle.frame_layout.specs.Templates.{Around, grow_words}
 use Rattle.frame_layout.specs.Laws.{slot_at, with_slot, IsFrame, is_scratch, is_passed, Asks}
 use Rattle.frame_layout.proofs.Jumps.{passed_kept}
 use Rattle.frame_layout.proofs.Steps.{frame_kept}
-use Rattle.image_format.specs.declared.image.Image.{Image}
+use Rattle.image_format.specs.Contents.{Image}
 use Rattle.image_format.specs.Environment.{code_of_image}
 use Rattle.image_format.specs.ImageRun.{Running, memory_of}
 use Rattle.sim_memory.specs.Regions.{memory_now}

@@ -20,7 +20,7 @@ use Rattle.wasm_defs.specs.Instances.{exports_of, named, is_linkable}
 use Rattle.wasm_defs.specs.ModuleRun.{End, Returns, Traps, Stops, Going, Fails, module_run}
 use Rattle.wasm_defs.specs.ModuleRun as module_runs
 use Rattle.body_validator.proofs.OperandLaws.{same_types-of, same_types-true}
-use Rattle.image_format.specs.declared.image.Image.{Image}
+use Rattle.image_format.specs.Contents.{Image}
 use Rattle.image_format.specs.declared.image.Export.{Export}
 use Rattle.image_format.specs.ImageRun.{Ending, As, Fault, ImageRun, image_run}
 use Rattle.image_linker.specs.ImageOf.{image_of, export_of, offset_of}

@@ -6,8 +6,6 @@ use Rattle.std.proofs.lemmas.List.{map-append}
 use Rattle.rv_isa.specs.Words.{word_of}
 use Rattle.rv_isa.specs.declared.operations.Op.{Op}
 use Rattle.rv_isa.specs.declared.compiled.Code.{Code}
-use Rattle.wasm_defs.specs.declared.item.Item.{Item}
-use Rattle.wasm_defs.specs.declared.item.Item.TheVariants.{Signature, Function, Table, Memory, Global, Exported, Code as CodeCount}
 use Rattle.wasm_defs.specs.Typing.{Context}
 use Rattle.wasm_defs.specs.Context.{context_of, globals_of}
 use Rattle.wasm_defs.specs.Faults.{Module}
@@ -16,7 +14,8 @@ use Rattle.wasm_defs.specs.Values.{Value, words_of as value_words}
 use Rattle.wasm_laws.specs.Plain.{ArePlain, HasNoMore}
 use Rattle.wasm_laws.proofs.Plain.{plain_has_no_more, plain_is_linkable}
 use Rattle.frame_layout.specs.Templates.{exit_stub}
-use Rattle.image_format.specs.declared.image.Image.{Image}
+use Rattle.image_format.specs.declared.version.Version.TheVariants.{One}
+use Rattle.image_format.specs.Contents.{Image}
 use Rattle.image_format.specs.declared.image.Row.{Row}
 use Rattle.image_format.specs.declared.image.Segment.{Segment}
 use Rattle.image_format.specs.declared.image.Import.{Import}
@@ -27,30 +26,15 @@ use Rattle.index_spaces.proofs.EntriesOfItems.{exports_are_of_items, values_are_
 use Rattle.image_linker.specs.ImageOf.{image_of, text_of, stubs_from, code_from, places_from, places_of_functions, stub_places, stub_size, front_size, imports_of, export_of, row_of, table_of, segment_of, placed_segments, start_offset}
 use Rattle.image_linker.specs.Codes.{AreCodesOf}
 use Rattle.image_linker.specs.Linking.{words_of, starts_of, front_words, empty_row, linked, linked_export}
-use Rattle.image_linker.proofs.Items.{no_stubs}
+use Rattle.image_linker.proofs.Bounded.{rows_made}
+use Rattle.image_linker.proofs.Items.{no_imports, no_stubs}
 use Rattle.image_linker.proofs.Linked.{words_linked, places_linked}
-
-no_imports : (c : Context) (items : List Item) → ArePlain items → imports_of c items ≡ []
-no_imports c [] h = refl
-no_imports c (Signature form params results ty ∷ items) h = no_imports c items h.1
-no_imports c (Function index ∷ items) h = no_imports c items h.1
-no_imports c (Table element limits ∷ items) h = no_imports c items h.1
-no_imports c (Memory limits ∷ items) h = no_imports c items h.1
-no_imports c (Global ty mutable init ∷ items) h = no_imports c items h.1
-no_imports c (Exported name kind index ∷ items) h = no_imports c items h.1
-no_imports c (CodeCount count end ∷ items) h = no_imports c items h.1
-no_imports c (x ∷ items) h = absurd (false≢true h.0)
-
--- rows without a function
-rows_made : (m : Module) (n : ℕ) → map (row_of m) (replicate n None) ≡ replicate n empty_row
-rows_made m zero = refl
-rows_made m (suc n) = ap (λ (l : List Row). empty_row ∷ l) (rows_made m n)
 
 -- ---- the image, field by field
 
 abbrev image_by : List ℕ → List ℕ → List Row → ℕ → ℕ → List Segment → List Import → List Export → ℕ → Bool → Image
 image_by text globals table pages cap segments imports exports start unlinkable =
-    record { text = text; globals = globals; table = table; pages = pages; cap = cap; segments = segments; imports = imports; exports = exports; start = start; unlinkable = unlinkable }
+    record { version = One; text = text; globals = globals; table = table; pages = pages; cap = cap; segments = segments; imports = imports; exports = exports; start = start; unlinkable = unlinkable }
 
 module _ (m : Module) (codes : List Code) (plain : ArePlain m.items) (coded : AreCodesOf m.items 0 m.bodies m.trees codes) where
   abbrev c : Context

@@ -1,33 +1,29 @@
 -- A module whose parts were all taken.
-use Rattle.std.proofs.Common.{◌≡◌, ℕ, ◌+◌, ◌*◌, ◌≤◌, ◌<◌, inl, inr, List, [], ◌∷◌, map, length, Option, Some, None, refl, sym, ap, ◌∙◌, subst, arith, length-append}
+use Rattle.std.proofs.Common.{◌≡◌, ℕ, ◌+◌, ◌*◌, ◌≤◌, ◌<◌, inl, inr, List, [], ◌∷◌, map, length, Option, Some, None, refl, sym, ap, ◌∙◌, subst, arith}
 use Rattle.std.specs.Prelude.{◌^◌, All, IfSome}
 use Rattle.std.specs.Str.{bytes_eq}
 use Rattle.std.proofs.lemmas.Bool.{cases_Bool}
-use Rattle.std.proofs.lemmas.List.{length-map, length-replicate}
 use Rattle.rv_isa.specs.declared.compiled.Code.{Code}
 use Rattle.wasm_defs.specs.declared.item.Item.{Item}
-use Rattle.wasm_defs.specs.Limits.{max_text}
 use Rattle.wasm_defs.specs.Entries.{Seen}
-use Rattle.wasm_defs.specs.Context.{types_of, globals_of}
-use Rattle.wasm_defs.specs.Instances.{rows_of}
-use Rattle.wasm_defs.specs.Values.{Value, word_of as value_word}
+use Rattle.wasm_defs.specs.Context.{types_of}
 use Rattle.wasm_defs.specs.Outside.{Run, Whole, ends}
 use Rattle.wasm_laws.specs.Plain.{ArePlain}
-use Rattle.wasm_laws.specs.Kept.{TypeIsSmall, TypesAreSmall, SpacesAreSmall, ConstantsFit}
+use Rattle.wasm_laws.specs.Kept.{TypeIsSmall, TypesAreSmall, ConstantsFit}
 use Rattle.wasm_laws.proofs.Constants.{constants_fit}
-use Rattle.wasm_laws.proofs.Spaces.{spaces_are_small}
 use Rattle.wasm_laws.proofs.Plain.{items_are_plain, plain_has_no_more}
 use Rattle.wasm_laws.proofs.Exports.{types_are_small, function_is_small}
 use Rattle.frame_layout.specs.Templates.{exit_stub}
 use Rattle.image_format.specs.declared.image.Export.{Export}
+use Rattle.image_format.specs.Contents.{IsImage}
 use Rattle.image_run.specs.Checks.{export_named}
-use Rattle.index_spaces.specs.Entries.{function_exports, all_exports_of, initials_of, initial_values}
+use Rattle.index_spaces.specs.Entries.{function_exports, all_exports_of}
 use Rattle.index_spaces.specs.Spaces.{Spaces, spaces_of, context_in}
-use Rattle.index_spaces.proofs.EntriesOfItems.{values_are_of_items}
 use Rattle.image_linker.specs.ImageOf.{image_of, stub_size, front_size}
-use Rattle.image_linker.specs.Linking.{NumbersFit, words_of, front_words, starts_of, empty_row, linked, linked_export}
+use Rattle.image_linker.specs.Linking.{NumbersFit, words_of, starts_of, linked, linked_export}
 use Rattle.image_linker.specs.Judging.{IsModuleOf}
 use Rattle.image_linker.proofs.Items.{numbers_fit}
+use Rattle.image_linker.proofs.Bounded.{images_keep_bounds}
 use Rattle.image_linker.proofs.Modules.{images_behave_alike}
 use Rattle.section_reader.specs.FrontLeft.{total}
 use Rattle.stream_compile.specs.declared.answer.Built.{Built}
@@ -50,16 +46,10 @@ small_export s starts (x ∷ es) name e small is =
       | inr h ↦ let t : export_named name (map (linked_export s starts) es) ≡ Some e = rw h at is in small_export s starts es name e small t
     ]
 
-linked_runs : (items : List Item) (codes : List Code) → TypesAreSmall (types_of items) → SpacesAreSmall items → 4 * (2 + length (words_of codes)) ≤ max_text → IsRunnable (linked (spaces_of items) codes)
-linked_runs items codes types small fits = record {
+linked_runs : (items : List Item) (codes : List Code) → TypesAreSmall (types_of items) → IsRunnable (linked (spaces_of items) codes)
+linked_runs items codes types = record {
   imports = refl;
   start = refl;
-  text = omega (arith, fits, length-append front_words (words_of codes));
-  globals = omega (arith, length-map (initial_values (globals_of items) (initials_of items)) value_word, ap (λ (l : List Value). length l) (values_are_of_items items), small.globals);
-  table = omega (arith, length-replicate (rows_of items) empty_row, small.rows);
-  pages = small.pages;
-  cap = small.cap;
-  segments = refl;
   exports = λ name e is. small_export (spaces_of items) (starts_of codes) (function_exports (all_exports_of items)) name e types is;
 }
 
@@ -74,7 +64,6 @@ whole_done bytes left s seen fits j whole count =
     let is : IsModuleOf bytes m = record { is = h.is; fits = omega (arith, front, h.words, words_are_sizes m.items 0 m.bodies m.trees j.all h.coded) } in
     let image : linked (spaces_of m.items) j.all ≡ image_of m = linked_is_image m j.all plain h.coded in
     let types : TypesAreSmall (types_of m.items) = subst (λ (l : List Item). TypesAreSmall (types_of l)) (sym h.is.items) (types_are_small bytes) in
-    let small : SpacesAreSmall m.items = subst SpacesAreSmall (sym h.is.items) (spaces_are_small bytes) in
     let constants : ConstantsFit m.items = subst ConstantsFit (sym h.is.items) (constants_fit bytes fits) in
     record {
       «module» = m;
@@ -87,7 +76,8 @@ whole_done bytes left s seen fits j whole count =
       all = j.all;
       are_all = j.are_all;
       image_is = ap (λ (x : Spaces). linked x j.all) h.spaces_are ∙ image;
-      runnable = subst IsRunnable image (linked_runs m.items j.all types small h.words);
+      bounded = images_keep_bounds bytes m fits is;
+      runnable = subst IsRunnable image (linked_runs m.items j.all types);
       fits = omega (arith, j.fits);
       numbers = subst (λ (x : Spaces). NumbersFit x.globals x.initials) (sym h.spaces_are) (numbers_fit m.items constants);
     }
@@ -105,6 +95,10 @@ module _ (bytes : List ℕ) (s : Compilation) (given : List Code) (d : IsDone by
   -- the words are few
   pub few_words : 4 * (2 + length (words_of given)) ≤ 2 ^ 28
   few_words = omega (arith, d.fits, d.are_all.words, ap (λ (l : List Code). length (words_of l)) given_are)
+
+  -- what is linked keeps the bounds of images
+  pub is_bounded : IsImage (linked s.spaces given)
+  is_bounded = subst IsImage (sym (ap (linked s.spaces) given_are ∙ d.image_is)) d.bounded
 
   pub done_built : (built : Built) → built.image ≡ linked s.spaces given → built.functions ≡ s.spaces.declared → built.bytes ≡ total s.front → IsBuilt bytes built
   done_built built image functions size =

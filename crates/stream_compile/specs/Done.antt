@@ -5,6 +5,7 @@ use Rattle.wasm_defs.specs.declared.front_stop.FrontStop.{FrontStop}
 use Rattle.wasm_defs.specs.declared.front_stop.FrontStop.TheVariants.{Refused, NoMemory}
 use Rattle.wasm_defs.specs.Context.{declared_count}
 use Rattle.wasm_defs.specs.Faults.{Module, Accepted, Rejected}
+use Rattle.image_format.specs.Contents.{IsImage}
 use Rattle.section_reader.specs.FrontLeft.{total}
 use Rattle.image_linker.specs.ImageOf.{image_of}
 use Rattle.image_linker.specs.Linking.{NumbersFit, linked}
@@ -21,13 +22,14 @@ pub record IsModuleOfSize (bytes : List ℕ) (m : Module) (functions size : ℕ)
   pub functions_are : functions ≡ declared_count m.items
   pub size_is : size ≡ length bytes
 
--- the bytes are a module, all of which was read and compiled: what is linked of its codes is its image
+-- the bytes are a module, all of which was read and compiled: what is linked of its codes is its image, which keeps the bounds of images
 pub record IsDone (bytes : List ℕ) (s : Compilation) : Type 0 where
   pub «module» : Module
   pub is : IsModuleOfSize bytes «module» s.spaces.declared (total s.front)
   pub all : List Code
   pub are_all : AreAll s.codes all
   pub image_is : linked s.spaces all ≡ image_of «module»
+  pub bounded : IsImage (image_of «module»)
   pub runnable : IsRunnable (image_of «module»)
   -- the codes can be linked: their words are few, and the constants of globals are numbers of their types
   pub fits : 4 * (2 + s.codes.words) ≤ 2 ^ 28

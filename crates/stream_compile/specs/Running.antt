@@ -1,11 +1,8 @@
 -- Images that can be run so far, and what a call of an image's function comes to.
-use Rattle.std.specs.Prelude.{◌≡◌, ◌≢◌, ◌≤◌, ◌*◌, ℕ, true, List, [], length, Option, None, Some, IsTrue}
-use Rattle.wasm_defs.specs.Memory.{page}
-use Rattle.wasm_defs.specs.Instances.{all_fit}
+use Rattle.std.specs.Prelude.{◌≡◌, ◌≢◌, ℕ, true, List, [], Option, None, Some}
 use Rattle.wasm_laws.specs.Kept.{TypeIsSmall}
-use Rattle.image_format.specs.declared.image.Image.{Image}
+use Rattle.image_format.specs.Contents.{Image}
 use Rattle.image_format.specs.declared.image.Export.{Export}
-use Rattle.image_format.specs.Environment.{segments_of}
 use Rattle.image_format.specs.ImageRun.{Ending, As, Fault}
 use Rattle.image_run.specs.Checks.{export_named, not_runnable}
 use Rattle.image_run.specs.declared.checks.NotRunnable.{NotRunnable}
@@ -18,16 +15,10 @@ use Rattle.wasm_defs.specs.Host.{all_in_range}
 use Rattle.wasm_defs.specs.ModuleRun.{Returns, Traps, Stops, Going, Fails}
 use Rattle.stream_compile.specs.Texts.{Outcome, unrunnable, returned, trapped, steps_spent, arguments_of, run_end}
 
--- nothing is imported or started, and all is within the limits of modules
+-- nothing is imported or started, and the types of exported functions are within the limits of modules
 pub record IsRunnable (i : Image) : Type 0 where
   pub imports : i.imports ≡ []
   pub start : i.start ≡ 0
-  pub text : length i.text ≤ 67108864
-  pub globals : length i.globals ≤ 100000
-  pub table : length i.table ≤ 100000
-  pub pages : i.pages ≤ i.cap
-  pub cap : i.cap ≤ 1024
-  pub segments : IsTrue (all_fit (page * i.pages) (segments_of i.segments))
   pub exports : (name : List ℕ) (e : Export) → export_named name i.exports ≡ Some e → TypeIsSmall e.signature
 
 -- no call of an exported function that passes the checks comes to a fault of the machine

@@ -22,7 +22,7 @@ use Rattle.wasm_defs.specs.Faults.{Module, Verdict, Accepted, Rejected}
 use Rattle.wasm_defs.specs.Instances.{exports_of, named}
 use Rattle.wasm_defs.specs.ModuleRun.{End, Returns, Traps, Stops, Going, Fails, module_run}
 use Rattle.wasm_defs.specs.ModuleRun as module_runs
-use Rattle.image_format.specs.declared.image.Image.{Image}
+use Rattle.image_format.specs.Contents.{Image}
 use Rattle.image_format.specs.ImageRun.{Ending, As, Fault, image_run}
 use Rattle.image_linker.specs.ImageOf.{image_of, offset_of}
 use Rattle.image_linker.specs.Judging.{IsVerdictOf, IsStoppedAt}

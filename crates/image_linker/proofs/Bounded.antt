@@ -1,0 +1,139 @@
+-- The image of a module keeps the bounds of images.
+use Rattle.std.proofs.Common.{◌≡◌, ℕ, zero, suc, ◌+◌, ◌*◌, ◌%◌, ◌^◌, ◌<◌, ◌≤◌, true, List, [], ◌∷◌, map, length, replicate, Option, Some, None, refl, sym, ap, ◌∙◌, subst, arith}
+use Rattle.std.specs.Prelude.{All}
+use Rattle.std.proofs.lemmas.List.{length-map, length-replicate}
+use Rattle.std.proofs.lemmas.List.Elements.{All-nil, All-cons}
+use Rattle.rv_isa.specs.Words.{word_of}
+use Rattle.rv_isa.specs.Steps.{code_of}
+use Rattle.rv_isa.specs.Runs.{AllInRange}
+use Rattle.wasm_defs.specs.declared.item.Item.{Item}
+use Rattle.wasm_defs.specs.Context.{context_of, functions_of}
+use Rattle.wasm_defs.specs.Entries.{nothing}
+use Rattle.wasm_defs.specs.Faults.{Module, IsModule}
+use Rattle.wasm_defs.specs.Instances.{exports_of, values_of, rows_of, is_linkable, all_over, start_of}
+use Rattle.wasm_defs.specs.Limits.{max_entries}
+use Rattle.wasm_defs.specs.Values.{word_of as value_word, words_of}
+use Rattle.wasm_laws.specs.Kept.{TypesAreSmall, AreThere}
+use Rattle.wasm_laws.specs.Sections.{AreBytes}
+use Rattle.wasm_laws.specs.Plain.{HasNoMore}
+use Rattle.wasm_laws.proofs.Bytes.{each_byte}
+use Rattle.wasm_laws.proofs.Counted.{entries_in, entries_are_few}
+use Rattle.wasm_laws.proofs.Described.{module_is_described}
+use Rattle.wasm_laws.proofs.Exports.{types_are_small, exports_are_there}
+use Rattle.wasm_laws.proofs.Plain.{plain_has_no_more, plain_is_linkable}
+use Rattle.wasm_defs.specs.Rules.{AllKeep}
+use Rattle.image_format.specs.Contents.{Image, IsImage}
+use Rattle.image_format.specs.Bounds.{IsText, IsOffset, AreGlobals, IsRow, IsTable, AreSegments, AreImports, IsImport, AreExports}
+use Rattle.image_format.specs.declared.image.Row.{Row}
+use Rattle.image_format.specs.declared.image.Segment.{Segment}
+use Rattle.image_format.specs.declared.image.Import.{Import}
+use Rattle.image_linker.specs.ImageOf.{text_of, offset_of, row_of, table_of, segment_of, placed_segments, imports_of, export_of, start_offset, image_of}
+use Rattle.image_linker.specs.Judging.{IsModuleOf}
+use Rattle.image_linker.specs.Linking.{empty_row}
+use Rattle.image_linker.specs.Laws.{ImagesKeepBounds}
+use Rattle.image_linker.proofs.CoveredModules.{IsCoveredModule}
+use Rattle.image_linker.proofs.CoveredFacts.{module_is_covered}
+use Rattle.image_linker.proofs.ExportBounds.{AreNamed, exports_are_few, sections_named, items_keep, exports_fit}
+use Rattle.image_linker.proofs.Items.{no_imports, values_are_words}
+use Rattle.image_linker.proofs.Modules.{function_offset}
+use Rattle.image_linker.proofs.Placed.{text_length, text_in_range}
+use Rattle.image_linker.proofs.Regions.{AreWords}
+use Rattle.image_linker.proofs.WordRanges.{words_are_short}
+
+each_word : (ws : List ℕ) → AreWords ws → All (λ value. value < 2 ^ 64) ws
+each_word [] h = All-nil (λ value. value < 2 ^ 64)
+each_word (w ∷ ws) h = All-cons (λ value. value < 2 ^ 64) w ws h.0 (each_word ws h.1)
+
+-- rows without a function
+pub rows_made : (m : Module) (n : ℕ) → map (row_of m) (replicate n None) ≡ replicate n empty_row
+rows_made m zero = refl
+rows_made m (suc n) = ap (λ (l : List Row). empty_row ∷ l) (rows_made m n)
+
+empty_rows : (n most : ℕ) → n ≤ most → (length (replicate n empty_row) ≤ most) × All IsRow (replicate n empty_row)
+empty_rows n most le = (omega (arith, length-replicate n empty_row, le), each n)
+  where
+    each : (n : ℕ) → All IsRow (replicate n empty_row)
+    each zero = All-nil IsRow
+    each (suc n) = All-cons IsRow empty_row (replicate n empty_row) (omega arith, omega arith) (each n)
+
+module _ (bytes : List ℕ) (m : Module) (fits : AreBytes bytes) (is : IsModuleOf bytes m) where
+  good : IsCoveredModule m
+  good = module_is_covered bytes m fits is.is
+
+  none : HasNoMore m.items
+  none = plain_has_no_more m.items good.items
+
+  linkable : is_linkable m ≡ true
+  linkable = plain_is_linkable m good.items
+
+  text_words : length (map word_of (text_of m)) ≤ 2 ^ 26
+  text_words = let keeps = is.fits in omega (arith, text_length m good, length-map (text_of m) word_of)
+
+  text : IsText (map word_of (text_of m))
+  text = record {
+    least = omega (arith, text_length m good, length-map (text_of m) word_of);
+    most = omega (arith, text_words);
+    each = words_are_short (text_of m) (text_in_range m good);
+  }
+
+  globals : AreGlobals (words_of (values_of m.items))
+  globals = (omega (arith, length-map (values_of m.items) value_word, good.spaces.globals), each_word (words_of (values_of m.items)) (values_are_words m.items good.constants))
+
+  table_is : table_of m (is_linkable m) ≡ replicate (rows_of m.items) empty_row
+  table_is =
+      ap (table_of m) linkable
+      ∙ ap (λ l. map (row_of m) (all_over (replicate (rows_of m.items) None) l)) none.elements
+      ∙ rows_made m (rows_of m.items)
+
+  table : IsTable (table_of m (is_linkable m))
+  table = subst IsTable (sym table_is) (empty_rows (rows_of m.items) 100000 (omega (arith, good.spaces.rows)))
+
+  segments_are : placed_segments m (is_linkable m) ≡ []
+  segments_are = ap (placed_segments m) linkable ∙ ap (map segment_of) none.segments
+
+  pages : (n : ℕ) → AreSegments n (placed_segments m (is_linkable m))
+  pages n = subst (AreSegments n) (sym segments_are) (omega arith, tt)
+
+  imports : AreImports (imports_of (context_of m.items) m.items)
+  imports = subst AreImports (sym (no_imports (context_of m.items) m.items good.items)) (omega arith, All-nil IsImport)
+
+  start : IsOffset (length (map word_of (text_of m))) (start_offset m (start_of m.items))
+  start = subst (IsOffset (length (map word_of (text_of m)))) (sym (ap (start_offset m) none.start)) (omega arith, refl, omega (arith, text.least))
+
+  types : TypesAreSmall (context_of m.items).types
+  types = subst (λ (items : List Item). TypesAreSmall (context_of items).types) (sym is.is.items) (types_are_small bytes)
+
+  there : AreThere (context_of m.items) (length (functions_of m.items)) (exports_of m.items)
+  there = subst (λ (items : List Item). AreThere (context_of items) (length (functions_of items)) (exports_of items)) (sym is.is.items) (exports_are_there bytes)
+
+  few : length (map (export_of m) (exports_of m.items)) ≤ 100000
+  few =
+      let listed : entries_in 7 m.items ≤ max_entries = subst (λ (items : List Item). entries_in 7 items ≤ max_entries) (sym is.is.items) (entries_are_few 7 (λ ten. absurd cc) bytes) in
+      omega (arith, length-map (exports_of m.items) (export_of m), exports_are_few m.items, listed)
+
+  places : (f : ℕ) → f < length (functions_of m.items) → IsOffset (length (map word_of (text_of m))) (offset_of m f)
+  places f within = function_offset m good (omega (arith, text_words, length-map (text_of m) word_of)) f (omega (arith, good.functions, within))
+
+  exports : AreExports (length (map word_of (text_of m))) (map (export_of m) (exports_of m.items))
+  exports =
+      let d = module_is_described bytes m (each_byte bytes fits) is.is in
+      let named = subst AreNamed (sym d.2) (sections_named d.0 _ _ d.1.spelled.spelled.second.second) in
+      let keep = subst (AllKeep nothing) (sym d.2) (items_keep nothing d.0 d.1.kept.each) in
+      let each = exports_fit m (length (map word_of (text_of m))) (length (functions_of m.items)) types places nothing m.items [] named keep there (λ name h. refl) in
+      (few, each)
+
+  bounds : IsImage (image_of m)
+  bounds = record {
+    text = text;
+    globals = globals;
+    table = table;
+    pages = good.spaces.pages;
+    cap = omega (arith, good.spaces.cap);
+    segments = pages (image_of m).pages;
+    imports = imports;
+    exports = exports;
+    start = start;
+  }
+
+pub images_keep_bounds : ImagesKeepBounds
+images_keep_bounds bytes m fits is = bounds bytes m fits is
