@@ -1,10 +1,10 @@
 pub mod Linked
 pub mod Loops
-pub mod StraightModules
+pub mod CoveredModules
 pub mod Regions
 pub mod Items
 pub mod Placed
 pub mod Arguments
 pub mod Called
-pub mod StraightFacts
+pub mod CoveredFacts
 pub mod Modules

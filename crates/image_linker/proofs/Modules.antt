@@ -35,8 +35,8 @@ use Rattle.simulation.proofs.Alike.{functions_run_alike}
 use Rattle.image_linker.specs.ImageOf.{around, distances, code_of_function, stub_places, places_from, front_size, places_of_functions, offset_of, row_of, table_of, segment_of, placed_segments, start_offset, text_of, image_of}
 use Rattle.image_linker.specs.Laws.{ImagesBehaveAlike}
 use Rattle.image_linker.specs.Same.{Same}
-use Rattle.image_linker.proofs.StraightModules.{AreStraightBodies, IsStraightModule}
-use Rattle.image_linker.proofs.StraightFacts.{module_is_straight}
+use Rattle.image_linker.proofs.CoveredModules.{AreCoveredBodies, IsCoveredModule}
+use Rattle.image_linker.proofs.CoveredFacts.{module_is_covered}
 use Rattle.image_linker.proofs.Items.{values_are_words}
 use Rattle.image_linker.proofs.Placed.{Placed, code_is_short, text_length, exit_stands, function_stands}
 use Rattle.image_linker.proofs.Called.{IsSmall, IsFirst, is_called}
@@ -47,7 +47,7 @@ has_inside code i [] some has = absurd (omega arith)
 has_inside code i (op ∷ []) some has = omega (arith, slice_get_within code i (Some op) has.0)
 has_inside code i (op ∷ next ∷ ops) some has = omega (arith, has_inside code (suc i) (next ∷ ops) (omega arith) has.1)
 
-module _ (m : Module) (good : IsStraightModule m) (short : length (text_of m) ≤ 2 ^ 26) where
+module _ (m : Module) (good : IsCoveredModule m) (short : length (text_of m) ≤ 2 ^ 26) where
   none : HasNoMore m.items
   none = plain_has_no_more m.items good.items
 
@@ -125,7 +125,7 @@ module _ (m : Module) (good : IsStraightModule m) (short : length (text_of m) �
   abbrev places : ℕ → ℕ
   places i = slice_index (places_of_functions m) i
 
-  declared_length : (items : List Item) (k : ℕ) (bodies : List Body) (trees : List Seq) → AreStraightBodies items k bodies trees → length (declared_from items k bodies trees) ≡ length bodies
+  declared_length : (items : List Item) (k : ℕ) (bodies : List Body) (trees : List Seq) → AreCoveredBodies items k bodies trees → length (declared_from items k bodies trees) ≡ length bodies
   declared_length items k [] [] h = refl
   declared_length items k [] (tree ∷ trees) h = absurd h
   declared_length items k (b ∷ bodies) [] h = absurd h
@@ -198,7 +198,7 @@ module _ (m : Module) (good : IsStraightModule m) (short : length (text_of m) �
         subst (λ (q : Running). SameRuns (module_run m f arguments replies) (λ n. image_run.run_of (steps (image_of m) n q))) (sym (first_is f within replies arguments)) (
         subst (λ (start : Option ℕ). SameRuns (λ k. module_run.run_of (run (instance_of m) k (first_state start store invoked))) (λ n. image_run.run_of (steps (image_of m) n r))) (sym none.start) same)
 
-pub straight_modules_behave_alike : (m : Module) → IsStraightModule m → length (text_of m) ≤ 2 ^ 26 → Same m (image_of m)
+pub straight_modules_behave_alike : (m : Module) → IsCoveredModule m → length (text_of m) ≤ 2 ^ 26 → Same m (image_of m)
 straight_modules_behave_alike m good short = record {
   unlinkable = refl;
   runs = λ can_link name f arguments replies is are. function_runs_alike m good short f (good.exports name f is) arguments replies are;
@@ -206,5 +206,5 @@ straight_modules_behave_alike m good short = record {
 
 pub images_behave_alike : ImagesBehaveAlike
 images_behave_alike bytes m fits is =
-    let good = module_is_straight bytes m fits is.is in
+    let good = module_is_covered bytes m fits is.is in
     straight_modules_behave_alike m good (let keeps = is.fits in omega (arith, text_length m good))

@@ -22,7 +22,7 @@ use Rattle.simulation.proofs.MacroRanges.{both_in_range}
 use Rattle.simulation.proofs.Ranges.{exit_in_range, function_in_range}
 use Rattle.image_linker.specs.ImageOf.{around, no_distance, distances, size_of, stub_size, front_size, places_from, code_of_function, code_from, stubs_from, places_of_functions, text_of}
 use Rattle.image_linker.specs.Judging.{sizes}
-use Rattle.image_linker.proofs.StraightModules.{IsStraightBody, AreStraightBodies, IsStraightModule}
+use Rattle.image_linker.proofs.CoveredModules.{IsCoveredBody, AreCoveredBodies, IsCoveredModule}
 use Rattle.image_linker.proofs.Items.{no_stubs}
 
 -- ---- one function among those from a place on
@@ -35,23 +35,23 @@ pub record Placed (code : List (Option Op)) (items : List Item) (places : List �
   pub place_is : slice_index (places_from items here k bodies trees) j ≡ begin
   pub has : HasAt code begin (code_of_function items places begin number body tree)
   pub declared : slice_get (declared_from items k bodies trees) j ≡ Some (function_of items number body tree)
-  pub good : IsStraightBody items number body tree
+  pub good : IsCoveredBody items number body tree
 
 -- a function's words are as many, whatever the distances
-function_size_is : (items : List Item) (places : List ℕ) (here k : ℕ) (b : Body) (tree : Seq) → IsStraightBody items k b tree → length (code_of_function items places here k b tree) ≡ size_of items k b tree
+function_size_is : (items : List Item) (places : List ℕ) (here k : ℕ) (b : Body) (tree : Seq) → IsCoveredBody items k b tree → length (code_of_function items places here k b tree) ≡ size_of items k b tree
 function_size_is items places here k b tree good =
     function_length (around items k b tree (distances places here)) no_distance (context_at items k b) tree
     ∙ sym (function_length (around items k b tree no_distance) no_distance (context_at items k b) tree)
 
 module _ (code : List (Option Op)) (items : List Item) (places : List ℕ) where
-  first_placed : (here k number : ℕ) (b : Body) (bodies : List Body) (tree : Seq) (trees : List Seq) → k + 0 ≡ number → IsStraightBody items k b tree
+  first_placed : (here k number : ℕ) (b : Body) (bodies : List Body) (tree : Seq) (trees : List Seq) → k + 0 ≡ number → IsCoveredBody items k b tree
       → HasAt code here (code_of_function items places here k b tree) → Placed code items places here k (b ∷ bodies) (tree ∷ trees) 0 number
   first_placed here k number b bodies tree trees e good has =
       let same : k ≡ number = omega (arith, e) in
       let at_k : Placed code items places here k (b ∷ bodies) (tree ∷ trees) 0 k = record { body = b; tree = tree; begin = here; place_is = refl; has = has; declared = refl; good = good } in
       subst (λ (n : ℕ). Placed code items places here k (b ∷ bodies) (tree ∷ trees) 0 n) same at_k
 
-  pub placed : (here k : ℕ) (bodies : List Body) (trees : List Seq) (j number : ℕ) → k + j ≡ number → AreStraightBodies items k bodies trees → HasAt code here (code_from items places here k bodies trees) → j < length bodies
+  pub placed : (here k : ℕ) (bodies : List Body) (trees : List Seq) (j number : ℕ) → k + j ≡ number → AreCoveredBodies items k bodies trees → HasAt code here (code_from items places here k bodies trees) → j < length bodies
       → Placed code items places here k bodies trees j number
   placed here k [] trees j number e good has less = absurd (omega arith)
   placed here k (b ∷ bodies) [] j number e good has less = absurd good
@@ -65,7 +65,7 @@ module _ (code : List (Option Op)) (items : List Item) (places : List ℕ) where
       (has_at code (here + length words) (here + size_of items k b tree) behind there (has_second code here words behind has)) (omega arith) in
       record { body = rest.body; tree = rest.tree; begin = rest.begin; place_is = rest.place_is; has = rest.has; declared = rest.declared; good = rest.good }
 
-code_in_range : (items : List Item) (places : List ℕ) (here k : ℕ) (bodies : List Body) (trees : List Seq) → AreStraightBodies items k bodies trees → AllInRange (code_from items places here k bodies trees)
+code_in_range : (items : List Item) (places : List ℕ) (here k : ℕ) (bodies : List Body) (trees : List Seq) → AreCoveredBodies items k bodies trees → AllInRange (code_from items places here k bodies trees)
 code_in_range items places here k [] [] good = tt
 code_in_range items places here k [] (tree ∷ trees) good = absurd good
 code_in_range items places here k (b ∷ bodies) [] good = absurd good
@@ -80,7 +80,7 @@ pub code_is_short : (m : Module) → length (text_of m) ≤ 2 ^ 26 → length (c
 code_is_short m short = omega (arith, length-map (map word_of (text_of m)) decoded, length-map (text_of m) word_of)
 
 -- its number of words is the one that verdicts speak of
-functions_length : (items : List Item) (places : List ℕ) (here k : ℕ) (bodies : List Body) (trees : List Seq) → AreStraightBodies items k bodies trees → length (code_from items places here k bodies trees) ≡ sizes items k bodies trees
+functions_length : (items : List Item) (places : List ℕ) (here k : ℕ) (bodies : List Body) (trees : List Seq) → AreCoveredBodies items k bodies trees → length (code_from items places here k bodies trees) ≡ sizes items k bodies trees
 functions_length items places here k [] [] good = refl
 functions_length items places here k [] (tree ∷ trees) good = absurd good
 functions_length items places here k (b ∷ bodies) [] good = absurd good
@@ -90,7 +90,7 @@ functions_length items places here k (b ∷ bodies) (tree ∷ trees) good =
     let one = function_size_is items places here k b tree good.0 in
     length-append words behind ∙ omega (arith, one, functions_length items places (here + size_of items k b tree) (suc k) bodies trees good.1)
 
-pub text_length : (m : Module) → IsStraightModule m → length (text_of m) ≡ front_size m.items + sizes m.items 0 m.bodies m.trees
+pub text_length : (m : Module) → IsCoveredModule m → length (text_of m) ≡ front_size m.items + sizes m.items 0 m.bodies m.trees
 text_length m good =
     let stubs = stubs_from (context_of m.items) 0 m.items in
     let functions = code_from m.items (places_of_functions m) (front_size m.items) 0 m.bodies m.trees in
@@ -99,7 +99,7 @@ text_length m good =
     let counted = functions_length m.items (places_of_functions m) (front_size m.items) 0 m.bodies m.trees good.bodies in
     length-append exit_stub (stubs ++ functions) ∙ omega (arith, length-append stubs functions, none, no_count, counted)
 
-module _ (m : Module) (good : IsStraightModule m) where
+module _ (m : Module) (good : IsCoveredModule m) where
   abbrev pub code : List (Option Op)
   code = code_of (map word_of (text_of m))
 

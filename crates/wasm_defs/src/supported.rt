@@ -16,7 +16,8 @@ pub fn is_compiled_opcode(opcode: u8) -> bool
 {
     matches!(
         opcode,
-        0x01 | 0x0B
+        0x00..=0x05
+            | 0x0B..=0x0F
             | 0x1A..=0x1B
             | 0x20..=0x22
             | 0x41..=0x42

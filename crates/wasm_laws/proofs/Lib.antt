@@ -39,9 +39,9 @@ pub mod OneReading
 pub mod Earlier
 pub mod Sorted
 pub mod Behind
-pub mod Straight
+pub mod Compiled
 pub mod Ranges
-pub mod Heights
+pub mod Counting
 pub mod Plain
 pub mod Bytes
 pub mod Locals

@@ -1,5 +1,5 @@
 -- The immediates of compiled code are in range.
-use Rattle.std.proofs.Common.{◌≡◌, ℕ, ◌+◌, ◌-◌, ◌*◌, ◌^◌, ◌<◌, ◌≤◌, inl, inr, true, false, List, [], None, ◌∷◌, sym, subst, ap, ◌∙◌, arith, ℤ, pos}
+use Rattle.std.proofs.Common.{◌≡◌, ℕ, ◌+◌, ◌-◌, ◌*◌, ◌^◌, ◌<◌, ◌≤◌, inl, inr, true, false, List, [], None, ◌∷◌, sym, subst, ap, ◌∙◌, arith, ℤ, pos, zero, suc, refl, Bool}
 use Rattle.std.specs.Prelude.{negsuc, neg_ℤ, ◌≤ℤ◌, ◌<ℤ◌, FitsSigned}
 use Rattle.std.specs.Int.{w32, w64}
 use Rattle.std.proofs.lemmas.Bool.{cases_lt, lt-ltb, le-ltb}
@@ -8,23 +8,28 @@ use Rattle.std.proofs.lemmas.Nat.{pow_pos, pow-add}
 use Rattle.wasm_defs.proofs.NumberLaws.{AreBytes, reading_small}
 use Rattle.wasm_defs.specs.Numbers.{Reading, Number, CutOff, Bad, last_byte, after_byte, number_at, IsSmall}
 use Rattle.wasm_defs.specs.Faults.{first_outside, tokens_of}
-use Rattle.wasm_defs.specs.Fields.{Cursor, nat_of, window, room_of, from_reading, number, u32}
-use Rattle.wasm_defs.specs.Bodies.{with_index, constant, control, variable, instruction, body_read}
+use Rattle.wasm_defs.specs.Fields.{Cursor, nat_of, window, room_of, from_reading, number, u32, Reader, vector, repeated, Read, Got, Fault, Wants}
+use Rattle.wasm_defs.specs.Bodies.{with_index, constant, control, variable, instruction, body_read, block_type, with_type, branch_table, label, indirect, with_zero, with_mem_arg, mem_arg, zero_byte}
 use Rattle.wasm_defs.specs.Supported.{is_compiled_opcode}
 use Rattle.wasm_defs.specs.Trees.{Seq, Nothing, Simple, Block, Loop, If, IfElse, spelled, Tree}
 use Rattle.wasm_defs.specs.declared.token.Plain.{Plain}
-use Rattle.wasm_defs.specs.declared.token.Plain.TheVariants.{LocalGet, LocalSet, LocalTee}
+use Rattle.wasm_defs.specs.declared.token.Plain.TheVariants.{LocalGet, LocalSet, LocalTee, Unreachable, Nop, Br, BrIf, BrTable, Return, Call, Discard, Select, GlobalGet, GlobalSet, MemorySize, MemoryGrow, Operate}
 use Rattle.wasm_defs.specs.declared.token.Token.{Token}
 use Rattle.wasm_defs.specs.declared.types.ValType.TheVariants.{I32, I64}
 use Rattle.wasm_defs.specs.Values.{unsigned}
 use Rattle.wasm_defs.specs.declared.token.Token.TheVariants as token
-use Rattle.wasm_laws.specs.Straight.{IsInRange, TokenIsInRange, TokensAreInRange, TreeIsInRange}
-use Rattle.wasm_laws.proofs.Steady.{IfGot}
+use Rattle.wasm_laws.specs.Compiled.{IsInRange, TokenIsInRange, TokensAreInRange, TreeIsInRange, AreIndices}
+use Rattle.wasm_laws.proofs.Steady.{IfGot, always, Advances}
 use Rattle.wasm_laws.proofs.Windows.{cut_got}
-use Rattle.wasm_laws.proofs.Parts.{then_got}
+use Rattle.wasm_laws.proofs.Parts.{then_got, got_both}
 use Rattle.wasm_laws.proofs.Spelt.{bytes_behind}
 use Rattle.wasm_laws.proofs.SpeltFields.{front_bytes}
-use Rattle.wasm_laws.proofs.Straight.{Spells, by_opcode, of_numbers, Each, each_token}
+use Rattle.wasm_laws.proofs.Compiled.{Spells, by_opcode, Each, each_token}
+use Rattle.wasm_defs.specs.declared.operation.Access.{Access}
+use Rattle.wasm_defs.specs.declared.token.BlockType.{BlockType}
+use Rattle.wasm_defs.specs.declared.fault.Kind.TheVariants.{Malformed, Unsupported}
+use Rattle.wasm_laws.proofs.FieldLaws.{u32_field}
+use Rattle.wasm_defs.specs.declared.operation.Access.TheVariants as access
 
 -- ---- signed numbers
 
@@ -144,21 +149,93 @@ wide_in_range : (d : Cursor) → HasBytes d → IfGot InRange (constant I64 d)
 unfolding constant
 wide_in_range d fits = then_got (λ n e. FitsSigned w64 n.1) InRange (number true 64 d) _ (wide_number_got d fits) (λ n e h. h)
 
-all_in_range : (at : ℕ) (d : Cursor) → HasBytes d → Spells InRange at d
-unfolding instruction control variable
-all_in_range at d fits = record {
-  nops = tt;
-  closes = tt;
-  drops = tt;
-  selects = tt;
-  gets = index_in_range LocalGet d fits (λ i lt. lt);
-  sets = index_in_range LocalSet d fits (λ i lt. lt);
-  tees = index_in_range LocalTee d fits (λ i lt. lt);
-  computes = of_numbers InRange at d (narrow_in_range d fits) (wide_in_range d fits) (λ op. tt);
+behind_bytes : {A : Type 0} (c : Cursor) (x : Read A) → HasBytes c → Advances c x → IfGot (λ a d. HasBytes d) x
+behind_bytes c (Got a d) fits p = bytes_behind p.taken d.rest (subst AreBytes p.parts fits)
+behind_bytes c (Fault r) fits p = tt
+behind_bytes c Wants fits p = tt
+
+-- an index, and bytes behind it
+index_got : (c : Cursor) → HasBytes c → IfGot (λ n d. (n.1 < 2 ^ 32) × HasBytes d) (u32 c)
+index_got c fits = got_both (λ n d. n.1 < 2 ^ 32) (λ n d. HasBytes d) (u32 c) (u32_got c fits) (behind_bytes c (u32 c) fits ((u32_field.steady []).moves c))
+
+label_got : (d : Cursor) → HasBytes d → IfGot (λ l e. (l < 2 ^ 32) × HasBytes e) (label d)
+unfolding label
+label_got d fits = then_got (λ i e. (i.1 < 2 ^ 32) × HasBytes e) (λ l e. (l < 2 ^ 32) × HasBytes e) (u32 d) _ (index_got d fits) (λ i e h. h)
+
+labels_got : (n : ℕ) (d : Cursor) → HasBytes d → IfGot (λ ls e. AreIndices ls × HasBytes e) (repeated n label d)
+labels_got zero d fits = (tt, fits)
+labels_got (suc n) d fits =
+    then_got (λ l e. (l < 2 ^ 32) × HasBytes e) (λ ls e. AreIndices ls × HasBytes e) (label d) _ (label_got d fits)
+    (λ l e h. then_got (λ ls f. AreIndices ls × HasBytes f) (λ ls f. AreIndices ls × HasBytes f) (repeated n label e) _ (labels_got n e h.1) (λ ls f k. ((h.0, k.0), k.1)))
+
+table_in_range : (d : Cursor) → HasBytes d → IfGot InRange (branch_table d)
+unfolding branch_table vector
+table_in_range d fits =
+    then_got (λ ls e. AreIndices ls.1 × HasBytes e) InRange (vector u32 label d) _
+    (then_got (λ n e. (n.1 < 2 ^ 32) × HasBytes e) (λ ls e. AreIndices ls.1 × HasBytes e) (u32 d) _ (index_got d fits)
+    (λ n e h. then_got (λ ls f. AreIndices ls × HasBytes f) (λ ls f. AreIndices ls.1 × HasBytes f) (repeated n.1 label e) _ (labels_got n.1 e h.1) (λ ls f k. k)))
+    (λ ls e h. then_got (λ l f. (l < 2 ^ 32) × HasBytes f) InRange (label e) _ (label_got e h.1) (λ l f k. (h.0, k.0)))
+
+type_in_range : (make : BlockType → Token) (d : Cursor) → ((t : BlockType) → TokenIsInRange (make t)) → IfGot InRange (with_type make d)
+unfolding with_type
+type_in_range make d h = then_got (λ t e. Unit {0}) InRange (block_type d) _ (always (block_type d)) (λ t e u. h t)
+
+zero_in_range : (p : Plain) (d : Cursor) → IsInRange p → IfGot InRange (with_zero p d)
+unfolding with_zero
+zero_in_range p d h = then_got (λ x e. Unit {0}) InRange (zero_byte Malformed d) _ (always (zero_byte Malformed d)) (λ x e u. h)
+
+indirect_in_range : (d : Cursor) → HasBytes d → IfGot InRange (indirect d)
+unfolding indirect
+indirect_in_range d fits =
+    then_got (λ i e. i.1 < 2 ^ 32) InRange (u32 d) _ (u32_got d fits)
+    (λ i e lt. then_got (λ x f. Unit {0}) InRange (zero_byte Unsupported e) _ (always (zero_byte Unsupported e)) (λ x f u. lt))
+
+mem_arg_got : (d : Cursor) → HasBytes d → IfGot (λ m e. (m.align < 2 ^ 32) × (m.offset < 2 ^ 32)) (mem_arg d)
+unfolding mem_arg
+mem_arg_got d fits =
+    then_got (λ i e. (i.1 < 2 ^ 32) × HasBytes e) (λ m e. (m.align < 2 ^ 32) × (m.offset < 2 ^ 32)) (u32 d) _ (index_got d fits)
+    (λ i e h. then_got (λ o f. o.1 < 2 ^ 32) (λ m f. (m.align < 2 ^ 32) × (m.offset < 2 ^ 32)) (u32 e) _ (u32_got e h.1) (λ o f lt. (h.0, lt)))
+
+access_in_range : (op : Access) (d : Cursor) → HasBytes d → IfGot InRange (with_mem_arg op d)
+unfolding with_mem_arg
+access_in_range (access.Load op) d fits = then_got (λ m e. (m.align < 2 ^ 32) × (m.offset < 2 ^ 32)) InRange (mem_arg d) _ (mem_arg_got d fits) (λ m e h. h)
+access_in_range (access.Store op) d fits = then_got (λ m e. (m.align < 2 ^ 32) × (m.offset < 2 ^ 32)) InRange (mem_arg d) _ (mem_arg_got d fits) (λ m e h. h)
+
+abbrev IsAny : ℕ → Type 0
+IsAny b = Unit {0}
+
+all_in_range : (d : Cursor) → HasBytes d → Spells InRange IsAny d
+all_in_range d fits = record {
+  unreachables = λ c. tt;
+  nops = λ c. tt;
+  blocks = λ c. type_in_range token.Block d (λ t. tt);
+  loops = λ c. type_in_range token.Loop d (λ t. tt);
+  ifs = λ c. type_in_range token.If d (λ t. tt);
+  elses = λ c. tt;
+  ends = λ c. tt;
+  branches = λ c. index_in_range Br d fits (λ i lt. lt);
+  branches_if = λ c. index_in_range BrIf d fits (λ i lt. lt);
+  tables = λ c. table_in_range d fits;
+  returns = λ c. tt;
+  calls = λ c. index_in_range Call d fits (λ i lt. lt);
+  indirects = λ c. indirect_in_range d fits;
+  drops = λ c. tt;
+  selects = λ c. tt;
+  gets = λ c. index_in_range LocalGet d fits (λ i lt. lt);
+  sets = λ c. index_in_range LocalSet d fits (λ i lt. lt);
+  tees = λ c. index_in_range LocalTee d fits (λ i lt. lt);
+  global_gets = λ c. index_in_range GlobalGet d fits (λ i lt. lt);
+  global_sets = λ c. index_in_range GlobalSet d fits (λ i lt. lt);
+  accesses_at = λ b ge lt c op. access_in_range op d fits;
+  sizes = λ c. zero_in_range MemorySize d tt;
+  grows = λ c. zero_in_range MemoryGrow d tt;
+  narrow = λ c. narrow_in_range d fits;
+  wide = λ c. wide_in_range d fits;
+  computes = λ op. tt;
 }
 
-pub instruction_in_range : (at b : ℕ) (d : Cursor) → HasBytes d → is_compiled_opcode b ≡ true → IfGot InRange (instruction at b d)
-instruction_in_range at b d fits compiled = by_opcode InRange at b d (all_in_range at d fits) compiled
+pub instruction_in_range : (at b : ℕ) (d : Cursor) → HasBytes d → IfGot InRange (instruction at b d)
+instruction_in_range at b d fits = by_opcode InRange IsAny at b d tt (all_in_range d fits)
 
 -- ---- bodies
 
@@ -166,18 +243,36 @@ tokens_in_range : (ts : List (ℕ × Token)) → Each TokenIsInRange ts → Toke
 tokens_in_range [] h = tt
 tokens_in_range (t ∷ ts) h = (h.0, tokens_in_range ts h.1)
 
-pub tokens_are_in_range : (first : ℕ) (bytes : List ℕ) → AreBytes bytes → first_outside is_compiled_opcode (body_read first bytes).code.opcodes ≡ None → TokensAreInRange (tokens_of (body_read first bytes).code.tokens)
-tokens_are_in_range first bytes fits compiled =
+none_is_outside : (opcodes : List (ℕ × ℕ)) → first_outside (λ b. true) opcodes ≡ None
+none_is_outside [] = refl
+none_is_outside (b ∷ opcodes) = none_is_outside opcodes
+
+pub tokens_are_in_range : (first : ℕ) (bytes : List ℕ) → AreBytes bytes → TokensAreInRange (tokens_of (body_read first bytes).code.tokens)
+tokens_are_in_range first bytes fits =
     tokens_in_range (body_read first bytes).code.tokens
-    (each_token HasBytes (λ c d p known. bytes_behind p.taken d.rest (subst AreBytes p.parts known)) TokenIsInRange instruction_in_range first bytes fits compiled)
+    (each_token (λ b. true) HasBytes (λ c d p known. bytes_behind p.taken d.rest (subst AreBytes p.parts known)) TokenIsInRange (λ at b d known e. instruction_in_range at b d known) first bytes fits (none_is_outside (body_read first bytes).code.opcodes))
 
-spelled_in_range : (tree : Seq) (after : List Token) → TokensAreInRange (spelled tree after) → TreeIsInRange tree
-spelled_in_range Nothing after h = tt
-spelled_in_range (Simple p rest) after h = (h.0, spelled_in_range rest after h.1)
-spelled_in_range (Block type body rest) after h = tt
-spelled_in_range (Loop type body rest) after h = tt
-spelled_in_range (If type body rest) after h = tt
-spelled_in_range (IfElse type body other rest) after h = tt
+-- of the tokens that spell a sequence, and those behind
+both_in_range : (tree : Seq) (after : List Token) → TokensAreInRange (spelled tree after) → TreeIsInRange tree × TokensAreInRange after
+both_in_range Nothing after h = (tt, h)
+both_in_range (Simple p rest) after h = let more = both_in_range rest after h.1 in ((h.0, more.0), more.1)
+both_in_range (Block type body rest) after h =
+    let first = both_in_range body (token.End ∷ spelled rest after) h.1 in
+    let more = both_in_range rest after first.1.1 in
+    ((first.0, more.0), more.1)
+both_in_range (Loop type body rest) after h =
+    let first = both_in_range body (token.End ∷ spelled rest after) h.1 in
+    let more = both_in_range rest after first.1.1 in
+    ((first.0, more.0), more.1)
+both_in_range (If type body rest) after h =
+    let first = both_in_range body (token.End ∷ spelled rest after) h.1 in
+    let more = both_in_range rest after first.1.1 in
+    ((first.0, more.0), more.1)
+both_in_range (IfElse type body other rest) after h =
+    let first = both_in_range body (token.Else ∷ spelled other (token.End ∷ spelled rest after)) h.1 in
+    let second = both_in_range other (token.End ∷ spelled rest after) first.1.1 in
+    let more = both_in_range rest after second.1.1 in
+    ((first.0, second.0, more.0), more.1)
 
-pub tree_is_in_range : (first : ℕ) (bytes : List ℕ) (tree : Seq) → AreBytes bytes → first_outside is_compiled_opcode (body_read first bytes).code.opcodes ≡ None → Tree (tokens_of (body_read first bytes).code.tokens) tree → TreeIsInRange tree
-tree_is_in_range first bytes tree fits compiled e = spelled_in_range tree (token.End ∷ []) (subst TokensAreInRange e (tokens_are_in_range first bytes fits compiled))
+pub tree_is_in_range : (first : ℕ) (bytes : List ℕ) (tree : Seq) → AreBytes bytes → Tree (tokens_of (body_read first bytes).code.tokens) tree → TreeIsInRange tree
+tree_is_in_range first bytes tree fits e = (both_in_range tree (token.End ∷ []) (subst TokensAreInRange e (tokens_are_in_range first bytes fits))).0

@@ -6,6 +6,6 @@ pub mod BodyOrder
 pub mod Typed
 pub mod Sections
 pub mod Behind
-pub mod Straight
+pub mod Compiled
 pub mod Plain
 pub mod Kept

@@ -23,7 +23,7 @@ ghost use Rattle.wasm_laws.specs.Plain.{ArePlain, HasNoMore};
 ghost use Rattle.wasm_laws.specs.Runs.{deciding_length, GoesOn, IsRefused};
 ghost use Rattle.wasm_laws.specs.Sections.{AreBytes};
 ghost use Rattle.wasm_laws.specs.Steadiness.{Steady, SteadyEnd, SteadyRow, Takes, token};
-ghost use Rattle.wasm_laws.specs.Straight.{are_straight, is_straight, TreeIsInRange};
+ghost use Rattle.wasm_laws.specs.Compiled.{are_compiled, is_compiled, TreeIsInRange};
 ghost use Rattle.wasm_laws.specs.Typed.{AreTyped};
 
 /// The fields outside bodies are steady (Core 5.5): the preamble, the header of each section, what each section holds, and
@@ -121,21 +121,21 @@ pub fn compiled_items_are_few()
     ensures linkable { (m : Module) → ArePlain m.items → is_linkable m ≡ true }
 {}
 
-/// The code of a body whose opcodes are compiled so far is straight (Core 2.4): its tokens are numeric and parametric
-/// instructions, those on locals, `nop` and `end`, and so is the tree that they spell. Immediates are in range, operands lie no
-/// higher than there are tokens, and each token has a byte.
-pub fn compiled_code_is_straight()
+/// The code of a body whose opcodes are compiled so far is of compiled tokens, and so is the tree that they spell.
+pub fn compiled_code_is_compiled()
     ensures tokens { (first : ℕ) (bytes : List ℕ) →
         let code = (body_read first bytes).code in
-        first_outside is_compiled_opcode code.opcodes ≡ None → are_straight (tokens_of code.tokens) ≡ true }
+        first_outside is_compiled_opcode code.opcodes ≡ None → are_compiled (tokens_of code.tokens) ≡ true }
     ensures tree { (first : ℕ) (bytes : List ℕ) (tree : Seq) →
         let code = (body_read first bytes).code in
-        first_outside is_compiled_opcode code.opcodes ≡ None → Tree (tokens_of code.tokens) tree → is_straight tree ≡ true }
+        first_outside is_compiled_opcode code.opcodes ≡ None → Tree (tokens_of code.tokens) tree → is_compiled tree ≡ true }
+{}
+
+/// The immediates of a body's instructions have the bits that bytes spell, and each token has a byte.
+pub fn immediates_are_in_range()
     ensures range { (first : ℕ) (bytes : List ℕ) (tree : Seq) → AreBytes bytes →
         let code = (body_read first bytes).code in
-        first_outside is_compiled_opcode code.opcodes ≡ None → Tree (tokens_of code.tokens) tree → TreeIsInRange tree }
-    ensures height { (c : Context) (tokens : List (ℕ × Token)) (tree : Seq) →
-        is_straight tree ≡ true → Tree (tokens_of tokens) tree → greatest (places_of c tree) < length tokens }
+        Tree (tokens_of code.tokens) tree → TreeIsInRange tree }
     ensures count { (first : ℕ) (bytes : List ℕ) → length (body_read first bytes).code.tokens ≤ length bytes }
 {}
 

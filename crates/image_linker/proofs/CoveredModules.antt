@@ -15,23 +15,23 @@ use Rattle.wasm_defs.specs.Context.{context_of, functions_of}
 use Rattle.image_linker.specs.ImageOf.{layout_of}
 
 -- the k-th body
-pub record IsStraightBody (items : List Item) (k : ℕ) (b : Body) (tree : Seq) : Type 0 where
+pub record IsCoveredBody (items : List Item) (k : ℕ) (b : Body) (tree : Seq) : Type 0 where
   pub covered : IsCovered tree
   pub typed : IsBody (context_at items k b) tree
   pub few_params : length (function_of items k b tree).ty.params ≤ max_params
   pub fits : need (layout_of items k b tree) < 2 ^ 24
 
 -- the bodies, of which the first is the k-th
-abbrev pub AreStraightBodies : List Item → (k : ℕ) → List Body → List Seq → Type 0
-AreStraightBodies items k [] [] = Unit {0}
-AreStraightBodies items k (b ∷ bodies) (tree ∷ trees) = IsStraightBody items k b tree × AreStraightBodies items (suc k) bodies trees
-AreStraightBodies items k bodies trees = ⊥
+abbrev pub AreCoveredBodies : List Item → (k : ℕ) → List Body → List Seq → Type 0
+AreCoveredBodies items k [] [] = Unit {0}
+AreCoveredBodies items k (b ∷ bodies) (tree ∷ trees) = IsCoveredBody items k b tree × AreCoveredBodies items (suc k) bodies trees
+AreCoveredBodies items k bodies trees = ⊥
 
-pub record IsStraightModule (m : Module) : Type 0 where
+pub record IsCoveredModule (m : Module) : Type 0 where
   pub items : ArePlain m.items
   pub spaces : SpacesAreSmall m.items
   pub constants : ConstantsFit m.items
-  pub bodies : AreStraightBodies m.items 0 m.bodies m.trees
+  pub bodies : AreCoveredBodies m.items 0 m.bodies m.trees
   pub functions : length (functions_of m.items) ≡ length m.bodies
   -- exported functions are there
   pub exports : (name : List ℕ) (f : ℕ) → named name (exports_of m.items) ≡ Some f → f < length m.bodies

@@ -1,0 +1,191 @@
+-- The modules that verdicts accept so far are of covered instructions.
+use Rattle.std.proofs.Common.{◌≡◌, ℕ, zero, suc, ◌+◌, ◌<◌, ◌≤◌, ◌&&◌, Option, true, List, [], ◌∷◌, length, None, Some, refl, sym, ap, subst, arith}
+use Rattle.std.proofs.lemmas.Bool.{and_parts, false≢true}
+use Rattle.wasm_defs.specs.declared.item.Item.{Item}
+use Rattle.wasm_defs.specs.declared.types.ValType.TheVariants.{I32, I64}
+use Rattle.wasm_defs.specs.declared.token.Plain.{Plain}
+use Rattle.wasm_defs.specs.declared.token.Plain.TheVariants.{Unreachable, Br, BrIf, BrTable, Return, Nop, Discard, Select, LocalGet, LocalSet, LocalTee, Const, Operate}
+use Rattle.wasm_defs.specs.Context.{type_of_function, context_of, import_count, declared_count, functions_of}
+use Rattle.wasm_defs.specs.Entries.{Seen}
+use Rattle.wasm_defs.specs.Outside.{Body, Ending, Whole, Refused, Owed, module_run}
+use Rattle.wasm_defs.specs.Trees.{Seq, Nothing, Simple, Block, Loop, If, IfElse}
+use Rattle.wasm_defs.specs.Faults.{tokens_of, read_of, context_at, ending_fault, IsValidCode, Module, IsModule}
+use Rattle.wasm_defs.specs.Instances.{exports_of, named}
+use Rattle.wasm_laws.specs.Behind.{AreValidIn}
+use Rattle.wasm_laws.specs.Kept.{TypesAreSmall, BodyIsSmall, BodiesAreSmall, SpacesAreSmall, ConstantsFit, AreThere}
+use Rattle.wasm_laws.specs.Plain.{ArePlain}
+use Rattle.wasm_laws.specs.Sections.{AreBytes}
+use Rattle.wasm_laws.specs.Compiled.{is_compiled_plain, is_compiled_type, is_compiled, IsInRange, TreeIsInRange}
+use Rattle.wasm_laws.proofs.Behind.{bodies_are_valid}
+use Rattle.wasm_laws.proofs.Bytes.{each_byte, HaveBytes, bodies_have_bytes}
+use Rattle.wasm_laws.proofs.Constants.{constants_fit}
+use Rattle.wasm_laws.proofs.Counts.{bodies_match}
+use Rattle.wasm_laws.proofs.Exports.{types_are_small, function_is_small, exports_are_there, named_is_there}
+use Rattle.wasm_laws.proofs.Counting.{tokens_are_few}
+use Rattle.wasm_laws.proofs.Locals.{bodies_are_small}
+use Rattle.wasm_laws.proofs.Plain.{items_are_plain, plain_has_no_more}
+use Rattle.wasm_laws.proofs.Ranges.{constant_fits, long_constant_fits, tree_is_in_range}
+use Rattle.wasm_laws.proofs.Spaces.{spaces_are_small}
+use Rattle.wasm_laws.proofs.Compiled.{tree_is_compiled}
+use Rattle.wasm_laws.proofs.Typed.{functions_of-counts}
+use Rattle.sim_frames.specs.Covered.{IsCoveredStep, IsCovered}
+use Rattle.wasm_defs.specs.Typing.{Types, Context, inside, function_type}
+use Rattle.std.specs.Prelude.{slice_get}
+use Rattle.std.proofs.lemmas.List.{length-reverse}
+use Rattle.wasm_defs.specs.declared.types.FuncType.{FuncType}
+use Rattle.wasm_defs.specs.declared.token.BlockType.{BlockType}
+use Rattle.wasm_defs.specs.declared.token.BlockType.TheVariants.{Empty, Value, Index}
+use Rattle.wasm_defs.specs.declared.token.Token.{Token}
+use Rattle.wasm_defs.specs.declared.token.Token.TheVariants as token
+use Rattle.sim_frames.proofs.Lows.{TakesOne, IsFew, FewIn, body_low, tokens_spelled}
+use Rattle.image_linker.proofs.CoveredModules.{IsCoveredBody, AreCoveredBodies, IsCoveredModule}
+
+-- ---- bodies
+
+covered_step : (p : Plain) → is_compiled_plain p ≡ true → IsInRange p → IsCoveredStep p
+covered_step Unreachable e range = tt
+covered_step Nop e range = tt
+covered_step (Br l) e range = tt
+covered_step (BrIf l) e range = tt
+covered_step (BrTable ls l) e range = tt
+covered_step Return e range = tt
+covered_step Discard e range = tt
+covered_step Select e range = tt
+covered_step (LocalGet x) e range = tt
+covered_step (LocalSet x) e range = tt
+covered_step (LocalTee x) e range = tt
+covered_step (Const I32 n) e range = constant_fits n range
+covered_step (Const I64 n) e range = long_constant_fits n range
+covered_step (Operate op) e range = tt
+covered_step p e range = absurd (false≢true e)
+
+takes_one : (c : Context) (type : BlockType) → is_compiled_type type ≡ true → TakesOne c type
+takes_one c Empty e = (omega arith, omega arith)
+takes_one c (Value t) e = (omega arith, omega arith)
+takes_one c (Index x) e = absurd (false≢true e)
+
+covered_tree : (c : Context) (tree : Seq) → is_compiled tree ≡ true → TreeIsInRange tree → IsCovered tree × IsFew c tree
+covered_tree c Nothing e range = (tt, tt)
+covered_tree c (Simple p rest) e range =
+    let parts = and_parts (is_compiled_plain p) (is_compiled rest) e in
+    let more = covered_tree c rest parts.1 range.1 in
+    let step = covered_step p parts.0 range.0 in
+    ((step, more.0), (step, more.1))
+covered_tree c (Block type body rest) e range =
+    let parts = and_parts (is_compiled_type type) (is_compiled body && is_compiled rest) e in
+    let both = and_parts (is_compiled body) (is_compiled rest) parts.1 in
+    let first = covered_tree c body both.0 range.0 in
+    let more = covered_tree c rest both.1 range.1 in
+    ((first.0, more.0), (takes_one c type parts.0, first.1, more.1))
+covered_tree c (Loop type body rest) e range =
+    let parts = and_parts (is_compiled_type type) (is_compiled body && is_compiled rest) e in
+    let both = and_parts (is_compiled body) (is_compiled rest) parts.1 in
+    let first = covered_tree c body both.0 range.0 in
+    let more = covered_tree c rest both.1 range.1 in
+    ((first.0, more.0), (takes_one c type parts.0, first.1, more.1))
+covered_tree c (If type body rest) e range =
+    let parts = and_parts (is_compiled_type type) (is_compiled body && is_compiled rest) e in
+    let both = and_parts (is_compiled body) (is_compiled rest) parts.1 in
+    let first = covered_tree c body both.0 range.0 in
+    let more = covered_tree c rest both.1 range.1 in
+    ((first.0, more.0), (takes_one c type parts.0, first.1, more.1))
+covered_tree c (IfElse type body other rest) e range =
+    let parts = and_parts (is_compiled_type type) (is_compiled body && (is_compiled other && is_compiled rest)) e in
+    let both = and_parts (is_compiled body) (is_compiled other && is_compiled rest) parts.1 in
+    let others = and_parts (is_compiled other) (is_compiled rest) both.1 in
+    let first = covered_tree c body both.0 range.0 in
+    let second = covered_tree c other others.0 range.1 in
+    let more = covered_tree c rest others.1 range.2 in
+    ((first.0, second.0, more.0), (takes_one c type parts.0, first.1, second.1, more.1))
+
+small_at : (ts : List FuncType) → TypesAreSmall ts → (i : ℕ) (t : FuncType) → slice_get ts i ≡ Some t → length t.results ≤ 1
+small_at [] small i t e = absurd cc
+small_at (u ∷ ts) small zero t e = let same : u ≡ t = cc in subst (λ (v : FuncType). length v.results ≤ 1) same small.0.results
+small_at (u ∷ ts) small (suc i) t e = small_at ts small.1 i t e
+
+few_functions : (c : Context) → TypesAreSmall c.types → (f : ℕ) (t : FuncType) → function_type c f ≡ Some t → length t.results ≤ 1
+few_functions c small f t e = by (slice_get c.functions f) refl
+  where
+    by : (o : Option ℕ) → slice_get c.functions f ≡ o → length t.results ≤ 1
+    by None is = let h : None ≡ Some t = rw is at e in absurd cc
+    by (Some i) is = let h : slice_get c.types i ≡ Some t = rw is at e in small_at c.types small i t h
+
+few_in : (c : Context) → TypesAreSmall c.types → c.labels ≡ [] → length c.results ≤ 1 → FewIn (inside c c.results)
+few_in c small none one = record { labels = labels; functions = few_functions c small }
+  where
+    none_there : (ls : List Types) (l : ℕ) (ts : Types) → ls ≡ [] → slice_get ls l ≡ Some ts → length ts ≤ 1
+    none_there [] l ts e is = absurd cc
+    none_there (x ∷ xs) l ts e is = absurd cc
+
+    labels : (l : ℕ) (ts : Types) → slice_get (c.results ∷ c.labels) l ≡ Some ts → length ts ≤ 1
+    labels zero ts is = let same : c.results ≡ ts = cc in subst (λ (us : Types). length us ≤ 1) same one
+    labels (suc l) ts is = none_there c.labels l ts none is
+
+tokens_length : (ts : List (ℕ × Token)) → length (tokens_of ts) ≡ length ts
+tokens_length [] = refl
+tokens_length (t ∷ ts) = ap suc (tokens_length ts)
+
+module _ (items : List Item) (types : TypesAreSmall (context_of items).types) where
+  covered_body : (k : ℕ) (b : Body) (tree : Seq) → AreBytes b.bytes → BodyIsSmall b → IsValidCode (context_at items k b) (read_of b).code tree → IsCoveredBody items k b tree
+  covered_body k b tree bytes small valid =
+      let c = context_at items k b in
+      let tokens = (read_of b).code.tokens in
+      let is = tree_is_compiled b.first b.bytes tree valid.compiled valid.tree_is in
+      let range = tree_is_in_range b.first b.bytes tree (each_byte b.bytes bytes) valid.tree_is in
+      let ty = function_is_small (context_of items) (import_count items + k) types in
+      let tree_is = covered_tree c tree is range in
+      let low = body_low c c tree refl (few_in c types refl (omega (arith, ty.results, length-reverse (type_of_function (context_of items) (import_count items + k)).results))) tree_is.1 in
+      let count = ap length valid.tree_is in
+      let spelt = tokens_spelled tree (token.End ∷ []) in
+      let whole = tokens_length tokens in
+      let few = tokens_are_few b.first b.bytes in
+      let locals = small.locals in
+      record {
+        covered = tree_is.0;
+        typed = valid.typed;
+        few_params = ty.params;
+        fits = omega (arith, ty.params, small.most, low, count, spelt, whole, few);
+      }
+
+  covered_bodies : (k : ℕ) (bodies : List Body) (trees : List Seq) → HaveBytes bodies → BodiesAreSmall bodies → AreValidIn items k bodies trees → AreCoveredBodies items k bodies trees
+  covered_bodies k [] [] bytes small valid = tt
+  covered_bodies k [] (tree ∷ trees) bytes small valid = absurd valid
+  covered_bodies k (b ∷ bodies) [] bytes small valid = absurd valid
+  covered_bodies k (b ∷ bodies) (tree ∷ trees) bytes small valid =
+      (covered_body k b tree bytes.0 small.0 valid.0, covered_bodies (suc k) bodies trees bytes.1 small.1 valid.1)
+
+-- ---- modules
+
+no_fault : (len : ℕ) (ending : Ending) → ending_fault len ending ≡ None → (seen : Seen) × (ending ≡ Whole seen)
+no_fault len (Whole seen) e = (seen, refl)
+no_fault len (Refused r) e = absurd cc
+no_fault len Owed e = absurd cc
+
+module _ (bytes : List ℕ) (m : Module) (fits : AreBytes bytes) (is : IsModule bytes m) where
+  plain : ArePlain m.items
+  plain = subst ArePlain (sym is.items) (items_are_plain bytes is.compiled)
+
+  -- as many functions as bodies
+  functions_match : length (functions_of m.items) ≡ length m.bodies
+  functions_match =
+      let whole = no_fault (length bytes) (module_run bytes).ending is.whole in
+      let matched = bodies_match bytes whole.0 whole.1 in
+      omega (arith, functions_of-counts m.items, (plain_has_no_more m.items plain).imports, matched, ap declared_count is.items, ap length is.bodies)
+
+  exported : (name : List ℕ) (f : ℕ) → named name (exports_of m.items) ≡ Some f → f < length m.bodies
+  exported name f e =
+      let there : AreThere (context_of m.items) (length (functions_of m.items)) (exports_of m.items) =
+      subst (λ (items : List Item). AreThere (context_of items) (length (functions_of items)) (exports_of items)) (sym is.items) (exports_are_there bytes) in
+      omega (arith, (named_is_there (context_of m.items) (length (functions_of m.items)) name (exports_of m.items) f there e).function, functions_match)
+
+  pub module_is_covered : IsCoveredModule m
+  module_is_covered = record {
+    items = plain;
+    spaces = subst SpacesAreSmall (sym is.items) (spaces_are_small bytes);
+    constants = subst ConstantsFit (sym is.items) (constants_fit bytes fits);
+    bodies =
+        covered_bodies m.items (subst (λ (items : List Item). TypesAreSmall (context_of items).types) (sym is.items) (types_are_small bytes)) 0 m.bodies m.trees
+        (subst HaveBytes (sym is.bodies) (bodies_have_bytes bytes fits)) (subst BodiesAreSmall (sym is.bodies) (bodies_are_small bytes)) (bodies_are_valid bytes m is);
+    functions = functions_match;
+    exports = exported;
+  }

@@ -1,0 +1,65 @@
+-- Each token takes a byte.
+use Rattle.std.proofs.Common.{◌≡◌, ℕ, zero, suc, ◌+◌, ◌≤◌, ◌<◌, true, List, [], ◌∷◌, Option, None, Some, length, refl, ap, arith}
+use Rattle.std.specs.Prelude.{slice_get}
+use Rattle.std.proofs.lemmas.Bool.{and_parts}
+use Rattle.wasm_defs.specs.declared.operation.Operation.{Operation}
+use Rattle.wasm_defs.specs.declared.operation.Operation.TheVariants.{Unary, Test, Binary, Compare, Convert}
+use Rattle.wasm_defs.specs.declared.operation.ConvertOp.TheVariants.{Wrap, ExtendS, ExtendU}
+use Rattle.wasm_defs.specs.declared.token.Plain.{Plain}
+use Rattle.wasm_defs.specs.declared.token.Plain.TheVariants.{Nop, Discard, Select, LocalGet, LocalSet, LocalTee, Const, Operate}
+use Rattle.wasm_defs.specs.declared.token.Token.{Token}
+use Rattle.wasm_defs.specs.declared.token.Token.TheVariants as token
+use Rattle.wasm_defs.specs.declared.types.ValType.{ValType}
+use Rattle.wasm_defs.specs.Bodies.{Group, local_groups, instruction, depth_after, Spelled, closed, after_opcode, after_token, goes_on, spelled_from, body_cursor, last_of, read_code, body_read}
+use Rattle.wasm_defs.specs.Faults.{first_outside, tokens_of}
+use Rattle.wasm_defs.specs.Supported.{is_compiled_opcode}
+use Rattle.wasm_defs.specs.Fields.{Cursor, Read, Got, Fault, Wants, byte}
+use Rattle.wasm_defs.specs.Places.{Place, moved, after_rule, end_of, places, places_of, higher, greatest}
+use Rattle.wasm_defs.specs.Trees.{Seq, Nothing, Simple, Block, Loop, If, IfElse, spelled, Tree}
+use Rattle.wasm_defs.specs.Typing.{Types, Context, inside, Fixed, with_type, rule_of, operated}
+use Rattle.wasm_laws.specs.Steadiness.{Advances, LeavesFewer}
+use Rattle.wasm_laws.proofs.Steady.{moves_of, here_in}
+use Rattle.wasm_laws.proofs.Windows.{byte_field}
+use Rattle.wasm_laws.proofs.Takes.{field_takes}
+use Rattle.wasm_laws.proofs.BodyLaws.{local_groups_steady, instruction_steady}
+
+-- ---- tokens take bytes
+
+-- no more tokens than so many
+record Few (most : ℕ) (s : Spelled) : Type 0 where
+  tokens : length s.tokens ≤ most
+
+few_more : (n m : ℕ) (s : Spelled) → n ≤ m → Few n s → Few m s
+few_more n m s le h = record { tokens = omega (arith, h.tokens) }
+
+token_few : (last : ℕ) (b : ℕ × ℕ) (d : Cursor) (x : Read Token) (f : Token → Cursor → Spelled) → Advances d x → ((t : Token) (e : Cursor) → Few (length e.rest) (f t e)) → Few (suc (length d.rest)) (after_opcode b (goes_on last x (λ t e. after_token b.0 t (f t e))))
+token_few last b d (Got t e) f moves h = let m = moves_of d e moves in let r = h t e in record { tokens = omega (arith, r.tokens, m.rest) }
+token_few last b d (Fault r) f moves h = record { tokens = omega arith }
+token_few last b d Wants f moves h = record { tokens = omega arith }
+
+opcode_few : (last : ℕ) (c : Cursor) (x : Read (ℕ × ℕ)) (f : ℕ × ℕ → Cursor → Spelled) → LeavesFewer c x → ((b : ℕ × ℕ) (d : Cursor) → Few (suc (length d.rest)) (f b d)) → Few (length c.rest) (goes_on last x f)
+opcode_few last c (Got b d) f fewer h = few_more (suc (length d.rest)) (length c.rest) (f b d) (omega arith) (h b d)
+opcode_few last c (Fault r) f fewer h = record { tokens = omega arith }
+opcode_few last c Wants f fewer h = record { tokens = omega arith }
+
+closed_few : (most at : ℕ) (rest : List ℕ) → Few most (closed at rest)
+closed_few most at [] = record { tokens = omega arith }
+closed_few most at (b ∷ rest) = record { tokens = omega arith }
+
+spelled_few : (n depth last : ℕ) (c : Cursor) → Few (length c.rest) (spelled_from n depth last c)
+unfolding spelled_from
+spelled_few zero depth last c = record { tokens = omega arith }
+spelled_few (suc n) zero last c = closed_few (length c.rest) c.at c.rest
+spelled_few (suc n) (suc depth) last c =
+    opcode_few last c (byte c) _ ((field_takes byte byte_field).some c)
+    (λ b d. token_few last b d (instruction b.0 b.1 d) (λ t e. spelled_from n (depth_after t (suc depth)) last e) ((instruction_steady (b.0 ∷ []) b.0 b.1 here_in).moves d) (λ t e. spelled_few n (depth_after t (suc depth)) last e))
+
+read_few : (last n : ℕ) (c : Cursor) (x : Read (List Group)) → Advances c x → Few (length c.rest) (read_code last x n).code
+read_few last n c (Got gs d) moves = let m = moves_of c d moves in few_more (length d.rest) (length c.rest) (spelled_from n 1 last d) (omega (arith, m.rest)) (spelled_few n 1 last d)
+read_few last n c (Fault r) moves = record { tokens = omega arith }
+read_few last n c Wants moves = record { tokens = omega arith }
+
+pub tokens_are_few : (first : ℕ) (bytes : List ℕ) → length (body_read first bytes).code.tokens ≤ length bytes
+tokens_are_few first bytes =
+    let c = body_cursor first bytes in
+    (read_few (last_of first bytes) (length bytes + 1) c (local_groups c) ((local_groups_steady []).moves c)).tokens
