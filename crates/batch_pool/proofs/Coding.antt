@@ -7,11 +7,11 @@ use Rattle.wasm_defs.specs.Bodies.{body_read}
 use Rattle.wasm_defs.specs.Typing.{Context}
 use Rattle.wasm_laws.proofs.Verdicts.{code_fault_inside}
 use Rattle.body_cutter.specs.declared.body.Body.{Body}
-use Rattle.body_compiler.specs.declared.judging.BodyStop.TheVariants.{Refused}
+use Rattle.body_compiler.specs.declared.code.BodyStop.TheVariants.{Refused}
 use Rattle.body_compiler.specs.Compiling.{context_of_body}
 use Rattle.batch_pool.specs.declared.row.RowCode.{RowCode}
 use Rattle.batch_pool.specs.Low.{IsLowBody}
-use Rattle.body_compiler.specs.declared.judging.BodyStop.{BodyStop}
+use Rattle.body_compiler.specs.declared.code.BodyStop.{BodyStop}
 use Rattle.body_compiler.specs.Compiling.{Compiles}
 use Rattle.batch_pool.specs.declared.bodies.Made.TheVariants.{Faulty}
 use Rattle.batch_pool.specs.Working.{CompilesBody, IsCodeFor, AreCodesFor, IsRow, IsMade, FitsBody}

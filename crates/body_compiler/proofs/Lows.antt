@@ -1,5 +1,5 @@
 -- Heights rise by one at most with each token that is taken.
-use Rattle.std.proofs.Common.{◌≡◌, ◌≤◌, inl, inr, ℕ, zero, suc, ◌+◌, ◌-◌, Bool, true, false, List, [], ◌∷◌, ◌++◌, length, max, Option, None, Some, refl, sym, ap, ◌∙◌, subst, arith, length-append}
+use Rattle.std.proofs.Common.{◌≡◌, ◌≤◌, inl, inr, ℕ, zero, suc, ◌+◌, ◌-◌, Bool, true, false, List, [], ◌∷◌, ◌++◌, length, Option, None, Some, refl, ap, ◌∙◌, subst, arith, length-append}
 use Rattle.std.specs.Prelude.{slice_get}
 use Rattle.wasm_defs.specs.declared.operation.Operation.{Operation}
 use Rattle.wasm_defs.specs.declared.operation.Operation.TheVariants.{Unary, Test, Binary, Compare, Convert}
@@ -12,9 +12,9 @@ use Rattle.wasm_defs.specs.declared.token.Token.{Token}
 use Rattle.wasm_defs.specs.declared.token.Token.TheVariants as token
 use Rattle.wasm_defs.specs.declared.types.ValType.{ValType}
 use Rattle.wasm_defs.specs.declared.types.ValType.TheVariants.{I32}
-use Rattle.wasm_defs.specs.Places.{Place, higher}
+use Rattle.wasm_defs.specs.Places.{higher}
 use Rattle.wasm_defs.specs.Typing.{Types, Signature, Context, Rule, Untyped, Fixed, Stops, Discards, Selects, with_type, only_if, are_labels, rule_of, operated, block_type}
-use Rattle.wasm_laws.specs.Straight.{is_straight_plain}
+use Rattle.body_compiler.specs.Emitted.{is_straight_plain}
 use Rattle.body_validator.specs.declared.stack.Opening.{Opening}
 use Rattle.body_validator.specs.declared.stack.Opening.TheVariants.{Block as Blocks, Loop as Loops, If as Ifs, Else as Elses}
 use Rattle.body_validator.specs.Checking.{Operand, Operands, Frame, Frames, ◌>>=◌, guarded, known, take_one, take_all, Taken, take_any, joined, put, apply, applied, label_of, at, enter, fresh, receive, step, height, starts_live, place_of, measured, Checker, step_checker}

@@ -1,5 +1,5 @@
 -- Labels that are opened: what a block's type says of them.
-use Rattle.std.proofs.Common.{◌≡◌, ◌-◌, ℕ, Bool, true, false, [], length, Result, Ok, Err, refl, sym, ap, ◌∙◌, subst, arith}
+use Rattle.std.proofs.Common.{◌≡◌, ◌-◌, ℕ, Bool, true, false, [], length, refl, sym, ap, ◌∙◌, subst, arith}
 use Rattle.wasm_defs.specs.declared.token.BlockType.{BlockType}
 use Rattle.wasm_defs.specs.declared.token.BlockType.TheVariants.{Empty, Value, Index}
 use Rattle.wasm_defs.specs.declared.token.Token.TheVariants as token

@@ -1,5 +1,5 @@
 -- Each frame that is open has its label, and what is taken names some of these.
-use Rattle.std.proofs.Common.{◌≡◌, ◌<◌, ◌≤◌, ℕ, zero, suc, ◌+◌, ◌-◌, Bool, true, false, ◌&&◌, List, [], ◌∷◌, length, Option, None, Some, refl, sym, ap, ◌∙◌, subst, arith}
+use Rattle.std.proofs.Common.{◌≡◌, ◌<◌, ◌≤◌, ℕ, zero, suc, ◌+◌, Bool, true, false, List, [], ◌∷◌, length, Option, None, Some, refl, sym, ap, ◌∙◌, subst, arith}
 use Rattle.std.specs.Prelude.{slice_get}
 use Rattle.wasm_defs.specs.declared.token.Plain.{Plain}
 use Rattle.wasm_defs.specs.declared.token.Plain.TheVariants.{Unreachable, Nop, Br, BrIf, BrTable, Return, Call, CallIndirect, Discard, Select, LocalGet, LocalSet, LocalTee, GlobalGet, GlobalSet, Load, Store, MemorySize, MemoryGrow, Const, Operate}
@@ -8,13 +8,13 @@ use Rattle.wasm_defs.specs.declared.token.Token.TheVariants as token
 use Rattle.wasm_defs.specs.declared.types.ValType.TheVariants.{I32}
 use Rattle.wasm_defs.specs.Bodies.{depth_after}
 use Rattle.wasm_defs.specs.Places.{Place}
-use Rattle.wasm_defs.specs.Typing.{Types, Context, Rule, Untyped, Fixed, Stops, with_type, are_these, are_labels, only_if, rule_of}
+use Rattle.wasm_defs.specs.Typing.{Types, Context, Rule, Fixed, Stops, with_type, are_these, are_labels, only_if, rule_of}
 use Rattle.body_validator.specs.Checking.{Frame, Frames, applied, at, step, step_checker, measured}
 use Rattle.body_validator.specs.Checks.{Checked}
 use Rattle.body_validator.proofs.Options.{through, true_parts}
 use Rattle.frame_layout.specs.Templates.{Around}
 use Rattle.control_emit.specs.Pending.{Pending, AreBelow}
-use Rattle.control_emit.specs.Emits.{Draft, IsHeld}
+use Rattle.control_emit.specs.Emits.{Draft}
 use Rattle.control_emit.specs.Walks.{Step}
 use Rattle.control_emit.proofs.Composing.{count-shapes, count-more}
 use Rattle.wasm_defs.specs.Limits.{max_body}

@@ -9,7 +9,7 @@ use Rattle.wasm_defs.specs.Context.{context_of, import_count, body_context, type
 use Rattle.wasm_defs.specs.Entries.{Seen}
 use Rattle.wasm_defs.specs.Faults.{ending_fault, first_outside, sections_of, tokens_of, read_of, context_at, items_of, bodies_of, IsValidCode, AreValid, Module, IsModule}
 use Rattle.wasm_defs.specs.Items.{Section, ◌then◌, each_is}
-use Rattle.wasm_defs.specs.Outside.{Body, Part, Section as Headed, Listed, Coded, Ending, Whole, Refused, Owed, Run, module_run}
+use Rattle.wasm_defs.specs.Outside.{Body, Part, Section as Headed, Listed, Coded, Ending, Whole, Refused, Owed, Run, module_read}
 use Rattle.wasm_defs.specs.Supported.{is_compiled_section}
 use Rattle.wasm_defs.specs.Trees.{Seq, Tree}
 use Rattle.wasm_defs.specs.Typing.{Context, IsBody}
@@ -79,8 +79,8 @@ items_with (Headed at id ∷ front) x = items_with front x
 items_with (Listed y ∷ front) x = ap (λ (l : List Item). y ∷ l) (items_with front x)
 items_with (Coded a ∷ front) x = items_with front x
 
-valid_at_parts : (bytes : List ℕ) (front : List Part) (items : List Item) (k : ℕ) (parts : List Part) (trees : List Seq) → (module_run bytes).parts ≡ front ++ parts → items_of front ≡ items
-    → AreValidIn (items_of (module_run bytes).parts) k (bodies_of parts) trees → AreValid items k parts trees
+valid_at_parts : (bytes : List ℕ) (front : List Part) (items : List Item) (k : ℕ) (parts : List Part) (trees : List Seq) → (module_read bytes).parts ≡ front ++ parts → items_of front ≡ items
+    → AreValidIn (items_of (module_read bytes).parts) k (bodies_of parts) trees → AreValid items k parts trees
 valid_at_parts bytes front items k [] [] e same h = tt
 valid_at_parts bytes front items k [] (tree ∷ trees) e same h = absurd h
 valid_at_parts bytes front items k (Headed at id ∷ parts) trees e same h =
@@ -89,7 +89,7 @@ valid_at_parts bytes front items k (Listed x ∷ parts) trees e same h =
     valid_at_parts bytes (front ++ Listed x ∷ []) (items ++ x ∷ []) k parts trees (e ∙ sym (append_assoc front (Listed x ∷ []) parts)) (items_with front (Listed x) ∙ ap (λ (l : List Item). l ++ x ∷ []) same) h
 valid_at_parts bytes front items k (Coded b ∷ parts) [] e same h = absurd h
 valid_at_parts bytes front items k (Coded b ∷ parts) (tree ∷ trees) e same h =
-    let all = items_of (module_run bytes).parts in
+    let all = items_of (module_read bytes).parts in
     let stands = bodies_stand_behind bytes front b parts e in
     let here : context_at all k b ≡ context_at items k b = same_context all (items_of front) k b stands.same ∙ ap (λ (l : List Item). context_at l k b) same in (
       subst (λ (c : Context). IsValidCode c (read_of b).code tree) here h.0,
@@ -105,7 +105,7 @@ whole_ending len Owed e = absurd cc
 
 pub module_is_spelled : (bytes : List ℕ) (m : Module) → AreBytes bytes → IsModule bytes m → (sections : List Section) × IsSpelledModule bytes m sections
 module_is_spelled bytes m fits is =
-    let run = module_run bytes in
+    let run = module_read bytes in
     let whole = whole_ending (length bytes) run.ending is.whole in
     let d = whole_is_described bytes run.parts (each_byte bytes fits) whole.0 (ap (λ (z : Ending). record { parts = run.parts; ending = z }) whole.1) in
     let valid = valid_are_spelled m.items 0 m.bodies m.trees (subst HaveBytes (sym is.bodies) (bodies_have_bytes bytes fits)) (bodies_are_valid bytes m is) in (
@@ -122,15 +122,15 @@ module_is_spelled bytes m fits is =
 pub spelled_is_module : (bytes : List ℕ) (m : Module) (sections : List Section) → IsSpelledModule bytes m sections → IsModule bytes m
 spelled_is_module bytes m sections s =
     let w = described_is_whole bytes sections s.is in
-    let parts : (module_run bytes).parts ≡ parts_in sections = ap (λ (r : Run). r.parts) w.1 in
-    let items : m.items ≡ items_of (module_run bytes).parts = s.items ∙ sym (items_of_parts sections) ∙ ap items_of (sym parts) in
-    let bodies : m.bodies ≡ bodies_of (module_run bytes).parts = s.bodies ∙ sym (bodies_of_parts sections) ∙ ap bodies_of (sym parts) in
+    let parts : (module_read bytes).parts ≡ parts_in sections = ap (λ (r : Run). r.parts) w.1 in
+    let items : m.items ≡ items_of (module_read bytes).parts = s.items ∙ sym (items_of_parts sections) ∙ ap items_of (sym parts) in
+    let bodies : m.bodies ≡ bodies_of (module_read bytes).parts = s.bodies ∙ sym (bodies_of_parts sections) ∙ ap bodies_of (sym parts) in
     let valid = spelled_are_valid m.items 0 m.bodies m.trees s.spelled in
     record {
       whole = ap (λ (r : Run). ending_fault (length bytes) r.ending) w.1;
       compiled = ap (λ (l : List Part). first_outside is_compiled_section (sections_of l)) parts ∙ s.compiled;
       items = items;
       bodies = bodies;
-      valid = valid_at_parts bytes [] [] 0 (module_run bytes).parts m.trees refl refl
-          (subst (λ (l : List Body). AreValidIn (items_of (module_run bytes).parts) 0 l m.trees) bodies (subst (λ (l : List Item). AreValidIn l 0 m.bodies m.trees) items valid));
+      valid = valid_at_parts bytes [] [] 0 (module_read bytes).parts m.trees refl refl
+          (subst (λ (l : List Body). AreValidIn (items_of (module_read bytes).parts) 0 l m.trees) bodies (subst (λ (l : List Item). AreValidIn l 0 m.bodies m.trees) items valid));
     }

@@ -7,7 +7,7 @@ use Rattle.wasm_defs.specs.declared.token.Plain.{Plain}
 use Rattle.wasm_defs.specs.declared.token.Plain.TheVariants.{Unreachable, Br, BrIf, BrTable, Return, Nop, Discard, Select, LocalGet, LocalSet, LocalTee, Const, Operate}
 use Rattle.wasm_defs.specs.Context.{type_of_function, context_of, import_count, declared_count, functions_of}
 use Rattle.wasm_defs.specs.Entries.{Seen}
-use Rattle.wasm_defs.specs.Outside.{Body, Ending, Whole, Refused, Owed, module_run}
+use Rattle.wasm_defs.specs.Outside.{Body, Ending, Whole, Refused, Owed, module_read}
 use Rattle.wasm_defs.specs.Trees.{Seq, Nothing, Simple, Block, Loop, If, IfElse}
 use Rattle.wasm_defs.specs.Faults.{tokens_of, read_of, context_at, ending_fault, IsValidCode, Module, IsModule}
 use Rattle.wasm_defs.specs.Instances.{exports_of, named}
@@ -168,7 +168,7 @@ module _ (bytes : List ℕ) (m : Module) (fits : AreBytes bytes) (is : IsModule 
   -- as many functions as bodies
   functions_match : length (functions_of m.items) ≡ length m.bodies
   functions_match =
-      let whole = no_fault (length bytes) (module_run bytes).ending is.whole in
+      let whole = no_fault (length bytes) (module_read bytes).ending is.whole in
       let matched = bodies_match bytes whole.0 whole.1 in
       omega (arith, functions_of-counts m.items, (plain_has_no_more m.items plain).imports, matched, ap declared_count is.items, ap length is.bodies)
 

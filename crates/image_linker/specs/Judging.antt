@@ -5,7 +5,7 @@ use Rattle.wasm_defs.specs.declared.fault.Kind.TheVariants.{Malformed, Unsupport
 use Rattle.wasm_defs.specs.declared.fault.Refusal.{Refusal}
 use Rattle.wasm_defs.specs.declared.item.Item.{Item}
 use Rattle.wasm_defs.specs.Limits.{max_text}
-use Rattle.wasm_defs.specs.Outside.{Part, Section, Listed, Coded, Body, module_run}
+use Rattle.wasm_defs.specs.Outside.{Part, Section, Listed, Coded, Body, module_read}
 use Rattle.wasm_defs.specs.Trees.{Seq}
 use Rattle.wasm_defs.specs.Faults.{IsFault, IsValidCode, read_of, context_at, Module, IsModule, Verdict, Accepted, Rejected}
 use Rattle.image_linker.specs.ImageOf.{front_size, size_of}
@@ -34,7 +34,7 @@ IsTextFault items k words (Coded b ∷ parts) r =
     ⊎ ((text_bytes items (words + size_of items k b tree) ≤ max_text) × IsTextFault items (suc k) (words + size_of items k b tree) parts r))
 
 abbrev pub IsFaultOf : List ℕ → Refusal → Type 0
-IsFaultOf bytes r = IsFault bytes r ⊎ IsTextFault [] 0 0 (module_run bytes).parts r
+IsFaultOf bytes r = IsFault bytes r ⊎ IsTextFault [] 0 0 (module_read bytes).parts r
 
 -- a module whose text keeps the limit
 pub record IsModuleOf (bytes : List ℕ) (m : Module) : Type 0 where

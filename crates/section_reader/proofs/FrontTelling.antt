@@ -63,7 +63,7 @@ stalled_is (Entries id n) seen c some e = owing_is _ _ e
 
 -- ---- bytes that are kept
 
--- where what is read next isn't whole, the module's run is owing as the outline's is
+-- where what is read next isn't whole, the module's reading is owing as the outline's is
 wanting_stalls : (stage : Stage) (seen : Seen) (c : Cursor) → IsOrdered stage seen → is_wanting stage seen c ≡ true → is_stalled stage (onward stage seen c) ≡ true
 wanting_stalls Preamble seen c o h = absurd cc
 wanting_stalls Between seen c o h = absurd cc

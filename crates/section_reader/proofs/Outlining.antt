@@ -1,4 +1,4 @@
--- The outline has the items and the ending of the module's run, but where reading stops among the bodies.
+-- The outline has the items and the ending of the module's reading, but where reading stops among the bodies.
 use Rattle.std.proofs.Common.{◌≡◌, ◌≢◌, ℕ, zero, suc, ◌+◌, ◌-◌, ◌<◌, ◌≤◌, Bool, true, false, ltb, if◌then◌else◌, ◌||◌, List, [], ◌∷◌, length, drop, refl, sym, ap, subst, ◌∙◌, arith, add-one, length-append, length-take, inl, inr}
 use Rattle.std.proofs.lemmas.Bool.{cases_Bool, cases_eq, eqb-true, le-ltb}
 use Rattle.std.proofs.Math.Seq.{drop-append_seam}
@@ -8,7 +8,7 @@ use Rattle.wasm_defs.specs.Limits.{max_body}
 use Rattle.wasm_defs.specs.declared.fault.Kind.TheVariants.{Malformed, Limit}
 use Rattle.wasm_defs.specs.Fields.{Cursor, Read, Got, Fault, Wants, ◌>>=◌, done, refused, then_go, room_of, window, past, u32, run, room, here}
 use Rattle.wasm_defs.specs.Entries.{Seen, note, nothing, code}
-use Rattle.wasm_defs.specs.Outside.{Part, Section, Listed, Coded, Body, Nothing, rest_of_section, body, listed, code_entry, Row, row, Ending, Whole, Owed, Refused, Run, ends, after_part, runs_on, noted, entered, inside, no_end, preamble, header, finish, entries, contents, sections, or_section, section_end, beginning, module_run}
+use Rattle.wasm_defs.specs.Outside.{Part, Section, Listed, Coded, Body, Nothing, rest_of_section, body, listed, code_entry, Row, row, Ending, Whole, Owed, Refused, Run, ends, after_part, runs_on, noted, entered, inside, no_end, preamble, header, finish, entries, contents, sections, or_section, section_end, beginning, module_read}
 use Rattle.wasm_laws.specs.Steadiness.{IfGot, Advance}
 use Rattle.wasm_laws.proofs.Steady.{no_advance, advance_then}
 use Rattle.wasm_laws.proofs.RowLaws.{end_steady}
@@ -222,12 +222,12 @@ sections_match : (n : ℕ) → NextMatch n
 sections_match zero seen c few o = absurd (omega arith)
 sections_match (suc n) seen c few o = rw (sections_are seen c, outline_is seen c) (section_match n (sections_match n) seen c o (omega arith) c.rest)
 
-modules_match : (bytes : List ℕ) → MatchesAll (module_run bytes) (outline bytes)
+modules_match : (bytes : List ℕ) → MatchesAll (module_read bytes) (outline bytes)
 modules_match bytes =
     runs_match (preamble (beginning bytes)) _ _ (λ x c is. sections_match (length c.rest + 1) nothing c (omega arith) (record { late = λ e. absurd cc; code = λ e. absurd cc }))
 
-pub outline_of_whole : (bytes : List ℕ) (seen : Seen) → (module_run bytes).ending ≡ Whole seen → IsOutlined (module_run bytes) (outline bytes)
+pub outline_of_whole : (bytes : List ℕ) (seen : Seen) → (module_read bytes).ending ≡ Whole seen → IsOutlined (module_read bytes) (outline bytes)
 outline_of_whole bytes seen e = (modules_match bytes false).whole seen e
 
-pub outline_apart : (bytes : List ℕ) → in_bodies false (module_run bytes).parts ≡ false → IsOutlined (module_run bytes) (outline bytes)
+pub outline_apart : (bytes : List ℕ) → in_bodies false (module_read bytes).parts ≡ false → IsOutlined (module_read bytes) (outline bytes)
 outline_apart bytes e = (modules_match bytes false).apart e

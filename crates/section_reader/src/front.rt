@@ -3,7 +3,7 @@
 ghost use Rattle.std.specs.Prelude.{◌≡◌, ◌≤◌, ◌<◌, ◌+◌, ◌^◌, ℕ, List, ◌++◌, length, [], true, false, None, Ok, Err, IfSome, IsSome, OnOk, is_some};
 ghost use Rattle.std.proofs.Props.{props};
 ghost use Rattle.wasm_defs.specs.Faults.{ending_fault};
-ghost use Rattle.wasm_defs.specs.Outside.{module_run, sections, no_end};
+ghost use Rattle.wasm_defs.specs.Outside.{module_read, sections, no_end};
 ghost use Rattle.section_reader.specs.Counts.{IsWithin};
 ghost use Rattle.section_reader.specs.Onward.{IsOrdered, IsBehind, IsStalled};
 ghost use Rattle.section_reader.specs.Outline.{outline};
@@ -60,7 +60,7 @@ impl Front {
     pub fn new(alloc: Global) -> Front
         ensures left { (more : List ℕ) → left result more ≡ outline more }
         ensures idle { result.waiting ≡ None }
-        ensures onward { (more : List ℕ) → onward_left result more ≡ module_run more }
+        ensures onward { (more : List ℕ) → onward_left result more ≡ module_read more }
         ensures total { total result ≡ 0 }
         ensures apart { is_at_bodies result.steps.stage ≡ false }
         ensures uncompiled { result.steps.uncompiled ≡ None }

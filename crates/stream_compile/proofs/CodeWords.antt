@@ -5,7 +5,7 @@ use Rattle.std.proofs.lemmas.List.{append-nil}
 use Rattle.rv_isa.specs.declared.compiled.Code.{Code}
 use Rattle.wasm_defs.specs.declared.item.Item.{Item}
 use Rattle.wasm_defs.specs.Trees.{Seq}
-use Rattle.wasm_defs.specs.Outside.{Part, Section, Listed, Coded, Body, module_run}
+use Rattle.wasm_defs.specs.Outside.{Part, Section, Listed, Coded, Body, module_read}
 use Rattle.wasm_defs.specs.Typing.{Context}
 use Rattle.wasm_defs.specs.declared.item.Limits.{Limits}
 use Rattle.wasm_defs.specs.Context.{context_of, import_count, tables_of, body_context, type_of_function, declared_types}
@@ -110,8 +110,8 @@ module _ (all first : List Item) (same : SayTheSame all first) (k : ℕ) (b : Bo
 -- ---- all codes of a module
 
 -- the codes of the parts, which stand behind others in the module, are those of its bodies by all items
-codes_of_parts : (bytes : List ℕ) (front parts : List Part) (k : ℕ) (trees : List Seq) (codes : List Code) → (module_run bytes).parts ≡ front ++ parts
-    → AreCodes (items_of front) k parts trees codes → AreCodesOf (items_of (module_run bytes).parts) k (bodies_of parts) trees codes
+codes_of_parts : (bytes : List ℕ) (front parts : List Part) (k : ℕ) (trees : List Seq) (codes : List Code) → (module_read bytes).parts ≡ front ++ parts
+    → AreCodes (items_of front) k parts trees codes → AreCodesOf (items_of (module_read bytes).parts) k (bodies_of parts) trees codes
 codes_of_parts bytes front [] k [] [] e h = tt
 codes_of_parts bytes front [] k [] (c ∷ codes) e h = absurd h
 codes_of_parts bytes front [] k (t ∷ trees) codes e h = absurd h
@@ -123,16 +123,16 @@ codes_of_parts bytes front (Listed x ∷ parts) k trees codes e h =
     (rw (items_of-append front (Listed x ∷ [])) h)
 codes_of_parts bytes front (Coded b ∷ parts) k (t ∷ trees) (c ∷ codes) e h =
     let behind = bodies_stand_behind bytes front b parts e in (
-      same_code (items_of (module_run bytes).parts) (items_of front) behind.same k b t c h.0,
+      same_code (items_of (module_read bytes).parts) (items_of front) behind.same k b t c h.0,
       codes_of_parts bytes (front ++ Coded b ∷ []) parts (suc k) trees codes (e ∙ sym (append_assoc front (Coded b ∷ []) parts))
           (rw (items_of-append front (Coded b ∷ []), append-nil (items_of front)) h.1),
     )
 codes_of_parts bytes front (Coded b ∷ parts) k [] codes e h = absurd h
 codes_of_parts bytes front (Coded b ∷ parts) k (t ∷ trees) [] e h = absurd h
 
-pub codes_of_module : (bytes : List ℕ) (trees : List Seq) (codes : List Code) → AreCodes [] 0 (module_run bytes).parts trees codes
-    → AreCodesOf (items_of (module_run bytes).parts) 0 (bodies_of (module_run bytes).parts) trees codes
-codes_of_module bytes trees codes h = codes_of_parts bytes [] (module_run bytes).parts 0 trees codes refl h
+pub codes_of_module : (bytes : List ℕ) (trees : List Seq) (codes : List Code) → AreCodes [] 0 (module_read bytes).parts trees codes
+    → AreCodesOf (items_of (module_read bytes).parts) 0 (bodies_of (module_read bytes).parts) trees codes
+codes_of_module bytes trees codes h = codes_of_parts bytes [] (module_read bytes).parts 0 trees codes refl h
 
 pub words_are_sizes : (items : List Item) (k : ℕ) (bodies : List Body) (trees : List Seq) (codes : List Code) → AreCodesOf items k bodies trees codes → length (words_of codes) ≡ sizes items k bodies trees
 words_are_sizes items k [] [] [] h = refl

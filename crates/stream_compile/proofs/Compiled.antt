@@ -7,7 +7,7 @@ use Rattle.wasm_defs.specs.declared.item.Item.{Item}
 use Rattle.wasm_defs.specs.Limits.{max_text}
 use Rattle.wasm_defs.specs.Trees.{Seq}
 use Rattle.wasm_defs.specs.Entries.{Seen}
-use Rattle.wasm_defs.specs.Outside.{Part, Section, Listed, Coded, Body, Run, Whole, after_part, ends, module_run}
+use Rattle.wasm_defs.specs.Outside.{Part, Section, Listed, Coded, Body, Run, Whole, after_part, ends, module_read}
 use Rattle.wasm_defs.specs.Supported.{is_compiled_section}
 use Rattle.wasm_defs.specs.Faults.{first_outside, ending_fault, sections_of, items_of, bodies_of, earlier, unsupported_at, read_of, context_at, IsCodeFault, IsValidCode, IsFaultInside, Module, IsModule, Rejected}
 use Rattle.wasm_laws.specs.Order.{AreOrdered, BodyStands, end_of, first_section}
@@ -29,15 +29,15 @@ use Rattle.stream_compile.proofs.Judging.{IsVerdictBesideText, context_is, insid
 
 -- ---- steps
 
-pub begins : (bytes : List ℕ) (left : Run) (spaces : Spaces) (codes : Coding) → left ≡ module_run bytes → spaces ≡ spaces_of [] → AreAll codes [] → IsJudging bytes left spaces codes
+pub begins : (bytes : List ℕ) (left : Run) (spaces : Spaces) (codes : Coding) → left ≡ module_read bytes → spaces ≡ spaces_of [] → AreAll codes [] → IsJudging bytes left spaces codes
 begins bytes left spaces codes is none uncoded = rw (is, none) (record {
   judged = record { front = []; parts = refl; ending = refl; spaces_are = refl; count = uncoded.count; compiled = refl; trees = []; valid = tt };
   all = [];
   are_all = uncoded;
   coded = tt;
   fits = omega (arith, uncoded.words);
-  text_left = λ r f. subst (λ (n : ℕ). IsTextFault [] 0 n (module_run bytes).parts r) (sym uncoded.words) f;
-  text_whole = λ r f. subst (λ (n : ℕ). IsTextFault [] 0 n (module_run bytes).parts r) uncoded.words f;
+  text_left = λ r f. subst (λ (n : ℕ). IsTextFault [] 0 n (module_read bytes).parts r) (sym uncoded.words) f;
+  text_whole = λ r f. subst (λ (n : ℕ). IsTextFault [] 0 n (module_read bytes).parts r) uncoded.words f;
 })
 
 module _ (bytes : List ℕ) (left : Run) (codes : Coding) where
@@ -78,7 +78,7 @@ module _ (bytes : List ℕ) (left : Run) (codes : Coding) where
 -- ---- verdicts
 
 -- a fault that comes before that of the text, if there is one
-lifted : (bytes : List ℕ) (r : Refusal) → IsVerdictBesideText bytes (Rejected r) → ((s : Refusal) → IsTextFault [] 0 0 (module_run bytes).parts s → r.offset ≤ s.offset) → IsVerdictOf bytes (Rejected r)
+lifted : (bytes : List ℕ) (r : Refusal) → IsVerdictBesideText bytes (Rejected r) → ((s : Refusal) → IsTextFault [] 0 0 (module_read bytes).parts s → r.offset ≤ s.offset) → IsVerdictOf bytes (Rejected r)
 lifted bytes r v first = (inl v.0, λ s f. elim f [ inl g ↦ v.1 s g | inr t ↦ first s t ])
 
 no_text_left : (items : List Item) (k words : ℕ) (parts : List Part) (s : Refusal) → parts ≡ [] → IsTextFault items k words parts s → ⊥
@@ -104,7 +104,7 @@ body_refused bytes left spaces codes b r j f =
     no_text s (tree, v, t) = absurd (valid_has_no_fault (context_at (items_of j.judged.front) (length (bodies_of j.judged.front)) b) (read_of b).code tree r v here)
 
 module _ (bytes : List ℕ) (left : Run) (spaces : Spaces) (codes : Coding) (at id total : ℕ) (j : IsJudging bytes (after_part (Section at id) left) spaces codes) (len : total ≡ length bytes) (out : is_compiled_section id ≡ false) where
-  text_later : (s : Refusal) → IsTextFault [] 0 0 (module_run bytes).parts s → at < s.offset
+  text_later : (s : Refusal) → IsTextFault [] 0 0 (module_read bytes).parts s → at < s.offset
   text_later s f =
       let around = around_section first_section (length bytes) j.judged.front at id left.parts (rw j.judged.parts at (parts_in_module bytes)) in
       let k = text_after (suc at) (length bytes) (items_of j.judged.front) (length (bodies_of j.judged.front)) codes.words left.parts s around.3 (j.text_left s f) in
@@ -144,7 +144,7 @@ module _ (bytes : List ℕ) (left : Run) (spaces : Spaces) (codes : Coding) (b :
       around : AreOrdered first_section b.size j.judged.front × BodyStands first_section (length bytes) b × AreOrdered (end_of b) (length bytes) left.parts
       around = around_body first_section (length bytes) j.judged.front b left.parts (rw j.judged.parts at (parts_in_module bytes))
 
-      of_outside : (s : Refusal) → (ending_fault (length bytes) (module_run bytes).ending ≡ Some s) ⊎ (first_outside is_compiled_section (sections_of (module_run bytes).parts) ≡ Some s) → b.size ≤ s.offset
+      of_outside : (s : Refusal) → (ending_fault (length bytes) (module_read bytes).ending ≡ Some s) ⊎ (first_outside is_compiled_section (sections_of (module_read bytes).parts) ≡ Some s) → b.size ≤ s.offset
       of_outside s (inl e) =
           let o = (parts_before_fault bytes s e).0 in
           let stands = (around_body first_section s.offset j.judged.front b left.parts (rw j.judged.parts at o)).1 in
@@ -216,9 +216,9 @@ pub record IsWhole (bytes : List ℕ) (spaces : Spaces) (codes : List Code) (m :
 
 pub is_whole : (bytes : List ℕ) (left : Run) (spaces : Spaces) (codes : Coding) (seen : Seen) → (j : IsJudging bytes left spaces codes) → left ≡ ends (Whole seen) → (m : Module) × IsWhole bytes spaces j.all m
 is_whole bytes left spaces codes seen j whole =
-    let all : (module_run bytes).parts ≡ j.judged.front = j.judged.parts ∙ ap (λ (r : Run). j.judged.front ++ r.parts) whole ∙ append-nil j.judged.front in
+    let all : (module_read bytes).parts ≡ j.judged.front = j.judged.parts ∙ ap (λ (r : Run). j.judged.front ++ r.parts) whole ∙ append-nil j.judged.front in
     let m = judging.is_module bytes left spaces codes.count seen spaces.declared j.judged whole refl in
-    let m' : Module = record { items = items_of (module_run bytes).parts; bodies = bodies_of (module_run bytes).parts; trees = j.judged.trees } in (
+    let m' : Module = record { items = items_of (module_read bytes).parts; bodies = bodies_of (module_read bytes).parts; trees = j.judged.trees } in (
       m',
       record {
         is = m.1;

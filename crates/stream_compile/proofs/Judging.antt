@@ -8,7 +8,7 @@ use Rattle.wasm_defs.specs.Typing.{function_type}
 use Rattle.wasm_defs.specs.Trees.{Seq}
 use Rattle.wasm_defs.specs.Entries.{Seen}
 use Rattle.wasm_defs.specs.Context.{import_count, declared_count, functions_of}
-use Rattle.wasm_defs.specs.Outside.{Part, Section, Listed, Coded, Body, Run, Whole, after_part, ends, module_run}
+use Rattle.wasm_defs.specs.Outside.{Part, Section, Listed, Coded, Body, Run, Whole, after_part, ends, module_read}
 use Rattle.wasm_defs.specs.Supported.{is_compiled_section}
 use Rattle.wasm_defs.specs.Faults.{IsNoLater, first_outside, ending_fault, sections_of, items_of, bodies_of, earlier, unsupported_at, IsCodeFault, IsValidCode, read_of, context_at, IsFaultInside, AreValid, IsOutsideFault, IsFault, Module, IsModule, Verdict, Accepted, Rejected}
 use Rattle.wasm_laws.specs.Order.{AreOrdered, BodyStands, end_of, first_section}
@@ -26,10 +26,10 @@ use Rattle.wasm_laws.proofs.PartOrder.{fault_after, section_after, some_ordered}
 
 -- ---- how far judging came
 
-pub begins : (bytes : List ℕ) (left : Run) (spaces : Spaces) → left ≡ module_run bytes → spaces ≡ spaces_of [] → IsJudged bytes left spaces 0
+pub begins : (bytes : List ℕ) (left : Run) (spaces : Spaces) → left ≡ module_read bytes → spaces ≡ spaces_of [] → IsJudged bytes left spaces 0
 begins bytes left spaces is none = rw (is, none) (record { front = []; parts = refl; ending = refl; spaces_are = refl; count = refl; compiled = refl; trees = []; valid = tt })
 
-pub regrouped : (bytes : List ℕ) (front rest : List Part) (x : Part) → (module_run bytes).parts ≡ front ++ x ∷ rest → (module_run bytes).parts ≡ (front ++ x ∷ []) ++ rest
+pub regrouped : (bytes : List ℕ) (front rest : List Part) (x : Part) → (module_read bytes).parts ≡ front ++ x ∷ rest → (module_read bytes).parts ≡ (front ++ x ∷ []) ++ rest
 regrouped bytes front rest x e = e ∙ sym (append_assoc front (x ∷ []) rest)
 
 pub valid_more : (front : List Part) (x : Part) (trees more : List Seq) → AreValid [] 0 front trees → AreValid (items_of front) (length (bodies_of front)) (x ∷ []) more → AreValid [] 0 (front ++ x ∷ []) (trees ++ more)
@@ -87,13 +87,13 @@ pub zero_more : (n : ℕ) → 0 + n ≡ n
 zero_more n = omega arith
 
 -- a fault of a body stands in what is left
-pub inside_rest : (bytes : List ℕ) (left : Run) (spaces : Spaces) (bodies : ℕ) (r : Refusal) (j : IsJudged bytes left spaces bodies) → IsFaultInside [] 0 (module_run bytes).parts r → IsFaultInside (items_of j.front) (length (bodies_of j.front)) left.parts r
+pub inside_rest : (bytes : List ℕ) (left : Run) (spaces : Spaces) (bodies : ℕ) (r : Refusal) (j : IsJudged bytes left spaces bodies) → IsFaultInside [] 0 (module_read bytes).parts r → IsFaultInside (items_of j.front) (length (bodies_of j.front)) left.parts r
 inside_rest bytes left spaces bodies r j f =
     let g = fault_behind [] 0 j.front left.parts j.trees r j.valid (rw j.parts at f) in
     rw zero_more at g
 
 -- a fault outside bodies is the ending's, or at a section that is left
-pub outside_rest : (bytes : List ℕ) (left : Run) (spaces : Spaces) (bodies : ℕ) → IsJudged bytes left spaces bodies → first_outside is_compiled_section (sections_of (module_run bytes).parts) ≡ first_outside is_compiled_section (sections_of left.parts)
+pub outside_rest : (bytes : List ℕ) (left : Run) (spaces : Spaces) (bodies : ℕ) → IsJudged bytes left spaces bodies → first_outside is_compiled_section (sections_of (module_read bytes).parts) ≡ first_outside is_compiled_section (sections_of left.parts)
 outside_rest bytes left spaces bodies j =
     ap (λ (l : List Part). first_outside is_compiled_section (sections_of l)) j.parts ∙ ap (first_outside is_compiled_section) (sections_of-append j.front left.parts) ∙ none_outside (sections_of j.front) (sections_of left.parts) j.compiled
 
@@ -105,8 +105,8 @@ IsVerdictBesideText bytes (Rejected r) = IsFault bytes r × ((s : Refusal) → I
 -- the bytes are a module
 abbrev pub is_module : (bytes : List ℕ) (left : Run) (spaces : Spaces) (bodies : ℕ) (seen : Seen) (functions : ℕ) → IsJudged bytes left spaces bodies → left ≡ ends (Whole seen) → functions ≡ spaces.declared → (m : Module) × IsVerdictBesideText bytes (Accepted m) × (functions ≡ declared_count m.items)
 is_module bytes left spaces bodies seen functions j whole counted =
-    let all : (module_run bytes).parts ≡ j.front = j.parts ∙ ap (λ (r : Run). j.front ++ r.parts) whole ∙ append-nil j.front in
-    let m : Module = record { items = items_of (module_run bytes).parts; bodies = bodies_of (module_run bytes).parts; trees = j.trees } in (
+    let all : (module_read bytes).parts ≡ j.front = j.parts ∙ ap (λ (r : Run). j.front ++ r.parts) whole ∙ append-nil j.front in
+    let m : Module = record { items = items_of (module_read bytes).parts; bodies = bodies_of (module_read bytes).parts; trees = j.trees } in (
       m,
       record {
         whole = ap (ending_fault (length bytes)) (j.ending ∙ ap (λ (r : Run). r.ending) whole);
@@ -121,8 +121,8 @@ is_module bytes left spaces bodies seen functions j whole counted =
 -- no part is left, and the module has this fault
 pub is_refused : (bytes : List ℕ) (left : Run) (spaces : Spaces) (bodies total : ℕ) (r : Refusal) → IsJudged bytes left spaces bodies → total ≡ length bytes → left.parts ≡ [] → ending_fault total left.ending ≡ Some r → IsVerdictBesideText bytes (Rejected r)
 is_refused bytes left spaces bodies total r j len none fault =
-    let ends : ending_fault (length bytes) (module_run bytes).ending ≡ Some r = ap (ending_fault (length bytes)) j.ending ∙ ap (λ (n : ℕ). ending_fault n left.ending) (sym len) ∙ fault in
-    let no_section : first_outside is_compiled_section (sections_of (module_run bytes).parts) ≡ None = outside_rest bytes left spaces bodies j ∙ ap (λ (l : List Part). first_outside is_compiled_section (sections_of l)) none in
+    let ends : ending_fault (length bytes) (module_read bytes).ending ≡ Some r = ap (ending_fault (length bytes)) j.ending ∙ ap (λ (n : ℕ). ending_fault n left.ending) (sym len) ∙ fault in
+    let no_section : first_outside is_compiled_section (sections_of (module_read bytes).parts) ≡ None = outside_rest bytes left spaces bodies j ∙ ap (λ (l : List Part). first_outside is_compiled_section (sections_of l)) none in
     let outside : IsOutsideFault bytes r = (inl ends, λ s p. elim p [ inl e ↦ equal_is_no_later r s (let k : Some r ≡ Some s = sym ends ∙ e in cc) | inr e ↦ absurd (none_is_some _ s no_section e) ]) in (
       inl outside,
       λ s f. elim f [
@@ -142,7 +142,7 @@ body_refused bytes left spaces bodies b r j f = (inr inside, λ s g. no_less s g
     here : IsCodeFault (context_at (items_of j.front) (length (bodies_of j.front)) b) (read_of b).code r
     here = rw (context_is bytes (after_part (Coded b) left) spaces bodies b j) at f
 
-    inside : IsFaultInside [] 0 (module_run bytes).parts r
+    inside : IsFaultInside [] 0 (module_read bytes).parts r
     inside = rw j.parts (fault_of_rest [] 0 j.front (Coded b ∷ left.parts) r (rw zero_more (inl here)))
 
     around : AreOrdered first_section b.size j.front × BodyStands first_section (length bytes) b × AreOrdered (end_of b) (length bytes) left.parts
@@ -151,7 +151,7 @@ body_refused bytes left spaces bodies b r j f = (inr inside, λ s g. no_less s g
     before_end : r.offset < end_of b
     before_end = let stands = around.1 in (code_fault_inside (context_at (items_of j.front) (length (bodies_of j.front)) b) b r (omega (arith, stands.least)) here).1
 
-    of_outside : (s : Refusal) → (ending_fault (length bytes) (module_run bytes).ending ≡ Some s) ⊎ (first_outside is_compiled_section (sections_of (module_run bytes).parts) ≡ Some s) → r.offset ≤ s.offset
+    of_outside : (s : Refusal) → (ending_fault (length bytes) (module_read bytes).ending ≡ Some s) ⊎ (first_outside is_compiled_section (sections_of (module_read bytes).parts) ≡ Some s) → r.offset ≤ s.offset
     of_outside s (inl e) =
         let o = (parts_before_fault bytes s e).0 in
         let stands = (around_body first_section s.offset j.front b left.parts (rw j.parts at o)).1 in
@@ -171,26 +171,26 @@ body_refused bytes left spaces bodies b r j f = (inr inside, λ s g. no_less s g
 -- ---- a section isn't compiled
 
 module _ (bytes : List ℕ) (left : Run) (spaces : Spaces) (bodies at id total : ℕ) (j : IsJudged bytes (after_part (Section at id) left) spaces bodies) (len : total ≡ length bytes) (out : is_compiled_section id ≡ false) where
-  own_section : first_outside is_compiled_section (sections_of (module_run bytes).parts) ≡ Some (unsupported_at at)
+  own_section : first_outside is_compiled_section (sections_of (module_read bytes).parts) ≡ Some (unsupported_at at)
   own_section = outside_rest bytes (after_part (Section at id) left) spaces bodies j ∙ one_outside at id (sections_of left.parts) out
 
-  ends_as : (e : Option Refusal) → ending_fault total left.ending ≡ e → ending_fault (length bytes) (module_run bytes).ending ≡ e
+  ends_as : (e : Option Refusal) → ending_fault total left.ending ≡ e → ending_fault (length bytes) (module_read bytes).ending ≡ e
   ends_as e h = ap (ending_fault (length bytes)) j.ending ∙ ap (λ (n : ℕ). ending_fault n left.ending) (sym len) ∙ h
 
-  inside_later : (s : Refusal) → IsFaultInside [] 0 (module_run bytes).parts s → at < s.offset
+  inside_later : (s : Refusal) → IsFaultInside [] 0 (module_read bytes).parts s → at < s.offset
   inside_later s f =
       let around = around_section first_section (length bytes) j.front at id left.parts (rw j.parts at (parts_in_module bytes)) in
       let k = fault_after (suc at) (length bytes) (items_of j.front) (length (bodies_of j.front)) left.parts s around.3 (inside_rest bytes (after_part (Section at id) left) spaces bodies s j f) in
       omega arith
 
-  ending_later : (s : Refusal) → 0 < length left.parts → ending_fault (length bytes) (module_run bytes).ending ≡ Some s → at < s.offset
+  ending_later : (s : Refusal) → 0 < length left.parts → ending_fault (length bytes) (module_read bytes).ending ≡ Some s → at < s.offset
   ending_later s some e =
       let around = around_section first_section s.offset j.front at id left.parts (rw j.parts at (parts_before_fault bytes s e).0) in
       let k = some_ordered (suc at) s.offset left.parts some around.3 in
       omega arith
 
   abbrev IsCandidate : Refusal → Type 0
-  IsCandidate s = (ending_fault (length bytes) (module_run bytes).ending ≡ Some s) ⊎ (first_outside is_compiled_section (sections_of (module_run bytes).parts) ≡ Some s)
+  IsCandidate s = (ending_fault (length bytes) (module_read bytes).ending ≡ Some s) ⊎ (first_outside is_compiled_section (sections_of (module_read bytes).parts) ≡ Some s)
 
   -- more follows
   pub section_refused : (0 < length left.parts) ⊎ (ending_fault total left.ending ≡ None) → IsVerdictBesideText bytes (Rejected (unsupported_at at))
@@ -212,7 +212,7 @@ module _ (bytes : List ℕ) (left : Run) (spaces : Spaces) (bodies at id total :
       h : IsEarlier e (unsupported_at at) (earlier e (unsupported_at at))
       h = earlier_is e (unsupported_at at)
 
-      ends : ending_fault (length bytes) (module_run bytes).ending ≡ Some e
+      ends : ending_fault (length bytes) (module_read bytes).ending ≡ Some e
       ends = ends_as (Some e) fault
 
       is_candidate : (earlier e (unsupported_at at) ≡ e) ⊎ (earlier e (unsupported_at at) ≡ unsupported_at at) → IsCandidate (earlier e (unsupported_at at))

@@ -4,7 +4,7 @@ use Rattle.std.proofs.lemmas.Bool.{cases_Bool}
 use Rattle.wasm_defs.specs.declared.fault.Refusal.{Refusal}
 use Rattle.wasm_defs.specs.declared.item.Item.{Item}
 use Rattle.wasm_defs.specs.Trees.{Seq}
-use Rattle.wasm_defs.specs.Outside.{Part, Section, Listed, Coded, Body, module_run}
+use Rattle.wasm_defs.specs.Outside.{Part, Section, Listed, Coded, Body, module_read}
 use Rattle.wasm_defs.specs.Supported.{is_compiled_section}
 use Rattle.wasm_defs.specs.Faults.{first_outside, ending_fault, sections_of, items_of, bodies_of, tokens_of, read_of, context_at, IsOutsideFault, IsFaultInside, IsFault, AreValid, Module, IsModule, Verdict, Accepted, Rejected}
 use Rattle.wasm_laws.specs.Order.{AreOrdered, end_of, first_section}
@@ -67,12 +67,12 @@ before_last low last items k (Coded b ∷ parts) r o (inl f) =
     omega (arith, here.1, stands.before)
 before_last low last items k (Coded b ∷ parts) r o (inr f) = before_last (end_of b) last items (suc k) parts r o.1 f
 
-not_both : (bytes : List ℕ) (r s : Refusal) → IsOutsideFault bytes r → IsFaultInside [] 0 (module_run bytes).parts s → r.offset ≡ s.offset → ⊥
+not_both : (bytes : List ℕ) (r s : Refusal) → IsOutsideFault bytes r → IsFaultInside [] 0 (module_read bytes).parts s → r.offset ≡ s.offset → ⊥
 not_both bytes r s f g e = of f.0
   where
-    of : (ending_fault (length bytes) (module_run bytes).ending ≡ Some r) ⊎ (first_outside is_compiled_section (sections_of (module_run bytes).parts) ≡ Some r) → ⊥
-    of (inl h) = let k = before_last first_section r.offset [] 0 (module_run bytes).parts s (parts_before_fault bytes r h).0 g in omega arith
-    of (inr h) = no_section first_section (length bytes) [] 0 (module_run bytes).parts s r (parts_in_module bytes) g h (sym e)
+    of : (ending_fault (length bytes) (module_read bytes).ending ≡ Some r) ⊎ (first_outside is_compiled_section (sections_of (module_read bytes).parts) ≡ Some r) → ⊥
+    of (inl h) = let k = before_last first_section r.offset [] 0 (module_read bytes).parts s (parts_before_fault bytes r h).0 g in omega arith
+    of (inr h) = no_section first_section (length bytes) [] 0 (module_read bytes).parts s r (parts_in_module bytes) g h (sym e)
 
 -- ---- no two faults share an offset
 
@@ -80,7 +80,7 @@ pub fault_once : (bytes : List ℕ) (r s : Refusal) → IsFault bytes r → IsFa
 fault_once bytes r s (inl f) (inl g) e = first_once _ r s f g
 fault_once bytes r s (inl f) (inr g) e = absurd (not_both bytes r s f g e)
 fault_once bytes r s (inr f) (inl g) e = absurd (not_both bytes s r g f (sym e))
-fault_once bytes r s (inr f) (inr g) e = inside_once first_section (length bytes) [] 0 (module_run bytes).parts r s (parts_in_module bytes) f g e
+fault_once bytes r s (inr f) (inr g) e = inside_once first_section (length bytes) [] 0 (module_read bytes).parts r s (parts_in_module bytes) f g e
 
 -- ---- trees
 
@@ -105,19 +105,19 @@ same_module : (bytes : List ℕ) (m n : Module) → IsModule bytes m → IsModul
 same_module bytes m n p q =
     let items : m.items ≡ n.items = p.items ∙ sym q.items in
     let bodies : m.bodies ≡ n.bodies = p.bodies ∙ sym q.bodies in
-    let trees : m.trees ≡ n.trees = same_trees [] 0 (module_run bytes).parts m.trees n.trees p.valid q.valid in
+    let trees : m.trees ≡ n.trees = same_trees [] 0 (module_read bytes).parts m.trees n.trees p.valid q.valid in
     ap (λ (x : List Item). record { items = x; bodies = m.bodies; trees = m.trees }) items
     ∙ ap (λ (x : List Body). record { items = n.items; bodies = x; trees = m.trees }) bodies
     ∙ ap (λ (x : List Seq). record { items = n.items; bodies = n.bodies; trees = x }) trees
 
 no_fault : (bytes : List ℕ) (m : Module) (r : Refusal) → IsModule bytes m → IsFault bytes r → ⊥
-no_fault bytes m r p f = module_has_no_fault bytes (module_run bytes).parts m.trees r p.whole p.compiled p.valid f
+no_fault bytes m r p f = module_has_no_fault bytes (module_read bytes).parts m.trees r p.whole p.compiled p.valid f
 
 -- ---- a module's text keeps its limit
 
 -- behind these parts of the module no body passes it
-text_fits : (bytes : List ℕ) (front parts : List Part) (k words : ℕ) (trees : List Seq) (r : Refusal) → (module_run bytes).parts ≡ front ++ parts
-    → AreValid (items_of front) k parts trees → text_bytes (items_of (module_run bytes).parts) (words + sizes (items_of (module_run bytes).parts) k (bodies_of parts) trees) ≤ max_text
+text_fits : (bytes : List ℕ) (front parts : List Part) (k words : ℕ) (trees : List Seq) (r : Refusal) → (module_read bytes).parts ≡ front ++ parts
+    → AreValid (items_of front) k parts trees → text_bytes (items_of (module_read bytes).parts) (words + sizes (items_of (module_read bytes).parts) k (bodies_of parts) trees) ≤ max_text
     → IsTextFault (items_of front) k words parts r → ⊥
 text_fits bytes front [] k words trees r e v le f = f
 text_fits bytes front (Section at id ∷ parts) k words trees r e v le f =
@@ -129,21 +129,21 @@ text_fits bytes front (Listed x ∷ parts) k words trees r e v le f =
 text_fits bytes front (Coded b ∷ parts) k words [] r e v le f = absurd v
 text_fits bytes front (Coded b ∷ parts) k words (tree ∷ trees) r e v le (t, w, inl f) =
     let behind = bodies_stand_behind bytes front b parts e in
-    let size : size_of (items_of (module_run bytes).parts) k b tree ≡ size_of (items_of front) k b t = same_size (items_of (module_run bytes).parts) (items_of front) behind.same k b tree ∙ ap (size_of (items_of front) k b) (tree_once (items_of front) k b tree t v.0 w) in
-    let stubs : front_size (items_of (module_run bytes).parts) ≡ front_size (items_of front) = ap (λ (n : ℕ). length exit_stub + stub_size * n) behind.same.imports in
+    let size : size_of (items_of (module_read bytes).parts) k b tree ≡ size_of (items_of front) k b t = same_size (items_of (module_read bytes).parts) (items_of front) behind.same k b tree ∙ ap (size_of (items_of front) k b) (tree_once (items_of front) k b tree t v.0 w) in
+    let stubs : front_size (items_of (module_read bytes).parts) ≡ front_size (items_of front) = ap (λ (n : ℕ). length exit_stub + stub_size * n) behind.same.imports in
     absurd (omega (arith, f.0, le, size, stubs))
 text_fits bytes front (Coded b ∷ parts) k words (tree ∷ trees) r e v le (t, w, inr f) =
     let behind = bodies_stand_behind bytes front b parts e in
-    let size : size_of (items_of (module_run bytes).parts) k b tree ≡ size_of (items_of front) k b t = same_size (items_of (module_run bytes).parts) (items_of front) behind.same k b tree ∙ ap (size_of (items_of front) k b) (tree_once (items_of front) k b tree t v.0 w) in
+    let size : size_of (items_of (module_read bytes).parts) k b tree ≡ size_of (items_of front) k b t = same_size (items_of (module_read bytes).parts) (items_of front) behind.same k b tree ∙ ap (size_of (items_of front) k b) (tree_once (items_of front) k b tree t v.0 w) in
     text_fits bytes (front ++ Coded b ∷ []) parts (suc k) (words + size_of (items_of front) k b t) trees r (e ∙ sym (append_assoc front (Coded b ∷ []) parts))
     (rw (items_of-append front (Coded b ∷ []), append-nil (items_of front)) v.1) (omega (arith, le, size)) (rw (items_of-append front (Coded b ∷ []), append-nil (items_of front)) f.1)
 
 pub no_fault_of : (bytes : List ℕ) (m : Module) (r : Refusal) → IsModuleOf bytes m → IsFaultOf bytes r → ⊥
 no_fault_of bytes m r p (inl f) = no_fault bytes m r p.is f
 no_fault_of bytes m r p (inr f) =
-    let fits : text_bytes (items_of (module_run bytes).parts) (0 + sizes (items_of (module_run bytes).parts) 0 (bodies_of (module_run bytes).parts) m.trees) ≤ max_text =
-    omega (arith, p.fits, ap (λ (x : List Item). text_bytes x (sizes x 0 m.bodies m.trees)) p.is.items, ap (λ (x : List Body). sizes (items_of (module_run bytes).parts) 0 x m.trees) p.is.bodies) in
-    text_fits bytes [] (module_run bytes).parts 0 0 m.trees r refl p.is.valid fits f
+    let fits : text_bytes (items_of (module_read bytes).parts) (0 + sizes (items_of (module_read bytes).parts) 0 (bodies_of (module_read bytes).parts) m.trees) ≤ max_text =
+    omega (arith, p.fits, ap (λ (x : List Item). text_bytes x (sizes x 0 m.bodies m.trees)) p.is.items, ap (λ (x : List Body). sizes (items_of (module_read bytes).parts) 0 x m.trees) p.is.bodies) in
+    text_fits bytes [] (module_read bytes).parts 0 0 m.trees r refl p.is.valid fits f
 
 -- ---- with the limit on the text
 
@@ -153,7 +153,7 @@ fault_of_once bytes r s (inl (inl f)) (inr g) e = absurd (text_not_outside bytes
 fault_of_once bytes r s (inl (inr f)) (inr g) e = absurd (text_not_inside bytes r s f g e)
 fault_of_once bytes r s (inr f) (inl (inl g)) e = absurd (text_not_outside bytes s r g f (sym e))
 fault_of_once bytes r s (inr f) (inl (inr g)) e = absurd (text_not_inside bytes s r g f (sym e))
-fault_of_once bytes r s (inr f) (inr g) e = text_once [] 0 0 (module_run bytes).parts r s f g
+fault_of_once bytes r s (inr f) (inr g) e = text_once [] 0 0 (module_read bytes).parts r s f g
 
 pub verdict_once : (bytes : List ℕ) (v w : Verdict) → IsVerdictOf bytes v → IsVerdictOf bytes w → v ≡ w
 verdict_once bytes (Accepted m) (Accepted n) p q = ap (λ (x : Module). Accepted x) (same_module bytes m n p.is q.is)

@@ -5,7 +5,7 @@ use Rattle.std.specs.Io.KnownBytes.{IsAtEnd}
 use Rattle.std.proofs.lemmas.Bool.{lt-ltb, le-ltb, cases_lt}
 use Rattle.std.proofs.lemmas.List.{append-nil, take-append-drop}
 use Rattle.wasm_defs.specs.declared.fault.Refusal.{Refusal}
-use Rattle.wasm_defs.specs.Outside.{Run, Ending, Refused, module_run}
+use Rattle.wasm_defs.specs.Outside.{Run, Ending, Refused, module_read}
 use Rattle.wasm_defs.specs.Supported.{is_compiled_section}
 use Rattle.wasm_defs.specs.Faults.{Module, Verdict, Accepted, Rejected, IsFirst, IsFaultInside, ending_fault, first_outside, sections_of}
 use Rattle.wasm_laws.proofs.Bounded.{module_is_refused, module_stays}
@@ -44,7 +44,7 @@ first_stays n m run later stop r e same p =
 no_module : (read : List ℕ) → 67108869 ≤ length read → (m : Module) → IsVerdictOf read (Accepted m) → ⊥
 no_module read le m v =
     let h = module_is_refused read le in
-    let k : ending_fault (length read) (module_run read).ending ≡ Some h.0 = ap (ending_fault (length read)) h.1 in
+    let k : ending_fault (length read) (module_read read).ending ≡ Some h.0 = ap (ending_fault (length read)) h.1 in
     let none = v.is.whole in
     absurd (let t : Some h.0 ≡ None = sym k ∙ none in cc)
 
@@ -53,7 +53,7 @@ verdict_stays : (read more : List ℕ) → 67108869 ≤ length read → (v : Ver
 verdict_stays read more le (Accepted m) v = absurd (no_module read le m v)
 verdict_stays read more le (Rejected r) v =
     let h = module_is_refused read le in
-    first_stays (length read) (length (read ++ more)) (module_run read) (module_run (read ++ more)) h.0 r h.1 (module_stays read more le) v
+    first_stays (length read) (length (read ++ more)) (module_read read) (module_read (read ++ more)) h.0 r h.1 (module_stays read more le) v
 
 when_full : (read : List ℕ) (old new : Option (List ℕ)) → IsRead old new read → 67108869 ≤ length read → (bytes : List ℕ) × Came old new false bytes × ((v : Verdict) → IsVerdictOf read v → IsVerdictOf bytes v)
 when_full read old None is le = (read, (read, [], is, tt, sym (append-nil read)), λ v p. p)

@@ -9,7 +9,7 @@ use Rattle.wasm_defs.specs.declared.token.Token.{Token}
 use Rattle.wasm_defs.specs.Entries.{Seen}
 use Rattle.wasm_defs.specs.Typing.{Context}
 use Rattle.wasm_defs.specs.Viable.{IsFaulty}
-use Rattle.wasm_defs.specs.Outside.{Part, Section, Listed, Coded, Body, Ending, Whole, Refused, Owed, Run, module_run}
+use Rattle.wasm_defs.specs.Outside.{Part, Section, Listed, Coded, Body, Ending, Whole, Refused, Owed, Run, module_read}
 use Rattle.wasm_defs.specs.Supported.{is_compiled_section}
 use Rattle.wasm_defs.specs.Faults.{rank, IsNoLater, IsFirst, unsupported_at, first_outside, ending_fault, sections_of, tokens_of, IsTokenFault, IsSpellingFault, IsCodeFault, IsFaultInside, read_of, context_at, Verdict, Accepted, Rejected}
 use Rattle.wasm_defs.specs.Supported.{is_compiled_opcode}
@@ -83,14 +83,14 @@ ending_kind n (Whole seen) r lasts e k = absurd cc
 ending_kind n (Refused s) r lasts e k = let same : s ≡ r = cc in absurd (not_ended s.kind lasts (ap (λ (x : Refusal). x.kind) same ∙ k))
 ending_kind n Owed r lasts e k = let same : record { offset = n; kind = Ended } ≡ r = cc in (refl, sym (ap (λ (x : Refusal). x.offset) same))
 
-pub ended_is_owed : (bytes : List ℕ) (r : Refusal) → IsFaultOf bytes r → r.kind ≡ Ended → ((module_run bytes).ending ≡ Owed) × (r.offset ≡ length bytes)
+pub ended_is_owed : (bytes : List ℕ) (r : Refusal) → IsFaultOf bytes r → r.kind ≡ Ended → ((module_read bytes).ending ≡ Owed) × (r.offset ≡ length bytes)
 ended_is_owed bytes r (inl (inl f)) k = of f.0
   where
-    of : (ending_fault (length bytes) (module_run bytes).ending ≡ Some r) ⊎ (first_outside is_compiled_section (sections_of (module_run bytes).parts) ≡ Some r) → ((module_run bytes).ending ≡ Owed) × (r.offset ≡ length bytes)
-    of (inl e) = ending_kind (length bytes) (module_run bytes).ending r (module_lasts bytes) e k
-    of (inr e) = absurd (not_ended r.kind (omega (arith, outside_is is_compiled_section (sections_of (module_run bytes).parts) r e)) k)
-ended_is_owed bytes r (inl (inr f)) k = absurd (not_ended r.kind (inside_kind [] 0 (module_run bytes).parts r f) k)
-ended_is_owed bytes r (inr f) k = absurd (not_ended r.kind (text_kind [] 0 0 (module_run bytes).parts r f) k)
+    of : (ending_fault (length bytes) (module_read bytes).ending ≡ Some r) ⊎ (first_outside is_compiled_section (sections_of (module_read bytes).parts) ≡ Some r) → ((module_read bytes).ending ≡ Owed) × (r.offset ≡ length bytes)
+    of (inl e) = ending_kind (length bytes) (module_read bytes).ending r (module_lasts bytes) e k
+    of (inr e) = absurd (not_ended r.kind (omega (arith, outside_is is_compiled_section (sections_of (module_read bytes).parts) r e)) k)
+ended_is_owed bytes r (inl (inr f)) k = absurd (not_ended r.kind (inside_kind [] 0 (module_read bytes).parts r f) k)
+ended_is_owed bytes r (inr f) k = absurd (not_ended r.kind (text_kind [] 0 0 (module_read bytes).parts r f) k)
 
 -- ---- parts in front, and parts behind them
 
@@ -290,13 +290,13 @@ comes n m parts Owed later s le goes o all before f = open_later n m parts Owed 
 
 pub fault_stays : (bytes more : List ℕ) (r : Refusal) → IsFaultOf bytes r → r.kind ≢ Ended → IsFaultOf (bytes ++ more) r
 fault_stays bytes more r f other =
-    let run = module_run bytes in
-    stays (length bytes) (length (bytes ++ more)) run.parts run.ending (module_run (bytes ++ more)) r (omega (arith, length-append bytes more)) (module_goes_on bytes more) (module_keeps bytes more) (parts_in_module bytes) f other
+    let run = module_read bytes in
+    stays (length bytes) (length (bytes ++ more)) run.parts run.ending (module_read (bytes ++ more)) r (omega (arith, length-append bytes more)) (module_goes_on bytes more) (module_keeps bytes more) (parts_in_module bytes) f other
 
 fault_within : (bytes : List ℕ) (r : Refusal) → IsFaultOf bytes r → r.offset ≤ length bytes
-fault_within bytes r (inl (inl f)) = elim f.0 [ inl e ↦ (parts_before_fault bytes r e).1 | inr e ↦ section_before first_section (length bytes) (module_run bytes).parts r (parts_in_module bytes) e ]
-fault_within bytes r (inl (inr f)) = let h = before_last first_section (length bytes) [] 0 (module_run bytes).parts r (parts_in_module bytes) f in omega arith
-fault_within bytes r (inr f) = let h = text_before first_section (length bytes) [] 0 0 (module_run bytes).parts r (parts_in_module bytes) f in omega arith
+fault_within bytes r (inl (inl f)) = elim f.0 [ inl e ↦ (parts_before_fault bytes r e).1 | inr e ↦ section_before first_section (length bytes) (module_read bytes).parts r (parts_in_module bytes) e ]
+fault_within bytes r (inl (inr f)) = let h = before_last first_section (length bytes) [] 0 (module_read bytes).parts r (parts_in_module bytes) f in omega arith
+fault_within bytes r (inr f) = let h = text_before first_section (length bytes) [] 0 0 (module_read bytes).parts r (parts_in_module bytes) f in omega arith
 
 least : (bytes more : List ℕ) (r s : Refusal) → IsStoppedAt bytes (Some r) → IsFaultOf (bytes ++ more) s → r.offset ≤ s.offset
 least bytes more r s p f =
@@ -305,8 +305,8 @@ least bytes more r s p f =
           let ended = ended_is_owed (bytes ++ more) s f k in
           omega (arith, ended.1, fault_within bytes r p.0, length-append bytes more)
       | inr k ↦
-          let run = module_run bytes in
-          elim (comes (length bytes) (length (bytes ++ more)) run.parts run.ending (module_run (bytes ++ more)) s (omega (arith, length-append bytes more)) (module_goes_on bytes more) (parts_in_module bytes) (parts_in_module (bytes ++ more)) (λ t e. (parts_before_fault (bytes ++ more) t e).0) f) [
+          let run = module_read bytes in
+          elim (comes (length bytes) (length (bytes ++ more)) run.parts run.ending (module_read (bytes ++ more)) s (omega (arith, length-append bytes more)) (module_goes_on bytes more) (parts_in_module bytes) (parts_in_module (bytes ++ more)) (λ t e. (parts_before_fault (bytes ++ more) t e).0) f) [
             | inl g ↦ p.2 s g (not_ended s.kind k)
             | inr g ↦ g r p.0 p.1
           ]

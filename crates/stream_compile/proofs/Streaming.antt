@@ -7,7 +7,7 @@ use Rattle.wasm_defs.specs.declared.item.Item.{Item}
 use Rattle.wasm_defs.specs.declared.item.Item.TheVariants as item
 use Rattle.wasm_defs.specs.Supported.{is_compiled_section}
 use Rattle.wasm_defs.specs.Faults.{first_outside, ending_fault, sections_of, unsupported_at, Rejected}
-use Rattle.wasm_defs.specs.Outside.{Part, Listed, Run, Ending, Whole, Refused, Owed, after_part, ends, sections, no_end, module_run}
+use Rattle.wasm_defs.specs.Outside.{Part, Listed, Run, Ending, Whole, Refused, Owed, after_part, ends, sections, no_end, module_read}
 use Rattle.index_spaces.specs.Spaces.{Spaces, spaces_of, with_item}
 use Rattle.section_reader.specs.declared.front.Front.{Front}
 use Rattle.section_reader.specs.declared.steps.Steps.{Steps}
@@ -103,7 +103,7 @@ module _ (bytes : List ℕ) (s : Compilation) (more : List ℕ) where
 
 -- ---- before the first byte
 
-pub reading_begins : (bytes : List ℕ) (f : Front) (spaces : Spaces) (codes : Coding) → length bytes ≤ 67108869 → onward_left f bytes ≡ module_run bytes → total f ≡ 0 → is_at_bodies f.steps.stage ≡ false → f.steps.uncompiled ≡ None → f.waiting ≡ None → spaces ≡ spaces_of [] → AreAll codes []
+pub reading_begins : (bytes : List ℕ) (f : Front) (spaces : Spaces) (codes : Coding) → length bytes ≤ 67108869 → onward_left f bytes ≡ module_read bytes → total f ≡ 0 → is_at_bodies f.steps.stage ≡ false → f.steps.uncompiled ≡ None → f.waiting ≡ None → spaces ≡ spaces_of [] → AreAll codes []
     → IsReading bytes f spaces codes bytes
 reading_begins bytes f spaces codes few is none apart first idle empty uncoded = record {
   right = record { few = few; told = []; sections = tt; first = ap (λ (o : Option ℕ). outside_of o []) first; judging = begins bytes (onward_left f bytes) spaces codes is empty uncoded };

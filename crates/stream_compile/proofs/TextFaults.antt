@@ -4,7 +4,7 @@ use Rattle.std.proofs.lemmas.Bool.{cases_Bool}
 use Rattle.wasm_defs.specs.declared.fault.Refusal.{Refusal}
 use Rattle.wasm_defs.specs.declared.item.Item.{Item}
 use Rattle.wasm_defs.specs.Trees.{Seq}
-use Rattle.wasm_defs.specs.Outside.{Part, Section, Listed, Coded, Body, module_run}
+use Rattle.wasm_defs.specs.Outside.{Part, Section, Listed, Coded, Body, module_read}
 use Rattle.wasm_defs.specs.Supported.{is_compiled_section}
 use Rattle.wasm_defs.specs.Faults.{first_outside, ending_fault, sections_of, tokens_of, read_of, context_at, IsOutsideFault, IsFaultInside, IsValidCode}
 use Rattle.wasm_laws.specs.Order.{AreOrdered, end_of, first_section}
@@ -71,15 +71,15 @@ no_section low last items k words (Coded b ∷ parts) r s o (tree, v, inl f) g e
     omega (arith, stands.sized)
 no_section low last items k words (Coded b ∷ parts) r s o (tree, v, inr f) g e = no_section (end_of b) last items (suc k) (words + size_of items k b tree) parts r s o.1 f.1 g e
 
-pub text_not_outside : (bytes : List ℕ) (r s : Refusal) → IsOutsideFault bytes r → IsTextFault [] 0 0 (module_run bytes).parts s → r.offset ≡ s.offset → ⊥
+pub text_not_outside : (bytes : List ℕ) (r s : Refusal) → IsOutsideFault bytes r → IsTextFault [] 0 0 (module_read bytes).parts s → r.offset ≡ s.offset → ⊥
 text_not_outside bytes r s f g e = of f.0
   where
-    of : (ending_fault (length bytes) (module_run bytes).ending ≡ Some r) ⊎ (first_outside is_compiled_section (sections_of (module_run bytes).parts) ≡ Some r) → ⊥
-    of (inl h) = let k = text_before first_section r.offset [] 0 0 (module_run bytes).parts s (parts_before_fault bytes r h).0 g in omega arith
-    of (inr h) = no_section first_section (length bytes) [] 0 0 (module_run bytes).parts s r (parts_in_module bytes) g h (sym e)
+    of : (ending_fault (length bytes) (module_read bytes).ending ≡ Some r) ⊎ (first_outside is_compiled_section (sections_of (module_read bytes).parts) ≡ Some r) → ⊥
+    of (inl h) = let k = text_before first_section r.offset [] 0 0 (module_read bytes).parts s (parts_before_fault bytes r h).0 g in omega arith
+    of (inr h) = no_section first_section (length bytes) [] 0 0 (module_read bytes).parts s r (parts_in_module bytes) g h (sym e)
 
-pub text_not_inside : (bytes : List ℕ) (r s : Refusal) → IsFaultInside [] 0 (module_run bytes).parts r → IsTextFault [] 0 0 (module_run bytes).parts s → r.offset ≡ s.offset → ⊥
-text_not_inside bytes r s f g e = let h = text_first first_section (length bytes) [] 0 0 (module_run bytes).parts s r (parts_in_module bytes) g f in omega arith
+pub text_not_inside : (bytes : List ℕ) (r s : Refusal) → IsFaultInside [] 0 (module_read bytes).parts r → IsTextFault [] 0 0 (module_read bytes).parts s → r.offset ≡ s.offset → ⊥
+text_not_inside bytes r s f g e = let h = text_first first_section (length bytes) [] 0 0 (module_read bytes).parts s r (parts_in_module bytes) g f in omega arith
 
 -- ---- there is one at most
 

@@ -2,7 +2,7 @@
 use Rattle.std.proofs.Common.{◌≡◌, ◌<◌, inl, inr, ℕ, suc, List, [], ◌∷◌, ◌++◌, length, false, Option, Some, None, refl, sym, ap, ◌∙◌, subst, arith}
 use Rattle.std.proofs.lemmas.Bool.{cases_Bool, lt-ltb, le-ltb}
 use Rattle.wasm_defs.specs.declared.fault.Refusal.{Refusal}
-use Rattle.wasm_defs.specs.Outside.{Part, Section, Listed, Coded, Ending, Run, after_part, ends, module_run}
+use Rattle.wasm_defs.specs.Outside.{Part, Section, Listed, Coded, Ending, Run, after_part, ends, module_read}
 use Rattle.wasm_defs.specs.Supported.{is_compiled_section}
 use Rattle.wasm_defs.specs.Faults.{first_outside, ending_fault, sections_of, earlier, unsupported_at, Rejected}
 use Rattle.wasm_laws.specs.Order.{AreOrdered, first_section}
@@ -89,8 +89,8 @@ module _ (bytes : List ℕ) (spaces : Spaces) (codes : Coding) where
   -- a section stands before another one, and that one no later than the fault that ends reading
   stands_before : (e : Refusal) (at id at' id' : ℕ) (told : List Part) (ending : Ending) → IsJudging bytes (after_part (Section at id) (after_part (Section at' id') (after_parts told (ends ending)))) spaces codes → ending_fault (length bytes) ending ≡ Some e → at < e.offset
   stands_before e at id at' id' told ending j fault =
-      let is : ending_fault (length bytes) (module_run bytes).ending ≡ Some e = ap (ending_fault (length bytes)) (j.judged.ending ∙ ending_after told ending) ∙ fault in
-      let o : AreOrdered first_section e.offset (module_run bytes).parts = (parts_before_fault bytes e is).0 in
+      let is : ending_fault (length bytes) (module_read bytes).ending ≡ Some e = ap (ending_fault (length bytes)) (j.judged.ending ∙ ending_after told ending) ∙ fault in
+      let o : AreOrdered first_section e.offset (module_read bytes).parts = (parts_before_fault bytes e is).0 in
       let around = around_section first_section e.offset j.judged.front at id (Section at' id' ∷ (after_parts told (ends ending)).parts) (rw j.judged.parts at o) in
       let next = around_section (suc at) e.offset [] at' id' (after_parts told (ends ending)).parts around.3 in
       omega (arith, next.1, next.2)

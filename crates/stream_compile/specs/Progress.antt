@@ -9,7 +9,7 @@ use Rattle.wasm_defs.specs.Typing.{Context, function_type}
 use Rattle.wasm_defs.specs.Trees.{Seq}
 use Rattle.wasm_defs.specs.Context.{body_context, type_of_function}
 use Rattle.wasm_defs.specs.Bodies.{body_read}
-use Rattle.wasm_defs.specs.Outside.{Part, Section, Listed, Coded, Body, Run, module_run}
+use Rattle.wasm_defs.specs.Outside.{Part, Section, Listed, Coded, Body, Run, module_read}
 use Rattle.wasm_defs.specs.Supported.{is_compiled_section}
 use Rattle.wasm_defs.specs.Faults.{first_outside, sections_of, items_of, bodies_of, read_of, AreValid, Rejected}
 use Rattle.index_spaces.specs.Spaces.{Spaces, spaces_of, context_in}
@@ -39,8 +39,8 @@ AreCodes items k (Coded b ∷ parts) trees codes = ⊥
 -- these parts of the module were read and are right, with so many bodies, and this is left
 pub record IsJudged (bytes : List ℕ) (left : Run) (spaces : Spaces) (bodies : ℕ) : Type 0 where
   pub front : List Part
-  pub parts : (module_run bytes).parts ≡ front ++ left.parts
-  pub ending : (module_run bytes).ending ≡ left.ending
+  pub parts : (module_read bytes).parts ≡ front ++ left.parts
+  pub ending : (module_read bytes).ending ≡ left.ending
   pub spaces_are : spaces ≡ spaces_of (items_of front)
   pub count : bodies ≡ length (bodies_of front)
   pub compiled : first_outside is_compiled_section (sections_of front) ≡ None
@@ -56,8 +56,8 @@ pub record IsJudging (bytes : List ℕ) (left : Run) (spaces : Spaces) (codes : 
   -- with the exit stub their words keep the limit
   pub fits : 4 * (2 + codes.words) ≤ max_text
   -- a fault of the text stands in what is left
-  pub text_left : (r : Refusal) → IsTextFault [] 0 0 (module_run bytes).parts r → IsTextFault (items_of judged.front) (length (bodies_of judged.front)) codes.words left.parts r
-  pub text_whole : (r : Refusal) → IsTextFault (items_of judged.front) (length (bodies_of judged.front)) codes.words left.parts r → IsTextFault [] 0 0 (module_run bytes).parts r
+  pub text_left : (r : Refusal) → IsTextFault [] 0 0 (module_read bytes).parts r → IsTextFault (items_of judged.front) (length (bodies_of judged.front)) codes.words left.parts r
+  pub text_whole : (r : Refusal) → IsTextFault (items_of judged.front) (length (bodies_of judged.front)) codes.words left.parts r → IsTextFault [] 0 0 (module_read bytes).parts r
 
 -- what a body is judged by, before which so many bodies stand
 abbrev pub body_of_spaces : Spaces → ℕ → Body → Context

@@ -4,7 +4,7 @@ ghost use Rattle.std.specs.Prelude.{◌≡◌, ◌≢◌, ℕ, List, ◌++◌, l
 ghost use Rattle.wasm_defs.specs.declared.fault.Kind.TheVariants.{Ended};
 ghost use Rattle.wasm_defs.specs.declared.fault.Refusal.{Refusal};
 ghost use Rattle.wasm_defs.specs.Faults.{Verdict, Rejected};
-ghost use Rattle.wasm_defs.specs.Outside.{Owed, module_run};
+ghost use Rattle.wasm_defs.specs.Outside.{Owed, module_read};
 ghost use Rattle.image_linker.specs.Judging.{IsFaultOf, IsVerdictOf, IsStoppedAt, lasting_fault};
 
 /// Bytes have one verdict: they are one module, or they have one fault of least offset.
@@ -25,7 +25,7 @@ pub fn faults_stay()
 /// `Ended` is said of the bytes' number alone, where more of them are owed outside bodies.
 pub fn ended_is_owed()
     ensures { (bytes : List ℕ) (r : Refusal) → IsFaultOf bytes r → r.kind ≡ Ended →
-        ((module_run bytes).ending ≡ Owed) × (r.offset ≡ length bytes) }
+        ((module_read bytes).ending ≡ Owed) × (r.offset ≡ length bytes) }
 {}
 
 /// What decides where a source failed decides whatever else would have come: a reader that stops at that fault answers as one

@@ -6,7 +6,7 @@ use Rattle.wasm_defs.specs.declared.fault.Refusal.{Refusal}
 use Rattle.wasm_defs.specs.declared.item.Item.{Item}
 use Rattle.wasm_defs.specs.Items.{Section as Spelled}
 use Rattle.wasm_defs.specs.Limits.{max_text}
-use Rattle.wasm_defs.specs.Outside.{Part, Section, Listed, Coded, Body, module_run}
+use Rattle.wasm_defs.specs.Outside.{Part, Section, Listed, Coded, Body, module_read}
 use Rattle.wasm_defs.specs.Supported.{is_compiled_section}
 use Rattle.wasm_defs.specs.Trees.{Seq}
 use Rattle.wasm_defs.specs.Typing.{Context}
@@ -84,9 +84,9 @@ text_least items k words (Coded b ∷ parts) =
     ]
 
 -- behind these parts of the module it keeps its limit
-text_keeps : (bytes : List ℕ) (front parts : List Part) (k words : ℕ) (trees : List Seq) → (module_run bytes).parts ≡ front ++ parts → AreValid (items_of front) k parts trees
-    → ((s : Refusal) → IsTextFault (items_of front) k words parts s → ⊥) → text_bytes (items_of (module_run bytes).parts) words ≤ max_text
-    → text_bytes (items_of (module_run bytes).parts) (words + sizes (items_of (module_run bytes).parts) k (bodies_of parts) trees) ≤ max_text
+text_keeps : (bytes : List ℕ) (front parts : List Part) (k words : ℕ) (trees : List Seq) → (module_read bytes).parts ≡ front ++ parts → AreValid (items_of front) k parts trees
+    → ((s : Refusal) → IsTextFault (items_of front) k words parts s → ⊥) → text_bytes (items_of (module_read bytes).parts) words ≤ max_text
+    → text_bytes (items_of (module_read bytes).parts) (words + sizes (items_of (module_read bytes).parts) k (bodies_of parts) trees) ≤ max_text
 text_keeps bytes front [] k words trees e v none le = omega (arith, le)
 text_keeps bytes front (Section at id ∷ parts) k words trees e v none le =
     let same : items_of (front ++ Section at id ∷ []) ≡ items_of front = items_of-append front (Section at id ∷ []) ∙ append-nil (items_of front) in
@@ -97,7 +97,7 @@ text_keeps bytes front (Listed x ∷ parts) k words trees e v none le =
     (rw (items_of-append front (Listed x ∷ [])) v) (rw (items_of-append front (Listed x ∷ [])) none) le
 text_keeps bytes front (Coded b ∷ parts) k words [] e v none le = absurd v
 text_keeps bytes front (Coded b ∷ parts) k words (tree ∷ trees) e v none le =
-    let items = items_of (module_run bytes).parts in
+    let items = items_of (module_read bytes).parts in
     let behind = bodies_stand_behind bytes front b parts e in
     let size : size_of items k b tree ≡ size_of (items_of front) k b tree = same_size items (items_of front) behind.same k b tree in
     let stubs : front_size items ≡ front_size (items_of front) = ap (λ (n : ℕ). length exit_stub + stub_size * n) behind.same.imports in
@@ -113,24 +113,24 @@ text_keeps bytes front (Coded b ∷ parts) k words (tree ∷ trees) e v none le 
 
 -- ---- outside bodies
 
-outside_first : (bytes : List ℕ) → HasFirst (λ r. (ending_fault (length bytes) (module_run bytes).ending ≡ Some r) ⊎ (first_outside is_compiled_section (sections_of (module_run bytes).parts) ≡ Some r))
-outside_first bytes = first_of _ _ (only_of (ending_fault (length bytes) (module_run bytes).ending)) (only_of (first_outside is_compiled_section (sections_of (module_run bytes).parts)))
+outside_first : (bytes : List ℕ) → HasFirst (λ r. (ending_fault (length bytes) (module_read bytes).ending ≡ Some r) ⊎ (first_outside is_compiled_section (sections_of (module_read bytes).parts) ≡ Some r))
+outside_first bytes = first_of _ _ (only_of (ending_fault (length bytes) (module_read bytes).ending)) (only_of (first_outside is_compiled_section (sections_of (module_read bytes).parts)))
 
 -- ---- verdicts
 
 fault_least : (bytes : List ℕ) → HasLeast (IsFaultOf bytes)
 fault_least bytes =
-    least_either (IsFault bytes) (IsTextFault [] 0 0 (module_run bytes).parts)
-    (least_either (IsOutsideFault bytes) (IsFaultInside [] 0 (module_run bytes).parts) (least_first _ (outside_first bytes)) (inside_least [] 0 (module_run bytes).parts))
-    (text_least [] 0 0 (module_run bytes).parts)
+    least_either (IsFault bytes) (IsTextFault [] 0 0 (module_read bytes).parts)
+    (least_either (IsOutsideFault bytes) (IsFaultInside [] 0 (module_read bytes).parts) (least_first _ (outside_first bytes)) (inside_least [] 0 (module_read bytes).parts))
+    (text_least [] 0 0 (module_read bytes).parts)
 
 pub module_of : (bytes : List ℕ) → ((r : Refusal) → IsFaultOf bytes r → ⊥) → (m : Module) × IsModuleOf bytes m
 module_of bytes none = of (outside_first bytes)
   where
-    of : HasFirst (λ r. (ending_fault (length bytes) (module_run bytes).ending ≡ Some r) ⊎ (first_outside is_compiled_section (sections_of (module_run bytes).parts) ≡ Some r)) → (m : Module) × IsModuleOf bytes m
+    of : HasFirst (λ r. (ending_fault (length bytes) (module_read bytes).ending ≡ Some r) ⊎ (first_outside is_compiled_section (sections_of (module_read bytes).parts) ≡ Some r)) → (m : Module) × IsModuleOf bytes m
     of (inl f) = absurd (none f.0 (inl (inl f.1)))
     of (inr outside) =
-        let all = (module_run bytes).parts in
+        let all = (module_read bytes).parts in
         let valid = trees_of [] 0 all (λ s f. none s (inl (inr f))) in
         let compiled : first_outside is_compiled_section (sections_of all) ≡ None = none_of _ (λ s e. outside s (inr e)) in
         let m : Module = record { items = items_of all; bodies = bodies_of all; trees = valid.0 } in

@@ -5,7 +5,7 @@ use Rattle.wasm_defs.specs.declared.fault.Kind.TheVariants.{Malformed, Unsupport
 use Rattle.wasm_defs.specs.declared.fault.Refusal.{Refusal}
 use Rattle.wasm_defs.specs.declared.item.Item.{Item}
 use Rattle.wasm_defs.specs.declared.token.Token.{Token}
-use Rattle.wasm_defs.specs.Outside.{Part, Section, Listed, Coded, Body, Ending, Whole, Refused, Owed, module_run}
+use Rattle.wasm_defs.specs.Outside.{Part, Section, Listed, Coded, Body, Ending, Whole, Refused, Owed, module_read}
 use Rattle.wasm_defs.specs.Bodies.{Spelled, BodyRead, body_read}
 use Rattle.wasm_defs.specs.Context.{context_of, import_count, body_context, type_of_function}
 use Rattle.wasm_defs.specs.Supported.{is_compiled_section, is_compiled_opcode}
@@ -63,7 +63,7 @@ sections_of (Coded b ∷ parts) = sections_of parts
 
 abbrev pub IsOutsideFault : List ℕ → Refusal → Type 0
 IsOutsideFault bytes =
-    let run = module_run bytes in
+    let run = module_read bytes in
     IsFirst (λ r. (ending_fault (length bytes) run.ending ≡ Some r) ⊎ (first_outside is_compiled_section (sections_of run.parts) ≡ Some r))
 
 -- ---- in a body
@@ -111,7 +111,7 @@ IsFaultInside items k (Coded b ∷ parts) r = IsCodeFault (context_at items k b)
 -- ---- the module
 
 abbrev pub IsFault : List ℕ → Refusal → Type 0
-IsFault bytes r = IsOutsideFault bytes r ⊎ IsFaultInside [] 0 (module_run bytes).parts r
+IsFault bytes r = IsOutsideFault bytes r ⊎ IsFaultInside [] 0 (module_read bytes).parts r
 
 -- the code of a valid body, which is compiled
 pub record IsValidCode (c : Context) (code : Spelled) (tree : Seq) : Type 0 where
@@ -148,11 +148,11 @@ pub record Module : Type 0 where
   pub trees : List Seq
 
 pub record IsModule (bytes : List ℕ) (m : Module) : Type 0 where
-  pub whole : ending_fault (length bytes) (module_run bytes).ending ≡ None
-  pub compiled : first_outside is_compiled_section (sections_of (module_run bytes).parts) ≡ None
-  pub items : m.items ≡ items_of (module_run bytes).parts
-  pub bodies : m.bodies ≡ bodies_of (module_run bytes).parts
-  pub valid : AreValid [] 0 (module_run bytes).parts m.trees
+  pub whole : ending_fault (length bytes) (module_read bytes).ending ≡ None
+  pub compiled : first_outside is_compiled_section (sections_of (module_read bytes).parts) ≡ None
+  pub items : m.items ≡ items_of (module_read bytes).parts
+  pub bodies : m.bodies ≡ bodies_of (module_read bytes).parts
+  pub valid : AreValid [] 0 (module_read bytes).parts m.trees
 
 -- what bytes can come to. Which it is, the crate that makes images says (`IsVerdictOf`), since the text of an image has a limit too.
 pub data Verdict : Type 0 where

@@ -224,5 +224,5 @@ preamble = do
 abbrev pub beginning : List ℕ → Cursor
 beginning bytes = record { at = 0; rest = bytes; end = no_end }
 
-abbrev pub module_run : List ℕ → Run
-module_run bytes = runs_on (preamble (beginning bytes)) (λ x c. sections nothing c)
+abbrev pub module_read : List ℕ → Run
+module_read bytes = runs_on (preamble (beginning bytes)) (λ x c. sections nothing c)

@@ -7,7 +7,7 @@ use Rattle.wasm_defs.specs.declared.item.Limits.{Limits}
 use Rattle.wasm_defs.specs.declared.types.FuncType.{FuncType}
 use Rattle.wasm_defs.specs.Context.{types_of, functions_of, import_count, declared_count, tables_of, memories_of, globals_of, context_of, body_context, type_of_function}
 use Rattle.wasm_defs.specs.Faults.{items_of, bodies_of, read_of, context_at, IsValidCode, AreValid, Module, IsModule}
-use Rattle.wasm_defs.specs.Outside.{Body, Part, Section, Listed, Coded, module_run}
+use Rattle.wasm_defs.specs.Outside.{Body, Part, Section, Listed, Coded, module_read}
 use Rattle.wasm_defs.specs.Trees.{Seq}
 use Rattle.wasm_defs.specs.Typing.{Context}
 use Rattle.wasm_laws.specs.Behind.{AreSegments, SayTheSame, StandBehind, AreValidIn}
@@ -110,13 +110,13 @@ late_are_segments before id (Listed (Segment memory place bytes) ∷ parts) le h
 late_are_segments before id (Listed x ∷ parts) le h = absurd (omega (arith, h.0, h.1))
 late_are_segments before id (Coded b ∷ parts) le h = late_are_segments 10 10 parts (omega arith) h.2
 
-pub segments_behind : (bytes : List ℕ) (front : List Part) (b : Body) (back : List Part) → (module_run bytes).parts ≡ front ++ Coded b ∷ back → AreSegments (items_of back)
+pub segments_behind : (bytes : List ℕ) (front : List Part) (b : Body) (back : List Part) → (module_read bytes).parts ≡ front ++ Coded b ∷ back → AreSegments (items_of back)
 segments_behind bytes front b back e = late_are_segments 10 10 back (omega arith) (sorted_behind 0 0 front b back (subst (AreSorted 0 0) e (parts_are_sorted bytes)))
 
-pub bodies_stand_behind : (bytes : List ℕ) (front : List Part) (b : Body) (back : List Part) → (module_run bytes).parts ≡ front ++ Coded b ∷ back → StandBehind (module_run bytes).parts front back
+pub bodies_stand_behind : (bytes : List ℕ) (front : List Part) (b : Body) (back : List Part) → (module_read bytes).parts ≡ front ++ Coded b ∷ back → StandBehind (module_read bytes).parts front back
 bodies_stand_behind bytes front b back e =
     let segments = segments_behind bytes front b back e in
-    let items : items_of (module_run bytes).parts ≡ items_of front ++ items_of back = ap items_of e ∙ items_around front b back in
+    let items : items_of (module_read bytes).parts ≡ items_of front ++ items_of back = ap items_of e ∙ items_around front b back in
     record { segments = segments; same = subst (λ (l : List Item). SayTheSame l (items_of front)) (sym items) (segments_say_nothing (items_of front) (items_of back) segments) }
 
 -- ---- valid bodies
@@ -138,7 +138,7 @@ no_items_more [] = refl
 no_items_more (x ∷ xs) = ap (λ (l : List Item). x ∷ l) (no_items_more xs)
 
 -- the items before a body say the same as all
-valid_in_all : (bytes : List ℕ) (front : List Part) (items : List Item) (k : ℕ) (parts : List Part) (trees : List Seq) → (module_run bytes).parts ≡ front ++ parts → items_of front ≡ items → AreValid items k parts trees → AreValidIn (items_of (module_run bytes).parts) k (bodies_of parts) trees
+valid_in_all : (bytes : List ℕ) (front : List Part) (items : List Item) (k : ℕ) (parts : List Part) (trees : List Seq) → (module_read bytes).parts ≡ front ++ parts → items_of front ≡ items → AreValid items k parts trees → AreValidIn (items_of (module_read bytes).parts) k (bodies_of parts) trees
 valid_in_all bytes front items k [] [] e same h = tt
 valid_in_all bytes front items k [] (tree ∷ trees) e same h = absurd h
 valid_in_all bytes front items k (Section at id ∷ parts) trees e same h =
@@ -147,7 +147,7 @@ valid_in_all bytes front items k (Listed x ∷ parts) trees e same h =
     valid_in_all bytes (front ++ Listed x ∷ []) (items ++ x ∷ []) k parts trees (e ∙ sym (append_assoc front (Listed x ∷ []) parts)) (items_with front (Listed x) ∙ ap (λ (l : List Item). l ++ x ∷ []) same) h
 valid_in_all bytes front items k (Coded b ∷ parts) [] e same h = absurd h
 valid_in_all bytes front items k (Coded b ∷ parts) (tree ∷ trees) e same h =
-    let all = items_of (module_run bytes).parts in
+    let all = items_of (module_read bytes).parts in
     let stands = bodies_stand_behind bytes front b parts e in
     let here : context_at items k b ≡ context_at all k b = ap (λ (l : List Item). context_at l k b) (sym same) ∙ same_context all (items_of front) k b stands.same in (
       subst (λ (c : Context). IsValidCode c (read_of b).code tree) here h.0,
@@ -156,4 +156,4 @@ valid_in_all bytes front items k (Coded b ∷ parts) (tree ∷ trees) e same h =
 
 pub bodies_are_valid : (bytes : List ℕ) (m : Module) → IsModule bytes m → AreValidIn m.items 0 m.bodies m.trees
 bodies_are_valid bytes m is =
-    rw (is.items, is.bodies) (valid_in_all bytes [] [] 0 (module_run bytes).parts m.trees refl refl is.valid)
+    rw (is.items, is.bodies) (valid_in_all bytes [] [] 0 (module_read bytes).parts m.trees refl refl is.valid)

@@ -13,7 +13,7 @@ use Rattle.wasm_defs.specs.declared.types.ValType.{ValType}
 use Rattle.wasm_defs.specs.Fields.{Cursor, Read, Got, Fault, Wants, byte}
 use Rattle.wasm_defs.specs.Entries.{Seen, nothing}
 use Rattle.wasm_defs.specs.Bodies.{Group, Spelled, group, groups, local_groups, with_index, block_type, with_type, label, branch_table, zero_byte, indirect, with_zero, mem_arg, with_mem_arg, constant, control, variable, accessed_at, memory, operated_at, numeric, instruction, malformed_at, closed, goes_on, depth_after, spelled_from, read_code, last_of, body_cursor, body_read}
-use Rattle.wasm_defs.specs.Outside.{Row, row, entered, noted, inside, Ending, Whole, Refused, Owed, Run, runs_on, Next, finish, entries, contents, section, owes_code, or_section, sections_up_to, beginning, module_run}
+use Rattle.wasm_defs.specs.Outside.{Row, row, entered, noted, inside, Ending, Whole, Refused, Owed, Run, runs_on, Next, finish, entries, contents, section, owes_code, or_section, sections_up_to, beginning, module_read}
 use Rattle.wasm_defs.specs.Faults.{rank}
 use Rattle.wasm_laws.proofs.FieldKinds.{Lasts, Lasting, LastingRow, lasting, value_type_lasts, bind, done_lasts, refused_lasts, either, unsupported, malformed, byte_lasts, header_lasts, preamble_lasts, end_lasts, row_lasts}
 
@@ -184,5 +184,5 @@ unfolding sections_up_to
 up_to_lasts zero seen c = tt
 up_to_lasts (suc n) seen c = or_lasts (sections_up_to n) (up_to_lasts n) seen c c.rest
 
-pub module_lasts : (bytes : List ℕ) → EndingLasts (module_run bytes).ending
+pub module_lasts : (bytes : List ℕ) → EndingLasts (module_read bytes).ending
 module_lasts bytes = runs_last _ _ (preamble_lasts.by (beginning bytes)) (λ x c. up_to_lasts (length c.rest + 1) nothing c)

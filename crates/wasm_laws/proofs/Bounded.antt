@@ -6,7 +6,7 @@ use Rattle.wasm_defs.specs.declared.fault.Kind.TheVariants.{Limit}
 use Rattle.wasm_defs.specs.Limits.{max_module}
 use Rattle.wasm_defs.specs.Fields.{Cursor, Read, Got, Fault, Wants, Reader, ◌>>=◌, done, refused, past, room_of, window, byte, u32, here, fixed}
 use Rattle.wasm_defs.specs.Entries.{Seen, nothing}
-use Rattle.wasm_defs.specs.Outside.{Row, row, header, is_misplaced, entered, noted, inside, no_end, Ending, Refused, Run, runs_on, Next, finish, entries, contents, section, or_section, sections_up_to, magic, version, preamble, beginning, module_run}
+use Rattle.wasm_defs.specs.Outside.{Row, row, header, is_misplaced, entered, noted, inside, no_end, Ending, Refused, Run, runs_on, Next, finish, entries, contents, section, or_section, sections_up_to, magic, version, preamble, beginning, module_read}
 use Rattle.wasm_laws.specs.Runs.{GoesOn, deciding_length, IsRefused}
 use Rattle.wasm_laws.proofs.Steady.{IfGot, Advance, Moves, moves_of, moves_then, IsThere}
 use Rattle.wasm_laws.proofs.FieldLaws.{u32_field}
@@ -153,7 +153,7 @@ preamble_comes bytes long =
     (λ m d q. rw q (then_comes (λ v e. e ≡ past (past c 4) 4) _ (fixed version (past c 4)) _ (fixed_comes version (past c 4) (omega (arith, length-take (no_end - 4) (drop 4 bytes), length-drop 4 bytes)))
     (λ v e k. rw k (record { low = omega arith; there = omega (arith, length-drop 4 (drop 4 bytes), length-drop 4 bytes); far = refl }))))
 
-pub module_is_refused : (bytes : List ℕ) → deciding_length ≤ length bytes → IsRefused (module_run bytes).ending
+pub module_is_refused : (bytes : List ℕ) → deciding_length ≤ length bytes → IsRefused (module_read bytes).ending
 module_is_refused bytes long =
     runs_refused (λ v d. Between d) (preamble (beginning bytes)) _ (preamble_comes bytes long)
     (λ v d p. up_to_stops (length d.rest + 1) nothing d p (omega arith))
@@ -164,5 +164,5 @@ refused_stays r later h goes =
     let kept : later ≡ record { parts = r.parts; ending = Refused h.0 } = rw h.1 at goes in
     kept ∙ ap (λ (e : Ending). record { parts = r.parts; ending = e }) (sym h.1)
 
-pub module_stays : (bytes more : List ℕ) → deciding_length ≤ length bytes → module_run (bytes ++ more) ≡ module_run bytes
-module_stays bytes more long = refused_stays (module_run bytes) (module_run (bytes ++ more)) (module_is_refused bytes long) (module_goes_on bytes more)
+pub module_stays : (bytes more : List ℕ) → deciding_length ≤ length bytes → module_read (bytes ++ more) ≡ module_read bytes
+module_stays bytes more long = refused_stays (module_read bytes) (module_read (bytes ++ more)) (module_is_refused bytes long) (module_goes_on bytes more)

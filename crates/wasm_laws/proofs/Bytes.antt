@@ -3,7 +3,7 @@ use Rattle.std.proofs.Common.{ℕ, ◌<◌, List, [], ◌∷◌, length, drop, s
 use Rattle.std.proofs.lemmas.List.Elements.{All-head, All-tail, All-take, All-drop}
 use Rattle.wasm_defs.proofs.NumberLaws as numbers
 use Rattle.wasm_defs.specs.Faults.{bodies_of}
-use Rattle.wasm_defs.specs.Outside.{Body, Part, Section, Listed, Coded, module_run}
+use Rattle.wasm_defs.specs.Outside.{Body, Part, Section, Listed, Coded, module_read}
 use Rattle.wasm_laws.specs.Order.{AreCutFrom}
 use Rattle.wasm_laws.specs.Sections.{AreBytes}
 use Rattle.wasm_laws.proofs.Cuts.{parts_are_cut}
@@ -25,5 +25,5 @@ cut_have_bytes bytes (Coded b ∷ parts) fits h =
     (subst AreBytes h.0 own, cut_have_bytes bytes parts fits h.1)
 
 -- the bodies of a module of bytes have bytes
-pub bodies_have_bytes : (bytes : List ℕ) → AreBytes bytes → HaveBytes (bodies_of (module_run bytes).parts)
-bodies_have_bytes bytes fits = cut_have_bytes bytes (module_run bytes).parts fits (parts_are_cut bytes)
+pub bodies_have_bytes : (bytes : List ℕ) → AreBytes bytes → HaveBytes (bodies_of (module_read bytes).parts)
+bodies_have_bytes bytes fits = cut_have_bytes bytes (module_read bytes).parts fits (parts_are_cut bytes)

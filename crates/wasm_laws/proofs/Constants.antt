@@ -11,7 +11,7 @@ use Rattle.wasm_defs.specs.Fields.{Cursor, Read, Got, Fault, Wants, byte, number
 use Rattle.wasm_defs.specs.Entries.{Seen, nothing, value_type, mutability, const_opcode, bits_of, constant, global, code}
 use Rattle.wasm_defs.specs.Faults.{items_of}
 use Rattle.wasm_defs.specs.Items.{section_of}
-use Rattle.wasm_defs.specs.Outside.{Part, Section, Listed, Coded, listed, body, code_entry, custom_name, row, header, entered, noted, inside, section_end, Run, after_part, runs_on, Next, finish, entries, contents, section, owes_code, at_the_end, or_section, sections_up_to, preamble, beginning, module_run}
+use Rattle.wasm_defs.specs.Outside.{Part, Section, Listed, Coded, listed, body, code_entry, custom_name, row, header, entered, noted, inside, section_end, Run, after_part, runs_on, Next, finish, entries, contents, section, owes_code, at_the_end, or_section, sections_up_to, preamble, beginning, module_read}
 use Rattle.wasm_laws.specs.Kept.{FitsType, ConstantsFit}
 use Rattle.wasm_laws.specs.Sections as sections
 use Rattle.wasm_laws.specs.Steadiness.{Advances, Leaves}
@@ -193,7 +193,7 @@ unfolding sections_up_to
 up_to_fit zero seen c fits = record { constants = tt }
 up_to_fit (suc n) seen c fits = or_fits (sections_up_to n) (up_to_fit n) seen c c.rest fits
 
-pub constants_fit : (bytes : List ℕ) → sections.AreBytes bytes → ConstantsFit (items_of (module_run bytes).parts)
+pub constants_fit : (bytes : List ℕ) → sections.AreBytes bytes → ConstantsFit (items_of (module_read bytes).parts)
 constants_fit bytes fits =
     (runs_fit (λ v c. HasBytes c) (preamble (beginning bytes)) _ (bytes_later (beginning bytes) (preamble (beginning bytes)) ((preamble_steady []).moves (beginning bytes)) (each_byte bytes fits))
     (λ v c behind. up_to_fit (length c.rest + 1) nothing c behind)).constants

@@ -5,7 +5,7 @@ use Rattle.wasm_defs.specs.declared.item.Item.{Item}
 use Rattle.wasm_defs.specs.Fields.{Cursor, Read, Got, Fault, Wants, u32, count}
 use Rattle.wasm_defs.specs.Entries.{Seen, nothing, code}
 use Rattle.wasm_defs.specs.Limits.{max_entries}
-use Rattle.wasm_defs.specs.Outside.{Part, Section, Listed, Coded, listed, body, number_of, at_most_one, function_count, custom_name, code_entry, Row, row, header, entered, noted, inside, section_end, Ending, Run, ends, after_part, runs_on, Next, finish, entries, contents, section, owes_code, at_the_end, or_section, sections_up_to, preamble, beginning, module_run}
+use Rattle.wasm_defs.specs.Outside.{Part, Section, Listed, Coded, listed, body, number_of, at_most_one, function_count, custom_name, code_entry, Row, row, header, entered, noted, inside, section_end, Ending, Run, ends, after_part, runs_on, Next, finish, entries, contents, section, owes_code, at_the_end, or_section, sections_up_to, preamble, beginning, module_read}
 use Rattle.wasm_defs.specs.Items.{section_of}
 use Rattle.wasm_defs.specs.Faults.{items_of}
 use Rattle.wasm_laws.proofs.Steady.{IfGot, always}
@@ -219,7 +219,7 @@ module _ (id : ℕ) (not_code : id ≢ 10) where
   up_to_few zero seen c = record { all = omega arith; later = λ le. refl }
   up_to_few (suc n) seen c = or_few (sections_up_to n) (up_to_few n) seen c c.rest
 
-  pub entries_are_few : (bytes : List ℕ) → entries_in id (items_of (module_run bytes).parts) ≤ max_entries
+  pub entries_are_few : (bytes : List ℕ) → entries_in id (items_of (module_read bytes).parts) ≤ max_entries
   entries_are_few bytes =
       (runs_few (λ v c. Unit {0}) 0 (preamble (beginning bytes)) _ (always (preamble (beginning bytes)))
       (λ v c t. up_to_few (length c.rest + 1) nothing c)).all

@@ -5,7 +5,7 @@ use Rattle.wasm_defs.specs.declared.item.Item.{Item}
 use Rattle.wasm_defs.specs.declared.item.Item.TheVariants.{Function, Code}
 use Rattle.wasm_defs.specs.Fields.{Cursor, Read, Got, Fault, Wants}
 use Rattle.wasm_defs.specs.Entries.{Seen, nothing, note, code}
-use Rattle.wasm_defs.specs.Outside.{Body, Part, Section, Listed, Coded, listed, body, code_entry, Row, row, header, entered, noted, inside, section_end, Ending, Whole, Refused, Owed, Run, ends, after_part, runs_on, Next, finish, entries, contents, section, owes_code, at_the_end, or_section, sections_up_to, preamble, beginning, module_run}
+use Rattle.wasm_defs.specs.Outside.{Body, Part, Section, Listed, Coded, listed, body, code_entry, Row, row, header, entered, noted, inside, section_end, Ending, Whole, Refused, Owed, Run, ends, after_part, runs_on, Next, finish, entries, contents, section, owes_code, at_the_end, or_section, sections_up_to, preamble, beginning, module_read}
 use Rattle.wasm_defs.specs.Context.{declared_count}
 use Rattle.wasm_defs.specs.Faults.{items_of, bodies_of}
 use Rattle.wasm_laws.specs.Counts.{AreDeclared}
@@ -301,13 +301,13 @@ up_to_agrees (suc n) seen c bodies h = or_agrees (sections_up_to n) (up_to_agree
 
 -- ---- modules
 
-module_counts : (bytes : List ℕ) → RunCounts 0 0 (module_run bytes)
+module_counts : (bytes : List ℕ) → RunCounts 0 0 (module_read bytes)
 module_counts bytes =
     runs_count (λ v c. Unit {0}) 0 0 (preamble (beginning bytes)) _ (always (preamble (beginning bytes)))
     (λ v c t. up_to_agrees (length c.rest + 1) nothing c 0 (record { before = λ lt. (refl, refl); behind = λ le. absurd (omega arith) }))
 
-pub bodies_are_declared : (bytes : List ℕ) → AreDeclared 0 0 (module_run bytes).parts
+pub bodies_are_declared : (bytes : List ℕ) → AreDeclared 0 0 (module_read bytes).parts
 bodies_are_declared bytes = (module_counts bytes).each
 
-pub bodies_match : (bytes : List ℕ) (seen : Seen) → (module_run bytes).ending ≡ Whole seen → length (bodies_of (module_run bytes).parts) ≡ declared_count (items_of (module_run bytes).parts)
+pub bodies_match : (bytes : List ℕ) (seen : Seen) → (module_read bytes).ending ≡ Whole seen → length (bodies_of (module_read bytes).parts) ≡ declared_count (items_of (module_read bytes).parts)
 bodies_match bytes seen e = omega (arith, (module_counts bytes).all seen e)

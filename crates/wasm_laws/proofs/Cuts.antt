@@ -6,7 +6,7 @@ use Rattle.wasm_defs.specs.declared.item.Item.{Item}
 use Rattle.wasm_defs.specs.Limits.{max_body}
 use Rattle.wasm_defs.specs.Fields.{Cursor, Read, Got, Fault, Wants, Reader, then_go, done, room_of, window, u32, room, here, run}
 use Rattle.wasm_defs.specs.Entries.{Seen, nothing, code}
-use Rattle.wasm_defs.specs.Outside.{Part, Section, Listed, Coded, listed, body, entries_of, code_entry, Row, row, header, entered, noted, inside, no_end, section_end, Run, after_part, runs_on, Next, finish, entries, contents, section, owes_code, at_the_end, or_section, sections_up_to, preamble, beginning, module_run}
+use Rattle.wasm_defs.specs.Outside.{Part, Section, Listed, Coded, listed, body, entries_of, code_entry, Row, row, header, entered, noted, inside, no_end, section_end, Run, after_part, runs_on, Next, finish, entries, contents, section, owes_code, at_the_end, or_section, sections_up_to, preamble, beginning, module_read}
 use Rattle.wasm_laws.specs.Order.{AreCutFrom}
 use Rattle.wasm_laws.proofs.Steady.{IfGot, Advance}
 use Rattle.wasm_laws.proofs.Windows.{cut_got}
@@ -144,10 +144,10 @@ module _ (bytes : List ℕ) where
 
   -- ---- modules
 
-  pub parts_are_cut : AreCutFrom bytes (module_run bytes).parts
+  pub parts_are_cut : AreCutFrom bytes (module_read bytes).parts
   parts_are_cut =
       let c = beginning bytes in
-      let run : RunIsCut (module_run bytes) =
+      let run : RunIsCut (module_read bytes) =
       runs_are_cut (λ v d. Advance c d) (preamble c) _ ((preamble_steady []).moves c)
       (λ v d p. up_to_cuts (length d.rest + 1) nothing d (shows_on c d (record { rest = refl }) p)) in
       run.parts

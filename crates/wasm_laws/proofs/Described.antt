@@ -6,7 +6,7 @@ use Rattle.wasm_defs.specs.declared.item.Item.TheVariants.{Code}
 use Rattle.wasm_defs.specs.Context.{declared_count}
 use Rattle.wasm_defs.specs.Fields.{Cursor, fixed}
 use Rattle.wasm_defs.specs.Entries.{Seen, nothing}
-use Rattle.wasm_defs.specs.Outside.{Body, Part, Listed, Coded, Ending, Whole, Refused, Owed, Run, sections, magic, version, preamble, beginning, module_run}
+use Rattle.wasm_defs.specs.Outside.{Body, Part, Listed, Coded, Ending, Whole, Refused, Owed, Run, sections, magic, version, preamble, beginning, module_read}
 use Rattle.wasm_defs.specs.Faults.{items_of, bodies_of, ending_fault, Module, IsModule}
 use Rattle.wasm_defs.specs.Items.{◌then◌, exactly, each_is, Section, Payload, Custom, Vector, Starting, Bodies, section_is, payload_items, payload_bodies, items_in, bodies_in}
 use Rattle.wasm_laws.specs.Sections.{parts_of, parts_in, AreSectionsOf}
@@ -72,7 +72,7 @@ record Behind (bytes : List ℕ) (parts : List Part) : Type 0 where
   found : Found (exactly magic then exactly version) (Unit {0}) (beginning bytes) stop
   rest : Rest nothing stop parts
 
-module_found : (bytes : List ℕ) → numbers.AreBytes bytes → IfWhole (Behind bytes) (module_run bytes)
+module_found : (bytes : List ℕ) → numbers.AreBytes bytes → IfWhole (Behind bytes) (module_read bytes)
 module_found bytes fits =
     let ready : Ready (beginning bytes) = record { low = omega arith; bytes = fits } in
     whole_on (λ v d. Found (exactly magic then exactly version) (Unit {0}) (beginning bytes) d) (Behind bytes) (preamble (beginning bytes)) _ (preamble_found (beginning bytes) ready)
@@ -108,10 +108,10 @@ described bytes parts b match =
     )
 
 -- a run that is whole describes its module
-pub whole_is_described : (bytes : List ℕ) (parts : List Part) → numbers.AreBytes bytes → (seen : Seen) → module_run bytes ≡ record { parts = parts; ending = Whole seen } → (sections : List Section) × AreSectionsOf sections bytes × (parts ≡ parts_in sections)
+pub whole_is_described : (bytes : List ℕ) (parts : List Part) → numbers.AreBytes bytes → (seen : Seen) → module_read bytes ≡ record { parts = parts; ending = Whole seen } → (sections : List Section) × AreSectionsOf sections bytes × (parts ≡ parts_in sections)
 whole_is_described bytes parts fits seen e =
-    let same : (module_run bytes).parts ≡ parts = ap (λ (r : Run). r.parts) e in
-    let ends : (module_run bytes).ending ≡ Whole seen = ap (λ (r : Run). r.ending) e in
+    let same : (module_read bytes).parts ≡ parts = ap (λ (r : Run). r.parts) e in
+    let ends : (module_read bytes).ending ≡ Whole seen = ap (λ (r : Run). r.ending) e in
     described bytes parts (subst (Behind bytes) same (module_found bytes fits seen ends)) (subst (λ (l : List Part). length (bodies_of l) ≡ declared_count (items_of l)) same (bodies_match bytes seen ends))
 
 no_fault : (len : ℕ) (ending : Ending) → ending_fault len ending ≡ None → (seen : Seen) × (ending ≡ Whole seen)
@@ -122,7 +122,7 @@ no_fault len Owed e = absurd cc
 -- the items and bodies of a module
 pub module_is_described : (bytes : List ℕ) (m : Module) → numbers.AreBytes bytes → IsModule bytes m → (sections : List Section) × AreSectionsOf sections bytes × (m.items ≡ items_in sections) × (m.bodies ≡ bodies_in sections)
 module_is_described bytes m fits is =
-    let run = module_run bytes in
+    let run = module_read bytes in
     let whole = no_fault (length bytes) run.ending is.whole in
     let d = whole_is_described bytes run.parts fits whole.0 (ap (λ (z : Ending). record { parts = run.parts; ending = z }) whole.1) in (
       d.0,

@@ -11,7 +11,7 @@ use Rattle.wasm_defs.specs.declared.types.FuncType.{FuncType}
 use Rattle.wasm_defs.specs.Context.{types_of, functions_of, context_of, type_or_empty, type_of_function}
 use Rattle.wasm_defs.specs.Faults.{items_of}
 use Rattle.wasm_defs.specs.Instances.{exports_of, named}
-use Rattle.wasm_defs.specs.Outside.{module_run}
+use Rattle.wasm_defs.specs.Outside.{module_read}
 use Rattle.wasm_defs.specs.Typing.{Context}
 use Rattle.wasm_laws.specs.Kept.{TypeIsSmall, TypesAreSmall, IsThere, AreThere}
 use Rattle.wasm_laws.proofs.Typed.{AreIndexed, AreBelow, own_below, function_has_type, items_are_indexed}
@@ -24,8 +24,8 @@ kept_are_small functions [] h = tt
 kept_are_small functions (Signature form params results ty ∷ xs) h = (h.0, kept_are_small (functions + 0) xs h.1)
 kept_are_small functions (x ∷ xs) h = kept_are_small (functions + length (functions_of (x ∷ []))) xs h.1
 
-pub types_are_small : (bytes : List ℕ) → TypesAreSmall (types_of (items_of (module_run bytes).parts))
-types_are_small bytes = kept_are_small 0 (items_of (module_run bytes).parts) (items_are_kept bytes)
+pub types_are_small : (bytes : List ℕ) → TypesAreSmall (types_of (items_of (module_read bytes).parts))
+types_are_small bytes = kept_are_small 0 (items_of (module_read bytes).parts) (items_are_kept bytes)
 
 found_is_small : (types : List FuncType) (i : ℕ) → TypesAreSmall types → TypeIsSmall (type_or_empty (slice_get types i))
 found_is_small [] i h = record { params = omega arith; results = omega arith }
@@ -78,9 +78,9 @@ indexed_are_below types (x ∷ xs) h =
     below_append : (n : ℕ) (fs gs : List ℕ) → AreBelow n fs → AreBelow n gs → AreBelow n (fs ++ gs)
     below_append n fs gs p q = record { each = All-append (λ i. i < n) fs gs p.each q.each }
 
-pub functions_are_typed : (bytes : List ℕ) → let c = context_of (items_of (module_run bytes).parts) in AreBelow (length c.types) c.functions
+pub functions_are_typed : (bytes : List ℕ) → let c = context_of (items_of (module_read bytes).parts) in AreBelow (length c.types) c.functions
 functions_are_typed bytes =
-    let items = items_of (module_run bytes).parts in
+    let items = items_of (module_read bytes).parts in
     below_more (0 + length (types_of items)) (length (types_of items)) (functions_of items) (omega arith) (indexed_are_below 0 items (items_are_indexed bytes))
 
 -- ---- exports
@@ -93,9 +93,9 @@ module _ (c : Context) (typed : AreBelow (length c.types) c.functions) where
       (record { function = lt; typed = function_has_type c index.1 lt typed }, kept_are_there (functions + 0) xs h.1 (omega arith))
   kept_are_there functions (x ∷ xs) h le = kept_are_there (functions + length (functions_of (x ∷ []))) xs h.1 (omega (arith, functions_cons x xs))
 
-pub exports_are_there : (bytes : List ℕ) → let items = items_of (module_run bytes).parts in AreThere (context_of items) (length (functions_of items)) (exports_of items)
+pub exports_are_there : (bytes : List ℕ) → let items = items_of (module_read bytes).parts in AreThere (context_of items) (length (functions_of items)) (exports_of items)
 exports_are_there bytes =
-    let items = items_of (module_run bytes).parts in
+    let items = items_of (module_read bytes).parts in
     kept_are_there (context_of items) (functions_are_typed bytes) 0 items (items_are_kept bytes) (omega arith)
 
 -- the function that a name stands for

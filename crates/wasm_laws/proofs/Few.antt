@@ -3,7 +3,7 @@ use Rattle.std.proofs.Common.{◌≡◌, ℕ, zero, suc, ◌+◌, ◌≤◌, ◌
 use Rattle.std.proofs.lemmas.Bool.{cases_Bool}
 use Rattle.wasm_defs.specs.Fields.{Cursor, Read, Got, Fault, Wants}
 use Rattle.wasm_defs.specs.Entries.{Seen, nothing}
-use Rattle.wasm_defs.specs.Outside.{Part, Section, Row, row, header, entered, noted, inside, Run, after_part, runs_on, Next, finish, entries, contents, section, owes_code, at_the_end, or_section, sections_up_to, preamble, beginning, module_run}
+use Rattle.wasm_defs.specs.Outside.{Part, Section, Row, row, header, entered, noted, inside, Run, after_part, runs_on, Next, finish, entries, contents, section, owes_code, at_the_end, or_section, sections_up_to, preamble, beginning, module_read}
 use Rattle.wasm_laws.specs.Steadiness.{Advances, LeavesFewer, Leaves, SteadyRow}
 use Rattle.wasm_laws.proofs.Steady.{moves_of}
 use Rattle.wasm_laws.proofs.EntryLaws.{preamble_steady}
@@ -75,6 +75,6 @@ up_to_few zero seen c = record { parts = omega arith }
 up_to_few (suc n) seen c = or_few (sections_up_to n) (up_to_few n) seen c c.rest refl
 
 -- no more parts than bytes
-pub parts_are_few : (bytes : List ℕ) → length (module_run bytes).parts ≤ length bytes
+pub parts_are_few : (bytes : List ℕ) → length (module_read bytes).parts ≤ length bytes
 parts_are_few bytes =
     (runs_few (beginning bytes) (preamble (beginning bytes)) (λ x c. sections_up_to (length c.rest + 1) nothing c) ((preamble_steady []).moves (beginning bytes)) (λ x c. up_to_few (length c.rest + 1) nothing c)).parts

@@ -10,7 +10,7 @@ use Rattle.wasm_defs.specs.declared.item.Limits.{Limits}
 use Rattle.wasm_defs.specs.Fields.{Cursor, Read, Got, Fault, Wants, Reader, repeated, byte, u32, count, vector, name}
 use Rattle.wasm_defs.specs.Entries.{Seen, nothing, note, space, index, listed_type, limits, results, signature, imported, function, table, memory, global, extern_kind, exported, start, element, code, segment}
 use Rattle.wasm_defs.specs.Limits.{max_params, max_table, max_pages, top_rows, top_pages}
-use Rattle.wasm_defs.specs.Outside.{Part, Section, Listed, Coded, listed, body, entries_of, code_entry, Row, row, header, entered, noted, inside, section_end, Run, after_part, runs_on, Next, finish, entries, contents, section, owes_code, at_the_end, or_section, sections_up_to, preamble, beginning, module_run}
+use Rattle.wasm_defs.specs.Outside.{Part, Section, Listed, Coded, listed, body, entries_of, code_entry, Row, row, header, entered, noted, inside, section_end, Run, after_part, runs_on, Next, finish, entries, contents, section, owes_code, at_the_end, or_section, sections_up_to, preamble, beginning, module_read}
 use Rattle.wasm_defs.specs.Context.{functions_of}
 use Rattle.wasm_defs.specs.Faults.{items_of}
 use Rattle.wasm_laws.specs.Kept.{TypeIsSmall}
@@ -304,7 +304,7 @@ unfolding sections_up_to
 up_to_agrees zero seen c = record { items = tt }
 up_to_agrees (suc n) seen c = or_agrees (sections_up_to n) (up_to_agrees n) seen c c.rest
 
-pub items_are_kept : (bytes : List ℕ) → AreKept 0 (items_of (module_run bytes).parts)
+pub items_are_kept : (bytes : List ℕ) → AreKept 0 (items_of (module_read bytes).parts)
 items_are_kept bytes =
     (runs_kept (λ v c. Unit {0}) 0 (preamble (beginning bytes)) _ (always (preamble (beginning bytes)))
     (λ v c t. up_to_agrees (length c.rest + 1) nothing c)).items

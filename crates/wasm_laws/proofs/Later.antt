@@ -6,7 +6,7 @@ use Rattle.wasm_defs.specs.declared.fault.Kind.TheVariants.{Malformed, Unsupport
 use Rattle.wasm_defs.specs.Limits.{max_module}
 use Rattle.wasm_defs.specs.Fields.{Cursor, Read, Got, Fault, Wants, Reader, then_go, ◌>>=◌, done, refused, room_of, byte, u32, here}
 use Rattle.wasm_defs.specs.Entries.{Seen, nothing}
-use Rattle.wasm_defs.specs.Outside.{Part, Section, Listed, Coded, Row, row, is_misplaced, header, entered, noted, inside, no_end, Ending, Whole, Refused, Owed, Run, after_part, runs_on, Next, finish, entries, contents, section, owes_code, at_the_end, or_section, sections_up_to, sections, beginning, module_run}
+use Rattle.wasm_defs.specs.Outside.{Part, Section, Listed, Coded, Row, row, is_misplaced, header, entered, noted, inside, no_end, Ending, Whole, Refused, Owed, Run, after_part, runs_on, Next, finish, entries, contents, section, owes_code, at_the_end, or_section, sections_up_to, sections, beginning, module_read}
 use Rattle.wasm_defs.specs.Faults.{sections_of}
 use Rattle.wasm_laws.proofs.Steady.{with_more, Extends, got, faulty, owed, IfGot, Advance, Advances, moves_of, StandsIn, IsDecided, IsMarked, Steady}
 use Rattle.wasm_laws.proofs.Windows.{byte_field}
@@ -251,5 +251,5 @@ sections_keep seen c more =
     let many = length (c.rest ++ more) + 1 in
     rw (enough few many seen c (omega arith) (omega (arith, length-append c.rest more))) (up_to_keeps many seen c more)
 
-pub module_keeps : (bytes more : List ℕ) → RunKeeps (module_run bytes) (module_run (bytes ++ more))
+pub module_keeps : (bytes more : List ℕ) → RunKeeps (module_read bytes) (module_read (bytes ++ more))
 module_keeps bytes more = runs_keep more _ _ _ ((preamble_steady []).by (beginning bytes) more) (λ x c. sections_keep nothing c more)

@@ -8,7 +8,7 @@ use Rattle.wasm_defs.specs.Entries.{value_type}
 use Rattle.wasm_defs.specs.Faults.{bodies_of}
 use Rattle.wasm_defs.specs.Fields.{Cursor, Read, Got, Fault, Wants, u32}
 use Rattle.wasm_defs.specs.Limits.{max_locals}
-use Rattle.wasm_defs.specs.Outside.{Part, Section, Listed, Coded, module_run}
+use Rattle.wasm_defs.specs.Outside.{Part, Section, Listed, Coded, module_read}
 use Rattle.wasm_laws.specs.Kept.{LocalsAreFew, BodiesAreSmall}
 use Rattle.wasm_laws.specs.Order.{AreOrdered, end_of, first_section}
 use Rattle.wasm_laws.proofs.Order.{parts_in_module}
@@ -68,5 +68,5 @@ ordered_are_small low last (Coded b ∷ parts) h =
     let stands = h.0 in
     (record { least = stands.least; most = stands.most; locals = locals_are_few b.first b.bytes }, ordered_are_small (end_of b) last parts h.1)
 
-pub bodies_are_small : (bytes : List ℕ) → BodiesAreSmall (bodies_of (module_run bytes).parts)
-bodies_are_small bytes = ordered_are_small first_section (length bytes) (module_run bytes).parts (parts_in_module bytes)
+pub bodies_are_small : (bytes : List ℕ) → BodiesAreSmall (bodies_of (module_read bytes).parts)
+bodies_are_small bytes = ordered_are_small first_section (length bytes) (module_read bytes).parts (parts_in_module bytes)

@@ -5,7 +5,7 @@ use Rattle.wasm_defs.specs.declared.fault.Refusal.{Refusal}
 use Rattle.wasm_defs.specs.declared.fault.Kind.TheVariants.{Ended}
 use Rattle.wasm_defs.specs.Fields.{Cursor, Read, Got, Fault, Wants, room_of, fixed}
 use Rattle.wasm_defs.specs.Entries.{Seen, nothing}
-use Rattle.wasm_defs.specs.Outside.{Body, Part, Section, Listed, Coded, Row, row, entered, noted, inside, no_end, Ending, Whole, Refused, Owed, Run, after_part, runs_on, Next, finish, entries, contents, section, owes_code, at_the_end, or_section, sections_up_to, magic, version, preamble, beginning, module_run}
+use Rattle.wasm_defs.specs.Outside.{Body, Part, Section, Listed, Coded, Row, row, entered, noted, inside, no_end, Ending, Whole, Refused, Owed, Run, after_part, runs_on, Next, finish, entries, contents, section, owes_code, at_the_end, or_section, sections_up_to, magic, version, preamble, beginning, module_read}
 use Rattle.wasm_defs.specs.Faults.{ending_fault}
 use Rattle.wasm_laws.specs.Order.{end_of, BodyStands, AreOrdered, first_section}
 use Rattle.wasm_laws.proofs.Steady.{IfGot, Advance, moves_of, StandsIn}
@@ -169,7 +169,7 @@ preamble_got bytes =
     let c = beginning bytes in
     got_map (λ v d. Advance c d × (d.at ≡ c.at + first_section)) _ (preamble c) (λ v d p. (sum_on (length bytes) c d (omega arith) p.0, omega (arith, p.1))) (got_both _ _ (preamble c) ((preamble_steady []).moves c) (preamble_ends c))
 
-pub module_is_ordered : (bytes : List ℕ) → IsOrdered first_section 0 (length bytes) (module_run bytes)
+pub module_is_ordered : (bytes : List ℕ) → IsOrdered first_section 0 (length bytes) (module_read bytes)
 module_is_ordered bytes =
     let len = length bytes in
     let c = beginning bytes in
@@ -183,15 +183,15 @@ fault_ends len (Refused s) r e = let same : s ≡ r = cc in ap (λ (t : Refusal)
 fault_ends len Owed r e =
     let same : record { offset = len; kind = Ended } ≡ r = cc in ap (λ (t : Refusal). t.offset) same
 
-pub parts_before_fault : (bytes : List ℕ) (r : Refusal) → ending_fault (length bytes) (module_run bytes).ending ≡ Some r → AreOrdered first_section r.offset (module_run bytes).parts × (r.offset ≤ length bytes)
+pub parts_before_fault : (bytes : List ℕ) (r : Refusal) → ending_fault (length bytes) (module_read bytes).ending ≡ Some r → AreOrdered first_section r.offset (module_read bytes).parts × (r.offset ≤ length bytes)
 parts_before_fault bytes r e =
-    let run = module_run bytes in
+    let run = module_read bytes in
     let p = module_is_ordered bytes in
     let at = fault_ends (length bytes) run.ending r e in
     (rw (← at) p.parts, omega (arith, p.within))
 
-pub parts_in_module : (bytes : List ℕ) → AreOrdered first_section (length bytes) (module_run bytes).parts
+pub parts_in_module : (bytes : List ℕ) → AreOrdered first_section (length bytes) (module_read bytes).parts
 parts_in_module bytes =
-    let run = module_run bytes in
+    let run = module_read bytes in
     let p = module_is_ordered bytes in
     ordered_wider first_section first_section (ending_place (length bytes) run.ending) (length bytes) run.parts (omega arith) p.within p.parts

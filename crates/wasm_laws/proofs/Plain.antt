@@ -6,7 +6,7 @@ use Rattle.wasm_defs.specs.declared.item.Item.TheVariants.{Signature, Imported, 
 use Rattle.wasm_defs.specs.Faults.{first_outside, sections_of, items_of, Module}
 use Rattle.wasm_defs.specs.Instances.{is_linkable}
 use Rattle.wasm_defs.specs.Items.{section_of}
-use Rattle.wasm_defs.specs.Outside.{Part, Section, Listed, Coded, module_run}
+use Rattle.wasm_defs.specs.Outside.{Part, Section, Listed, Coded, module_read}
 use Rattle.wasm_defs.specs.Supported.{is_compiled_section}
 use Rattle.wasm_laws.specs.Plain.{is_plain_item, ArePlain, HasNoMore}
 use Rattle.wasm_laws.proofs.Sorted.{AreSorted, parts_are_sorted}
@@ -40,8 +40,8 @@ sorted_are_plain before id (Section at next ∷ parts) is h none = let p = none_
 sorted_are_plain before id (Listed x ∷ parts) is h none = (plain_of_section x (subst (λ (k : ℕ). is_compiled_section k ≡ true) (sym h.0) is), sorted_are_plain before id parts is h.2 none)
 sorted_are_plain before id (Coded b ∷ parts) is h none = sorted_are_plain 10 10 parts refl h.2 none
 
-pub items_are_plain : (bytes : List ℕ) → first_outside is_compiled_section (sections_of (module_run bytes).parts) ≡ None → ArePlain (items_of (module_run bytes).parts)
-items_are_plain bytes none = sorted_are_plain 0 0 (module_run bytes).parts refl (parts_are_sorted bytes) none
+pub items_are_plain : (bytes : List ℕ) → first_outside is_compiled_section (sections_of (module_read bytes).parts) ≡ None → ArePlain (items_of (module_read bytes).parts)
+items_are_plain bytes none = sorted_are_plain 0 0 (module_read bytes).parts refl (parts_are_sorted bytes) none
 
 -- ---- what there isn't
 

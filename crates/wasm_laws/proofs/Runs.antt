@@ -3,7 +3,7 @@ use Rattle.std.proofs.Common.{◌≡◌, ℕ, zero, suc, ◌+◌, ◌-◌, ◌�
 use Rattle.std.proofs.lemmas.Bool.{cases_Bool, cases_eq}
 use Rattle.wasm_defs.specs.Fields.{Cursor, Read, Got, Fault, Wants}
 use Rattle.wasm_defs.specs.Entries.{Seen, nothing}
-use Rattle.wasm_defs.specs.Outside.{Part, Section, Nothing, Row, row, header, entered, noted, inside, Ending, Whole, Refused, Owed, Run, after_part, runs_on, Next, finish, entries, contents, section, owes_code, at_the_end, or_section, sections_up_to, sections, beginning, module_run}
+use Rattle.wasm_defs.specs.Outside.{Part, Section, Nothing, Row, row, header, entered, noted, inside, Ending, Whole, Refused, Owed, Run, after_part, runs_on, Next, finish, entries, contents, section, owes_code, at_the_end, or_section, sections_up_to, sections, beginning, module_read}
 use Rattle.wasm_laws.specs.Runs.{Becomes, GoesOn}
 use Rattle.wasm_laws.proofs.Steady.{with_more, Extends, got, faulty, owed, Advances, moves_of}
 use Rattle.wasm_laws.proofs.EntryLaws.{header_steady, preamble_steady}
@@ -126,5 +126,5 @@ sections_go seen c more =
     rw (enough few many seen c (omega arith) (omega (arith, length-append c.rest more))) (up_to_goes many seen c more)
 
 -- more bytes change no refusal and no part
-pub module_goes_on : (bytes more : List ℕ) → GoesOn (module_run bytes) (module_run (bytes ++ more))
+pub module_goes_on : (bytes more : List ℕ) → GoesOn (module_read bytes) (module_read (bytes ++ more))
 module_goes_on bytes more = runs_extend more _ _ _ ((preamble_steady []).by (beginning bytes) more) (λ x c. sections_go nothing c more)

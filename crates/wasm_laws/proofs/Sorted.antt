@@ -6,7 +6,7 @@ use Rattle.wasm_defs.specs.declared.item.Item.TheVariants.{Code}
 use Rattle.wasm_defs.specs.Fields.{Cursor, Read, Got, Fault, Wants, Reader, window, room_of, first_of, byte, u32, here, name}
 use Rattle.wasm_defs.specs.Entries.{Seen, nothing, note, signature, imported, function, table, memory, global, exported, start, element, code, segment}
 use Rattle.wasm_defs.specs.Limits.{max_module}
-use Rattle.wasm_defs.specs.Outside.{Part, Section, Listed, Coded, listed, body, custom_name, entries_of, code_entry, Row, row, is_misplaced, header, entered, noted, inside, section_end, Run, after_part, runs_on, Next, finish, entries, contents, section, owes_code, at_the_end, or_section, sections_up_to, preamble, beginning, module_run}
+use Rattle.wasm_defs.specs.Outside.{Part, Section, Listed, Coded, listed, body, custom_name, entries_of, code_entry, Row, row, is_misplaced, header, entered, noted, inside, section_end, Run, after_part, runs_on, Next, finish, entries, contents, section, owes_code, at_the_end, or_section, sections_up_to, preamble, beginning, module_read}
 use Rattle.wasm_defs.specs.Items.{section_of}
 use Rattle.wasm_laws.proofs.Steady.{IfGot, always}
 use Rattle.wasm_laws.proofs.Windows.{cut_got}
@@ -264,7 +264,7 @@ unfolding sections_up_to
 up_to_sorted zero seen c before id s = record { parts = tt }
 up_to_sorted (suc n) seen c before id s = or_sorted (sections_up_to n) (up_to_sorted n) seen c before id c.rest refl s
 
-pub parts_are_sorted : (bytes : List ℕ) → AreSorted 0 0 (module_run bytes).parts
+pub parts_are_sorted : (bytes : List ℕ) → AreSorted 0 0 (module_read bytes).parts
 parts_are_sorted bytes =
     (runs_sorted (λ v c. Unit {0}) 0 0 (preamble (beginning bytes)) _ (always (preamble (beginning bytes)))
     (λ v c t. up_to_sorted (length c.rest + 1) nothing c 0 0 (record { last = refl; uncounted = λ lt. refl }))).parts

@@ -6,7 +6,7 @@ use Rattle.wasm_defs.specs.Context.{functions_of}
 use Rattle.wasm_defs.specs.Faults.{items_of}
 use Rattle.wasm_defs.specs.Instances.{rows_of, pages_of, cap_of, values_of, capped}
 use Rattle.wasm_defs.specs.Limits.{max_table, max_pages}
-use Rattle.wasm_defs.specs.Outside.{module_run}
+use Rattle.wasm_defs.specs.Outside.{module_read}
 use Rattle.wasm_laws.specs.Kept.{SpacesAreSmall}
 use Rattle.wasm_laws.proofs.Kept.{AreKept, items_are_kept}
 use Rattle.wasm_laws.proofs.Counted.{entries_in, entries_are_few}
@@ -39,9 +39,9 @@ values_counted [] = refl
 values_counted (Global ty mutable init ∷ xs) = omega (arith, values_counted xs)
 values_counted (x ∷ xs) = values_counted xs
 
-pub spaces_are_small : (bytes : List ℕ) → SpacesAreSmall (items_of (module_run bytes).parts)
+pub spaces_are_small : (bytes : List ℕ) → SpacesAreSmall (items_of (module_read bytes).parts)
 spaces_are_small bytes =
-    let items = items_of (module_run bytes).parts in
+    let items = items_of (module_read bytes).parts in
     let kept = items_are_kept bytes in
     record {
       rows = kept_rows 0 items kept;

@@ -10,7 +10,7 @@ use Rattle.wasm_defs.specs.declared.item.Item.TheVariants.{Signature, Imported, 
 use Rattle.wasm_defs.specs.declared.types.FuncType.{FuncType}
 use Rattle.wasm_defs.specs.Fields.{Cursor, Read, Got, Fault, Wants, Reader, ◌>>=◌, done, refused, u32}
 use Rattle.wasm_defs.specs.Entries.{Seen, nothing, note, index, signature, imported, function, table, memory, global, exported, start, element, code, segment}
-use Rattle.wasm_defs.specs.Outside.{Part, Section, Listed, Coded, listed, body, entries_of, code_entry, Row, row, header, entered, noted, inside, section_end, Run, after_part, runs_on, Next, finish, entries, contents, section, owes_code, at_the_end, or_section, sections_up_to, preamble, beginning, module_run}
+use Rattle.wasm_defs.specs.Outside.{Part, Section, Listed, Coded, listed, body, entries_of, code_entry, Row, row, header, entered, noted, inside, section_end, Run, after_part, runs_on, Next, finish, entries, contents, section, owes_code, at_the_end, or_section, sections_up_to, preamble, beginning, module_read}
 use Rattle.wasm_defs.specs.Context.{types_of, functions_of, import_count, declared_count, context_of}
 use Rattle.wasm_defs.specs.Faults.{items_of}
 use Rattle.wasm_defs.specs.Typing.{Context, function_type}
@@ -224,7 +224,7 @@ unfolding sections_up_to
 up_to_agrees zero seen c = record { items = tt }
 up_to_agrees (suc n) seen c = or_agrees (sections_up_to n) (up_to_agrees n) seen c c.rest
 
-pub items_are_indexed : (bytes : List ℕ) → AreIndexed 0 (items_of (module_run bytes).parts)
+pub items_are_indexed : (bytes : List ℕ) → AreIndexed 0 (items_of (module_read bytes).parts)
 items_are_indexed bytes =
     (runs_indexed (λ v c. Unit {0}) 0 (preamble (beginning bytes)) _ (always (preamble (beginning bytes)))
     (λ v c t. up_to_agrees (length c.rest + 1) nothing c)).items
@@ -296,6 +296,6 @@ bodies_typed items bodies (Listed x ∷ parts) below declared indexed =
 bodies_typed items bodies (Coded b ∷ parts) below declared indexed =
     (function_has_type (context_of items) (import_count items + bodies) (omega (arith, functions_of-counts items, declared.0.before)) below, bodies_typed items (suc bodies) parts below declared.1 indexed)
 
-pub functions_have_types : (bytes : List ℕ) → AreTyped [] 0 (module_run bytes).parts
+pub functions_have_types : (bytes : List ℕ) → AreTyped [] 0 (module_read bytes).parts
 functions_have_types bytes =
-    bodies_typed [] 0 (module_run bytes).parts (record { each = All-nil (λ i. i < 0) }) (bodies_are_declared bytes) (items_are_indexed bytes)
+    bodies_typed [] 0 (module_read bytes).parts (record { each = All-nil (λ i. i < 0) }) (bodies_are_declared bytes) (items_are_indexed bytes)

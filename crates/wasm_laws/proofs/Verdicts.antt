@@ -8,7 +8,7 @@ use Rattle.wasm_defs.specs.declared.fault.Refusal.{Refusal}
 use Rattle.wasm_defs.specs.declared.item.Item.{Item}
 use Rattle.wasm_defs.specs.Fields.{Read, Got, Fault, Wants}
 use Rattle.wasm_defs.specs.Bodies.{Group, Spelled, read_code, local_groups, body_cursor, last_of, body_read}
-use Rattle.wasm_defs.specs.Outside.{Part, Section, Listed, Coded, Body, module_run}
+use Rattle.wasm_defs.specs.Outside.{Part, Section, Listed, Coded, Body, module_read}
 use Rattle.wasm_defs.specs.Typing.{Context}
 use Rattle.wasm_defs.specs.Trees.{Seq}
 use Rattle.wasm_defs.specs.Viable.{IsViable}
@@ -135,7 +135,7 @@ valid_bodies items k (Coded b ∷ parts) (tree ∷ trees) r v (inl f) = valid_ha
 valid_bodies items k (Coded b ∷ parts) (tree ∷ trees) r v (inr f) = valid_bodies items (suc k) parts trees r v.1 f
 
 -- a module has no fault
-pub module_has_no_fault : (bytes : List ℕ) (parts : List Part) (trees : List Seq) (r : Refusal) → ending_fault (length bytes) (module_run bytes).ending ≡ None
-    → first_outside is_compiled_section (sections_of (module_run bytes).parts) ≡ None → AreValid [] 0 (module_run bytes).parts trees → IsFault bytes r → ⊥
+pub module_has_no_fault : (bytes : List ℕ) (parts : List Part) (trees : List Seq) (r : Refusal) → ending_fault (length bytes) (module_read bytes).ending ≡ None
+    → first_outside is_compiled_section (sections_of (module_read bytes).parts) ≡ None → AreValid [] 0 (module_read bytes).parts trees → IsFault bytes r → ⊥
 module_has_no_fault bytes parts trees r whole compiled valid (inl f) = elim f.0 [ inl e ↦ none_is_some _ r whole e | inr e ↦ none_is_some _ r compiled e ]
-module_has_no_fault bytes parts trees r whole compiled valid (inr f) = valid_bodies [] 0 (module_run bytes).parts trees r valid f
+module_has_no_fault bytes parts trees r whole compiled valid (inr f) = valid_bodies [] 0 (module_read bytes).parts trees r valid f

@@ -8,7 +8,7 @@ use Rattle.wasm_defs.specs.Context.{declared_count}
 use Rattle.wasm_defs.specs.Fields.{Read, Got, then_go, done, fixed}
 use Rattle.wasm_defs.specs.Entries.{Seen, nothing}
 use Rattle.wasm_defs.specs.Outside as outside
-use Rattle.wasm_defs.specs.Outside.{Body, Part, Row, row, header, entered, inside, no_end, Ending, Whole, Run, after_part, runs_on, Next, contents, section, owes_code, at_the_end, or_section, sections_up_to, sections, magic, version, preamble, beginning, module_run}
+use Rattle.wasm_defs.specs.Outside.{Body, Part, Row, row, header, entered, inside, no_end, Ending, Whole, Run, after_part, runs_on, Next, contents, section, owes_code, at_the_end, or_section, sections_up_to, sections, magic, version, preamble, beginning, module_read}
 use Rattle.wasm_defs.specs.Items.{each_is, u32_is, AllOf, section_of, Section, Payload, Custom, Vector, Starting, Bodies, payload_id, payload_is, section_is, payload_items, payload_bodies, items_in, bodies_in, StandsBehind, last_with, AreInOrder}
 use Rattle.wasm_defs.specs.Rules.{AllKeep, all_noted, IsSmall, SectionsKeep}
 use Rattle.wasm_laws.specs.Sections.{parts_of, parts_in, AreSectionsOf}
@@ -220,7 +220,7 @@ preamble_read front mid back e g fits =
     )
 
 -- a module of sections that keep the rules is read whole
-pub described_is_whole : (bytes : List ℕ) (xs : List Section) → AreSectionsOf xs bytes → (seen : Seen) × (module_run bytes ≡ record { parts = parts_in xs; ending = Whole seen })
+pub described_is_whole : (bytes : List ℕ) (xs : List Section) → AreSectionsOf xs bytes → (seen : Seen) × (module_read bytes ≡ record { parts = parts_in xs; ending = Whole seen })
 described_is_whole bytes xs d =
     let j = d.spelled.spelled in
     let k = j.second in
@@ -234,5 +234,5 @@ described_is_whole bytes xs d =
     let matched : Matched nothing (items_in xs) (bodies_in xs) = record { uncounted = λ lt. refl; same = λ lt. omega (arith, d.spelled.matched) } in
     let read = up_to_read (length k.back + 1) nothing xs place k.back (omega arith) (omega arith) k.second d.spelled.ordered d.kept.each matched in (
       read.0,
-      ap module_run whole ∙ ap (λ (z : Read ℕ). runs_on z (λ v c. sections nothing c)) begins.1 ∙ read.1,
+      ap module_read whole ∙ ap (λ (z : Read ℕ). runs_on z (λ v c. sections nothing c)) begins.1 ∙ read.1,
     )

@@ -1,4 +1,4 @@
--- What more bytes make of a module's run (WebAssembly Core 1.0, 5.5).
+-- What more bytes make of a module's reading (WebAssembly Core 1.0, 5.5).
 use Rattle.std.specs.Prelude.{◌≡◌, ℕ, ◌+◌, List, ◌++◌}
 use Rattle.wasm_defs.specs.declared.fault.Refusal.{Refusal}
 use Rattle.wasm_defs.specs.Limits.{max_module}

@@ -4,7 +4,7 @@ use Rattle.std.specs.List.{All}
 use Rattle.wasm_defs.specs.declared.item.Item.TheVariants.{Start, Code}
 use Rattle.wasm_defs.specs.Entries.{Seen}
 use Rattle.wasm_defs.specs.Outside as outside
-use Rattle.wasm_defs.specs.Outside.{Part, Listed, Coded, Whole, module_run}
+use Rattle.wasm_defs.specs.Outside.{Part, Listed, Coded, Whole, module_read}
 use Rattle.wasm_defs.specs.Items.{Section, Payload, Custom, Vector, Starting, Bodies, payload_id, Items}
 use Rattle.wasm_defs.specs.Rules.{RulesAreKept}
 
@@ -29,4 +29,4 @@ AreBytes = All (λ b. b < 256)
 
 -- the bytes are read whole, with these parts
 abbrev pub IsReadAs : List Part → List ℕ → Type 0
-IsReadAs parts bytes = (seen : Seen) × (module_run bytes ≡ record { parts = parts; ending = Whole seen })
+IsReadAs parts bytes = (seen : Seen) × (module_read bytes ≡ record { parts = parts; ending = Whole seen })

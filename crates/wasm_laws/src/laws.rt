@@ -7,7 +7,7 @@ ghost use Rattle.wasm_defs.specs.Entries.{Seen};
 ghost use Rattle.wasm_defs.specs.Faults.{bodies_of, ending_fault, first_outside, IsModule, items_of, Module, sections_of, tokens_of};
 ghost use Rattle.wasm_defs.specs.Fields.{Cursor, Wants, byte, fixed, name, number, room_of};
 ghost use Rattle.wasm_defs.specs.Instances.{exports_of, is_linkable, named};
-ghost use Rattle.wasm_defs.specs.Outside.{Body, Coded, header, module_run, Part, preamble, row, Section, section_end, Whole};
+ghost use Rattle.wasm_defs.specs.Outside.{Body, Coded, header, module_read, Part, preamble, row, Section, section_end, Whole};
 ghost use Rattle.wasm_defs.specs.Places.{greatest, places_of};
 ghost use Rattle.wasm_defs.specs.Supported.{is_compiled_opcode, is_compiled_section};
 ghost use Rattle.wasm_defs.specs.Trees.{Seq, Tree};
@@ -56,27 +56,27 @@ pub fn fields_can_be_completed()
 
 /// More bytes change no part and no refusal of a module: a refused run stays as it is, and any other goes on.
 pub fn more_bytes_change_nothing()
-    ensures { (bytes more : List ℕ) → GoesOn (module_run bytes) (module_run (bytes ++ more)) }
+    ensures { (bytes more : List ℕ) → GoesOn (module_read bytes) (module_read (bytes ++ more)) }
 {}
 
 /// Reading is bounded: where so many bytes are there, the module is refused, and more bytes change nothing.
 pub fn reading_is_bounded()
     ensures refused { (bytes : List ℕ) →
-        deciding_length ≤ length bytes → IsRefused (module_run bytes).ending }
+        deciding_length ≤ length bytes → IsRefused (module_read bytes).ending }
     ensures stays { (bytes more : List ℕ) →
-        deciding_length ≤ length bytes → module_run (bytes ++ more) ≡ module_run bytes }
+        deciding_length ≤ length bytes → module_read (bytes ++ more) ≡ module_read bytes }
 {}
 
 /// The parts of a module stand in order, each behind the one before, and no later than the fault that ends reading (Core
 /// 5.5): sections begin no later, and bodies end before it. They are cut from the module's bytes.
 pub fn parts_are_in_order()
     ensures before_fault { (bytes : List ℕ) (r : Refusal) →
-        let run = module_run bytes in
+        let run = module_read bytes in
         ending_fault (length bytes) run.ending ≡ Some r →
         AreOrdered first_section r.offset run.parts × (r.offset ≤ length bytes) }
     ensures in_module { (bytes : List ℕ) →
-        AreOrdered first_section (length bytes) (module_run bytes).parts }
-    ensures cut { (bytes : List ℕ) → AreCutFrom bytes (module_run bytes).parts }
+        AreOrdered first_section (length bytes) (module_read bytes).parts }
+    ensures cut { (bytes : List ℕ) → AreCutFrom bytes (module_read bytes).parts }
 {}
 
 /// Of parts in order, those in front of one stand before it, and those behind it from its end on.
@@ -99,9 +99,9 @@ pub fn bodies_are_in_order()
 /// A body belongs to a declared function (Core 5.5.13): more functions are declared before a body than bodies stand there,
 /// none is declared behind it, and a whole module has as many bodies as functions.
 pub fn bodies_match_functions()
-    ensures declared { (bytes : List ℕ) → AreDeclared 0 0 (module_run bytes).parts }
+    ensures declared { (bytes : List ℕ) → AreDeclared 0 0 (module_read bytes).parts }
     ensures whole { (bytes : List ℕ) (seen : Seen) →
-        let run = module_run bytes in
+        let run = module_read bytes in
         run.ending ≡ Whole seen →
         length (bodies_of run.parts) ≡ declared_count (items_of run.parts) }
 {}
@@ -109,7 +109,7 @@ pub fn bodies_match_functions()
 /// A body's function has a type (Core 2.5.1 and 3.4.1): the function whose index counts the imported functions and the bodies
 /// before this one stands among the items before it, and so does the type that the function names.
 pub fn functions_have_types()
-    ensures { (bytes : List ℕ) → AreTyped [] 0 (module_run bytes).parts }
+    ensures { (bytes : List ℕ) → AreTyped [] 0 (module_read bytes).parts }
 {}
 
 /// Behind a body no section comes but that of data segments (Core 5.5.2), so that the items before it say all that a body may
@@ -117,7 +117,7 @@ pub fn functions_have_types()
 /// of all its items.
 pub fn bodies_stand_behind_items()
     ensures behind { (bytes : List ℕ) (front : List Part) (b : Body) (back : List Part) →
-        let run = module_run bytes in
+        let run = module_read bytes in
         run.parts ≡ front ++ Coded b ∷ back → StandBehind run.parts front back }
     ensures valid { (bytes : List ℕ) (m : Module) → IsModule bytes m → AreValidIn m.items 0 m.bodies m.trees }
 {}
@@ -126,7 +126,7 @@ pub fn bodies_stand_behind_items()
 /// the code section's count: it imports nothing, has no segments and no start function, and can be instantiated.
 pub fn compiled_items_are_few()
     ensures items { (bytes : List ℕ) →
-        let run = module_run bytes in
+        let run = module_read bytes in
         first_outside is_compiled_section (sections_of run.parts) ≡ None → ArePlain (items_of run.parts) }
     ensures rest { (items : List Item) → ArePlain items → HasNoMore items }
     ensures linkable { (m : Module) → ArePlain m.items → is_linkable m ≡ true }
@@ -152,26 +152,26 @@ pub fn immediates_are_in_range()
 
 /// Types keep to their limits (Core 3.2.2): each has so many parameters at most, and one result at most.
 pub fn types_keep_limits()
-    ensures { (bytes : List ℕ) → TypesAreSmall (types_of (items_of (module_run bytes).parts)) }
+    ensures { (bytes : List ℕ) → TypesAreSmall (types_of (items_of (module_read bytes).parts)) }
 {}
 
 /// Tables, memories and globals keep to their limits (Core 4.5.3): so many rows, pages and globals at most, and no more pages at
 /// first than the memory may grow to. Each global's constant is a number of the global's type (Core 3.3.7 and 5.2.2).
 pub fn spaces_keep_limits()
-    ensures limits { (bytes : List ℕ) → SpacesAreSmall (items_of (module_run bytes).parts) }
-    ensures constants { (bytes : List ℕ) → AreBytes bytes → ConstantsFit (items_of (module_run bytes).parts) }
+    ensures limits { (bytes : List ℕ) → SpacesAreSmall (items_of (module_read bytes).parts) }
+    ensures constants { (bytes : List ℕ) → AreBytes bytes → ConstantsFit (items_of (module_read bytes).parts) }
 {}
 
 /// Bodies keep to the limits on their bytes and on the locals that they declare (Core 5.5.13).
 pub fn locals_keep_limits()
     ensures locals { (first : ℕ) (bytes : List ℕ) → LocalsAreFew (body_read first bytes).groups }
-    ensures bodies { (bytes : List ℕ) → BodiesAreSmall (bodies_of (module_run bytes).parts) }
+    ensures bodies { (bytes : List ℕ) → BodiesAreSmall (bodies_of (module_read bytes).parts) }
 {}
 
 /// The functions that exports name are there, with their types (Core 3.4.10), and so is each that is found by its name.
 pub fn exports_are_there()
     ensures each { (bytes : List ℕ) →
-        let items = items_of (module_run bytes).parts in
+        let items = items_of (module_read bytes).parts in
         AreThere (context_of items) (length (functions_of items)) (exports_of items) }
     ensures named { (c : Context) (functions : ℕ) (name : List ℕ) (exports : List (List ℕ × ℕ)) (index : ℕ) →
         AreThere c functions exports → named name exports ≡ Some index → IsThere c functions index }

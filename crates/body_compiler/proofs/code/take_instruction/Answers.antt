@@ -1,4 +1,4 @@
-use Rattle.std.proofs.Common.{◌≡◌, ◌≤◌, ◌+◌, ◌∙◌, ℕ, List, true, length, refl, sym, ap, arith}
+use Rattle.std.proofs.Common.{◌≡◌, ◌+◌, ◌∙◌, true, length, refl, sym, ap, arith}
 use Rattle.wasm_defs.specs.Faults.{tokens_of}
 use Rattle.wasm_defs.specs.Supported.{is_compiled_opcode}
 use Rattle.body_compiler.proofs.Going.{instruction_shrinks, refused_token, faulty_instruction, cut_instruction}

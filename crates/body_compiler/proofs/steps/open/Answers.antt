@@ -1,4 +1,4 @@
-use Rattle.std.proofs.Common.{◌≡◌, sym, subst}
+use Rattle.std.proofs.Common.{sym, subst}
 use Rattle.std.specs.Prelude.{OnOk}
 use Rattle.wasm_defs.specs.declared.token.Token.{Token}
 use Rattle.body_validator.specs.Checking.{guarded}
