@@ -10,16 +10,16 @@ use Rattle.body_compiler.proofs.code.judge_code.Goals as goal
 
 pub loop-alloc-smaller : goal.loop-alloc-smaller
 loop-alloc-smaller c =
-    let fewer = byte_shrinks c.loop-alloc.fields c.byte.new.self c.in-Ok.at c.in-Ok.opcode c.in-Ok.ensures in
+    let fewer = byte_shrinks c.loop-alloc.fields c.byte.new.self c.in-Ok.at c.in-Ok.opcode c.in-Ok.ensures.read in
     let no_more = c.in-Ok-take_instruction.ensures.shrinks in
     omega (arith, fewer, no_more)
 
 pub take_instruction-requires-clause-bytes : goal.take_instruction-requires-clause-bytes
-take_instruction-requires-clause-bytes c = bytes_behind c.loop-alloc.fields c.byte.new.self c.in-Ok.at c.in-Ok.opcode c.in-Ok.ensures c.loop-alloc.invariant.bytes
+take_instruction-requires-clause-bytes c = bytes_behind c.loop-alloc.fields c.byte.new.self c.in-Ok.at c.in-Ok.opcode c.in-Ok.ensures.read c.loop-alloc.invariant.bytes
 
 pub take_instruction-requires-clause-tied : goal.take_instruction-requires-clause-tied
 take_instruction-requires-clause-tied c =
-    let exact = byte_takes c.loop-alloc.fields c.byte.new.self c.in-Ok.at c.in-Ok.opcode c.in-Ok.ensures in
+    let exact = byte_takes c.loop-alloc.fields c.byte.new.self c.in-Ok.at c.in-Ok.opcode c.in-Ok.ensures.read in
     subst (λ (n : ℕ). AreTied c.loop-alloc.draft.labels c.loop-alloc.check n) exact c.loop-alloc.invariant.tied
 
 pub returns-then-is_empty-clause-most : goal.returns-then-is_empty-clause-most
@@ -40,7 +40,7 @@ loop-alloc-preserved c =
       bytes = e.bytes;
       goes = λ c' code front k.
           let before = subst (λ (l : Layout). IsCompiling c' c.args.last c.loop-alloc.fields c.loop-alloc.check code l front (draft c.loop-alloc.draft.labels c.loop-alloc.draft.words)) (sym i.layout) (i.goes c' code front k) in
-          let after = e.goes c' code c.loop-alloc.fields front before c.in-Ok.ensures (isnt_over c.is_over.result c.loop-alloc-test.true c.is_over.ensures) in
+          let after = e.goes c' code c.loop-alloc.fields front before c.in-Ok.ensures.read (isnt_over c.is_over.result c.loop-alloc-test.true c.is_over.ensures) in
           subst (λ (l : Layout). IsCompiling c' c.args.last c.take_instruction.new.fields c.take_instruction.new.check code l front (draft c.take_instruction.new.draft.labels c.take_instruction.new.draft.words)) i.layout after;
     }
 
@@ -49,11 +49,11 @@ returns-in-Err-take_instruction-clause-judges c = λ c' code front k.
     let i = c.loop-alloc.invariant in
     let before = subst (λ (l : Layout). IsCompiling c' c.args.last c.loop-alloc.fields c.loop-alloc.check code l front (draft c.loop-alloc.draft.labels c.loop-alloc.draft.words)) (sym i.layout) (i.goes c' code front k) in
     goes_judges c' c.args.last c.take_instruction.new.fields c.take_instruction.new.check code c.loop-alloc.draft.layout c.args.draft.now.layout front (draft c.take_instruction.new.draft.labels c.take_instruction.new.draft.words) c.in-Err-take_instruction.stop
-    (c.in-Err-take_instruction.ensures.goes c' code c.loop-alloc.fields front before c.in-Ok.ensures (isnt_over c.is_over.result c.loop-alloc-test.true c.is_over.ensures))
+    (c.in-Err-take_instruction.ensures.goes c' code c.loop-alloc.fields front before c.in-Ok.ensures.read (isnt_over c.is_over.result c.loop-alloc-test.true c.is_over.ensures))
 
 pub returns-in-Err-clause-judges : goal.returns-in-Err-clause-judges
 returns-in-Err-clause-judges c = λ c' code front k.
-    rw c.stop_of.ensures (stop_judges c' c.args.last c.loop-alloc.fields c.loop-alloc.check code c.args.draft.now.layout front (draft c.loop-alloc.draft.labels c.loop-alloc.draft.words) c.in-Err.stop (c.loop-alloc.invariant.goes c' code front k).going (isnt_over c.is_over.result c.loop-alloc-test.true c.is_over.ensures) c.in-Err.ensures)
+    rw c.stop_of.ensures (stop_judges c' c.args.last c.loop-alloc.fields c.loop-alloc.check code c.args.draft.now.layout front (draft c.loop-alloc.draft.labels c.loop-alloc.draft.words) c.in-Err.stop (c.loop-alloc.invariant.goes c' code front k).going (isnt_over c.is_over.result c.loop-alloc-test.true c.is_over.ensures) c.in-Err.ensures.read)
 
 pub returns-then-is_empty-clause-judges : goal.returns-then-is_empty-clause-judges
 returns-then-is_empty-clause-judges c = λ c' code front k.
