@@ -1,6 +1,6 @@
 //! Images of bytes, and what their runs come to.
 
-ghost use Rattle.std.specs.Prelude.{◌≤◌, length};
+ghost use Rattle.std.specs.Prelude.{◌≡◌, ◌≤◌, IfOk, length};
 
 use crate::{NotRunnable, Outcome, find_export, run_checks, run_export};
 use image_format::{Export, Image, read_image};
@@ -43,7 +43,10 @@ fn image(alloc: Global, words: &[u32], unlinkable: bool) -> Result<Image, Fail>
 {
     let mut bytes = Vec::new(alloc);
     bytes.extend_from_slice(b"WRVI")?;
-    put(&mut bytes, &[1, words.len() as u32 + 2, 0x0000_0893, 0x0000_0073])?;
+    put(
+        &mut bytes,
+        &[1, words.len() as u32 + 2, 0x0000_0893, 0x0000_0073],
+    )?;
     put(&mut bytes, words)?;
     put(&mut bytes, &[2, 7, 0, 8, 0])?;
     put(&mut bytes, &[1, 0x1000_0008, 0, 3, 0])?;
@@ -85,12 +88,7 @@ fn outcome(
 }
 
 /// The same of a function of an i64 and an i32, called with 5 and -6.
-fn ended(
-    alloc: Global,
-    words: &[u32],
-    ty: ValType,
-    steps: u64,
-) -> Result<Option<Outcome>, Fail>
+fn ended(alloc: Global, words: &[u32], ty: ValType, steps: u64) -> Result<Option<Outcome>, Fail>
     requires { length words.now ≤ 100 }
 {
     let export = export(alloc, "f", &[ValType::I64, ValType::I32], &[ty])?;
@@ -232,7 +230,10 @@ fn runs_end(rt: HostRuntime) -> Result<(), Fail> {
     ];
     for (words, steps, wanted) in rows {
         assert!(rt; words.len() <= 100);
-        assert_eq!(rt; ended(rt.alloc(), words, ValType::I64, steps)?, Some(wanted));
+        assert_eq!(rt;
+            ended(rt.alloc(), words, ValType::I64, steps)?,
+            Some(wanted)
+        );
     }
     Ok(())
 }
