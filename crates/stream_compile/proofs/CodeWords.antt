@@ -8,7 +8,7 @@ use Rattle.wasm_defs.specs.Trees.{Seq}
 use Rattle.wasm_defs.specs.Outside.{Part, Section, Listed, Coded, Body, module_read}
 use Rattle.wasm_defs.specs.Typing.{Context}
 use Rattle.wasm_defs.specs.declared.item.Limits.{Limits}
-use Rattle.wasm_defs.specs.Context.{context_of, import_count, tables_of, body_context, type_of_function, declared_types}
+use Rattle.wasm_defs.specs.Context.{context_of, import_count, tables_of, body_context, type_of_function, declared_types, like}
 use Rattle.wasm_defs.specs.Places.{places_of, greatest}
 use Rattle.wasm_defs.specs.Instances.{first_minimum}
 use Rattle.frame_layout.specs.Templates.{Around}
@@ -18,7 +18,7 @@ use Rattle.rv_isa.specs.declared.operations.Op.{Op}
 use Rattle.wasm_defs.specs.Faults.{items_of, bodies_of, read_of, context_at}
 use Rattle.wasm_laws.specs.Behind.{SayTheSame}
 use Rattle.wasm_laws.proofs.Behind.{bodies_stand_behind}
-use Rattle.image_linker.specs.ImageOf.{size_of, around, like, no_distance}
+use Rattle.image_linker.specs.ImageOf.{size_of, around, no_distance}
 use Rattle.image_linker.specs.Linking.{words_of}
 use Rattle.image_linker.specs.Codes.{IsCodeOf, AreCodesOf}
 use Rattle.image_linker.specs.Judging.{sizes}
