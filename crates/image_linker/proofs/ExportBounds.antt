@@ -115,13 +115,15 @@ module _ (m : Module) (words functions : ℕ) (types : TypesAreSmall (context_of
   exports_fit s (Exported name (at, extern.Function) index ∷ items) front named keep there seen =
       let small = function_is_small (context_of m.items) index.1 types in
       let e = export_of m (name.1, index.1) in
-      let rules = keep.0 in
-      (record {
-        is = record { name = record { short = omega (arith, rules.0); utf8 = named.0 }; signature = record { params = omega (arith, small.params); results = omega (arith, small.results) } };
-        differs = seen name.1 rules.1;
-        offset = places index.1 there.0.function;
-      }, exports_fit (note s (Exported name (at, extern.Function) index)) items (front ++ e ∷ []) named.1 keep.1 there.1
-      (λ other h. let f = is_fresh s name other h in has_name-push front e other ∙ or_false (bytes_eq other name.1) (has_name front other) f.unlike (seen other f.before)))
+      let rules = keep.0 in (
+        record {
+          is = record { name = record { short = omega (arith, rules.0); utf8 = named.0 }; signature = record { params = omega (arith, small.params); results = omega (arith, small.results) } };
+          differs = seen name.1 rules.1;
+          offset = places index.1 there.0.function;
+        },
+        exports_fit (note s (Exported name (at, extern.Function) index)) items (front ++ e ∷ []) named.1 keep.1 there.1
+            (λ other h. let f = is_fresh s name other h in has_name-push front e other ∙ or_false (bytes_eq other name.1) (has_name front other) f.unlike (seen other f.before)),
+      )
   exports_fit s (Exported name (at, extern.Table) index ∷ items) front named keep there seen =
       exports_fit (note s (Exported name (at, extern.Table) index)) items front named.1 keep.1 there (λ other h. seen other (is_fresh s name other h).before)
   exports_fit s (Exported name (at, extern.Memory) index ∷ items) front named keep there seen =
