@@ -1,15 +1,13 @@
 -- The image of a module keeps the bounds of images.
-use Rattle.std.proofs.Common.{◌≡◌, ℕ, zero, suc, ◌+◌, ◌*◌, ◌%◌, ◌^◌, ◌<◌, ◌≤◌, true, List, [], ◌∷◌, map, length, replicate, Option, Some, None, refl, sym, ap, ◌∙◌, subst, arith}
+use Rattle.std.proofs.Common.{◌≡◌, ℕ, zero, suc, ◌^◌, ◌<◌, ◌≤◌, true, List, [], ◌∷◌, map, length, replicate, None, refl, sym, ap, ◌∙◌, subst, arith}
 use Rattle.std.specs.Prelude.{All}
 use Rattle.std.proofs.lemmas.List.{length-map, length-replicate}
 use Rattle.std.proofs.lemmas.List.Elements.{All-nil, All-cons}
 use Rattle.rv_isa.specs.Words.{word_of}
-use Rattle.rv_isa.specs.Steps.{code_of}
-use Rattle.rv_isa.specs.Runs.{AllInRange}
 use Rattle.wasm_defs.specs.declared.item.Item.{Item}
 use Rattle.wasm_defs.specs.Context.{context_of, functions_of}
 use Rattle.wasm_defs.specs.Entries.{nothing}
-use Rattle.wasm_defs.specs.Faults.{Module, IsModule}
+use Rattle.wasm_defs.specs.Faults.{Module}
 use Rattle.wasm_defs.specs.Instances.{exports_of, values_of, rows_of, is_linkable, all_over, start_of}
 use Rattle.wasm_defs.specs.Limits.{max_entries}
 use Rattle.wasm_defs.specs.Values.{word_of as value_word, words_of}
@@ -22,11 +20,9 @@ use Rattle.wasm_laws.proofs.Described.{module_is_described}
 use Rattle.wasm_laws.proofs.Exports.{types_are_small, exports_are_there}
 use Rattle.wasm_laws.proofs.Plain.{plain_has_no_more, plain_is_linkable}
 use Rattle.wasm_defs.specs.Rules.{AllKeep}
-use Rattle.image_format.specs.Contents.{Image, IsImage}
+use Rattle.image_format.specs.Contents.{IsImage}
 use Rattle.image_format.specs.Bounds.{IsText, IsOffset, AreGlobals, IsRow, IsTable, AreSegments, AreImports, IsImport, AreExports}
 use Rattle.image_format.specs.declared.image.Row.{Row}
-use Rattle.image_format.specs.declared.image.Segment.{Segment}
-use Rattle.image_format.specs.declared.image.Import.{Import}
 use Rattle.image_linker.specs.ImageOf.{text_of, offset_of, row_of, table_of, segment_of, placed_segments, imports_of, export_of, start_offset, image_of}
 use Rattle.image_linker.specs.Judging.{IsModuleOf}
 use Rattle.image_linker.specs.Linking.{empty_row}

@@ -11,7 +11,7 @@ use Rattle.wasm_laws.specs.Kept.{SpacesAreSmall, ConstantsFit}
 use Rattle.wasm_laws.specs.Plain.{ArePlain}
 use Rattle.frame_layout.specs.Slots.{need}
 use Rattle.sim_frames.specs.Covered.{IsCovered}
-use Rattle.wasm_defs.specs.Context.{context_of, functions_of}
+use Rattle.wasm_defs.specs.Context.{functions_of}
 use Rattle.image_linker.specs.ImageOf.{layout_of}
 
 -- the k-th body

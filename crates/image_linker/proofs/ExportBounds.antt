@@ -1,20 +1,19 @@
 -- The exports of a module's image: few, under names that are UTF-8, short and unlike, with small types, at places in the text.
-use Rattle.std.proofs.Common.{◌≡◌, ℕ, suc, ◌+◌, ◌≤◌, ◌<◌, ◌||◌, Bool, true, false, cond, eqb, inl, inr, List, [], ◌∷◌, ◌++◌, map, length, Option, Some, None, refl, sym, ap, ◌∙◌, arith}
+use Rattle.std.proofs.Common.{◌≡◌, ℕ, ◌+◌, ◌≤◌, ◌<◌, ◌||◌, Bool, true, false, cond, List, [], ◌∷◌, ◌++◌, map, length, Option, Some, refl, sym, ap, ◌∙◌, arith}
 use Rattle.std.specs.Prelude.{is_some}
 use Rattle.std.specs.FinMap as map
 use Rattle.std.specs.FinMap.{get-insert}
 use Rattle.std.specs.Str.{IsUtf8, bytes_eq}
 use Rattle.std.specs.Ordering.{nat_cmp, eq_by_cmp}
 use Rattle.std.specs.Cmp.Lexicographic.{slice_cmp, texts_ties, nat_list_cmp_total}
-use Rattle.std.proofs.lemmas.Bool.{cases_Bool}
 use Rattle.wasm_defs.specs.declared.item.Item.{Item}
 use Rattle.wasm_defs.specs.declared.item.Item.TheVariants.{Exported}
 use Rattle.wasm_defs.specs.declared.item.Extern.TheVariants as extern
-use Rattle.wasm_defs.specs.Context.{context_of, type_of_function}
+use Rattle.wasm_defs.specs.Context.{context_of}
 use Rattle.wasm_defs.specs.Entries.{Seen, note}
 use Rattle.wasm_defs.specs.Faults.{Module}
 use Rattle.wasm_defs.specs.Instances.{exports_of}
-use Rattle.wasm_defs.specs.Items.{section_of, each_is, item_is, section_is, Section, Payload, Custom, Vector, Starting, Bodies, payload_is, payload_items, items_in}
+use Rattle.wasm_defs.specs.Items.{each_is, item_is, section_is, Section, Payload, Custom, Vector, Starting, Bodies, payload_is, payload_items, items_in}
 use Rattle.wasm_defs.specs.Rules.{AllKeep, all_noted, SectionsKeep}
 use Rattle.wasm_laws.specs.Kept.{TypesAreSmall, AreThere}
 use Rattle.wasm_laws.proofs.Counted.{entries_in}

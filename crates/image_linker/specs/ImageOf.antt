@@ -3,7 +3,6 @@ use Rattle.std.specs.Prelude.{ℕ, zero, suc, ◌+◌, ◌*◌, Bool, true, fals
 use Rattle.rv_isa.specs.declared.operations.Op.{Op}
 use Rattle.rv_isa.specs.Words.{word_of}
 use Rattle.rv_isa.specs.Steps.{text_base}
-use Rattle.wasm_defs.specs.declared.types.FuncType.{FuncType}
 use Rattle.wasm_defs.specs.declared.item.Item.{Item}
 use Rattle.wasm_defs.specs.declared.item.Item.TheVariants.{Imported}
 use Rattle.wasm_defs.specs.Outside.{Body}

@@ -1,7 +1,6 @@
 //! The bytes of an image's regions before a run.
 ghost use Rattle.std.specs.Prelude.{◌≡◌, ◌+◌, ◌-◌, ◌*◌, ◌^◌, ◌≤◌, ◌++◌, IfOk, IsTrue, length, map, replicate};
 ghost use Rattle.rv64im_machine.specs.Contents.{bytes_of};
-ghost use Rattle.wasm_defs.specs.Memory.{page};
 ghost use Rattle.wasm_defs.specs.Instances.{all_fit, all_over, over};
 ghost use Rattle.wasm_defs.specs.Values.{value_of, words_of};
 ghost use Rattle.image_format.specs.Environment.{row_words, segments_of, word_bytes};

@@ -1,11 +1,9 @@
 //! Runs of exported functions.
-ghost use Rattle.std.specs.Prelude.{◌≡◌, ℕ, ◌*◌, ◌≤◌, ◌-◌, [], length, map, IfOk, IsTrue};
+ghost use Rattle.std.specs.Prelude.{◌≡◌, ℕ, ◌≤◌, ◌-◌, [], length, map, IfOk};
 ghost use Rattle.rv_isa.specs.Steps.{Registers};
 ghost use Rattle.rv64im_machine.specs.Contents.{state_of};
-ghost use Rattle.wasm_defs.specs.Memory.{page};
-ghost use Rattle.wasm_defs.specs.Instances.{all_fit};
 ghost use Rattle.wasm_defs.specs.Values.{value_of};
-ghost use Rattle.image_format.specs.Environment.{segments_of, code_of_image, first_registers};
+ghost use Rattle.image_format.specs.Environment.{code_of_image, first_registers};
 ghost use Rattle.image_format.specs.ImageRun.{steps as steps_of, run_of};
 ghost use Rattle.image_run.specs.Ends.{IsEnd, RunsTo};
 ghost use Rattle.image_run.specs.States.{zeros, first_state, running};
