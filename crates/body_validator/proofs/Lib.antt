@@ -12,3 +12,4 @@ pub mod Taking
 pub mod Answering
 pub mod TreeLaws
 pub mod Groups
+pub mod RunLaws

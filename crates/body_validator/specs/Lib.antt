@@ -4,3 +4,4 @@ pub mod Stacks
 pub mod Exchange
 pub mod Scopes
 pub mod Checks
+pub mod Runs

@@ -13,6 +13,7 @@ ghost use Rattle.body_validator.specs.Checks.{Answered, IsAnswered, IsPlaced, Is
 ghost use Rattle.body_validator.specs.Checking.{start_checker};
 ghost use Rattle.body_validator.specs.declared.check.TokenStop.TheVariants.{NoMemory};
 
+use crate::locals::Locals;
 use crate::operands::Stop;
 use crate::scope::Scope;
 use crate::stack::Stack;
@@ -102,7 +103,7 @@ impl<'a> Check<'a> {
             IfOk result (λ check. check ≡ before_code c (type_of_function c index) []) }
     {
         let function = context.type_of_function(index);
-        let locals = Vec::from_slice(alloc, function.params.as_slice())?;
+        let locals = Locals::new(alloc, function.params.as_slice());
         let params = locals.len();
         let results = function.results.as_slice();
         let stack = Stack::new(alloc, results)?;

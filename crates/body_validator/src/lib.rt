@@ -5,6 +5,7 @@ mod accesses;
 mod check;
 mod instruction_types;
 mod laws;
+mod locals;
 mod operands;
 mod scope;
 mod stack;

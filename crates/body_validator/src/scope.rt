@@ -1,9 +1,10 @@
 //! What the instructions of a body may name.
 
-ghost use Rattle.std.specs.Prelude.{◌≡◌, ◌+◌, ◌≤◌, ◌++◌, length, replicate, nat_lt, None, Some, slice_get, MatchOption, OnOk, OnErr, vec_len, vec_capacity};
+ghost use Rattle.std.specs.Prelude.{◌≡◌, ◌++◌, length, replicate, nat_lt, None, Some, slice_get, MatchOption, OnOk, OnErr};
 ghost use Rattle.wasm_defs.specs.Typing.{accesses, function_type};
 ghost use Rattle.body_validator.specs.Scopes.{with_locals};
 
+use crate::locals::Locals;
 use index_spaces::Context;
 use std::alloc::AllocError;
 use std::marker::Model;
@@ -14,7 +15,7 @@ use wasm_defs::{FuncType, GlobalType, MemArg, ValType};
 pub struct Scope<'a> {
     pub context: &'a Context,
     pub results: &'a [ValType],
-    pub locals: Vec<ValType>,
+    pub locals: Locals<'a>,
 }
 
 impl<'a> Model for Scope<'a> {
@@ -25,21 +26,9 @@ impl<'a> Model for Scope<'a> {
     ghost Value = { Context };
 
     ghost view = { λ s. record (context_in s.context.now) {
-      locals = s.locals.items;
+      locals = s.locals;
       results = reverse s.results.now;
     } };
-}
-
-fn push_copies(types: &mut Vec<ValType>, count: u32, t: ValType)
-    requires { vec_len types.old + count ≤ vec_capacity types.old }
-    ensures { types.new.items ≡ types.old.items ++ replicate count t }
-{
-    for _index in 0..count {
-        match types.push(t) {
-            Ok(()) => {}
-            Err(_) => unreachable!(),
-        }
-    }
 }
 
 impl<'a> Scope<'a> {
@@ -56,16 +45,15 @@ impl<'a> Scope<'a> {
         ensures ok { OnOk result (self.new ≡ with_locals self.old (self.old.locals ++ replicate count t)) }
         ensures err { OnErr result (self.new ≡ self.old) }
     {
-        self.locals.reserve(count as usize)?;
-        push_copies(&mut self.locals, count, t);
-        Ok(())
+        self.locals.declare(count as usize, t)
     }
 
     /// The type of a local.
+    #[inline(always)]
     pub fn local(&self, index: u32) -> Option<ValType>
         ensures { result ≡ slice_get self.now.locals index }
     {
-        self.locals.get(index as usize).copied()
+        self.locals.get(index as usize)
     }
 
     /// The type of a global.
