@@ -1,7 +1,6 @@
 -- What is linked of a whole module's codes is its image, and it can be run.
-use Rattle.std.proofs.Common.{◌≡◌, ℕ, zero, suc, ◌+◌, ◌*◌, Bool, true, List, [], ◌∷◌, ◌++◌, map, length, None, refl, sym, ap, ◌∙◌}
+use Rattle.std.proofs.Common.{◌≡◌, ℕ, ◌+◌, ◌*◌, Bool, true, List, [], ◌++◌, map, length, None, sym, ap, ◌∙◌}
 use Rattle.std.specs.Prelude.{replicate, not}
-use Rattle.std.proofs.lemmas.Bool.{false≢true}
 use Rattle.std.proofs.lemmas.List.{map-append}
 use Rattle.rv_isa.specs.Words.{word_of}
 use Rattle.rv_isa.specs.declared.operations.Op.{Op}
@@ -23,7 +22,7 @@ use Rattle.image_format.specs.declared.image.Export.{Export}
 use Rattle.index_spaces.specs.Entries.{function_exports, all_exports_of, initials_of, initial_values}
 use Rattle.index_spaces.specs.Spaces.{spaces_of}
 use Rattle.index_spaces.proofs.EntriesOfItems.{exports_are_of_items, values_are_of_items}
-use Rattle.image_linker.specs.ImageOf.{image_of, text_of, stubs_from, code_from, places_from, places_of_functions, stub_places, stub_size, front_size, imports_of, export_of, row_of, table_of, segment_of, placed_segments, start_offset}
+use Rattle.image_linker.specs.ImageOf.{image_of, text_of, stubs_from, code_from, places_from, places_of_functions, stub_places, stub_size, front_size, export_of, row_of, table_of, segment_of, placed_segments, start_offset}
 use Rattle.image_linker.specs.Codes.{AreCodesOf}
 use Rattle.image_linker.specs.Linking.{words_of, starts_of, front_words, empty_row, linked, linked_export}
 use Rattle.image_linker.proofs.Bounded.{rows_made}
