@@ -179,11 +179,7 @@ const FURTHER_FAULTS: [(&str, &str); 31] = [
     ("06 08 01 7F 00 41 00 41 00 0B", "invalid at 15"),
     // Before it what isn't compiled is unsupported: in valid code, where the same instruction is invalid, and where it is cut off.
     (
-        "01 04 01 60 00 00 03 02 01 00 0A 05 01 03 00 0F 0B",
-        "unsupported at 23",
-    ),
-    (
-        "01 04 01 60 00 00 03 02 01 00 0A 07 01 05 00 02 40 0B 0B",
+        "01 04 01 60 00 00 03 02 01 00 0A 06 01 04 00 10 00 0B",
         "unsupported at 23",
     ),
     (
@@ -201,6 +197,11 @@ const FURTHER_FAULTS: [(&str, &str); 31] = [
     (
         "01 04 01 60 00 00 03 02 01 00 0A 06 01 04 00 01 23 00",
         "unsupported at 24",
+    ),
+    // An `if` with a result and no `else`.
+    (
+        "01 04 01 60 00 00 03 02 01 00 0A 0C 01 0A 00 41 00 04 7F 41 01 0B 1A 0B",
+        "invalid at 29",
     ),
     // Opcodes that are none of the language, and one that is left out.
     (
