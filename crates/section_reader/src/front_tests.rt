@@ -180,9 +180,9 @@ fn items_come_in_order(rt: HostRuntime) -> Result<(), Fail> {
     let alloc = rt.alloc();
     let bytes = bytes_of(alloc, &[HEADER, ADD])?;
     let want =
-        "Signature { form: 11, params: 12, results: 15, ty: FuncType { params: ValTypes { types: [I32, I32] }, results: ValTypes { types: [I32] } } } \
+        "Signature { form: 11, params: 12, results: 15, ty: FuncType { params: Sequence { elements: [I32, I32] }, results: Sequence { elements: [I32] } } } \
         Function { type_index: (20, 0) } \
-        Exported { name: (24, Name { bytes: [97, 100, 100] }), kind: (28, Function), index: (29, 0) } \
+        Exported { name: (24, Sequence { elements: [97, 100, 100] }), kind: (28, Function), index: (29, 0) } \
         Code { count: (32, 1), end: 41 } Ok(())";
     assert_eq!(rt; told(alloc, &bytes, bytes.len())?.as_str(), want);
     assert_eq!(rt; told(alloc, &bytes, 1)?.as_str(), want);
