@@ -5,7 +5,7 @@ ghost use Rattle.wasm_laws.specs.Kept.{TypesAreSmall};
 use crate::{Feeder, Pool, Ticket, Worked, work};
 use body_cutter::{Batch, Bodies, Body, BodyBytes};
 use cancel_drain::{Board, BoardSeat};
-use index_spaces::{Context, ContextBuilder};
+use index_spaces::{AddStop, Context, ContextBuilder};
 use io_edges::{Gate, Go, OpenGate};
 use result_cells::Cells;
 use std::alloc::{AllocError, Global};
@@ -52,7 +52,7 @@ fn put(feeder: &mut Feeder, batch: Arc<Batch, Global>) -> bool {
 }
 
 // A module of two functions, which give a number of 32 bits.
-fn two_functions(alloc: Global) -> Result<Context, AllocError>
+fn two_functions(alloc: Global) -> Result<Context, AddStop>
     ensures { IfOk result (λ c. TypesAreSmall c.types) }
 {
     let mut builder = ContextBuilder::new(alloc);

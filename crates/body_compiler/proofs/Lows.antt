@@ -1,26 +1,28 @@
 -- Heights rise by one at most with each token that is taken.
-use Rattle.std.proofs.Common.{◌≡◌, ◌≤◌, inl, inr, ℕ, zero, suc, ◌+◌, ◌-◌, Bool, true, false, List, [], ◌∷◌, ◌++◌, length, Option, None, Some, refl, ap, ◌∙◌, subst, arith, length-append}
-use Rattle.std.specs.Prelude.{slice_get}
+use Rattle.std.proofs.Common.{◌≡◌, ◌≤◌, inl, inr, ℕ, zero, suc, ◌+◌, ◌-◌, Bool, true, false, List, [], ◌∷◌, ◌++◌, length, Option, None, Some, refl, sym, ap, ◌∙◌, subst, arith, length-append}
+use Rattle.std.specs.Prelude.{slice_get, nat_lt}
+use Rattle.std.proofs.lemmas.List.{length-reverse}
 use Rattle.wasm_defs.specs.declared.operation.Operation.{Operation}
 use Rattle.wasm_defs.specs.declared.operation.Operation.TheVariants.{Unary, Test, Binary, Compare, Convert}
 use Rattle.wasm_defs.specs.declared.operation.ConvertOp.TheVariants.{Wrap, ExtendS, ExtendU}
 use Rattle.wasm_defs.specs.declared.token.BlockType.{BlockType}
 use Rattle.wasm_defs.specs.declared.token.BlockType.TheVariants.{Empty, Value, Index}
 use Rattle.wasm_defs.specs.declared.token.Plain.{Plain}
-use Rattle.wasm_defs.specs.declared.token.Plain.TheVariants.{Unreachable, Nop, Br, BrIf, BrTable, Return, Discard, Select, LocalGet, LocalSet, LocalTee, Const, Operate}
+use Rattle.wasm_defs.specs.declared.token.Plain.TheVariants.{Unreachable, Nop, Br, BrIf, BrTable, Return, Call, Discard, Select, LocalGet, LocalSet, LocalTee, GlobalGet, GlobalSet, Load, Store, MemorySize, MemoryGrow, Const, Operate}
 use Rattle.wasm_defs.specs.declared.token.Token.{Token}
 use Rattle.wasm_defs.specs.declared.token.Token.TheVariants as token
+use Rattle.wasm_defs.specs.declared.types.FuncType.{FuncType}
 use Rattle.wasm_defs.specs.declared.types.ValType.{ValType}
 use Rattle.wasm_defs.specs.declared.types.ValType.TheVariants.{I32}
 use Rattle.wasm_defs.specs.Places.{higher}
-use Rattle.wasm_defs.specs.Typing.{Types, Signature, Context, Rule, Untyped, Fixed, Stops, Discards, Selects, with_type, only_if, are_labels, rule_of, operated, block_type}
+use Rattle.wasm_defs.specs.Typing.{Types, Signature, Context, Rule, Untyped, Fixed, Stops, Discards, Selects, with_type, only_if, accesses, load_type, load_alignment, store_type, store_alignment, are_labels, function_type, called, rule_of, operated, block_type}
 use Rattle.body_compiler.specs.Emitted.{is_straight_plain}
 use Rattle.body_validator.specs.declared.stack.Opening.{Opening}
 use Rattle.body_validator.specs.declared.stack.Opening.TheVariants.{Block as Blocks, Loop as Loops, If as Ifs, Else as Elses}
 use Rattle.body_validator.specs.Checking.{Operand, Operands, Frame, Frames, ◌>>=◌, guarded, known, take_one, take_all, Taken, take_any, joined, put, apply, applied, label_of, at, enter, fresh, receive, step, height, starts_live, place_of, measured, Checker, step_checker}
 use Rattle.body_validator.specs.Checks.{Checked}
 use Rattle.body_validator.proofs.Options.{through, some_inside, guarded-true}
-use Rattle.body_compiler.specs.Steps.{is_control_plain, IsSpelledType, IsTaken, IsTakenPlain, IsSmall, AllSmall}
+use Rattle.body_compiler.specs.Steps.{is_control_plain, FunctionsAreSmall, IsSpelledType, IsTaken, IsTakenPlain, IsSmall, AllSmall}
 
 -- ---- operands
 
@@ -92,7 +94,7 @@ type_low : (t : Option Types) (f : Types → Rule) → ((ts : Types) → t ≡ S
 type_low None f h = tt
 type_low (Some ts) f h = h ts refl
 
-local_low : (t : Option ValType) (f : ValType → Rule) → ((t : ValType) → IsLow (f t)) → IsLow (with_type t f)
+local_low : {T : Type 0} (t : Option T) (f : T → Rule) → ((t : T) → IsLow (f t)) → IsLow (with_type t f)
 local_low None f h = tt
 local_low (Some t) f h = h t
 
@@ -116,21 +118,32 @@ straight_low c Select s = tt
 straight_low c (LocalGet x) s = local_low (slice_get c.locals x) _ (λ t. omega arith)
 straight_low c (LocalSet x) s = local_low (slice_get c.locals x) _ (λ t. omega arith)
 straight_low c (LocalTee x) s = local_low (slice_get c.locals x) _ (λ t. omega arith)
+straight_low c (GlobalGet x) s = local_low (slice_get c.globals x) _ (λ g. omega arith)
+straight_low c (GlobalSet x) s = local_low (slice_get c.globals x) _ (λ g. only_low g.mutable (Fixed (g.ty ∷ []) []) (omega arith))
+straight_low c (Load op m) s = only_low (accesses c m.align (load_alignment op)) (Fixed (I32 ∷ []) (load_type op ∷ [])) (omega arith)
+straight_low c (Store op m) s = only_low (accesses c m.align (store_alignment op)) (Fixed (store_type op ∷ I32 ∷ []) []) (omega arith)
+straight_low c MemorySize s = only_low (nat_lt 0 c.memories) (Fixed [] (I32 ∷ [])) (omega arith)
+straight_low c MemoryGrow s = only_low (nat_lt 0 c.memories) (Fixed (I32 ∷ []) (I32 ∷ [])) (omega arith)
 straight_low c (Const t n) s = omega arith
 straight_low c (Operate op) s = operation_low op
 straight_low c _ s = absurd cc
 
-control_low : (c : Context) (p : Plain) → LabelsAreSmall c.labels → is_control_plain p ≡ true → IsLow (rule_of c p)
-control_low c Unreachable small s = tt
-control_low c (Br l) small s = type_low (slice_get c.labels l) Stops (λ ts e. tt)
-control_low c (BrIf l) small s = type_low (slice_get c.labels l) (λ ts. Fixed (I32 ∷ ts) ts) (λ ts e. small l ts e)
-control_low c (BrTable ls l) small s = type_low (slice_get c.labels l) (λ ts. only_if (are_labels c.labels ts ls) (Stops (I32 ∷ ts))) (λ ts e. only_low (are_labels c.labels ts ls) (Stops (I32 ∷ ts)) tt)
-control_low c Return small s = tt
-control_low c _ small s = absurd cc
+called_low : (t : Option FuncType) → ((f : FuncType) → t ≡ Some f → length f.results ≤ 1) → IsLow (with_type t (called []))
+called_low None h = tt
+called_low (Some f) h = let n = length-reverse f.results in let k = h f refl in omega arith
 
-plain_low : (c : Context) (p : Plain) → LabelsAreSmall c.labels → IsTakenPlain p → IsLow (rule_of c p)
-plain_low c p small (inl s) = control_low c p small s
-plain_low c p small (inr s) = straight_low c p s.0
+control_low : (c : Context) (p : Plain) → LabelsAreSmall c.labels → FunctionsAreSmall c → is_control_plain p ≡ true → IsLow (rule_of c p)
+control_low c Unreachable small functions s = tt
+control_low c (Br l) small functions s = type_low (slice_get c.labels l) Stops (λ ts e. tt)
+control_low c (BrIf l) small functions s = type_low (slice_get c.labels l) (λ ts. Fixed (I32 ∷ ts) ts) (λ ts e. small l ts e)
+control_low c (BrTable ls l) small functions s = type_low (slice_get c.labels l) (λ ts. only_if (are_labels c.labels ts ls) (Stops (I32 ∷ ts))) (λ ts e. only_low (are_labels c.labels ts ls) (Stops (I32 ∷ ts)) tt)
+control_low c Return small functions s = tt
+control_low c (Call f) small functions s = called_low (function_type c f) (λ t e. functions f t e)
+control_low c _ small functions s = absurd cc
+
+plain_low : (c : Context) (p : Plain) → LabelsAreSmall c.labels → FunctionsAreSmall c → IsTakenPlain p → IsLow (rule_of c p)
+plain_low c p small functions (inl s) = control_low c p small functions s
+plain_low c p small functions (inr s) = straight_low c p s.0
 
 -- ---- the labels of frames
 
@@ -185,21 +198,29 @@ turn_rises f fs h =
     let none : length (known f.type.params) ≡ 0 = length-known f.type.params ∙ ap (λ (l : Types). length l) h.0.0 in
     record { small = h; low = omega arith }
 
-step_rises : (c : Context) (t : Token) (fs gs : Frames) → c.labels ≡ [] → IsTaken t → AllSmall fs → step c t fs ≡ Some gs → Rises fs gs
-step_rises c t [] gs none taken h e = absurd cc
-step_rises c (token.Plain p) (f ∷ fs) gs none taken h e =
-    applied_rises (rule_of (at c (f ∷ fs)) p) f fs gs (plain_low (at c (f ∷ fs)) p (labels_small c (f ∷ fs) none h) taken) h e
-step_rises c (token.Block t) (f ∷ fs) gs none taken h e =
+-- in the frames the functions are those of the context
+pub functions_at : (c : Context) (fs : Frames) (f : ℕ) → function_type (at c fs) f ≡ function_type c f
+functions_at c [] f = refl
+functions_at c (g ∷ fs) f = functions_at c fs f
+
+small_at : (c : Context) (fs : Frames) → FunctionsAreSmall c → FunctionsAreSmall (at c fs)
+small_at c fs h f t e = h f t (sym (functions_at c fs f) ∙ e)
+
+step_rises : (c : Context) (t : Token) (fs gs : Frames) → c.labels ≡ [] → FunctionsAreSmall c → IsTaken t → AllSmall fs → step c t fs ≡ Some gs → Rises fs gs
+step_rises c t [] gs none functions taken h e = absurd cc
+step_rises c (token.Plain p) (f ∷ fs) gs none functions taken h e =
+    applied_rises (rule_of (at c (f ∷ fs)) p) f fs gs (plain_low (at c (f ∷ fs)) p (labels_small c (f ∷ fs) none h) (small_at c (f ∷ fs) functions) taken) h e
+step_rises c (token.Block t) (f ∷ fs) gs none functions taken h e =
     let x = through (block_type (at c (f ∷ fs)) t) (λ s. enter Blocks s s.params (f ∷ fs)) gs e in
     enter_rises Blocks x.value x.value.params f fs gs (spelled_small (at c (f ∷ fs)) t x.value taken x.is) h x.then
-step_rises c (token.Loop t) (f ∷ fs) gs none taken h e =
+step_rises c (token.Loop t) (f ∷ fs) gs none functions taken h e =
     let x = through (block_type (at c (f ∷ fs)) t) (λ s. enter Loops s s.params (f ∷ fs)) gs e in
     enter_rises Loops x.value x.value.params f fs gs (spelled_small (at c (f ∷ fs)) t x.value taken x.is) h x.then
-step_rises c (token.If t) (f ∷ fs) gs none taken h e =
+step_rises c (token.If t) (f ∷ fs) gs none functions taken h e =
     let x = through (block_type (at c (f ∷ fs)) t) (λ s. enter Ifs s (I32 ∷ s.params) (f ∷ fs)) gs e in
     enter_rises Ifs x.value (I32 ∷ x.value.params) f fs gs (spelled_small (at c (f ∷ fs)) t x.value taken x.is) h x.then
-step_rises c token.Else (f ∷ fs) gs none taken h e = subst (λ (g : Frames). Rises (f ∷ fs) g) (guarded-true _ _ gs e).1 (turn_rises f fs h)
-step_rises c token.End (f ∷ fs) gs none taken h e = subst (λ (g : Frames). Rises (f ∷ fs) g) (guarded-true _ _ gs e).1 (receive_rises f.type.results f fs h.0.1 h.1)
+step_rises c token.Else (f ∷ fs) gs none functions taken h e = subst (λ (g : Frames). Rises (f ∷ fs) g) (guarded-true _ _ gs e).1 (turn_rises f fs h)
+step_rises c token.End (f ∷ fs) gs none functions taken h e = subst (λ (g : Frames). Rises (f ∷ fs) g) (guarded-true _ _ gs e).1 (receive_rises f.type.results f fs h.0.1 h.1)
 
 -- ---- the greatest height
 
@@ -216,11 +237,11 @@ pub record Low (check : Checked) (left : ℕ) (bound : ℕ) : Type 0 where
   pub low : height check.checker.frames + left ≤ bound
   pub most : check.checker.greatest + left ≤ bound
 
-pub low-after : (check later : Checked) (t : Token) (left fewer bound : ℕ) → check.context.labels ≡ [] → IsTaken t → fewer + 1 ≤ left → Low check left bound
+pub low-after : (check later : Checked) (t : Token) (left fewer bound : ℕ) → check.context.labels ≡ [] → FunctionsAreSmall check.context → IsTaken t → fewer + 1 ≤ left → Low check left bound
     → step_checker check.context t check.checker ≡ Some later.checker → Low later fewer bound
-low-after check later t left fewer bound none taken less h e =
+low-after check later t left fewer bound none functions taken less h e =
     let x = through (step check.context t check.checker.frames) (λ fs. Some (measured check.checker.greatest fs)) later.checker e in
-    let rises = step_rises check.context t check.checker.frames x.value none taken h.small x.is in
+    let rises = step_rises check.context t check.checker.frames x.value none functions taken h.small x.is in
     let low = h.low in
     let most = h.most in
     let rise = rises.low in

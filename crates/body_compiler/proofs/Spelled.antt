@@ -1,12 +1,12 @@
 -- What an opcode that is compiled spells.
-use Rattle.std.proofs.Common.{◌≡◌, ◌<◌, inl, inr, ℕ, true, List, [], ◌∷◌, drop, length, get_or, refl, ap, ◌∙◌, subst}
+use Rattle.std.proofs.Common.{◌≡◌, ◌<◌, inl, inr, ℕ, true, None, List, [], ◌∷◌, drop, length, get_or, refl, ap, ◌∙◌, subst}
 use Rattle.std.proofs.lemmas.List.{get_or_default}
 use Rattle.std.proofs.lemmas.List.Elements.{All-drop}
 use Rattle.std.proofs.Math.Seq.{drop-append_seam}
 use Rattle.wasm_defs.specs.declared.token.BlockType.{BlockType}
 use Rattle.wasm_defs.specs.declared.token.BlockType.TheVariants.{Empty, Value, Index}
 use Rattle.wasm_defs.specs.declared.token.Plain.{Plain}
-use Rattle.wasm_defs.specs.declared.token.Plain.TheVariants.{Unreachable, Nop, Br, BrIf, BrTable, Return, Discard, Select, LocalGet, LocalSet, LocalTee, Const, Operate}
+use Rattle.wasm_defs.specs.declared.token.Plain.TheVariants.{Unreachable, Nop, Br, BrIf, BrTable, Return, Call, Discard, Select, LocalGet, LocalSet, LocalTee, GlobalGet, GlobalSet, Load, Store, MemorySize, MemoryGrow, Const, Operate}
 use Rattle.wasm_defs.specs.declared.token.Token.{Token}
 use Rattle.wasm_defs.specs.declared.token.Token.TheVariants as token
 use Rattle.wasm_defs.specs.Bodies.{instruction}
@@ -21,7 +21,7 @@ use Rattle.wasm_laws.proofs.BodyLaws.{instruction_steady}
 use Rattle.wasm_laws.proofs.Bytes.{each_byte}
 use Rattle.wasm_laws.proofs.Compiled.{IsCompiledToken, instruction_is_compiled}
 use Rattle.wasm_laws.proofs.Ranges.{InRange, instruction_in_range}
-use Rattle.body_compiler.specs.Steps.{is_control_plain, IsSpelledType, IsTaken, IsTakenPlain}
+use Rattle.body_compiler.specs.Steps.{called_plain, is_control_plain, IsSpelledType, IsTaken, IsTakenPlain}
 use Rattle.wasm_defs.specs.Supported.{is_compiled_opcode}
 use Rattle.body_compiler.proofs.Going.{byte_is}
 
@@ -32,11 +32,18 @@ plain_taken (Br l) c r = inl refl
 plain_taken (BrIf l) c r = inl refl
 plain_taken (BrTable ls l) c r = inl refl
 plain_taken Return c r = inl refl
+plain_taken (Call f) c r = inl refl
 plain_taken Discard c r = inr (refl, r)
 plain_taken Select c r = inr (refl, r)
 plain_taken (LocalGet x) c r = inr (refl, r)
 plain_taken (LocalSet x) c r = inr (refl, r)
 plain_taken (LocalTee x) c r = inr (refl, r)
+plain_taken (GlobalGet x) c r = inr (refl, r)
+plain_taken (GlobalSet x) c r = inr (refl, r)
+plain_taken (Load op m) c r = inr (refl, r)
+plain_taken (Store op m) c r = inr (refl, r)
+plain_taken MemorySize c r = inr (refl, r)
+plain_taken MemoryGrow c r = inr (refl, r)
 plain_taken (Const t n) c r = inr (refl, r)
 plain_taken (Operate op) c r = inr (refl, r)
 plain_taken _ c r = absurd cc
@@ -61,17 +68,18 @@ taken_token at b d e t bytes compiled is =
     (subst (λ (x : Read Token). IfGot InRange x) is (instruction_in_range at b d (each_byte d.rest bytes)))
 
 -- an instruction that is none of these is straight
-pub others : (p : Plain) → IsTakenPlain p → (p ≡ Unreachable → ⊥) → ((l : ℕ) → p ≡ Br l → ⊥) → ((l : ℕ) → p ≡ BrIf l → ⊥) → ((ls : List ℕ) (l : ℕ) → p ≡ BrTable ls l → ⊥) → (p ≡ Return → ⊥) → (is_straight_plain p ≡ true) × IsInRange p
-others p (inr h) a b c d e = h
-others p (inl h) a b c d e = absurd (none p h a b c d e)
+pub others : (p : Plain) → IsTakenPlain p → (p ≡ Unreachable → ⊥) → ((l : ℕ) → p ≡ Br l → ⊥) → ((l : ℕ) → p ≡ BrIf l → ⊥) → ((ls : List ℕ) (l : ℕ) → p ≡ BrTable ls l → ⊥) → (p ≡ Return → ⊥) → called_plain p ≡ None → (is_straight_plain p ≡ true) × IsInRange p
+others p (inr h) a b c d e n = h
+others p (inl h) a b c d e n = absurd (none p h a b c d e n)
   where
-    none : (p : Plain) → is_control_plain p ≡ true → (p ≡ Unreachable → ⊥) → ((l : ℕ) → p ≡ Br l → ⊥) → ((l : ℕ) → p ≡ BrIf l → ⊥) → ((ls : List ℕ) (l : ℕ) → p ≡ BrTable ls l → ⊥) → (p ≡ Return → ⊥) → ⊥
-    none Unreachable h a b c d e = a refl
-    none (Br l) h a b c d e = b l refl
-    none (BrIf l) h a b c d e = c l refl
-    none (BrTable ls l) h a b c d e = d ls l refl
-    none Return h a b c d e = e refl
-    none _ h a b c d e = absurd cc
+    none : (p : Plain) → is_control_plain p ≡ true → (p ≡ Unreachable → ⊥) → ((l : ℕ) → p ≡ Br l → ⊥) → ((l : ℕ) → p ≡ BrIf l → ⊥) → ((ls : List ℕ) (l : ℕ) → p ≡ BrTable ls l → ⊥) → (p ≡ Return → ⊥) → called_plain p ≡ None → ⊥
+    none Unreachable h a b c d e n = a refl
+    none (Br l) h a b c d e n = b l refl
+    none (BrIf l) h a b c d e n = c l refl
+    none (BrTable ls l) h a b c d e n = d ls l refl
+    none Return h a b c d e n = e refl
+    none (Call f) h a b c d e n = absurd cc
+    none _ h a b c d e n = absurd cc
 
 -- ---- bytes
 

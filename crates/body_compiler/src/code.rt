@@ -9,7 +9,7 @@ ghost use Rattle.wasm_defs.specs.Faults.{earlier, unsupported_at};
 ghost use Rattle.frame_layout.specs.Slots.{link};
 ghost use Rattle.wasm_laws.specs.Sections.{AreBytes};
 ghost use Rattle.body_compiler.specs.Steps.{AreTied};
-ghost use Rattle.body_compiler.specs.Going.{IsCompiling, Goes, Judges, Taken, without_opcode};
+ghost use Rattle.body_compiler.specs.Going.{IsCompiling, calling, Goes, Judges, Taken, without_opcode};
 ghost use Rattle.control_emit.specs.Emits.{draft as drafted, IsHeld};
 
 use crate::draft::{Draft, take_step};
@@ -94,13 +94,13 @@ fn take_instruction(
     ensures bytes { OnOk result (AreBytes fields.new.rest) }
     ensures tied { OnOk result (AreTied draft.new.labels check.new (length fields.new.rest)) }
     ensures grows { OnOk result (length draft.old.words ≤ length draft.new.words) }
-    ensures goes { (c : ContextGiven) (code : SpelledGiven) (before : CursorGiven) (front : List ℕ) → IsCompiling c last before check.old code draft.old.layout front (drafted draft.old.labels draft.old.words) → byte before ≡ Got (at, opcode) fields.old → check.old.checker.frames ≢ [] → Goes c last code draft.old.layout front result fields.new check.new (drafted draft.new.labels draft.new.words) }
+    ensures goes { (c : ContextGiven) (code : SpelledGiven) (before : CursorGiven) (front : List ℕ) → IsCompiling c last before check.old code draft.old.layout front (calling draft.old.labels draft.old.words draft.old.calls.items) → byte before ≡ Got (at, opcode) fields.old → check.old.checker.frames ≢ [] → Goes c last code draft.old.layout front result fields.new check.new (calling draft.new.labels draft.new.words draft.new.calls.items) }
 {
     let compiled = is_compiled_opcode(opcode);
     match instruction(fields, alloc, at, opcode) {
         Ok(token) => match check.token(at, &token) {
             Ok(step) => match after_token(check, compiled, at, last) {
-                Ok(()) => match take_step(draft, &step, &token) {
+                Ok(()) => match take_step(draft, check.context(), &step, &token) {
                     Ok(()) => Ok(()),
                     Err(_) => Err(BodyStop::NoMemory),
                 },
@@ -145,7 +145,7 @@ pub fn judge_code(
     ensures over { OnOk result (check.new.checker.frames ≡ []) }
     ensures most { OnOk result (check.new.checker.greatest ≤ max_body) }
     ensures grows { OnOk result (length draft.old.words ≤ length draft.new.words) }
-    ensures judges { (c : ContextGiven) (code : SpelledGiven) (front : List ℕ) → IsCompiling c last fields.old check.old code draft.old.layout front (drafted draft.old.labels draft.old.words) → Judges c code draft.old.layout front result check.new (drafted draft.new.labels draft.new.words) }
+    ensures judges { (c : ContextGiven) (code : SpelledGiven) (front : List ℕ) → IsCompiling c last fields.old check.old code draft.old.layout front (calling draft.old.labels draft.old.words draft.old.calls.items) → Judges c code draft.old.layout front result check.new (calling draft.new.labels draft.new.words draft.new.calls.items) }
 {
     while !check.is_over() {
         match fields.byte() {

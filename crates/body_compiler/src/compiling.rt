@@ -6,11 +6,12 @@ ghost use Rattle.wasm_defs.specs.Context.{type_of_function};
 ghost use Rattle.wasm_defs.specs.Limits.{max_body, max_locals};
 ghost use Rattle.wasm_defs.specs.Typing.{Context as ContextGiven, function_type};
 ghost use Rattle.index_spaces.specs.Spaces.{context_in};
-ghost use Rattle.wasm_laws.specs.Kept.{TypeIsSmall};
+ghost use Rattle.wasm_laws.specs.Kept.{TypeIsSmall, TypesAreSmall};
 ghost use Rattle.wasm_laws.specs.Sections.{AreBytes};
 ghost use Rattle.body_validator.specs.Checking.{start_checker};
 ghost use Rattle.body_compiler.specs.Compiling.{Compiles};
 ghost use Rattle.body_compiler.specs.Making.{Makes};
+ghost use Rattle.body_compiler.specs.Steps.{FunctionsAreSmall};
 ghost use Rattle.body_compiler.specs.Going.{IsGoing};
 
 use crate::code::{BodyStop, judge_code, stop_of};
@@ -39,6 +40,7 @@ fn compile_code(
     requires few { length fields.old.rest ≤ max_body }
     requires begun { check.checker ≡ start_checker check.context }
     requires unlabelled { check.context.labels ≡ [] }
+    requires functions { FunctionsAreSmall check.context }
     requires results { length check.context.results ≡ length function.now.results }
     ensures { (c : ContextGiven) (code : SpelledGiven) (g : IsGoing c last fields.old check.entry code) → g.tokens ≡ [] → length c.results ≡ length function.now.results → Makes c code (record { params = length function.now.params; locals = locals; greatest = 0 }) (length function.now.results) result }
 {
@@ -57,7 +59,7 @@ fn compile_code(
         Err(stop) => return Err(stop),
     }
     let greatest = check.end().greatest;
-    match finish(alloc, draft, greatest as u32, results) {
+    match finish(draft, greatest as u32, results) {
         Ok(code) => Ok(code),
         Err(_) => Err(BodyStop::NoMemory),
     }
@@ -66,7 +68,8 @@ fn compile_code(
 /// Compiles the body of a function: its bytes are all there, and the first one has the offset.
 ///
 /// A body that is spelled rightly to its end (Core 5.4 and 5.5.13), valid in the context (Core 3.4.1) and made of what is compiled
-/// so far becomes the words of its function (`Functions` of `frame_layout`), with no calls, and the number of slots that it needs.
+/// so far becomes the words of its function (`Functions` of `frame_layout`), whose calls have no distances yet, the places of these
+/// calls, and the number of slots that it needs.
 /// Any other body is refused with its first fault. Where memory is wanting it is neither.
 pub fn compile(
     alloc: Global,
@@ -76,7 +79,7 @@ pub fn compile(
     offset: u64,
 ) -> Result<Code, BodyStop>
     requires function { IsSome (function_type (context_in context.now) index) }
-    requires small { TypeIsSmall (type_of_function (context_in context.now) index) }
+    requires types { TypesAreSmall (context_in context.now).types }
     requires most { length bytes.now ≤ max_body }
     requires fits { offset + length bytes.now < 2 ^ 63 }
     ensures { Compiles (context_in context.now) index (body_read offset bytes.now) result }

@@ -9,7 +9,7 @@ use Rattle.body_cutter.specs.declared.body.Body.{Body}
 use Rattle.body_cutter.specs.declared.walk.Walk.{Walk}
 use Rattle.body_cutter.specs.Sections.{Given, End, Whole, Faulty, Owed, ends, after_bodies, bodies_from}
 use Rattle.body_cutter.specs.Places.{still, unless_refused, on_hand}
-use Rattle.body_cutter.specs.Walks.{given, place_of, index_of, is_over, IsSound, IsAtSize, IsInBody, IsInHand, UnlessRefused}
+use Rattle.body_cutter.specs.Walks.{given, position_of, index_of, is_over, IsSound, IsAtSize, IsInBody, IsInHand, UnlessRefused}
 use Rattle.body_cutter.specs.Queues.{Queue, with_begun, with_body, with_bodies, all_closed, bytes_of}
 use Rattle.body_cutter.specs.Cuttings.{Handed, handed, finished}
 use Rattle.body_cutter.specs.Held.{end_of, end_by}
@@ -62,25 +62,25 @@ module _ (w : Walk) (sound : IsSound w) where
             ])
       ]
 
-  idle_at : (o : Option Refusal) (s : Bool) → w.stop ≡ o → w.sized ≡ s → still (place_of w) [] ≡ ends (end_by w)
+  idle_at : (o : Option Refusal) (s : Bool) → w.stop ≡ o → w.sized ≡ s → still (position_of w) [] ≡ ends (end_by w)
   idle_at (Some r) s e f =
-      ap (λ (o : Option Refusal). unless_refused o (on_hand (place_of w) w.sized [])) e
+      ap (λ (o : Option Refusal). unless_refused o (on_hand (position_of w) w.sized [])) e
       ∙ sym (ap (λ (o : Option Refusal). ends (end_of o (eqb w.count 0 && eqb w.at w.end))) e)
   idle_at None false e f =
-      ap (λ (o : Option Refusal). unless_refused o (on_hand (place_of w) w.sized [])) e
-      ∙ ap (λ (z : Bool). on_hand (place_of w) z []) f
+      ap (λ (o : Option Refusal). unless_refused o (on_hand (position_of w) w.sized [])) e
+      ∙ ap (λ (z : Bool). on_hand (position_of w) z []) f
       ∙ size_idle (hand None false e f)
       ∙ sym (ap (λ (o : Option Refusal). ends (end_of o (eqb w.count 0 && eqb w.at w.end))) e)
   idle_at None true e f =
       let h : IsInBody w = hand None true e f in
-      ap (λ (o : Option Refusal). unless_refused o (on_hand (place_of w) w.sized [])) e
-      ∙ ap (λ (z : Bool). on_hand (place_of w) z []) f
+      ap (λ (o : Option Refusal). unless_refused o (on_hand (position_of w) w.sized [])) e
+      ∙ ap (λ (z : Bool). on_hand (position_of w) z []) f
       ∙ body_owed w.size_at w.len (w.at - length w.bytes.items) w.end w.bytes.items _ h.short (omega (arith, h.came, h.room))
       ∙ ap (λ (b : Bool). ends (end_of None b)) (sym (some_owed h.one))
       ∙ sym (ap (λ (o : Option Refusal). ends (end_of o (eqb w.count 0 && eqb w.at w.end))) e)
 
   -- no further bytes: how the section ends so far
-  pub idle : still (place_of w) [] ≡ ends (end_by w)
+  pub idle : still (position_of w) [] ≡ ends (end_by w)
   idle = idle_at w.stop w.sized refl refl
 
   both_true : (a b : Bool) → (a && b) ≡ true → (a ≡ true) × (b ≡ true)
@@ -88,9 +88,9 @@ module _ (w : Walk) (sound : IsSound w) where
   both_true true false e = absurd cc
   both_true false b e = absurd cc
 
-  over_at : (o : Option Refusal) (s : Bool) → w.stop ≡ o → w.sized ≡ s → is_over w ≡ true → (more : List ℕ) → still (place_of w) more ≡ ends (end_by w)
+  over_at : (o : Option Refusal) (s : Bool) → w.stop ≡ o → w.sized ≡ s → is_over w ≡ true → (more : List ℕ) → still (position_of w) more ≡ ends (end_by w)
   over_at (Some r) s e f over more =
-      ap (λ (o : Option Refusal). unless_refused o (on_hand (place_of w) w.sized more)) e
+      ap (λ (o : Option Refusal). unless_refused o (on_hand (position_of w) w.sized more)) e
       ∙ sym (ap (λ (o : Option Refusal). ends (end_of o (eqb w.count 0 && eqb w.at w.end))) e)
   over_at None true e f over more =
       let h : IsInBody w = hand None true e f in
@@ -104,8 +104,8 @@ module _ (w : Walk) (sound : IsSound w) where
       let n : w.count ≡ 0 = eqb-true w.count 0 both.0 in
       let same : w.at ≡ w.end = eqb-true w.at w.end both.1 in
       let place : w.size_at ≡ w.end = omega (arith, h.place, ap length (h.fresh n)) in
-      ap (λ (o : Option Refusal). unless_refused o (on_hand (place_of w) w.sized more)) e
-      ∙ ap (λ (z : Bool). on_hand (place_of w) z more) f
+      ap (λ (o : Option Refusal). unless_refused o (on_hand (position_of w) w.sized more)) e
+      ∙ ap (λ (z : Bool). on_hand (position_of w) z more) f
       ∙ ap (λ (k : ℕ). bodies_from (index_of w) k (from_there w.size_at (w.leb.bytes ++ more) w.end)) n
       ∙ ap (λ (l : List ℕ). bodies_from (index_of w) 0 (from_there w.size_at (l ++ more) w.end)) (h.fresh n)
       ∙ ap (λ (k : ℕ). bodies_from (index_of w) 0 (from_there k more w.end)) place
@@ -114,7 +114,7 @@ module _ (w : Walk) (sound : IsSound w) where
       ∙ sym (ap (λ (o : Option Refusal). ends (end_of o (eqb w.count 0 && eqb w.at w.end))) e)
 
   -- where the section is over, further bytes change nothing
-  pub over : is_over w ≡ true → (more : List ℕ) → still (place_of w) more ≡ ends (end_by w)
+  pub over : is_over w ≡ true → (more : List ℕ) → still (position_of w) more ≡ ends (end_by w)
   over = over_at w.stop w.sized refl refl
 
 -- ---- the batch that is begun closes at the end
@@ -159,14 +159,14 @@ handed_of q e = record { queue = q; ending = e }
 pub handed_after : (q : Queue) (d : List Body) (g : Given) → handed q (after_bodies d g) ≡ handed (with_bodies q d) g
 handed_after q d g = ap (λ (p : Queue). handed_of (finished g.ending p) g.ending) (with_append d g.bodies q)
 
-pub moved : (v w : Walk) (p q : Queue) (bytes more : List ℕ) → v.done ≡ [] → given v bytes ≡ given w more → q ≡ with_bodies p w.done → handed p (still (place_of v) bytes) ≡ handed q (still (place_of w) more)
+pub moved : (v w : Walk) (p q : Queue) (bytes more : List ℕ) → v.done ≡ [] → given v bytes ≡ given w more → q ≡ with_bodies p w.done → handed p (still (position_of v) bytes) ≡ handed q (still (position_of w) more)
 unfolding given
 moved v w p q bytes more none same e =
-    ap (handed p) (none_given v bytes (after_bodies w.done (still (place_of w) more)) none same)
-    ∙ handed_after p w.done (still (place_of w) more)
-    ∙ ap (λ (q : Queue). handed q (still (place_of w) more)) (sym e)
+    ap (handed p) (none_given v bytes (after_bodies w.done (still (position_of w) more)) none same)
+    ∙ handed_after p w.done (still (position_of w) more)
+    ∙ ap (λ (q : Queue). handed q (still (position_of w) more)) (sym e)
 
-pub closing : (w : Walk) (q : Queue) (more : List ℕ) → IsSound w → is_over w ≡ true → handed q (still (place_of w) more) ≡ handed (all_closed q) (still (place_of w) more)
+pub closing : (w : Walk) (q : Queue) (more : List ℕ) → IsSound w → is_over w ≡ true → handed q (still (position_of w) more) ≡ handed (all_closed q) (still (position_of w) more)
 closing w q more sound e =
     let b = eqb w.count 0 && eqb w.at w.end in
     let is = over w sound e more in
@@ -197,9 +197,9 @@ number_with (b ∷ d) q = number_with d (with_body q b) ∙ numbered_queue q (q.
 
 -- ---- after a refusal
 
-pub refused_left : (w : Walk) (q : Queue) (r : Refusal) (bytes : List ℕ) → w.stop ≡ Some r → finished (end_by w) q ≡ q → handed q (still (place_of w) bytes) ≡ record { queue = q; ending = Faulty r }
+pub refused_left : (w : Walk) (q : Queue) (r : Refusal) (bytes : List ℕ) → w.stop ≡ Some r → finished (end_by w) q ≡ q → handed q (still (position_of w) bytes) ≡ record { queue = q; ending = Faulty r }
 refused_left w q r bytes e prompt =
     let ending : end_by w ≡ Faulty r = ap (λ (o : Option Refusal). end_of o (eqb w.count 0 && eqb w.at w.end)) e in
     let closed : all_closed q ≡ q = sym (ap (λ (x : End). finished x q) ending) ∙ prompt in
-    ap (λ (o : Option Refusal). handed q (unless_refused o (on_hand (place_of w) w.sized bytes))) e
+    ap (λ (o : Option Refusal). handed q (unless_refused o (on_hand (position_of w) w.sized bytes))) e
     ∙ ap (λ (p : Queue). handed_of p (Faulty r)) closed

@@ -8,7 +8,7 @@ use Rattle.leb_feed.specs.Feeding.{Feeding}
 use Rattle.body_cutter.specs.declared.body.Body.{Body}
 use Rattle.body_cutter.specs.declared.walk.Walk.{Walk}
 use Rattle.body_cutter.specs.Sections.{Given, after_bodies, bodies_from, goes_on, with_part, sized}
-use Rattle.body_cutter.specs.Walks.{given, place_of, index_of, from_hand, IsBetween, IsFull}
+use Rattle.body_cutter.specs.Walks.{given, position_of, index_of, from_hand, IsBetween, IsFull}
 use Rattle.body_cutter.specs.Places.{unless_refused, still}
 use Rattle.body_cutter.proofs.Sizes.{from_there, malformed, cut_size, body_read}
 use Rattle.body_cutter.proofs.Steps.{in_size, in_body}
@@ -86,6 +86,6 @@ begun w new more same none empty unsized going =
     ∙ ap (λ (l : List ℕ). bodies_from (index_of w) w.count (from_there w.size_at (l ++ more) w.end)) empty
 
 -- where nothing was given, all is still to come
-pub none_given : (w : Walk) (more : List ℕ) (g : Given) → w.done ≡ [] → given w more ≡ g → still (place_of w) more ≡ g
+pub none_given : (w : Walk) (more : List ℕ) (g : Given) → w.done ≡ [] → given w more ≡ g → still (position_of w) more ≡ g
 unfolding given
-none_given w more g none e = ap (λ (l : List Body). after_bodies l (still (place_of w) more)) (sym none) ∙ e
+none_given w more g none e = ap (λ (l : List Body). after_bodies l (still (position_of w) more)) (sym none) ∙ e

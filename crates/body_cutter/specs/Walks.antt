@@ -8,8 +8,8 @@ use Rattle.body_cutter.specs.Sections.{Given, after_bodies}
 use Rattle.body_cutter.specs.Places.{Place, on_size, on_body, on_hand, still}
 
 -- where a walk stands
-abbrev pub place_of : Walk → Place
-place_of w = record {
+abbrev pub position_of : Walk → Place
+position_of w = record {
   behind = w.behind;
   count = w.count;
   at = w.at;
@@ -26,17 +26,17 @@ abbrev pub index_of : Walk → ℕ
 index_of w = w.behind - w.count
 
 abbrev pub from_size : Walk → List ℕ → Given
-from_size w more = on_size (place_of w) more
+from_size w more = on_size (position_of w) more
 
 abbrev pub from_body : Walk → List ℕ → Given
-from_body w more = on_body (place_of w) more
+from_body w more = on_body (position_of w) more
 
 abbrev pub from_hand : Walk → Bool → List ℕ → Given
-from_hand w sized more = on_hand (place_of w) sized more
+from_hand w sized more = on_hand (position_of w) sized more
 
 -- the bodies that were given, and those that are to come where these bytes come next
 unfoldable pub given : Walk → List ℕ → Given
-given w more = after_bodies w.done (still (place_of w) more)
+given w more = after_bodies w.done (still (position_of w) more)
 
 -- a size is begun, and the section has room for more of it; or no body is to come
 pub record IsAtSize (w : Walk) : Type 0 where

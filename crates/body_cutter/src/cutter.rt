@@ -21,12 +21,12 @@ pub struct Cutter {
 impl Model for Cutter {
     ghost use Rattle.std.specs.Prelude.{◌≡◌, []};
     ghost use Rattle.body_cutter.specs.Cuttings.{Cutting};
-    ghost use Rattle.body_cutter.specs.Walks.{place_of, IsSound};
+    ghost use Rattle.body_cutter.specs.Walks.{position_of, IsSound};
     ghost use Rattle.body_cutter.specs.Held.{IsHeld};
 
     ghost Value = { Cutting };
 
-    ghost view = { λ c. record { place = place_of c.walk; queue = c.queue } };
+    ghost view = { λ c. record { place = position_of c.walk; queue = c.queue } };
 
     ghost invariant = { λ c. IsHeld c.walk c.queue };
 }

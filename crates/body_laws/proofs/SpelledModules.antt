@@ -13,9 +13,9 @@ use Rattle.wasm_defs.specs.Outside.{Body, Part, Section as Headed, Listed, Coded
 use Rattle.wasm_defs.specs.Supported.{is_compiled_section}
 use Rattle.wasm_defs.specs.Trees.{Seq, Tree}
 use Rattle.wasm_defs.specs.Typing.{Context, IsBody}
-use Rattle.wasm_laws.specs.Behind.{SayTheSame, AreValidIn}
+use Rattle.wasm_laws.specs.Behind.{SayTheSame, StartsKeep, AreValidIn}
 use Rattle.wasm_laws.specs.Sections.{AreBytes, parts_in}
-use Rattle.wasm_laws.proofs.Behind.{bodies_stand_behind, bodies_are_valid}
+use Rattle.wasm_laws.proofs.Behind.{bodies_stand_behind, bodies_are_valid, starts_keep}
 use Rattle.wasm_laws.proofs.Bytes.{each_byte, HaveBytes, bodies_have_bytes}
 use Rattle.wasm_laws.proofs.Described.{items_of_parts, bodies_of_parts, whole_is_described}
 use Rattle.wasm_laws.proofs.Locals.{locals_are_few}
@@ -80,20 +80,20 @@ items_with (Listed y ∷ front) x = ap (λ (l : List Item). y ∷ l) (items_with
 items_with (Coded a ∷ front) x = items_with front x
 
 valid_at_parts : (bytes : List ℕ) (front : List Part) (items : List Item) (k : ℕ) (parts : List Part) (trees : List Seq) → (module_read bytes).parts ≡ front ++ parts → items_of front ≡ items
-    → AreValidIn (items_of (module_read bytes).parts) k (bodies_of parts) trees → AreValid items k parts trees
-valid_at_parts bytes front items k [] [] e same h = tt
-valid_at_parts bytes front items k [] (tree ∷ trees) e same h = absurd h
-valid_at_parts bytes front items k (Headed at id ∷ parts) trees e same h =
-    valid_at_parts bytes (front ++ Headed at id ∷ []) items k parts trees (e ∙ sym (append_assoc front (Headed at id ∷ []) parts)) (items_with front (Headed at id) ∙ append-nil (items_of front) ∙ same) h
-valid_at_parts bytes front items k (Listed x ∷ parts) trees e same h =
-    valid_at_parts bytes (front ++ Listed x ∷ []) (items ++ x ∷ []) k parts trees (e ∙ sym (append_assoc front (Listed x ∷ []) parts)) (items_with front (Listed x) ∙ ap (λ (l : List Item). l ++ x ∷ []) same) h
-valid_at_parts bytes front items k (Coded b ∷ parts) [] e same h = absurd h
-valid_at_parts bytes front items k (Coded b ∷ parts) (tree ∷ trees) e same h =
+    → StartsKeep items (items_of parts) → AreValidIn (items_of (module_read bytes).parts) k (bodies_of parts) trees → AreValid items k parts trees
+valid_at_parts bytes front items k [] [] e same s h = tt
+valid_at_parts bytes front items k [] (tree ∷ trees) e same s h = absurd h
+valid_at_parts bytes front items k (Headed at id ∷ parts) trees e same s h =
+    valid_at_parts bytes (front ++ Headed at id ∷ []) items k parts trees (e ∙ sym (append_assoc front (Headed at id ∷ []) parts)) (items_with front (Headed at id) ∙ append-nil (items_of front) ∙ same) s h
+valid_at_parts bytes front items k (Listed x ∷ parts) trees e same s h =
+    (s.0, valid_at_parts bytes (front ++ Listed x ∷ []) (items ++ x ∷ []) k parts trees (e ∙ sym (append_assoc front (Listed x ∷ []) parts)) (items_with front (Listed x) ∙ ap (λ (l : List Item). l ++ x ∷ []) same) s.1 h)
+valid_at_parts bytes front items k (Coded b ∷ parts) [] e same s h = absurd h
+valid_at_parts bytes front items k (Coded b ∷ parts) (tree ∷ trees) e same s h =
     let all = items_of (module_read bytes).parts in
     let stands = bodies_stand_behind bytes front b parts e in
     let here : context_at all k b ≡ context_at items k b = same_context all (items_of front) k b stands.same ∙ ap (λ (l : List Item). context_at l k b) same in (
       subst (λ (c : Context). IsValidCode c (read_of b).code tree) here h.0,
-      valid_at_parts bytes (front ++ Coded b ∷ []) items (suc k) parts trees (e ∙ sym (append_assoc front (Coded b ∷ []) parts)) (items_with front (Coded b) ∙ append-nil (items_of front) ∙ same) h.1,
+      valid_at_parts bytes (front ++ Coded b ∷ []) items (suc k) parts trees (e ∙ sym (append_assoc front (Coded b ∷ []) parts)) (items_with front (Coded b) ∙ append-nil (items_of front) ∙ same) s h.1,
     )
 
 -- ---- modules
@@ -114,6 +114,7 @@ module_is_spelled bytes m fits is =
         is = d.1;
         items = is.items ∙ ap items_of d.2 ∙ items_of_parts d.0;
         bodies = is.bodies ∙ ap bodies_of d.2 ∙ bodies_of_parts d.0;
+        starts = subst (StartsKeep []) (sym is.items) (starts_keep [] 0 run.parts m.trees is.valid);
         spelled = valid;
         compiled = subst (λ (l : List Part). first_outside is_compiled_section (sections_of l) ≡ None) d.2 is.compiled;
       },
@@ -131,6 +132,6 @@ spelled_is_module bytes m sections s =
       compiled = ap (λ (l : List Part). first_outside is_compiled_section (sections_of l)) parts ∙ s.compiled;
       items = items;
       bodies = bodies;
-      valid = valid_at_parts bytes [] [] 0 (module_read bytes).parts m.trees refl refl
+      valid = valid_at_parts bytes [] [] 0 (module_read bytes).parts m.trees refl refl (subst (StartsKeep []) items s.starts)
           (subst (λ (l : List Body). AreValidIn (items_of (module_read bytes).parts) 0 l m.trees) bodies (subst (λ (l : List Item). AreValidIn l 0 m.bodies m.trees) items valid));
     }

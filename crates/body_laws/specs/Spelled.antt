@@ -11,6 +11,7 @@ use Rattle.wasm_defs.specs.Outside.{Body}
 use Rattle.wasm_defs.specs.Supported.{is_compiled_section, is_compiled_opcode}
 use Rattle.wasm_defs.specs.Trees.{Seq, Tree}
 use Rattle.wasm_defs.specs.Typing.{IsBody}
+use Rattle.wasm_laws.specs.Behind.{StartsKeep}
 use Rattle.wasm_laws.specs.Kept.{LocalsAreFew}
 use Rattle.wasm_laws.specs.Sections.{AreSectionsOf, parts_in}
 
@@ -40,10 +41,12 @@ AreSpelled items k [] (tree ∷ trees) = ⊥
 AreSpelled items k (b ∷ bodies) [] = ⊥
 AreSpelled items k (b ∷ bodies) (tree ∷ trees) = IsSpelled items k b tree × AreSpelled items (suc k) bodies trees
 
--- the bytes are a module of these sections, of which all are compiled, and its bodies are spelled
+-- the bytes are a module of these sections, of which all are compiled; its start function is one of those before it, of the right
+-- type; and its bodies are spelled
 pub record IsSpelledModule (bytes : List ℕ) (m : Module) (sections : List Section) : Type 0 where
   pub is : AreSectionsOf sections bytes
   pub items : m.items ≡ items_in sections
   pub bodies : m.bodies ≡ bodies_in sections
+  pub starts : StartsKeep [] m.items
   pub spelled : AreSpelled m.items 0 m.bodies m.trees
   pub compiled : first_outside is_compiled_section (sections_of (parts_in sections)) ≡ None

@@ -189,6 +189,14 @@ impl<'a> Check<'a> {
         })
     }
 
+    /// The context of the module, which functions and types are named by.
+    pub fn context(&self) -> &Context
+        ensures types { (context_in result.now).types ≡ self.now.context.types }
+        ensures functions { (context_in result.now).functions ≡ self.now.context.functions }
+    {
+        self.scope.context
+    }
+
     /// Whether the body's last `end` was taken.
     pub fn is_over(&self) -> bool
         ensures { IsTrue result ↔ (self.now.checker.frames ≡ []) }

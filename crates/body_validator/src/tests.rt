@@ -1,7 +1,7 @@
 ghost use Rattle.std.specs.Prelude.{◌≡◌, pos};
 
 use crate::{Check, Shape, TokenStop};
-use index_spaces::{Context, ContextBuilder};
+use index_spaces::{AddStop, Context, ContextBuilder};
 use std::alloc::{AllocError, Global};
 use std::process::Abort;
 use std::test::Fail;
@@ -61,7 +61,7 @@ fn add_function(
     index: u32,
     params: &[ValType],
     results: &[ValType],
-) -> Result<(), AllocError> {
+) -> Result<(), AddStop> {
     let ty = FuncType {
         params: ValTypes::new(Vec::from_slice(alloc, params)?),
         results: ValTypes::new(Vec::from_slice(alloc, results)?),
@@ -77,7 +77,7 @@ fn add_function(
     })
 }
 
-fn add_global(builder: &mut ContextBuilder, ty: ValType, mutable: bool) -> Result<(), AllocError> {
+fn add_global(builder: &mut ContextBuilder, ty: ValType, mutable: bool) -> Result<(), AddStop> {
     builder.add(&Item::Global {
         ty: (0, ty),
         mutable: (0, mutable),
@@ -90,7 +90,7 @@ fn add_global(builder: &mut ContextBuilder, ty: ValType, mutable: bool) -> Resul
 }
 
 /// Function 0 is [i32] -> [i32].
-fn small_module(alloc: Global) -> Result<Context, AllocError> {
+fn small_module(alloc: Global) -> Result<Context, AddStop> {
     let mut builder = ContextBuilder::new(alloc);
     add_function(alloc, &mut builder, 0, &[ValType::I32], &[ValType::I32])?;
     Ok(builder.finish())
@@ -98,7 +98,7 @@ fn small_module(alloc: Global) -> Result<Context, AllocError> {
 
 /// Function 0 is [i32] -> [i32], and 1 is [i64 i32] -> []; there are a table and a memory; global 0 is a variable of type
 /// i64, and 1 a constant of type i32.
-fn module(alloc: Global) -> Result<Context, AllocError> {
+fn module(alloc: Global) -> Result<Context, AddStop> {
     let mut builder = ContextBuilder::new(alloc);
     add_function(alloc, &mut builder, 0, &[ValType::I32], &[ValType::I32])?;
     add_function(alloc, &mut builder, 1, &[ValType::I64, ValType::I32], &[])?;

@@ -17,8 +17,9 @@ use Rattle.clap.specs.declared.builder.value_parser.ValueParser.{ValueParser}
 use Rattle.clap.specs.declared.builder.value_parser.ValueParser.TheVariants as parser
 use Rattle.clap.specs.declared.error.kind.ErrorKind.TheVariants.{MissingRequiredArgument}
 use Rattle.command_words.specs.Arguments.{arguments_in}
-use Rattle.command_words.specs.Grammar.{IsNoArgument, IsOutside, check, command_in, command_named, command_without, found_words, number_in, options_in, options_of, program, run, run_in, run_of, run_words}
+use Rattle.command_words.specs.Grammar.{IsNoArgument, IsOutside, call_in, call_of, call_words, check, command_in, command_named, command_without, compile, exec, found_words, number_in, options_in, options_of, program, run, run_in, run_of}
 use Rattle.command_words.specs.declared.argument.Argument.{Argument}
+use Rattle.command_words.specs.declared.command.Call.{Call}
 use Rattle.command_words.specs.declared.command.Command.{Command}
 use Rattle.command_words.specs.declared.command.Command.TheVariants as command
 use Rattle.command_words.specs.declared.command.Options.{Options}
@@ -33,6 +34,12 @@ leaf a = built_leaf (inherited (with_leaf_noted (marked_built program.top)) a.to
 
 no_short_check : HasNoShort (leaf check).rules
 no_short_check x = refl
+
+no_short_compile : HasNoShort (leaf compile).rules
+no_short_compile x = refl
+
+no_short_exec : HasNoShort (leaf exec).rules
+no_short_exec x = refl
 
 no_short_run : HasNoShort (leaf run).rules
 no_short_run x = refl
@@ -54,6 +61,24 @@ check_workers = (own (codes "workers") _ _ refl (one_number 0 64 _ refl refl ref
 
 check_batch : AllFit (codes "batch") (parser.Unsigned 1 1048576) (leaf check).rules
 check_batch = (other (codes "batch") _ _ refl refl, (own (codes "batch") _ _ refl (one_number 1 1048576 _ refl refl refl), tt))
+
+compile_workers : AllFit (codes "workers") (parser.Unsigned 0 64) (leaf compile).rules
+compile_workers = (own (codes "workers") _ _ refl (one_number 0 64 _ refl refl refl), (other (codes "workers") _ _ refl refl, tt))
+
+compile_batch : AllFit (codes "batch") (parser.Unsigned 1 1048576) (leaf compile).rules
+compile_batch = (other (codes "batch") _ _ refl refl, (own (codes "batch") _ _ refl (one_number 1 1048576 _ refl refl refl), tt))
+
+exec_export : AllFit (codes "export") parser.String (leaf exec).rules
+exec_export = (
+  own (codes "export") _ _ refl (record { range = refl; parser = refl; exact = refl; reading = refl }),
+  (inr (refl, refl), (other (codes "export") _ _ refl refl, tt)),
+)
+
+exec_steps : AllFit (codes "steps") (parser.Unsigned 0 1000000000000) (leaf exec).rules
+exec_steps = (
+  other (codes "steps") _ _ refl refl,
+  (inr (refl, refl), (own (codes "steps") _ _ refl (one_number 0 1000000000000 _ refl refl refl), tt)),
+)
 
 run_export : AllFit (codes "export") parser.String (leaf run).rules
 run_export = (
@@ -105,6 +130,12 @@ check_read words e =
     let b = number_read (codes "batch") 1 1048576 (leaf check) check_batch no_short_check refl words e in
     options_read (rows_of (leaf check) words) w.0 b.0 w.1 b.1
 
+compile_read : (words : List Text) → Passes (leaf compile) words → (o : Options) × (options_in (rows_of (leaf compile) words) ≡ Some o)
+compile_read words e =
+    let w = number_read (codes "workers") 0 64 (leaf compile) compile_workers no_short_compile refl words e in
+    let b = number_read (codes "batch") 1 1048576 (leaf compile) compile_batch no_short_compile refl words e in
+    options_read (rows_of (leaf compile) words) w.0 b.0 w.1 b.1
+
 run_options : (words : List Text) → Passes (leaf run) words → (o : Options) × (options_in (rows_of (leaf run) words) ≡ Some o)
 run_options words e =
     let w = number_read (codes "workers") 0 64 (leaf run) run_workers no_short_run refl words e in
@@ -120,12 +151,23 @@ given_has name (r ∷ rs) e = go (bytes_eq r.id name) e (given_has name rs)
     go true e more = refl
     go false e more = more e
 
-export_given : (rows : List Row) → check_fault (leaf run) rows false ≡ [] → is_given (codes "export") rows ≡ true
-export_given rows e = go (is_given (codes "export") rows) e
-  where
-    go : (b : Bool) → cond (not b || false) (MissingRequiredArgument ∷ []) [] ≡ [] → b ≡ true
-    go true e = refl
-    go false e = absurd (some_fault _ _ e)
+-- a subcommand whose words are those of a call
+pub record TakesCall (s : Shape) : Type 0 where
+  pub export : AllFit (codes "export") parser.String s.rules
+  pub steps : AllFit (codes "steps") (parser.Unsigned 0 1000000000000) s.rules
+  pub no_short : HasNoShort s.rules
+  pub default : list_any (gives_default (codes "steps")) s.rules ≡ true
+  pub given : (rows : List Row) → check_fault s rows false ≡ [] → is_given (codes "export") rows ≡ true
+
+wanted : (b : Bool) → cond (not b || false) (MissingRequiredArgument ∷ []) [] ≡ [] → b ≡ true
+wanted true e = refl
+wanted false e = absurd (some_fault _ _ e)
+
+run_takes : TakesCall (leaf run)
+run_takes = record { export = run_export; steps = run_steps; no_short = no_short_run; default = refl; given = λ rows e. wanted (is_given (codes "export") rows) e }
+
+exec_takes : TakesCall (leaf exec)
+exec_takes = record { export = exec_export; steps = exec_steps; no_short = no_short_exec; default = refl; given = λ rows e. wanted (is_given (codes "export") rows) e }
 
 -- the last check of a level
 last_check : (s : Shape) (names : Names) (words : List Text) (has : Bool) (below : Kinds) → level_fault s names nothing_held words has below ≡ []
@@ -136,27 +178,43 @@ last_check s names words has below e =
     let end = neither _ _ (neither _ _ rest.1).1 in
     (rest.0, end.1)
 
-export_read : (words : List Text) → Passes (leaf run) words → (t : Text) × (first_of (codes "export") (rows_of (leaf run) words) ≡ Some t)
-export_read words e =
-    let rows = rows_of (leaf run) words in
-    let has = given_has (codes "export") rows (export_given rows (last_check (leaf run) [] words false [] e).1) in
-    let v = value_good (codes "export") parser.String rows has (level_good (codes "export") parser.String (leaf run) run_export no_short_run words e) in
+export_read : (s : Shape) → TakesCall s → (words : List Text) → Passes s words → (t : Text) × (first_of (codes "export") (rows_of s words) ≡ Some t)
+export_read s takes words e =
+    let rows = rows_of s words in
+    let has = given_has (codes "export") rows (takes.given rows (last_check s [] words false [] e).1) in
+    let v = value_good (codes "export") parser.String rows has (level_good (codes "export") parser.String s takes.export takes.no_short words e) in
     (v.0, v.1)
+
+-- a call is read, or a word of ARGS is no argument
+call_read : (s : Shape) → TakesCall s → (words : List Text) → Passes s words → ((c : Call) × (call_in (rows_of s words) ≡ Some c)) ⊎ Any IsNoArgument (found_words (rows_of s words))
+call_read s takes words e = go (arguments_in (found_words (rows_of s words))) refl
+  where
+    go : (l : Option (List Argument)) → arguments_in (found_words (rows_of s words)) ≡ l → ((c : Call) × (call_in (rows_of s words) ≡ Some c)) ⊎ Any IsNoArgument (found_words (rows_of s words))
+    go None is = inr (other_word (found_words (rows_of s words)) is)
+    go (Some l) is =
+        let t = export_read s takes words e in
+        let n = number_read (codes "steps") 0 1000000000000 s takes.steps takes.no_short takes.default words e in
+        inl (record { export = t.0; arguments = l; steps = n.0 }, rw (t.1, is, n.1) refl)
 
 -- the command, or a word of ARGS is no argument
 abbrev IsEither : Option (Text × List Row) → Type 0
-IsEither named = ((c : Command) × (option_and_then command_named named ≡ Some c)) ⊎ Any IsNoArgument (run_words named)
+IsEither named = ((c : Command) × (option_and_then command_named named ≡ Some c)) ⊎ Any IsNoArgument (call_words named)
 
 run_read : (words : List Text) → Passes (leaf run) words → IsEither (Some (codes "run", rows_of (leaf run) words))
-run_read words e = go (arguments_in (found_words (rows_of (leaf run) words))) refl
+run_read words e = go (call_read (leaf run) run_takes words e)
   where
-    go : (l : Option (List Argument)) → arguments_in (found_words (rows_of (leaf run) words)) ≡ l → IsEither (Some (codes "run", rows_of (leaf run) words))
-    go None is = inr (other_word (found_words (rows_of (leaf run) words)) is)
-    go (Some l) is =
-        let t = export_read words e in
+    go : ((c : Call) × (call_in (rows_of (leaf run) words) ≡ Some c)) ⊎ Any IsNoArgument (found_words (rows_of (leaf run) words)) → IsEither (Some (codes "run", rows_of (leaf run) words))
+    go (inr any) = inr any
+    go (inl call) =
         let o = run_options words e in
-        let n = number_read (codes "steps") 0 1000000000000 (leaf run) run_steps no_short_run refl words e in
-        inl (command.Run (record { export = t.0; arguments = l; options = o.0; steps = n.0 }), rw (t.1, is, o.1, n.1) refl)
+        inl (command.Run (record { options = o.0; call = call.0 }), ap (option_map command.Run) (ap₂ run_of o.1 call.1))
+
+exec_read : (words : List Text) → Passes (leaf exec) words → IsEither (Some (codes "exec", rows_of (leaf exec) words))
+exec_read words e = go (call_read (leaf exec) exec_takes words e)
+  where
+    go : ((c : Call) × (call_in (rows_of (leaf exec) words) ≡ Some c)) ⊎ Any IsNoArgument (found_words (rows_of (leaf exec) words)) → IsEither (Some (codes "exec", rows_of (leaf exec) words))
+    go (inr any) = inr any
+    go (inl call) = inl (command.Exec call.0, ap (option_map command.Exec) call.1)
 
 -- ---- the program
 
@@ -167,16 +225,21 @@ missing false rows e = absurd (some_fault _ _ e)
 stop_read : (stop : Option (Text × List Text)) → entered_fault (built program) stop ≡ [] → is_some (entered (built program) stop) ≡ true
     → IsEither (entered (built program) stop)
 stop_read None e has = absurd (true≢false (sym has))
-stop_read (Some p) e has = go (answers_to p.0 (label_of (leaf check))) (answers_to p.0 (label_of (leaf run))) e has
+stop_read (Some p) e has =
+    go (answers_to p.0 (label_of (leaf check))) (answers_to p.0 (label_of (leaf compile))) (answers_to p.0 (label_of (leaf run))) (answers_to p.0 (label_of (leaf exec))) e has
   where
-    go : (a b : Bool) → option_map_or (λ s. level_fault s [] nothing_held p.1 false []) (cond a (Some (leaf check)) (cond b (Some (leaf run)) None)) [] ≡ []
-        → is_some (option_map (λ s. rows_at s p.1) (cond a (Some (leaf check)) (cond b (Some (leaf run)) None))) ≡ true
-        → IsEither (option_map (λ s. rows_at s p.1) (cond a (Some (leaf check)) (cond b (Some (leaf run)) None)))
-    go true b e has =
+    go : (a b c d : Bool) → option_map_or (λ s. level_fault s [] nothing_held p.1 false []) (cond a (Some (leaf check)) (cond b (Some (leaf compile)) (cond c (Some (leaf run)) (cond d (Some (leaf exec)) None)))) [] ≡ []
+        → is_some (option_map (λ s. rows_at s p.1) (cond a (Some (leaf check)) (cond b (Some (leaf compile)) (cond c (Some (leaf run)) (cond d (Some (leaf exec)) None))))) ≡ true
+        → IsEither (option_map (λ s. rows_at s p.1) (cond a (Some (leaf check)) (cond b (Some (leaf compile)) (cond c (Some (leaf run)) (cond d (Some (leaf exec)) None)))))
+    go true b c d e has =
         let o = check_read p.1 e in
         inl (command.Check o.0, ap (option_map command.Check) o.1)
-    go false true e has = run_read p.1 e
-    go false false e has = absurd (true≢false (sym has))
+    go false true c d e has =
+        let o = compile_read p.1 e in
+        inl (command.Compile o.0, ap (option_map command.Compile) o.1)
+    go false false true d e has = run_read p.1 e
+    go false false false true e has = exec_read p.1 e
+    go false false false false e has = absurd (true≢false (sym has))
 
 named_read : (words : List Text) → fault_of program words ≡ [] → IsEither (subcommand_of program words)
 named_read words e =
@@ -188,17 +251,17 @@ named_read words e =
     stop_read stop parts.0 (missing (is_some (entered app stop)) (finished app.top.rules end) parts.1)
 
 -- where no fault is found, a command is read, or a word of ARGS is no argument
-pub all_read : (words : List Text) → fault_of program words ≡ [] → ((c : Command) × (command_in words ≡ Some c)) ⊎ Any IsNoArgument (run_words (subcommand_of program words))
+pub all_read : (words : List Text) → fault_of program words ≡ [] → ((c : Command) × (command_in words ≡ Some c)) ⊎ Any IsNoArgument (call_words (subcommand_of program words))
 all_read words e = go (named_read words e)
   where
-    go : IsEither (subcommand_of program words) → ((c : Command) × (command_in words ≡ Some c)) ⊎ Any IsNoArgument (run_words (subcommand_of program words))
+    go : IsEither (subcommand_of program words) → ((c : Command) × (command_in words ≡ Some c)) ⊎ Any IsNoArgument (call_words (subcommand_of program words))
     go (inl read) = inl (read.0, ap (λ ks. command_without ks (subcommand_of program words)) e ∙ read.1)
     go (inr any) = inr any
 
 pub read_or_outside : (words : List Text) (ks : Kinds) → fault_of program words ≡ ks → ((c : Command) × (command_in words ≡ Some c)) ⊎ IsOutside words
 read_or_outside words [] e = go (all_read words e)
   where
-    go : ((c : Command) × (command_in words ≡ Some c)) ⊎ Any IsNoArgument (run_words (subcommand_of program words)) → ((c : Command) × (command_in words ≡ Some c)) ⊎ IsOutside words
+    go : ((c : Command) × (command_in words ≡ Some c)) ⊎ Any IsNoArgument (call_words (subcommand_of program words)) → ((c : Command) × (command_in words ≡ Some c)) ⊎ IsOutside words
     go (inl read) = inl read
     go (inr any) = inr (inr any)
 read_or_outside words (k ∷ ks) e = inr (inl (λ none. some_fault k ks (sym e ∙ none)))

@@ -1,6 +1,6 @@
 -- What a reading of words says.
-use Rattle.std.proofs.Common.{◌≡◌, ◌∙◌, ◌⊎◌, ◌≤◌, ℕ, Bool, true, false, List, [], ◌∷◌, Option, Some, None, refl, ap, arith, inl, inr, slice_index, subst, sym}
-use Rattle.std.specs.Prelude.{◌≢◌, Any, codes, cond, option_and_then, option_map, unwrap_or}
+use Rattle.std.proofs.Common.{◌≡◌, ◌∙◌, ◌⊎◌, ◌≤◌, ℕ, Bool, true, false, List, [], ◌∷◌, Option, Some, None, refl, ap, arith, inl, inr, slice_index, subst, sym, true≢false}
+use Rattle.std.specs.Prelude.{◌≢◌, ◌||◌, Any, codes, cond, option_and_then, option_map, unwrap_or}
 use Rattle.std.specs.Str.{bytes_eq}
 use Rattle.std.specs.Str.Parse.{digits_value, without_leading_plus}
 use Rattle.std.proofs.lemmas.Slice.Eq.{bytes_eq-Decides}
@@ -10,8 +10,9 @@ use Rattle.clap.specs.ValueTests.{is_unsigned_in}
 use Rattle.clap.specs.declared.builder.value_parser.ValueParser.TheVariants as parser
 use Rattle.clap.proofs.ValueTestLemmas.{accepts-Accepts}
 use Rattle.command_words.specs.Arguments.{AreArguments, arguments_in}
-use Rattle.command_words.specs.Grammar.{AreInRange, IsInRange, IsNoArgument, found_words, command_named, command_without, number_in, options_in, options_of, run_in, run_of, run_words}
+use Rattle.command_words.specs.Grammar.{AreInRange, IsInRange, IsNoArgument, call_in, call_of, call_words, found_words, command_named, command_without, number_in, options_in, options_of, run_in, run_of}
 use Rattle.command_words.specs.declared.argument.Argument.{Argument}
+use Rattle.command_words.specs.declared.command.Call.{Call}
 use Rattle.command_words.specs.declared.command.Command.{Command}
 use Rattle.command_words.specs.declared.command.Command.TheVariants as command
 use Rattle.command_words.specs.declared.command.Options.{Options}
@@ -53,45 +54,59 @@ options_bounds rows o e =
     let b = found_bounds 1 1048576 (one_of (codes "batch") rows) o.batch parts.1 in
     (w.1, b.0, b.1)
 
-parts : (e : Option Text) (l : Option (List Argument)) (o : Option Options) (n : Option ℕ) (r : Run) → run_of e l o n ≡ Some r
-    → (l ≡ Some r.arguments) × (o ≡ Some r.options) × (n ≡ Some r.steps)
-parts (Some e) (Some l) (Some o) (Some n) r is =
-    (ap (option_map (λ (x : Run). x.arguments)) is, ap (option_map (λ (x : Run). x.options)) is, ap (option_map (λ (x : Run). x.steps)) is)
-parts (Some e) (Some l) (Some o) None r is = absurd (some≢none r is)
-parts (Some e) (Some l) None n r is = absurd (some≢none r is)
-parts (Some e) None o n r is = absurd (some≢none r is)
-parts None l o n r is = absurd (some≢none r is)
+call_parts_of : (e : Option Text) (l : Option (List Argument)) (n : Option ℕ) (c : Call) → call_of e l n ≡ Some c → (l ≡ Some c.arguments) × (n ≡ Some c.steps)
+call_parts_of (Some e) (Some l) (Some n) c is = (ap (option_map (λ (x : Call). x.arguments)) is, ap (option_map (λ (x : Call). x.steps)) is)
+call_parts_of (Some e) (Some l) None c is = absurd (some≢none c is)
+call_parts_of (Some e) None n c is = absurd (some≢none c is)
+call_parts_of None l n c is = absurd (some≢none c is)
 
-run_parts : (rows : List Row) (r : Run) → run_in rows ≡ Some r
-    → (arguments_in (found_words rows) ≡ Some r.arguments) × (options_in rows ≡ Some r.options) × (option_and_then (number_in 0 1000000000000) (one_of (codes "steps") rows) ≡ Some r.steps)
-run_parts rows r is = parts (first_of (codes "export") rows) (arguments_in (found_words rows)) (options_in rows) (option_and_then (number_in 0 1000000000000) (one_of (codes "steps") rows)) r is
+call_parts : (rows : List Row) (c : Call) → call_in rows ≡ Some c
+    → (arguments_in (found_words rows) ≡ Some c.arguments) × (option_and_then (number_in 0 1000000000000) (one_of (codes "steps") rows) ≡ Some c.steps)
+call_parts rows c is = call_parts_of (first_of (codes "export") rows) (arguments_in (found_words rows)) (option_and_then (number_in 0 1000000000000) (one_of (codes "steps") rows)) c is
+
+run_parts_of : (o : Option Options) (c : Option Call) (r : Run) → run_of o c ≡ Some r → (o ≡ Some r.options) × (c ≡ Some r.call)
+run_parts_of (Some o) (Some c) r is = (ap (option_map (λ (x : Run). x.options)) is, ap (option_map (λ (x : Run). x.call)) is)
+run_parts_of (Some o) None r is = absurd (some≢none r is)
+run_parts_of None c r is = absurd (some≢none r is)
+
+run_parts : (rows : List Row) (r : Run) → run_in rows ≡ Some r → (options_in rows ≡ Some r.options) × (call_in rows ≡ Some r.call)
+run_parts rows r is = run_parts_of (options_in rows) (call_in rows) r is
 
 -- what a command is read of
 abbrev IsRead : List Row → Command → Type 0
 IsRead rows (command.Check o) = options_in rows ≡ Some o
+IsRead rows (command.Compile o) = options_in rows ≡ Some o
 IsRead rows (command.Run r) = run_in rows ≡ Some r
+IsRead rows (command.Exec c) = call_in rows ≡ Some c
 
-of_check : (rows : List Row) (x : Option Options) (c : Command) → options_in rows ≡ x → option_map command.Check x ≡ Some c → IsRead rows c
-of_check rows None c is e = absurd (some≢none c e)
-of_check rows (Some o) c is e = subst (IsRead rows) (ap (λ y. unwrap_or y c) e) is
+made_of : {X : Type 0} (make : X → Command) (P : Command → Type 0) (read x : Option X) (c : Command) → ((v : X) → read ≡ Some v → P (make v)) → read ≡ x → option_map make x ≡ Some c → P c
+made_of make P read None c each is e = absurd (some≢none c e)
+made_of make P read (Some v) c each is e = subst P (ap (λ y. unwrap_or y c) e) (each v is)
 
-of_run : (rows : List Row) (x : Option Run) (c : Command) → run_in rows ≡ x → option_map command.Run x ≡ Some c → IsRead rows c
-of_run rows None c is e = absurd (some≢none c e)
-of_run rows (Some r) c is e = subst (IsRead rows) (ap (λ y. unwrap_or y c) e) is
+-- the command of a subcommand that has one of the four names, or none
+abbrev by_name : Bool → Bool → Bool → Bool → List Row → Option Command
+by_name check compile run exec rows =
+    cond check (option_map command.Check (options_in rows))
+    (cond compile (option_map command.Compile (options_in rows)) (cond run (option_map command.Run (run_in rows)) (cond exec (option_map command.Exec (call_in rows)) None)))
+
+by_name_read : (check compile run exec : Bool) (rows : List Row) (c : Command) → by_name check compile run exec rows ≡ Some c → IsRead rows c
+by_name_read true compile run exec rows c e = made_of command.Check (IsRead rows) (options_in rows) (options_in rows) c (λ v is. is) refl e
+by_name_read false true run exec rows c e = made_of command.Compile (IsRead rows) (options_in rows) (options_in rows) c (λ v is. is) refl e
+by_name_read false false true exec rows c e = made_of command.Run (IsRead rows) (run_in rows) (run_in rows) c (λ v is. is) refl e
+by_name_read false false false true rows c e = made_of command.Exec (IsRead rows) (call_in rows) (call_in rows) c (λ v is. is) refl e
+by_name_read false false false false rows c e = absurd (some≢none c e)
 
 named_read : (p : Text × List Row) (c : Command) → command_named p ≡ Some c → IsRead p.1 c
-named_read p c e = go (bytes_eq p.0 (codes "check")) (bytes_eq p.0 (codes "run")) e
-  where
-    go : (a b : Bool) → cond a (option_map command.Check (options_in p.1)) (cond b (option_map command.Run (run_in p.1)) None) ≡ Some c → IsRead p.1 c
-    go true b is = of_check p.1 (options_in p.1) c refl is
-    go false true is = of_run p.1 (run_in p.1) c refl is
-    go false false is = absurd (some≢none c is)
+named_read p c e = by_name_read (bytes_eq p.0 (codes "check")) (bytes_eq p.0 (codes "compile")) (bytes_eq p.0 (codes "run")) (bytes_eq p.0 (codes "exec")) p.1 c e
+
+steps_bounds : (rows : List Row) (c : Call) → call_in rows ≡ Some c → c.steps ≤ 1000000000000
+steps_bounds rows c is = (found_bounds 0 1000000000000 (one_of (codes "steps") rows) c.steps (call_parts rows c is).1).1
 
 read_bounds : (rows : List Row) (c : Command) → IsRead rows c → IsInRange c
 read_bounds rows (command.Check o) is = options_bounds rows o is
-read_bounds rows (command.Run r) is =
-    let read = run_parts rows r is in
-    (options_bounds rows r.options read.1, (found_bounds 0 1000000000000 (one_of (codes "steps") rows) r.steps read.2).1)
+read_bounds rows (command.Compile o) is = options_bounds rows o is
+read_bounds rows (command.Run r) is = let read = run_parts rows r is in (options_bounds rows r.options read.0, steps_bounds rows r.call read.1)
+read_bounds rows (command.Exec c) is = steps_bounds rows c is
 
 pub in_ranges : (ks : Kinds) (named : Option (Text × List Row)) (c : Command) → command_without ks named ≡ Some c → IsInRange c
 in_ranges [] None c e = absurd (some≢none c e)
@@ -100,58 +115,81 @@ in_ranges (k ∷ ks) named c e = absurd (some≢none c e)
 
 -- ---- ARGS
 
-some_words : (rows : List Row) (x : Option Run) (c : Command) → run_in rows ≡ x → option_map command.Run x ≡ Some c → (l : List Argument) × (arguments_in (found_words rows) ≡ Some l)
-some_words rows None c is e = absurd (some≢none c e)
-some_words rows (Some r) c is e = (r.arguments, (run_parts rows r is).0)
-
 no_word : Any IsNoArgument [] → ⊥
 no_word any = omega (arith, any.2)
 
-two_names : (name : Text) → bytes_eq name (codes "check") ≡ true → bytes_eq name (codes "run") ≡ true → ⊥
-two_names name e f =
-    let check : name ≡ codes "check" = (bytes_eq-Decides name (codes "check")).0 e in
-    let run : name ≡ codes "run" = (bytes_eq-Decides name (codes "run")).0 f in
-    let bad : 99 ≡ 114 = ap (λ t. slice_index t 0) (sym check ∙ run) in
-    omega (arith, bad)
+-- what stands in place 1 of a text
+abbrev second : Text → ℕ
+second t = slice_index t 1
 
-none_other : (p : Text × List Row) (c : Command) → command_named p ≡ Some c → Any IsNoArgument (run_words (Some p)) → ⊥
-none_other p c e any = go (bytes_eq p.0 (codes "check")) (bytes_eq p.0 (codes "run")) refl refl e any
+apart_names : (name a b : Text) (x y : ℕ) → second a ≡ x → second b ≡ y → (x ≡ y → ⊥) → bytes_eq name a ≡ true → bytes_eq name b ≡ true → ⊥
+apart_names name a b x y is_a is_b differ e f =
+    let first : name ≡ a = (bytes_eq-Decides name a).0 e in
+    let other : name ≡ b = (bytes_eq-Decides name b).0 f in
+    differ (sym is_a ∙ ap second (sym first ∙ other) ∙ is_b)
+
+no_call : (check compile run exec : Bool) (rows : List Row) (c : Command) → (check ≡ true → (run || exec) ≡ false) → (compile ≡ true → (run || exec) ≡ false)
+    → by_name check compile run exec rows ≡ Some c → Any IsNoArgument (cond (run || exec) (found_words rows) []) → ⊥
+no_call check compile false false rows c one two e any = no_word any
+no_call true compile true exec rows c one two e any = absurd (true≢false (one refl))
+no_call true compile false true rows c one two e any = absurd (true≢false (one refl))
+no_call false true true exec rows c one two e any = absurd (true≢false (two refl))
+no_call false true false true rows c one two e any = absurd (true≢false (two refl))
+no_call false false true exec rows c one two e any =
+    made_of command.Run (λ c. ⊥) (run_in rows) (run_in rows) c (λ r is. no_other (found_words rows) r.call.arguments (call_parts rows r.call (run_parts rows r is).1).0 any) refl e
+no_call false false false true rows c one two e any =
+    made_of command.Exec (λ c. ⊥) (call_in rows) (call_in rows) c (λ d is. no_other (found_words rows) d.arguments (call_parts rows d is).0 any) refl e
+
+-- no name is that of two subcommands
+neither_name : (name a : Text) (x : ℕ) → second a ≡ x → (x ≡ 117 → ⊥) → (x ≡ 120 → ⊥) → bytes_eq name a ≡ true → (bytes_eq name (codes "run") || bytes_eq name (codes "exec")) ≡ false
+neither_name name a x is not_run not_exec e = go (bytes_eq name (codes "run")) (bytes_eq name (codes "exec")) refl refl
   where
-    go : (a b : Bool) → bytes_eq p.0 (codes "check") ≡ a → bytes_eq p.0 (codes "run") ≡ b
-        → cond a (option_map command.Check (options_in p.1)) (cond b (option_map command.Run (run_in p.1)) None) ≡ Some c
-        → Any IsNoArgument (cond b (found_words p.1) []) → ⊥
-    go a false is named e any = no_word any
-    go true true is named e any = two_names p.0 is named
-    go false true is named e any =
-        let words = some_words p.1 (run_in p.1) c refl e in
-        no_other (found_words p.1) words.0 words.1 any
+    go : (run exec : Bool) → bytes_eq name (codes "run") ≡ run → bytes_eq name (codes "exec") ≡ exec → (run || exec) ≡ false
+    go false false f g = refl
+    go true exec f g = absurd (apart_names name a (codes "run") x 117 is refl not_run e f)
+    go false true f g = absurd (apart_names name a (codes "exec") x 120 is refl not_exec e g)
+
+none_other : (p : Text × List Row) (c : Command) → command_named p ≡ Some c → Any IsNoArgument (call_words (Some p)) → ⊥
+none_other p c e any =
+    no_call (bytes_eq p.0 (codes "check")) (bytes_eq p.0 (codes "compile")) (bytes_eq p.0 (codes "run")) (bytes_eq p.0 (codes "exec")) p.1 c
+    (neither_name p.0 (codes "check") 104 refl (λ x. omega (arith, x)) (λ x. omega (arith, x)))
+    (neither_name p.0 (codes "compile") 111 refl (λ x. omega (arith, x)) (λ x. omega (arith, x))) e any
 
 -- where a command is read, each word of ARGS is an argument
-no_other_word : (ks : Kinds) (named : Option (Text × List Row)) (c : Command) → command_without ks named ≡ Some c → Any IsNoArgument (run_words named) → ⊥
+no_other_word : (ks : Kinds) (named : Option (Text × List Row)) (c : Command) → command_without ks named ≡ Some c → Any IsNoArgument (call_words named) → ⊥
 no_other_word [] None c e any = no_word any
 no_other_word [] (Some p) c e any = none_other p c e any
 no_other_word (k ∷ ks) named c e any = absurd (some≢none c e)
 
 -- a command is read only of words that are not outside the grammar
-pub apart : (ks : Kinds) (named : Option (Text × List Row)) (c : Command) → command_without ks named ≡ Some c → (ks ≢ []) ⊎ Any IsNoArgument (run_words named) → ⊥
+pub apart : (ks : Kinds) (named : Option (Text × List Row)) (c : Command) → command_without ks named ≡ Some c → (ks ≢ []) ⊎ Any IsNoArgument (call_words named) → ⊥
 apart [] named c e (inl some) = some refl
 apart (k ∷ ks) named c e (inl some) = absurd (some≢none c e)
 apart ks named c e (inr any) = no_other_word ks named c e any
 
-no_check : (x : Option Options) (r : Run) → option_map command.Check x ≡ Some (command.Run r) → ⊥
-no_check None r e = absurd (some≢none (command.Run r) e)
-no_check (Some o) r e = cc
+-- the arguments of a call are those that the words of ARGS say
+abbrev HasArguments : List Text → Command → Type 0
+HasArguments words (command.Check o) = Unit {0}
+HasArguments words (command.Compile o) = Unit {0}
+HasArguments words (command.Run r) = AreArguments words r.call.arguments
+HasArguments words (command.Exec c) = AreArguments words c.arguments
 
-named_arguments : (p : Text × List Row) (r : Run) → command_named p ≡ Some (command.Run r) → AreArguments (run_words (Some p)) r.arguments
-named_arguments p r e = go (bytes_eq p.0 (codes "check")) (bytes_eq p.0 (codes "run")) e
-  where
-    go : (a b : Bool) → cond a (option_map command.Check (options_in p.1)) (cond b (option_map command.Run (run_in p.1)) None) ≡ Some (command.Run r)
-        → AreArguments (cond b (found_words p.1) []) r.arguments
-    go true b e = absurd (no_check (options_in p.1) r e)
-    go false true e = are_arguments (found_words p.1) r.arguments (run_parts p.1 r (of_run p.1 (run_in p.1) (command.Run r) refl e)).0
-    go false false e = absurd (some≢none (command.Run r) e)
+by_name_arguments : (check compile run exec : Bool) (rows : List Row) (c : Command) → by_name check compile run exec rows ≡ Some c → HasArguments (cond (run || exec) (found_words rows) []) c
+by_name_arguments true compile run exec rows c e = made_of command.Check (HasArguments _) (options_in rows) (options_in rows) c (λ v is. tt) refl e
+by_name_arguments false true run exec rows c e = made_of command.Compile (HasArguments _) (options_in rows) (options_in rows) c (λ v is. tt) refl e
+by_name_arguments false false true exec rows c e =
+    made_of command.Run (HasArguments (found_words rows)) (run_in rows) (run_in rows) c (λ r is. are_arguments (found_words rows) r.call.arguments (call_parts rows r.call (run_parts rows r is).1).0) refl e
+by_name_arguments false false false true rows c e =
+    made_of command.Exec (HasArguments (found_words rows)) (call_in rows) (call_in rows) c (λ d is. are_arguments (found_words rows) d.arguments (call_parts rows d is).0) refl e
+by_name_arguments false false false false rows c e = absurd (some≢none c e)
 
-pub run_arguments : (ks : Kinds) (named : Option (Text × List Row)) (r : Run) → command_without ks named ≡ Some (command.Run r) → AreArguments (run_words named) r.arguments
-run_arguments [] None r e = absurd (some≢none (command.Run r) e)
-run_arguments [] (Some p) r e = named_arguments p r e
-run_arguments (k ∷ ks) named r e = absurd (some≢none (command.Run r) e)
+pub command_arguments : (ks : Kinds) (named : Option (Text × List Row)) (c : Command) → command_without ks named ≡ Some c → HasArguments (call_words named) c
+command_arguments [] None c e = absurd (some≢none c e)
+command_arguments [] (Some p) c e = by_name_arguments (bytes_eq p.0 (codes "check")) (bytes_eq p.0 (codes "compile")) (bytes_eq p.0 (codes "run")) (bytes_eq p.0 (codes "exec")) p.1 c e
+command_arguments (k ∷ ks) named c e = absurd (some≢none c e)
+
+pub run_arguments : (ks : Kinds) (named : Option (Text × List Row)) (r : Run) → command_without ks named ≡ Some (command.Run r) → AreArguments (call_words named) r.call.arguments
+run_arguments ks named r e = command_arguments ks named (command.Run r) e
+
+pub exec_arguments : (ks : Kinds) (named : Option (Text × List Row)) (c : Call) → command_without ks named ≡ Some (command.Exec c) → AreArguments (call_words named) c.arguments
+exec_arguments ks named c e = command_arguments ks named (command.Exec c) e

@@ -1,6 +1,6 @@
 -- The grammar of the program's words, over clap's model of simple commands: what a parse makes of the words
 -- (`subcommand_of`), and the faults that it finds in them (`fault_of`).
-use Rattle.std.specs.Prelude.{◌≡◌, ◌≢◌, ◌⊎◌, ◌&&◌, ◌≤◌, nat_le, ℕ, true, Any, List, [], ◌∷◌, Option, None, Some, Result, Ok, Err, codes, if◌then◌else◌, option_map, option_and_then, unwrap_or}
+use Rattle.std.specs.Prelude.{◌≡◌, ◌≢◌, ◌⊎◌, ◌&&◌, ◌||◌, ◌≤◌, nat_le, ℕ, true, Any, List, [], ◌∷◌, Option, None, Some, Result, Ok, Err, codes, if◌then◌else◌, option_map, option_and_then, unwrap_or}
 use Rattle.std.specs.Str.{bytes_eq}
 use Rattle.std.specs.Str.Parse.{digits_value, without_leading_plus}
 use Rattle.clap.specs.Walk.{Row, Rule, Text, all_of, first_of, one_of}
@@ -12,6 +12,7 @@ use Rattle.clap.specs.declared.builder.action.ArgAction.TheVariants.{Append}
 use Rattle.clap.specs.declared.builder.value_parser.ValueParser.TheVariants as parser
 use Rattle.command_words.specs.Arguments.{IsArgument, arguments_in}
 use Rattle.command_words.specs.declared.argument.Argument.{Argument}
+use Rattle.command_words.specs.declared.command.Call.{Call}
 use Rattle.command_words.specs.declared.command.Command.{Command}
 use Rattle.command_words.specs.declared.command.Command.TheVariants as command
 use Rattle.command_words.specs.declared.command.Options.{Options}
@@ -46,23 +47,40 @@ export = record (new_rule (codes "export")) { required = true }
 abbrev pub arguments : Rule
 arguments = record (new_rule (codes "arguments")) { action = Some Append }
 
--- the options of each command
+-- the options of each command on a module
 abbrev pub with_options : App → App
 with_options a = with_rule (with_rule a workers) batch
+
+-- the words of a call
+abbrev pub with_words : App → App
+with_words a = with_rule (with_rule a export) arguments
 
 abbrev pub check : App
 check = with_options (new_app (codes "check"))
 
+abbrev pub compile : App
+compile = with_options (new_app (codes "compile"))
+
 abbrev pub run : App
-run = with_rule (with_options (with_rule (with_rule (new_app (codes "run")) export) arguments)) steps
+run = with_rule (with_options (with_words (new_app (codes "run")))) steps
+
+abbrev pub exec : App
+exec = with_rule (with_words (new_app (codes "exec"))) steps
+
+-- the commands on a module that call nothing, and those that call a function
+abbrev pub with_modules : App → App
+with_modules a = with_subcommand (with_subcommand a check.top) compile.top
+
+abbrev pub with_calls : App → App
+with_calls a = with_subcommand (with_subcommand a run.top) exec.top
 
 -- the program: a subcommand is wanted, and no word asks for help
 abbrev pub program : App
-program = with_subcommand (with_subcommand (on_top (λ s. record s {
+program = with_calls (with_modules (on_top (λ s. record s {
   disable_help_flag = true;
   disable_help_subcommand = true;
   subcommand_required = true;
-}) (new_app (codes "wstream"))) check.top) run.top
+}) (new_app (codes "wstream"))))
 
 -- ---- what is read of it
 
@@ -82,21 +100,31 @@ abbrev pub options_in : List Row → Option Options
 options_in rows = options_of (option_and_then (number_in 0 64) (one_of (codes "workers") rows))
     (option_and_then (number_in 1 1048576) (one_of (codes "batch") rows))
 
-abbrev pub run_of : Option Text → Option (List Argument) → Option Options → Option ℕ → Option Run
-run_of (Some e) (Some l) (Some o) (Some n) = Some (record { export = e; arguments = l; options = o; steps = n })
-run_of _ _ _ _ = None
-
 -- the words that were found for ARGS
 abbrev pub found_words : List Row → List Text
 found_words rows = unwrap_or (all_of (codes "arguments") rows) []
 
+abbrev pub call_of : Option Text → Option (List Argument) → Option ℕ → Option Call
+call_of (Some e) (Some l) (Some n) = Some (record { export = e; arguments = l; steps = n })
+call_of _ _ _ = None
+
+abbrev pub call_in : List Row → Option Call
+call_in rows = call_of (first_of (codes "export") rows) (arguments_in (found_words rows)) (option_and_then (number_in 0 1000000000000) (one_of (codes "steps") rows))
+
+abbrev pub run_of : Option Options → Option Call → Option Run
+run_of (Some o) (Some c) = Some (record { options = o; call = c })
+run_of _ _ = None
+
 abbrev pub run_in : List Row → Option Run
-run_in rows = run_of (first_of (codes "export") rows) (arguments_in (found_words rows)) (options_in rows)
-    (option_and_then (number_in 0 1000000000000) (one_of (codes "steps") rows))
+run_in rows = run_of (options_in rows) (call_in rows)
 
 abbrev pub command_named : Text × List Row → Option Command
-command_named p = if bytes_eq p.0 (codes "check") then option_map command.Check (options_in p.1)
-    else (if bytes_eq p.0 (codes "run") then option_map command.Run (run_in p.1) else None)
+command_named p =
+    if bytes_eq p.0 (codes "check") then option_map command.Check (options_in p.1)
+    else if bytes_eq p.0 (codes "compile") then option_map command.Compile (options_in p.1)
+    else if bytes_eq p.0 (codes "run") then option_map command.Run (run_in p.1)
+    else if bytes_eq p.0 (codes "exec") then option_map command.Exec (call_in p.1)
+    else None
 
 -- the command that clap's model reads, where it finds no fault
 abbrev pub command_without : Kinds → Option (Text × List Row) → Option Command
@@ -117,19 +145,21 @@ AreInRange o = (o.workers ≤ 64) × (1 ≤ o.batch) × (o.batch ≤ 1048576)
 -- the numbers of the command are in their ranges
 abbrev pub IsInRange : Command → Type 0
 IsInRange (command.Check o) = AreInRange o
-IsInRange (command.Run r) = AreInRange r.options × (r.steps ≤ 1000000000000)
+IsInRange (command.Compile o) = AreInRange o
+IsInRange (command.Run r) = AreInRange r.options × (r.call.steps ≤ 1000000000000)
+IsInRange (command.Exec c) = c.steps ≤ 1000000000000
 
--- the words of ARGS, where the subcommand is `run`
-abbrev pub run_words : Option (Text × List Row) → List Text
-run_words None = []
-run_words (Some p) = if bytes_eq p.0 (codes "run") then found_words p.1 else []
+-- the words of ARGS, where the subcommand makes a call
+abbrev pub call_words : Option (Text × List Row) → List Text
+call_words None = []
+call_words (Some p) = if bytes_eq p.0 (codes "run") || bytes_eq p.0 (codes "exec") then found_words p.1 else []
 
 abbrev pub IsNoArgument : Text → Type 0
 IsNoArgument word = (a : Argument) → IsArgument word a → ⊥
 
 -- clap's model finds a fault, or a word of ARGS is no argument
 abbrev pub IsOutside : List Text → Type 0
-IsOutside words = (fault_of program words ≢ []) ⊎ Any IsNoArgument (run_words (subcommand_of program words))
+IsOutside words = (fault_of program words ≢ []) ⊎ Any IsNoArgument (call_words (subcommand_of program words))
 
 -- the command, or why there is none; memory may run out at any words
 abbrev pub Reads : List Text → Result Command WordsStop → Type 0

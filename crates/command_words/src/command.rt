@@ -6,7 +6,7 @@ ghost use Rattle.std.specs.Prelude.{◌≡◌};
 use crate::lists::{Arguments, Export};
 use std::alloc::{AllocError, AllocFailed};
 
-/// The options of each command.
+/// The options of each command on a module.
 #[derive(Clone, Copy, Debug, PartialEq, Eq)]
 pub struct Options {
     /// The worker threads, from 0 to 64: 4 where the words say none.
@@ -15,17 +15,24 @@ pub struct Options {
     pub batch: u64,
 }
 
-/// The call that `run` makes.
+/// A call of an exported function.
 #[derive(Debug, Drop)]
-pub struct Run {
-    /// The name under which the module exports the function: any text, also the empty one.
+pub struct Call {
+    /// The name under which the function is exported: any text, also the empty one.
     pub export: Export,
     /// What the function is called with, in the order of the words.
     pub arguments: Arguments,
-    /// The options that other commands have too.
-    pub options: Options,
     /// The most steps that the call may take, from 0 to 1,000,000,000,000: 100,000,000 where the words say none.
     pub steps: u64,
+}
+
+/// What `run` does: how it compiles the module, and the call that it makes.
+#[derive(Debug, Drop)]
+pub struct Run {
+    /// The options that all commands on a module have.
+    pub options: Options,
+    /// The call of a function that the module exports.
+    pub call: Call,
 }
 
 /// A command of the program.
@@ -33,8 +40,12 @@ pub struct Run {
 pub enum Command {
     /// `check`: judge the module.
     Check(Options),
-    /// `run`: call a function that the module exports.
+    /// `compile`: compile the module to its image.
+    Compile(Options),
+    /// `run`: compile the module, and call a function that it exports.
     Run(Run),
+    /// `exec`: call a function that an image exports.
+    Exec(Call),
 }
 
 /// Why words give no command.

@@ -4,8 +4,9 @@ ghost use Rattle.std.specs.Prelude.{◌≡◌, ◌⊎◌, ◌↔◌, ℕ, List, 
 ghost use Rattle.clap.specs.Walk.{Text};
 ghost use Rattle.clap.specs.Simple.{subcommand_of};
 ghost use Rattle.command_words.specs.Arguments.{AreArguments, IsArgument, argument_in};
-ghost use Rattle.command_words.specs.Grammar.{IsCommand, IsInRange, IsOutside, program, run_words};
+ghost use Rattle.command_words.specs.Grammar.{IsCommand, IsInRange, IsOutside, program, call_words};
 ghost use Rattle.command_words.specs.declared.argument.Argument.{Argument as Value};
+ghost use Rattle.command_words.specs.declared.command.Call.{Call};
 ghost use Rattle.command_words.specs.declared.command.Command.{Command as Named};
 ghost use Rattle.command_words.specs.declared.command.Command.TheVariants as command;
 ghost use Rattle.command_words.specs.declared.command.Run.{Run};
@@ -17,8 +18,10 @@ pub fn commands_are_one()
     ensures apart { (words : List Text) (c : Named) → IsCommand words c → IsOutside words → ⊥ }
     ensures one { (words : List Text) (a b : Named) → IsCommand words a → IsCommand words b → a ≡ b }
     ensures ranges { (words : List Text) (c : Named) → IsCommand words c → IsInRange c }
-    ensures arguments { (words : List Text) (r : Run) → IsCommand words (command.Run r)
-        → AreArguments (run_words (subcommand_of program words)) r.arguments }
+    ensures run_arguments { (words : List Text) (r : Run) → IsCommand words (command.Run r)
+        → AreArguments (call_words (subcommand_of program words)) r.call.arguments }
+    ensures exec_arguments { (words : List Text) (c : Call) → IsCommand words (command.Exec c)
+        → AreArguments (call_words (subcommand_of program words)) c.arguments }
 {}
 
 /// A word is at most one argument, and `argument_in` computes which.

@@ -3,7 +3,7 @@
 ghost use Rattle.std.specs.Prelude.{◌≡◌, IfOk, false};
 ghost use Rattle.clap.specs.Words.{app_of, rule_of};
 ghost use Rattle.clap.specs.declared.builder.command.Command.TheViews.{out-Command};
-ghost use Rattle.command_words.specs.Grammar.{arguments, batch, check, export, program, run, steps, with_options, workers};
+ghost use Rattle.command_words.specs.Grammar.{arguments, batch, check, compile, exec, export, program, run, steps, with_calls, with_modules, with_options, with_words, workers};
 
 use clap::{Arg, ArgAction, Command as Parser, value_parser};
 use std::alloc::{AllocError, Global};
@@ -57,7 +57,7 @@ fn arguments<'a>(alloc: Global) -> Arg<'a>
     Arg::new(alloc, "arguments").action(ArgAction::Append)
 }
 
-/// The parser with the options of each command.
+/// The parser with the options of each command on a module.
 fn with_options<'a>(alloc: Global, parser: Parser<'a>) -> Result<Parser<'a>, AllocError>
     ensures app { IfOk result (λ p. app_of p ≡ with_options (app_of parser.entry)) }
     ensures local { (out-Command parser.entry).has_globals ≡ false → IfOk result (λ p. (out-Command p).has_globals ≡ false) }
@@ -73,25 +73,62 @@ fn check<'a>(alloc: Global) -> Result<Parser<'a>, AllocError>
     with_options(alloc, Parser::new(alloc, "check"))
 }
 
+/// The subcommand `compile`.
+fn compile<'a>(alloc: Global) -> Result<Parser<'a>, AllocError>
+    ensures app { IfOk result (λ p. app_of p ≡ compile) }
+    ensures local { IfOk result (λ p. (out-Command p).has_globals ≡ false) }
+{
+    with_options(alloc, Parser::new(alloc, "compile"))
+}
+
+/// The parser with the words of a call.
+fn with_words<'a>(alloc: Global, parser: Parser<'a>) -> Result<Parser<'a>, AllocError>
+    ensures app { IfOk result (λ p. app_of p ≡ with_words (app_of parser.entry)) }
+    ensures local { (out-Command parser.entry).has_globals ≡ false → IfOk result (λ p. (out-Command p).has_globals ≡ false) }
+{
+    parser.arg(export(alloc))?.arg(arguments(alloc))
+}
+
 /// The subcommand `run`.
 fn run<'a>(alloc: Global) -> Result<Parser<'a>, AllocError>
     ensures app { IfOk result (λ p. app_of p ≡ run) }
     ensures local { IfOk result (λ p. (out-Command p).has_globals ≡ false) }
 {
-    let words = Parser::new(alloc, "run")
-        .arg(export(alloc))?
-        .arg(arguments(alloc))?;
+    let words = with_words(alloc, Parser::new(alloc, "run"))?;
     with_options(alloc, words)?.arg(steps(alloc))
+}
+
+/// The subcommand `exec`.
+fn exec<'a>(alloc: Global) -> Result<Parser<'a>, AllocError>
+    ensures app { IfOk result (λ p. app_of p ≡ exec) }
+    ensures local { IfOk result (λ p. (out-Command p).has_globals ≡ false) }
+{
+    with_words(alloc, Parser::new(alloc, "exec"))?.arg(steps(alloc))
+}
+
+/// The parser with `check` and `compile`.
+fn with_modules<'a>(alloc: Global, parser: Parser<'a>) -> Result<Parser<'a>, AllocError>
+    ensures { IfOk result (λ p. app_of p ≡ with_modules (app_of parser.entry)) }
+{
+    parser
+        .subcommand(check(alloc)?)?
+        .subcommand(compile(alloc)?)
+}
+
+/// The parser with `run` and `exec`.
+fn with_calls<'a>(alloc: Global, parser: Parser<'a>) -> Result<Parser<'a>, AllocError>
+    ensures { IfOk result (λ p. app_of p ≡ with_calls (app_of parser.entry)) }
+{
+    parser.subcommand(run(alloc)?)?.subcommand(exec(alloc)?)
 }
 
 /// The parser of the grammar.
 pub(crate) fn program<'a>(alloc: Global) -> Result<Parser<'a>, AllocError>
     ensures { IfOk result (λ p. app_of p ≡ program) }
 {
-    Parser::new(alloc, "wstream")
+    let program = Parser::new(alloc, "wstream")
         .disable_help_flag(true)
         .disable_help_subcommand(true)
-        .subcommand_required(true)
-        .subcommand(check(alloc)?)?
-        .subcommand(run(alloc)?)
+        .subcommand_required(true);
+    with_calls(alloc, with_modules(alloc, program)?)
 }

@@ -3,10 +3,10 @@
 ghost use Rattle.std.specs.Prelude.{◌≡◌, codes, map, option_and_then, option_map, string_bytes};
 ghost use Rattle.clap.specs.Words.{first_of, found_of, one_of, rows_of, subcommand_rows_of};
 ghost use Rattle.command_words.specs.Arguments.{arguments_in};
-ghost use Rattle.command_words.specs.Grammar.{Gives, Reads, found_words, command_in, command_named, in_range, number_in, options_in, run_in};
+ghost use Rattle.command_words.specs.Grammar.{Gives, Reads, call_in, found_words, command_in, command_named, in_range, number_in, options_in, run_in};
 
 use crate::argument::argument_of;
-use crate::command::{Command, Options, Run, WordsStop};
+use crate::command::{Call, Command, Options, Run, WordsStop};
 use crate::lists::{Arguments, Export};
 use crate::parser::program;
 use clap::ArgMatches;
@@ -68,19 +68,25 @@ fn export_in<'a>(matches: &ArgMatches<'a>) -> Option<&'a str>
     matches.get_str("export")
 }
 
-fn run_in(alloc: Global, matches: &ArgMatches<'_>) -> Result<Run, WordsStop>
-    ensures { Gives (run_in (rows_of (found_of matches.now))) result }
+fn call_in(alloc: Global, matches: &ArgMatches<'_>) -> Result<Call, WordsStop>
+    ensures { Gives (call_in (rows_of (found_of matches.now))) result }
 {
     let export = export_in(matches).ok_or(WordsStop::Outside)?;
     let arguments = arguments_in(alloc, matches)?;
-    let options = options_in(matches).ok_or(WordsStop::Outside)?;
     let steps = number_in(matches, "steps", 0, 1_000_000_000_000).ok_or(WordsStop::Outside)?;
-    Ok(Run {
+    Ok(Call {
         export: Export::new(String::from_str(alloc, export)?),
         arguments,
-        options,
         steps,
     })
+}
+
+fn run_in(alloc: Global, matches: &ArgMatches<'_>) -> Result<Run, WordsStop>
+    ensures { Gives (run_in (rows_of (found_of matches.now))) result }
+{
+    let options = options_in(matches).ok_or(WordsStop::Outside)?;
+    let call = call_in(alloc, matches)?;
+    Ok(Run { options, call })
 }
 
 fn command_in(alloc: Global, matches: &ArgMatches<'_>) -> Result<Command, WordsStop>
@@ -89,18 +95,20 @@ fn command_in(alloc: Global, matches: &ArgMatches<'_>) -> Result<Command, WordsS
     let (name, inner) = matches.subcommand().ok_or(WordsStop::Outside)?;
     match name {
         "check" => Ok(Command::Check(options_in(inner).ok_or(WordsStop::Outside)?)),
+        "compile" => Ok(Command::Compile(options_in(inner).ok_or(WordsStop::Outside)?)),
         "run" => Ok(Command::Run(run_in(alloc, inner)?)),
+        "exec" => Ok(Command::Exec(call_in(alloc, inner)?)),
         _ => Err(WordsStop::Outside),
     }
 }
 
 /// Reads the command that the words give, of which the first is the program's name.
 ///
-/// After it comes a subcommand: `check`, or `run EXPORT ARGS`. EXPORT is one word of any text, and ARGS are any number of
-/// words, each `i32:N` or `i64:N` as `argument_of` reads them. Both have the options `--workers N` and `--batch N`, and `run`
-/// has `--steps N` too. An option may be written `--workers=N`, and comes once at most, before, between or behind the other
-/// words of its subcommand. N is decimal digits, before which a plus may stand. All words that follow a word `--` belong to
-/// EXPORT and ARGS. Words that ask for help are outside the grammar.
+/// After it comes a subcommand: `check`, `compile`, `run EXPORT ARGS`, or `exec EXPORT ARGS`. EXPORT is one word of any text, and
+/// ARGS are any number of words, each `i32:N` or `i64:N` as `argument_of` reads them. `check`, `compile` and `run` have the options
+/// `--workers N` and `--batch N`, and `run` and `exec` have `--steps N`. An option may be written `--workers=N`, and comes once at
+/// most, before, between or behind the other words of its subcommand. N is decimal digits, before which a plus may stand. All words
+/// that follow a word `--` belong to EXPORT and ARGS. Words that ask for help are outside the grammar.
 ///
 /// `Outside` says that the words are outside the grammar, and `NoMemory`, which may come at any words, that memory ran out.
 pub fn command_of(alloc: Global, words: &Vec<String>) -> Result<Command, WordsStop>

@@ -7,3 +7,4 @@ pub mod Bases
 pub mod Chains
 pub mod Views
 pub mod Calls
+pub mod Fronts

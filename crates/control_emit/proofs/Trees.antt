@@ -1,6 +1,7 @@
 -- The words of a body's tokens, one after the other, are those of its tree.
-use Rattle.std.proofs.Common.{◌≡◌, ℕ, ◌+◌, ◌-◌, List, [], ◌∷◌, ◌++◌, map, length, None, Some, refl, sym, ap, ◌∙◌, subst, arith, append_assoc}
-use Rattle.std.proofs.lemmas.List.{append-nil}
+use Rattle.std.proofs.Common.{◌≡◌, ℕ, suc, ◌+◌, ◌-◌, List, [], ◌∷◌, ◌++◌, map, length, None, Some, refl, sym, ap, ◌∙◌, subst, arith, append_assoc}
+use Rattle.std.proofs.lemmas.List.{append-nil, length-map}
+use Rattle.rv_isa.specs.declared.compiled.Relocation.{Relocation}
 use Rattle.rv_isa.specs.declared.operations.Op.{Op}
 use Rattle.rv_isa.specs.Words.{word_of}
 use Rattle.wasm_defs.specs.declared.token.Plain.{Plain}
@@ -9,16 +10,16 @@ use Rattle.wasm_defs.specs.declared.token.Token.{Token}
 use Rattle.wasm_defs.specs.declared.token.Token.TheVariants as token
 use Rattle.wasm_defs.specs.declared.token.BlockType.{BlockType}
 use Rattle.wasm_defs.specs.declared.token.BlockType.TheVariants.{Empty, Value, Index}
-use Rattle.wasm_defs.specs.Places.{Place, shape, after_rule, after_block, after_if, end_of, places, places_of}
+use Rattle.wasm_defs.specs.Places.{Place, moved, shape, after_rule, after_block, after_if, end_of, places, places_of}
 use Rattle.wasm_defs.specs.Trees.{Seq, Nothing, Simple, Block, Loop, If, IfElse, spelled}
 use Rattle.wasm_defs.specs.Typing.{Types, Signature, Context, Rule, Untyped, Fixed, Stops, Discards, Selects, inside, rule_of}
 use Rattle.frame_layout.specs.Templates.{Label, Around, words}
-use Rattle.frame_layout.specs.Functions.{label, over, test_words, size, code, body_place, body_size}
-use Rattle.control_emit.specs.Pending.{Pending, Shape, shapes, Ends, named, meaning}
+use Rattle.frame_layout.specs.Functions.{label, over, test_words, size, code, call_of, calls, body_place, body_size}
+use Rattle.control_emit.specs.Pending.{Pending, Shape, shape_of, shapes, Ends, named, meaning}
 use Rattle.control_emit.specs.Emits.{Draft, IsHeld, Emits, Opens, Turns, Closes}
-use Rattle.control_emit.specs.Walks.{end_shape, start_shape, Walk, begun, WordsLaw}
-use Rattle.control_emit.proofs.Composing.{longer, longer-opens, longer-turns, emits-nothing, emits-as, emits-both, ends_there, enclosed, enclosed-size, both-enclosed, count-more, count-shapes}
-use Rattle.control_emit.proofs.Sizes.{alike-same, size_is, code_dead, over_size}
+use Rattle.control_emit.specs.Walks.{end_shape, start_shape, OpensDead, Step, Walk, token_calls, walk_calls, Calling, begun, WordsLaw, CallsLaw}
+use Rattle.control_emit.proofs.Composing.{longer, longer-opens, longer-turns, emits-nothing, emits-as, emits-both, ends_there, enclosed, enclosed-size, closed-shapes, both-enclosed, count-more, count-shapes}
+use Rattle.control_emit.proofs.Sizes.{AreAlike, alike-same, words_size, size_is, code_dead, over_size}
 
 -- labels of other types are named in blocks
 abbrev pub labelled : Context → List Types → Context
@@ -69,11 +70,51 @@ end_dead c (Loop type body rest) = end_dead c rest
 end_dead c (If type body rest) = end_dead c rest
 end_dead c (IfElse type body other rest) = end_dead c rest
 
--- the tokens of a sequence lead through a draft in the middle
-record Through (w : Around) (c : Context) (more : List Token) (after : List Place) (old new : Draft) (ops : List Ends → List Op) : Type 0 where
+-- ---- labels where only lengths are counted
+
+abbrev counted : List Shape → List Label
+counted [] = []
+counted (s ∷ ss) = label s.base s.takes 0 ∷ counted ss
+
+abbrev ends_of : List Shape → List Ends
+ends_of [] = []
+ends_of (s ∷ ss) = ends_there 0 ∷ ends_of ss
+
+counted_alike : (ss : List Shape) → AreAlike (counted ss) (named ss (ends_of ss))
+counted_alike [] = tt
+counted_alike (s ∷ ss) = (refl, counted_alike ss)
+
+length-ends : (ss : List Shape) → length (ends_of ss) ≡ length ss
+length-ends [] = refl
+length-ends (s ∷ ss) = ap suc (length-ends ss)
+
+ends_count : (ls : List Pending) → length (ends_of (shapes ls)) ≡ length ls
+ends_count ls = length-ends (shapes ls) ∙ length-map ls shape_of
+
+-- ---- calls
+
+calls_dead : (w : Around) (c : Context) (ls : List Label) (here : ℕ) (t : Seq) → calls w c ls None here t ≡ []
+calls_dead w c ls here Nothing = refl
+calls_dead w c ls here (Simple p rest) = refl
+calls_dead w c ls here (Block type body rest) = refl
+calls_dead w c ls here (Loop type body rest) = refl
+calls_dead w c ls here (If type body rest) = refl
+calls_dead w c ls here (IfElse type body other rest) = refl
+
+calls_at : (w : Around) (c : Context) (q : Place) (t : Seq) (ls ms : List Label) (i j : ℕ) → ls ≡ ms → i ≡ j → calls w c ls q i t ≡ calls w c ms q j t
+calls_at w c q t ls ms i j e f = ap (λ (l : List Label). calls w c l q i t) e ∙ ap (λ (n : ℕ). calls w c ms q n t) f
+
+-- one run behind the other, and what follows
+both_calls : (all first then_all second rest own next : List Relocation) → all ≡ first ++ then_all → first ≡ own → then_all ≡ second ++ rest → second ≡ next → all ≡ (own ++ next) ++ rest
+both_calls all first then_all second rest own next e f g h =
+    e ∙ ap (λ (l : List Relocation). l ++ then_all) f ∙ ap (λ (l : List Relocation). own ++ l) (g ∙ ap (λ (l : List Relocation). l ++ rest) h) ∙ sym (append_assoc own next rest)
+
+-- the tokens of a sequence, whose calls and all behind them are given, lead through a draft in the middle
+record Through (w : Around) (c : Context) (more : List Token) (after : List Place) (old new : Draft) (ops : List Ends → List Op) (all own : List Relocation) : Type 0 where
   mid : Draft
   emits : Emits old mid ops
   walk : Walk w c more after mid new
+  called : all ≡ own ++ walk_calls w c more after mid new walk
 
 none_both : (a b c : Draft) → Emits a b (λ es. []) → Emits b c (λ es. []) → Emits a c (λ es. [])
 none_both a b c x y = emits-both a b c (λ es. []) (λ es. []) x y
@@ -103,39 +144,51 @@ none_more a b c s x y =
           y.words_are (e ∷ es) l ∙ append-nil _ ∙ x.words_are e es is;
     }
 
-dead : (w : Around) (c d : Context) (t : Seq) (more : List Token) (after : List Place) (old new : Draft) → IsHeld old → Walk w c (spelled t more) (places d t None after) old new → Through w c more after old new (λ es. [])
-dead w c d Nothing more after old new held x = record { mid = old; emits = emits-nothing old held; walk = x }
-dead w c d (Simple p rest) more after old new held x =
-    let Goes : Place → Type 0 = λ q. Walk w c (spelled rest more) (places d rest q after) x.0 new in
-    let r = dead w c d rest more after x.0 new (subst IsHeld (sym x.1) held) (subst Goes (after_dead (rule_of d p)) x.2) in
-    record { mid = r.mid; emits = subst (λ (y : Draft). Emits y r.mid (λ es. [])) x.1 r.emits; walk = r.walk }
-dead w c d (Block type body rest) more after old new held x =
+dead : (w : Around) (c d : Context) (t : Seq) (q : Place) → q ≡ None → (more : List Token) (after : List Place) (old new : Draft) → IsHeld old → (x : Walk w c (spelled t more) (places d t q after) old new)
+    → Through w c more after old new (λ es. []) (walk_calls w c (spelled t more) (places d t q after) old new x) []
+dead w c d Nothing q none more after old new held x = record { mid = old; emits = emits-nothing old held; walk = x; called = refl }
+dead w c d (Simple p rest) q none more after old new held x =
+    let same : x.0 ≡ old = subst (λ (r : Place). Step w c (token.Plain p) r old x.0) none x.1 in
+    let r = dead w c d rest (after_rule (rule_of d p) q) (ap (after_rule (rule_of d p)) none ∙ after_dead (rule_of d p)) more after x.0 new (subst IsHeld (sym same) held) x.2 in
+    let behind = walk_calls w c (spelled rest more) (places d rest (after_rule (rule_of d p) q) after) x.0 new x.2 in
+    record {
+      mid = r.mid;
+      emits = subst (λ (y : Draft). Emits y r.mid (λ es. [])) same r.emits;
+      walk = r.walk;
+      called = ap (λ (r : Place). token_calls w (token.Plain p) r (length old.words) ++ behind) none ∙ r.called;
+    }
+dead w c d (Block type body rest) q none more after old new held x =
     let s = shape d type in
     let within = inside d s.results in
-    let i = dead w c within body (token.End ∷ spelled rest more) (end_of within body None ∷ places d rest None after) x.0 new x.1.opens.held x.2 in
-    let r = dead w c d rest more after i.walk.0 new i.walk.1.held i.walk.2 in
-    record { mid = r.mid; emits = none_both old i.walk.0 r.mid (none_enclosed old x.0 i.mid i.walk.0 x.1.shape x.1.opens i.emits i.walk.1) r.emits; walk = r.walk }
-dead w c d (Loop type body rest) more after old new held x =
+    let opens : OpensDead old x.0 = subst (λ (r : Place). Step w c (token.Block type) r old x.0) none x.1 in
+    let i = dead w c within body q none (token.End ∷ spelled rest more) (end_of within body q ∷ places d rest (after_block s q) after) x.0 new opens.opens.held x.2 in
+    let r = dead w c d rest (after_block s q) (ap (after_block s) none) more after i.walk.0 new i.walk.1.held i.walk.2 in
+    record { mid = r.mid; emits = none_both old i.walk.0 r.mid (none_enclosed old x.0 i.mid i.walk.0 opens.shape opens.opens i.emits i.walk.1) r.emits; walk = r.walk; called = i.called ∙ r.called }
+dead w c d (Loop type body rest) q none more after old new held x =
     let s = shape d type in
     let within = inside d s.params in
-    let i = dead w c within body (token.End ∷ spelled rest more) (end_of within body None ∷ places d rest None after) x.0 new x.1.opens.held x.2 in
-    let r = dead w c d rest more after i.walk.0 new i.walk.1.held i.walk.2 in
-    record { mid = r.mid; emits = none_both old i.walk.0 r.mid (none_enclosed old x.0 i.mid i.walk.0 x.1.shape x.1.opens i.emits i.walk.1) r.emits; walk = r.walk }
-dead w c d (If type body rest) more after old new held x =
+    let opens : OpensDead old x.0 = subst (λ (r : Place). Step w c (token.Loop type) r old x.0) none x.1 in
+    let i = dead w c within body q none (token.End ∷ spelled rest more) (end_of within body q ∷ places d rest (after_block s q) after) x.0 new opens.opens.held x.2 in
+    let r = dead w c d rest (after_block s q) (ap (after_block s) none) more after i.walk.0 new i.walk.1.held i.walk.2 in
+    record { mid = r.mid; emits = none_both old i.walk.0 r.mid (none_enclosed old x.0 i.mid i.walk.0 opens.shape opens.opens i.emits i.walk.1) r.emits; walk = r.walk; called = i.called ∙ r.called }
+dead w c d (If type body rest) q none more after old new held x =
     let s = shape d type in
     let within = inside d s.results in
-    let i = dead w c within body (token.End ∷ spelled rest more) (end_of within body None ∷ places d rest None after) x.0 new x.1.opens.held x.2 in
-    let r = dead w c d rest more after i.walk.0 new i.walk.1.held i.walk.2 in
-    record { mid = r.mid; emits = none_both old i.walk.0 r.mid (none_enclosed old x.0 i.mid i.walk.0 x.1.shape x.1.opens i.emits i.walk.1) r.emits; walk = r.walk }
-dead w c d (IfElse type body other rest) more after old new held x =
+    let opens : OpensDead old x.0 = subst (λ (r : Place). Step w c (token.If type) r old x.0) none x.1 in
+    let i = dead w c within body (moved 1 0 q) (ap (moved 1 0) none) (token.End ∷ spelled rest more) (end_of within body (moved 1 0 q) ∷ places d rest (after_if s q) after) x.0 new opens.opens.held x.2 in
+    let r = dead w c d rest (after_if s q) (ap (after_if s) none) more after i.walk.0 new i.walk.1.held i.walk.2 in
+    record { mid = r.mid; emits = none_both old i.walk.0 r.mid (none_enclosed old x.0 i.mid i.walk.0 opens.shape opens.opens i.emits i.walk.1) r.emits; walk = r.walk; called = i.called ∙ r.called }
+dead w c d (IfElse type body other rest) q none more after old new held x =
     let s = shape d type in
     let within = inside d s.results in
-    let i = dead w c within body (token.Else ∷ spelled other (token.End ∷ spelled rest more)) (end_of within body None ∷ places within other None (end_of within other None ∷ places d rest None after)) x.0 new x.1.opens.held x.2 in
-    let turn : Turns i.mid i.walk.0 (λ n. []) = subst (λ (q : Place). Turns i.mid i.walk.0 (λ n. over q (length i.mid.words) n)) (end_dead within body) i.walk.1 in
-    let j = dead w c within other (token.End ∷ spelled rest more) (end_of within other None ∷ places d rest None after) i.walk.0 new i.walk.1.held i.walk.2 in
-    let r = dead w c d rest more after j.walk.0 new j.walk.1.held j.walk.2 in
-    let o = none_turned old i.mid i.walk.0 x.1.shape (none_more old x.0 i.mid x.1.shape x.1.opens i.emits) turn in
-    record { mid = r.mid; emits = none_both old j.walk.0 r.mid (none_enclosed old i.walk.0 j.mid j.walk.0 x.1.shape o j.emits j.walk.1) r.emits; walk = r.walk }
+    let first = moved 1 0 q in
+    let opens : OpensDead old x.0 = subst (λ (r : Place). Step w c (token.If type) r old x.0) none x.1 in
+    let i = dead w c within body first (ap (moved 1 0) none) (token.Else ∷ spelled other (token.End ∷ spelled rest more)) (end_of within body first ∷ places within other first (end_of within other first ∷ places d rest (after_if s q) after)) x.0 new opens.opens.held x.2 in
+    let turn : Turns i.mid i.walk.0 (λ n. []) = subst (λ (r : Place). Turns i.mid i.walk.0 (λ n. over r (length i.mid.words) n)) (ap (λ (r : Place). end_of within body (moved 1 0 r)) none ∙ end_dead within body) i.walk.1 in
+    let j = dead w c within other first (ap (moved 1 0) none) (token.End ∷ spelled rest more) (end_of within other first ∷ places d rest (after_if s q) after) i.walk.0 new turn.held i.walk.2 in
+    let r = dead w c d rest (after_if s q) (ap (after_if s) none) more after j.walk.0 new j.walk.1.held j.walk.2 in
+    let o = none_turned old i.mid i.walk.0 opens.shape (none_more old x.0 i.mid opens.shape opens.opens i.emits) turn in
+    record { mid = r.mid; emits = none_both old j.walk.0 r.mid (none_enclosed old i.walk.0 j.mid j.walk.0 opens.shape o j.emits j.walk.1) r.emits; walk = r.walk; called = i.called ∙ j.called ∙ r.called }
 
 -- ---- what is live
 
@@ -147,12 +200,18 @@ behind a b d f g k rest x y same =
     (emits-both a b d f (λ es. rest (named (shapes b.labels) es) (length b.words)) x y)
     (λ es is. ap (λ (ss : List Shape). f es ++ rest (named ss es) (length b.words)) x.shapes_are ∙ same es is)
 
-live : (w : Around) (c : Context) (ls : List Types) (t : Seq) (q : Place) (more : List Token) (after : List Place) (old new : Draft) → IsHeld old → Walk w c (spelled t more) (places (labelled c ls) t q after) old new
+live : (w : Around) (c : Context) (ls : List Types) (t : Seq) (q : Place) (more : List Token) (after : List Place) (old new : Draft) → IsHeld old → (x : Walk w c (spelled t more) (places (labelled c ls) t q after) old new)
     → Through w c more after old new (λ es. code w (labelled c ls) (named (shapes old.labels) es) q (length old.words) t)
+    (walk_calls w c (spelled t more) (places (labelled c ls) t q after) old new x) (calls w (labelled c ls) (counted (shapes old.labels)) q (length old.words) t)
 live w c ls t None more after old new held x =
-    let r = dead w c (labelled c ls) t more after old new held x in
-    record { mid = r.mid; emits = emits-as old r.mid _ _ r.emits (λ es is. sym (code_dead w (labelled c ls) (named (shapes old.labels) es) (length old.words) t)); walk = r.walk }
-live w c ls Nothing (Some h) more after old new held x = record { mid = old; emits = emits-nothing old held; walk = x }
+    let r = dead w c (labelled c ls) t None refl more after old new held x in
+    record {
+      mid = r.mid;
+      emits = emits-as old r.mid _ _ r.emits (λ es is. sym (code_dead w (labelled c ls) (named (shapes old.labels) es) (length old.words) t));
+      walk = r.walk;
+      called = r.called ∙ ap (λ (l : List Relocation). l ++ walk_calls w c more after r.mid new r.walk) (sym (calls_dead w (labelled c ls) (counted (shapes old.labels)) (length old.words) t));
+    }
+live w c ls Nothing (Some h) more after old new held x = record { mid = old; emits = emits-nothing old held; walk = x; called = refl }
 live w c ls (Simple p rest) (Some h) more after old new held x =
     let d = labelled c ls in
     let next = after_rule (rule_of d p) (Some h) in
@@ -167,6 +226,15 @@ live w c ls (Simple p rest) (Some h) more after old new held x =
           ap (λ (k : ℕ). words w c labels h (length old.words) p ++ code w d labels next k rest) n
           ∙ ap (λ (ops : List Op). ops ++ code w d labels next (length old.words + length ops) rest) first);
       walk = r.walk;
+      called =
+          let here = length old.words in
+          let labels = counted (shapes old.labels) in
+          let es = ends_of (shapes old.labels) in
+          let n = longer old x.0 (λ es. words w c (named (shapes old.labels) es) h (length old.words) p) x.1 es (ends_count old.labels) in
+          let same = words_size w c labels (named (shapes old.labels) es) h 0 here p (counted_alike (shapes old.labels)) in
+          let first = ap (λ (ops : List Op). length ops) (words_labelled w c ls labels h 0 p) in
+          let out : length x.0.words ≡ here + length (words w d labels h 0 p) = omega arith in
+          both_calls _ (call_of w here p) _ _ _ (call_of w here p) _ refl refl r.called (calls_at w d next rest _ _ _ _ (ap counted x.1.shapes_are) out);
     }
 live w c ls (Block type body rest) (Some h) more after old new held x =
     let d = labelled c ls in
@@ -197,6 +265,17 @@ live w c ls (Block type body rest) (Some h) more after old new held x =
           ∙ ap (λ (m : ℕ). f (inner m) here ++ code w d labels next (length i.walk.0.words) rest) end
           ∙ ap (λ (m : ℕ). f (inner (here + size w within (inner 0) (Some h) body)) here ++ code w d labels next m rest) out);
       walk = r.walk;
+      called =
+          let here = length old.words in
+          let labels = counted (shapes old.labels) in
+          let es = ends_of (shapes old.labels) in
+          let inner = label base takes 0 ∷ labels in
+          let begins : length x.0.words ≡ here = let k = longer-opens old x.0 sh (λ e. []) step (ends_there n) es (ends_count old.labels) in omega arith in
+          let k = enclosed-size old x.0 i.mid sh (λ e. []) f step i.emits (ends_there n) es (ends_count old.labels) in
+          let z = size_is w within inner (label base takes n ∷ named (shapes old.labels) es) (Some h) (here + 0) body (refl, counted_alike (shapes old.labels)) in
+          let out : length i.walk.0.words ≡ here + size w within inner (Some h) body = let s = i.walk.1.size in omega arith in
+          let same = closed-shapes old x.0 i.mid i.walk.0 sh i.walk.1.shape step.shapes_are i.emits.shapes_are i.walk.1.shapes_are in
+          both_calls _ _ _ _ _ _ _ i.called (calls_at w within (Some h) body _ inner _ here (ap counted step.shapes_are) begins) r.called (calls_at w d next rest _ labels _ _ (ap counted same) out);
     }
 live w c ls (Loop type body rest) (Some h) more after old new held x =
     let d = labelled c ls in
@@ -226,6 +305,17 @@ live w c ls (Loop type body rest) (Some h) more after old new held x =
           ap (λ (m : ℕ). f inner m ++ code w d labels next (length i.walk.0.words) rest) zero
           ∙ ap (λ (m : ℕ). f inner here ++ code w d labels next m rest) out);
       walk = r.walk;
+      called =
+          let here = length old.words in
+          let labels = counted (shapes old.labels) in
+          let es = ends_of (shapes old.labels) in
+          let inner = label base takes 0 ∷ labels in
+          let begins : length x.0.words ≡ here = let k = longer-opens old x.0 sh (λ e. []) step (ends_there n) es (ends_count old.labels) in omega arith in
+          let k = enclosed-size old x.0 i.mid sh (λ e. []) f step i.emits (ends_there n) es (ends_count old.labels) in
+          let z = size_is w within inner (label base takes here ∷ named (shapes old.labels) es) (Some h) (here + 0) body (refl, counted_alike (shapes old.labels)) in
+          let out : length i.walk.0.words ≡ here + size w within inner (Some h) body = let s = i.walk.1.size in omega arith in
+          let same = closed-shapes old x.0 i.mid i.walk.0 sh i.walk.1.shape step.shapes_are i.emits.shapes_are i.walk.1.shapes_are in
+          both_calls _ _ _ _ _ _ _ i.called (calls_at w within (Some h) body _ inner _ here (ap counted step.shapes_are) begins) r.called (calls_at w d next rest _ labels _ _ (ap counted same) out);
     }
 live w c ls (If type body rest) (Some h) more after old new held x =
     let d = labelled c ls in
@@ -241,17 +331,18 @@ live w c ls (If type body rest) (Some h) more after old new held x =
     let f : List Label → ℕ → List Op = λ labels here. code w within labels (Some below) here body in
     let step : Opens old x.0 sh first = subst (λ (y : Signature). Opens old x.0 (end_shape (h - 1 - length y.params) (length y.results)) first) (sym (shape_labelled c ls type)) x.1 in
     let from : Some (h - 1 + 0) ≡ Some below = ap (λ (m : ℕ). Some m) (let m : h - 1 + 0 ≡ below = omega arith in m) in
-    let Goes : Place → Type 0 = λ q. Walk w c (spelled body (token.End ∷ spelled rest more)) (places within body q (end_of within body q ∷ places d rest next after)) x.0 new in
-    let i = live w c (s.results ∷ ls) body (Some below) (token.End ∷ spelled rest more) (end_of within body (Some below) ∷ places d rest next after) x.0 new step.held (subst Goes from x.2) in
+    let q : Place = Some (h - 1 + 0) in
+    let i = live w c (s.results ∷ ls) body q (token.End ∷ spelled rest more) (end_of within body q ∷ places d rest next after) x.0 new step.held x.2 in
+    let emits : Emits x.0 i.mid (λ es. f (named (shapes x.0.labels) es) (length x.0.words)) = subst (λ (r : Place). Emits x.0 i.mid (λ es. code w within (named (shapes x.0.labels) es) r (length x.0.words) body)) from i.emits in
     let r = live w c ls rest next more after i.walk.0 new i.walk.1.held i.walk.2 in
     let n = length i.mid.words in
     record {
       mid = r.mid;
-      emits = behind old i.walk.0 r.mid _ (λ es. []) _ (λ labels here. code w d labels next here rest) (enclosed old x.0 i.mid i.walk.0 sh first f step i.emits i.walk.1) r.emits
+      emits = behind old i.walk.0 r.mid _ (λ es. []) _ (λ labels here. code w d labels next here rest) (enclosed old x.0 i.mid i.walk.0 sh first f step emits i.walk.1) r.emits
           (λ es is.
           let labels = named (shapes old.labels) es in
           let inner : ℕ → List Label = λ k. label base takes k ∷ labels in
-          let k = enclosed-size old x.0 i.mid sh first f step i.emits (ends_there n) es is in
+          let k = enclosed-size old x.0 i.mid sh first f step emits (ends_there n) es is in
           let z = size_is w within (inner 0) (inner n) (Some below) (here + 6) body (refl, alike-same labels) in
           let end : n ≡ here + 6 + size w within (inner 0) (Some below) body = omega arith in
           let out : length i.walk.0.words ≡ here + 6 + size w within (inner 0) (Some below) body = i.walk.1.size ∙ end in
@@ -260,6 +351,17 @@ live w c ls (If type body rest) (Some h) more after old new held x =
           ∙ ap (λ (m : ℕ). (test_words w h here there ++ f (inner there) (here + 6)) ++ code w d labels next m rest) out
           ∙ append_assoc (test_words w h here there) (f (inner there) (here + 6)) (code w d labels next there rest));
       walk = r.walk;
+      called =
+          let labels = counted (shapes old.labels) in
+          let es = ends_of (shapes old.labels) in
+          let inner = label base takes 0 ∷ labels in
+          let begins : length x.0.words ≡ here + 6 = longer-opens old x.0 sh first step (ends_there n) es (ends_count old.labels) in
+          let k = enclosed-size old x.0 i.mid sh first f step emits (ends_there n) es (ends_count old.labels) in
+          let z = size_is w within inner (label base takes n ∷ named (shapes old.labels) es) (Some below) (here + 6) body (refl, counted_alike (shapes old.labels)) in
+          let out : length i.walk.0.words ≡ here + 6 + size w within inner (Some below) body = let s = i.walk.1.size in omega arith in
+          let same = closed-shapes old x.0 i.mid i.walk.0 sh i.walk.1.shape step.shapes_are i.emits.shapes_are i.walk.1.shapes_are in
+          let own = calls_at w within q body _ inner _ (here + 6) (ap counted step.shapes_are) begins ∙ ap (λ (r : Place). calls w within inner r (here + 6) body) from in
+          both_calls _ _ _ _ _ _ _ i.called own r.called (calls_at w d next rest _ labels _ _ (ap counted same) out);
     }
 live w c ls (IfElse type body other rest) (Some h) more after old new held x =
     let d = labelled c ls in
@@ -276,19 +378,21 @@ live w c ls (IfElse type body other rest) (Some h) more after old new held x =
     let g : List Label → ℕ → List Op = λ labels here. code w within labels (Some below) here other in
     let step : Opens old x.0 sh first = subst (λ (y : Signature). Opens old x.0 (end_shape (h - 1 - length y.params) (length y.results)) first) (sym (shape_labelled c ls type)) x.1 in
     let from : Some (h - 1 + 0) ≡ Some below = ap (λ (m : ℕ). Some m) (let m : h - 1 + 0 ≡ below = omega arith in m) in
-    let Goes : Place → Type 0 = λ q. Walk w c (spelled body (token.Else ∷ spelled other (token.End ∷ spelled rest more))) (places within body q (end_of within body q ∷ places within other q (end_of within other q ∷ places d rest next after))) x.0 new in
+    let q : Place = Some (h - 1 + 0) in
     let first_live = end_of within body (Some below) in
-    let i = live w c (s.results ∷ ls) body (Some below) (token.Else ∷ spelled other (token.End ∷ spelled rest more)) (first_live ∷ places within other (Some below) (end_of within other (Some below) ∷ places d rest next after)) x.0 new step.held (subst Goes from x.2) in
+    let i = live w c (s.results ∷ ls) body q (token.Else ∷ spelled other (token.End ∷ spelled rest more)) (end_of within body q ∷ places within other q (end_of within other q ∷ places d rest next after)) x.0 new step.held x.2 in
+    let one : Emits x.0 i.mid (λ es. f (named (shapes x.0.labels) es) (length x.0.words)) = subst (λ (r : Place). Emits x.0 i.mid (λ es. code w within (named (shapes x.0.labels) es) r (length x.0.words) body)) from i.emits in
     let t : ℕ → List Op = λ n. over first_live (length i.mid.words) n in
-    let turn : Turns i.mid i.walk.0 t = i.walk.1 in
-    let j = live w c (s.results ∷ ls) other (Some below) (token.End ∷ spelled rest more) (end_of within other (Some below) ∷ places d rest next after) i.walk.0 new turn.held i.walk.2 in
+    let turn : Turns i.mid i.walk.0 t = subst (λ (r : Place). Turns i.mid i.walk.0 (λ n. over (end_of within body r) (length i.mid.words) n)) from i.walk.1 in
+    let j = live w c (s.results ∷ ls) other q (token.End ∷ spelled rest more) (end_of within other q ∷ places d rest next after) i.walk.0 new turn.held i.walk.2 in
+    let two : Emits i.walk.0 j.mid (λ es. g (named (shapes i.walk.0.labels) es) (length i.walk.0.words)) = subst (λ (r : Place). Emits i.walk.0 j.mid (λ es. code w within (named (shapes i.walk.0.labels) es) r (length i.walk.0.words) other)) from j.emits in
     let r = live w c ls rest next more after j.walk.0 new j.walk.1.held j.walk.2 in
     let m = length i.walk.0.words in
     let n = length j.mid.words in
     record {
       mid = r.mid;
       emits = behind old j.walk.0 r.mid _ (λ es. []) _ (λ labels here. code w d labels next here rest)
-          (both-enclosed old x.0 i.mid i.walk.0 j.mid j.walk.0 sh first f g t (λ i j k. refl) step i.emits turn j.emits j.walk.1) r.emits
+          (both-enclosed old x.0 i.mid i.walk.0 j.mid j.walk.0 sh first f g t (λ i j k. refl) step one turn two j.walk.1) r.emits
           (λ es is.
           let labels = named (shapes old.labels) es in
           let inner : ℕ → List Label = λ k. label base takes k ∷ labels in
@@ -300,7 +404,7 @@ live w c ls (IfElse type body other rest) (Some h) more after old new held x =
           let e = ends_there n in
           let begins : length x.0.words ≡ here + 6 = longer-opens old x.0 sh first step e es is in
           let zi = size_is w within counted (inner n) (Some below) (here + 6) body (refl, alike-same labels) in
-          let ki = enclosed-size old x.0 i.mid sh first f step i.emits e es is in
+          let ki = enclosed-size old x.0 i.mid sh first f step one e es is in
           let first_is : length i.mid.words ≡ first_end = omega arith in
           let countb = count-more x.0.labels old.labels sh step.shapes_are in
           let counti = count-shapes i.mid.labels x.0.labels i.emits.shapes_are in
@@ -310,7 +414,7 @@ live w c ls (IfElse type body other rest) (Some h) more after old new held x =
           let second_is : m ≡ second = omega arith in
           let countt = count-shapes i.walk.0.labels i.mid.labels turn.shapes_are in
           let lj : length (e ∷ es) ≡ length i.walk.0.labels = omega arith in
-          let kj = longer i.walk.0 j.mid (λ fs. g (named (shapes i.walk.0.labels) fs) m) j.emits (e ∷ es) lj in
+          let kj = longer i.walk.0 j.mid (λ fs. g (named (shapes i.walk.0.labels) fs) m) two (e ∷ es) lj in
           let shapes_same : shapes i.walk.0.labels ≡ sh ∷ shapes old.labels = turn.shapes_are ∙ i.emits.shapes_are ∙ step.shapes_are in
           let named_same = ap (λ (ss : List Shape). length (g (named ss (e ∷ es)) m)) shapes_same in
           let zj = size_is w within counted (inner n) (Some below) m other (refl, alike-same labels) in
@@ -327,6 +431,40 @@ live w c ls (IfElse type body other rest) (Some h) more after old new held x =
           (append_assoc (f (inner end) (here + 6)) (over first_live first_end end ++ g (inner end) second) (rest_words end)
           ∙ ap (λ (l : List Op). f (inner end) (here + 6) ++ l) (append_assoc (over first_live first_end end) (g (inner end) second) (rest_words end))));
       walk = r.walk;
+      called =
+          let labels = counted (shapes old.labels) in
+          let es = ends_of (shapes old.labels) in
+          let is = ends_count old.labels in
+          let inner = label base takes 0 ∷ labels in
+          let alike : AreAlike inner (label base takes n ∷ named (shapes old.labels) es) = (refl, counted_alike (shapes old.labels)) in
+          let first_end = here + 6 + size w within inner (Some below) body in
+          let second = first_end + length (over first_live 0 0) in
+          let end = second + size w within inner (Some below) other in
+          let e = ends_there n in
+          let begins : length x.0.words ≡ here + 6 = longer-opens old x.0 sh first step e es is in
+          let zi = size_is w within inner (label base takes n ∷ named (shapes old.labels) es) (Some below) (here + 6) body alike in
+          let ki = enclosed-size old x.0 i.mid sh first f step one e es is in
+          let first_is : length i.mid.words ≡ first_end = omega arith in
+          let countb = count-more x.0.labels old.labels sh step.shapes_are in
+          let counti = count-shapes i.mid.labels x.0.labels i.emits.shapes_are in
+          let li : 1 + length es ≡ length i.mid.labels = omega arith in
+          let kt = longer-turns i.mid i.walk.0 t turn n es li in
+          let ot = over_size w first_live 0 0 (length i.mid.words) n in
+          let second_is : m ≡ second = omega arith in
+          let countt = count-shapes i.walk.0.labels i.mid.labels turn.shapes_are in
+          let lj : length (e ∷ es) ≡ length i.walk.0.labels = omega arith in
+          let kj = longer i.walk.0 j.mid (λ fs. g (named (shapes i.walk.0.labels) fs) m) two (e ∷ es) lj in
+          let shapes_same : shapes i.walk.0.labels ≡ sh ∷ shapes old.labels = turn.shapes_are ∙ i.emits.shapes_are ∙ step.shapes_are in
+          let named_same = ap (λ (ss : List Shape). length (g (named ss (e ∷ es)) m)) shapes_same in
+          let zj = size_is w within inner (label base takes n ∷ named (shapes old.labels) es) (Some below) m other alike in
+          let end_is : n ≡ end = omega arith in
+          let out : length j.walk.0.words ≡ end = j.walk.1.size ∙ end_is in
+          let same = closed-shapes old i.walk.0 j.mid j.walk.0 sh j.walk.1.shape shapes_same j.emits.shapes_are j.walk.1.shapes_are in
+          let own = calls_at w within q body _ inner _ (here + 6) (ap counted step.shapes_are) begins ∙ ap (λ (r : Place). calls w within inner r (here + 6) body) from in
+          let own_other = calls_at w within q other _ inner _ second (ap counted shapes_same) second_is ∙ ap (λ (r : Place). calls w within inner r second other) from in
+          let last = calls_at w d next rest _ labels _ _ (ap counted same) out in
+          let behind = walk_calls w c more after r.mid new r.walk in
+          both_calls _ _ _ _ behind _ _ i.called own (both_calls _ _ _ _ behind _ _ j.called own_other r.called last) refl;
     }
 
 -- ---- a body
@@ -361,3 +499,13 @@ words_are_code w c tokens tree front last spells at x =
     ∙ i.emits.words_are (e ∷ []) refl
     ∙ ap (λ (m : ℕ). front ++ map word_of (f m)) ends
     ∙ ap (λ (m : ℕ). front ++ map word_of (code w within (label 0 n (body_place w + body_size w c tree) ∷ []) (Some 0) m tree)) at
+
+pub calls_are_those : CallsLaw
+calls_are_those w c tokens tree front last rs spells at x =
+    let n = length c.results in
+    let within = inside c c.results in
+    let old = begun n front in
+    let end = end_of within tree (Some 0) in
+    let y : Calling w c (spelled tree (token.End ∷ [])) (places_of c tree) old last rs = subst (λ (ts : List Token). Calling w c ts (places_of c tree) old last rs) spells x in
+    let i = live w c (c.results ∷ c.labels) tree (Some 0) (token.End ∷ []) (end ∷ []) old last ((tt, tt), tt) y.0 in
+    sym y.1 ∙ i.called ∙ append-nil _ ∙ ap (λ (m : ℕ). calls w within (label 0 n 0 ∷ []) (Some 0) m tree) at

@@ -1,5 +1,5 @@
 -- What the calls of `Labels` do.
-use Rattle.std.specs.Prelude.{◌≡◌, ℕ, List, ◌∷◌, ◌++◌, length, map}
+use Rattle.std.specs.Prelude.{◌≡◌, ℕ, List, ◌∷◌, ◌++◌, length, map, take}
 use Rattle.rv_isa.specs.declared.operations.Op.{Op}
 use Rattle.rv_isa.specs.Words.{word_of}
 use Rattle.control_emit.specs.Pending.{Pending, Shape, shapes, Ends, meaning, Within}
@@ -11,6 +11,10 @@ pub record Draft : Type 0 where
 
 abbrev pub draft : List Pending → List ℕ → Draft
 draft labels words = record { labels = labels; words = words }
+
+-- these words stand in front of others
+abbrev pub IsFront : (front words : List ℕ) → Type 0
+IsFront front words = take (length front) words ≡ front
 
 abbrev pub IsHeld : Draft → Type 0
 IsHeld d = Within (length d.words) d.labels

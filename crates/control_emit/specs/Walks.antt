@@ -1,5 +1,6 @@
 -- How tokens, each at its place, lead from one draft of a function's words to another.
 use Rattle.std.specs.Prelude.{◌≡◌, ℕ, ◌-◌, Bool, true, false, List, [], ◌∷◌, ◌++◌, length, map, None, Some}
+use Rattle.rv_isa.specs.declared.compiled.Relocation.{Relocation}
 use Rattle.rv_isa.specs.Words.{word_of}
 use Rattle.wasm_defs.specs.declared.token.Token.{Token}
 use Rattle.wasm_defs.specs.declared.token.Token.TheVariants as token
@@ -7,7 +8,7 @@ use Rattle.wasm_defs.specs.Places.{Place, shape, places_of}
 use Rattle.wasm_defs.specs.Trees.{Seq, Tree}
 use Rattle.wasm_defs.specs.Typing.{Context, Signature}
 use Rattle.frame_layout.specs.Templates.{Around, words}
-use Rattle.frame_layout.specs.Functions.{over, test_words, body_place, body_code}
+use Rattle.frame_layout.specs.Functions.{over, test_words, call_of, body_place, body_code, calls_of}
 use Rattle.control_emit.specs.Pending.{Pending, Shape, shapes, named}
 use Rattle.control_emit.specs.Emits.{Draft, Emits, Opens, Turns, Closes}
 
@@ -48,6 +49,25 @@ Walk w c [] places old new = new ≡ old
 Walk w c (t ∷ ts) [] old new = ⊥
 Walk w c (t ∷ ts) (q ∷ qs) old new = (mid : Draft) × Step w c t q old mid × Walk w c ts qs mid new
 
+-- the calls among them: a token has its own where its place is live, behind so many words
+abbrev pub token_calls : Around → Token → Place → (here : ℕ) → List Relocation
+token_calls w (token.Plain p) None here = []
+token_calls w (token.Plain p) (Some h) here = call_of w here p
+token_calls w (token.Block t) place here = []
+token_calls w (token.Loop t) place here = []
+token_calls w (token.If t) place here = []
+token_calls w token.Else place here = []
+token_calls w token.End place here = []
+
+abbrev pub walk_calls : (w : Around) (c : Context) (tokens : List Token) (places : List Place) (old new : Draft) → Walk w c tokens places old new → List Relocation
+walk_calls w c [] places old new walk = []
+walk_calls w c (t ∷ ts) [] old new walk = []
+walk_calls w c (t ∷ ts) (q ∷ qs) old new walk = token_calls w t q (length old.words) ++ walk_calls w c ts qs walk.0 new walk.2
+
+-- the tokens lead there, and these are their calls
+abbrev pub Calling : Around → Context → List Token → List Place → Draft → Draft → List Relocation → Type 0
+Calling w c tokens places old new calls = (walk : Walk w c tokens places old new) × (walk_calls w c tokens places old new walk ≡ calls)
+
 -- a body's own label
 abbrev pub body_label : (results : ℕ) → Pending
 body_label results = record { base = 0; takes = results; start = None; test = None; jumps = [] }
@@ -66,3 +86,9 @@ abbrev pub WordsLaw : Type 0
 WordsLaw =
     (w : Around) (c : Context) (tokens : List Token) (tree : Seq) (front : List ℕ) (last : Draft) → Tree tokens tree → length front ≡ body_place w
     → Walk w c tokens (places_of c tree) (begun (length c.results) front) last → last.words ≡ front ++ map word_of (body_code w c tree)
+
+-- and their calls are the body's
+abbrev pub CallsLaw : Type 0
+CallsLaw =
+    (w : Around) (c : Context) (tokens : List Token) (tree : Seq) (front : List ℕ) (last : Draft) (calls : List Relocation) → Tree tokens tree → length front ≡ body_place w
+    → Calling w c tokens (places_of c tree) (begun (length c.results) front) last calls → calls ≡ calls_of w c tree

@@ -1,20 +1,20 @@
 //! Runs of words of branches.
 
-ghost use Rattle.std.specs.Prelude.{◌≡◌, ◌+◌, ◌-◌, ◌*◌, ◌^◌, ◌<◌, ◌≤◌, ◌++◌, ◌∷◌, [], map, length, OnOk};
+ghost use Rattle.std.specs.Prelude.{◌≡◌, ◌+◌, ◌-◌, ◌*◌, ◌^◌, ◌<◌, ◌≤◌, ◌++◌, ◌∷◌, [], map, length, OnOk, OnErr};
 ghost use Rattle.rv_isa.specs.declared.operations.Op.TheVariants.{Branch as BranchGiven};
 ghost use Rattle.rv_isa.specs.declared.operations.BranchOp.TheVariants.{Bne as BneGiven};
-ghost use Rattle.rv_isa.specs.Runs.{hi};
 ghost use Rattle.rv_isa.specs.Words.{word_of};
 ghost use Rattle.frame_layout.specs.Slots.{operand};
 ghost use Rattle.frame_layout.specs.Macros.{x0, t0, distance, far, forward};
 ghost use Rattle.frame_layout.specs.Templates.{Around, load_operand, store_operand, move_words, unless_words, scale_words, table_front};
 ghost use Rattle.control_emit.specs.Choices.{count_words, choice_words};
+ghost use Rattle.control_emit.specs.Emits.{IsFront};
 
 use frame_layout::Layout;
-use frame_layout::macros::{branch, const_32, imm, reg, shift, zero_extend};
+use frame_layout::macros::{branch, const_32, far, imm, reg, shift, zero_extend};
 use frame_layout::words::{slot_load, slot_store};
 use rv_isa::{
-    BranchOp, Imm12, Imm20, ImmOp, Op, RegOp, Register, ShiftOp, WordBuffer, encode_branch,
+    BranchOp, Imm12, Imm20, ImmOp, Op, RegOp, Register, ShiftOp, WordBuffer, encode, encode_branch,
 };
 use std::alloc::AllocError;
 
@@ -29,42 +29,6 @@ pub fn place_in(buffer: &WordBuffer) -> usize
     buffer.as_slice().len()
 }
 
-/// From one place to another, each counted in words.
-fn distance(here: usize, there: usize) -> u64
-    ensures { result ≡ distance here there }
-{
-    let back = 0x1_0000_0000_0000_0000u128.saturating_sub(4 * here as u128);
-    ((4 * there as u128 + back) % 0x1_0000_0000_0000_0000) as u64
-}
-
-/// The upper part of a distance.
-fn hi(distance: u64) -> Imm20
-    ensures { result ≡ hi distance }
-{
-    let low = distance % 0x1_0000_0000;
-    Imm20::new(((low + 2048) / 4096 % 0x10_0000) as u32)
-}
-
-/// A jump from one place to another.
-pub fn far(here: usize, there: usize) -> [Op; 2]
-    ensures { result ≡ far (distance here there) }
-{
-    let distance = distance(here, there);
-    let upper = hi(distance);
-    let lower = Imm12::new((distance % 4096) as u16);
-    [
-        Op::Auipc {
-            rd: Register::T3,
-            imm: upper,
-        },
-        Op::Jalr {
-            rd: Register::ZERO,
-            rs1: Register::T3,
-            imm: lower,
-        },
-    ]
-}
-
 /// Appends the words that move a value from one operand's slot to another's.
 fn append_move(
     buffer: &mut WordBuffer,
@@ -74,14 +38,16 @@ fn append_move(
 ) -> Result<(), AllocError>
     requires from { operand layout.now from < 2 ^ 32 }
     requires to { operand layout.now to < 2 ^ 32 }
-    ensures { (w : Around) → w.layout ≡ layout.now → OnOk result (buffer.new ≡ buffer.old ++ map word_of (load_operand w t0 from ++ store_operand w t0 to)) }
+    ensures ok { (w : Around) → w.layout ≡ layout.now → OnOk result (buffer.new ≡ buffer.old ++ map word_of (load_operand w t0 from ++ store_operand w t0 to)) }
+    ensures err { OnErr result (buffer.new ≡ buffer.old) }
 {
     let [a, b, c] = slot_load(Register::T0, layout.operand(from));
     let [d, e, f] = slot_store(Register::T0, layout.operand(to));
     buffer.append(&[a, b, c, d, e, f])
 }
 
-/// Appends the words that move so many values, from operand j upward to a label's base and upward.
+/// Appends the words that move so many values, from operand j upward to a label's base and upward, or for want of memory those of
+/// some.
 pub fn append_moves(
     buffer: &mut WordBuffer,
     layout: &Layout,
@@ -91,7 +57,8 @@ pub fn append_moves(
 ) -> Result<(), AllocError>
     requires from { operand layout.now (j + takes) < 2 ^ 32 }
     requires to { operand layout.now (base + takes) < 2 ^ 32 }
-    ensures { (w : Around) → w.layout ≡ layout.now → OnOk result (buffer.new ≡ buffer.old ++ map word_of (move_words w takes j base)) }
+    ensures ok { (w : Around) → w.layout ≡ layout.now → OnOk result (buffer.new ≡ buffer.old ++ map word_of (move_words w takes j base)) }
+    ensures front { IsFront buffer.old buffer.new }
 {
     for i in 0..takes {
         append_move(buffer, layout, j + i, base + i)?;
@@ -106,14 +73,16 @@ pub fn append_topmost(
     height: u32,
 ) -> Result<(), AllocError>
     requires { operand layout.now height < 2 ^ 32 }
-    ensures { (w : Around) → w.layout ≡ layout.now → OnOk result (buffer.new ≡ buffer.old ++ map word_of (load_operand w t0 (height - 1))) }
+    ensures ok { (w : Around) → w.layout ≡ layout.now → OnOk result (buffer.new ≡ buffer.old ++ map word_of (load_operand w t0 (height - 1))) }
+    ensures err { OnErr result (buffer.new ≡ buffer.old) }
 {
     buffer.append(&slot_load(Register::T0, layout.operand(height.saturating_sub(1))))
 }
 
 /// Appends the words that pass over a jump, which takes so many values along, where t0 is zero.
 pub fn append_unless(buffer: &mut WordBuffer, takes: u32) -> Result<(), AllocError>
-    ensures { (w : Around) → OnOk result (buffer.new ≡ buffer.old ++ map word_of (unless_words w (length buffer.old) takes)) }
+    ensures ok { (w : Around) → OnOk result (buffer.new ≡ buffer.old ++ map word_of (unless_words w (length buffer.old) takes)) }
+    ensures err { OnErr result (buffer.new ≡ buffer.old) }
 {
     if takes <= MOST_PASSED {
         let bytes = 12 + 24 * takes as u16;
@@ -127,19 +96,25 @@ pub fn append_unless(buffer: &mut WordBuffer, takes: u32) -> Result<(), AllocErr
     ])
 }
 
-/// Appends the words that pass over a jump where the topmost operand isn't zero.
+/// Appends the words that pass over a jump where the topmost operand isn't zero, and a jump that leads to itself.
 pub fn append_test(buffer: &mut WordBuffer, layout: &Layout, height: u32) -> Result<(), AllocError>
     requires { operand layout.now height < 2 ^ 32 }
-    ensures { (w : Around) → w.layout ≡ layout.now → OnOk result (buffer.new ≡ buffer.old ++ map word_of (load_operand w t0 (height - 1) ++ (BranchGiven BneGiven t0 x0 (forward 12) ∷ []))) }
+    ensures ok { (w : Around) → w.layout ≡ layout.now → OnOk result (
+        let here = length buffer.old + 4 in
+        buffer.new ≡ buffer.old ++ (map word_of (load_operand w t0 (height - 1) ++ (BranchGiven BneGiven t0 x0 (forward 12) ∷ [])) ++ map word_of (far (distance here here)))) }
+    ensures err { OnErr result (buffer.new ≡ buffer.old) }
 {
+    let here = place_in(buffer) + 4;
     let [a, b, c] = slot_load(Register::T0, layout.operand(height.saturating_sub(1)));
     let over = encode_branch(BranchOp::Bne, Register::T0, Register::ZERO, Imm12::new(6));
-    buffer.append(&[a, b, c, over])
+    let [upper, lower] = far(here, here);
+    buffer.append(&[a, b, c, over, encode(upper), encode(lower)])
 }
 
 /// Appends the words that make of an index in t0 the count, where it is no less.
 fn append_count(buffer: &mut WordBuffer, count: usize) -> Result<(), AllocError>
-    ensures { OnOk result (buffer.new ≡ buffer.old ++ map word_of (count_words count)) }
+    ensures ok { OnOk result (buffer.new ≡ buffer.old ++ map word_of (count_words count)) }
+    ensures err { OnErr result (buffer.new ≡ buffer.old) }
 {
     buffer.append_ops(&[
         &zero_extend(Register::T0),
@@ -153,7 +128,8 @@ fn append_count(buffer: &mut WordBuffer, count: usize) -> Result<(), AllocError>
 
 /// Appends the words that make of an index in t0 the bytes of so many jumps, each of which takes so many values along.
 fn append_scale(buffer: &mut WordBuffer, takes: u32) -> Result<(), AllocError>
-    ensures { (w : Around) → OnOk result (buffer.new ≡ buffer.old ++ map word_of (scale_words w takes)) }
+    ensures ok { (w : Around) → OnOk result (buffer.new ≡ buffer.old ++ map word_of (scale_words w takes)) }
+    ensures err { OnErr result (buffer.new ≡ buffer.old) }
 {
     match takes {
         0 => buffer.append_ops(&[&[shift(ShiftOp::Slli, Register::T0, Register::T0, 3)]]),
@@ -167,7 +143,8 @@ fn append_scale(buffer: &mut WordBuffer, takes: u32) -> Result<(), AllocError>
 
 /// Appends the words that go so many bytes on from what stands behind them.
 fn append_choice(buffer: &mut WordBuffer) -> Result<(), AllocError>
-    ensures { OnOk result (buffer.new ≡ buffer.old ++ map word_of choice_words) }
+    ensures ok { OnOk result (buffer.new ≡ buffer.old ++ map word_of choice_words) }
+    ensures err { OnErr result (buffer.new ≡ buffer.old) }
 {
     buffer.append_ops(&[&[
         Op::Auipc {
@@ -183,7 +160,7 @@ fn append_choice(buffer: &mut WordBuffer) -> Result<(), AllocError>
     ]])
 }
 
-/// Appends the words that choose one of so many jumps, which take so many values along.
+/// Appends the words that choose one of so many jumps, which take so many values along, or for want of memory those in front.
 pub fn append_front(
     buffer: &mut WordBuffer,
     layout: &Layout,
@@ -192,7 +169,8 @@ pub fn append_front(
     takes: u32,
 ) -> Result<(), AllocError>
     requires { operand layout.now height < 2 ^ 32 }
-    ensures { (w : Around) → w.layout ≡ layout.now → OnOk result (buffer.new ≡ buffer.old ++ map word_of (table_front w height count takes)) }
+    ensures ok { (w : Around) → w.layout ≡ layout.now → OnOk result (buffer.new ≡ buffer.old ++ map word_of (table_front w height count takes)) }
+    ensures front { IsFront buffer.old buffer.new }
 {
     append_topmost(buffer, layout, height)?;
     append_count(buffer, count)?;

@@ -1,6 +1,6 @@
 //! The labels of a function that are open.
 
-ghost use Rattle.std.specs.Prelude.{◌≡◌, ◌<◌, ◌≤◌, ◌+◌, ◌-◌, ℕ, [], ◌∷◌, ◌++◌, length, map, OnOk, IfOk, slice_index_or};
+ghost use Rattle.std.specs.Prelude.{◌≡◌, ◌<◌, ◌≤◌, ◌+◌, ◌-◌, ℕ, [], ◌∷◌, ◌++◌, length, map, take, OnOk, OnErr, IfOk, slice_index_or};
 ghost use Rattle.rv_isa.specs.Words.{word_of};
 ghost use Rattle.frame_layout.specs.Slots.{link};
 ghost use Rattle.wasm_defs.specs.Places.{Place};
@@ -8,12 +8,15 @@ ghost use Rattle.frame_layout.specs.Templates.{Around, label_at, jump_words, jum
 ghost use Rattle.frame_layout.specs.Functions.{over, test_words};
 ghost use Rattle.control_emit.specs.Pending.{shapes, named, patched, all_patched, test_patched, AreWithin, IsTestWithin, AreBelow, TakesTest, jumping, end_at, chain, IsBefore, AreLinked};
 ghost use Rattle.frame_layout.specs.Macros.{distance, far};
-ghost use Rattle.control_emit.specs.Emits.{draft, IsHeld, Emits, Opens, Turns, Closes};
+ghost use Rattle.control_emit.specs.Emits.{draft, IsFront, IsHeld, Emits, Opens, Turns, Closes};
 ghost use Rattle.control_emit.specs.Begins.{IsOpening, Begins};
 ghost use Rattle.control_emit.specs.Walks.{body_label, end_shape, start_shape, IsLive};
 
-use crate::jumps::{append_front, append_moves, append_test, append_topmost, append_unless, far};
+use crate::jumps::{
+    append_front, append_moves, append_test, append_topmost, append_unless, place_in,
+};
 use frame_layout::Layout;
+use frame_layout::macros::far;
 use rv_isa::{WordBuffer, encode};
 use std::alloc::{AllocError, Global};
 use std::marker::Model;
@@ -54,8 +57,8 @@ struct Goal {
 /// The labels of a function that are open, over the words so far, which all calls of one value take. Where the jumps stand whose
 /// place isn't known yet is kept in one list: there are no more of them than jumps to blocks' ends.
 ///
-/// Where a call answers that memory is wanting, it may have appended some of its words, and nothing more is promised of the labels
-/// and the buffer: both are let go then.
+/// Where a call answers that memory is wanting, the words are as they were. Nothing more is promised of the labels then: a jump may
+/// be noted that isn't there.
 #[derive(Drop)]
 pub struct Labels {
     labels: Vec<Open>,
@@ -122,10 +125,28 @@ fn patch_test(words: &mut WordBuffer, test: Option<u32>, there: usize)
 
 /// Appends a jump to a place that is known.
 fn lead_back(buffer: &mut WordBuffer, place: usize) -> Result<(), AllocError>
-    ensures { OnOk result (buffer.new ≡ buffer.old ++ map word_of (far (distance (length buffer.old) place))) }
+    ensures ok { OnOk result (buffer.new ≡ buffer.old ++ map word_of (far (distance (length buffer.old) place))) }
+    ensures err { OnErr result (buffer.new ≡ buffer.old) }
 {
     let here = buffer.place();
     buffer.append_ops(&[&far(here, place)])
+}
+
+/// What a call came to: where memory was wanting, only so many words stay.
+fn settled(
+    buffer: &mut WordBuffer,
+    start: usize,
+    outcome: Result<(), AllocError>,
+) -> Result<(), AllocError>
+    requires { start ≤ length buffer.old }
+    ensures is { result ≡ outcome }
+    ensures ok { OnOk outcome (buffer.new ≡ buffer.old) }
+    ensures err { OnErr outcome (buffer.new ≡ take start buffer.old) }
+{
+    if outcome.is_err() {
+        buffer.truncate(start);
+    }
+    outcome
 }
 
 impl Labels {
@@ -202,23 +223,23 @@ impl Labels {
         requires low { base + values < 0x8000_0000 }
         requires high { height < 0x8000_0000 }
         requires slots { link layout.now < 0x7FFF_FFFF }
-        ensures { (w : Around) → w.layout ≡ layout.now → OnOk result (Opens (draft self.old buffer.old) (draft self.new buffer.new) (end_shape base values) (λ e. test_words w height (length buffer.old) e.other)) }
+        ensures ok { (w : Around) → w.layout ≡ layout.now → OnOk result (Opens (draft self.old buffer.old) (draft self.new buffer.new) (end_shape base values) (λ e. test_words w height (length buffer.old) e.other)) }
+        ensures err { OnErr result (buffer.new ≡ buffer.old) }
     {
-        append_test(buffer, layout, height)?;
-        let here = short(buffer.place())?;
-        lead_back(buffer, here as usize)?;
+        let test = short(place_in(buffer) + 4)?;
         self.labels.push(Open {
             base,
             takes: values,
             start: None,
-            test: Some(here),
+            test: Some(test),
             last_jump: None,
         })?;
-        Ok(())
+        append_test(buffer, layout, height)
     }
 
     /// Opens the block, loop or `if` of a token, where so many operands lie. Its label's base is the height below its
-    /// parameters, and a branch to it takes so many values along. The words of an `if` are appended where it is live.
+    /// parameters, and a branch to it takes so many values along. The words of an `if` are appended where it is live. Where memory
+    /// is wanting the words are as they were.
     pub fn begin(
         &mut self,
         buffer: &mut WordBuffer,
@@ -234,7 +255,8 @@ impl Labels {
         requires low { base + values < 0x8000_0000 }
         requires high { height < 0x8000_0000 }
         requires slots { link layout.now < 0x7FFF_FFFF }
-        ensures { (w : Around) → w.layout ≡ layout.now → OnOk result (Begins w token.now live height base values (draft self.old buffer.old) (draft self.new buffer.new)) }
+        ensures ok { (w : Around) → w.layout ≡ layout.now → OnOk result (Begins w token.now live height base values (draft self.old buffer.old) (draft self.new buffer.new)) }
+        ensures err { OnErr result (buffer.new ≡ buffer.old) }
     {
         match token {
             Token::Block(_) => self.open_block(buffer, base, values),
@@ -300,14 +322,41 @@ impl Labels {
     fn lead_behind(&mut self, buffer: &mut WordBuffer, label: u32) -> Result<(), AllocError>
         requires held { IsHeld (draft self.old buffer.old) }
         requires label { label < length self.old }
-        ensures { OnOk result (Emits (draft self.old buffer.old) (draft self.new buffer.new) (λ ends. far (distance (length buffer.old) (end_at label ends)))) }
+        ensures ok { OnOk result (Emits (draft self.old buffer.old) (draft self.new buffer.new) (λ ends. far (distance (length buffer.old) (end_at label ends)))) }
+        ensures front { IsFront buffer.old buffer.new }
+        ensures err { OnErr result (buffer.new ≡ buffer.old) }
     {
         let here = buffer.place();
-        lead_back(buffer, here)?;
-        self.wait(label, here)
+        self.wait(label, here)?;
+        lead_back(buffer, here)
     }
 
-    /// Appends a jump to a label, 0 being the innermost, where so many operands lie: `br`. Its values are the topmost ones.
+    /// Appends a jump to a label, or for want of memory some of its words.
+    fn append_jump(
+        &mut self,
+        buffer: &mut WordBuffer,
+        layout: &Layout,
+        height: u32,
+        label: u32,
+    ) -> Result<(), AllocError>
+        requires held { IsHeld (draft self.old buffer.old) }
+        requires label { label < length self.old }
+        requires high { height < 0x8000_0000 }
+        requires slots { link layout.now < 0x7FFF_FFFF }
+        ensures ok { (w : Around) → w.layout ≡ layout.now → OnOk result (Emits (draft self.old buffer.old) (draft self.new buffer.new) (λ ends. jump_words w height (length buffer.old) (label_at w (named (shapes self.old) ends) label))) }
+        ensures front { IsFront buffer.old buffer.new }
+    {
+        let goal = self.goal(label);
+        let from = height.saturating_sub(goal.takes);
+        append_moves(buffer, layout, goal.takes, from, goal.base)?;
+        match goal.start {
+            Some(place) => lead_back(buffer, place as usize),
+            None => self.lead_behind(buffer, label),
+        }
+    }
+
+    /// Appends a jump to a label, 0 being the innermost, where so many operands lie: `br`. Its values are the topmost ones. Where
+    /// memory is wanting the words are as they were.
     pub fn jump(
         &mut self,
         buffer: &mut WordBuffer,
@@ -319,18 +368,37 @@ impl Labels {
         requires label { label < length self.old }
         requires high { height < 0x8000_0000 }
         requires slots { link layout.now < 0x7FFF_FFFF }
-        ensures { (w : Around) → w.layout ≡ layout.now → OnOk result (Emits (draft self.old buffer.old) (draft self.new buffer.new) (λ ends. jump_words w height (length buffer.old) (label_at w (named (shapes self.old) ends) label))) }
+        ensures ok { (w : Around) → w.layout ≡ layout.now → OnOk result (Emits (draft self.old buffer.old) (draft self.new buffer.new) (λ ends. jump_words w height (length buffer.old) (label_at w (named (shapes self.old) ends) label))) }
+        ensures err { OnErr result (buffer.new ≡ buffer.old) }
     {
-        let goal = self.goal(label);
-        let from = height.saturating_sub(goal.takes);
-        append_moves(buffer, layout, goal.takes, from, goal.base)?;
-        match goal.start {
-            Some(place) => lead_back(buffer, place as usize),
-            None => self.lead_behind(buffer, label),
-        }
+        let start = buffer.place();
+        let outcome = self.append_jump(buffer, layout, height, label);
+        settled(buffer, start, outcome)
     }
 
-    /// Appends a jump that is made where the topmost operand isn't zero: `br_if`.
+    /// Appends a jump that is made where the topmost operand isn't zero, or for want of memory some of its words.
+    fn append_jump_if(
+        &mut self,
+        buffer: &mut WordBuffer,
+        layout: &Layout,
+        height: u32,
+        label: u32,
+    ) -> Result<(), AllocError>
+        requires held { IsHeld (draft self.old buffer.old) }
+        requires label { label < length self.old }
+        requires high { height < 0x8000_0000 }
+        requires slots { link layout.now < 0x7FFF_FFFF }
+        ensures ok { (w : Around) → w.layout ≡ layout.now → OnOk result (Emits (draft self.old buffer.old) (draft self.new buffer.new) (λ ends. jump_if_words w height (length buffer.old) (label_at w (named (shapes self.old) ends) label))) }
+        ensures front { IsFront buffer.old buffer.new }
+    {
+        let takes = self.goal(label).takes;
+        append_topmost(buffer, layout, height)?;
+        append_unless(buffer, takes)?;
+        self.append_jump(buffer, layout, height.saturating_sub(1), label)
+    }
+
+    /// Appends a jump that is made where the topmost operand isn't zero: `br_if`. Where memory is wanting the words are as they
+    /// were.
     pub fn jump_if(
         &mut self,
         buffer: &mut WordBuffer,
@@ -342,16 +410,16 @@ impl Labels {
         requires label { label < length self.old }
         requires high { height < 0x8000_0000 }
         requires slots { link layout.now < 0x7FFF_FFFF }
-        ensures { (w : Around) → w.layout ≡ layout.now → OnOk result (Emits (draft self.old buffer.old) (draft self.new buffer.new) (λ ends. jump_if_words w height (length buffer.old) (label_at w (named (shapes self.old) ends) label))) }
+        ensures ok { (w : Around) → w.layout ≡ layout.now → OnOk result (Emits (draft self.old buffer.old) (draft self.new buffer.new) (λ ends. jump_if_words w height (length buffer.old) (label_at w (named (shapes self.old) ends) label))) }
+        ensures err { OnErr result (buffer.new ≡ buffer.old) }
     {
-        let takes = self.goal(label).takes;
-        append_topmost(buffer, layout, height)?;
-        append_unless(buffer, takes)?;
-        self.jump(buffer, layout, height.saturating_sub(1), label)
+        let start = buffer.place();
+        let outcome = self.append_jump_if(buffer, layout, height, label);
+        settled(buffer, start, outcome)
     }
 
-    /// Appends jumps to labels, one behind the other.
-    fn jump_all(
+    /// Appends jumps to labels, one behind the other, or for want of memory some of their words.
+    fn append_jumps(
         &mut self,
         buffer: &mut WordBuffer,
         layout: &Layout,
@@ -362,15 +430,40 @@ impl Labels {
         requires labels { AreBelow (length self.old) labels.now }
         requires high { height < 0x8000_0000 }
         requires slots { link layout.now < 0x7FFF_FFFF }
-        ensures { (w : Around) → w.layout ≡ layout.now → OnOk result (Emits (draft self.old buffer.old) (draft self.new buffer.new) (λ ends. jumps w height (length buffer.old) (map (label_at w (named (shapes self.old) ends)) labels.now))) }
+        ensures ok { (w : Around) → w.layout ≡ layout.now → OnOk result (Emits (draft self.old buffer.old) (draft self.new buffer.new) (λ ends. jumps w height (length buffer.old) (map (label_at w (named (shapes self.old) ends)) labels.now))) }
+        ensures front { IsFront buffer.old buffer.new }
     {
         for label in labels {
-            self.jump(buffer, layout, height, *label)?;
+            self.append_jump(buffer, layout, height, *label)?;
         }
         Ok(())
     }
 
-    /// Appends jumps to labels by an index, the topmost operand: `br_table`.
+    /// Appends jumps to labels by an index, or for want of memory some of their words.
+    fn append_jump_table(
+        &mut self,
+        buffer: &mut WordBuffer,
+        layout: &Layout,
+        height: u32,
+        labels: &[u32],
+        last: u32,
+    ) -> Result<(), AllocError>
+        requires held { IsHeld (draft self.old buffer.old) }
+        requires labels { AreBelow (length self.old) labels.now }
+        requires last { last < length self.old }
+        requires high { height < 0x8000_0000 }
+        requires slots { link layout.now < 0x7FFF_FFFF }
+        ensures ok { (w : Around) → w.layout ≡ layout.now → OnOk result (Emits (draft self.old buffer.old) (draft self.new buffer.new) (λ ends. jump_table_words w height (length buffer.old) (map (label_at w (named (shapes self.old) ends)) labels.now) (label_at w (named (shapes self.old) ends) last))) }
+        ensures front { IsFront buffer.old buffer.new }
+    {
+        let takes = self.goal(last).takes;
+        append_front(buffer, layout, height, labels.len(), takes)?;
+        let below = height.saturating_sub(1);
+        self.append_jumps(buffer, layout, below, labels)?;
+        self.append_jump(buffer, layout, below, last)
+    }
+
+    /// Appends jumps to labels by an index, the topmost operand: `br_table`. Where memory is wanting the words are as they were.
     pub fn jump_table(
         &mut self,
         buffer: &mut WordBuffer,
@@ -384,20 +477,20 @@ impl Labels {
         requires last { last < length self.old }
         requires high { height < 0x8000_0000 }
         requires slots { link layout.now < 0x7FFF_FFFF }
-        ensures { (w : Around) → w.layout ≡ layout.now → OnOk result (Emits (draft self.old buffer.old) (draft self.new buffer.new) (λ ends. jump_table_words w height (length buffer.old) (map (label_at w (named (shapes self.old) ends)) labels.now) (label_at w (named (shapes self.old) ends) last))) }
+        ensures ok { (w : Around) → w.layout ≡ layout.now → OnOk result (Emits (draft self.old buffer.old) (draft self.new buffer.new) (λ ends. jump_table_words w height (length buffer.old) (map (label_at w (named (shapes self.old) ends)) labels.now) (label_at w (named (shapes self.old) ends) last))) }
+        ensures err { OnErr result (buffer.new ≡ buffer.old) }
     {
-        let takes = self.goal(last).takes;
-        append_front(buffer, layout, height, labels.len(), takes)?;
-        let below = height.saturating_sub(1);
-        self.jump_all(buffer, layout, below, labels)?;
-        self.jump(buffer, layout, below, last)
+        let start = buffer.place();
+        let outcome = self.append_jump_table(buffer, layout, height, labels, last);
+        settled(buffer, start, outcome)
     }
 
     /// Appends the jump past the second branch of the innermost `if`, where the end of its first one is live.
     fn pass_over(&mut self, buffer: &mut WordBuffer, live: bool) -> Result<(), AllocError>
         requires held { IsHeld (draft self.old buffer.old) }
         requires some { 0 < length self.old }
-        ensures { (place : Place) → IsLive live place → OnOk result (Emits (draft self.old buffer.old) (draft self.new buffer.new) (λ ends. over place (length buffer.old) (end_at 0 ends))) }
+        ensures ok { (place : Place) → IsLive live place → OnOk result (Emits (draft self.old buffer.old) (draft self.new buffer.new) (λ ends. over place (length buffer.old) (end_at 0 ends))) }
+        ensures err { OnErr result (buffer.new ≡ buffer.old) }
     {
         if live {
             return self.lead_behind(buffer, 0);
@@ -406,10 +499,12 @@ impl Labels {
     }
 
     /// Goes over to the `else` of the innermost `if`. Where the end of its first branch is live, a jump to the block's end is appended.
+    /// Where memory is wanting the words are as they were.
     pub fn otherwise(&mut self, buffer: &mut WordBuffer, live: bool) -> Result<(), AllocError>
         requires held { IsHeld (draft self.old buffer.old) }
         requires some { 0 < length self.old }
-        ensures { (place : Place) → IsLive live place → OnOk result (Turns (draft self.old buffer.old) (draft self.new buffer.new) (λ end. over place (length buffer.old) end)) }
+        ensures ok { (place : Place) → IsLive live place → OnOk result (Turns (draft self.old buffer.old) (draft self.new buffer.new) (λ end. over place (length buffer.old) end)) }
+        ensures err { OnErr result (buffer.new ≡ buffer.old) }
     {
         self.pass_over(buffer, live)?;
         let there = buffer.place();

@@ -1,10 +1,10 @@
 -- The end of a function, and the end of what was called from outside.
-use Rattle.std.proofs.Common.{◌≡◌, ℕ, zero, suc, ◌+◌, ◌%◌, ◌^◌, ◌==◌, ◌<◌, ◌≤◌, ◌*◌, false, List, [], ◌∷◌, ◌++◌, length, Option, refl, sym, ap₂, subst, ◌∙◌, arith, length-append, ap}
+use Rattle.std.proofs.Common.{◌≡◌, ℕ, zero, suc, ◌+◌, ◌==◌, ◌<◌, ◌≤◌, ◌*◌, false, List, [], ◌∷◌, ◌++◌, length, Option, refl, sym, subst, ◌∙◌, arith, length-append, ap}
 use Rattle.std.specs.Prelude.{◌≢◌}
 use Rattle.std.proofs.lemmas.Bool.{eq-eqb, false≢true}
 use Rattle.rv_isa.specs.declared.operations.Op.{Op}
 use Rattle.rv_isa.specs.declared.operations.Op.TheVariants.{Jalr}
-use Rattle.rv_isa.specs.Steps.{Bytes, State}
+use Rattle.rv_isa.specs.Steps.{State}
 use Rattle.rv_isa.specs.Runs.{place, HasAt, Leaves as Gives, Reaches}
 use Rattle.rv_isa.proofs.RunLaws.{Reaches-then}
 use Rattle.wasm_defs.specs.Configurations.{max_slots}
@@ -12,7 +12,7 @@ use Rattle.frame_layout.specs.declared.layout.Layout.{Layout}
 use Rattle.frame_layout.specs.Slots.{link, operand}
 use Rattle.frame_layout.specs.Macros.{x0, ra, s0, s5, load_slot, t0, store_slot}
 use Rattle.frame_layout.specs.Templates.{result_words, epilogue}
-use Rattle.frame_layout.specs.Laws.{slot_at, with_slot, IsFrame, Does, Leaves, EpilogueLaw, ExitLaw, with_results}
+use Rattle.frame_layout.specs.Laws.{slot_at, with_slot, IsFrame, Does, EpilogueLaw, ExitLaw, with_results}
 use Rattle.frame_layout.proofs.Standing.{has_first, has_rest}
 use Rattle.frame_layout.proofs.SlotLaws.{load_slot_leaves}
 use Rattle.frame_layout.proofs.Steps.{frame_kept, does_nothing, frame_written, does_count, does_then, does_with}

@@ -5,7 +5,7 @@ ghost use Rattle.std.specs.Prelude.{◌≡◌, ◌/◌, ◌%◌, ◌*◌, ◌^�
 ghost use Rattle.rv_isa.specs.Words.{word_of};
 ghost use Rattle.rv_isa.specs.Runs.{hi, lo, load_behind, store_behind};
 ghost use Rattle.wasm_defs.specs.Values.{trap_number};
-ghost use Rattle.frame_layout.specs.Macros.{load_slot, store_slot, append_bits, const_32, const_64, trap};
+ghost use Rattle.frame_layout.specs.Macros.{load_slot, store_slot, append_bits, const_32, const_64, trap, zero_extend};
 
 use crate::macros::{hi, lo, top_bits};
 use rv_isa::{
@@ -105,5 +105,17 @@ pub fn trap(kind: TrapKind) -> [u32; 3]
         encode_imm(ImmOp::Addi, Register::A0, Register::ZERO, number),
         encode_imm(ImmOp::Addi, Register::A7, Register::ZERO, Imm12::new(1)),
         encode_ecall(),
+    ]
+}
+
+/// The bits of a register above the low 32 become zeros.
+#[inline(always)]
+pub fn zero_extend(rd: Register) -> [u32; 2]
+    ensures { result ≡ map word_of (zero_extend rd) }
+{
+    let half = Shamt6::new(32);
+    [
+        encode_shift(ShiftOp::Slli, rd, rd, half),
+        encode_shift(ShiftOp::Srli, rd, rd, half),
     ]
 }

@@ -1,15 +1,19 @@
 -- The image of a module keeps the bounds of images.
-use Rattle.std.proofs.Common.{◌≡◌, ℕ, zero, suc, ◌^◌, ◌<◌, ◌≤◌, true, List, [], ◌∷◌, map, length, replicate, None, refl, sym, ap, ◌∙◌, subst, arith}
-use Rattle.std.specs.Prelude.{All}
+use Rattle.std.proofs.Common.{◌≡◌, ℕ, zero, suc, ◌+◌, ◌*◌, ◌^◌, ◌<◌, ◌≤◌, Bool, true, false, List, [], ◌∷◌, ◌++◌, map, length, replicate, None, refl, sym, ap, ◌∙◌, subst, arith}
+use Rattle.std.specs.Prelude.{All, nat_le}
+use Rattle.std.proofs.lemmas.Bool.{and_parts, leb-true}
 use Rattle.std.proofs.lemmas.List.{length-map, length-replicate}
 use Rattle.std.proofs.lemmas.List.Elements.{All-nil, All-cons}
+use Rattle.std.proofs.lemmas.List.Sums.{sum_by-append}
 use Rattle.rv_isa.specs.Words.{word_of}
 use Rattle.wasm_defs.specs.declared.item.Item.{Item}
+use Rattle.wasm_defs.specs.declared.item.Item.TheVariants as item
 use Rattle.wasm_defs.specs.Context.{context_of, functions_of}
 use Rattle.wasm_defs.specs.Entries.{nothing}
 use Rattle.wasm_defs.specs.Faults.{Module}
-use Rattle.wasm_defs.specs.Instances.{exports_of, values_of, rows_of, is_linkable, all_over, start_of}
-use Rattle.wasm_defs.specs.Limits.{max_entries}
+use Rattle.wasm_defs.specs.Instances.{Written, exports_of, values_of, rows_of, pages_of, elements_of, data_of, is_linkable, all_over, all_fit, start_of}
+use Rattle.wasm_defs.specs.Limits.{max_entries, max_module, max_pages}
+use Rattle.wasm_defs.specs.Memory.{page}
 use Rattle.wasm_defs.specs.Values.{word_of as value_word, words_of}
 use Rattle.wasm_laws.specs.Kept.{TypesAreSmall, AreThere}
 use Rattle.wasm_laws.specs.Sections.{AreBytes}
@@ -18,11 +22,12 @@ use Rattle.wasm_laws.proofs.Bytes.{each_byte}
 use Rattle.wasm_laws.proofs.Counted.{entries_in, entries_are_few}
 use Rattle.wasm_laws.proofs.Described.{module_is_described}
 use Rattle.wasm_laws.proofs.Exports.{types_are_small, exports_are_there}
-use Rattle.wasm_laws.proofs.Plain.{plain_has_no_more, plain_is_linkable}
+use Rattle.wasm_laws.proofs.Plain.{plain_has_no_more}
 use Rattle.wasm_defs.specs.Rules.{AllKeep}
 use Rattle.image_format.specs.Contents.{IsImage}
-use Rattle.image_format.specs.Bounds.{IsText, IsOffset, AreGlobals, IsRow, IsTable, AreSegments, AreImports, IsImport, AreExports}
+use Rattle.image_format.specs.Bounds.{IsText, IsOffset, AreGlobals, IsRow, IsTable, Each, SegmentFits, AreSegments, bytes_of, AreImports, IsImport, AreExports}
 use Rattle.image_format.specs.declared.image.Row.{Row}
+use Rattle.image_format.specs.declared.image.Segment.{Segment}
 use Rattle.image_linker.specs.ImageOf.{text_of, offset_of, row_of, table_of, segment_of, placed_segments, imports_of, export_of, start_offset, image_of}
 use Rattle.image_linker.specs.Judging.{IsModuleOf}
 use Rattle.image_linker.specs.Linking.{empty_row}
@@ -34,6 +39,7 @@ use Rattle.image_linker.proofs.Items.{no_imports, values_are_words}
 use Rattle.image_linker.proofs.Modules.{function_offset}
 use Rattle.image_linker.proofs.Placed.{text_length, text_in_range}
 use Rattle.image_linker.proofs.Regions.{AreWords}
+use Rattle.image_linker.proofs.SegmentFacts.{bytes_in}
 use Rattle.image_linker.proofs.WordRanges.{words_are_short}
 
 each_word : (ws : List ℕ) → AreWords ws → All (λ value. value < 2 ^ 64) ws
@@ -52,15 +58,28 @@ empty_rows n most le = (omega (arith, length-replicate n empty_row, le), each n)
     each zero = All-nil IsRow
     each (suc n) = All-cons IsRow empty_row (replicate n empty_row) (omega arith, omega arith) (each n)
 
+segments_are_few : (items : List Item) → length (data_of items) ≤ entries_in 11 items
+segments_are_few [] = omega arith
+segments_are_few (item.Segment memory place run ∷ items) = omega (arith, segments_are_few items)
+segments_are_few (x ∷ items) = segments_are_few items
+
+-- segments that fit into the memory, behind those in front of them
+segments_fit : (pages : ℕ) → pages ≤ max_pages → (ws : List (Written ℕ)) (front : List Segment) → all_fit (page * pages) ws ≡ true → bytes_of front + bytes_in ws ≤ max_module → Each (SegmentFits pages) front (map segment_of ws)
+segments_fit pages small [] front fit few = tt
+segments_fit pages small (w ∷ ws) front fit few =
+    let parts = and_parts (nat_le (w.0 + length w.1) (page * pages)) (all_fit (page * pages) ws) fit in
+    let inside = leb-true (w.0 + length w.1) (page * pages) parts.0 in
+    let together : bytes_of (front ++ segment_of w ∷ []) ≡ bytes_of front + (0 + length w.1) = sum_by-append (λ (s : Segment). length s.bytes) front (segment_of w ∷ []) in (
+      record { place = omega (arith, inside, small); inside = omega (arith, inside); together = omega (arith, few) },
+      segments_fit pages small ws (front ++ segment_of w ∷ []) parts.1 (omega (arith, together, few)),
+    )
+
 module _ (bytes : List ℕ) (m : Module) (fits : AreBytes bytes) (is : IsModuleOf bytes m) where
   good : IsCoveredModule m
   good = module_is_covered bytes m fits is.is
 
   none : HasNoMore m.items
   none = plain_has_no_more m.items good.items
-
-  linkable : is_linkable m ≡ true
-  linkable = plain_is_linkable m good.items
 
   text_words : length (map word_of (text_of m)) ≤ 2 ^ 26
   text_words = let keeps = is.fits in omega (arith, text_length m good, length-map (text_of m) word_of)
@@ -75,20 +94,22 @@ module _ (bytes : List ℕ) (m : Module) (fits : AreBytes bytes) (is : IsModuleO
   globals : AreGlobals (words_of (values_of m.items))
   globals = (omega (arith, length-map (values_of m.items) value_word, good.spaces.globals), each_word (words_of (values_of m.items)) (values_are_words m.items good.constants))
 
-  table_is : table_of m (is_linkable m) ≡ replicate (rows_of m.items) empty_row
-  table_is =
-      ap (table_of m) linkable
-      ∙ ap (λ l. map (row_of m) (all_over (replicate (rows_of m.items) None) l)) none.elements
-      ∙ rows_made m (rows_of m.items)
+  table_is : (b : Bool) → table_of m b ≡ replicate (rows_of m.items) empty_row
+  table_is true = ap (λ l. map (row_of m) (all_over (replicate (rows_of m.items) None) l)) none.elements ∙ rows_made m (rows_of m.items)
+  table_is false = refl
 
   table : IsTable (table_of m (is_linkable m))
-  table = subst IsTable (sym table_is) (empty_rows (rows_of m.items) 100000 (omega (arith, good.spaces.rows)))
+  table = subst IsTable (sym (table_is (is_linkable m))) (empty_rows (rows_of m.items) 100000 (omega (arith, good.spaces.rows)))
 
-  segments_are : placed_segments m (is_linkable m) ≡ []
-  segments_are = ap (placed_segments m) linkable ∙ ap (map segment_of) none.segments
-
-  pages : (n : ℕ) → AreSegments n (placed_segments m (is_linkable m))
-  pages n = subst (AreSegments n) (sym segments_are) (omega arith, tt)
+  segments : (b : Bool) → is_linkable m ≡ b → AreSegments (pages_of m.items) (placed_segments m b)
+  segments true can_link =
+      let fit = (and_parts (all_fit (rows_of m.items) (elements_of m.items)) (all_fit (page * pages_of m.items) (data_of m.items)) can_link).1 in
+      let listed : entries_in 11 m.items ≤ max_entries = subst (λ (items : List Item). entries_in 11 items ≤ max_entries) (sym is.is.items) (entries_are_few 11 (λ ten. absurd cc) bytes) in
+      let small : pages_of m.items ≤ max_pages = omega (arith, good.spaces.pages, good.spaces.cap) in (
+        omega (arith, length-map (data_of m.items) segment_of, segments_are_few m.items, listed),
+        segments_fit (pages_of m.items) small (data_of m.items) [] fit (omega (arith, good.segments.few)),
+      )
+  segments false can_not = (omega arith, tt)
 
   imports : AreImports (imports_of (context_of m.items) m.items)
   imports = subst AreImports (sym (no_imports (context_of m.items) m.items good.items)) (omega arith, All-nil IsImport)
@@ -125,7 +146,7 @@ module _ (bytes : List ℕ) (m : Module) (fits : AreBytes bytes) (is : IsModuleO
     table = table;
     pages = good.spaces.pages;
     cap = omega (arith, good.spaces.cap);
-    segments = pages (image_of m).pages;
+    segments = segments (is_linkable m) refl;
     imports = imports;
     exports = exports;
     start = start;

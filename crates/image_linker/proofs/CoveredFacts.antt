@@ -4,7 +4,7 @@ use Rattle.std.proofs.lemmas.Bool.{and_parts, false≢true}
 use Rattle.wasm_defs.specs.declared.item.Item.{Item}
 use Rattle.wasm_defs.specs.declared.types.ValType.TheVariants.{I32, I64}
 use Rattle.wasm_defs.specs.declared.token.Plain.{Plain}
-use Rattle.wasm_defs.specs.declared.token.Plain.TheVariants.{Unreachable, Br, BrIf, BrTable, Return, Nop, Discard, Select, LocalGet, LocalSet, LocalTee, Const, Operate}
+use Rattle.wasm_defs.specs.declared.token.Plain.TheVariants.{Unreachable, Br, BrIf, BrTable, Return, Call, Nop, Discard, Select, LocalGet, LocalSet, LocalTee, GlobalGet, GlobalSet, Load, Store, MemorySize, MemoryGrow, Const, Operate}
 use Rattle.wasm_defs.specs.Context.{type_of_function, context_of, import_count, declared_count, functions_of}
 use Rattle.wasm_defs.specs.Entries.{Seen}
 use Rattle.wasm_defs.specs.Outside.{Body, Ending, Whole, Refused, Owed, module_read}
@@ -39,6 +39,7 @@ use Rattle.wasm_defs.specs.declared.token.Token.{Token}
 use Rattle.wasm_defs.specs.declared.token.Token.TheVariants as token
 use Rattle.sim_frames.proofs.Lows.{TakesOne, IsFew, FewIn, body_low, tokens_spelled}
 use Rattle.image_linker.proofs.CoveredModules.{IsCoveredBody, AreCoveredBodies, IsCoveredModule}
+use Rattle.image_linker.proofs.SegmentFacts.{segments_are_held}
 
 -- ---- bodies
 
@@ -49,11 +50,18 @@ covered_step (Br l) e range = tt
 covered_step (BrIf l) e range = tt
 covered_step (BrTable ls l) e range = tt
 covered_step Return e range = tt
+covered_step (Call f) e range = tt
 covered_step Discard e range = tt
 covered_step Select e range = tt
 covered_step (LocalGet x) e range = tt
 covered_step (LocalSet x) e range = tt
 covered_step (LocalTee x) e range = tt
+covered_step (GlobalGet x) e range = tt
+covered_step (GlobalSet x) e range = tt
+covered_step (Load o m) e range = range.1
+covered_step (Store o m) e range = range.1
+covered_step MemorySize e range = tt
+covered_step MemoryGrow e range = tt
 covered_step (Const I32 n) e range = constant_fits n range
 covered_step (Const I64 n) e range = long_constant_fits n range
 covered_step (Operate op) e range = tt
@@ -183,6 +191,7 @@ module _ (bytes : List ℕ) (m : Module) (fits : AreBytes bytes) (is : IsModule 
     items = plain;
     spaces = subst SpacesAreSmall (sym is.items) (spaces_are_small bytes);
     constants = subst ConstantsFit (sym is.items) (constants_fit bytes fits);
+    segments = segments_are_held bytes m fits is;
     bodies =
         covered_bodies m.items (subst (λ (items : List Item). TypesAreSmall (context_of items).types) (sym is.items) (types_are_small bytes)) 0 m.bodies m.trees
         (subst HaveBytes (sym is.bodies) (bodies_have_bytes bytes fits)) (subst BodiesAreSmall (sym is.bodies) (bodies_are_small bytes)) (bodies_are_valid bytes m is);

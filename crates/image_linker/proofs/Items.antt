@@ -1,21 +1,22 @@
 -- What a plain module's items come to in its image: no imports and none of their stubs, and words of its globals' constants.
-use Rattle.std.proofs.Common.{◌≡◌, ℕ, suc, ◌-◌, ◌^◌, ◌<◌, List, [], ◌∷◌, map, refl, ap, arith, ℤ, pos}
-use Rattle.std.specs.Prelude.{negsuc}
+use Rattle.std.proofs.Common.{◌≡◌, ℕ, zero, suc, ◌-◌, ◌^◌, ◌<◌, List, [], ◌∷◌, map, Some, refl, ap, subst, arith, ℤ, pos}
+use Rattle.std.specs.Prelude.{negsuc, slice_get}
 use Rattle.std.specs.Int.{w64, cast_unsigned}
 use Rattle.std.proofs.lemmas.Bool.{false≢true, lt-ltb, le-ltb}
 use Rattle.wasm_defs.specs.declared.context.GlobalType.{GlobalType}
 use Rattle.wasm_defs.specs.declared.item.Item.{Item}
-use Rattle.wasm_defs.specs.declared.item.Item.TheVariants.{Signature, Function, Table, Memory, Global, Exported, Code}
+use Rattle.wasm_defs.specs.declared.item.Item.TheVariants.{Signature, Function, Table, Memory, Global, Exported, Code, Segment}
 use Rattle.wasm_defs.specs.declared.types.ValType.{ValType}
 use Rattle.wasm_defs.specs.declared.types.ValType.TheVariants.{I32, I64}
 use Rattle.wasm_defs.specs.Context.{globals_of}
 use Rattle.wasm_defs.specs.Instances.{values_of}
 use Rattle.wasm_defs.specs.Typing.{Context}
-use Rattle.wasm_defs.specs.Values.{modulus, unsigned, word, words_of}
+use Rattle.wasm_defs.specs.Values.{Value, InRange, modulus, unsigned, word, words_of, types_of_values}
 use Rattle.wasm_laws.specs.Kept.{FitsType, ConstantsFit}
 use Rattle.wasm_laws.specs.Plain.{ArePlain}
 use Rattle.wasm_laws.proofs.Ranges.{constant_fits, long_constant_fits}
 use Rattle.index_spaces.specs.Entries.{initials_of, initial_values}
+use Rattle.sim_frames.specs.Functions.{global_types}
 use Rattle.sim_frames.proofs.Words.{word_small}
 use Rattle.image_linker.specs.ImageOf.{stubs_from, imports_of}
 use Rattle.image_linker.specs.Linking.{NumbersFit}
@@ -30,6 +31,7 @@ no_stubs c number (Memory limits ∷ items) h = no_stubs c number items h.1
 no_stubs c number (Global ty mutable init ∷ items) h = no_stubs c number items h.1
 no_stubs c number (Exported name kind index ∷ items) h = no_stubs c number items h.1
 no_stubs c number (Code count end ∷ items) h = no_stubs c number items h.1
+no_stubs c number (Segment memory place bytes ∷ items) h = no_stubs c number items h.1
 no_stubs c number (x ∷ items) h = absurd (false≢true h.0)
 
 pub no_imports : (c : Context) (items : List Item) → ArePlain items → imports_of c items ≡ []
@@ -41,6 +43,7 @@ no_imports c (Memory limits ∷ items) h = no_imports c items h.1
 no_imports c (Global ty mutable init ∷ items) h = no_imports c items h.1
 no_imports c (Exported name kind index ∷ items) h = no_imports c items h.1
 no_imports c (Code count end ∷ items) h = no_imports c items h.1
+no_imports c (Segment memory place bytes ∷ items) h = no_imports c items h.1
 no_imports c (x ∷ items) h = absurd (false≢true h.0)
 
 -- ---- the constants of globals
@@ -58,6 +61,20 @@ pub values_are_words : (items : List Item) → ConstantsFit items → AreWords (
 values_are_words [] h = tt
 values_are_words (Global ty mutable init ∷ items) h = (word_small ty.1 (unsigned ty.1 init.value.1) (fits_is_small ty.1 init.value.1 h.0), values_are_words items h.1)
 values_are_words (x ∷ items) h = values_are_words items h
+
+-- a global begins with a value of its type
+pub globals_typed : (items : List Item) → global_types (globals_of items) ≡ types_of_values (values_of items)
+globals_typed [] = refl
+globals_typed (Global ty mutable init ∷ items) = ap (λ (ts : List ValType). ty.1 ∷ ts) (globals_typed items)
+globals_typed (x ∷ items) = globals_typed items
+
+pub values_in_range : (items : List Item) → ConstantsFit items → (x : ℕ) (v : Value) → slice_get (values_of items) x ≡ Some v → InRange v
+values_in_range [] h x v e = absurd cc
+values_in_range (Global ty mutable init ∷ items) h zero v e =
+    let same : record { ty = ty.1; number = unsigned ty.1 init.value.1 } ≡ v = cc in
+    subst InRange same (fits_is_small ty.1 init.value.1 h.0)
+values_in_range (Global ty mutable init ∷ items) h (suc x) v e = values_in_range items h.1 x v e
+values_in_range (y ∷ items) h x v e = values_in_range items h x v e
 
 -- the word of a number of a type has the bits of the number, as one of 64
 word_is : (t : ValType) (n : ℤ) → FitsType t n → cast_unsigned w64 n ≡ word t (unsigned t n)

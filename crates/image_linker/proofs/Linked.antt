@@ -6,18 +6,31 @@ use Rattle.rv_isa.specs.declared.compiled.Code.{Code}
 use Rattle.wasm_defs.specs.declared.item.Item.{Item}
 use Rattle.wasm_defs.specs.Outside.{Body}
 use Rattle.wasm_defs.specs.Trees.{Seq}
-use Rattle.image_linker.specs.ImageOf.{size_of, places_from, code_from, code_of_function, distances}
-use Rattle.image_linker.specs.Codes.{AreCodesOf}
-use Rattle.image_linker.specs.Linking.{words_of, starts_from}
+use Rattle.rv_isa.specs.declared.compiled.Relocation.{Relocation}
+use Rattle.wasm_defs.specs.Faults.{context_at}
+use Rattle.frame_layout.specs.Functions.{no_distance, with_distances, calls_of}
+use Rattle.sim_frames.proofs.Filling.{calls_are_filled}
+use Rattle.image_linker.specs.ImageOf.{around, size_of, places_from, code_from, code_of_function, distances}
+use Rattle.image_linker.specs.Codes.{IsCodeOf, AreCodesOf}
+use Rattle.image_linker.specs.Linking.{starts_from, words_at, words_from}
 
--- the functions' words
+-- a function's words
+code_linked : (items : List Item) (places : List ℕ) (here k : ℕ) (b : Body) (tree : Seq) (code : Code)
+    → IsCodeOf items k b tree code → words_at places here code ≡ map word_of (code_of_function items places here k b tree)
+code_linked items places here k b tree code h =
+    ap (λ (rs : List Relocation). with_distances (distances places here) rs code.words) h.relocations
+    ∙ ap (with_distances (distances places here) (calls_of (around items k b tree no_distance) (context_at items k b) tree)) h.words
+    ∙ calls_are_filled (around items k b tree (distances places here)) (context_at items k b) tree
+
+-- and those of all functions
 pub words_linked : (items : List Item) (places : List ℕ) (here k : ℕ) (bodies : List Body) (trees : List Seq) (codes : List Code)
-    → AreCodesOf items k bodies trees codes → map word_of (code_from items places here k bodies trees) ≡ words_of codes
+    → AreCodesOf items k bodies trees codes → map word_of (code_from items places here k bodies trees) ≡ words_from places here codes
 words_linked items places here k [] [] [] h = refl
 words_linked items places here k (b ∷ bodies) (tree ∷ trees) (code ∷ codes) h =
     map-append word_of (code_of_function items places here k b tree) (code_from items places (here + size_of items k b tree) (suc k) bodies trees)
-    ∙ ap (λ (l : List ℕ). l ++ map word_of (code_from items places (here + size_of items k b tree) (suc k) bodies trees)) (sym (h.0.words (distances places here)))
-    ∙ ap (λ (l : List ℕ). code.words ++ l) (words_linked items places (here + size_of items k b tree) (suc k) bodies trees codes h.1)
+    ∙ ap (λ (l : List ℕ). l ++ map word_of (code_from items places (here + size_of items k b tree) (suc k) bodies trees)) (sym (code_linked items places here k b tree code h.0))
+    ∙ ap (λ (n : ℕ). words_at places here code ++ map word_of (code_from items places (here + n) (suc k) bodies trees)) (sym h.0.size)
+    ∙ ap (λ (l : List ℕ). words_at places here code ++ l) (words_linked items places (here + length code.words) (suc k) bodies trees codes h.1)
 words_linked items places here k [] [] (code ∷ codes) h = absurd h
 words_linked items places here k [] (tree ∷ trees) codes h = absurd h
 words_linked items places here k (b ∷ bodies) [] codes h = absurd h

@@ -1,7 +1,7 @@
 -- A module of what is compiled so far behaves as its image does.
-use Rattle.std.proofs.Common.{◌≡◌, inl, ℕ, suc, ◌∷◌, ◌+◌, ◌*◌, ◌^◌, ◌<◌, ◌≤◌, Bool, true, List, [], ◌++◌, map, length, replicate, Option, Some, None, refl, sym, ap, ◌∙◌, subst, arith}
+use Rattle.std.proofs.Common.{◌≡◌, inl, ℕ, suc, ◌∷◌, ◌+◌, ◌*◌, ◌^◌, ◌<◌, ◌≤◌, Bool, true, false, List, [], ◌++◌, map, length, replicate, Option, Some, None, refl, sym, ap, ◌∙◌, subst, arith}
 use Rattle.std.specs.Prelude.{slice_get, slice_index, option_map}
-use Rattle.std.proofs.lemmas.Bool.{cond-true, eq-eqb}
+use Rattle.std.proofs.lemmas.Bool.{cond-true, eq-eqb, and_parts}
 use Rattle.std.proofs.lemmas.List.{length-map, length-replicate}
 use Rattle.std.proofs.lemmas.Option.{slice_get-map, slice_get_within}
 use Rattle.rv_isa.specs.Words.{word_of, decoded}
@@ -22,23 +22,25 @@ use Rattle.wasm_defs.specs.Configurations.{Func, Function, Imported, Declared, I
 use Rattle.wasm_defs.specs.Reductions.{run}
 use Rattle.wasm_defs.specs.ModuleRun.{first_state, module_run}
 use Rattle.wasm_defs.specs.ModuleRun as module_run
-use Rattle.wasm_defs.specs.Instances.{Written, rows_of, pages_of, all_over, is_linkable, instance_of, store_of, start_of, values_of, function_of, declared_from, declared_functions, functions_of}
+use Rattle.wasm_defs.specs.Instances.{Written, rows_of, pages_of, cap_of, all_over, all_fit, elements_of, data_of, is_linkable, instance_of, store_of, start_of, values_of, function_of, declared_from, declared_functions, functions_of}
 use Rattle.wasm_laws.specs.Plain.{HasNoMore}
-use Rattle.wasm_laws.proofs.Plain.{plain_has_no_more, plain_is_linkable}
+use Rattle.wasm_laws.proofs.Plain.{plain_has_no_more}
 use Rattle.frame_layout.specs.Templates.{exit_stub}
 use Rattle.image_format.specs.Bounds.{IsOffset}
+use Rattle.image_format.specs.Environment.{segments_of as image_segments}
 use Rattle.image_format.specs.ImageRun.{Running, begin, first_running, steps, image_run}
 use Rattle.image_format.specs.ImageRun as image_run
 use Rattle.simulation.specs.SameRuns.{SameRuns}
 use Rattle.sim_frames.specs.Functions.{Compiled, Known}
-use Rattle.simulation.specs.Laws.{IsInvoked, ImportsStand}
+use Rattle.simulation.specs.Laws.{IsInvoked, ImportsStand, EnvironmentStands}
 use Rattle.simulation.proofs.Alike.{functions_run_alike}
 use Rattle.image_linker.specs.ImageOf.{around, distances, code_of_function, stub_places, places_from, front_size, places_of_functions, offset_of, row_of, table_of, segment_of, placed_segments, start_offset, text_of, image_of}
 use Rattle.image_linker.specs.Laws.{ImagesBehaveAlike}
 use Rattle.image_linker.specs.Same.{Same}
 use Rattle.image_linker.proofs.CoveredModules.{AreCoveredBodies, IsCoveredModule}
 use Rattle.image_linker.proofs.CoveredFacts.{module_is_covered}
-use Rattle.image_linker.proofs.Items.{values_are_words}
+use Rattle.image_linker.proofs.Items.{globals_typed, values_in_range, values_are_words}
+use Rattle.image_linker.proofs.LoadedMemory.{HaveBytes}
 use Rattle.image_linker.proofs.Placed.{Placed, code_is_short, text_length, exit_stands, function_stands}
 use Rattle.image_linker.proofs.Called.{IsSmall, IsFirst, is_called}
 
@@ -52,29 +54,37 @@ module _ (m : Module) (good : IsCoveredModule m) (short : length (text_of m) ≤
   none : HasNoMore m.items
   none = plain_has_no_more m.items good.items
 
-  linkable : is_linkable m ≡ true
-  linkable = plain_is_linkable m good.items
-
-  table_length : length (table_of m (is_linkable m)) ≡ rows_of m.items
-  table_length =
-      ap (λ (b : Bool). length (table_of m b)) linkable
-      ∙ ap (λ (es : List (Written (Option ℕ))). length (map (row_of m) (all_over (replicate (rows_of m.items) None) es))) none.elements
+  table_length : (b : Bool) → length (table_of m b) ≡ rows_of m.items
+  table_length true =
+      ap (λ (es : List (Written (Option ℕ))). length (map (row_of m) (all_over (replicate (rows_of m.items) None) es))) none.elements
       ∙ length-map (replicate (rows_of m.items) None) (row_of m) ∙ length-replicate (rows_of m.items) None
+  table_length false = length-replicate (rows_of m.items) (row_of m None)
 
-  small : IsSmall (image_of m)
-  small = record {
+  -- the image has the module's segments
+  segments_again : (ws : List (Written ℕ)) → image_segments (map segment_of ws) ≡ ws
+  segments_again [] = refl
+  segments_again (w ∷ ws) = ap (λ (vs : List (Written ℕ)). (w.0, w.1) ∷ vs) (segments_again ws)
+
+  placed_are : is_linkable m ≡ true → image_segments (placed_segments m (is_linkable m)) ≡ data_of m.items
+  placed_are can_link = ap (λ (b : Bool). image_segments (placed_segments m b)) can_link ∙ segments_again (data_of m.items)
+
+  small : is_linkable m ≡ true → IsSmall (image_of m)
+  small can_link = record {
     globals = omega (arith, length-map (values_of m.items) value_word, good.spaces.globals);
-    table = omega (arith, table_length, good.spaces.rows);
+    table = omega (arith, table_length (is_linkable m), good.spaces.rows);
     pages = good.spaces.pages;
     cap = good.spaces.cap;
-    segments = ap (placed_segments m) linkable ∙ ap (map segment_of) none.segments;
+    fit = subst (λ (ws : List (Written ℕ)). all_fit (page * pages_of m.items) ws ≡ true) (sym (placed_are can_link))
+        (and_parts (all_fit (rows_of m.items) (elements_of m.items)) (all_fit (page * pages_of m.items) (data_of m.items)) can_link).1;
+    bytes = subst HaveBytes (sym (placed_are can_link)) good.segments.bytes;
     words = values_are_words m.items good.constants;
   }
 
-  first : (replies : List Reply) → IsFirst (image_of m) replies (store_of m replies)
-  first replies = record {
-    memory = ap (λ (ss : List (Written ℕ)). all_over (replicate (page * pages_of m.items) 0) ss) none.segments;
+  first : is_linkable m ≡ true → (replies : List Reply) → IsFirst (image_of m) replies (store_of m replies)
+  first can_link replies = record {
+    memory = ap (λ (ws : List (Written ℕ)). all_over (replicate (page * pages_of m.items) 0) ws) (sym (placed_are can_link));
     globals = refl;
+    in_range = values_in_range m.items good.constants;
     calls = refl;
     replies_are = refl;
   }
@@ -160,6 +170,7 @@ module _ (m : Module) (good : IsCoveredModule m) (short : length (text_of m) ≤
         typed = x.good.typed;
         no_labels = refl;
         types_are = refl;
+        globals_are = refl;
         locals_are = refl;
         results_are = refl;
         greatest_is = refl;
@@ -196,7 +207,10 @@ module _ (m : Module) (good : IsCoveredModule m) (short : length (text_of m) ≤
   no_imports : ImportsStand (instance_of m) (image_of m)
   no_imports index number ty is = let x = (known index (Imported number ty) is).is in absurd cc
 
-  module _ (f : ℕ) (within : f < length m.bodies) where
+  environment : EnvironmentStands (instance_of m) (image_of m)
+  environment = record { imports = no_imports; cap = refl; few = omega (arith, good.spaces.cap) }
+
+  module _ (can_link : is_linkable m ≡ true) (f : ℕ) (within : f < length m.bodies) where
     pub function_runs_alike : (arguments : List Value) (replies : List Reply) → are_of (type_of_function (context_of m.items) f).params arguments ≡ true
         → SameRuns (module_run m f arguments replies) (image_run (image_of m) (offset_of m f) (type_of_function (context_of m.items) f).results arguments replies)
     function_runs_alike arguments replies are =
@@ -205,16 +219,16 @@ module _ (m : Module) (good : IsCoveredModule m) (short : length (text_of m) ≤
         let invoked : Invocation = record { function = f; arguments = arguments } in
         let store = store_of m replies in
         let typed : are_of g.ty.params arguments ≡ true = ap (λ (ty : FuncType). are_of ty.params arguments) (type_is f within) ∙ are in
-        let called = is_called (image_of m) small g x.begin store arguments replies typed x.good.few_params (first replies) in
+        let called = is_called (image_of m) (small can_link) g x.begin store arguments replies typed x.good.few_params (first can_link replies) in
         let r = begin (image_of m) replies (record { offset = 4 * x.begin; arguments = arguments }, g.ty.results) [] in
-        let same = functions_run_alike (instance_of m) (image_of m) places (Declared g) f store arguments r (λ i h is. inl (known i h is)) no_imports (declared f within) (subst (λ (n : ℕ). IsInvoked g.ty n store arguments r) (place_at f within) called) (exit_stands m good) (code_is_short m short) in
+        let same = functions_run_alike (instance_of m) (image_of m) places (Declared g) f store arguments r (λ i h is. inl (known i h is)) environment (declared f within) (subst (λ (n : ℕ). IsInvoked g.ty n (cap_of m.items) store arguments r) (place_at f within) called) (globals_typed m.items) (exit_stands m good) (code_is_short m short) in
         subst (λ (q : Running). SameRuns (module_run m f arguments replies) (λ n. image_run.run_of (steps (image_of m) n q))) (sym (first_is f within replies arguments)) (
         subst (λ (start : Option ℕ). SameRuns (λ k. module_run.run_of (run (instance_of m) k (first_state start store invoked))) (λ n. image_run.run_of (steps (image_of m) n r))) (sym none.start) same)
 
 pub straight_modules_behave_alike : (m : Module) → IsCoveredModule m → length (text_of m) ≤ 2 ^ 26 → Same m (image_of m)
 straight_modules_behave_alike m good short = record {
   unlinkable = refl;
-  runs = λ can_link name f arguments replies is are. function_runs_alike m good short f (good.exports name f is) arguments replies are;
+  runs = λ can_link name f arguments replies is are. function_runs_alike m good short can_link f (good.exports name f is) arguments replies are;
 }
 
 pub images_behave_alike : ImagesBehaveAlike

@@ -15,12 +15,13 @@ use Rattle.wasm_defs.specs.Faults.{context_at, Module}
 use Rattle.wasm_defs.specs.Instances.{function_of, declared_from}
 use Rattle.wasm_laws.proofs.Plain.{plain_has_no_more}
 use Rattle.frame_layout.specs.Templates.{exit_stub}
+use Rattle.frame_layout.specs.Functions.{no_distance}
 use Rattle.frame_layout.proofs.Standing.{has_first, has_rest as has_second}
 use Rattle.sim_frames.proofs.Sitting.{has_at}
 use Rattle.sim_frames.proofs.Sizes.{function_length}
 use Rattle.simulation.proofs.MacroRanges.{both_in_range}
 use Rattle.simulation.proofs.Ranges.{exit_in_range, function_in_range}
-use Rattle.image_linker.specs.ImageOf.{around, no_distance, distances, size_of, stub_size, front_size, places_from, code_of_function, code_from, stubs_from, places_of_functions, text_of}
+use Rattle.image_linker.specs.ImageOf.{around, distances, size_of, stub_size, front_size, places_from, code_of_function, code_from, stubs_from, places_of_functions, text_of}
 use Rattle.image_linker.specs.Judging.{sizes}
 use Rattle.image_linker.proofs.CoveredModules.{IsCoveredBody, AreCoveredBodies, IsCoveredModule}
 use Rattle.image_linker.proofs.Items.{no_stubs}

@@ -12,11 +12,11 @@ use Rattle.wasm_defs.specs.Context.{context_of, import_count, type_or_empty, typ
 use Rattle.wasm_defs.specs.Faults.{read_of, context_at, Module}
 use Rattle.wasm_defs.specs.Values.{words_of}
 use Rattle.wasm_defs.specs.Places.{places_of, greatest}
-use Rattle.wasm_defs.specs.Instances.{rows_of, pages_of, cap_of, values_of, segments_of, is_linkable, instance_of, start_of, exports_of}
+use Rattle.wasm_defs.specs.Instances.{rows_of, pages_of, cap_of, values_of, data_of, is_linkable, instance_of, start_of, exports_of}
 use Rattle.frame_layout.specs.declared.layout.Layout.{Layout}
 use Rattle.frame_layout.specs.Macros.{distance}
 use Rattle.frame_layout.specs.Templates.{Around, import_stub, exit_stub}
-use Rattle.frame_layout.specs.Functions.{function_code}
+use Rattle.frame_layout.specs.Functions.{no_distance, function_code}
 use Rattle.image_format.specs.declared.version.Version.TheVariants.{One}
 use Rattle.image_format.specs.Contents.{Image}
 use Rattle.image_format.specs.declared.image.Row.{Row}
@@ -43,9 +43,6 @@ around items k b tree distance_to = record {
 }
 
 -- its number of words depends on no distance
-abbrev pub no_distance : ℕ → ℕ → ℕ
-no_distance here function = 0
-
 abbrev pub size_of : List Item → ℕ → Body → Seq → ℕ
 size_of items k b tree = length (function_code (around items k b tree no_distance) (context_at items k b) tree)
 
@@ -59,9 +56,12 @@ stubs_from c number (Imported from what kind type_index ∷ xs) =
     import_stub (length (type_or_empty (slice_get c.types type_index.1)).params) number ++ stubs_from c (suc number) xs
 stubs_from c number (_ ∷ xs) = stubs_from c number xs
 
--- the words in front of the declared functions
+-- how many words stand in front of the declared functions, where so many are imported: the exit stub, and a stub for each import
+abbrev pub front_of : (imported : ℕ) → ℕ
+front_of imported = length exit_stub + stub_size * imported
+
 abbrev pub front_size : List Item → ℕ
-front_size items = length exit_stub + stub_size * import_count items
+front_size items = front_of (import_count items)
 
 -- the places of the stubs and of the functions, in words
 abbrev pub stub_places : (here count : ℕ) → List ℕ
@@ -128,7 +128,7 @@ table_of m true = map (row_of m) (instance_of m).table
 table_of m false = replicate (rows_of m.items) (row_of m None)
 
 abbrev pub placed_segments : Module → Bool → List Segment
-placed_segments m true = map segment_of (segments_of m.items)
+placed_segments m true = map segment_of (data_of m.items)
 placed_segments m false = []
 
 abbrev pub image_of : Module → Image

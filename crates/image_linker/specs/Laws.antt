@@ -1,8 +1,10 @@
 -- The laws of modules' images.
-use Rattle.std.specs.Prelude.{ℕ, List}
+use Rattle.std.specs.Prelude.{ℕ, ◌≤◌, List, length}
 use Rattle.wasm_defs.specs.Faults.{Module}
 use Rattle.wasm_laws.specs.Sections.{AreBytes}
+use Rattle.image_format.specs.declared.limits.TheConstants.{IMAGE_BYTES}
 use Rattle.image_format.specs.Contents.{IsImage}
+use Rattle.image_format.specs.ImageBytes.{spelling}
 use Rattle.image_linker.specs.ImageOf.{image_of}
 use Rattle.image_linker.specs.Judging.{IsModuleOf}
 use Rattle.image_linker.specs.Same.{Same}
@@ -14,3 +16,7 @@ ImagesBehaveAlike = (bytes : List ℕ) (m : Module) → AreBytes bytes → IsMod
 -- the image of a module that some bytes are keeps the bounds of images
 abbrev pub ImagesKeepBounds : Type 0
 ImagesKeepBounds = (bytes : List ℕ) (m : Module) → AreBytes bytes → IsModuleOf bytes m → IsImage (image_of m)
+
+-- and has few enough bytes to be written
+abbrev pub ImagesAreShort : Type 0
+ImagesAreShort = (bytes : List ℕ) (m : Module) → AreBytes bytes → IsModuleOf bytes m → length (spelling (image_of m)) ≤ IMAGE_BYTES

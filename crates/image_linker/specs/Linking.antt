@@ -1,19 +1,25 @@
 -- What is linked: the index spaces of a module and the codes of its functions.
-use Rattle.std.specs.Prelude.{ℕ, ℤ, ◌+◌, ◌*◌, false, List, [], ◌∷◌, ◌++◌, map, length, replicate, slice_index}
+use Rattle.std.specs.Prelude.{ℕ, ℤ, ◌+◌, ◌*◌, ◌^◌, ◌<◌, Bool, true, false, not, List, [], ◌∷◌, ◌++◌, map, length, replicate, slice_index}
+use Rattle.std.specs.List.{All}
 use Rattle.rv_isa.specs.Words.{word_of}
 use Rattle.rv_isa.specs.declared.compiled.Code.{Code}
 use Rattle.wasm_defs.specs.declared.context.GlobalType.{GlobalType}
 use Rattle.wasm_defs.specs.Context.{type_of_function}
-use Rattle.wasm_defs.specs.Instances.{first_minimum, first_cap}
+use Rattle.wasm_defs.specs.Instances.{first_minimum, first_cap, all_fit}
+use Rattle.wasm_defs.specs.Memory.{page}
 use Rattle.wasm_defs.specs.Values as value
 use Rattle.wasm_laws.specs.Kept.{FitsType}
 use Rattle.frame_layout.specs.Templates.{exit_stub}
+use Rattle.frame_layout.specs.Functions.{with_distances}
 use Rattle.image_format.specs.declared.version.Version.TheVariants.{One}
 use Rattle.image_format.specs.Contents.{Image}
 use Rattle.image_format.specs.declared.image.Row.{Row}
 use Rattle.image_format.specs.declared.image.Export.{Export}
-use Rattle.index_spaces.specs.Entries.{function_exports, initial_values}
+use Rattle.image_format.specs.declared.image.Segment.{Segment}
+use Rattle.index_spaces.specs.declared.entries.DataRow.{DataRow}
+use Rattle.index_spaces.specs.Entries.{function_exports, initial_values, written_segments}
 use Rattle.index_spaces.specs.Spaces.{Spaces, context_in}
+use Rattle.image_linker.specs.ImageOf.{front_of, distances}
 
 -- the words of the codes, one behind the other
 abbrev pub words_of : List Code → List ℕ
@@ -30,7 +36,16 @@ abbrev pub front_words : List ℕ
 front_words = map word_of exit_stub
 
 abbrev pub starts_of : List Code → List ℕ
-starts_of codes = starts_from (length front_words) codes
+starts_of codes = starts_from (front_of 0) codes
+
+-- the words of a code that begins at a place of the text, once its calls lead to the functions, which begin at these places
+abbrev pub words_at : (places : List ℕ) (here : ℕ) → Code → List ℕ
+words_at places here c = with_distances (distances places here) c.relocations c.words
+
+-- and those of codes, one behind the other
+abbrev pub words_from : (places : List ℕ) (here : ℕ) → List Code → List ℕ
+words_from places here [] = []
+words_from places here (c ∷ cs) = words_at places here c ++ words_from places (here + length c.words) cs
 
 -- an exported function has the place of its code
 abbrev pub linked_export : Spaces → List ℕ → List ℕ × ℕ → Export
@@ -39,6 +54,22 @@ linked_export s starts e = record { name = e.0; signature = type_of_function (co
 -- a row without a function
 abbrev pub empty_row : Row
 empty_row = record { code = 0; like = 0 }
+
+-- the memory has room for all data segments, of which else none is written
+abbrev pub has_room : Spaces → Bool
+has_room s = all_fit (page * first_minimum s.memories) (written_segments s.segments)
+
+abbrev pub placed_row : DataRow → Segment
+placed_row r = record { place = r.place; bytes = r.bytes }
+
+abbrev pub linked_segments : Bool → List DataRow → List Segment
+linked_segments true rows = map placed_row rows
+linked_segments false rows = []
+
+-- rows of an image have places of 32 bits, as those that fit into a memory do
+abbrev pub ArePlaced : Bool → List DataRow → Type 0
+ArePlaced true rows = All (λ r. r.place < 2 ^ 32) rows
+ArePlaced false rows = Unit {0}
 
 -- the words of the values that the globals begin with
 abbrev pub global_words : Spaces → List ℕ
@@ -50,18 +81,18 @@ NumbersFit [] [] = Unit {0}
 NumbersFit (g ∷ globals) (n ∷ numbers) = FitsType g.ty n × NumbersFit globals numbers
 NumbersFit globals numbers = ⊥
 
--- the image of a module that imports nothing, and has no segments and no start function
+-- the image of a module that imports nothing, and has no element segments and no start function
 abbrev pub linked : Spaces → List Code → Image
 linked s codes = record {
   version = One;
-  text = front_words ++ words_of codes;
+  text = front_words ++ words_from (starts_of codes) (front_of 0) codes;
   globals = global_words s;
   table = replicate (first_minimum s.tables) empty_row;
   pages = first_minimum s.memories;
   cap = first_cap s.memories;
-  segments = [];
+  segments = linked_segments (has_room s) s.segments;
   imports = [];
   exports = map (linked_export s (starts_of codes)) (function_exports s.exports);
   start = 0;
-  unlinkable = false;
+  unlinkable = not (has_room s);
 }

@@ -5,6 +5,7 @@
 
 pub mod laws;
 mod linking;
+mod segments;
 mod spaces;
 
 pub use linking::link;

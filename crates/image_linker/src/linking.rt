@@ -1,16 +1,20 @@
 //! Links the codes of a module's functions.
 
-ghost use Rattle.std.specs.Prelude.{◌≡◌, ◌≤◌, ◌<◌, ◌+◌, ◌*◌, ◌++◌, ◌^◌, ℕ, length, map, slice_index, IfOk};
+ghost use Rattle.std.specs.Prelude.{◌≡◌, ◌≤◌, ◌<◌, ◌+◌, ◌*◌, ◌++◌, ◌^◌, ℕ, length, map, take, drop, slice_index, slice_set, IfOk};
 ghost use Rattle.wasm_defs.specs.Context.{type_of_function};
+ghost use Rattle.frame_layout.specs.Functions.{with_distance, with_distances};
 ghost use Rattle.image_format.specs.Contents.{IsImage};
 ghost use Rattle.index_spaces.specs.Spaces.{context_in};
 ghost use Rattle.index_spaces.specs.Entries.{function_exports};
-ghost use Rattle.image_linker.specs.Linking.{NumbersFit, words_of, starts_of, front_words, linked, linked_export};
+ghost use Rattle.image_linker.specs.ImageOf.{front_of, distances};
+ghost use Rattle.image_linker.specs.Linking.{NumbersFit, words_of, words_from, starts_of, front_words, linked, linked_export};
 
+use crate::segments::{have_room, placed_segments};
 use crate::spaces::{first_cap, first_minimum, global_words, rows_of};
+use frame_layout::macros::{call, distance};
 use image_format::{Export, Exports, Globals, Image, Imports, Segments, Table, Text, Version};
 use index_spaces::{Context, copy_of_name, copy_of_type};
-use rv_isa::{Code, Imm12, ImmOp, Op, Register, encode};
+use rv_isa::{Code, Imm12, ImmOp, Op, Register, Relocation, encode};
 use std::alloc::{AllocError, Global};
 use wasm_defs::{Extern, FuncType, ValTypes};
 
@@ -32,13 +36,68 @@ fn exit_stub() -> [u32; 2]
     ]
 }
 
-/// The words of a text with these codes, in order.
-fn text_of(alloc: Global, codes: &[Code]) -> Result<Vec<u32>, AllocError>
-    ensures { IfOk result (λ text. text.items ≡ front_words ++ words_of codes.now) }
+/// The place of a function, or 0 where it has none.
+fn start_at(starts: &[u32], function: u32) -> u32
+    ensures { result ≡ slice_index starts.now function }
+{
+    match starts.get(function as usize) {
+        Some(start) => *start,
+        None => 0,
+    }
+}
+
+/// Replaces the word at a place, if there is one.
+fn replace(words: &mut [u32], place: usize, word: u32)
+    ensures { words.new ≡ slice_set words.old place word }
+{
+    if place < words.len() {
+        words[place] = word;
+    }
+}
+
+/// Lets a call of a code, whose words begin at a place of the text, lead to its function, where functions begin at these places.
+fn lead(words: &mut [u32], call_to: &Relocation, starts: &[u32], here: usize)
+    requires { here < 2 ^ 62 }
+    ensures { words.new ≡ with_distance (distances starts.now here call_to.now.place call_to.now.function) call_to.now.place words.old }
+{
+    let place = call_to.place;
+    if words.len() <= place {
+        return;
+    }
+    let there = start_at(starts, call_to.function);
+    let [upper, lower] = call(distance(here + place, there as usize));
+    replace(words, place, encode(upper));
+    replace(words, place + 1, encode(lower));
+}
+
+/// Lets the calls of a code, whose words begin at a place of the text, lead to their functions.
+fn lead_all(words: &mut [u32], calls: &[Relocation], starts: &[u32], here: usize)
+    requires { here < 2 ^ 62 }
+    ensures { words.new ≡ with_distances (distances starts.now here) calls.now words.old }
+{
+    for call_to in calls {
+        lead(words, call_to, starts, here);
+    }
+}
+
+/// Lets the calls of the code whose words stand in a text from a place on, to its end, lead to their functions.
+fn lead_from(text: &mut [u32], calls: &[Relocation], starts: &[u32], here: usize)
+    requires within { here ≤ length text.old }
+    requires few { here < 2 ^ 62 }
+    ensures { text.new ≡ take here text.old ++ with_distances (distances starts.now here) calls.now (drop here text.old) }
+{
+    lead_all(&mut text[here..], calls, starts, here);
+}
+
+/// The words of a text with these codes, in order, which begin at these places.
+fn text_of(alloc: Global, codes: &[Code], starts: &[u32]) -> Result<Vec<u32>, AllocError>
+    ensures { IfOk result (λ text. text.items ≡ front_words ++ words_from starts.now (front_of 0) codes.now) }
 {
     let mut text = Vec::from_slice(alloc, &exit_stub())?;
     for code in codes {
+        let here = text.len();
         text.extend_from_slice(code.words.as_slice())?;
+        lead_from(&mut text, code.relocations.as_slice(), starts, here);
     }
     Ok(text)
 }
@@ -71,16 +130,6 @@ fn signature_of(alloc: Global, context: &Context, function: u32) -> Result<FuncT
     }
 }
 
-/// The place of a function, or 0 where it has none.
-fn start_at(starts: &[u32], function: u32) -> u32
-    ensures { result ≡ slice_index starts.now function }
-{
-    match starts.get(function as usize) {
-        Some(start) => *start,
-        None => 0,
-    }
-}
-
 /// The exported functions, which have the places of their codes.
 fn exports_of(alloc: Global, context: &Context, starts: &[u32]) -> Result<Vec<Export>, AllocError>
     requires { (i : ℕ) → slice_index starts.now i < 2 ^ 27 }
@@ -101,30 +150,34 @@ fn exports_of(alloc: Global, context: &Context, starts: &[u32]) -> Result<Vec<Ex
 
 /// Links the codes of a module's declared functions, in the order of their indices, to the module's image.
 ///
-/// So far a module has no imports, no segments and no start function. The text has at most 268,435,456 bytes, what is linked keeps
-/// the bounds of images, and the numbers of the globals' constants are of the globals' types.
+/// Each call leads to its function. So far a module has no imports, no element segments and no start function. The text has at most
+/// 268,435,456 bytes, what is linked keeps the bounds of images, and the numbers of the globals' constants are of the globals' types.
+/// Where some data segment has no place in the memory, the image has none and is marked as one that can't be instantiated.
 pub fn link(alloc: Global, context: &Context, codes: &[Code]) -> Result<Image, AllocError>
-    requires fits { 4 * (2 + length (words_of codes.now)) ≤ 2 ^ 28 }
+    requires fits { 4 * (front_of context.now.imported + length (words_of codes.now)) ≤ 2 ^ 28 }
     requires bounded { IsImage (linked context.now codes.now) }
     requires numbers { NumbersFit context.now.globals context.now.initials }
     ensures { IfOk result (λ i. i ≡ linked context.now codes.now) }
 {
-    let text = text_of(alloc, codes)?;
     let starts = starts_of(alloc, codes)?;
+    let text = text_of(alloc, codes, &starts)?;
     let exports = exports_of(alloc, context, &starts)?;
     let globals = global_words(alloc, context)?;
     let table = rows_of(alloc, context)?;
+    let pages = first_minimum(context.memories());
+    let linkable = have_room(pages, context.segments());
+    let segments = placed_segments(alloc, linkable, context.segments())?;
     Ok(Image {
         version: Version::One,
         text: Text::new(text),
         globals: Globals::new(globals),
         table: Table::new(table),
-        pages: first_minimum(context.memories()),
+        pages,
         cap: first_cap(context.memories()),
-        segments: Segments::new(Vec::new(alloc)),
+        segments: Segments::new(segments),
         imports: Imports::new(Vec::new(alloc)),
         exports: Exports::new(exports),
         start: 0,
-        unlinkable: false,
+        unlinkable: !linkable,
     })
 }

@@ -1,7 +1,14 @@
 pub mod WordLaws
 pub mod MemoryLaws
 pub mod RegionLaws
+pub mod SizeLaws
+pub mod LeadLaws
+pub mod PrintLaws
+pub mod PatchLaws
 pub mod EnvironmentLaws
+pub mod ImportLaws
 pub mod RunLaws
 pub mod TypeLaws
 pub mod StartLaws
+pub mod ClosedLaws
+pub mod SignatureLaws

@@ -1,16 +1,17 @@
 -- Segments that are written over zeros, one after another.
-use Rattle.std.proofs.Common.{◌≡◌, ℕ, ◌+◌, ◌≤◌, true, List, [], ◌∷◌, ◌++◌, drop, take, length, replicate, refl, ap, ◌∙◌, arith, length-append, length-take, length-drop}
+use Rattle.std.proofs.Common.{◌≡◌, ℕ, ◌+◌, ◌≤◌, true, List, [], ◌∷◌, ◌++◌, drop, take, length, refl, ap, ◌∙◌, arith, length-append, length-take, length-drop}
 use Rattle.std.specs.Prelude.{nat_le}
 use Rattle.std.proofs.lemmas.Bool.{and_parts, leb-true, le-leb}
 use Rattle.wasm_defs.specs.Instances.{over, all_over, all_fit}
 use Rattle.image_format.specs.declared.image.Segment.{Segment}
 use Rattle.image_format.specs.Environment.{segments_of}
+use Rattle.image_run.specs.States.{zeros}
 
 -- these bytes, with the rest of the segments still to be written, are the memory with all of them
 pub record Placing (size : ℕ) (all : List Segment) (bytes : List ℕ) (rest : List Segment) : Type 0 where
   pub filled : length bytes ≡ size
   pub fit : all_fit size (segments_of rest) ≡ true
-  pub whole : all_over bytes (segments_of rest) ≡ all_over (replicate size 0) (segments_of all)
+  pub whole : all_over bytes (segments_of rest) ≡ all_over (zeros size) (segments_of all)
 
 length-over : (old new : List ℕ) (at : ℕ) → at + length new ≤ length old → length (over old (at, new)) ≡ length old
 length-over old new at inside =

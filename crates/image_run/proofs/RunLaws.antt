@@ -1,5 +1,6 @@
 -- A run of an image goes by runs of its machine, with a call of the environment between them.
-use Rattle.std.proofs.Common.{◌≡◌, ℕ, zero, suc, ◌+◌, ◌-◌, ◌==◌, ◌%◌, ◌<◌, ◌≤◌, Bool, true, false, if◌then◌else◌, List, length, Option, None, Some, refl, sym, ap, ◌∙◌, subst, arith}
+use Rattle.std.proofs.Common.{◌≡◌, ℕ, zero, suc, ◌+◌, ◌-◌, ◌==◌, ◌%◌, ◌<◌, ◌≤◌, Bool, true, false, if◌then◌else◌, List, [], ◌++◌, Option, None, Some, refl, sym, ap, ◌∙◌, subst, append_assoc, arith}
+use Rattle.std.proofs.lemmas.List.{append-nil}
 use Rattle.rv_isa.specs.declared.operations.Op.{Op}
 use Rattle.rv_isa.specs.declared.operations.Op.TheVariants.{Lui, Auipc, Jal, Jalr, Branch, Load, Store, Imm, Shift, Addiw, ShiftW, Reg, RegW, Fence, Ecall, Ebreak}
 use Rattle.rv_isa.specs.declared.stepping.FaultKind.{FaultKind}
@@ -9,13 +10,20 @@ use Rattle.rv_isa.specs.Runs.{OnRan, SameSizes}
 use Rattle.rv_isa.proofs.SizeLaws.{runs_keep_sizes}
 use Rattle.wasm_defs.specs.declared.types.ValType.{ValType}
 use Rattle.image_format.specs.Contents.{Image}
-use Rattle.image_format.specs.Environment.{code_of_image}
-use Rattle.image_format.specs.ImageRun.{Running, Stepping, To, environment, stepped, on, steps, run_of}
+use Rattle.image_format.specs.Environment.{code_of_image, Entry}
+use Rattle.image_format.specs.ImageRun.{Running, Stepping, To, environment, finish, memory_of, stepped, on, steps, run_of}
 use Rattle.image_format.specs.ImageRun as image
+use Rattle.image_run.specs.declared.answer.Answer.{Answer}
+use Rattle.image_run.specs.declared.answer.Answer.TheVariants as answer
 use Rattle.image_run.specs.declared.outcome.Outcome.{Outcome}
 use Rattle.image_run.specs.declared.outcome.Outcome.TheVariants as outcome
-use Rattle.image_run.specs.Ends.{IsEnd, IsOver}
-use Rattle.image_run.specs.States.{running}
+use Rattle.wasm_defs.specs.Host.{HostCall, Reply}
+use Rattle.image_run.specs.Hosts.{Leads}
+use Rattle.image_run.specs.Ends.{IsEnd}
+use Rattle.rv64im_machine.specs.Contents.{Contents as Machine, state_of}
+use Rattle.image_run.specs.States.{at, Keeps, RunsImage}
+use Rattle.image_run.specs.Answers.{IsOver, Says, Answered, Comes, Runs}
+use Rattle.image_run.proofs.LeadLaws.{leads_append}
 
 -- ---- a step that calls the environment leads to the next word
 
@@ -125,39 +133,118 @@ over_stays (image.Ended r end) go h = refl
 over_stays (image.Faulted r kind pc) go h = refl
 over_stays (image.Waiting r) go h = refl
 
--- the machine after some of an image's steps: so many are left of those that come to `whole`
-pub record Underway (i : Image) (results : List ValType) (code : List (Option Op)) (s : State) (pages left : ℕ) (whole : Stepping) : Type 0 where
-  pub same_code : code ≡ code_of_image i
-  pub stack : 8 ≤ length s.bytes.stack
-  pub rest : steps i left (running s pages results) ≡ whole
+-- the machine after some of a function's steps: the calls so far have led the host so, and so many steps are left
+pub record Underway (H : Type 0) (Calls : H → HostCall → Reply → H → Type 0) (i : Image) (from to : H) (first now : State) (first_pages pages all left : ℕ) : Type 0 where
+  pub calls : List HostCall
+  pub replies : List Reply
+  pub leads : Leads Calls from calls replies to
+  pub so_far : (before : List HostCall) (more : List Reply) (results : List ValType) (later : List (Entry × List ValType))
+      → steps i all (at first first_pages before (replies ++ more) results later) ≡ steps i left (at now pages (before ++ calls) more results later)
 
-module _ (i : Image) (results : List ValType) (code : List (Option Op)) (s : State) (pages left : ℕ) (whole : Stepping) (so_far : Underway i results code s pages left whole) where
-  whole_is : (ran : Ran) → exec code left s ≡ ran → whole ≡ after i (running s pages results) ran
-  whole_is ran e =
-      sym so_far.rest ∙ steps-exec i left (running s pages results)
-      ∙ ap (λ (c : List (Option Op)). after i (running s pages results) (exec c left s)) (sym so_far.same_code)
-      ∙ ap (after i (running s pages results)) e
+-- before the first step
+pub begun : (H : Type 0) (Calls : H → HostCall → Reply → H → Type 0) (i : Image) (host : H) (s : State) (pages all : ℕ) → Underway H Calls i host host s s pages pages all all
+begun H Calls i host s pages all = record {
+  calls = [];
+  replies = [];
+  leads = refl;
+  so_far = λ before more results later. ap (λ (calls : List HostCall). steps i all (at s pages calls more results later)) (sym (append-nil before));
+}
 
-  pub spent : (s' : State) → exec code left s ≡ Spent s' → IsEnd outcome.StepsSpent (run_of whole).end
-  spent s' e = ap (λ (x : Stepping). (run_of x).end) (whole_is (Spent s') e)
+module _ (H : Type 0) (Calls : H → HostCall → Reply → H → Type 0) (i : Image) (from to : H) (first now : State) (first_pages pages all left : ℕ) (code : List (Option Op)) (same : code ≡ code_of_image i) (u : Underway H Calls i from to first now first_pages pages all left) where
+  -- what all steps come to, by a run of the machine
+  all_are : (ran : Ran) → exec code left now ≡ ran → (before : List HostCall) (more : List Reply) (results : List ValType) (later : List (Entry × List ValType))
+      → steps i all (at first first_pages before (u.replies ++ more) results later) ≡ after i (at now pages (before ++ u.calls) more results later) ran
+  all_are ran e before more results later =
+      let r = at now pages (before ++ u.calls) more results later in
+      u.so_far before more results later ∙ steps-exec i left r
+      ∙ ap (λ (c : List (Option Op)). after i r (exec c left now)) (sym same)
+      ∙ ap (after i r) e
 
-  pub faulted : (rest : ℕ) (kind : FaultKind) (s' : State) → exec code left s ≡ Faulted rest kind s' → IsEnd (outcome.Fault kind s'.pc) (run_of whole).end
-  faulted rest kind s' e = ap (λ (x : Stepping). (run_of x).end) (whole_is (Faulted rest kind s') e)
+  -- where the machine's run is over, the function's is
+  stops : (ran : Ran) (s : State) (o : Outcome) → exec code left now ≡ ran
+      → ((before : List HostCall) (more : List Reply) (results : List ValType) (later : List (Entry × List ValType)) → Comes (Some o) i left (at s pages (before ++ u.calls) more results later) (after i (at now pages (before ++ u.calls) more results later) ran))
+      → Runs Calls i from to first s first_pages pages all left (Some o)
+  stops ran s o e h = record {
+    calls = u.calls;
+    replies = u.replies;
+    leads = u.leads;
+    comes = λ before more results later.
+        subst (λ (done : Stepping). Comes (Some o) i left (at s pages (before ++ u.calls) more results later) done) (sym (all_are ran e before more results later)) (h before more results later);
+  }
 
-  module _ (rest : ℕ) (s' : State) (called : exec code left s ≡ Called rest s') where
-    -- what the environment does
-    abbrev done : Stepping
-    done = environment i (running s' pages results) (s'.pc - 4)
+  pub spent : (s : State) → exec code left now ≡ Spent s → Runs Calls i from to first s first_pages pages all left (Some outcome.StepsSpent)
+  spent s e = stops (Spent s) s outcome.StepsSpent e (λ before more results later. (refl, refl))
 
-    pub stack_stays : 8 ≤ length s'.bytes.stack
-    stack_stays =
-        let sizes : SameSizes s.bytes s'.bytes = subst (OnRan (λ (t : State). SameSizes s.bytes t.bytes)) called (runs_keep_sizes code left s) in
-        omega (arith, sizes.stack, so_far.stack)
+  pub faulted : (rest : ℕ) (kind : FaultKind) (s : State) → exec code left now ≡ Faulted rest kind s → Runs Calls i from to first s first_pages pages all left (Some (outcome.Fault kind s.pc))
+  faulted rest kind s e = stops (Faulted rest kind s) s (outcome.Fault kind s.pc) e (λ before more results later. (refl, refl))
 
-    pub goes : (new : State) (pages' : ℕ) → done ≡ To (running new pages' results) → steps i rest (running new pages' results) ≡ whole
-    goes new pages' e = sym (whole_is (Called rest s') called ∙ ap (λ (x : Stepping). on x (steps i rest)) e)
+  -- the environment was called, and has answered
+  module _ (rest : ℕ) (s : State) (called : exec code left now ≡ Called rest s) (host : H) (new : State) (pages_now : ℕ) (said : Answer) (a : Answered Calls i to host s new pages pages_now said) where
+    leads : Leads Calls from (u.calls ++ a.calls) (u.replies ++ a.replies) host
+    leads = leads_append H Calls from to host u.calls a.calls u.replies a.replies u.leads a.leads
 
-    pub ends : (o : Outcome) → IsOver done → IsEnd o (run_of done).end → IsEnd o (run_of whole).end
-    ends o over h =
-        let same : done ≡ whole = sym (whole_is (Called rest s') called ∙ over_stays done (steps i rest) over) in
-        subst (λ (x : Stepping). IsEnd o (run_of x).end) same h
+    -- what the environment does, and the run behind it
+    abbrev done : List HostCall → List Reply → List ValType → List (Entry × List ValType) → Stepping
+    done before more results later = environment i (at s pages (before ++ u.calls) (a.replies ++ more) results later) (s.pc - 4)
+
+    abbrev behind : List HostCall → List Reply → List ValType → List (Entry × List ValType) → Running
+    behind before more results later = at new pages_now (before ++ (u.calls ++ a.calls)) more results later
+
+    answers : (before : List HostCall) (more : List Reply) (results : List ValType) (later : List (Entry × List ValType)) → Says said (behind before more results later) (done before more results later)
+    answers before more results later =
+        subst (λ (calls : List HostCall). Says said (at new pages_now calls more results later) (done before more results later)) (append_assoc before u.calls a.calls) (a.says (before ++ u.calls) more results later)
+
+    leads_to : (before : List HostCall) (more : List Reply) (results : List ValType) (later : List (Entry × List ValType))
+        → steps i all (at first first_pages before ((u.replies ++ a.replies) ++ more) results later) ≡ on (done before more results later) (steps i rest)
+    leads_to before more results later =
+        ap (λ (replies : List Reply). steps i all (at first first_pages before replies results later)) (append_assoc u.replies a.replies more)
+        ∙ all_are (Called rest s) called before (a.replies ++ more) results later
+
+    pub goes_on : said ≡ answer.GoesOn → Underway H Calls i from host first new first_pages pages_now all rest
+    goes_on is = record {
+      calls = u.calls ++ a.calls;
+      replies = u.replies ++ a.replies;
+      leads = leads;
+      so_far = λ before more results later.
+          leads_to before more results later
+          ∙ ap (λ (x : Stepping). on x (steps i rest)) (subst (λ (x : Answer). Says x (behind before more results later) (done before more results later)) is (answers before more results later));
+    }
+
+    pub ends : said ≡ answer.Ended → Runs Calls i from host first new first_pages pages_now all rest None
+    ends is = record {
+      calls = u.calls ++ a.calls;
+      replies = u.replies ++ a.replies;
+      leads = leads;
+      comes = λ before more results later.
+          leads_to before more results later
+          ∙ ap (λ (x : Stepping). on x (steps i rest)) (subst (λ (x : Answer). Says x (behind before more results later) (done before more results later)) is (answers before more results later));
+    }
+
+    pub is_over : (o : Outcome) → said ≡ answer.Over o → Runs Calls i from host first new first_pages pages_now all rest (Some o)
+    is_over o is = record {
+      calls = u.calls ++ a.calls;
+      replies = u.replies ++ a.replies;
+      leads = leads;
+      comes = λ before more results later.
+          let r = behind before more results later in
+          let x = done before more results later in
+          let h : IsOver x × ((run_of x).calls ≡ r.calls) × IsEnd o (memory_of r) (run_of x).end = subst (λ (y : Answer). Says y r x) is (answers before more results later) in
+          subst (λ (y : Stepping). Comes (Some o) i rest r y) (sym (leads_to before more results later ∙ over_stays x (steps i rest) h.0)) (h.1, h.2);
+    }
+
+-- ---- sizes
+
+pub of_image : (i : Image) (old new : Machine) (pages : ℕ) → RunsImage i old pages → Keeps old new → RunsImage i new pages
+of_image i old new pages h k = record { code = k.code ∙ h.code; stack = k.stack ∙ h.stack; memory = k.memory ∙ h.memory; within = h.within }
+
+-- a run of the machine keeps its text and the sizes of its regions
+pub still_runs : (i : Image) (old new : Machine) (pages n : ℕ) (ran : Ran) → RunsImage i old pages → new.code ≡ old.code → OnRan (λ (t : State). t ≡ state_of new) ran → exec old.code n (state_of old) ≡ ran → RunsImage i new pages
+still_runs i old new pages n ran h code is e =
+    let sizes : OnRan (λ (t : State). SameSizes old.bytes t.bytes) ran = subst (OnRan (λ (t : State). SameSizes old.bytes t.bytes)) e (runs_keep_sizes old.code n (state_of old)) in
+    let same : SameSizes old.bytes new.bytes = on_ran ran is sizes in
+    of_image i old new pages h (record { code = code; stack = same.stack; memory = same.memory })
+  where
+    on_ran : (x : Ran) → OnRan (λ (t : State). t ≡ state_of new) x → OnRan (λ (t : State). SameSizes old.bytes t.bytes) x → SameSizes old.bytes new.bytes
+    on_ran (Spent t) k g = subst (λ (q : State). SameSizes old.bytes q.bytes) k g
+    on_ran (Called left t) k g = subst (λ (q : State). SameSizes old.bytes q.bytes) k g
+    on_ran (Faulted left kind t) k g = subst (λ (q : State). SameSizes old.bytes q.bytes) k g

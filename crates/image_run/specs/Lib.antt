@@ -1,3 +1,6 @@
 pub mod Checks
+pub mod Hosts
 pub mod Ends
 pub mod States
+pub mod Printing
+pub mod Answers

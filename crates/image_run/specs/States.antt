@@ -1,26 +1,53 @@
--- The machine of an image before a call from outside, where nothing was called before and no reply is left.
-use Rattle.std.specs.Prelude.{ℕ, ◌+◌, List, []}
-use Rattle.rv_isa.specs.Steps.{Registers, Bytes, State, text_base}
+-- Machines of an image, and what an instance of it is.
+use Rattle.std.specs.Prelude.{◌≡◌, ℕ, ◌*◌, ◌≤◌, Bool, false, List, length, replicate}
+use Rattle.rv_isa.specs.Steps.{Bytes, State}
+use Rattle.rv64im_machine.specs.Contents.{Contents as Machine}
 use Rattle.wasm_defs.specs.declared.types.ValType.{ValType}
-use Rattle.wasm_defs.specs.Values.{Value, words_of}
-use Rattle.image_format.specs.Contents.{Image}
-use Rattle.image_format.specs.Environment.{loaded, with_words, first_registers}
+use Rattle.wasm_defs.specs.declared.value.Value.{Value as Given}
+use Rattle.wasm_defs.specs.Memory.{page}
+use Rattle.wasm_defs.specs.Host.{HostCall, Reply}
+use Rattle.image_format.specs.Contents.{Image, IsImage}
+use Rattle.image_format.specs.declared.limits.TheConstants.{PARAMS}
+use Rattle.image_format.specs.Environment.{Entry, loaded, code_of_image}
 use Rattle.image_format.specs.ImageRun.{Running}
 
--- registers that were not written
-abbrev pub zeros : Registers
-zeros = λ r. 0
+-- a machine whose memory has so many pages, with what was called so far, what the host replies to later calls, and the results of
+-- the function that runs
+abbrev pub at : State → (pages : ℕ) → List HostCall → List Reply → List ValType → List (Entry × List ValType) → Running
+at machine pages calls replies results later =
+    record { machine = machine; pages = pages; calls = calls; replies = replies; results = results; later = later }
 
--- the bytes before a call with these arguments
-unfoldable pub first_bytes : Image → List Value → Bytes
-first_bytes i arguments = record (loaded i) { stack = with_words (loaded i).stack 0 (words_of arguments) }
+-- so many bytes that are zero
+unfoldable pub zeros : ℕ → List ℕ
+zeros size = replicate size 0
 
--- and the machine, where the function at an offset of the text is called
-abbrev pub first_state : Image → (offset : ℕ) → List Value → State
-first_state i offset arguments =
-    record { registers = first_registers i.pages; pc = text_base + offset; bytes = first_bytes i arguments }
+-- the bytes are those that the image is loaded to
+unfoldable pub IsLoaded : Image → Bytes → Type 0
+IsLoaded i bytes = bytes ≡ loaded i
 
--- a machine whose memory has so many pages, in a function with results of these types
-abbrev pub running : State → (pages : ℕ) → List ValType → Running
-running machine pages results =
-    record { machine = machine; pages = pages; calls = []; replies = []; results = results; later = [] }
+-- the machine has the image's text and a whole stack, and its memory has room up to the image's cap
+pub record RunsImage (i : Image) (m : Machine) (pages : ℕ) : Type 0 where
+  pub code : m.code ≡ code_of_image i
+  pub stack : length m.bytes.stack ≡ 1048576
+  pub memory : length m.bytes.memory ≡ page * i.cap
+  pub within : pages ≤ i.cap
+
+-- the text stays, and so do the sizes of the stack and of the memory
+pub record Keeps (old new : Machine) : Type 0 where
+  pub code : new.code ≡ old.code
+  pub stack : length new.bytes.stack ≡ length old.bytes.stack
+  pub memory : length new.bytes.memory ≡ length old.bytes.memory
+
+-- an image that was loaded, its memory as it is now, and whether it has run
+pub record Contents : Type 0 where
+  pub image : Image
+  pub memory : List ℕ
+  pub has_run : Bool
+
+-- what every instance keeps
+pub record IsInstance (i : Image) (m : Machine) (pages : ℕ) (room : List Given) (has_run : Bool) : Type 0 where
+  pub bounds : IsImage i
+  pub machine : RunsImage i m pages
+  pub fits : PARAMS ≤ length room
+  pub bytes : has_run ≡ false → IsLoaded i m.bytes
+  pub first_pages : has_run ≡ false → pages ≡ i.pages

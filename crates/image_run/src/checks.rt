@@ -3,7 +3,7 @@ ghost use Rattle.std.specs.Prelude.{◌≡◌, map};
 ghost use Rattle.std.specs.Option.{option_copied};
 ghost use Rattle.wasm_defs.specs.Values.{type_of};
 ghost use Rattle.wasm_defs.specs.Typing.{same_types};
-ghost use Rattle.image_run.specs.Checks.{export_named, not_runnable};
+ghost use Rattle.image_run.specs.Checks.{export_named, not_runnable, unfit};
 
 use image_format::{Export, Image};
 use wasm_defs::{ValType, Value};
@@ -34,7 +34,7 @@ pub fn find_export<'a>(image: &'a Image, name: &str) -> Option<&'a Export>
 }
 
 /// Whether the arguments are of these types, in order.
-fn are_of(arguments: &[Value], types: &[ValType]) -> bool
+pub(crate) fn are_of(arguments: &[Value], types: &[ValType]) -> bool
     ensures { result ≡ same_types (map type_of arguments.now) types.now }
 {
     if arguments.len() != types.len() {
@@ -48,14 +48,11 @@ fn are_of(arguments: &[Value], types: &[ValType]) -> bool
     true
 }
 
-/// Why the exported function of a name can't be run with these arguments, if it can't: the first reason that holds, in the
-/// order of `NotRunnable`.
-pub fn run_checks(image: &Image, export: &str, arguments: &[Value]) -> Option<NotRunnable>
-    ensures { result ≡ not_runnable image.now export.now (map type_of arguments.now) }
+/// Why the exported function of a name can't be called with these arguments, if it can't, whatever the image imports: the first
+/// reason that holds, in the order of `NotRunnable`.
+pub fn call_checks(image: &Image, export: &str, arguments: &[Value]) -> Option<NotRunnable>
+    ensures { result ≡ unfit image.now (map type_of arguments.now) (export_named export.now image.now.exports) }
 {
-    if !image.imports.as_slice().is_empty() {
-        return Some(NotRunnable::UnknownImport);
-    }
     match find_export(image, export) {
         None => Some(NotRunnable::NoSuchExport),
         Some(found) => {
@@ -67,5 +64,17 @@ pub fn run_checks(image: &Image, export: &str, arguments: &[Value]) -> Option<No
                 None
             }
         }
+    }
+}
+
+/// Why the exported function of a name can't be run with these arguments, if it can't: the first reason that holds, in the
+/// order of `NotRunnable`.
+pub fn run_checks(image: &Image, export: &str, arguments: &[Value]) -> Option<NotRunnable>
+    ensures { result ≡ not_runnable image.now export.now (map type_of arguments.now) }
+{
+    if image.imports.as_slice().is_empty() {
+        call_checks(image, export, arguments)
+    } else {
+        Some(NotRunnable::UnknownImport)
     }
 }

@@ -1,40 +1,27 @@
 //! The environment of an image: what an ECALL does, by the number in a7.
-ghost use Rattle.std.specs.Prelude.{◌≡◌, ◌-◌, ◌+◌, ◌*◌, ◌%◌, ◌^◌, ◌<◌, ◌≤◌, [], length};
-ghost use Rattle.rv_isa.specs.Steps.{reg};
+ghost use Rattle.std.specs.Prelude.{◌≡◌, ◌+◌, ◌*◌, ◌^◌, ◌<◌, ◌≤◌, true, length};
+ghost use Rattle.rv_isa.specs.Steps.{State};
 ghost use Rattle.rv64im_machine.specs.Contents.{state_of};
-ghost use Rattle.image_format.specs.ImageRun.{To, environment, grow as grown, results_at};
-ghost use Rattle.image_run.specs.Ends.{values_of, Answers};
-ghost use Rattle.image_run.specs.States.{running};
+ghost use Rattle.image_format.specs.declared.limits.TheConstants.{PARAMS};
+ghost use Rattle.image_run.specs.Answers.{Answered, Grows};
+ghost use Rattle.image_run.specs.States.{RunsImage};
 
+use crate::answer::Answer;
+use crate::host::Host;
+use crate::imports::call_import;
+use crate::layout::{A0, A7, PAGE, S2};
 use crate::outcome::Outcome;
-use crate::regions::PAGE;
-use crate::words::{first_word, value_in};
 use image_format::Image;
-use rv64im_machine::{FaultKind, Machine, Region};
-use wasm_defs::{TrapKind, ValType, Value};
-
-/// Registers: a0 and a7, which calls are told in, and s2, which holds the memory's size in bytes.
-const A0: u8 = 10;
-
-const A7: u8 = 17;
-
-const S2: u8 = 18;
-
-/// The result that stands in the stack's first slot, if there is one.
-fn returned(stack: &[u8], results: &[ValType]) -> Option<Value>
-    requires stack { 8 ≤ length stack.now }
-    requires results { length results.now ≤ 1 }
-    ensures { values_of result ≡ results_at stack.now 0 results.now }
-{
-    let ty = results.first()?;
-    Some(value_in(*ty, first_word(stack)))
-}
+use rv64im_machine::{FaultKind, Machine};
+use wasm_defs::{TrapKind, Value};
 
 /// Adds pages to the memory if its cap allows, and says in a0 how many there were, or -1.
 fn grow(machine: &mut Machine, pages: &mut u32, cap: u32, more: u64)
     requires { more < 2 ^ 32 }
     ensures code { machine.new.code ≡ machine.old.code }
-    ensures grown { grown cap (running (state_of machine.old) pages.old []) more ≡ To (running (state_of machine.new) pages.new []) }
+    ensures bytes { machine.new.bytes ≡ machine.old.bytes }
+    ensures pages { pages.old ≤ cap → pages.new ≤ cap }
+    ensures grown { Grows cap more (state_of machine.old) (state_of machine.new) pages.old pages.new }
 {
     let wanted = u64::from(*pages) + more;
     if wanted <= u64::from(cap) {
@@ -46,30 +33,35 @@ fn grow(machine: &mut Machine, pages: &mut u32, cap: u32, more: u64)
     }
 }
 
-/// Does the call of the environment behind whose ECALL the machine stands. If it ends the run, says how.
-pub(crate) fn answer(
+/// Does the call of the environment behind whose ECALL the machine stands.
+pub(crate) fn answer<H: Host>(
     machine: &mut Machine,
     pages: &mut u32,
+    room: &mut [Value],
     image: &Image,
-    results: &[ValType],
-) -> Option<Outcome>
-    requires imports { image.now.imports ≡ [] }
+    host: &mut H,
+) -> Answer
+    requires machine { RunsImage image.now machine.old pages.old }
     requires place { 4 ≤ machine.old.pc }
-    requires stack { 8 ≤ length machine.old.bytes.stack }
-    requires results { length results.now ≤ 1 }
-    ensures code { machine.new.code ≡ machine.old.code }
-    ensures stack { length machine.new.bytes.stack ≡ length machine.old.bytes.stack }
-    ensures answer { Answers result (environment image.now (running (state_of machine.old) pages.old results.now) (machine.old.pc - 4)) (running (state_of machine.new) pages.new results.now) }
+    requires room { PARAMS ≤ length room.old }
+    requires host { H.is_ready host.old ≡ true }
+    ensures machine { RunsImage image.now machine.new pages.new }
+    ensures host { H.is_ready host.new ≡ true }
+    ensures answer { Answered H.answers image.now host.old host.new (state_of machine.old) (state_of machine.new) pages.old pages.new result }
 {
-    let unknown = Outcome::Fault(FaultKind::Call, machine.pc() - 4);
+    let unknown = Answer::Over(Outcome::Fault(FaultKind::Call, machine.pc() - 4));
     let a0 = machine.register(A0);
     match machine.register(A7) {
-        0 => Some(Outcome::Returned(returned(machine.bytes(Region::Stack), results))),
-        1 => Some(TrapKind::of_number(a0).map_or(unknown, Outcome::Trapped)),
+        0 => Answer::Ended,
+        1 => match TrapKind::of_number(a0) {
+            Some(kind) => Answer::Over(Outcome::Trapped(kind)),
+            None => unknown,
+        },
         2 => {
             grow(machine, pages, image.cap, a0 % 0x1_0000_0000);
-            None
+            Answer::GoesOn
         }
-        _ => Some(unknown),
+        3 => call_import(machine, *pages, room, image, host),
+        _ => unknown,
     }
 }

@@ -11,6 +11,8 @@ pub enum Outcome {
     Trapped(TrapKind),
     /// All steps were made, and it hadn't ended.
     StepsSpent,
+    /// The host's reply to a call was `Stop`, or was taken so.
+    HostStopped,
     /// The machine has no step at this place, or the environment was called there in a way that it doesn't know.
     Fault(FaultKind, u64),
 }

@@ -1,34 +1,24 @@
-//! The bytes of an image's regions before a run.
-ghost use Rattle.std.specs.Prelude.{◌≡◌, ◌+◌, ◌-◌, ◌*◌, ◌^◌, ◌≤◌, ◌++◌, IfOk, IsTrue, length, map, replicate};
+//! The bytes that an image is loaded to.
+ghost use Rattle.std.specs.Prelude.{◌≡◌, ◌+◌, ◌*◌, ◌^◌, ◌≤◌, ◌++◌, IfOk, IsTrue, length};
 ghost use Rattle.rv64im_machine.specs.Contents.{bytes_of};
 ghost use Rattle.wasm_defs.specs.Instances.{all_fit, all_over, over};
-ghost use Rattle.wasm_defs.specs.Values.{value_of, words_of};
+ghost use Rattle.wasm_defs.specs.Memory.{page};
 ghost use Rattle.image_format.specs.Environment.{row_words, segments_of, word_bytes};
-ghost use Rattle.image_run.specs.States.{first_bytes};
+ghost use Rattle.image_run.specs.States.{IsLoaded, zeros};
 
-use crate::words::{push_word, word_of};
+use crate::layout::{PAGE, STACK_SIZE};
+use crate::words::push_word;
 use image_format::{Image, Row, Segment};
 use rv64im_machine::Regions;
 use std::alloc::{AllocError, Global};
-use wasm_defs::Value;
 
-/// Bytes of the stack.
-pub(crate) const STACK_SIZE: usize = 1_048_576;
-
-/// Bytes of a page of memory (WebAssembly Core 1.0, 4.2.8).
-pub(crate) const PAGE: u64 = 65_536;
-
-/// The stack, with the arguments in its first slots.
-fn stack_of(alloc: Global, arguments: &[Value]) -> Result<Vec<u8>, AllocError>
-    requires { length arguments.now ≤ 131072 }
-    ensures { IfOk result (λ v. v.items ≡ word_bytes (words_of (map value_of arguments.now)) ++ replicate (1048576 - 8 * length arguments.now) 0) }
+/// So many bytes that are zero.
+#[tactic(auto, unfolding(crate::specs::States::zeros))]
+fn zeros(alloc: Global, size: usize) -> Result<Vec<u8>, AllocError>
+    ensures items { IfOk result (λ v. v.items ≡ zeros size) }
+    ensures size { IfOk result (λ v. length v.items ≡ size) }
 {
-    let mut stack = Vec::with_capacity(alloc, STACK_SIZE)?;
-    for value in arguments {
-        push_word(&mut stack, word_of(*value))?;
-    }
-    stack.resize(STACK_SIZE, 0)?;
-    Ok(stack)
+    vec![in alloc; 0; size]
 }
 
 /// The bytes of the globals.
@@ -70,31 +60,26 @@ fn write_segment(memory: &mut [u8], segment: &Segment)
 fn memory_of(alloc: Global, size: usize, segments: &[Segment]) -> Result<Vec<u8>, AllocError>
     requires size { size ≤ 2 ^ 26 }
     requires fit { IsTrue (all_fit size (segments_of segments.now)) }
-    ensures items { IfOk result (λ v. v.items ≡ all_over (replicate size 0) (segments_of segments.now)) }
+    ensures items { IfOk result (λ v. v.items ≡ all_over (zeros size) (segments_of segments.now)) }
     ensures size { IfOk result (λ v. length v.items ≡ size) }
 {
-    let mut memory = vec![in alloc; 0; size]?;
+    let mut memory = zeros(alloc, size)?;
     for segment in segments {
         write_segment(&mut memory, segment);
     }
     Ok(memory)
 }
 
-/// The regions of an image before a call from outside with these arguments.
-pub(crate) fn regions_of(
-    alloc: Global,
-    image: &Image,
-    arguments: &[Value],
-) -> Result<Regions, AllocError>
-    requires { length arguments.now ≤ 131072 }
-    ensures bytes { IfOk result (λ r. bytes_of r ≡ first_bytes image.now (map value_of arguments.now)) }
+/// The bytes that an image is loaded to, with the memory up to its cap.
+pub(crate) fn regions_of(alloc: Global, image: &Image) -> Result<Regions, AllocError>
+    ensures loaded { IfOk result (λ r. IsLoaded image.now (bytes_of r)) }
     ensures stack { IfOk result (λ r. length r.stack.items ≡ 1048576) }
     ensures globals { IfOk result (λ r. length r.globals.items ≤ 800000) }
     ensures table { IfOk result (λ r. length r.table.items ≤ 1600000) }
-    ensures memory { IfOk result (λ r. length r.memory.items ≤ 2 ^ 26) }
+    ensures memory { IfOk result (λ r. length r.memory.items ≡ page * image.now.cap) }
 {
     let size = PAGE as usize * image.cap as usize;
-    let stack = stack_of(alloc, arguments)?;
+    let stack = zeros(alloc, STACK_SIZE)?;
     let globals = globals_of(alloc, image.globals.as_slice())?;
     let table = table_of(alloc, image.table.as_slice())?;
     let memory = memory_of(alloc, size, image.segments.as_slice())?;

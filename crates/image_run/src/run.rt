@@ -1,113 +1,130 @@
-//! Runs of exported functions.
-ghost use Rattle.std.specs.Prelude.{◌≡◌, ℕ, ◌≤◌, ◌-◌, [], length, map, IfOk};
-ghost use Rattle.rv_isa.specs.Steps.{Registers};
+//! Runs of functions.
+ghost use Rattle.std.specs.Prelude.{◌≡◌, ◌*◌, ◌≤◌, true, length, map};
+ghost use Rattle.rv_isa.specs.declared.stepping.Region.TheVariants.{Stack};
 ghost use Rattle.rv64im_machine.specs.Contents.{state_of};
-ghost use Rattle.wasm_defs.specs.Values.{value_of};
-ghost use Rattle.image_format.specs.Environment.{code_of_image, first_registers};
-ghost use Rattle.image_format.specs.ImageRun.{steps as steps_of, run_of};
-ghost use Rattle.image_run.specs.Ends.{IsEnd, RunsTo};
-ghost use Rattle.image_run.specs.States.{zeros, first_state, running};
+ghost use Rattle.rv64im_machine.specs.Lending.{with_bytes};
+ghost use Rattle.wasm_defs.specs.Values.{value_of, words_of};
+ghost use Rattle.image_format.specs.declared.limits.TheConstants.{PARAMS};
+ghost use Rattle.image_format.specs.Environment.{entered, first_registers, with_words};
+ghost use Rattle.image_format.specs.ImageRun.{results_at};
+ghost use Rattle.image_run.specs.Answers.{Runs, Starts};
+ghost use Rattle.image_run.specs.Hosts.{values_of};
+ghost use Rattle.image_run.specs.States.{IsLoaded, Keeps, RunsImage};
 
+use crate::answer::Answer;
 use crate::environment::answer;
+use crate::host::Host;
+use crate::layout::{
+    GLOBALS, MEMORY, PAGE, RA, S0, S1, S2, S3, S4, S5, STACK, STACK_SIZE, TABLE, TEXT,
+};
 use crate::outcome::Outcome;
-use crate::regions::{PAGE, STACK_SIZE, regions_of};
-use image_format::{Export, Image};
+use crate::words::{value_in, word_in, write_value};
+use image_format::Image;
 use rv64im_machine::{Machine, Ran};
-use std::alloc::{AllocError, Global};
 use wasm_defs::{ValType, Value};
 
-/// Where the text begins, and the regions.
-const TEXT: u64 = 0x1000_0000;
-
-const STACK: u64 = 0x2000_0000;
-
-const GLOBALS: u64 = 0x3000_0000;
-
-const TABLE: u64 = 0x4000_0000;
-
-const MEMORY: u64 = 0x5000_0000;
-
-/// Sets the registers for a call from outside: ra, and s0 to s5.
+/// Sets the registers for a call from outside.
 fn set_registers(machine: &mut Machine, pages: u32)
-    requires { (state_of machine.old).registers ≡ zeros }
     ensures code { machine.new.code ≡ machine.old.code }
     ensures state { state_of machine.new ≡ record (state_of machine.old) { registers = first_registers pages } }
 {
-    machine.set_register(1, TEXT);
-    machine.set_register(8, STACK);
-    machine.set_register(9, MEMORY);
-    machine.set_register(18, PAGE * u64::from(pages));
-    machine.set_register(19, GLOBALS);
-    machine.set_register(20, TABLE);
-    machine.set_register(21, STACK + STACK_SIZE as u64);
+    machine.clear_registers();
+    machine.set_register(RA, TEXT);
+    machine.set_register(S0, STACK);
+    machine.set_register(S1, MEMORY);
+    machine.set_register(S2, PAGE * u64::from(pages));
+    machine.set_register(S3, GLOBALS);
+    machine.set_register(S4, TABLE);
+    machine.set_register(S5, STACK + STACK_SIZE as u64);
 }
 
-/// The machine before the call of the function at an offset of the text, with these arguments.
-fn machine_for(
-    alloc: Global,
-    image: &Image,
-    offset: u32,
-    arguments: &[Value],
-) -> Result<Machine, AllocError>
-    requires arguments { length arguments.now ≤ 131072 }
-    ensures code { IfOk result (λ m. m.code ≡ code_of_image image.now) }
-    ensures state { IfOk result (λ m. state_of m ≡ first_state image.now offset (map value_of arguments.now)) }
-    ensures stack { IfOk result (λ m. 8 ≤ length m.bytes.stack) }
+/// Writes arguments to the stack's first slots.
+fn write_arguments(machine: &mut Machine, arguments: &[Value])
+    requires { 8 * length arguments.now ≤ length machine.old.bytes.stack }
+    ensures kept { Keeps machine.old machine.new }
+    ensures written { machine.new ≡ with_bytes machine.old Stack (with_words machine.old.bytes.stack 0 (words_of (map value_of arguments.now))) }
 {
-    let regions = regions_of(alloc, image, arguments)?;
-    let mut machine = Machine::new(alloc, image.text.as_slice(), regions)?;
-    set_registers(&mut machine, image.pages);
+    for (i, value) in arguments.iter().enumerate() {
+        write_value(machine, 8 * i, *value);
+    }
+}
+
+/// Makes the machine stand at the function at an offset of the text, which is called from outside with these arguments.
+pub(crate) fn enter(machine: &mut Machine, pages: u32, offset: u32, arguments: &[Value])
+    requires { 8 * length arguments.now ≤ length machine.old.bytes.stack }
+    ensures kept { Keeps machine.old machine.new }
+    ensures state { state_of machine.new ≡ entered pages machine.old.bytes (record { offset = offset; arguments = map value_of arguments.now }) }
+{
+    write_arguments(machine, arguments);
+    set_registers(machine, pages);
     machine.set_pc(TEXT + u64::from(offset));
-    Ok(machine)
 }
 
-/// Runs the machine of an image for at most so many steps.
-fn run(machine: &mut Machine, image: &Image, results: &[ValType], steps: u64) -> Outcome
-    requires code { machine.old.code ≡ code_of_image image.now }
-    requires imports { image.now.imports ≡ [] }
-    requires stack { 8 ≤ length machine.old.bytes.stack }
+/// The result that stands in the stack's first slot, if there is one.
+pub(crate) fn returned(stack: &[u8], results: &[ValType]) -> Option<Value>
+    requires stack { 8 ≤ length stack.now }
     requires results { length results.now ≤ 1 }
-    ensures { IsEnd result (run_of (steps_of image.now steps (running (state_of machine.old) image.now.pages results.now))).end }
+    ensures { values_of result ≡ results_at stack.now 0 results.now }
 {
-    let mut pages = image.pages;
-    let mut left = steps;
+    let ty = results.first()?;
+    Some(value_in(*ty, word_in(stack, 0)))
+}
+
+/// Runs the function at which the machine of an image stands, for at most so many steps. Where it ends, `left` is how many steps are
+/// left; else the result is how the run ends.
+pub(crate) fn run_function<H: Host>(
+    machine: &mut Machine,
+    pages: &mut u32,
+    room: &mut [Value],
+    image: &Image,
+    host: &mut H,
+    left: &mut u64,
+) -> Option<Outcome>
+    requires machine { RunsImage image.now machine.old pages.old }
+    requires room { PARAMS ≤ length room.old }
+    requires host { H.is_ready host.old ≡ true }
+    ensures machine { RunsImage image.now machine.new pages.new }
+    ensures host { H.is_ready host.new ≡ true }
+    ensures runs { Runs H.answers image.now host.old host.new (state_of machine.old) (state_of machine.new) pages.old pages.new left.old left.new result }
+{
     'calls: loop {
-        match machine.run(left) {
-            Ran::Spent => return Outcome::StepsSpent,
-            Ran::Fault(_, kind) => return Outcome::Fault(kind, machine.pc()),
+        match machine.run(*left) {
+            Ran::Spent => return Some(Outcome::StepsSpent),
+            Ran::Fault(_, kind) => return Some(Outcome::Fault(kind, machine.pc())),
             Ran::Call(done) => {
-                left -= done;
-                if let Some(outcome) = answer(machine, &mut pages, image, results) {
-                    return outcome;
+                *left -= done;
+                match answer(machine, pages, room, image, host) {
+                    Answer::GoesOn => {}
+                    Answer::Ended => return None,
+                    Answer::Over(outcome) => return Some(outcome),
                 }
             }
         }
     }
 }
 
-/// Runs an exported function of an image with these arguments, for at most so many steps of the machine. How it ends is how
-/// the image's run ends that `image_run` of `image_format` defines.
-///
-/// The conditions are those of images that are run so far: without imports and without a start function. The function has at most
-/// one result, and the words of the arguments, whose types aren't asked here, have room in the stack.
-pub fn run_export(
-    alloc: Global,
+/// Runs the start function of an image that is loaded, if it has one. Where it ends, `left` is how many steps are left; else the
+/// result is how the run ends.
+pub(crate) fn run_start<H: Host>(
+    machine: &mut Machine,
+    pages: &mut u32,
+    room: &mut [Value],
     image: &Image,
-    export: &Export,
-    arguments: &[Value],
-    steps: u64,
-) -> Result<Outcome, AllocError>
-    requires imports { image.now.imports ≡ [] }
-    requires start { image.now.start ≡ 0 }
-    requires results { length export.now.signature.results ≤ 1 }
-    requires arguments { length arguments.now ≤ 131072 }
-    ensures { IfOk result (RunsTo image.now export.now.offset export.now.signature.results (map value_of arguments.now) steps) }
+    host: &mut H,
+    left: &mut u64,
+) -> Option<Outcome>
+    requires machine { RunsImage image.now machine.old pages.old }
+    requires room { PARAMS ≤ length room.old }
+    requires host { H.is_ready host.old ≡ true }
+    requires bytes { IsLoaded image.now machine.old.bytes }
+    requires pages { pages.old ≡ image.now.pages }
+    ensures machine { RunsImage image.now machine.new pages.new }
+    ensures host { H.is_ready host.new ≡ true }
+    ensures starts { Starts H.answers image.now host.old host.new (state_of machine.new) pages.new left.old left.new result }
 {
-    let mut machine = machine_for(alloc, image, export.offset, arguments)?;
-    Ok(run(
-        &mut machine,
-        image,
-        export.signature.results.as_slice(),
-        steps,
-    ))
+    if image.start == 0 {
+        return None;
+    }
+    enter(machine, *pages, image.start, &[]);
+    run_function(machine, pages, room, image, host, left)
 }

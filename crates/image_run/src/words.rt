@@ -1,9 +1,13 @@
 //! Words of 64 bits: as values, and in bytes, the low byte first.
-ghost use Rattle.std.specs.Prelude.{◌≡◌, ◌+◌, ◌≤◌, ◌++◌, IfOk, length};
-ghost use Rattle.rv_isa.specs.Steps.{le_bytes};
+ghost use Rattle.std.specs.Prelude.{◌≡◌, ◌+◌, ◌<◌, ◌≤◌, ◌++◌, All, IfOk, length};
+ghost use Rattle.rv_isa.specs.Steps.{le_bytes, value_at, put, region as bytes_in};
+ghost use Rattle.rv_isa.specs.declared.stepping.Region.TheVariants.{Stack};
+ghost use Rattle.rv64im_machine.specs.Lending.{with_bytes};
 ghost use Rattle.wasm_defs.specs.Values.{value_of, word_of};
-ghost use Rattle.image_format.specs.Environment.{held, word_at};
+ghost use Rattle.image_format.specs.Environment.{held};
+ghost use Rattle.image_run.specs.States.{Keeps};
 
+use rv64im_machine::{Machine, Region};
 use std::alloc::AllocError;
 use wasm_defs::{ValType, Value};
 
@@ -27,13 +31,20 @@ pub(crate) fn value_in(ty: ValType, word: u64) -> Value
     }
 }
 
-/// The word in a region's first eight bytes.
-pub(crate) fn first_word(bytes: &[u8]) -> u64
-    requires { 8 ≤ length bytes.now }
-    ensures { result ≡ word_at bytes.now 0 }
+/// The word in the eight bytes from a place on.
+pub(crate) fn word_in(bytes: &[u8], at: usize) -> u64
+    requires { at + 8 ≤ length bytes.now }
+    ensures { result ≡ value_at 8 at bytes.now }
 {
     u64::from_le_bytes([
-        bytes[0], bytes[1], bytes[2], bytes[3], bytes[4], bytes[5], bytes[6], bytes[7],
+        bytes[at],
+        bytes[at + 1],
+        bytes[at + 2],
+        bytes[at + 3],
+        bytes[at + 4],
+        bytes[at + 5],
+        bytes[at + 6],
+        bytes[at + 7],
     ])
 }
 
@@ -42,4 +53,24 @@ pub(crate) fn push_word(bytes: &mut Vec<u8>, word: u64) -> Result<(), AllocError
     ensures { IfOk result (λ _. bytes.new.items ≡ bytes.old.items ++ le_bytes 8 word) }
 {
     bytes.extend_from_slice(&word.to_le_bytes())
+}
+
+/// Writes bytes over those of a region from a place on.
+pub(crate) fn write(machine: &mut Machine, region: Region, at: usize, bytes: &[u8])
+    requires { at + length bytes.now ≤ length (bytes_in machine.old.bytes region) }
+    ensures kept { Keeps machine.old machine.new }
+    ensures bytes { All (λ b. b < 256) bytes.now }
+    ensures written { machine.new ≡ with_bytes machine.old region (put (length bytes.now) at (bytes_in machine.old.bytes region) bytes.now) }
+{
+    let all = machine.bytes_mut(region);
+    all[at..at + bytes.len()].copy_from_slice(bytes);
+}
+
+/// Writes the word that holds a value over the eight bytes of the stack from a place on.
+pub(crate) fn write_value(machine: &mut Machine, at: usize, value: Value)
+    requires { at + 8 ≤ length machine.old.bytes.stack }
+    ensures kept { Keeps machine.old machine.new }
+    ensures written { machine.new ≡ with_bytes machine.old Stack (put 8 at machine.old.bytes.stack (le_bytes 8 (word_of (value_of value)))) }
+{
+    write(machine, Region::Stack, at, &word_of(value).to_le_bytes());
 }

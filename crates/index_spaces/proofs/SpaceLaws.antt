@@ -6,8 +6,8 @@ use Rattle.wasm_defs.specs.declared.item.Item.{Item}
 use Rattle.wasm_defs.specs.declared.item.Item.TheVariants.{Signature, Imported, Function, Table, Memory, Global, Exported, Start, Element, Code, Segment}
 use Rattle.wasm_defs.specs.Context.{types_of, functions_of, import_count, declared_count, tables_of, memories_of, globals_of}
 use Rattle.wasm_defs.specs.Context.{context_of}
-use Rattle.wasm_defs.specs.Instances.{start_of, place_of}
-use Rattle.index_spaces.specs.Entries.{imports_of, all_exports_of, element_rows_of, initials_of}
+use Rattle.wasm_defs.specs.Instances.{start_of, i32_value}
+use Rattle.index_spaces.specs.Entries.{imports_of, all_exports_of, element_rows_of, data_rows_of, initials_of}
 use Rattle.index_spaces.specs.Spaces.{context_in, spaces_of, with_item}
 
 pub types_of-append : (xs ys : List Item) → types_of (xs ++ ys) ≡ types_of xs ++ types_of ys
@@ -58,8 +58,13 @@ all_exports_of-append (_ ∷ xs) ys = all_exports_of-append xs ys
 
 element_rows_of-append : (xs ys : List Item) → element_rows_of (xs ++ ys) ≡ element_rows_of xs ++ element_rows_of ys
 element_rows_of-append [] ys = refl
-element_rows_of-append (Element table place functions ∷ xs) ys = ap (λ l. record { place = place_of place; functions = functions.1 } ∷ l) (element_rows_of-append xs ys)
+element_rows_of-append (Element table place functions ∷ xs) ys = ap (λ l. record { place = i32_value place; functions = functions.1 } ∷ l) (element_rows_of-append xs ys)
 element_rows_of-append (_ ∷ xs) ys = element_rows_of-append xs ys
+
+data_rows_of-append : (xs ys : List Item) → data_rows_of (xs ++ ys) ≡ data_rows_of xs ++ data_rows_of ys
+data_rows_of-append [] ys = refl
+data_rows_of-append (Segment memory place bytes ∷ xs) ys = ap (λ l. record { place = i32_value place; bytes = bytes.1 } ∷ l) (data_rows_of-append xs ys)
+data_rows_of-append (_ ∷ xs) ys = data_rows_of-append xs ys
 
 initials_of-append : (xs ys : List Item) → initials_of (xs ++ ys) ≡ initials_of xs ++ initials_of ys
 initials_of-append [] ys = refl
@@ -83,7 +88,7 @@ functions_of-counts (Function type_index ∷ xs) = omega (arith, functions_of-co
 functions_of-counts (_ ∷ xs) = functions_of-counts xs
 
 -- one more declaration of a sort stands behind the others, and all other sorts stay
-ruleset appends = (types_of-append, functions_of-append, tables_of-append, memories_of-append, globals_of-append, import_count-append, declared_count-append, imports_of-append, all_exports_of-append, element_rows_of-append, initials_of-append, start_of-append, option_or-none, append-nil, add-zero, length-append)
+ruleset appends = (types_of-append, functions_of-append, tables_of-append, memories_of-append, globals_of-append, import_count-append, declared_count-append, imports_of-append, all_exports_of-append, element_rows_of-append, data_rows_of-append, initials_of-append, start_of-append, option_or-none, append-nil, add-zero, length-append)
 
 pub spaces_of-append : (items : List Item) (x : Item) → spaces_of (items ++ x ∷ []) ≡ with_item (spaces_of items) x
 spaces_of-append items (Signature form params results ty) = simp appends

@@ -1,19 +1,20 @@
--- What a module imports, exports and writes into its table, and the numbers of its globals' constants: each list the items of
--- that sort in order (WebAssembly Core 1.0, 2.5).
+-- What a module imports, exports and writes into its table and its memory, and the numbers of its globals' constants: each list the
+-- items of that sort in order (WebAssembly Core 1.0, 2.5).
 use Rattle.std.specs.Prelude.{ℕ, suc, ℤ, Bool, true, false, List, [], ◌∷◌, map, filter, Option, Some, slice_get}
 use Rattle.wasm_defs.specs.declared.context.GlobalType.{GlobalType}
 use Rattle.wasm_defs.specs.declared.item.Extern.{Extern}
 use Rattle.wasm_defs.specs.declared.item.Extern.TheVariants as extern
 use Rattle.wasm_defs.specs.declared.item.Item.{Item}
-use Rattle.wasm_defs.specs.declared.item.Item.TheVariants.{Imported, Global, Exported, Element}
+use Rattle.wasm_defs.specs.declared.item.Item.TheVariants.{Imported, Global, Exported, Element, Segment}
 use Rattle.wasm_defs.specs.Typing.{Context}
 use Rattle.wasm_defs.specs.Context.{type_or_empty}
 use Rattle.wasm_defs.specs.Values.{Value, unsigned}
-use Rattle.wasm_defs.specs.Instances.{Written, place_of}
+use Rattle.wasm_defs.specs.Instances.{Written, i32_value}
 use Rattle.wasm_defs.specs.Configurations as run
 use Rattle.index_spaces.specs.declared.entries.Import.{Import}
 use Rattle.index_spaces.specs.declared.entries.Export.{Export}
 use Rattle.index_spaces.specs.declared.entries.ElementRow.{ElementRow}
+use Rattle.index_spaces.specs.declared.entries.DataRow.{DataRow}
 
 abbrev pub imports_of : List Item → List Import
 imports_of [] = []
@@ -28,8 +29,13 @@ all_exports_of (_ ∷ xs) = all_exports_of xs
 
 abbrev pub element_rows_of : List Item → List ElementRow
 element_rows_of [] = []
-element_rows_of (Element table place functions ∷ xs) = record { place = place_of place; functions = functions.1 } ∷ element_rows_of xs
+element_rows_of (Element table place functions ∷ xs) = record { place = i32_value place; functions = functions.1 } ∷ element_rows_of xs
 element_rows_of (_ ∷ xs) = element_rows_of xs
+
+abbrev pub data_rows_of : List Item → List DataRow
+data_rows_of [] = []
+data_rows_of (Segment memory place bytes ∷ xs) = record { place = i32_value place; bytes = bytes.1 } ∷ data_rows_of xs
+data_rows_of (_ ∷ xs) = data_rows_of xs
 
 -- the numbers of the globals' constants, as signed ones
 abbrev pub initials_of : List Item → List ℤ
@@ -55,6 +61,9 @@ function_exports exports = map (λ e. (e.name, e.index)) (filter (λ e. is_funct
 
 abbrev pub written_rows : List ElementRow → List (Written (Option ℕ))
 written_rows rows = map (λ r. (r.place, map Some r.functions)) rows
+
+abbrev pub written_segments : List DataRow → List (Written ℕ)
+written_segments rows = map (λ r. (r.place, r.bytes)) rows
 
 -- the values of globals of these types, by the numbers of their constants
 abbrev pub initial_values : List GlobalType → List ℤ → List Value

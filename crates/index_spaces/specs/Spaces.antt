@@ -3,20 +3,21 @@ use Rattle.std.specs.Prelude.{ℕ, ℤ, ◌+◌, List, [], ◌∷◌, ◌++◌, 
 use Rattle.std.specs.Option.{option_or}
 use Rattle.wasm_defs.specs.declared.context.GlobalType.{GlobalType}
 use Rattle.wasm_defs.specs.declared.item.Item.{Item}
-use Rattle.wasm_defs.specs.declared.item.Item.TheVariants.{Signature, Imported, Function, Table, Memory, Global, Exported, Start, Element}
+use Rattle.wasm_defs.specs.declared.item.Item.TheVariants.{Signature, Imported, Function, Table, Memory, Global, Exported, Start, Element, Segment}
 use Rattle.wasm_defs.specs.declared.item.Limits.{Limits}
 use Rattle.wasm_defs.specs.declared.types.FuncType.{FuncType}
 use Rattle.wasm_defs.specs.Context.{types_of, functions_of, import_count, declared_count, tables_of, memories_of, globals_of}
-use Rattle.wasm_defs.specs.Instances.{start_of, place_of}
+use Rattle.wasm_defs.specs.Instances.{start_of, i32_value}
 use Rattle.wasm_defs.specs.Typing.{Context}
 use Rattle.index_spaces.specs.declared.entries.Import.{Import}
 use Rattle.index_spaces.specs.declared.entries.Export.{Export}
 use Rattle.index_spaces.specs.declared.entries.ElementRow.{ElementRow}
-use Rattle.index_spaces.specs.Entries.{imports_of, all_exports_of, element_rows_of, initials_of}
+use Rattle.index_spaces.specs.declared.entries.DataRow.{DataRow}
+use Rattle.index_spaces.specs.Entries.{imports_of, all_exports_of, element_rows_of, data_rows_of, initials_of}
 
 -- the types; the functions by the indices of their types, the imported ones first; tables, memories and globals, and the numbers
--- of the globals' constants; how many functions are imported, and how many declared; imports, exports and element segments; and
--- the index of the start function, where there is one
+-- of the globals' constants; how many functions are imported, and how many declared; imports, exports, element segments and data
+-- segments; and the index of the start function, where there is one
 pub record Spaces : Type 0 where
   pub types : List FuncType
   pub functions : List ℕ
@@ -29,6 +30,7 @@ pub record Spaces : Type 0 where
   pub imports : List Import
   pub exports : List Export
   pub elements : List ElementRow
+  pub segments : List DataRow
   pub start : Option ℕ
 
 -- what every body of the module may name
@@ -58,6 +60,7 @@ spaces_of items = record {
   imports = imports_of items;
   exports = all_exports_of items;
   elements = element_rows_of items;
+  segments = data_rows_of items;
   start = start_of items;
 }
 
@@ -87,6 +90,9 @@ with_export s e = record s { exports = s.exports ++ e ∷ [] }
 abbrev pub with_elements : Spaces → ElementRow → Spaces
 with_elements s row = record s { elements = s.elements ++ row ∷ [] }
 
+abbrev pub with_segment : Spaces → DataRow → Spaces
+with_segment s row = record s { segments = s.segments ++ row ∷ [] }
+
 -- a module has one start function; of several the first stays
 abbrev pub with_start : Spaces → ℕ → Spaces
 with_start s index = record s { start = option_or s.start (Some index) }
@@ -101,5 +107,6 @@ with_item s (Memory limits) = with_memory s limits
 with_item s (Global ty mutable init) = with_global s (record { ty = ty.1; mutable = mutable.1 }) init.value.1
 with_item s (Exported name kind index) = with_export s (record { name = name.1; kind = kind.1; index = index.1 })
 with_item s (Start index) = with_start s index.1
-with_item s (Element table place functions) = with_elements s (record { place = place_of place; functions = functions.1 })
+with_item s (Element table place functions) = with_elements s (record { place = i32_value place; functions = functions.1 })
+with_item s (Segment memory place bytes) = with_segment s (record { place = i32_value place; bytes = bytes.1 })
 with_item s _ = s

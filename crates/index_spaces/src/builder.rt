@@ -1,14 +1,20 @@
 //! Gathers the context of a module from its items.
 
-ghost use Rattle.std.specs.Prelude.{◌≡◌, [], OnOk, OnErr, IfOk};
-ghost use Rattle.wasm_defs.specs.Instances.{place_of};
-ghost use Rattle.index_spaces.specs.Spaces.{spaces_of, with_item};
+ghost use Rattle.std.specs.Prelude.{◌≡◌, [], true, OnOk, OnErr, IfOk, Some, Err};
+ghost use Rattle.std.specs.Option.{option_or};
+ghost use Rattle.wasm_defs.specs.Faults.{may_start, started, StartsRight, IsStartFault};
+ghost use Rattle.wasm_defs.specs.Instances.{i32_value};
+ghost use Rattle.index_spaces.specs.Spaces.{context_in, spaces_of, with_item};
+ghost use Rattle.wasm_defs.specs.declared.fault.Refusal.{Refusal as Refused};
 
+use crate::add_stop::AddStop;
 use crate::context::Context;
-use crate::entries::{ElementRow, Export, Import};
+use crate::entries::{DataRow, ElementRow, Export, Import};
 use std::alloc::{AllocError, Global};
 use std::marker::Model;
-use wasm_defs::{Constant, Extern, FuncType, GlobalType, Indices, Item, Name, ValTypes};
+use wasm_defs::{
+    Bytes, Constant, Extern, FuncType, GlobalType, Indices, Item, Kind, Name, Refusal, ValTypes,
+};
 
 fn copy_of_list(alloc: Global, types: &ValTypes) -> Result<ValTypes, AllocError>
     ensures { IfOk result (λ copy. copy ≡ types.now) }
@@ -57,8 +63,8 @@ fn export_of(alloc: Global, name: &Name, kind: Extern, index: u32) -> Result<Exp
 }
 
 /// The number of an `i32` constant as an unsigned one. A number outside that type's range, which no module has, is cut at zero.
-fn place_of(constant: &Constant) -> u64
-    ensures { result ≡ place_of constant.now }
+fn i32_value(constant: &Constant) -> u64
+    ensures { result ≡ i32_value constant.now }
 {
     let number = constant.value.1;
     if number < 0 {
@@ -73,13 +79,51 @@ fn element_row_of(
     place: &Constant,
     functions: &Indices,
 ) -> Result<ElementRow, AllocError>
-    ensures { IfOk result (λ r. r ≡ record { place = place_of place.now; functions = functions.now }) }
+    ensures { IfOk result (λ r. r ≡ record { place = i32_value place.now; functions = functions.now }) }
 {
     let functions = Indices::new(Vec::from_slice(alloc, functions.as_slice())?);
     Ok(ElementRow {
-        place: place_of(place),
+        place: i32_value(place),
         functions,
     })
+}
+
+fn data_row_of(alloc: Global, place: &Constant, bytes: &Bytes) -> Result<DataRow, AllocError>
+    ensures { IfOk result (λ r. r ≡ record { place = i32_value place.now; bytes = bytes.now }) }
+{
+    let bytes = Bytes::new(Vec::from_slice(alloc, bytes.as_slice())?);
+    Ok(DataRow {
+        place: i32_value(place),
+        bytes,
+    })
+}
+
+/// Whether a function may be the start function (WebAssembly Core 1.0, 3.4.7).
+fn may_start(context: &Context, index: u32) -> bool
+    ensures { result ≡ may_start (context_in context.now) index }
+{
+    if !context.has_type_of_function(index) {
+        return false;
+    }
+    let ty = context.type_of_function(index);
+    ty.params.as_slice().is_empty() && ty.results.as_slice().is_empty()
+}
+
+/// Adds the start function: the offset of its index, and the index.
+fn add_start(context: &mut Context, index: (u64, u32)) -> Result<(), AddStop>
+    ensures ok { OnOk result (context.new ≡ record context.old { start = option_or context.old.start (Some index.1) }) }
+    ensures starts { OnOk result (may_start (context_in context.old) index.1 ≡ true) }
+    ensures refused { (r : Refused) → result ≡ Err (AddStop.Refused r) → IsStartFault (context_in context.old) (Some index) r }
+    ensures err { OnErr result (context.new ≡ context.old) }
+{
+    if !may_start(context, index.1) {
+        return Err(AddStop::Refused(Refusal {
+            offset: index.0,
+            kind: Kind::Invalid,
+        }));
+    }
+    context.add_start(index.1);
+    Ok(())
 }
 
 /// The context of the items that were added so far.
@@ -108,9 +152,14 @@ impl ContextBuilder {
         }
     }
 
-    /// Adds an item, which stands behind those that were added before. The code section's count and data segments change nothing.
-    pub fn add(&mut self, item: &Item) -> Result<(), AllocError>
+    /// Adds an item, which stands behind those that were added before. The code section's count changes nothing.
+    ///
+    /// `Refused` comes exactly where the item names a start function that isn't among the functions so far, or has parameters or
+    /// results. Behind an `Err` the context is as before.
+    pub fn add(&mut self, item: &Item) -> Result<(), AddStop>
         ensures ok { OnOk result (self.new ≡ with_item self.old item.now) }
+        ensures starts { OnOk result (StartsRight (context_in self.old) (started item.now)) }
+        ensures refused { (r : Refused) → result ≡ Err (AddStop.Refused r) → IsStartFault (context_in self.old) (started item.now) r }
         ensures err { OnErr result (self.new ≡ self.old) }
     {
         let alloc = self.alloc;
@@ -136,17 +185,18 @@ impl ContextBuilder {
             Item::Exported { name, kind, index } => {
                 context.add_export(export_of(alloc, &name.1, kind.1, index.1)?)
             }
-            Item::Start { index } => {
-                context.add_start(index.1);
-                Ok(())
-            }
+            Item::Start { index } => return add_start(context, *index),
             Item::Element {
                 place,
                 functions,
                 ..
             } => context.add_elements(element_row_of(alloc, place, &functions.1)?),
-            Item::Code { .. } | Item::Segment { .. } => Ok(()),
-        }
+            Item::Segment { place, bytes, .. } => {
+                context.add_segment(data_row_of(alloc, place, &bytes.1)?)
+            }
+            Item::Code { .. } => Ok(()),
+        }?;
+        Ok(())
     }
 
     /// The context of the items that were added so far.

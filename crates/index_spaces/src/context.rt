@@ -3,9 +3,9 @@
 ghost use Rattle.std.specs.Prelude.{◌≡◌, ◌^◌, ◌<◌, ◌↔◌, [], length, IsTrue, IsSome, is_some, Some, OnOk, OnErr, slice_get};
 ghost use Rattle.wasm_defs.specs.Typing.{function_type};
 ghost use Rattle.wasm_defs.specs.Context.{like};
-ghost use Rattle.index_spaces.specs.Spaces.{context_in, spaces_of, with_type, with_import, with_function, with_table, with_memory, with_global, with_export, with_elements, with_start};
+ghost use Rattle.index_spaces.specs.Spaces.{context_in, spaces_of, with_type, with_import, with_function, with_table, with_memory, with_global, with_export, with_elements, with_segment, with_start};
 
-use crate::entries::{ElementRow, Export, Import};
+use crate::entries::{DataRow, ElementRow, Export, Import};
 use crate::type_space::TypeSpace;
 use std::alloc::{AllocError, Global};
 use std::marker::Model;
@@ -13,7 +13,7 @@ use wasm_defs::{FuncType, GlobalType, Limits};
 
 /// A module's index spaces: its types, and what its functions may name of functions, tables, memories and globals, imported
 /// ones first (Core 3.1). An index is the place in its space, from 0 on. And what the module imports and exports, what its
-/// globals and its table begin with, and its start function (Core 2.5).
+/// globals, its table and its memory begin with, and its start function (Core 2.5).
 #[derive(Drop)]
 pub struct Context {
     types: TypeSpace,
@@ -25,6 +25,7 @@ pub struct Context {
     imports: Vec<Import>,
     exports: Vec<Export>,
     elements: Vec<ElementRow>,
+    segments: Vec<DataRow>,
     start: Option<u32>,
 }
 
@@ -46,6 +47,7 @@ impl Model for Context {
       imports = c.imports.items;
       exports = c.exports.items;
       elements = c.elements.items;
+      segments = c.segments.items;
       start = c.start;
     } };
 
@@ -67,6 +69,7 @@ impl Context {
             imports: Vec::new(alloc),
             exports: Vec::new(alloc),
             elements: Vec::new(alloc),
+            segments: Vec::new(alloc),
             start: None,
         }
     }
@@ -141,6 +144,14 @@ impl Context {
         Ok(())
     }
 
+    pub(crate) fn add_segment(&mut self, row: DataRow) -> Result<(), AllocError>
+        ensures ok { OnOk result (self.new ≡ with_segment self.old row) }
+        ensures err { OnErr result (self.new ≡ self.old) }
+    {
+        self.segments.push(row)?;
+        Ok(())
+    }
+
     /// A second start function, which no module has, changes nothing.
     pub(crate) fn add_start(&mut self, index: u32)
         ensures { self.new ≡ with_start self.old index }
@@ -209,6 +220,13 @@ impl Context {
         ensures { result.now ≡ self.now.elements }
     {
         self.elements.as_slice()
+    }
+
+    /// The data segments in order (Core 2.5.8).
+    pub fn segments(&self) -> &[DataRow]
+        ensures { result.now ≡ self.now.segments }
+    {
+        self.segments.as_slice()
     }
 
     /// The index of the start function (Core 2.5.9), where there is one.

@@ -1,6 +1,6 @@
-//! What a module imports and exports, and what it writes into its table.
+//! What a module imports and exports, and what it writes into its table and its memory.
 
-use wasm_defs::{Extern, Indices, Name};
+use wasm_defs::{Bytes, Extern, Indices, Name};
 
 /// An imported function (Core 2.5.11): the two parts of its name, and the index of its type.
 #[derive(Debug, Drop)]
@@ -24,4 +24,12 @@ pub struct Export {
 pub struct ElementRow {
     pub place: u64,
     pub functions: Indices,
+}
+
+/// A data segment (Core 2.5.8): the byte of the memory that it begins at, and the bytes that it writes from there on. The place is
+/// the value of an `i32` constant as an unsigned number, so it is below 2^32 wherever the constant has that type's range.
+#[derive(Debug, Drop)]
+pub struct DataRow {
+    pub place: u64,
+    pub bytes: Bytes,
 }

@@ -5,7 +5,7 @@ ghost use Rattle.wasm_defs.specs.declared.item.Item.{Item};
 ghost use Rattle.wasm_defs.specs.Context.{context_of};
 ghost use Rattle.index_spaces.specs.Spaces.{context_in, spaces_of, with_item};
 ghost use Rattle.index_spaces.specs.Likes.{LikeIsLeast};
-ghost use Rattle.index_spaces.specs.EntryLaws.{ImportsAreFunctions, ExportsAreOfItems, ElementsAreOfItems, ValuesAreOfItems};
+ghost use Rattle.index_spaces.specs.EntryLaws.{ImportsAreFunctions, ExportsAreOfItems, ElementsAreOfItems, SegmentsAreOfItems, ValuesAreOfItems};
 
 /// The context of some items is that in their index spaces.
 pub fn contexts_are_of_items()
@@ -30,6 +30,11 @@ pub fn exports_are_of_items()
 /// The element segments of some items are those that a run's table is made with.
 pub fn elements_are_of_items()
     ensures { ElementsAreOfItems }
+{}
+
+/// The data segments of some items are those that a run's memory is made with.
+pub fn segments_are_of_items()
+    ensures { SegmentsAreOfItems }
 {}
 
 /// The types of the globals of some items, and the numbers of their constants, are the values that a run begins with.

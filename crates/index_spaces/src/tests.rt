@@ -1,8 +1,9 @@
-use crate::{Context, ContextBuilder};
+use crate::{AddStop, Context, ContextBuilder};
 use std::alloc::{AllocError, Global};
 use std::test::Fail;
 use wasm_defs::{
-    Constant, Extern, FuncType, GlobalType, Indices, Item, Limits, Name, ValType, ValTypes,
+    Bytes, Constant, Extern, FuncType, GlobalType, Indices, Item, Kind, Limits, Name, Refusal,
+    ValType, ValTypes,
 };
 
 fn types(alloc: Global, types: &[ValType]) -> Result<ValTypes, AllocError> {
@@ -40,6 +41,14 @@ fn element(alloc: Global, place: i64, functions: &[u32]) -> Result<Item, AllocEr
     })
 }
 
+fn segment(alloc: Global, place: i64, bytes: &[u8]) -> Result<Item, AllocError> {
+    Ok(Item::Segment {
+        memory: (90, 0),
+        place: constant(place),
+        bytes: (95, Bytes::new(Vec::from_slice(alloc, bytes)?)),
+    })
+}
+
 fn exported(alloc: Global, text: &str, kind: Extern, index: u32) -> Result<Item, AllocError> {
     Ok(Item::Exported {
         name: (80, name(alloc, text)?),
@@ -54,9 +63,10 @@ const LIMITS: Limits = Limits {
     max: None,
 };
 
-/// One type, an imported function and one of the module's own, and a memory.
-fn add_functions(alloc: Global, builder: &mut ContextBuilder) -> Result<(), AllocError> {
+/// Two types, an imported function and one of the module's own, and a memory.
+fn add_functions(alloc: Global, builder: &mut ContextBuilder) -> Result<(), AddStop> {
     builder.add(&signature(alloc, &[ValType::I64], &[])?)?;
+    builder.add(&signature(alloc, &[], &[])?)?;
     builder.add(&Item::Imported {
         module: (18, name(alloc, "env")?),
         name: (20, name(alloc, "log")?),
@@ -64,13 +74,13 @@ fn add_functions(alloc: Global, builder: &mut ContextBuilder) -> Result<(), Allo
         type_index: (23, 0),
     })?;
     builder.add(&Item::Function {
-        type_index: (27, 0),
+        type_index: (27, 1),
     })?;
     builder.add(&Item::Memory { limits: LIMITS })
 }
 
 /// A global, and two exports.
-fn add_exports(alloc: Global, builder: &mut ContextBuilder) -> Result<(), AllocError> {
+fn add_exports(alloc: Global, builder: &mut ContextBuilder) -> Result<(), AddStop> {
     builder.add(&Item::Global {
         ty: (60, ValType::I64),
         mutable: (61, true),
@@ -80,14 +90,16 @@ fn add_exports(alloc: Global, builder: &mut ContextBuilder) -> Result<(), AllocE
     builder.add(&exported(alloc, "run", Extern::Function, 1)?)
 }
 
-/// A start function, and two element segments.
-fn add_segments(alloc: Global, builder: &mut ContextBuilder) -> Result<(), AllocError> {
+/// A start function, two element segments and two data segments.
+fn add_segments(alloc: Global, builder: &mut ContextBuilder) -> Result<(), AddStop> {
     builder.add(&Item::Start { index: (68, 1) })?;
     builder.add(&element(alloc, 3, &[1, 0])?)?;
-    builder.add(&element(alloc, -1, &[])?)
+    builder.add(&element(alloc, -1, &[])?)?;
+    builder.add(&segment(alloc, 65_535, b"ab")?)?;
+    builder.add(&segment(alloc, -1, &[])?)
 }
 
-fn context_of(alloc: Global) -> Result<Context, AllocError> {
+fn context_of(alloc: Global) -> Result<Context, AddStop> {
     let mut builder = ContextBuilder::new(alloc);
     add_functions(alloc, &mut builder)?;
     add_exports(alloc, &mut builder)?;
@@ -98,11 +110,11 @@ fn context_of(alloc: Global) -> Result<Context, AllocError> {
 #[test]
 fn functions_have_their_indices(rt: HostRuntime) -> Result<(), Fail> {
     let context = context_of(rt.alloc())?;
-    assert_eq!(rt; context.types().len(), 1);
-    assert_eq!(rt; context.type_indices(), [0, 0].as_slice());
+    assert_eq!(rt; context.types().len(), 2);
+    assert_eq!(rt; context.type_indices(), [0, 1].as_slice());
     assert_eq!(rt; (context.functions(), context.imported()), (2, 1));
     assert_eq!(rt; context.declared(), 1);
-    assert!(rt; context.has_type(0) && !context.has_type(1));
+    assert!(rt; context.has_type(1) && !context.has_type(2));
     assert!(rt; context.has_function(1) && !context.has_function(2));
     Ok(())
 }
@@ -111,8 +123,8 @@ fn functions_have_their_indices(rt: HostRuntime) -> Result<(), Fail> {
 fn functions_have_their_types(rt: HostRuntime) -> Result<(), Fail> {
     let context = context_of(rt.alloc())?;
     assert!(rt; !context.has_type_of_function(2));
-    assert!(rt; context.has_type_of_function(1));
-    let params = context.type_of_function(1).params.as_slice();
+    assert!(rt; context.has_type_of_function(0));
+    let params = context.type_of_function(0).params.as_slice();
     assert_eq!(rt; params, [ValType::I64].as_slice());
     Ok(())
 }
@@ -164,6 +176,36 @@ fn elements_keep_their_order(rt: HostRuntime) -> Result<(), Fail> {
     assert_eq!(rt; first.functions.as_slice(), [1, 0].as_slice());
     assert!(rt; second.functions.as_slice().is_empty());
     assert_eq!(rt; context.start(), Some(1));
+    Ok(())
+}
+
+#[test]
+fn a_start_function_takes_and_gives_nothing(rt: HostRuntime) -> Result<(), Fail> {
+    let alloc = rt.alloc();
+    let mut builder = ContextBuilder::new(alloc);
+    add_functions(alloc, &mut builder)?;
+    let refused = Err(AddStop::Refused(Refusal {
+        offset: 68,
+        kind: Kind::Invalid,
+    }));
+    for index in [0, 2] {
+        assert!(rt; builder.add(&Item::Start { index: (68, index) }) == refused);
+        assert!(rt; builder.context().start().is_none());
+    }
+    assert!(rt; builder.add(&Item::Start { index: (68, 1) }) == Ok(()));
+    assert_eq!(rt; builder.context().start(), Some(1));
+    Ok(())
+}
+
+#[test]
+fn data_segments_keep_their_order(rt: HostRuntime) -> Result<(), Fail> {
+    let context = context_of(rt.alloc())?;
+    let [first, second] = context.segments() else {
+        return Err("two data segments".into());
+    };
+    assert_eq!(rt; (first.place, second.place), (65_535, 4_294_967_295));
+    assert_eq!(rt; first.bytes.as_slice(), b"ab".as_slice());
+    assert!(rt; second.bytes.as_slice().is_empty());
     Ok(())
 }
 

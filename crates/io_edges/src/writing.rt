@@ -10,8 +10,11 @@ use crate::sink::{Put, Sink};
 #[tactic(auto, using(crate::proofs::Known::append_more, crate::proofs::Known::append_nothing, crate::proofs::Known::take_step))]
 pub fn write_all<O: Sink>(out: &mut O, text: &[u8]) -> bool
     requires { O.is_open out.old ≡ true }
-    ensures { WritesText result text.now (O.written out.old) (O.written out.new)
+    ensures text { WritesText result text.now (O.written out.old) (O.written out.new)
         (O.faults out.old) (O.faults out.new) }
+
+    // A sink that took all may be written to again.
+    ensures open { result ≡ true → O.is_open out.new ≡ true }
 {
     let mut from = 0;
     while from < text.len() {

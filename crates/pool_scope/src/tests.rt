@@ -9,7 +9,7 @@ use crate::{keep, run_all, settle};
 use batch_pool::{Pool, Ticket, fits};
 use body_cutter::{Batch, Bodies, Body, BodyBytes};
 use cancel_drain::{Board, BoardSeat, Closed};
-use index_spaces::{Context, ContextBuilder};
+use index_spaces::{AddStop, Context, ContextBuilder};
 use io_edges::OpenGate;
 use result_cells::Cells;
 use std::alloc::{AllocError, Global};
@@ -45,7 +45,7 @@ fn ticket(alloc: Global, number: u32) -> Result<Ticket, AllocError> {
 }
 
 // A module of a function that gives a number of 32 bits.
-fn one_function(alloc: Global) -> Result<Context, AllocError>
+fn one_function(alloc: Global) -> Result<Context, AddStop>
     ensures { IfOk result (λ c. TypesAreSmall c.types) }
 {
     let mut builder = ContextBuilder::new(alloc);
@@ -110,7 +110,9 @@ fn run<R: Threads + Wait + Sync>(
 ) -> Result<(Closed, usize), AllocError>
     ensures { IfOk result (λ r. length r.0.states ≡ 200) }
 {
-    let context = one_function(alloc)?;
+    let Ok(context) = one_function(alloc) else {
+        return Err(AllocError);
+    };
     let cells = Cells::new(alloc, 1)?;
     let (board, mut seat) = Board::new(alloc, BATCHES, u64::from(workers) + 1)?;
     let (feeder, hands) = Pool::new(alloc, workers)?;

@@ -284,3 +284,146 @@ fn a_function_of_a_module_is_called(rt: HostRuntime) -> Result<(), Fail> {
     }
     Ok(())
 }
+
+/// The bytes that `compile` writes for a module.
+pub(crate) fn image_of<R: Threads + Wait + Sync>(
+    rt: &R,
+    alloc: Global,
+    options: &[&str],
+    bytes: &[u8],
+) -> Result<Vec<u8>, Fail> {
+    let mut words = words_of(alloc, &["wstream", "compile"])?;
+    for option in options {
+        words.push(String::from_str(alloc, option)?)?;
+    }
+    let mut page = Page::new(alloc, 65_536)?;
+    let status = top(
+        rt,
+        alloc,
+        &words,
+        &mut Flat::new(bytes),
+        &mut page,
+        &OpenGate,
+    );
+    if status != 0 {
+        return Err("no image".into());
+    }
+    Ok(Vec::from_slice(alloc, page.bytes())?)
+}
+
+#[test]
+fn images_are_written(rt: HostRuntime) -> Result<(), Fail> {
+    let alloc = rt.alloc();
+    let empty = image_of(&rt, alloc, &[], &bytes_of(alloc, &[HEADER])?)?;
+    let mut expected = bytes_of(
+        alloc,
+        &["57 52 56 49 01 00 00 00 02 00 00 00 93 08 00 00 73 00 00 00"],
+    )?;
+    expected.resize(56, 0)?;
+    assert!(rt; empty == expected);
+    let mut module = bytes_of(alloc, &[HEADER, ADD])?;
+    let image = image_of(&rt, alloc, &[], &module)?;
+    assert_eq!(rt; image.len(), 254);
+    for batch in ["1", "7", "1048576"] {
+        let again = image_of(&rt, alloc, &["--batch", batch], &module)?;
+        assert!(rt; again == image, "batches of {batch} bytes");
+    }
+    module.truncate(40);
+    assert_eq!(rt;
+        answer(&rt, alloc, &["wstream", "compile"], &module)?.as_str(),
+        "2 refused ended at 40\n"
+    );
+    Ok(())
+}
+
+/// The answer to `exec` with these words, where the source gives the image.
+fn executed<R: Threads + Wait + Sync>(
+    rt: &R,
+    alloc: Global,
+    words: &[&str],
+    image: &[u8],
+) -> Result<String, Fail> {
+    let mut all = words_of(alloc, &["wstream", "exec"])?;
+    for word in words {
+        all.push(String::from_str(alloc, word)?)?;
+    }
+    let mut page = Page::new(alloc, 4096)?;
+    let status = top(rt, alloc, &all, &mut Flat::new(image), &mut page, &OpenGate);
+    told(alloc, status, &page)
+}
+
+#[test]
+fn images_are_run(rt: HostRuntime) -> Result<(), Fail> {
+    let alloc = rt.alloc();
+    let module = bytes_of(alloc, &[HEADER, ADD])?;
+    let image = image_of(&rt, alloc, &[], &module)?;
+    let rows: [(&[&str], &str); 4] = [
+        (&["add", "i32:2", "i32:3"], "0 i32 5\n"),
+        (&["add", "i32:2"], "3 not runnable wrong arguments\n"),
+        (&["sub"], "3 not runnable no such export\n"),
+        (
+            &["add", "i32:2", "i32:3", "--steps", "0"],
+            "5 steps spent\n",
+        ),
+    ];
+    for (words, expected) in rows {
+        assert_eq!(rt; executed(&rt, alloc, words, &image)?.as_str(), expected);
+    }
+    Ok(())
+}
+
+#[test]
+fn bytes_that_are_no_image_are_told(rt: HostRuntime) -> Result<(), Fail> {
+    let alloc = rt.alloc();
+    let image = image_of(&rt, alloc, &[], &bytes_of(alloc, &[HEADER])?)?;
+    for cut in 0..image.len() {
+        let expected = format!(in alloc; "10 bad image at {cut}\n")?;
+        assert!(rt;
+            executed(&rt, alloc, &["x"], &image[..cut])? == expected,
+            "cut at {cut}"
+        );
+    }
+    let mut longer = Vec::from_slice(alloc, &image)?;
+    longer.push(0)?;
+    assert_eq!(rt;
+        executed(&rt, alloc, &["x"], &longer)?.as_str(),
+        "10 bad image at 56\n"
+    );
+    let module = bytes_of(alloc, &[HEADER, ADD])?;
+    assert_eq!(rt;
+        executed(&rt, alloc, &["x"], &module)?.as_str(),
+        "10 bad image at 0\n"
+    );
+    Ok(())
+}
+
+#[test]
+fn places_without_a_step_are_told(rt: HostRuntime) -> Result<(), Fail> {
+    let alloc = rt.alloc();
+    let image = bytes_of(
+        alloc,
+        &[
+            "57 52 56 49 01 00 00 00 02 00 00 00 00 00 00 00 73 00 00 00 00 00 00 00 00 00 00 00 00 00 00 00",
+            "00 00 00 00 00 00 00 00 00 00 00 00 01 00 00 00 01 00 00 00 78 00 00 00 00 40 00 00 00 00",
+            "00 00 00 00 00 00 00 00",
+        ],
+    )?;
+    assert_eq!(rt;
+        executed(&rt, alloc, &["x"], &image)?.as_str(),
+        "9 machine fault word at 268435456\n"
+    );
+    Ok(())
+}
+
+#[test]
+fn a_source_of_an_image_may_fail(rt: HostRuntime) -> Result<(), Fail> {
+    let alloc = rt.alloc();
+    let image = image_of(&rt, alloc, &[], &bytes_of(alloc, &[HEADER])?)?;
+    let words = words_of(alloc, &["wstream", "exec", "x"])?;
+    let pieces = vec![in alloc; Vec::from_slice(alloc, &image)?]?;
+    let mut source = Pieces::new(alloc, &pieces, Some(20))?;
+    let mut page = Page::new(alloc, 4096)?;
+    let status = top(&rt, alloc, &words, &mut source, &mut page, &OpenGate);
+    assert_eq!(rt; told(alloc, status, &page)?.as_str(), "6 read fault\n");
+    Ok(())
+}

@@ -147,7 +147,7 @@ const FAULTS: [(&str, &str); 51] = [
 ];
 
 /// The same of tables, memories and globals, and of instructions that are left out or not compiled.
-const FURTHER_FAULTS: [(&str, &str); 31] = [
+const FURTHER_FAULTS: [(&str, &str); 33] = [
     // At a body's last byte an opcode that isn't compiled is malformed, whole or not.
     (
         "01 04 01 60 00 00 03 02 01 00 0A 04 01 02 00 0F",
@@ -179,24 +179,33 @@ const FURTHER_FAULTS: [(&str, &str); 31] = [
     ("06 08 01 7F 00 41 00 41 00 0B", "invalid at 15"),
     // Before it what isn't compiled is unsupported: in valid code, where the same instruction is invalid, and where it is cut off.
     (
-        "01 04 01 60 00 00 03 02 01 00 0A 06 01 04 00 10 00 0B",
+        "01 04 01 60 00 00 03 02 01 00 04 04 01 70 00 01 0A 09 01 07 00 41 00 11 00 00 0B",
+        "unsupported at 31",
+    ),
+    (
+        "01 04 01 60 00 00 03 02 01 00 0A 07 01 05 00 11 00 00 0B",
         "unsupported at 23",
     ),
     (
-        "01 04 01 60 00 00 03 02 01 00 0A 06 01 04 00 23 00 0B",
+        "01 04 01 60 00 00 03 02 01 00 0A 07 01 05 00 11 05 00 0B",
         "unsupported at 23",
     ),
+    (
+        "01 04 01 60 00 00 03 02 01 00 0A 05 01 03 00 11 80",
+        "unsupported at 23",
+    ),
+    (
+        "01 04 01 60 00 00 03 02 01 00 0A 07 01 05 00 01 11 00 00",
+        "unsupported at 24",
+    ),
+    // A call of a function that isn't there, and one without its argument.
     (
         "01 04 01 60 00 00 03 02 01 00 0A 06 01 04 00 10 05 0B",
-        "unsupported at 23",
+        "invalid at 23",
     ),
     (
-        "01 04 01 60 00 00 03 02 01 00 0A 05 01 03 00 23 80",
-        "unsupported at 23",
-    ),
-    (
-        "01 04 01 60 00 00 03 02 01 00 0A 06 01 04 00 01 23 00",
-        "unsupported at 24",
+        "01 05 01 60 01 7F 00 03 02 01 00 0A 06 01 04 00 10 00 0B",
+        "invalid at 24",
     ),
     // An `if` with a result and no `else`.
     (

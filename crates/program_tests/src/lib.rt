@@ -3,7 +3,11 @@
 #![tactic(auto)]
 
 #[cfg(test)]
+mod accesses;
+#[cfg(test)]
 mod answers;
+#[cfg(test)]
+mod calls;
 #[cfg(test)]
 mod control;
 #[cfg(test)]

@@ -25,16 +25,16 @@ element_of (Index most) = do
 -- ---- waiting
 
 -- the place among the bytes that are there where an element of a list begins, with which reading goes on; else their first
-abbrev pub place_of : Wait → ℕ
-place_of wait.Nothing = 0
-place_of (wait.Bytes free) = 0
-place_of (wait.Text owed inside) = 0
-place_of (wait.List place owed element) = place
+abbrev pub resumes_at : Wait → ℕ
+resumes_at wait.Nothing = 0
+resumes_at (wait.Bytes free) = 0
+resumes_at (wait.Text owed inside) = 0
+resumes_at (wait.List place owed element) = place
 
 -- this place lies among them, and in the section
 pub record IsPlaced (wait : Wait) (c : Cursor) : Type 0 where
-  pub among : place_of wait ≤ length c.rest
-  pub inside : c.at ≤ c.end → c.at + place_of wait ≤ c.end
+  pub among : resumes_at wait ≤ length c.rest
+  pub inside : c.at ≤ c.end → c.at + resumes_at wait ≤ c.end
 
 -- the bytes that may come behind those that are there
 abbrev pub Passes : Wait → Cursor → List ℕ → Type 0

@@ -4,7 +4,7 @@ ghost use Rattle.std.specs.Prelude.{◌≡◌, ◌≤◌, ◌-◌, length};
 ghost use Rattle.wasm_defs.specs.Fields.{Cursor, name};
 ghost use Rattle.wasm_defs.specs.Entries.{signature, imported, exported, element, segment};
 ghost use Rattle.section_reader.specs.Outline.{outline_row};
-ghost use Rattle.section_reader.specs.Waits.{Awaits, AwaitsAt, IsPlaced, place_of};
+ghost use Rattle.section_reader.specs.Waits.{Awaits, AwaitsAt, IsPlaced, resumes_at};
 
 use crate::entry_fields::{constant, sole};
 use crate::seen::Seen;
@@ -31,7 +31,7 @@ pub fn entry_wait(fields: &Fields<'_>, alloc: Global, id: u8, seen: &Seen) -> Wa
 /// What a name waits for: bytes with which it can be right, all but the last of those that its length owes.
 pub fn name_wait(fields: &Fields<'_>) -> Wait
     ensures awaits { (from : Cursor) → AwaitsAt name fields.now result from }
-    ensures place { place_of result ≡ 0 }
+    ensures place { resumes_at result ≡ 0 }
 {
     let mut next = fields.fork();
     let Ok(len) = next.u32() else {
@@ -83,7 +83,7 @@ fn signature_wait(fields: &Fields<'_>, seen: &Seen) -> Wait
 /// An import's names.
 fn imported_wait(fields: &Fields<'_>, alloc: Global, seen: &Seen) -> Wait
     ensures awaits { Awaits (imported seen.now) fields.now result }
-    ensures place { place_of result ≡ 0 }
+    ensures place { resumes_at result ≡ 0 }
 {
     let mut next = fields.fork();
     let Ok(_) = next.name(alloc) else {
@@ -95,7 +95,7 @@ fn imported_wait(fields: &Fields<'_>, alloc: Global, seen: &Seen) -> Wait
 /// An export's name.
 fn exported_wait(fields: &Fields<'_>, seen: &Seen) -> Wait
     ensures awaits { Awaits (exported seen.now) fields.now result }
-    ensures place { place_of result ≡ 0 }
+    ensures place { resumes_at result ≡ 0 }
 {
     name_wait(fields)
 }
@@ -121,7 +121,7 @@ fn element_wait(fields: &Fields<'_>, seen: &Seen) -> Wait
 /// A data segment's bytes: all but the last of those that its length owes.
 fn segment_wait(fields: &Fields<'_>, seen: &Seen) -> Wait
     ensures awaits { Awaits (segment seen.now) fields.now result }
-    ensures place { place_of result ≡ 0 }
+    ensures place { resumes_at result ≡ 0 }
 {
     let mut next = fields.fork();
     let Ok(_) = sole(&mut next, seen.memories) else {

@@ -7,7 +7,7 @@
 ghost use Rattle.std.specs.Prelude.{◌≡◌, ◌≤◌, ◌<◌, ◌+◌, ◌-◌, ◌^◌, ℕ, List, ◌++◌, length, IfSome};
 ghost use Rattle.wasm_defs.specs.Fields.{Cursor};
 ghost use Rattle.leb_feed.specs.Reads.{Reads, NeedsNoMemory};
-ghost use Rattle.section_reader.specs.Waits.{element_of, place_of, IsPlaced, Follows, Stays};
+ghost use Rattle.section_reader.specs.Waits.{element_of, resumes_at, IsPlaced, Follows, Stays};
 
 use crate::entry_fields::index;
 use leb_feed::{Fields, Stop, state_after};
@@ -80,7 +80,7 @@ impl Wait {
         requires placed { IsPlaced self (record { at = at; rest = all.now; end = end }) }
         requires ahead { at ≤ end }
         requires fits { at + length all.now < 2 ^ 64 }
-        ensures follows { (kept : List ℕ) → all.now ≡ kept ++ bytes.now → place_of self ≤ length kept
+        ensures follows { (kept : List ℕ) → all.now ≡ kept ++ bytes.now → resumes_at self ≤ length kept
             → IfSome result (Follows self (record { at = at; rest = kept; end = end }) bytes.now) }
         ensures placed { IfSome result (λ wait. IsPlaced wait (record { at = at; rest = all.now; end = end })) }
     {
@@ -99,7 +99,7 @@ impl Wait {
 
 fn bytes_after(free: u64, bytes: &[u8]) -> Option<Wait>
     ensures follows { (c : Cursor) → IfSome result (Follows (Wait.Bytes free) c bytes.now) }
-    ensures place { IfSome result (λ wait. place_of wait ≡ 0) }
+    ensures place { IfSome result (λ wait. resumes_at wait ≡ 0) }
 {
     let came = bytes.len() as u64;
     if free < came {
@@ -110,7 +110,7 @@ fn bytes_after(free: u64, bytes: &[u8]) -> Option<Wait>
 
 fn text_after(owed: u32, inside: Inside, bytes: &[u8]) -> Option<Wait>
     ensures follows { (c : Cursor) → IfSome result (Follows (Wait.Text owed inside) c bytes.now) }
-    ensures place { IfSome result (λ wait. place_of wait ≡ 0) }
+    ensures place { IfSome result (λ wait. resumes_at wait ≡ 0) }
 {
     if owed as usize <= bytes.len() {
         return None;

@@ -1,5 +1,5 @@
 -- Results where a frame began.
-use Rattle.std.proofs.Common.{◌≡◌, ℕ, zero, suc, ◌+◌, ◌*◌, ◌^◌, ◌<◌, ◌≤◌, ◌⊎◌, inl, inr, ⊎_elim, List, [], ◌∷◌, length, refl, sym, ap, ◌∙◌, subst, arith}
+use Rattle.std.proofs.Common.{◌≡◌, ℕ, zero, suc, ◌+◌, ◌*◌, ◌^◌, ◌<◌, ◌≤◌, ◌⊎◌, inl, inr, ⊎_elim, List, [], ◌∷◌, length, refl, sym, ◌∙◌, subst, arith}
 use Rattle.std.proofs.lemmas.Bool.{cases_lt}
 use Rattle.rv_isa.specs.Steps.{Bytes}
 use Rattle.rv_isa.specs.Runs.{FitWindows}
@@ -9,7 +9,7 @@ use Rattle.frame_layout.specs.declared.layout.Layout.{Layout}
 use Rattle.frame_layout.specs.Slots.{operand}
 use Rattle.frame_layout.specs.Laws.{slot_at, with_slot, with_results}
 use Rattle.sim_frames.proofs.Slots.{slot_same, slot_other, stack_stays, windows_stay}
-use Rattle.sim_frames.proofs.Values.{Holds, holds_as, Operands, SameBeside}
+use Rattle.sim_frames.proofs.Values.{holds_as, Operands, SameBeside}
 use Rattle.sim_frames.proofs.Words.{word_small}
 
 -- operands hold words

@@ -1,17 +1,22 @@
 -- What a source's judging answers, and what the program tells of it.
 use Rattle.std.proofs.Common.{◌≡◌, ℕ, Bool, true, false, List, Option, Some, None, Result, Ok, Err, refl, sym, ap, ◌∙◌, subst}
-use Rattle.std.specs.Prelude.{IfOk, nat_lt}
+use Rattle.std.specs.Prelude.{◌≤◌, IfOk, nat_lt, length}
 use Rattle.std.specs.declared.alloc.AllocError.{AllocError}
 use Rattle.wasm_defs.specs.declared.fault.Refusal.{Refusal}
 use Rattle.wasm_defs.specs.declared.front_stop.FrontStop.{FrontStop}
 use Rattle.wasm_defs.specs.declared.front_stop.FrontStop.TheVariants as stop
 use Rattle.wasm_defs.specs.Context.{declared_count}
-use Rattle.wasm_defs.specs.Faults.{Accepted, Rejected}
+use Rattle.wasm_defs.specs.Faults.{Module, Accepted, Rejected}
 use Rattle.image_linker.specs.Judging.{IsStoppedAt, lasting}
 use Rattle.command_words.specs.declared.command.Command.{Command}
-use Rattle.command_words.specs.declared.command.Command.TheVariants.{Check, Run}
+use Rattle.command_words.specs.declared.command.Command.TheVariants.{Check, Compile, Run, Exec}
 use Rattle.command_words.specs.declared.command.Options.{Options}
-use Rattle.command_words.specs.declared.command.Run.{Run as Call}
+use Rattle.command_words.specs.declared.command.Run.{Run as Running}
+use Rattle.command_words.specs.declared.command.Call.{Call}
+use Rattle.stream_compile.specs.declared.foreign.Foreign.TheVariants as foreign
+use Rattle.image_format.specs.declared.limits.TheConstants.{IMAGE_BYTES}
+use Rattle.image_format.specs.Contents.{Image}
+use Rattle.image_format.specs.ImageBytes.{spelling}
 use Rattle.stream_compile.specs.declared.answer.Answer.TheVariants as answer
 use Rattle.stream_compile.specs.declared.answer.Built.{Built}
 use Rattle.stream_compile.specs.declared.answer.Checked.{Checked}
@@ -21,12 +26,12 @@ use Rattle.stream_compile.specs.declared.compilation.Compilation.{Compilation}
 use Rattle.stream_compile.specs.declared.output.Output.{Output}
 use Rattle.stream_compile.specs.Came.{Came}
 use Rattle.stream_compile.specs.Done.{IsModuleOfSize, IsDone}
-use Rattle.stream_compile.specs.Running.{IsRunnable, NeverFaults, RunsAs}
+use Rattle.stream_compile.specs.Running.{RunsAs, IsForeign}
 use Rattle.stream_compile.specs.Compiling.{IsBuilt, IsRefused, CompilesSource, ChecksSource}
 use Rattle.stream_compile.specs.Reading.{Settled, Judged, checked_of, answer_of, of_lasting, stopped_answer, view}
-use Rattle.stream_compile.specs.Texts.{Outcome, usage, read_fault, accepted, rejected, IsOutcome, ComesTo}
+use Rattle.stream_compile.specs.Texts.{Outcome, usage, read_fault, accepted, compiled, rejected, bad_image, TellsCheck, OfReading, OfModule, ComesOfModule, ComesTo}
 use Rattle.stream_compile.proofs.Stopped.{stopped_of_verdict}
-use Rattle.stream_compile.proofs.Calls.{never_faults, run_done}
+use Rattle.stream_compile.proofs.Calls.{run_done}
 
 -- ---- what bytes come to that were read to their source's end
 
@@ -91,39 +96,64 @@ pub usage_comes : (r : Result Output AllocError) (command : Option Command) (fai
 usage_comes (Ok a) command failed left rest none e = rw none e
 usage_comes (Err x) command failed left rest none e = tt
 
-valid_outcome : (options : Options) (bytes : List ℕ) (checked : Checked) (o : Outcome) → ((m : _) × IsModuleOfSize bytes m checked.functions checked.bytes) → o ≡ accepted checked.functions checked.bytes → IsOutcome (Check options) false bytes o
-valid_outcome options bytes checked o (m, is) e =
+valid_outcome : (bytes : List ℕ) (checked : Checked) (o : Outcome) → ((m : _) × IsModuleOfSize bytes m checked.functions checked.bytes) → o ≡ accepted checked.functions checked.bytes → OfModule TellsCheck false bytes o
+valid_outcome bytes checked o (m, is) e =
     (Accepted m, is.is, (is.same, e ∙ ap (λ (n : ℕ). accepted n checked.bytes) is.functions_are ∙ ap (λ (n : ℕ). accepted (declared_count m.items) n) is.size_is))
 
 pub valid_comes : (r : Result Output AllocError) (options : Options) (failed : Bool) (left rest : Option (List ℕ)) (checked : Checked) → ChecksSource failed left rest (check.Valid checked)
     → IfOk r (λ o. view o ≡ accepted checked.functions checked.bytes) → IfOk r (λ o. ComesTo (Some (Check options)) failed left rest (view o))
-valid_comes (Ok a) options failed left rest checked (calm, bytes, came, end, is) e = rw calm (bytes, came, valid_outcome options bytes checked (view a) is e)
+valid_comes (Ok a) options failed left rest checked (calm, bytes, came, end, is) e = rw calm (bytes, came, valid_outcome bytes checked (view a) is e)
 valid_comes (Err x) options failed left rest checked h e = tt
 
--- what a call of an image's function comes to is what that of the module's does
-pub image_comes : (r : Result Output AllocError) (call : Call) (failed : Bool) (left rest : Option (List ℕ)) (built : Built) → CompilesSource failed left rest (answer.Image built)
-    → IfOk r (λ o. RunsAs built.image call (view o)) → IfOk r (λ o. ComesTo (Some (Run call)) failed left rest (view o))
-image_comes (Ok a) call failed left rest built (calm, bytes, came, end, is) e =
+-- the image that is written is that of the module
+pub written_comes : (r : Result Output AllocError) (options : Options) (failed : Bool) (left rest : Option (List ℕ)) (built : Built) → CompilesSource failed left rest (answer.Image built)
+    → IfOk r (λ o. view o ≡ compiled (spelling built.image)) → IfOk r (λ o. ComesTo (Some (Compile options)) failed left rest (view o))
+written_comes (Ok a) options failed left rest built (calm, bytes, came, end, is) e =
     let m = is.«module» in
-    rw calm (bytes, came, (Accepted m, is.is.is, (is.is.same, run_done m built.image call (view a) is.image_is is.is.same e)))
-image_comes (Err x) call failed left rest built h e = tt
+    rw calm (bytes, came, (Accepted m, is.is.is, (is.is.same, e ∙ ap (λ (i : Image). compiled (spelling i)) is.image_is)))
+written_comes (Err x) options failed left rest built h e = tt
 
-pub runs_well : (failed : Bool) (left rest : Option (List ℕ)) (built : Built) → CompilesSource failed left rest (answer.Image built) → IsRunnable built.image
-runs_well failed left rest built (calm, bytes, came, end, is) = is.runnable
+pub is_short : (failed : Bool) (left rest : Option (List ℕ)) (built : Built) → CompilesSource failed left rest (answer.Image built) → length (spelling built.image) ≤ IMAGE_BYTES
+is_short failed left rest built (calm, bytes, came, end, is) = subst (λ (i : Image). length (spelling i) ≤ IMAGE_BYTES) (sym is.image_is) is.is.short
 
-pub runs_without_fault : (failed : Bool) (left rest : Option (List ℕ)) (built : Built) → CompilesSource failed left rest (answer.Image built) → NeverFaults built.image
-runs_without_fault failed left rest built (calm, bytes, came, end, is) = never_faults is.«module» built.image is.image_is is.is.same
+-- what a call of an image's function comes to is what that of the module's does
+pub image_comes : (r : Result Output AllocError) (run : Running) (failed : Bool) (left rest : Option (List ℕ)) (built : Built) → CompilesSource failed left rest (answer.Image built)
+    → IfOk r (λ o. RunsAs built.image run.call (view o)) → IfOk r (λ o. ComesTo (Some (Run run)) failed left rest (view o))
+image_comes (Ok a) run failed left rest built (calm, bytes, came, end, is) e =
+    let m = is.«module» in
+    rw calm (bytes, came, (Accepted m, is.is.is, (is.is.same, run_done m built.image run.call (view a) is.image_is is.is.same e)))
+image_comes (Err x) run failed left rest built h e = tt
 
-refused_outcome : (c : Command) (failed : Bool) (bytes : List ℕ) (r : Refusal) (o : Outcome) → IsRefused failed bytes r → o ≡ rejected r → IsOutcome c failed bytes o
-refused_outcome c false bytes r o is e = (Rejected r, is, e)
-refused_outcome c true bytes r o is e = (Some r, is, e)
+-- ---- of images that the source gives
 
-pub rejected_comes : (r : Result Output AllocError) (c : Command) (failed : Bool) (left rest : Option (List ℕ)) (refusal : Refusal) → ChecksSource failed left rest (check.Refused refusal)
-    → IfOk r (λ a. view a ≡ rejected refusal) → IfOk r (λ o. ComesTo (Some c) failed left rest (view o))
-rejected_comes (Ok a) c failed left rest refusal (bytes, came, is) e = (bytes, came, refused_outcome c failed bytes refusal (view a) is e)
-rejected_comes (Err x) c failed left rest refusal h e = tt
+pub called_comes : (r : Result Output AllocError) (call : Call) (failed : Bool) (left rest : Option (List ℕ)) (i : Image) → IsForeign failed left rest (foreign.Image i) → IfOk r (λ o. RunsAs i call (view o))
+    → IfOk r (λ o. ComesTo (Some (Exec call)) failed left rest (view o))
+called_comes (Ok a) call failed left rest i (calm, bytes, came, is) runs = rw calm (bytes, came, subst (λ (x : Result Image ℕ). OfReading call x (view a)) (sym is) runs.1)
+called_comes (Err x) call failed left rest i h runs = tt
 
-pub read_fault_comes : (r : Result Output AllocError) (c : Command) (failed : Bool) (left rest : Option (List ℕ)) → ChecksSource failed left rest check.ReadFault
-    → IfOk r (λ a. view a ≡ read_fault) → IfOk r (λ o. ComesTo (Some c) failed left rest (view o))
-read_fault_comes (Ok a) c failed left rest (fails, bytes, came, is) e = rw fails (bytes, came, (None, is, e))
-read_fault_comes (Err x) c failed left rest h e = tt
+pub bad_comes : (r : Result Output AllocError) (call : Call) (failed : Bool) (left rest : Option (List ℕ)) (offset : ℕ) → IsForeign failed left rest (foreign.Bad offset) → IfOk r (λ o. view o ≡ bad_image offset)
+    → IfOk r (λ o. ComesTo (Some (Exec call)) failed left rest (view o))
+bad_comes (Ok a) call failed left rest offset (calm, bytes, came, is) e = rw calm (bytes, came, subst (λ (x : Result Image ℕ). OfReading call x (view a)) (sym is) e)
+bad_comes (Err x) call failed left rest offset h e = tt
+
+pub failed_comes : (r : Result Output AllocError) (call : Call) (failed : Bool) (left rest : Option (List ℕ)) → IsForeign failed left rest foreign.Failed → IfOk r (λ o. view o ≡ read_fault)
+    → IfOk r (λ o. ComesTo (Some (Exec call)) failed left rest (view o))
+failed_comes (Ok a) call failed left rest (fails, bytes, came) e = rw fails (bytes, came, e)
+failed_comes (Err x) call failed left rest h e = tt
+
+-- ---- and of every command on a module
+
+module _ (Tells : (bytes : ℕ) → Module → Outcome → Type 0) where
+  refused_outcome : (failed : Bool) (bytes : List ℕ) (r : Refusal) (o : Outcome) → IsRefused failed bytes r → o ≡ rejected r → OfModule Tells failed bytes o
+  refused_outcome false bytes r o is e = (Rejected r, is, e)
+  refused_outcome true bytes r o is e = (Some r, is, e)
+
+  pub rejected_comes : (r : Result Output AllocError) (failed : Bool) (left rest : Option (List ℕ)) (refusal : Refusal) → ChecksSource failed left rest (check.Refused refusal)
+      → IfOk r (λ a. view a ≡ rejected refusal) → IfOk r (λ o. ComesOfModule Tells failed left rest (view o))
+  rejected_comes (Ok a) failed left rest refusal (bytes, came, is) e = (bytes, came, refused_outcome failed bytes refusal (view a) is e)
+  rejected_comes (Err x) failed left rest refusal h e = tt
+
+  pub read_fault_comes : (r : Result Output AllocError) (failed : Bool) (left rest : Option (List ℕ)) → ChecksSource failed left rest check.ReadFault
+      → IfOk r (λ a. view a ≡ read_fault) → IfOk r (λ o. ComesOfModule Tells failed left rest (view o))
+  read_fault_comes (Ok a) failed left rest (fails, bytes, came, is) e = rw fails (bytes, came, (None, is, e))
+  read_fault_comes (Err x) failed left rest h e = tt

@@ -13,7 +13,7 @@ use Rattle.wasm_defs.specs.declared.value.Value.{Value as Given}
 use Rattle.wasm_defs.specs.declared.value.Value.TheVariants as given
 use Rattle.wasm_defs.specs.Typing.{same_types}
 use Rattle.wasm_defs.specs.Values.{Value, type_of, value_of, types_of_values}
-use Rattle.wasm_defs.specs.Host.{are_of, in_range, all_in_range}
+use Rattle.wasm_defs.specs.Host.{HostCall, Reply, are_of, in_range, all_in_range}
 use Rattle.wasm_defs.specs.Context.{context_of, type_of_function}
 use Rattle.wasm_defs.specs.Faults.{Module}
 use Rattle.wasm_defs.specs.Instances.{exports_of, named, is_linkable}
@@ -22,6 +22,7 @@ use Rattle.wasm_defs.specs.ModuleRun as module_runs
 use Rattle.body_validator.proofs.OperandLaws.{same_types-of, same_types-true}
 use Rattle.image_format.specs.Contents.{Image}
 use Rattle.image_format.specs.declared.image.Export.{Export}
+use Rattle.image_format.specs.declared.image.Import.{Import}
 use Rattle.image_format.specs.ImageRun.{Ending, As, Fault, ImageRun, image_run}
 use Rattle.image_linker.specs.ImageOf.{image_of, export_of, offset_of}
 use Rattle.image_linker.specs.Same.{Same}
@@ -31,13 +32,14 @@ use Rattle.image_run.specs.declared.checks.NotRunnable.TheVariants.{UnknownImpor
 use Rattle.image_run.specs.Checks.{export_named, not_runnable, unfit, has_unknown_import}
 use Rattle.image_run.specs.declared.outcome.Outcome.{Outcome as Ran}
 use Rattle.image_run.specs.declared.outcome.Outcome.TheVariants as ran
-use Rattle.image_run.specs.Ends.{IsEnd, RunsTo}
+use Rattle.image_run.specs.Ends.{IsEnd, RunsTo, run_of_export}
+use Rattle.image_run.proofs.ClosedLaws.{ends_alone, never_stops}
 use Rattle.command_words.specs.declared.argument.Argument.{Argument}
-use Rattle.command_words.specs.declared.command.Run.{Run}
+use Rattle.command_words.specs.declared.command.Call.{Call}
 use Rattle.stream_compile.specs.declared.output.Output.{Output}
 use Rattle.stream_compile.specs.Reading.{view}
-use Rattle.stream_compile.specs.Texts.{Outcome, unrunnable, given_value, arguments_of, run_end, TellsEnd, TellsRun, ChecksAndRuns}
-use Rattle.stream_compile.specs.Running.{IsRunnable, NeverFaults, IsNoFault, EndsAs, Checked, RunsAs}
+use Rattle.stream_compile.specs.Texts.{Outcome, unrunnable, given_value, arguments_of, run_end, EndsAs, ChecksAndCalls, TellsEnd, TellsRun, ChecksAndRuns}
+use Rattle.stream_compile.specs.Running.{IsUnstopped, RunsAs}
 
 -- ---- exports
 
@@ -91,6 +93,18 @@ passed i name types e is found =
       | inr h ↦ let t : unfit i types (export_named name i.exports) ≡ None = rw h at is in unfit_not i types e (rw found at t)
     ]
 
+no_imports : (is : List Import) → has_unknown_import is ≡ false → is ≡ []
+no_imports [] h = refl
+no_imports (x ∷ is) h = absurd cc
+
+-- an image that imports anything isn't run
+imports_nothing : (i : Image) (name : List ℕ) (types : List ValType) → not_runnable i name types ≡ None → i.imports ≡ []
+imports_nothing i name types is =
+    elim (cases_Bool (has_unknown_import i.imports)) [
+      | inl h ↦ absurd (let t : Some UnknownImport ≡ None = rw h at is in cc)
+      | inr h ↦ no_imports i.imports h
+    ]
+
 pub there : (i : Image) (name : List ℕ) (types : List ValType) → not_runnable i name types ≡ None → export_named name i.exports ≢ None
 there i name types is none =
     elim (cases_Bool (has_unknown_import i.imports)) [
@@ -133,16 +147,6 @@ ends_there m name es e found arguments n =
     ap (λ (offset : ℕ). run_end (image_of m) offset e.signature.results arguments n) found.offset_is
     ∙ ap (λ (f : FuncType). run_end (image_of m) (offset_of m found.function) f.results arguments n) found.signature_is
 
-never_there : (m : Module) → Same m (image_of m) → NeverFaults (image_of m)
-never_there m same name e arguments steps kind pc passes ranges is faults =
-    let found = export_is m name (exports_of m.items) e is in
-    let alike = runs_alike m name arguments e found same (passed (image_of m) name (types_of_values arguments) e passes is) ranges in
-    alike.never_faults steps kind pc
-    (sym (end_is (image_of m) (offset_of m found.function) (Results m found.function) arguments steps) ∙ sym (ends_there m name (exports_of m.items) e found arguments steps) ∙ faults)
-
-pub never_faults : (m : Module) (i : Image) → i ≡ image_of m → Same m (image_of m) → NeverFaults i
-never_faults m i is same = subst NeverFaults (sym is) (never_there m same)
-
 -- what an image's end tells of its module
 tells_end : (runs : ℕ → module_runs.Run) (image : ℕ → ImageRun) (n : ℕ) (end : Ending) (o : Outcome) → SameRuns runs image → (image n).end ≡ end → EndsAs end o → TellsEnd end runs o
 tells_end runs image n (As (Returns values memory globals)) o alike is tells =
@@ -156,10 +160,10 @@ tells_end runs image n (As (Traps kind memory globals)) o alike is tells =
 tells_end runs image n (As Stops) o alike is tells = tells
 tells_end runs image n (As Going) o alike is tells = tells
 tells_end runs image n (As Fails) o alike is tells = tells
-tells_end runs image n (Fault kind pc) o alike is tells = tells
+tells_end runs image n (Fault kind pc) o alike is tells = absurd (alike.never_faults n kind pc is)
 
-tells_run : (m : Module) (r : Run) (o : Outcome) → Same m (image_of m) → all_in_range (arguments_of r.arguments) ≡ true → not_runnable (image_of m) r.export (types_of_values (arguments_of r.arguments)) ≡ None
-    → Checked None (image_of m) r o → TellsRun m r.export (arguments_of r.arguments) r.steps o
+tells_run : (m : Module) (r : Call) (o : Outcome) → Same m (image_of m) → all_in_range (arguments_of r.arguments) ≡ true → not_runnable (image_of m) r.export (types_of_values (arguments_of r.arguments)) ≡ None
+    → ChecksAndCalls None (image_of m) r o → TellsRun m r.export (arguments_of r.arguments) r.steps o
 tells_run m r o same ranges passes (e, is, tells) =
     let arguments = arguments_of r.arguments in
     let i = image_of m in
@@ -173,13 +177,13 @@ tells_run m r o same ranges passes (e, is, tells) =
           (sym (end_is i (offset_of m found.function) (Results m found.function) arguments r.steps)) here,
     )
 
-checked_done : (m : Module) (r : Run) (o : Outcome) (why : Option NotRunnable) → Same m (image_of m) → all_in_range (arguments_of r.arguments) ≡ true → not_runnable (image_of m) r.export (types_of_values (arguments_of r.arguments)) ≡ why
-    → Checked why (image_of m) r o → ChecksAndRuns why m r.export (arguments_of r.arguments) r.steps o
+checked_done : (m : Module) (r : Call) (o : Outcome) (why : Option NotRunnable) → Same m (image_of m) → all_in_range (arguments_of r.arguments) ≡ true → not_runnable (image_of m) r.export (types_of_values (arguments_of r.arguments)) ≡ why
+    → ChecksAndCalls why (image_of m) r o → ChecksAndRuns why m r.export (arguments_of r.arguments) r.steps o
 checked_done m r o (Some why) same ranges is h = h
 checked_done m r o None same ranges is h = tells_run m r o same ranges is h
 
 -- the line of the call of an image's function is the line of the call of the module's
-pub run_done : (m : Module) (i : Image) (r : Run) (o : Outcome) → i ≡ image_of m → Same m (image_of m) → RunsAs i r o
+pub run_done : (m : Module) (i : Image) (r : Call) (o : Outcome) → i ≡ image_of m → Same m (image_of m) → RunsAs i r o
     → ChecksAndRuns (not_runnable (image_of m) r.export (types_of_values (arguments_of r.arguments))) m r.export (arguments_of r.arguments) r.steps o
 run_done m i r o is same h =
     let here : RunsAs (image_of m) r o = subst (λ (x : Image). RunsAs x r o) is h in
@@ -193,25 +197,25 @@ types_are (given.I32 n ∷ values) = ap (λ (l : List ValType). I32 ∷ l) (type
 types_are (given.I64 n ∷ values) = ap (λ (l : List ValType). I64 ∷ l) (types_are values)
 
 -- the name and the values of a call
-pub record Begun (call : Run) (name : List ℕ) (values : List Given) : Type 0 where
+pub record Begun (call : Call) (name : List ℕ) (values : List Given) : Type 0 where
   pub name_is : name ≡ call.export
   pub values_are : values ≡ map given_value call.arguments
   pub ranges : all_in_range (map value_of values) ≡ true
 
-pub begun : (call : Run) (name : List ℕ) (arguments : List Argument) (items values : List Given) → arguments ≡ call.arguments → items ≡ map given_value arguments → all_in_range (map value_of items) ≡ true → values ≡ items → name ≡ call.export → Begun call name values
+pub begun : (call : Call) (name : List ℕ) (arguments : List Argument) (items values : List Given) → arguments ≡ call.arguments → items ≡ map given_value arguments → all_in_range (map value_of items) ≡ true → values ≡ items → name ≡ call.export → Begun call name values
 begun call name arguments items values same made ranges are named = record {
   name_is = named;
   values_are = are ∙ made ∙ ap (λ (l : List Argument). map given_value l) same;
   ranges = subst (λ (l : List Given). all_in_range (map value_of l) ≡ true) (sym are) ranges;
 }
 
-all_are : (call : Run) (name : List ℕ) (values : List Given) → Begun call name values → map value_of values ≡ arguments_of call.arguments
+all_are : (call : Call) (name : List ℕ) (values : List Given) → Begun call name values → map value_of values ≡ arguments_of call.arguments
 all_are call name values b = ap (λ (l : List Given). map value_of l) b.values_are
 
-ranges_are : (call : Run) (name : List ℕ) (values : List Given) → Begun call name values → all_in_range (arguments_of call.arguments) ≡ true
+ranges_are : (call : Call) (name : List ℕ) (values : List Given) → Begun call name values → all_in_range (arguments_of call.arguments) ≡ true
 ranges_are call name values b = subst (λ (l : List Value). all_in_range l ≡ true) (all_are call name values b) b.ranges
 
-checks_are : (i : Image) (call : Run) (name : List ℕ) (values : List Given) (checked : Option NotRunnable) → Begun call name values → checked ≡ not_runnable i name (map type_of values)
+checks_are : (i : Image) (call : Call) (name : List ℕ) (values : List Given) (checked : Option NotRunnable) → Begun call name values → checked ≡ not_runnable i name (map type_of values)
     → not_runnable i call.export (types_of_values (arguments_of call.arguments)) ≡ checked
 checks_are i call name values checked b is =
     ap (λ (l : List Value). not_runnable i call.export (types_of_values l)) (sym (all_are call name values b))
@@ -219,43 +223,55 @@ checks_are i call name values checked b is =
     ∙ ap (λ (n : List ℕ). not_runnable i n (map type_of values)) (sym b.name_is)
     ∙ sym is
 
-pub unrunnable_runs : (r : Result Output AllocError) (i : Image) (call : Run) (name : List ℕ) (values : List Given) (checked : Option NotRunnable) (why : NotRunnable) → Begun call name values
+pub unrunnable_runs : (r : Result Output AllocError) (i : Image) (call : Call) (name : List ℕ) (values : List Given) (checked : Option NotRunnable) (why : NotRunnable) → Begun call name values
     → checked ≡ Some why → checked ≡ not_runnable i name (map type_of values) → IfOk r (λ o. view o ≡ unrunnable why) → IfOk r (λ o. RunsAs i call (view o))
 unrunnable_runs (Ok o) i call name values checked why b some is e =
-    (ranges_are call name values b, subst (λ (x : Option NotRunnable). Checked x i call (view o)) (sym (checks_are i call name values checked b is ∙ some)) e)
+    (ranges_are call name values b, subst (λ (x : Option NotRunnable). ChecksAndCalls x i call (view o)) (sym (checks_are i call name values checked b is ∙ some)) e)
 unrunnable_runs (Err x) i call name values checked why b some is e = tt
 
-pub few_arguments : (i : Image) (name : List ℕ) (values : List Given) (checked : Option NotRunnable) (e : Export) → IsRunnable i → checked ≡ None → checked ≡ not_runnable i name (map type_of values)
-    → Some e ≡ export_named name i.exports → length values ≤ 131072
-few_arguments i name values checked e well none is found =
-    let fit = (passed i name (map type_of values) e (sym is ∙ none) (sym found)).fit in
-    let small = well.exports name e (sym found) in
-    omega (arith, length-map values type_of, same_length (map type_of values) e.signature.params fit, small.params)
+-- the checks were passed, so the export can be called
+pub is_fit : (i : Image) (name : List ℕ) (types : List ValType) (checked : Option NotRunnable) → checked ≡ None → checked ≡ not_runnable i name types → unfit i types (export_named name i.exports) ≡ None
+is_fit i name types checked none is =
+    let passes : not_runnable i name types ≡ None = sym is ∙ none in
+    elim (cases_Bool (has_unknown_import i.imports)) [
+      | inl h ↦ absurd (let t : Some UnknownImport ≡ None = rw h at passes in cc)
+      | inr h ↦ rw h at passes
+    ]
 
-runs_to : (i : Image) (offset : ℕ) (results : List ValType) (arguments : List Value) (n : ℕ) (outcome : Ran) → RunsTo i offset results arguments n outcome → IsEnd outcome (run_end i offset results arguments n)
-unfolding RunsTo run_end
-runs_to i offset results arguments n outcome h = h
+run_end_is : (i : Image) (e : Export) (arguments : List Value) (n : ℕ) → (run_of_export i e arguments [] n).end ≡ run_end i e.offset e.signature.results arguments n
+unfolding run_of_export run_end
+run_end_is i e arguments n = refl
 
-pub no_fault : (i : Image) (name : List ℕ) (values : List Given) (checked : Option NotRunnable) (e : Export) (steps : ℕ) (outcome : Ran) → NeverFaults i → all_in_range (map value_of values) ≡ true → checked ≡ None
-    → checked ≡ not_runnable i name (map type_of values) → Some e ≡ export_named name i.exports → RunsTo i e.offset e.signature.results (map value_of values) steps outcome → IsNoFault outcome
-no_fault i name values checked e steps (ran.Returned v) never ranges none is found h = tt
-no_fault i name values checked e steps (ran.Trapped kind) never ranges none is found h = tt
-no_fault i name values checked e steps ran.StepsSpent never ranges none is found h = tt
-no_fault i name values checked e steps (ran.Fault kind pc) never ranges none is found h =
-    let passes : not_runnable i name (types_of_values (map value_of values)) ≡ None = ap (λ (l : List ValType). not_runnable i name l) (types_are values) ∙ sym is ∙ none in
-    never name e (map value_of values) steps kind pc passes ranges (sym found) (runs_to i e.offset e.signature.results (map value_of values) steps (ran.Fault kind pc) h)
+-- the run that a host was handed, which it has no part in
+module _ (H : Type 0) (Calls : H → HostCall → Reply → H → Type 0) (from to : H) (i : Image) (name : List ℕ) (values : List Given) (checked : Option NotRunnable) (outcome : Ran) (memory : List ℕ) (none : checked ≡ None) (is : checked ≡ not_runnable i name (map type_of values)) where
+  alone : i.imports ≡ []
+  alone = imports_nothing i name (map type_of values) (sym is ∙ none)
 
-pub told_runs : (r : Result Output AllocError) (i : Image) (call : Run) (name : List ℕ) (values : List Given) (checked : Option NotRunnable) (e : Export) (outcome : Ran) → Begun call name values → checked ≡ None
-    → checked ≡ not_runnable i name (map type_of values) → Some e ≡ export_named name i.exports → RunsTo i e.offset e.signature.results (map value_of values) call.steps outcome
-    → IfOk r (λ o. (end : Ending) → IsEnd outcome end → EndsAs end (view o)) → IfOk r (λ o. RunsAs i call (view o))
-told_runs (Ok o) i call name values checked e outcome b none is found runs tells =
-    let arguments = arguments_of call.arguments in
-    let there : export_named call.export i.exports ≡ Some e = ap (λ (n : List ℕ). export_named n i.exports) (sym b.name_is) ∙ sym found in
-    let to : RunsTo i e.offset e.signature.results arguments call.steps outcome = subst (λ (l : List Value). RunsTo i e.offset e.signature.results l call.steps outcome) (all_are call name values b) runs in
-    let end = run_end i e.offset e.signature.results arguments call.steps in
-    let line : EndsAs end (view o) = tells end (runs_to i e.offset e.signature.results arguments call.steps outcome to) in
-    (ranges_are call name values b, subst (λ (x : Option NotRunnable). Checked x i call (view o)) (sym (checks_are i call name values checked b is ∙ none)) (e, there, line))
-told_runs (Err x) i call name values checked e outcome b none is found runs tells = tt
+  runs_to : (e : Export) (n : ℕ) → RunsTo Calls i e (map value_of values) n from to outcome memory → IsEnd outcome memory (run_end i e.offset e.signature.results (map value_of values) n)
+  runs_to e n done = subst (IsEnd outcome memory) (run_end_is i e (map value_of values) n) (ends_alone i alone e (map value_of values) n H Calls from to outcome memory done)
+
+  pub unstopped : (steps : ℕ) → (e : Export) × (export_named name i.exports ≡ Some e) × RunsTo Calls i e (map value_of values) steps from to outcome memory → IsUnstopped outcome
+  unstopped steps (e, found, done) = by_outcome outcome refl
+    where
+      by_outcome : (o : Ran) → outcome ≡ o → IsUnstopped o
+      by_outcome (ran.Returned v) same = tt
+      by_outcome (ran.Trapped kind) same = tt
+      by_outcome ran.StepsSpent same = tt
+      by_outcome ran.HostStopped same = never_stops i alone e (map value_of values) steps H Calls from to outcome memory done same
+      by_outcome (ran.Fault kind pc) same = tt
+
+  pub told_runs : (r : Result Output AllocError) (call : Call) → Begun call name values
+      → (e : Export) × (export_named name i.exports ≡ Some e) × RunsTo Calls i e (map value_of values) call.steps from to outcome memory
+      → IfOk r (λ o. (memory : List ℕ) (end : Ending) → IsEnd outcome memory end → EndsAs end (view o)) → IfOk r (λ o. RunsAs i call (view o))
+  told_runs (Ok o) call b (e, found, done) tells =
+      let arguments = arguments_of call.arguments in
+      let there : export_named call.export i.exports ≡ Some e = ap (λ (n : List ℕ). export_named n i.exports) (sym b.name_is) ∙ found in
+      let to : IsEnd outcome memory (run_end i e.offset e.signature.results arguments call.steps) =
+      subst (λ (l : List Value). IsEnd outcome memory (run_end i e.offset e.signature.results l call.steps)) (all_are call name values b) (runs_to e call.steps done) in
+      let end = run_end i e.offset e.signature.results arguments call.steps in
+      let line : EndsAs end (view o) = tells memory end to in
+      (ranges_are call name values b, subst (λ (x : Option NotRunnable). ChecksAndCalls x i call (view o)) (sym (checks_are i call name values checked b is ∙ none)) (e, there, line))
+  told_runs (Err x) call b found tells = tt
 
 pushed_on : (items : List Given) (v : Given) → all_in_range (map value_of items) ≡ true → in_range (value_of v) ≡ true → all_in_range (map value_of (items ++ v ∷ [])) ≡ true
 pushed_on [] v h g = rw g refl

@@ -12,13 +12,13 @@ use Rattle.wasm_defs.specs.Context.{context_of, import_count, tables_of, body_co
 use Rattle.wasm_defs.specs.Places.{places_of, greatest}
 use Rattle.wasm_defs.specs.Instances.{first_minimum}
 use Rattle.frame_layout.specs.Templates.{Around}
-use Rattle.frame_layout.specs.Functions.{function_code}
+use Rattle.frame_layout.specs.Functions.{no_distance, function_code, calls_of}
 use Rattle.rv_isa.specs.Words.{word_of}
 use Rattle.rv_isa.specs.declared.operations.Op.{Op}
 use Rattle.wasm_defs.specs.Faults.{items_of, bodies_of, read_of, context_at}
 use Rattle.wasm_laws.specs.Behind.{SayTheSame}
 use Rattle.wasm_laws.proofs.Behind.{bodies_stand_behind}
-use Rattle.image_linker.specs.ImageOf.{size_of, around, no_distance}
+use Rattle.image_linker.specs.ImageOf.{size_of, around}
 use Rattle.image_linker.specs.Linking.{words_of}
 use Rattle.image_linker.specs.Codes.{IsCodeOf, AreCodesOf}
 use Rattle.image_linker.specs.Judging.{sizes}
@@ -65,45 +65,34 @@ module _ (all first : List Item) (same : SayTheSame all first) (k : ℕ) (b : Bo
       ∙ ap (λ (n : ℕ). f (context_of first) n (tables_of all)) same.imports
       ∙ ap (λ (t : List Limits). f (context_of first) (import_count first) t) same.tables
 
+  abbrev context_by : Context → ℕ → Context
+  context_by c n = body_context c (type_of_function c (n + k)) (read_of b).groups
+
+  abbrev around_by : Context → ℕ → List Limits → Around
+  around_by c n t = record {
+    layout = record {
+      params = length (type_of_function c (n + k)).params;
+      locals = length (declared_types (read_of b).groups);
+      greatest = greatest (places_of (context_by c n) tree);
+    };
+    rows = first_minimum t;
+    like = like c.types;
+    distance_to = no_distance;
+  }
+
   pub same_size : size_of all k b tree ≡ size_of first k b tree
-  same_size = by_three (λ c n t. length (function_code (around_by c n t no_distance) (context_by c n) tree))
-    where
-      context_by : Context → ℕ → Context
-      context_by c n = body_context c (type_of_function c (n + k)) (read_of b).groups
+  same_size = by_three (λ c n t. length (function_code (around_by c n t) (context_by c n) tree))
 
-      around_by : Context → ℕ → List Limits → (ℕ → ℕ → ℕ) → Around
-      around_by c n t d = record {
-        layout = record {
-          params = length (type_of_function c (n + k)).params;
-          locals = length (declared_types (read_of b).groups);
-          greatest = greatest (places_of (context_by c n) tree);
-        };
-        rows = first_minimum t;
-        like = like c.types;
-        distance_to = d;
-      }
+  same_words : function_code (around all k b tree no_distance) (context_at all k b) tree ≡ function_code (around first k b tree no_distance) (context_at first k b) tree
+  same_words = by_three (λ c n t. function_code (around_by c n t) (context_by c n) tree)
 
-  pub same_words : (d : ℕ → ℕ → ℕ) → function_code (around all k b tree d) (context_at all k b) tree ≡ function_code (around first k b tree d) (context_at first k b) tree
-  same_words d = by_three (λ c n t. function_code (around_by c n t) (context_by c n) tree)
-    where
-      context_by : Context → ℕ → Context
-      context_by c n = body_context c (type_of_function c (n + k)) (read_of b).groups
-
-      around_by : Context → ℕ → List Limits → Around
-      around_by c n t = record {
-        layout = record {
-          params = length (type_of_function c (n + k)).params;
-          locals = length (declared_types (read_of b).groups);
-          greatest = greatest (places_of (context_by c n) tree);
-        };
-        rows = first_minimum t;
-        like = like c.types;
-        distance_to = d;
-      }
+  same_calls : calls_of (around all k b tree no_distance) (context_at all k b) tree ≡ calls_of (around first k b tree no_distance) (context_at first k b) tree
+  same_calls = by_three (λ c n t. calls_of (around_by c n t) (context_by c n) tree)
 
   pub same_code : (code : Code) → IsCodeOf first k b tree code → IsCodeOf all k b tree code
   same_code code h = record {
-    words = λ d. h.words d ∙ ap (λ (ops : List Op). map word_of (ops)) (sym (same_words d));
+    words = h.words ∙ ap (λ (ops : List Op). map word_of ops) (sym same_words);
+    relocations = h.relocations ∙ sym same_calls;
     size = h.size ∙ sym same_size;
   }
 

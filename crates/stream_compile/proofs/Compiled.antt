@@ -4,16 +4,21 @@ use Rattle.std.proofs.lemmas.List.{append-nil}
 use Rattle.rv_isa.specs.declared.compiled.Code.{Code}
 use Rattle.wasm_defs.specs.declared.fault.Refusal.{Refusal}
 use Rattle.wasm_defs.specs.declared.item.Item.{Item}
+use Rattle.wasm_defs.specs.declared.item.Item.TheVariants.{Imported}
+use Rattle.wasm_defs.specs.Context.{import_count}
 use Rattle.wasm_defs.specs.Limits.{max_text}
 use Rattle.wasm_defs.specs.Trees.{Seq}
 use Rattle.wasm_defs.specs.Entries.{Seen}
 use Rattle.wasm_defs.specs.Outside.{Part, Section, Listed, Coded, Body, Run, Whole, after_part, ends, module_read}
 use Rattle.wasm_defs.specs.Supported.{is_compiled_section}
-use Rattle.wasm_defs.specs.Faults.{first_outside, ending_fault, sections_of, items_of, bodies_of, earlier, unsupported_at, read_of, context_at, IsCodeFault, IsValidCode, IsFaultInside, Module, IsModule, Rejected}
-use Rattle.wasm_laws.specs.Order.{AreOrdered, BodyStands, end_of, first_section}
-use Rattle.wasm_laws.proofs.Order.{around_body, around_section, parts_before_fault, parts_in_module}
+use Rattle.wasm_defs.specs.Faults.{first_outside, ending_fault, sections_of, items_of, bodies_of, earlier, unsupported_at, read_of, context_at, started, StartsRight, IsStartFault, IsCodeFault, IsValidCode, IsFaultInside, Module, IsModule, Rejected}
+use Rattle.wasm_defs.specs.Context.{context_of}
+use Rattle.wasm_laws.specs.Order.{AreOrdered, BodyStands, StartStands, behind_start, end_of, first_section}
+use Rattle.wasm_laws.proofs.Behind.{bodies_stand_behind}
+use Rattle.wasm_laws.proofs.Counted.{entries_in, entries_are_few}
+use Rattle.wasm_laws.proofs.Order.{around_body, around_item, around_section, parts_before_fault, parts_in_module}
 use Rattle.wasm_laws.proofs.Verdicts.{valid_has_no_fault}
-use Rattle.index_spaces.specs.Spaces.{Spaces, spaces_of, with_item}
+use Rattle.index_spaces.specs.Spaces.{Spaces, spaces_of, context_in, with_item}
 use Rattle.image_linker.specs.ImageOf.{size_of}
 use Rattle.image_linker.specs.Linking.{words_of}
 use Rattle.image_linker.specs.Codes.{IsCodeOf, AreCodesOf}
@@ -21,7 +26,7 @@ use Rattle.image_linker.specs.Judging.{text_bytes, limit_at, IsTextFault, IsFaul
 use Rattle.stream_compile.specs.Codes.{Coding, AreAll, with_code}
 use Rattle.stream_compile.specs.Progress.{IsJudging, body_of_spaces}
 use Rattle.wasm_laws.proofs.PartLists.{items_of-append, bodies_of-append}
-use Rattle.wasm_laws.proofs.PartOrder.{fault_after, section_after}
+use Rattle.wasm_laws.proofs.PartOrder.{start_fault_stands, fault_after, section_after}
 use Rattle.stream_compile.proofs.TextFaults.{text_after, tree_once}
 use Rattle.stream_compile.proofs.CodeWords.{all_more, codes_both, codes_of_module}
 use Rattle.stream_compile.proofs.Judging as judging
@@ -29,13 +34,18 @@ use Rattle.stream_compile.proofs.Judging.{IsVerdictBesideText, context_is, insid
 
 -- ---- steps
 
+imports_are_few : (items : List Item) → import_count items ≤ entries_in 2 items
+imports_are_few [] = omega arith
+imports_are_few (Imported from what kind type_index ∷ items) = omega (arith, imports_are_few items)
+imports_are_few (x ∷ items) = imports_are_few items
+
 pub begins : (bytes : List ℕ) (left : Run) (spaces : Spaces) (codes : Coding) → left ≡ module_read bytes → spaces ≡ spaces_of [] → AreAll codes [] → IsJudging bytes left spaces codes
 begins bytes left spaces codes is none uncoded = rw (is, none) (record {
   judged = record { front = []; parts = refl; ending = refl; spaces_are = refl; count = uncoded.count; compiled = refl; trees = []; valid = tt };
   all = [];
   are_all = uncoded;
   coded = tt;
-  fits = omega (arith, uncoded.words);
+  fits = omega (arith, uncoded.words, imports_are_few (items_of (module_read bytes).parts), entries_are_few 2 (λ ten. absurd cc) bytes);
   text_left = λ r f. subst (λ (n : ℕ). IsTextFault [] 0 n (module_read bytes).parts r) (sym uncoded.words) f;
   text_whole = λ r f. subst (λ (n : ℕ). IsTextFault [] 0 n (module_read bytes).parts r) uncoded.words f;
 })
@@ -60,13 +70,13 @@ module _ (bytes : List ℕ) (left : Run) (codes : Coding) where
         text_whole = λ r f. j.text_whole r (moved _ (items_of front) _ (length (bodies_of front)) left.parts r items bodies f);
       }
 
-  pub after_item : (spaces later : Spaces) (x : Item) → IsJudging bytes (after_part (Listed x) left) spaces codes → later ≡ with_item spaces x → IsJudging bytes left later codes
-  after_item spaces later x j e =
+  pub after_item : (spaces later : Spaces) (x : Item) → IsJudging bytes (after_part (Listed x) left) spaces codes → StartsRight (context_in spaces) (started x) → later ≡ with_item spaces x → IsJudging bytes left later codes
+  after_item spaces later x j starts e =
       let front = j.judged.front in
       let items : items_of (front ++ Listed x ∷ []) ≡ items_of front ++ x ∷ [] = items_of-append front (Listed x ∷ []) in
       let bodies : length (bodies_of (front ++ Listed x ∷ [])) ≡ length (bodies_of front) = ap (λ (l : List Body). length l) (bodies_of-append front (Listed x ∷ []) ∙ append-nil (bodies_of front)) in
       record {
-        judged = judging.after_item bytes left spaces later codes.count x j.judged e;
+        judged = judging.after_item bytes left spaces later codes.count x j.judged starts e;
         all = j.all;
         are_all = j.are_all;
         coded = rw (append-nil j.all) at (codes_both [] 0 front (Listed x ∷ []) j.judged.trees [] j.all [] j.coded tt);
@@ -90,6 +100,26 @@ pub is_refused : (bytes : List ℕ) (left : Run) (spaces : Spaces) (codes : Codi
 is_refused bytes left spaces codes total r j len none fault =
     lifted bytes r (judging.is_refused bytes left spaces codes.count total r j.judged len none fault)
     (λ s f. absurd (no_text_left (items_of j.judged.front) (length (bodies_of j.judged.front)) codes.words left.parts s none (j.text_left s f)))
+
+-- the start function is at fault
+pub start_refused : (bytes : List ℕ) (left : Run) (spaces : Spaces) (codes : Coding) (x : Item) (r : Refusal) → IsJudging bytes (after_part (Listed x) left) spaces codes
+    → IsStartFault (context_in spaces) (started x) r → IsVerdictOf bytes (Rejected r)
+start_refused bytes left spaces codes x r j f =
+    lifted bytes r (judging.start_refused bytes left spaces codes.count x r j.judged f) (λ s t. later s (j.text_left s t))
+  where
+    front : List Part
+    front = j.judged.front
+
+    here : IsStartFault (context_of (items_of front)) (started x) r
+    here = subst (λ (s : Spaces). IsStartFault (context_in s) (started x) r) j.judged.spaces_are f
+
+    around : (at : ℕ) × StartStands at (length bytes) (started x) × AreOrdered (behind_start at (started x)) (length bytes) left.parts
+    around = around_item first_section (length bytes) front x left.parts (rw j.judged.parts at (parts_in_module bytes))
+
+    later : (s : Refusal) → IsTextFault (items_of front) (length (bodies_of front)) codes.words (Listed x ∷ left.parts) s → r.offset ≤ s.offset
+    later s t =
+        let k = text_after (behind_start around.0 (started x)) (length bytes) (items_of front ++ x ∷ []) (length (bodies_of front)) codes.words left.parts s around.2 t in
+        omega (arith, (start_fault_stands around.0 (length bytes) (context_of (items_of front)) (started x) r around.1 here).1)
 
 -- a body is at fault
 pub body_refused : (bytes : List ℕ) (left : Run) (spaces : Spaces) (codes : Coding) (b : Body) (r : Refusal) → IsJudging bytes (after_part (Coded b) left) spaces codes
@@ -200,7 +230,7 @@ module _ (bytes : List ℕ) (left : Run) (spaces : Spaces) (codes : Coding) (b :
           all = j.all ++ code ∷ [];
           are_all = all_more codes j.all code j.are_all;
           coded = codes_both [] 0 front (Coded b ∷ []) j.judged.trees (tree ∷ []) j.all (code ∷ []) j.coded (rw e (is_code, tt));
-          fits = omega (arith, under);
+          fits = omega (arith, under, (bodies_stand_behind bytes front b left.parts j.judged.parts).same.imports);
           text_left = λ r f. moved bytes left (with_code codes code) items _ (suc k) _ left.parts r (sym items_are) (sym count) (here_to_later r (j.text_left r f));
           text_whole = λ r f. j.text_whole r (later_to_here r (moved bytes left (with_code codes code) _ items _ (suc k) left.parts r items_are count f));
         }
@@ -212,7 +242,7 @@ pub record IsWhole (bytes : List ℕ) (spaces : Spaces) (codes : List Code) (m :
   pub is : IsModule bytes m
   pub spaces_are : spaces ≡ spaces_of m.items
   pub coded : AreCodesOf m.items 0 m.bodies m.trees codes
-  pub words : 4 * (2 + length (words_of codes)) ≤ max_text
+  pub words : text_bytes m.items (length (words_of codes)) ≤ max_text
 
 pub is_whole : (bytes : List ℕ) (left : Run) (spaces : Spaces) (codes : Coding) (seen : Seen) → (j : IsJudging bytes left spaces codes) → left ≡ ends (Whole seen) → (m : Module) × IsWhole bytes spaces j.all m
 is_whole bytes left spaces codes seen j whole =

@@ -1,5 +1,5 @@
--- What is linked of a whole module's codes is its image, and it can be run.
-use Rattle.std.proofs.Common.{◌≡◌, ℕ, ◌+◌, ◌*◌, Bool, true, List, [], ◌++◌, map, length, None, sym, ap, ◌∙◌}
+-- What is linked of a whole module's codes is its image.
+use Rattle.std.proofs.Common.{◌≡◌, ℕ, ◌+◌, ◌*◌, Bool, true, false, List, [], ◌∷◌, ◌++◌, map, length, None, refl, sym, ap, ◌∙◌}
 use Rattle.std.specs.Prelude.{replicate, not}
 use Rattle.std.proofs.lemmas.List.{map-append}
 use Rattle.rv_isa.specs.Words.{word_of}
@@ -8,7 +8,8 @@ use Rattle.rv_isa.specs.declared.compiled.Code.{Code}
 use Rattle.wasm_defs.specs.Typing.{Context}
 use Rattle.wasm_defs.specs.Context.{context_of, globals_of}
 use Rattle.wasm_defs.specs.Faults.{Module}
-use Rattle.wasm_defs.specs.Instances.{is_linkable, exports_of, rows_of, pages_of, cap_of, values_of, all_over}
+use Rattle.wasm_defs.specs.Instances.{Written, is_linkable, exports_of, rows_of, pages_of, cap_of, values_of, all_over, all_fit}
+use Rattle.wasm_defs.specs.Memory.{page}
 use Rattle.wasm_defs.specs.Values.{Value, words_of as value_words}
 use Rattle.wasm_laws.specs.Plain.{ArePlain, HasNoMore}
 use Rattle.wasm_laws.proofs.Plain.{plain_has_no_more, plain_is_linkable}
@@ -19,12 +20,13 @@ use Rattle.image_format.specs.declared.image.Row.{Row}
 use Rattle.image_format.specs.declared.image.Segment.{Segment}
 use Rattle.image_format.specs.declared.image.Import.{Import}
 use Rattle.image_format.specs.declared.image.Export.{Export}
-use Rattle.index_spaces.specs.Entries.{function_exports, all_exports_of, initials_of, initial_values}
+use Rattle.index_spaces.specs.declared.entries.DataRow.{DataRow}
+use Rattle.index_spaces.specs.Entries.{function_exports, all_exports_of, data_rows_of, initials_of, initial_values, written_segments}
 use Rattle.index_spaces.specs.Spaces.{spaces_of}
-use Rattle.index_spaces.proofs.EntriesOfItems.{exports_are_of_items, values_are_of_items}
-use Rattle.image_linker.specs.ImageOf.{image_of, text_of, stubs_from, code_from, places_from, places_of_functions, stub_places, stub_size, front_size, export_of, row_of, table_of, segment_of, placed_segments, start_offset}
+use Rattle.index_spaces.proofs.EntriesOfItems.{exports_are_of_items, segments_are_of_items, values_are_of_items}
+use Rattle.image_linker.specs.ImageOf.{front_of, image_of, text_of, stubs_from, code_from, places_from, places_of_functions, stub_places, stub_size, front_size, export_of, row_of, table_of, segment_of, placed_segments, start_offset}
 use Rattle.image_linker.specs.Codes.{AreCodesOf}
-use Rattle.image_linker.specs.Linking.{words_of, starts_of, front_words, empty_row, linked, linked_export}
+use Rattle.image_linker.specs.Linking.{words_from, starts_of, front_words, empty_row, has_room, placed_row, linked_segments, linked, linked_export}
 use Rattle.image_linker.proofs.Bounded.{rows_made}
 use Rattle.image_linker.proofs.Items.{no_imports, no_stubs}
 use Rattle.image_linker.proofs.Linked.{words_linked, places_linked}
@@ -45,45 +47,67 @@ module _ (m : Module) (codes : List Code) (plain : ArePlain m.items) (coded : Ar
   front_is : front_size m.items ≡ 2
   front_is = ap (λ (n : ℕ). length exit_stub + stub_size * n) none.imports
 
-  text_is : front_words ++ words_of codes ≡ map word_of (text_of m)
-  text_is =
-      let functions = code_from m.items (places_of_functions m) (front_size m.items) 0 m.bodies m.trees in
-      let stubs = stubs_from (context_of m.items) 0 m.items in
-      let words : map word_of functions ≡ words_of codes = words_linked m.items (places_of_functions m) (front_size m.items) 0 m.bodies m.trees codes coded in
-      let all : map word_of (exit_stub ++ (stubs ++ functions)) ≡ front_words ++ map word_of (stubs ++ functions) = map-append word_of exit_stub (stubs ++ functions) in
-      ap (λ (l : List ℕ). front_words ++ l) (sym words)
-      ∙ ap (λ (l : List Op). front_words ++ map word_of (l ++ functions)) (sym (no_stubs (context_of m.items) 0 m.items plain))
-      ∙ sym all
-
   places_are : starts_of codes ≡ places_of_functions m
   places_are =
       sym (places_linked m.items 2 0 m.bodies m.trees codes coded)
       ∙ ap (λ (n : ℕ). places_from m.items n 0 m.bodies m.trees) (sym front_is)
       ∙ ap (λ (n : ℕ). stub_places (length exit_stub) n ++ places_from m.items (front_size m.items) 0 m.bodies m.trees) (sym none.imports)
 
+  text_is : front_words ++ words_from (starts_of codes) (front_of 0) codes ≡ map word_of (text_of m)
+  text_is =
+      let functions = code_from m.items (places_of_functions m) (front_size m.items) 0 m.bodies m.trees in
+      let stubs = stubs_from (context_of m.items) 0 m.items in
+      let words : map word_of functions ≡ words_from (starts_of codes) (front_of 0) codes =
+      words_linked m.items (places_of_functions m) (front_size m.items) 0 m.bodies m.trees codes coded
+      ∙ ap (λ (n : ℕ). words_from (places_of_functions m) n codes) front_is
+      ∙ ap (λ (l : List ℕ). words_from l (front_of 0) codes) (sym places_are) in
+      let all : map word_of (exit_stub ++ (stubs ++ functions)) ≡ front_words ++ map word_of (stubs ++ functions) = map-append word_of exit_stub (stubs ++ functions) in
+      ap (λ (l : List ℕ). front_words ++ l) (sym words)
+      ∙ ap (λ (l : List Op). front_words ++ map word_of (l ++ functions)) (sym (no_stubs (context_of m.items) 0 m.items plain))
+      ∙ sym all
+
   exports_are : map (linked_export (spaces_of m.items) (starts_of codes)) (function_exports (all_exports_of m.items)) ≡ map (export_of m) (exports_of m.items)
   exports_are =
       ap (λ (l : List (List ℕ × ℕ)). map (linked_export (spaces_of m.items) (starts_of codes)) l) (exports_are_of_items m.items)
       ∙ ap (λ (l : List ℕ). map (linked_export (spaces_of m.items) l) (exports_of m.items)) places_are
 
-  rows_are : replicate (rows_of m.items) empty_row ≡ table_of m true
-  rows_are =
+  rows_are : (b : Bool) → replicate (rows_of m.items) empty_row ≡ table_of m b
+  rows_are true =
       sym (rows_made m (rows_of m.items))
       ∙ ap (λ l. map (row_of m) (all_over (replicate (rows_of m.items) None) l)) (sym none.elements)
+  rows_are false = refl
 
-  segments_are : [] ≡ placed_segments m true
-  segments_are = ap (λ (l : List (ℕ × List ℕ)). map segment_of l) (sym none.segments)
+  -- the memory has room for the data segments where the module can be instantiated
+  room_is : has_room (spaces_of m.items) ≡ is_linkable m
+  room_is = ap (λ (ws : List (Written ℕ)). all_fit (page * pages_of m.items) ws) (segments_are_of_items m.items) ∙ sym (plain_is_linkable m plain)
 
-  linkable : is_linkable m ≡ true
-  linkable = plain_is_linkable m plain
+  rows_placed : (rows : List DataRow) → map placed_row rows ≡ map segment_of (written_segments rows)
+  rows_placed [] = refl
+  rows_placed (r ∷ rows) = ap (λ (l : List Segment). placed_row r ∷ l) (rows_placed rows)
+
+  segments_are : (b : Bool) → linked_segments b (data_rows_of m.items) ≡ placed_segments m b
+  segments_are true = rows_placed (data_rows_of m.items) ∙ ap (λ (l : List (Written ℕ)). map segment_of l) (segments_are_of_items m.items)
+  segments_are false = refl
+
+  abbrev L : Bool
+  L = is_linkable m
+
+  abbrev values : List ℕ
+  values = value_words (values_of m.items)
+
+  abbrev linked_exports : List Export
+  linked_exports = map (linked_export (spaces_of m.items) (starts_of codes)) (function_exports (all_exports_of m.items))
+
+  abbrev words : List ℕ
+  words = map word_of (text_of m)
 
   pub linked_is_image : linked (spaces_of m.items) codes ≡ image_of m
   linked_is_image =
-      ap (λ (l : List ℕ). image_by l (value_words (initial_values (globals_of m.items) (initials_of m.items))) (replicate (rows_of m.items) empty_row) (pages_of m.items) (cap_of m.items) [] [] (map (linked_export (spaces_of m.items) (starts_of codes)) (function_exports (all_exports_of m.items))) 0 (not true)) text_is
-      ∙ ap (λ (l : List Value). image_by (map word_of (text_of m)) (value_words l) (replicate (rows_of m.items) empty_row) (pages_of m.items) (cap_of m.items) [] [] (map (linked_export (spaces_of m.items) (starts_of codes)) (function_exports (all_exports_of m.items))) 0 (not true)) (values_are_of_items m.items)
-      ∙ ap (λ (l : List Row). image_by (map word_of (text_of m)) (value_words (values_of m.items)) l (pages_of m.items) (cap_of m.items) [] [] (map (linked_export (spaces_of m.items) (starts_of codes)) (function_exports (all_exports_of m.items))) 0 (not true)) rows_are
-      ∙ ap (λ (l : List Segment). image_by (map word_of (text_of m)) (value_words (values_of m.items)) (table_of m true) (pages_of m.items) (cap_of m.items) l [] (map (linked_export (spaces_of m.items) (starts_of codes)) (function_exports (all_exports_of m.items))) 0 (not true)) segments_are
-      ∙ ap (λ (l : List Import). image_by (map word_of (text_of m)) (value_words (values_of m.items)) (table_of m true) (pages_of m.items) (cap_of m.items) (placed_segments m true) l (map (linked_export (spaces_of m.items) (starts_of codes)) (function_exports (all_exports_of m.items))) 0 (not true)) (sym (no_imports (context_of m.items) m.items plain))
-      ∙ ap (λ (l : List Export). image_by (map word_of (text_of m)) (value_words (values_of m.items)) (table_of m true) (pages_of m.items) (cap_of m.items) (placed_segments m true) (image_of m).imports l 0 (not true)) exports_are
-      ∙ ap (λ o. image_by (map word_of (text_of m)) (value_words (values_of m.items)) (table_of m true) (pages_of m.items) (cap_of m.items) (placed_segments m true) (image_of m).imports (image_of m).exports (start_offset m o) (not true)) (sym none.start)
-      ∙ ap (λ (b : Bool). image_by (map word_of (text_of m)) (value_words (values_of m.items)) (table_of m b) (pages_of m.items) (cap_of m.items) (placed_segments m b) (image_of m).imports (image_of m).exports (image_of m).start (not b)) (sym linkable)
+      ap (λ (b : Bool). image_by (front_words ++ words_from (starts_of codes) (front_of 0) codes) (value_words (initial_values (globals_of m.items) (initials_of m.items))) (replicate (rows_of m.items) empty_row) (pages_of m.items) (cap_of m.items) (linked_segments b (data_rows_of m.items)) [] linked_exports 0 (not b)) room_is
+      ∙ ap (λ (l : List ℕ). image_by l (value_words (initial_values (globals_of m.items) (initials_of m.items))) (replicate (rows_of m.items) empty_row) (pages_of m.items) (cap_of m.items) (linked_segments L (data_rows_of m.items)) [] linked_exports 0 (not L)) text_is
+      ∙ ap (λ (l : List Value). image_by words (value_words l) (replicate (rows_of m.items) empty_row) (pages_of m.items) (cap_of m.items) (linked_segments L (data_rows_of m.items)) [] linked_exports 0 (not L)) (values_are_of_items m.items)
+      ∙ ap (λ (l : List Row). image_by words values l (pages_of m.items) (cap_of m.items) (linked_segments L (data_rows_of m.items)) [] linked_exports 0 (not L)) (rows_are L)
+      ∙ ap (λ (l : List Segment). image_by words values (table_of m L) (pages_of m.items) (cap_of m.items) l [] linked_exports 0 (not L)) (segments_are L)
+      ∙ ap (λ (l : List Import). image_by words values (table_of m L) (pages_of m.items) (cap_of m.items) (placed_segments m L) l linked_exports 0 (not L)) (sym (no_imports (context_of m.items) m.items plain))
+      ∙ ap (λ (l : List Export). image_by words values (table_of m L) (pages_of m.items) (cap_of m.items) (placed_segments m L) (image_of m).imports l 0 (not L)) exports_are
+      ∙ ap (λ o. image_by words values (table_of m L) (pages_of m.items) (cap_of m.items) (placed_segments m L) (image_of m).imports (image_of m).exports (start_offset m o) (not L)) (sym none.start)

@@ -1,5 +1,5 @@
 -- How far the judging of a module came, and what follows from it.
-use Rattle.std.proofs.Common.{◌≡◌, ◌≤◌, ◌<◌, ◌⊎◌, inl, inr, ℕ, suc, ◌+◌, List, [], ◌∷◌, ◌++◌, length, true, false, Option, Some, None, refl, sym, ap, ◌∙◌, append_assoc, arith, length-append}
+use Rattle.std.proofs.Common.{◌≡◌, ◌≤◌, ◌<◌, ◌⊎◌, inl, inr, ℕ, suc, ◌+◌, List, [], ◌∷◌, ◌++◌, length, true, false, Option, Some, None, refl, sym, ap, ◌∙◌, subst, append_assoc, arith, length-append}
 use Rattle.std.specs.Prelude.{IsSome}
 use Rattle.std.proofs.lemmas.List.{append-nil}
 use Rattle.wasm_defs.specs.declared.fault.Refusal.{Refusal}
@@ -7,22 +7,22 @@ use Rattle.wasm_defs.specs.declared.item.Item.{Item}
 use Rattle.wasm_defs.specs.Typing.{function_type}
 use Rattle.wasm_defs.specs.Trees.{Seq}
 use Rattle.wasm_defs.specs.Entries.{Seen}
-use Rattle.wasm_defs.specs.Context.{import_count, declared_count, functions_of}
+use Rattle.wasm_defs.specs.Context.{context_of, import_count, declared_count, functions_of}
 use Rattle.wasm_defs.specs.Outside.{Part, Section, Listed, Coded, Body, Run, Whole, after_part, ends, module_read}
 use Rattle.wasm_defs.specs.Supported.{is_compiled_section}
-use Rattle.wasm_defs.specs.Faults.{IsNoLater, first_outside, ending_fault, sections_of, items_of, bodies_of, earlier, unsupported_at, IsCodeFault, IsValidCode, read_of, context_at, IsFaultInside, AreValid, IsOutsideFault, IsFault, Module, IsModule, Verdict, Accepted, Rejected}
-use Rattle.wasm_laws.specs.Order.{AreOrdered, BodyStands, end_of, first_section}
+use Rattle.wasm_defs.specs.Faults.{IsNoLater, first_outside, ending_fault, sections_of, items_of, bodies_of, earlier, unsupported_at, IsCodeFault, IsValidCode, read_of, context_at, started, StartsRight, IsStartFault, IsFaultInside, AreValid, IsOutsideFault, IsFault, Module, IsModule, Verdict, Accepted, Rejected}
+use Rattle.wasm_laws.specs.Order.{AreOrdered, BodyStands, StartStands, behind_start, end_of, first_section}
 use Rattle.wasm_laws.specs.Typed.{AreTyped}
 use Rattle.wasm_laws.proofs.Typed.{functions_have_types}
 use Rattle.wasm_laws.proofs.Earlier.{equal_is_no_later, IsEarlier, earlier_is, no_later_offset}
-use Rattle.wasm_laws.proofs.Order.{around_body, around_section, parts_before_fault, parts_in_module}
+use Rattle.wasm_laws.proofs.Order.{around_body, around_item, around_section, start_goes_on, parts_before_fault, parts_in_module}
 use Rattle.wasm_laws.proofs.Few.{parts_are_few}
 use Rattle.wasm_laws.proofs.Verdicts.{code_fault_inside}
 use Rattle.index_spaces.specs.Spaces.{Spaces, spaces_of, with_item, context_in}
 use Rattle.stream_compile.specs.Progress.{IsJudged, body_of_spaces}
 use Rattle.index_spaces.proofs.SpaceLaws.{spaces_of-append, functions_of-counts}
 use Rattle.wasm_laws.proofs.PartLists.{items_of-append, bodies_of-append, sections_of-append, typed_behind, valid_both, fault_behind, fault_of_rest, none_outside, one_inside, one_outside, functions_are_few, bodies_are_few}
-use Rattle.wasm_laws.proofs.PartOrder.{fault_after, section_after, some_ordered}
+use Rattle.wasm_laws.proofs.PartOrder.{start_fault_stands, start_once, fault_after, section_after, some_ordered}
 
 -- ---- how far judging came
 
@@ -47,8 +47,8 @@ after_section bytes left spaces bodies at id j e = record {
   valid = valid_more j.front (Section at id) j.trees [] j.valid tt;
 }
 
-abbrev pub after_item : (bytes : List ℕ) (left : Run) (spaces later : Spaces) (bodies : ℕ) (x : Item) → IsJudged bytes (after_part (Listed x) left) spaces bodies → later ≡ with_item spaces x → IsJudged bytes left later bodies
-after_item bytes left spaces later bodies x j e = record {
+abbrev pub after_item : (bytes : List ℕ) (left : Run) (spaces later : Spaces) (bodies : ℕ) (x : Item) → IsJudged bytes (after_part (Listed x) left) spaces bodies → StartsRight (context_in spaces) (started x) → later ≡ with_item spaces x → IsJudged bytes left later bodies
+after_item bytes left spaces later bodies x j starts e = record {
   front = j.front ++ Listed x ∷ [];
   parts = regrouped bytes j.front left.parts (Listed x) j.parts;
   ending = j.ending;
@@ -56,7 +56,7 @@ after_item bytes left spaces later bodies x j e = record {
   count = j.count ∙ ap length (sym (bodies_of-append j.front (Listed x ∷ []) ∙ append-nil (bodies_of j.front)));
   compiled = ap (first_outside is_compiled_section) (sections_of-append j.front (Listed x ∷ []) ∙ append-nil (sections_of j.front)) ∙ j.compiled;
   trees = j.trees ++ [];
-  valid = valid_more j.front (Listed x) j.trees [] j.valid tt;
+  valid = valid_more j.front (Listed x) j.trees [] j.valid (subst (λ (s : Spaces). StartsRight (context_in s) (started x)) j.spaces_are starts, tt);
 }
 
 pub context_is : (bytes : List ℕ) (left : Run) (spaces : Spaces) (bodies : ℕ) (b : Body) (j : IsJudged bytes left spaces bodies) → body_of_spaces spaces bodies b ≡ context_at (items_of j.front) (length (bodies_of j.front)) b
@@ -167,6 +167,40 @@ body_refused bytes left spaces bodies b r j f = (inr inside, λ s g. no_less s g
     no_less : (s : Refusal) → IsFault bytes s → r.offset ≤ s.offset
     no_less s (inl g) = of_outside s g.0
     no_less s (inr g) = of_inside s (inside_rest bytes (after_part (Coded b) left) spaces bodies s j g)
+
+-- ---- the start function is at fault
+
+pub start_refused : (bytes : List ℕ) (left : Run) (spaces : Spaces) (bodies : ℕ) (x : Item) (r : Refusal) → IsJudged bytes (after_part (Listed x) left) spaces bodies → IsStartFault (context_in spaces) (started x) r → IsVerdictBesideText bytes (Rejected r)
+start_refused bytes left spaces bodies x r j f = (inr inside, λ s g. no_less s g)
+  where
+    here : IsStartFault (context_of (items_of j.front)) (started x) r
+    here = subst (λ (s : Spaces). IsStartFault (context_in s) (started x) r) j.spaces_are f
+
+    inside : IsFaultInside [] 0 (module_read bytes).parts r
+    inside = rw j.parts (fault_of_rest [] 0 j.front (Listed x ∷ left.parts) r (inl here))
+
+    around : (at : ℕ) × StartStands at (length bytes) (started x) × AreOrdered (behind_start at (started x)) (length bytes) left.parts
+    around = around_item first_section (length bytes) j.front x left.parts (rw j.parts at (parts_in_module bytes))
+
+    before : r.offset < behind_start around.0 (started x)
+    before = (start_fault_stands around.0 (length bytes) (context_of (items_of j.front)) (started x) r around.1 here).1
+
+    of_outside : (s : Refusal) → (ending_fault (length bytes) (module_read bytes).ending ≡ Some s) ⊎ (first_outside is_compiled_section (sections_of (module_read bytes).parts) ≡ Some s) → r.offset ≤ s.offset
+    of_outside s (inl e) =
+        let a = around_item first_section s.offset j.front x left.parts (rw j.parts at (parts_before_fault bytes s e).0) in
+        let b = start_fault_stands a.0 s.offset (context_of (items_of j.front)) (started x) r a.1 here in
+        omega (arith, b.1, (start_goes_on a.0 s.offset (started x) a.1).1)
+    of_outside s (inr e) =
+        let k = section_after (behind_start around.0 (started x)) (length bytes) left.parts s around.2 (sym (outside_rest bytes (after_part (Listed x) left) spaces bodies j) ∙ e) in
+        omega (arith, before)
+
+    of_inside : (s : Refusal) → IsFaultInside (items_of j.front) (length (bodies_of j.front)) (Listed x ∷ left.parts) s → r.offset ≤ s.offset
+    of_inside s (inl g) = omega (arith, ap (λ (t : Refusal). t.offset) (start_once (context_of (items_of j.front)) (started x) r s here g))
+    of_inside s (inr g) = let k = fault_after (behind_start around.0 (started x)) (length bytes) (items_of j.front ++ x ∷ []) (length (bodies_of j.front)) left.parts s around.2 g in omega (arith, before)
+
+    no_less : (s : Refusal) → IsFault bytes s → r.offset ≤ s.offset
+    no_less s (inl g) = of_outside s g.0
+    no_less s (inr g) = of_inside s (inside_rest bytes (after_part (Listed x) left) spaces bodies s j g)
 
 -- ---- a section isn't compiled
 

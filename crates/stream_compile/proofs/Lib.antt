@@ -18,3 +18,4 @@ pub mod Once
 pub mod Answering
 pub mod Calls
 pub mod Stopped
+pub mod ForeignLaws

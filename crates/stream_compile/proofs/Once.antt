@@ -6,9 +6,10 @@ use Rattle.wasm_defs.specs.declared.item.Item.{Item}
 use Rattle.wasm_defs.specs.Trees.{Seq}
 use Rattle.wasm_defs.specs.Outside.{Part, Section, Listed, Coded, Body, module_read}
 use Rattle.wasm_defs.specs.Supported.{is_compiled_section}
-use Rattle.wasm_defs.specs.Faults.{first_outside, ending_fault, sections_of, items_of, bodies_of, tokens_of, read_of, context_at, IsOutsideFault, IsFaultInside, IsFault, AreValid, Module, IsModule, Verdict, Accepted, Rejected}
-use Rattle.wasm_laws.specs.Order.{AreOrdered, end_of, first_section}
-use Rattle.wasm_laws.proofs.Order.{parts_before_fault, parts_in_module}
+use Rattle.wasm_defs.specs.Faults.{first_outside, ending_fault, sections_of, items_of, bodies_of, tokens_of, read_of, context_at, started, IsOutsideFault, IsFaultInside, IsFault, AreValid, Module, IsModule, Verdict, Accepted, Rejected}
+use Rattle.wasm_defs.specs.Context.{context_of}
+use Rattle.wasm_laws.specs.Order.{AreOrdered, behind_start, end_of, first_section}
+use Rattle.wasm_laws.proofs.Order.{start_goes_on, parts_before_fault, parts_in_module}
 use Rattle.wasm_laws.proofs.Verdicts.{first_once, code_fault_inside, module_has_no_fault}
 use Rattle.body_validator.proofs.TreeLaws.{trees_one}
 use Rattle.std.proofs.lemmas.List.{append-nil}
@@ -19,7 +20,7 @@ use Rattle.image_linker.specs.ImageOf.{size_of, stub_size, front_size}
 use Rattle.wasm_laws.proofs.PartLists.{items_of-append}
 use Rattle.stream_compile.proofs.CodeWords.{same_size}
 use Rattle.image_linker.specs.Judging.{sizes, text_bytes, IsTextFault, IsFaultOf, IsModuleOf, IsVerdictOf}
-use Rattle.wasm_laws.proofs.PartOrder.{fault_after, section_after}
+use Rattle.wasm_laws.proofs.PartOrder.{start_fault_stands, start_once, fault_after, section_after}
 use Rattle.stream_compile.proofs.TextFaults.{text_not_outside, text_not_inside, text_once, tree_once}
 
 -- ---- faults of bodies
@@ -27,7 +28,16 @@ use Rattle.stream_compile.proofs.TextFaults.{text_not_outside, text_not_inside, 
 inside_once : (low last : ℕ) (items : List Item) (k : ℕ) (parts : List Part) (r s : Refusal) → AreOrdered low last parts → IsFaultInside items k parts r → IsFaultInside items k parts s → r.offset ≡ s.offset → r ≡ s
 inside_once low last items k [] r s o f g e = absurd f
 inside_once low last items k (Section at id ∷ parts) r s o f g e = inside_once (suc at) last items k parts r s o.2 f g e
-inside_once low last items k (Listed x ∷ parts) r s o f g e = inside_once low last (items ++ x ∷ []) k parts r s o.1 f g e
+inside_once low last items k (Listed x ∷ parts) r s o (inl f) (inl g) e = start_once (context_of items) (started x) r s f g
+inside_once low last items k (Listed x ∷ parts) r s o (inl f) (inr g) e =
+    let here = start_fault_stands low last (context_of items) (started x) r o.0 f in
+    let later = fault_after (behind_start low (started x)) last (items ++ x ∷ []) k parts s o.1 g in
+    absurd (omega (arith, here.1))
+inside_once low last items k (Listed x ∷ parts) r s o (inr f) (inl g) e =
+    let here = start_fault_stands low last (context_of items) (started x) s o.0 g in
+    let later = fault_after (behind_start low (started x)) last (items ++ x ∷ []) k parts r o.1 f in
+    absurd (omega (arith, here.1))
+inside_once low last items k (Listed x ∷ parts) r s o (inr f) (inr g) e = inside_once (behind_start low (started x)) last (items ++ x ∷ []) k parts r s o.1 f g e
 inside_once low last items k (Coded b ∷ parts) r s o (inl f) (inl g) e = first_once _ r s f g
 inside_once low last items k (Coded b ∷ parts) r s o (inl f) (inr g) e =
     let stands = o.0 in
@@ -49,7 +59,11 @@ no_section low last items k (Section at id ∷ parts) r s o f g e =
       | inl h ↦ let t : first_outside is_compiled_section (sections_of parts) ≡ Some s = rw h at g in no_section (suc at) last items k parts r s o.2 f t e
       | inr h ↦ let t = rw h at g in let here : at ≡ s.offset = cc in let later = fault_after (suc at) last items k parts r o.2 f in omega (arith)
     ]
-no_section low last items k (Listed x ∷ parts) r s o f g e = no_section low last (items ++ x ∷ []) k parts r s o.1 f g e
+no_section low last items k (Listed x ∷ parts) r s o (inl f) g e =
+    let here = start_fault_stands low last (context_of items) (started x) r o.0 f in
+    let later = section_after (behind_start low (started x)) last parts s o.1 g in
+    omega (arith, here.1)
+no_section low last items k (Listed x ∷ parts) r s o (inr f) g e = no_section (behind_start low (started x)) last (items ++ x ∷ []) k parts r s o.1 f g e
 no_section low last items k (Coded b ∷ parts) r s o (inl f) g e =
     let stands = o.0 in
     let here = code_fault_inside (context_at items k b) b r (omega (arith, stands.least)) f in
@@ -60,7 +74,10 @@ no_section low last items k (Coded b ∷ parts) r s o (inr f) g e = no_section (
 pub before_last : (low last : ℕ) (items : List Item) (k : ℕ) (parts : List Part) (r : Refusal) → AreOrdered low last parts → IsFaultInside items k parts r → r.offset < last
 before_last low last items k [] r o f = absurd f
 before_last low last items k (Section at id ∷ parts) r o f = before_last (suc at) last items k parts r o.2 f
-before_last low last items k (Listed x ∷ parts) r o f = before_last low last (items ++ x ∷ []) k parts r o.1 f
+before_last low last items k (Listed x ∷ parts) r o (inl f) =
+    let here = start_fault_stands low last (context_of items) (started x) r o.0 f in
+    omega (arith, here.1, (start_goes_on low last (started x) o.0).1)
+before_last low last items k (Listed x ∷ parts) r o (inr f) = before_last (behind_start low (started x)) last (items ++ x ∷ []) k parts r o.1 f
 before_last low last items k (Coded b ∷ parts) r o (inl f) =
     let stands = o.0 in
     let here = code_fault_inside (context_at items k b) b r (omega (arith, stands.least)) f in
@@ -89,7 +106,7 @@ same_trees items k [] [] [] v w = refl
 same_trees items k [] (x ∷ xs) ys v w = absurd v
 same_trees items k [] [] (y ∷ ys) v w = absurd w
 same_trees items k (Section at id ∷ parts) xs ys v w = same_trees items k parts xs ys v w
-same_trees items k (Listed x ∷ parts) xs ys v w = same_trees (items ++ x ∷ []) k parts xs ys v w
+same_trees items k (Listed x ∷ parts) xs ys v w = same_trees (items ++ x ∷ []) k parts xs ys v.1 w.1
 same_trees items k (Coded b ∷ parts) [] ys v w = absurd v
 same_trees items k (Coded b ∷ parts) (x ∷ xs) [] v w = absurd w
 same_trees items k (Coded b ∷ parts) (x ∷ xs) (y ∷ ys) v w =
@@ -125,7 +142,7 @@ text_fits bytes front (Section at id ∷ parts) k words trees r e v le f =
     (rw (items_of-append front (Section at id ∷ []), append-nil (items_of front)) v) le (rw (items_of-append front (Section at id ∷ []), append-nil (items_of front)) f)
 text_fits bytes front (Listed x ∷ parts) k words trees r e v le f =
     text_fits bytes (front ++ Listed x ∷ []) parts k words trees r (e ∙ sym (append_assoc front (Listed x ∷ []) parts))
-    (rw (items_of-append front (Listed x ∷ [])) v) le (rw (items_of-append front (Listed x ∷ [])) f)
+    (rw (items_of-append front (Listed x ∷ [])) v.1) le (rw (items_of-append front (Listed x ∷ [])) f)
 text_fits bytes front (Coded b ∷ parts) k words [] r e v le f = absurd v
 text_fits bytes front (Coded b ∷ parts) k words (tree ∷ trees) r e v le (t, w, inl f) =
     let behind = bodies_stand_behind bytes front b parts e in

@@ -8,14 +8,15 @@ use Rattle.wasm_defs.specs.declared.item.Item.{Item}
 use Rattle.wasm_defs.specs.declared.token.Token.{Token}
 use Rattle.wasm_defs.specs.Entries.{Seen}
 use Rattle.wasm_defs.specs.Typing.{Context}
+use Rattle.wasm_defs.specs.Context.{context_of}
 use Rattle.wasm_defs.specs.Viable.{IsFaulty}
 use Rattle.wasm_defs.specs.Outside.{Part, Section, Listed, Coded, Body, Ending, Whole, Refused, Owed, Run, module_read}
 use Rattle.wasm_defs.specs.Supported.{is_compiled_section}
-use Rattle.wasm_defs.specs.Faults.{rank, IsNoLater, IsFirst, unsupported_at, first_outside, ending_fault, sections_of, tokens_of, IsTokenFault, IsSpellingFault, IsCodeFault, IsFaultInside, read_of, context_at, Verdict, Accepted, Rejected}
+use Rattle.wasm_defs.specs.Faults.{rank, IsNoLater, IsFirst, unsupported_at, first_outside, ending_fault, sections_of, tokens_of, IsTokenFault, IsSpellingFault, IsCodeFault, started, IsStartFault, IsFaultInside, read_of, context_at, Verdict, Accepted, Rejected}
 use Rattle.wasm_defs.specs.Supported.{is_compiled_opcode}
 use Rattle.wasm_laws.specs.Runs.{Becomes}
-use Rattle.wasm_laws.specs.Order.{AreOrdered, end_of, first_section}
-use Rattle.wasm_laws.proofs.Order.{parts_before_fault, parts_in_module}
+use Rattle.wasm_laws.specs.Order.{AreOrdered, behind_start, end_of, first_section}
+use Rattle.wasm_laws.proofs.Order.{start_goes_on, start_before, parts_before_fault, parts_in_module}
 use Rattle.wasm_laws.proofs.Runs.{module_goes_on}
 use Rattle.image_linker.specs.ImageOf.{size_of}
 use Rattle.image_linker.specs.Judging.{IsTextFault, IsFaultOf, IsVerdictOf, IsStoppedAt, lasting, lasting_fault}
@@ -62,10 +63,15 @@ code_kind c b r f = of f.0
     of (inr (inl s)) = body_fault_lasts b.first b.bytes r s.is
     of (inr (inr u)) = omega (arith, outside_is is_compiled_opcode (read_of b).code.opcodes r u)
 
+start_kind : (c : Context) (o : Option (ℕ × ℕ)) (r : Refusal) → IsStartFault c o r → rank r.kind < 4
+start_kind c None r f = absurd f
+start_kind c (Some index) r f = omega (arith, ap (λ (s : Refusal). rank s.kind) f.1)
+
 inside_kind : (items : List Item) (k : ℕ) (parts : List Part) (r : Refusal) → IsFaultInside items k parts r → rank r.kind < 4
 inside_kind items k [] r f = absurd f
 inside_kind items k (Section at id ∷ parts) r f = inside_kind items k parts r f
-inside_kind items k (Listed x ∷ parts) r f = inside_kind (items ++ x ∷ []) k parts r f
+inside_kind items k (Listed x ∷ parts) r (inl f) = start_kind (context_of items) (started x) r f
+inside_kind items k (Listed x ∷ parts) r (inr f) = inside_kind (items ++ x ∷ []) k parts r f
 inside_kind items k (Coded b ∷ parts) r (inl f) = code_kind (context_at items k b) b r f
 inside_kind items k (Coded b ∷ parts) r (inr f) = inside_kind items (suc k) parts r f
 
@@ -97,14 +103,16 @@ ended_is_owed bytes r (inr f) k = absurd (not_ended r.kind (text_kind [] 0 0 (mo
 front_ordered : (low last : ℕ) (front back : List Part) → AreOrdered low last (front ++ back) → AreOrdered low last front
 front_ordered low last [] back o = tt
 front_ordered low last (Section at id ∷ front) back o = (o.0, o.1, front_ordered (suc at) last front back o.2)
-front_ordered low last (Listed x ∷ front) back o = (o.0, front_ordered low last front back o.1)
+front_ordered low last (Listed x ∷ front) back o = (o.0, front_ordered (behind_start low (started x)) last front back o.1)
 front_ordered low last (Coded b ∷ front) back o = (o.0, front_ordered (end_of b) last front back o.1)
 
 -- the parts in front end where the others begin
 split : (low last : ℕ) (front back : List Part) → AreOrdered low last (front ++ back) → (mid : ℕ) × (low ≤ mid) × AreOrdered low mid front × AreOrdered mid last back
 split low last [] back o = (low, omega arith, tt, o)
 split low last (Section at id ∷ front) back o = let q = split (suc at) last front back o.2 in (q.0, omega (arith, o.0, q.1), (o.0, omega (arith, q.1), q.2), q.3)
-split low last (Listed x ∷ front) back o = let q = split low last front back o.1 in (q.0, q.1, (q.1, q.2), q.3)
+split low last (Listed x ∷ front) back o =
+    let q = split (behind_start low (started x)) last front back o.1 in
+    (q.0, omega (arith, q.1, (start_goes_on low last (started x) o.0).0), (start_before low last q.0 (started x) o.0 q.1, q.2), q.3)
 split low last (Coded b ∷ front) back o =
     let q = split (end_of b) last front back o.1 in
     let stands = o.0 in
@@ -117,7 +125,7 @@ section_before low last (Section at id ∷ parts) r o e =
       | inl h ↦ let t : first_outside is_compiled_section (sections_of parts) ≡ Some r = rw h at e in section_before (suc at) last parts r o.2 t
       | inr h ↦ let t = rw h at e in let same : unsupported_at at ≡ r = cc in omega (arith, o.1, ap (λ (s : Refusal). s.offset) same)
     ]
-section_before low last (Listed x ∷ parts) r o e = section_before low last parts r o.1 e
+section_before low last (Listed x ∷ parts) r o e = section_before (behind_start low (started x)) last parts r o.1 e
 section_before low last (Coded b ∷ parts) r o e = section_before (end_of b) last parts r o.1 e
 
 outside_before : (n : ℕ) (xs : List (ℕ × ℕ)) (r : Refusal) → AreBefore n xs → first_outside is_compiled_section xs ≡ Some r → r.offset < n
@@ -141,7 +149,8 @@ outside_stays (x ∷ xs) ys r e =
 inside_stays : (items : List Item) (k : ℕ) (front back : List Part) (r : Refusal) → IsFaultInside items k front r → IsFaultInside items k (front ++ back) r
 inside_stays items k [] back r f = absurd f
 inside_stays items k (Section at id ∷ front) back r f = inside_stays items k front back r f
-inside_stays items k (Listed x ∷ front) back r f = inside_stays (items ++ x ∷ []) k front back r f
+inside_stays items k (Listed x ∷ front) back r (inl f) = inl f
+inside_stays items k (Listed x ∷ front) back r (inr f) = inr (inside_stays (items ++ x ∷ []) k front back r f)
 inside_stays items k (Coded b ∷ front) back r (inl f) = inl f
 inside_stays items k (Coded b ∷ front) back r (inr f) = inr (inside_stays items (suc k) front back r f)
 
@@ -165,7 +174,8 @@ outside_splits (x ∷ xs) ys r e =
 inside_splits : (items : List Item) (k : ℕ) (front back : List Part) (r : Refusal) → IsFaultInside items k (front ++ back) r → IsFaultInside items k front r ⊎ ((xs : List Item) × (n : ℕ) × IsFaultInside xs n back r)
 inside_splits items k [] back r f = inr (items, k, f)
 inside_splits items k (Section at id ∷ front) back r f = inside_splits items k front back r f
-inside_splits items k (Listed x ∷ front) back r f = inside_splits (items ++ x ∷ []) k front back r f
+inside_splits items k (Listed x ∷ front) back r (inl f) = inl (inl f)
+inside_splits items k (Listed x ∷ front) back r (inr f) = elim (inside_splits (items ++ x ∷ []) k front back r f) [ inl g ↦ inl (inr g) | inr g ↦ inr g ]
 inside_splits items k (Coded b ∷ front) back r (inl f) = inl (inl f)
 inside_splits items k (Coded b ∷ front) back r (inr f) = elim (inside_splits items (suc k) front back r f) [ inl g ↦ inl (inr g) | inr g ↦ inr g ]
 

@@ -6,9 +6,9 @@ use Rattle.wasm_defs.specs.declared.fault.Refusal.{Refusal}
 use Rattle.wasm_defs.specs.declared.item.Item.{Item}
 use Rattle.wasm_defs.specs.declared.item.Item.TheVariants as item
 use Rattle.wasm_defs.specs.Supported.{is_compiled_section}
-use Rattle.wasm_defs.specs.Faults.{first_outside, ending_fault, sections_of, unsupported_at, Rejected}
+use Rattle.wasm_defs.specs.Faults.{first_outside, ending_fault, sections_of, unsupported_at, started, StartsRight, IsStartFault, Rejected}
 use Rattle.wasm_defs.specs.Outside.{Part, Listed, Run, Ending, Whole, Refused, Owed, after_part, ends, sections, no_end, module_read}
-use Rattle.index_spaces.specs.Spaces.{Spaces, spaces_of, with_item}
+use Rattle.index_spaces.specs.Spaces.{Spaces, spaces_of, context_in, with_item}
 use Rattle.section_reader.specs.declared.front.Front.{Front}
 use Rattle.section_reader.specs.declared.steps.Steps.{Steps}
 use Rattle.section_reader.specs.declared.stage.Stage.{Stage}
@@ -34,7 +34,7 @@ use Rattle.stream_compile.specs.Done.{Decides}
 use Rattle.stream_compile.specs.Streaming.{mode_weight, work_left, left_of, IsOutside, IsInside, IsPlaced, IsGoing, IsTaking, IsWaiting, TakesItem, Advances, GoesOn, with_cutter, earliest}
 use Rattle.stream_compile.proofs.CutRuns.{after_append, entries_cut, handed_run}
 use Rattle.stream_compile.proofs.Cutting.{run_fed, count_fed, whole_run, whole_at, refused_run, ended_run, prompt_on, rest_run, split_rest, rest_is}
-use Rattle.stream_compile.proofs.Compiled.{begins, after_item, is_refused}
+use Rattle.stream_compile.proofs.Compiled.{begins, after_item, start_refused, is_refused}
 use Rattle.stream_compile.proofs.Taking.{judging_on}
 use Rattle.stream_compile.proofs.Judging.{few_functions, few_imports}
 use Rattle.stream_compile.proofs.CodeEnds.{code_ends}
@@ -229,27 +229,31 @@ module _ (bytes : List ℕ) (s : Compilation) (x : Item) (more : List ℕ) (t : 
     pub item_next : IsJudging bytes (after_part (Listed x) (onward_left s.front more)) s.spaces s.codes
     item_next = sections_taken bytes s.spaces s.codes t.told (after_part (Listed x) (onward_left s.front more)) t.sections (sym (first_item None inside)) t.judging
 
-    pub item_judged : (later : Spaces) → later ≡ with_item s.spaces x → IsJudging bytes (onward_left s.front more) later s.codes
-    item_judged later is = after_item bytes (onward_left s.front more) s.codes s.spaces later x item_next is
+    -- the start function is at fault
+    pub item_refused : (r : Refusal) → IsStartFault (context_in s.spaces) (started x) r → IsVerdictOf bytes (Rejected r)
+    item_refused r f = start_refused bytes (onward_left s.front more) s.spaces s.codes x r item_next f
+
+    pub item_judged : (later : Spaces) → StartsRight (context_in s.spaces) (started x) → later ≡ with_item s.spaces x → IsJudging bytes (onward_left s.front more) later s.codes
+    item_judged later starts is = after_item bytes (onward_left s.front more) s.codes s.spaces later x item_next starts is
 
     none_met : outside_of s.front.steps.uncompiled [] ≡ None
     none_met = ap (λ (o : Option ℕ). outside_of o []) (sym t.known ∙ inside)
 
     -- no bodies come
-    pub item_reading : (later : Spaces) → later ≡ with_item s.spaces x → is_at_bodies s.front.steps.stage ≡ false → IsReading bytes s.front later s.codes more
-    item_reading later is apart = record {
-      right = record { few = t.few; told = []; sections = tt; first = none_met; judging = item_judged later is };
+    pub item_reading : (later : Spaces) → StartsRight (context_in s.spaces) (started x) → later ≡ with_item s.spaces x → is_at_bodies s.front.steps.stage ≡ false → IsReading bytes s.front later s.codes more
+    item_reading later starts is apart = record {
+      right = record { few = t.few; told = []; sections = tt; first = none_met; judging = item_judged later starts is };
       place = record { idle = t.idle; outside = apart; count = t.count };
     }
 
     -- the bodies come
-    pub item_cutting : (later : Spaces) (c : Cutting) (count end : ℕ) → later ≡ with_item s.spaces x → BodiesCome count end s.front
+    pub item_cutting : (later : Spaces) (c : Cutting) (count end : ℕ) → StartsRight (context_in s.spaces) (started x) → later ≡ with_item s.spaces x → BodiesCome count end s.front
         → ((rest : List ℕ) → onward_left s.front rest ≡ cut_run (left c rest) (sections_behind s.front.steps.seen c.place.at c.place.end rest)) → c.place.at ≡ total s.front → c.place.end ≡ end
         → IsCutting bytes s.front c later s.codes more
-    item_cutting later c count end is come run at ends = record {
+    item_cutting later c count end starts is come run at ends = record {
       few = t.few;
       none = none_met;
-      judging = judging_on bytes (onward_left s.front more) (cut_run (left c more) (sections_behind s.front.steps.seen c.place.at c.place.end more)) later s.codes (run more) (item_judged later is);
+      judging = judging_on bytes (onward_left s.front more) (cut_run (left c more) (sections_behind s.front.steps.seen c.place.at c.place.end more)) later s.codes (run more) (item_judged later starts is);
       skips = subst (λ (n : ℕ). can_skip s.front n ≡ true) (sym ends) come.skip;
       count = omega (arith, at, t.count);
     }
@@ -282,11 +286,11 @@ not_bodies (item.Element table place functions) f none h = h
 not_bodies (item.Segment memory place bytes) f none h = h
 
 -- the bodies may begin
-pub may_begin : (bytes : List ℕ) (s : Compilation) (count : ℕ × ℕ) (end : ℕ) (more : List ℕ) (t : IsTaking bytes s (item.Code count end) more) (inside : begun s.front ≡ None) (later : Spaces) → later ≡ with_item s.spaces (item.Code count end)
+pub may_begin : (bytes : List ℕ) (s : Compilation) (count : ℕ × ℕ) (end : ℕ) (more : List ℕ) (t : IsTaking bytes s (item.Code count end) more) (inside : begun s.front ≡ None) (later : Spaces) → StartsRight (context_in s.spaces) (started (item.Code count end)) → later ≡ with_item s.spaces (item.Code count end)
     → (length later.functions < 2 ^ 32) × (later.imported + count.1 < 2 ^ 32) × (total s.front ≤ end) × (end < 2 ^ 60)
-may_begin bytes s count end more t inside later is =
+may_begin bytes s count end more t inside later starts is =
     let run = onward_left s.front more in
-    let j = item_judged bytes s (item.Code count end) more t inside later is in
+    let j = item_judged bytes s (item.Code count end) more t inside later starts is in
     let functions = few_functions bytes run later s.codes.count j.judged in
     let imports = few_imports bytes run later s.codes.count j.judged in
     let next = item_next bytes s (item.Code count end) more t inside in

@@ -15,20 +15,20 @@ use Rattle.wasm_defs.specs.Outside.{Body, Run, Part, after_part}
 use Rattle.wasm_defs.specs.Outside as outside
 use Rattle.wasm_defs.specs.Faults.{IsValidCode, read_of, context_at, items_of, bodies_of}
 use Rattle.frame_layout.specs.Templates.{Around}
-use Rattle.frame_layout.specs.Functions.{function_code}
+use Rattle.frame_layout.specs.Functions.{no_distance, function_code}
 use Rattle.index_spaces.specs.Spaces.{Spaces, spaces_of, context_in}
 use Rattle.body_compiler.specs.declared.code.BodyStop.{BodyStop}
 use Rattle.body_compiler.specs.declared.code.BodyStop.TheVariants as body
-use Rattle.body_compiler.specs.Compiling.{Compiles}
+use Rattle.body_compiler.specs.Compiling.{Compiles, IsFunctionCode}
 use Rattle.body_cutter.specs.declared.body.Body.{Body as GivenBody}
 use Rattle.wasm_defs.specs.declared.front_stop.FrontStop.{FrontStop}
 use Rattle.wasm_defs.specs.declared.front_stop.FrontStop.TheVariants.{Refused, NoMemory}
-use Rattle.image_linker.specs.ImageOf.{around, no_distance, front_size}
+use Rattle.image_linker.specs.ImageOf.{around, front_of, front_size}
 use Rattle.image_linker.specs.Codes.{IsCodeOf}
 use Rattle.wasm_laws.specs.Order.{first_section}
 use Rattle.wasm_laws.proofs.Order.{around_body, parts_in_module}
 use Rattle.stream_compile.specs.Codes.{Coding}
-use Rattle.stream_compile.specs.Progress.{IsJudged, IsJudging, CanTakeNext, TakesPart, TakesBody, TakesCode, front_stop, front_of, body_of_spaces}
+use Rattle.stream_compile.specs.Progress.{IsJudged, IsJudging, CanTakeNext, TakesPart, TakesBody, TakesCode, front_stop, body_of_spaces}
 use Rattle.stream_compile.proofs.Judging.{typed_there, few_functions, few_bodies, few_imports}
 use Rattle.stream_compile.proofs.Compiled.{after_body, text_passes, body_refused}
 
@@ -51,11 +51,14 @@ stops_as spaces bodies b body.NoMemory h = tt
 
 -- the code is that of the body behind these items and so many bodies
 code_of_body : (items : List Item) (k : ℕ) (b : Body) (tree : Seq) (code : Code)
-    → ((w : Around) → w.layout ≡ (around items k b tree no_distance).layout → code.words ≡ map word_of (function_code w (context_at items k b) tree)) → IsCodeOf items k b tree code
-code_of_body items k b tree code words = record {
-  words = λ d. words (around items k b tree d) refl;
-  size = ap (λ (l : List ℕ). length l) (words (around items k b tree no_distance) refl) ∙ length-map (function_code (around items k b tree no_distance) (context_at items k b) tree) word_of;
-}
+    → ((w : Around) → w.layout ≡ (around items k b tree no_distance).layout → w.distance_to ≡ no_distance → IsFunctionCode w (context_at items k b) tree code) → IsCodeOf items k b tree code
+code_of_body items k b tree code is =
+    let here = is (around items k b tree no_distance) refl refl in
+    record {
+      words = here.words;
+      relocations = here.relocations;
+      size = ap (λ (l : List ℕ). length l) here.words ∙ length-map (function_code (around items k b tree no_distance) (context_at items k b) tree) word_of;
+    }
 
 -- a body's code, by the spaces that the code has and by the items in front
 pub record HasCode (s : Spaces) (n : ℕ) (items : List Item) (k : ℕ) (b : Body) (code : Code) : Type 0 where
@@ -75,8 +78,8 @@ module _ (bytes : List ℕ) (left : Run) (spaces : Spaces) (codes : Coding) (b :
   coded : (code : Code) → TakesBody spaces codes.count b (Ok code) → HasCode spaces codes.count (items_of j.judged.front) (length (bodies_of j.judged.front)) (given_body b) code
   coded code h = has_code spaces codes.count (items_of j.judged.front) (length (bodies_of j.judged.front)) (given_body b) code j.judged.spaces_are j.judged.count h
 
-  front_is : front_of spaces ≡ front_size (items_of j.judged.front)
-  front_is = ap front_of j.judged.spaces_are
+  front_is : front_of spaces.imported ≡ front_size (items_of j.judged.front)
+  front_is = ap (λ (x : Spaces). front_of x.imported) j.judged.spaces_are
 
   pub body_stops : (s : FrontStop) (new : Coding) → TakesCode spaces codes b (Err s) new → TakesPart bytes (Err s) left spaces new
   body_stops (Refused r) new (inl h) = body_refused bytes left spaces codes (given_body b) r j h
@@ -92,12 +95,12 @@ module _ (bytes : List ℕ) (left : Run) (spaces : Spaces) (codes : Coding) (b :
 
 -- ---- a part can be taken
 
--- a function's type is small
-small_type : (bytes : List ℕ) (left : Run) (spaces : Spaces) (bodies : ℕ) (b : GivenBody) → IsJudged bytes (after_part (outside.Coded (given_body b)) left) spaces bodies → TypeIsSmall (type_of_function (context_in spaces) (spaces.imported + bodies))
-small_type bytes left spaces bodies b j =
+-- the types are small
+small_types : (bytes : List ℕ) (left : Run) (spaces : Spaces) (bodies : ℕ) (b : GivenBody) → IsJudged bytes (after_part (outside.Coded (given_body b)) left) spaces bodies → TypesAreSmall (context_in spaces).types
+small_types bytes left spaces bodies b j =
     let behind = bodies_stand_behind bytes j.front (given_body b) left.parts j.parts in
     let front : TypesAreSmall (context_of (items_of j.front)).types = subst (λ (c : Context). TypesAreSmall c.types) behind.same.context (types_are_small bytes) in
-    function_is_small (context_in spaces) (spaces.imported + bodies) (subst (λ (s : Spaces). TypesAreSmall (context_in s).types) (sym j.spaces_are) front)
+    subst (λ (s : Spaces). TypesAreSmall (context_in s).types) (sym j.spaces_are) front
 
 pub can_take : (bytes : List ℕ) (left : Run) (spaces : Spaces) (codes : Coding) (b : GivenBody) → length bytes ≤ 67108869
     → IsJudging bytes (after_part (outside.Coded (given_body b)) left) spaces codes → CanTakeNext spaces codes b
@@ -107,7 +110,7 @@ can_take bytes left spaces codes b few j =
     let k = few_bodies bytes next spaces codes.count j.judged in
     let i = few_imports bytes next spaces codes.count j.judged in
     let stands = (around_body first_section (length bytes) j.judged.front (given_body b) left.parts (rw j.judged.parts at (parts_in_module bytes))).1 in
-    (record { typed = typed_there bytes left spaces codes.count (given_body b) j.judged; few = omega arith; index = omega arith; small = small_type bytes left spaces codes.count b j.judged; most = stands.most; offset = omega (arith, stands.before) }, omega arith, omega (arith, j.fits))
+    (record { typed = typed_there bytes left spaces codes.count (given_body b) j.judged; few = omega arith; index = omega arith; types = small_types bytes left spaces codes.count b j.judged; most = stands.most; offset = omega (arith, stands.before) }, omega arith, omega (arith, j.fits))
 
 -- ---- the whole
 

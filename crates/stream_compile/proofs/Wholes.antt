@@ -1,57 +1,35 @@
 -- A module whose parts were all taken.
 use Rattle.std.proofs.Common.{◌≡◌, ℕ, ◌+◌, ◌*◌, ◌≤◌, ◌<◌, inl, inr, List, [], ◌∷◌, map, length, Option, Some, None, refl, sym, ap, ◌∙◌, subst, arith}
 use Rattle.std.specs.Prelude.{◌^◌, All, IfSome}
-use Rattle.std.specs.Str.{bytes_eq}
-use Rattle.std.proofs.lemmas.Bool.{cases_Bool}
 use Rattle.rv_isa.specs.declared.compiled.Code.{Code}
 use Rattle.wasm_defs.specs.declared.item.Item.{Item}
 use Rattle.wasm_defs.specs.Entries.{Seen}
 use Rattle.wasm_defs.specs.Context.{types_of}
 use Rattle.wasm_defs.specs.Outside.{Run, Whole, ends}
 use Rattle.wasm_laws.specs.Plain.{ArePlain}
-use Rattle.wasm_laws.specs.Kept.{TypeIsSmall, TypesAreSmall, ConstantsFit}
+use Rattle.wasm_laws.specs.Kept.{ConstantsFit}
 use Rattle.wasm_laws.proofs.Constants.{constants_fit}
 use Rattle.wasm_laws.proofs.Plain.{items_are_plain, plain_has_no_more}
-use Rattle.wasm_laws.proofs.Exports.{types_are_small, function_is_small}
 use Rattle.frame_layout.specs.Templates.{exit_stub}
-use Rattle.image_format.specs.declared.image.Export.{Export}
 use Rattle.image_format.specs.Contents.{IsImage}
-use Rattle.image_run.specs.Checks.{export_named}
 use Rattle.index_spaces.specs.Entries.{function_exports, all_exports_of}
 use Rattle.index_spaces.specs.Spaces.{Spaces, spaces_of, context_in}
-use Rattle.image_linker.specs.ImageOf.{image_of, stub_size, front_size}
+use Rattle.image_linker.specs.ImageOf.{front_of, image_of}
 use Rattle.image_linker.specs.Linking.{NumbersFit, words_of, starts_of, linked, linked_export}
 use Rattle.image_linker.specs.Judging.{IsModuleOf}
 use Rattle.image_linker.proofs.Items.{numbers_fit}
 use Rattle.image_linker.proofs.Bounded.{images_keep_bounds}
 use Rattle.image_linker.proofs.Modules.{images_behave_alike}
+use Rattle.image_linker.proofs.Short.{images_are_short}
 use Rattle.section_reader.specs.FrontLeft.{total}
 use Rattle.stream_compile.specs.declared.answer.Built.{Built}
 use Rattle.stream_compile.specs.declared.compilation.Compilation.{Compilation}
-use Rattle.stream_compile.specs.Running.{IsRunnable}
 use Rattle.stream_compile.specs.Progress.{IsJudging}
 use Rattle.stream_compile.specs.Done.{IsDone}
 use Rattle.stream_compile.specs.Compiling.{IsBuilt}
 use Rattle.stream_compile.proofs.CodeWords.{words_are_sizes}
 use Rattle.stream_compile.proofs.Compiled.{is_whole}
 use Rattle.stream_compile.proofs.Images.{linked_is_image}
-
--- the exports of an image that was linked have types of the module
-small_export : (s : Spaces) (starts : List ℕ) (es : List (List ℕ × ℕ)) (name : List ℕ) (e : Export) → TypesAreSmall (context_in s).types
-    → export_named name (map (linked_export s starts) es) ≡ Some e → TypeIsSmall e.signature
-small_export s starts [] name e small is = absurd cc
-small_export s starts (x ∷ es) name e small is =
-    elim (cases_Bool (bytes_eq name x.0)) [
-      | inl h ↦ let t : Some (linked_export s starts x) ≡ Some e = rw h at is in let same : linked_export s starts x ≡ e = cc in subst (λ (y : Export). TypeIsSmall y.signature) same (function_is_small (context_in s) x.1 small)
-      | inr h ↦ let t : export_named name (map (linked_export s starts) es) ≡ Some e = rw h at is in small_export s starts es name e small t
-    ]
-
-linked_runs : (items : List Item) (codes : List Code) → TypesAreSmall (types_of items) → IsRunnable (linked (spaces_of items) codes)
-linked_runs items codes types = record {
-  imports = refl;
-  start = refl;
-  exports = λ name e is. small_export (spaces_of items) (starts_of codes) (function_exports (all_exports_of items)) name e types is;
-}
 
 -- all bytes of the module came: it is done
 pub whole_done : (bytes : List ℕ) (left : Run) (s : Compilation) (seen : Seen) → All (λ b. b < 256) bytes → IsJudging bytes left s.spaces s.codes → left ≡ ends (Whole seen) → total s.front ≡ length bytes → IsDone bytes s
@@ -60,16 +38,15 @@ whole_done bytes left s seen fits j whole count =
     let m = w.0 in
     let h = w.1 in
     let plain : ArePlain m.items = subst ArePlain (sym h.is.items) (items_are_plain bytes h.is.compiled) in
-    let front : front_size m.items ≡ 2 = ap (λ (n : ℕ). length exit_stub + stub_size * n) (plain_has_no_more m.items plain).imports in
-    let is : IsModuleOf bytes m = record { is = h.is; fits = omega (arith, front, h.words, words_are_sizes m.items 0 m.bodies m.trees j.all h.coded) } in
+    let is : IsModuleOf bytes m = record { is = h.is; fits = omega (arith, h.words, words_are_sizes m.items 0 m.bodies m.trees j.all h.coded) } in
     let image : linked (spaces_of m.items) j.all ≡ image_of m = linked_is_image m j.all plain h.coded in
-    let types : TypesAreSmall (types_of m.items) = subst (λ (l : List Item). TypesAreSmall (types_of l)) (sym h.is.items) (types_are_small bytes) in
     let constants : ConstantsFit m.items = subst ConstantsFit (sym h.is.items) (constants_fit bytes fits) in
     record {
       «module» = m;
       is = record {
         is = is;
         same = images_behave_alike bytes m fits is;
+        short = images_are_short bytes m fits is;
         functions_are = ap (λ (x : Spaces). x.declared) h.spaces_are;
         size_is = count;
       };
@@ -77,8 +54,7 @@ whole_done bytes left s seen fits j whole count =
       are_all = j.are_all;
       image_is = ap (λ (x : Spaces). linked x j.all) h.spaces_are ∙ image;
       bounded = images_keep_bounds bytes m fits is;
-      runnable = subst IsRunnable image (linked_runs m.items j.all types);
-      fits = omega (arith, j.fits);
+      fits = omega (arith, h.words, j.are_all.words, ap (λ (x : Spaces). x.imported) h.spaces_are);
       numbers = subst (λ (x : Spaces). NumbersFit x.globals x.initials) (sym h.spaces_are) (numbers_fit m.items constants);
     }
 
@@ -93,7 +69,7 @@ module _ (bytes : List ℕ) (s : Compilation) (given : List Code) (d : IsDone by
   given_are = kept_are s.codes.kept given d.all is d.are_all.kept
 
   -- the words are few
-  pub few_words : 4 * (2 + length (words_of given)) ≤ 2 ^ 28
+  pub few_words : 4 * (front_of s.spaces.imported + length (words_of given)) ≤ 2 ^ 28
   few_words = omega (arith, d.fits, d.are_all.words, ap (λ (l : List Code). length (words_of l)) given_are)
 
   -- what is linked keeps the bounds of images
@@ -105,7 +81,6 @@ module _ (bytes : List ℕ) (s : Compilation) (given : List Code) (d : IsDone by
       let same : built.image ≡ image_of d.«module» = image ∙ ap (linked s.spaces) given_are ∙ d.image_is in
       record {
         «module» = d.«module»;
-        is = record { is = d.is.is; same = d.is.same; functions_are = functions ∙ d.is.functions_are; size_is = size ∙ d.is.size_is };
+        is = record { is = d.is.is; same = d.is.same; short = d.is.short; functions_are = functions ∙ d.is.functions_are; size_is = size ∙ d.is.size_is };
         image_is = same;
-        runnable = subst IsRunnable (sym same) d.runnable;
       }

@@ -1,6 +1,6 @@
 -- What came from a source.
-use Rattle.std.specs.Prelude.{◌≡◌, ◌≤◌, ℕ, Bool, true, false, List, ◌++◌, length, Option, IfSome}
-use Rattle.std.specs.Io.KnownBytes.{prepend_known}
+use Rattle.std.specs.Prelude.{◌≡◌, ◌≤◌, ◌⊎◌, ℕ, Bool, true, false, List, ◌++◌, length, Option, IfSome}
+use Rattle.std.specs.Io.KnownBytes.{prepend_known, IsAtEnd}
 use Rattle.wasm_laws.specs.Runs.{deciding_length}
 use Rattle.stream_compile.specs.RightSoFar.{IsRightSoFar}
 
@@ -20,3 +20,14 @@ pub record IsRead (left rest : Option (List ℕ)) (read : List ℕ) : Type 0 whe
 abbrev pub Came : (left rest : Option (List ℕ)) → (failed : Bool) → List ℕ → Type 0
 Came left rest false bytes = (read more : List ℕ) × IsRead left rest read × IfSome rest (λ l. more ≡ l) × (bytes ≡ read ++ more)
 Came left rest true bytes = IsRead left rest bytes
+
+-- more bytes than an image may have: so many decide about any
+abbrev pub image_input : ℕ
+image_input = 1073741825
+
+-- These bytes came, as many as are read at most: a front of what was left, and all of it where they are fewer and the source didn't
+-- fail.
+pub record CameUpTo (most : ℕ) (left rest : Option (List ℕ)) (failed : Bool) (bytes : List ℕ) : Type 0 where
+  pub taken : left ≡ prepend_known bytes rest
+  pub few : length bytes ≤ most
+  pub all : failed ≡ false → IsAtEnd rest ⊎ (length bytes ≡ most)

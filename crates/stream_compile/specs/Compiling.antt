@@ -13,14 +13,12 @@ use Rattle.stream_compile.specs.declared.answer.CheckAnswer.{CheckAnswer}
 use Rattle.stream_compile.specs.declared.answer.CheckAnswer.TheVariants as check
 use Rattle.stream_compile.specs.Came.{Came}
 use Rattle.stream_compile.specs.Done.{IsModuleOfSize}
-use Rattle.stream_compile.specs.Running.{IsRunnable}
 
 -- the image of the module that the bytes are, which behaves as the module does; how many functions it declares, and its bytes
 pub record IsBuilt (bytes : List ℕ) (built : Built) : Type 0 where
   pub «module» : Module
   pub is : IsModuleOfSize bytes «module» built.functions built.bytes
   pub image_is : built.image ≡ image_of «module»
-  pub runnable : IsRunnable built.image
 
 -- the bytes are a module; how many functions it declares, and its bytes
 abbrev pub IsValid : List ℕ → Checked → Type 0

@@ -4,7 +4,7 @@ use Rattle.rv_isa.specs.declared.compiled.Code.{Code}
 use Rattle.wasm_defs.specs.declared.fault.Refusal.{Refusal}
 use Rattle.wasm_defs.specs.declared.item.Item.{Item}
 use Rattle.wasm_defs.specs.Limits.{max_body, max_text}
-use Rattle.wasm_laws.specs.Kept.{TypeIsSmall}
+use Rattle.wasm_laws.specs.Kept.{TypesAreSmall}
 use Rattle.wasm_defs.specs.Typing.{Context, function_type}
 use Rattle.wasm_defs.specs.Trees.{Seq}
 use Rattle.wasm_defs.specs.Context.{body_context, type_of_function}
@@ -20,10 +20,9 @@ use Rattle.wasm_defs.specs.declared.front_stop.FrontStop.TheVariants.{Refused, N
 use Rattle.body_compiler.specs.declared.code.BodyStop.{BodyStop}
 use Rattle.body_compiler.specs.declared.code.BodyStop.TheVariants as body
 use Rattle.body_compiler.specs.Compiling.{Compiles}
-use Rattle.frame_layout.specs.Templates.{exit_stub}
-use Rattle.image_linker.specs.ImageOf.{stub_size}
+use Rattle.image_linker.specs.ImageOf.{front_of}
 use Rattle.image_linker.specs.Codes.{IsCodeOf}
-use Rattle.image_linker.specs.Judging.{limit_at, IsTextFault, IsVerdictOf}
+use Rattle.image_linker.specs.Judging.{text_bytes, limit_at, IsTextFault, IsVerdictOf}
 use Rattle.stream_compile.specs.Codes.{Coding, AreAll, with_code}
 use Rattle.stream_compile.specs.CutBodies.{coded_all}
 
@@ -53,8 +52,8 @@ pub record IsJudging (bytes : List ℕ) (left : Run) (spaces : Spaces) (codes : 
   pub all : List Code
   pub are_all : AreAll codes all
   pub coded : AreCodes [] 0 judged.front judged.trees all
-  -- with the exit stub their words keep the limit
-  pub fits : 4 * (2 + codes.words) ≤ max_text
+  -- with the words in front of the functions their words keep the limit
+  pub fits : text_bytes (items_of (module_read bytes).parts) codes.words ≤ max_text
   -- a fault of the text stands in what is left
   pub text_left : (r : Refusal) → IsTextFault [] 0 0 (module_read bytes).parts r → IsTextFault (items_of judged.front) (length (bodies_of judged.front)) codes.words left.parts r
   pub text_whole : (r : Refusal) → IsTextFault (items_of judged.front) (length (bodies_of judged.front)) codes.words left.parts r → IsTextFault [] 0 0 (module_read bytes).parts r
@@ -65,13 +64,13 @@ body_of_spaces s k b =
     let c = context_in s in
     body_context c (type_of_function c (s.imported + k)) (read_of b).groups
 
--- the function of a body, before which so many bodies stand, is there with its type, and the offsets are small
+-- the function of a body, before which so many bodies stand, is there with its type, and types and offsets are small
 pub record CanTake (spaces : Spaces) (bodies : ℕ) (b : GivenBody) : Type 0 where
   pub typed : IsSome (function_type (context_in spaces) (spaces.imported + bodies))
   pub few : length spaces.functions < 2 ^ 32
   pub index : spaces.imported + bodies < 2 ^ 32
   pub offset : b.first + length b.bytes < 2 ^ 63
-  pub small : TypeIsSmall (type_of_function (context_in spaces) (spaces.imported + bodies))
+  pub types : TypesAreSmall (context_in spaces).types
   pub most : length b.bytes ≤ max_body
 
 -- the next one can be taken, and its code can be added
@@ -99,15 +98,11 @@ TakesBody spaces bodies b (Ok code) = Compiles (context_in spaces) (spaces.impor
 TakesBody spaces bodies b (Err (Refused r)) = Compiles (context_in spaces) (spaces.imported + bodies) (body_read b.first b.bytes) (Err (body.Refused r))
 TakesBody spaces bodies b (Err NoMemory) = Unit {0}
 
--- the words in front of the functions' words
-abbrev pub front_of : Spaces → ℕ
-front_of s = length exit_stub + stub_size * s.imported
-
 -- a body was taken: its code stands behind the others; or the body has a fault, or with it the text passes its limit
 abbrev pub TakesCode : Spaces → Coding → GivenBody → Result (Unit {0}) FrontStop → Coding → Type 0
 TakesCode spaces codes b (Ok done) new =
-    (code : Code) × TakesBody spaces codes.count b (Ok code) × (new ≡ with_code codes code) × (4 * (front_of spaces + new.words) ≤ max_text)
+    (code : Code) × TakesBody spaces codes.count b (Ok code) × (new ≡ with_code codes code) × (4 * (front_of spaces.imported + new.words) ≤ max_text)
 TakesCode spaces codes b (Err (Refused r)) new =
     TakesBody spaces codes.count b (Err (Refused r))
-    ⊎ ((code : Code) × TakesBody spaces codes.count b (Ok code) × (max_text < 4 * (front_of spaces + (codes.words + length code.words))) × (r ≡ limit_at b.size))
+    ⊎ ((code : Code) × TakesBody spaces codes.count b (Ok code) × (max_text < 4 * (front_of spaces.imported + (codes.words + length code.words))) × (r ≡ limit_at b.size))
 TakesCode spaces codes b (Err NoMemory) new = Unit {0}

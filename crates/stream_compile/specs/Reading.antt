@@ -12,6 +12,8 @@ use Rattle.stream_compile.specs.declared.answer.CheckAnswer.{CheckAnswer}
 use Rattle.stream_compile.specs.declared.answer.CheckAnswer.TheVariants as check
 use Rattle.stream_compile.specs.declared.compilation.Compilation.{Compilation}
 use Rattle.stream_compile.specs.declared.output.Output.{Output}
+use Rattle.stream_compile.specs.declared.output.Text.{Text}
+use Rattle.stream_compile.specs.declared.output.Text.TheVariants.{Line, Image}
 use Rattle.stream_compile.specs.Came.{Came}
 use Rattle.stream_compile.specs.Compiling.{ChecksSource}
 use Rattle.stream_compile.specs.Done.{IsDone}
@@ -62,5 +64,9 @@ Judged failed left rest check.ReadFault s = ChecksSource failed left rest check.
 Judged failed left rest check.NoMemory s = ChecksSource failed left rest check.NoMemory
 
 -- a status and a text in memory as an outcome
+abbrev pub bytes_of : Text → List ℕ
+bytes_of (Line line) = string_bytes line
+bytes_of (Image bytes) = bytes.items
+
 abbrev pub view : Output → Outcome
-view a = record { status = a.status; text = string_bytes a.text }
+view a = record { status = a.status; text = bytes_of a.text }

@@ -1,12 +1,13 @@
 -- What the program answers and writes.
-use Rattle.std.specs.Prelude.{◌≡◌, ◌⊎◌, ℕ, Bool, true, false, List, [], ◌∷◌, ◌++◌, length, take, Option, None, Some, codes, String, string_bytes, map}
+use Rattle.std.specs.Prelude.{◌≡◌, ◌⊎◌, ℕ, Bool, true, false, List, [], ◌∷◌, ◌++◌, length, take, Option, None, Some, codes, String, string_bytes, map, Result, Ok, Err}
 use Rattle.std.specs.Fmt.{decimal, signed_decimal}
 use Rattle.std.specs.Global.{Global}
 use Rattle.std.specs.Io.KnownBytes.{append_known}
 use Rattle.command_words.specs.declared.argument.Argument.{Argument}
 use Rattle.command_words.specs.declared.argument.Argument.TheVariants as argument
 use Rattle.command_words.specs.declared.command.Command.{Command}
-use Rattle.command_words.specs.declared.command.Command.TheVariants.{Check, Run}
+use Rattle.command_words.specs.declared.command.Command.TheVariants.{Check, Compile, Run, Exec}
+use Rattle.command_words.specs.declared.command.Call.{Call as Given}
 use Rattle.command_words.specs.Grammar.{command_in}
 use Rattle.wasm_defs.specs.declared.fault.Kind.{Kind}
 use Rattle.wasm_defs.specs.declared.fault.Kind.TheVariants.{Malformed, Unsupported, Limit, Invalid, Ended}
@@ -14,7 +15,7 @@ use Rattle.wasm_defs.specs.declared.fault.Refusal.{Refusal}
 use Rattle.wasm_defs.specs.declared.types.ValType.{ValType}
 use Rattle.wasm_defs.specs.declared.types.ValType.TheVariants.{I32, I64}
 use Rattle.wasm_defs.specs.declared.value.TrapKind.{TrapKind}
-use Rattle.wasm_defs.specs.declared.value.Value.{Value as Given}
+use Rattle.wasm_defs.specs.declared.value.Value.{Value as GivenValue}
 use Rattle.wasm_defs.specs.declared.value.Value.TheVariants as given
 use Rattle.wasm_defs.specs.Values.{Value, signed, value_of, trap_text, types_of_values}
 use Rattle.wasm_defs.specs.Context.{context_of, declared_count, type_of_function}
@@ -23,14 +24,19 @@ use Rattle.wasm_defs.specs.Instances.{exports_of, named}
 use Rattle.wasm_defs.specs.ModuleRun.{End, Returns, Traps, Stops, Going, Fails, module_run}
 use Rattle.wasm_defs.specs.ModuleRun as module_runs
 use Rattle.image_format.specs.Contents.{Image}
+use Rattle.image_format.specs.ImageBytes.{spelling}
+use Rattle.image_format.specs.Reading.{image_or_offset}
+use Rattle.image_format.specs.declared.image.Export.{Export}
 use Rattle.image_format.specs.ImageRun.{Ending, As, Fault, image_run}
 use Rattle.image_linker.specs.ImageOf.{image_of, offset_of}
 use Rattle.image_linker.specs.Judging.{IsVerdictOf, IsStoppedAt}
 use Rattle.image_linker.specs.Same.{Same}
 use Rattle.image_run.specs.declared.checks.NotRunnable.{NotRunnable}
 use Rattle.image_run.specs.declared.checks.NotRunnable.TheVariants.{UnknownImport, NoSuchExport, WrongArguments, Unlinkable}
-use Rattle.image_run.specs.Checks.{not_runnable}
-use Rattle.stream_compile.specs.Came.{Came}
+use Rattle.image_run.specs.Checks.{export_named, not_runnable}
+use Rattle.rv_isa.specs.declared.stepping.FaultKind.{FaultKind}
+use Rattle.rv_isa.specs.declared.stepping.FaultKind.TheVariants.{Fetch, Word, Break, Target, Load, Store, Call}
+use Rattle.stream_compile.specs.Came.{Came, CameUpTo, image_input}
 
 -- a status, and what is written
 pub record Outcome : Type 0 where
@@ -49,6 +55,10 @@ read_fault = record { status = 6; text = codes "read fault\n" }
 -- so many functions that a module declares, and so many bytes that it has
 abbrev pub accepted : ℕ → ℕ → Outcome
 accepted functions bytes = record { status = 0; text = codes "ok " ++ decimal functions ++ codes " functions " ++ decimal bytes ++ codes " bytes\n" }
+
+-- an image's bytes, and nothing else
+abbrev pub compiled : List ℕ → Outcome
+compiled bytes = record { status = 0; text = bytes }
 
 abbrev pub kind_name : Kind → List ℕ
 kind_name Malformed = codes "malformed"
@@ -86,9 +96,26 @@ trapped kind = record { status = 4; text = codes "trap " ++ trap_text kind ++ co
 abbrev pub steps_spent : Outcome
 steps_spent = record { status = 5; text = codes "steps spent\n" }
 
+abbrev pub fault_name : FaultKind → List ℕ
+fault_name Fetch = codes "fetch"
+fault_name Word = codes "word"
+fault_name Break = codes "break"
+fault_name Target = codes "target"
+fault_name Load = codes "load"
+fault_name Store = codes "store"
+fault_name Call = codes "call"
+
+-- the machine has no step there
+abbrev pub machine_fault : FaultKind → ℕ → Outcome
+machine_fault kind pc = record { status = 9; text = codes "machine fault " ++ fault_name kind ++ codes " at " ++ decimal pc ++ codes "\n" }
+
+-- the bytes are no image: the offset of their first fault
+abbrev pub bad_image : ℕ → Outcome
+bad_image offset = record { status = 10; text = codes "bad image at " ++ decimal offset ++ codes "\n" }
+
 -- ---- what a command comes to
 
-abbrev pub given_value : Argument → Given
+abbrev pub given_value : Argument → GivenValue
 given_value (argument.I32 n) = given.I32 n
 given_value (argument.I64 n) = given.I64 n
 
@@ -99,7 +126,26 @@ arguments_of arguments = map value_of (map given_value arguments)
 unfoldable pub run_end : Image → (offset : ℕ) → (results : List ValType) → List Value → (steps : ℕ) → Ending
 run_end i offset results arguments steps = (image_run i offset results arguments [] steps).end
 
--- The line of a run whose image ended so within its steps: the same end is that of the module's run by the reduction rules, for
+-- the line of a run of an image that ended so, where no host was called
+abbrev pub EndsAs : Ending → Outcome → Type 0
+EndsAs (As (Returns values memory globals)) o = o ≡ returned values
+EndsAs (As (Traps kind memory globals)) o = o ≡ trapped kind
+EndsAs (As Going) o = o ≡ steps_spent
+EndsAs (As Stops) o = ⊥
+EndsAs (As Fails) o = ⊥
+EndsAs (Fault kind pc) o = o ≡ machine_fault kind pc
+
+-- of the function that the image exports under the name
+abbrev pub ChecksAndCalls : Option NotRunnable → Image → Given → Outcome → Type 0
+ChecksAndCalls (Some why) i c o = o ≡ unrunnable why
+ChecksAndCalls None i c o =
+    (e : Export) × (export_named c.export i.exports ≡ Some e)
+    × EndsAs (run_end i e.offset e.signature.results (arguments_of c.arguments) c.steps) o
+
+abbrev pub TellsImageCall : Given → Image → Outcome → Type 0
+TellsImageCall c i o = ChecksAndCalls (not_runnable i c.export (types_of_values (arguments_of c.arguments))) i c o
+
+-- The line of a run of a module whose image ended so within its steps: the same end is that of the module's run by the reduction rules, for
 -- some weight; or the image goes on after all its steps.
 abbrev pub TellsEnd : Ending → (ℕ → module_runs.Run) → Outcome → Type 0
 TellsEnd (As (Returns values memory globals)) runs o = (k : ℕ) × ((runs k).end ≡ Returns values memory globals) × (o ≡ returned values)
@@ -119,17 +165,22 @@ abbrev pub ChecksAndRuns : Option NotRunnable → Module → (name : List ℕ) �
 ChecksAndRuns (Some why) m name arguments steps o = o ≡ unrunnable why
 ChecksAndRuns None m name arguments steps o = TellsRun m name arguments steps o
 
--- what a command on a module of so many bytes comes to
-abbrev pub TellsCommand : Command → (bytes : ℕ) → Module → Outcome → Type 0
-TellsCommand (Check options) bytes m o = o ≡ accepted (declared_count m.items) bytes
-TellsCommand (Run r) bytes m o =
-    let arguments = arguments_of r.arguments in
-    ChecksAndRuns (not_runnable (image_of m) r.export (types_of_values arguments)) m r.export arguments r.steps o
+-- what each command on a module of so many bytes comes to
+abbrev pub TellsCheck : (bytes : ℕ) → Module → Outcome → Type 0
+TellsCheck bytes m o = o ≡ accepted (declared_count m.items) bytes
 
--- the module and its image behave alike, and the command comes to this; or the module is refused
-abbrev pub OfVerdict : Command → (bytes : ℕ) → Verdict → Outcome → Type 0
-OfVerdict c bytes (Accepted m) o = Same m (image_of m) × TellsCommand c bytes m o
-OfVerdict c bytes (Rejected r) o = o ≡ rejected r
+abbrev pub TellsImage : Module → Outcome → Type 0
+TellsImage m o = o ≡ compiled (spelling (image_of m))
+
+abbrev pub TellsCall : Given → Module → Outcome → Type 0
+TellsCall c m o =
+    let arguments = arguments_of c.arguments in
+    ChecksAndRuns (not_runnable (image_of m) c.export (types_of_values arguments)) m c.export arguments c.steps o
+
+-- the module and its image behave alike, and this is told of it; or the module is refused
+abbrev pub OfVerdict : (Module → Outcome → Type 0) → Verdict → Outcome → Type 0
+OfVerdict Tells (Accepted m) o = Same m (image_of m) × Tells m o
+OfVerdict Tells (Rejected r) o = o ≡ rejected r
 
 -- the command that the words are, of which the first is the program's name; or they are outside the command grammar
 abbrev pub command_said : List (String Global) → Option Command
@@ -140,15 +191,31 @@ abbrev pub stopped : Option Refusal → Outcome
 stopped None = read_fault
 stopped (Some r) = rejected r
 
--- by the command, whether the source failed, and the bytes that came
-abbrev pub IsOutcome : Command → Bool → List ℕ → Outcome → Type 0
-IsOutcome c true bytes o = (s : Option Refusal) × IsStoppedAt bytes s × (o ≡ stopped s)
-IsOutcome c false bytes o = (v : Verdict) × IsVerdictOf bytes v × OfVerdict c (length bytes) v o
+-- of a command on a module: by whether the source failed, and the bytes that came
+abbrev pub OfModule : ((bytes : ℕ) → Module → Outcome → Type 0) → Bool → List ℕ → Outcome → Type 0
+OfModule Tells true bytes o = (s : Option Refusal) × IsStoppedAt bytes s × (o ≡ stopped s)
+OfModule Tells false bytes o = (v : Verdict) × IsVerdictOf bytes v × OfVerdict (Tells (length bytes)) v o
 
--- what the words, the source's failing and what it gave come to: by what was left in it before and behind
+-- of a command on an image
+abbrev pub OfReading : Given → Result Image ℕ → Outcome → Type 0
+OfReading c (Ok i) o = TellsImageCall c i o
+OfReading c (Err offset) o = o ≡ bad_image offset
+
+abbrev pub OfImage : Given → Bool → List ℕ → Outcome → Type 0
+OfImage c true bytes o = o ≡ read_fault
+OfImage c false bytes o = OfReading c (image_or_offset bytes) o
+
+-- by what was left in the source before and behind
+abbrev pub ComesOfModule : ((bytes : ℕ) → Module → Outcome → Type 0) → Bool → (left rest : Option (List ℕ)) → Outcome → Type 0
+ComesOfModule Tells failed left rest o = (bytes : List ℕ) × Came left rest failed bytes × OfModule Tells failed bytes o
+
+-- what the words, the source's failing and what it gave come to
 abbrev pub ComesTo : Option Command → Bool → (left rest : Option (List ℕ)) → Outcome → Type 0
 ComesTo None failed left rest o = o ≡ usage
-ComesTo (Some c) failed left rest o = (bytes : List ℕ) × Came left rest failed bytes × IsOutcome c failed bytes o
+ComesTo (Some (Check options)) failed left rest o = ComesOfModule TellsCheck failed left rest o
+ComesTo (Some (Compile options)) failed left rest o = ComesOfModule (λ bytes m. TellsImage m) failed left rest o
+ComesTo (Some (Run r)) failed left rest o = ComesOfModule (λ bytes m. TellsCall r.call m) failed left rest o
+ComesTo (Some (Exec c)) failed left rest o = (bytes : List ℕ) × CameUpTo image_input left rest failed bytes × OfImage c failed bytes o
 
 -- ---- what is written
 

@@ -4,6 +4,7 @@ ghost use Rattle.std.specs.Prelude.{◌≡◌, ◌≤◌, ◌<◌, ◌+◌, ◌*
 ghost use Rattle.wasm_defs.specs.Limits.{max_text};
 ghost use Rattle.wasm_defs.specs.Outside.{Run as RunGiven};
 ghost use Rattle.section_reader.specs.Onward.{after_parts};
+ghost use Rattle.image_linker.specs.ImageOf.{front_of};
 ghost use Rattle.stream_compile.specs.Codes.{KeepsAlike};
 ghost use Rattle.stream_compile.specs.CutBodies.{coded_all};
 ghost use Rattle.stream_compile.specs.Progress.{IsJudging, CanTake, CanTakeNext, CanTakeAll, front_stop, TakesBody, TakesCode, TakesPart};
@@ -47,7 +48,7 @@ fn take_body(
 /// stubs of the imported functions, of eighteen each.
 fn passes_limit(imported: u32, words: u64) -> bool
     requires { words < 2 ^ 63 }
-    ensures { result ≡ nat_lt max_text (4 * (2 + 18 * imported + words)) }
+    ensures { result ≡ nat_lt max_text (4 * (front_of imported + words)) }
 {
     u64::from(MAX_TEXT) / 4 < 2 + 18 * u64::from(imported) + words
 }

@@ -1,15 +1,16 @@
 //! The commands of the program.
 
 ghost use Rattle.std.specs.Prelude.{◌≡◌, ◌<◌, ◌^◌, ◌-◌, true, None, Some, min, nat_lt, IfOk};
-ghost use Rattle.command_words.specs.declared.command.Command.TheVariants.{Check, Run as RunCommand};
+ghost use Rattle.command_words.specs.declared.command.Command.TheVariants.{Check, Compile, Exec, Run as RunCommand};
 ghost use Rattle.stream_compile.specs.Reading.{view};
 ghost use Rattle.stream_compile.specs.Texts.{command_said, ComesTo, AnswersAndWrites};
 
 use crate::answer::{Answer, CheckAnswer, Settings};
 use crate::compiling::{stream_check, stream_compile};
-use crate::output::{Output, accepted, read_fault, rejected, usage};
+use crate::foreign::{Foreign, read_foreign};
+use crate::output::{Output, accepted, bad_image, compiled, read_fault, rejected, usage};
 use crate::running::run_image;
-use command_words::{Command, Options, Run, WordsStop, command_of};
+use command_words::{Call, Command, Options, Run, WordsStop, command_of};
 use io_edges::{Gate, Sink, Source, write_all};
 use std::alloc::{AllocError, Global};
 use std::sync::Wait;
@@ -55,6 +56,26 @@ fn check<R: Threads + Wait + Sync, S: Source, G: Gate>(
     }
 }
 
+/// Compiles what the source gives.
+fn compile<R: Threads + Wait + Sync, S: Source, G: Gate>(
+    rt: &R,
+    alloc: Global,
+    options: &Options,
+    source: &mut S,
+    gate: &G,
+) -> Result<Output, AllocError>
+    requires faults { S.faults source.old < 2 ^ 64 - 1 }
+    requires open { S.is_open source.old ≡ true }
+    ensures { IfOk result (λ o. ComesTo (Some (Compile options.now)) (nat_lt (S.faults source.old) (S.faults source.new)) (S.left source.old) (S.left source.new) (view o)) }
+{
+    match stream_compile(rt, alloc, source, gate, settings_of(options)) {
+        Answer::Image(built) => compiled(alloc, &built.image),
+        Answer::Refused(refusal) => rejected(alloc, refusal),
+        Answer::ReadFault => read_fault(alloc),
+        Answer::NoMemory => Err(AllocError),
+    }
+}
+
 /// Compiles what the source gives, and calls one of its functions.
 fn run<R: Threads + Wait + Sync, S: Source, G: Gate>(
     rt: &R,
@@ -68,10 +89,24 @@ fn run<R: Threads + Wait + Sync, S: Source, G: Gate>(
     ensures { IfOk result (λ o. ComesTo (Some (RunCommand call.now)) (nat_lt (S.faults source.old) (S.faults source.new)) (S.left source.old) (S.left source.new) (view o)) }
 {
     match stream_compile(rt, alloc, source, gate, settings_of(&call.options)) {
-        Answer::Image(built) => run_image(alloc, &built.image, call),
+        Answer::Image(built) => run_image(alloc, &built.image, &call.call),
         Answer::Refused(refusal) => rejected(alloc, refusal),
         Answer::ReadFault => read_fault(alloc),
         Answer::NoMemory => Err(AllocError),
+    }
+}
+
+/// Calls one of the functions of the image that the source gives.
+fn exec<S: Source>(alloc: Global, call: &Call, source: &mut S) -> Result<Output, AllocError>
+    requires faults { S.faults source.old < 2 ^ 64 - 1 }
+    requires open { S.is_open source.old ≡ true }
+    ensures { IfOk result (λ o. ComesTo (Some (Exec call.now)) (nat_lt (S.faults source.old) (S.faults source.new)) (S.left source.old) (S.left source.new) (view o)) }
+{
+    let given = read_foreign(alloc, source)?;
+    match given {
+        Foreign::Image(image) => run_image(alloc, &image, call),
+        Foreign::Bad(offset) => bad_image(alloc, offset),
+        Foreign::Failed => read_fault(alloc),
     }
 }
 
@@ -91,7 +126,9 @@ fn answer_to<R: Threads + Wait + Sync, S: Source, G: Gate>(
     match command {
         None => usage(alloc),
         Some(Command::Check(options)) => check(rt, alloc, options, source, gate),
+        Some(Command::Compile(options)) => compile(rt, alloc, options, source, gate),
         Some(Command::Run(call)) => run(rt, alloc, call, source, gate),
+        Some(Command::Exec(call)) => exec(alloc, call, source),
     }
 }
 
@@ -100,8 +137,9 @@ fn answer_to<R: Threads + Wait + Sync, S: Source, G: Gate>(
 /// `words` begins with the program's name. The result is the status that the program ends with: 0 where the command was
 /// done, 1 where the words are outside the command grammar, 2 where the bytes are no module, 3 where the function can't be
 /// called so, 4 where it trapped, 5 where its run hadn't ended after all steps, 6 where the source failed and the bytes that
-/// came have no fault that more bytes don't mend, 7 where the sink failed, and 8 where memory ran out, after which nothing is
-/// written. For words outside the command grammar the source isn't read.
+/// came have no fault that more bytes don't mend, 7 where the sink failed, 8 where memory ran out, after which nothing is
+/// written, 9 where the machine had no step, and 10 where the bytes are no image; the last two come of `exec` alone. For words
+/// outside the command grammar the source isn't read.
 pub fn top<R: Threads + Wait + Sync, S: Source, O: Sink, G: Gate>(
     rt: &R,
     alloc: Global,

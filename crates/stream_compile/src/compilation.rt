@@ -22,7 +22,7 @@ use crate::bodies::take_batches;
 use crate::codes::Codes;
 use body_cutter::Cutter;
 use image_linker::link;
-use index_spaces::ContextBuilder;
+use index_spaces::{AddStop, ContextBuilder};
 use section_reader::Front;
 use std::alloc::{AllocError, Global};
 use wasm_defs::{FrontStop, Item, Kind, Refusal, earlier};
@@ -187,7 +187,8 @@ impl Compilation {
         }
         match self.spaces.add(item) {
             Ok(()) => {}
-            Err(_) => return Err(FrontStop::NoMemory),
+            Err(AddStop::Refused(refusal)) => return Err(FrontStop::Refused(refusal)),
+            Err(AddStop::NoMemory) => return Err(FrontStop::NoMemory),
         }
         if let Item::Code {
             count: (_, count),

@@ -1,20 +1,45 @@
 //! What the program answers: a status, and a text for standard output.
 
-ghost use Rattle.std.specs.Prelude.{◌≡◌, IfOk, length};
+ghost use Rattle.std.specs.Prelude.{◌≡◌, ◌≤◌, IfOk, length};
 ghost use Rattle.wasm_defs.specs.Values.{value_of};
-ghost use Rattle.image_run.specs.Ends.{values_of};
-ghost use Rattle.stream_compile.specs.Reading.{view};
-ghost use Rattle.stream_compile.specs.Texts.{usage, read_fault, accepted, kind_name, rejected, reason, unrunnable, returned, trapped, steps_spent};
+ghost use Rattle.image_run.specs.Hosts.{values_of};
+ghost use Rattle.image_format.specs.declared.limits.TheConstants.{IMAGE_BYTES};
+ghost use Rattle.image_format.specs.ImageBytes.{spelling};
+ghost use Rattle.stream_compile.specs.Reading.{bytes_of, view};
+ghost use Rattle.stream_compile.specs.Texts.{usage, read_fault, accepted, compiled, kind_name, rejected, reason, unrunnable, returned, trapped, steps_spent, fault_name, machine_fault, bad_image};
 
+use image_format::{Image, write_image};
 use image_run::NotRunnable;
+use rv64im_machine::FaultKind;
 use std::alloc::{AllocError, Global};
 use wasm_defs::{Kind, Refusal, TrapKind, Value};
+
+/// What is written.
+#[derive(Drop)]
+pub enum Text {
+    /// A line.
+    Line(String),
+    /// The bytes of an image.
+    Image(Vec<u8>),
+}
+
+impl Text {
+    /// The bytes of what is written.
+    pub fn as_bytes(&self) -> &[u8]
+        ensures { result.now ≡ bytes_of self.now }
+    {
+        match self {
+            Text::Line(line) => line.as_bytes(),
+            Text::Image(bytes) => bytes.as_slice(),
+        }
+    }
+}
 
 /// A status and what is written.
 #[derive(Drop)]
 pub struct Output {
     pub status: u8,
-    pub text: String,
+    pub text: Text,
 }
 
 /// The words are outside the command grammar.
@@ -23,10 +48,10 @@ pub fn usage(alloc: Global) -> Result<Output, AllocError>
 {
     Ok(Output {
         status: 1,
-        text: String::from_str(
+        text: Text::Line(String::from_str(
             alloc,
             "usage: wstream check, compile, run EXPORT ARGS, exec EXPORT ARGS or drill N\n",
-        )?,
+        )?),
     })
 }
 
@@ -36,7 +61,7 @@ pub fn read_fault(alloc: Global) -> Result<Output, AllocError>
 {
     Ok(Output {
         status: 6,
-        text: String::from_str(alloc, "read fault\n")?,
+        text: Text::Line(String::from_str(alloc, "read fault\n")?),
     })
 }
 
@@ -46,8 +71,22 @@ pub fn accepted(alloc: Global, functions: u64, bytes: u64) -> Result<Output, All
 {
     Ok(Output {
         status: 0,
-        text: format!(in alloc; "ok {functions} functions {bytes} bytes\n")?,
+        text: Text::Line(format!(in alloc; "ok {functions} functions {bytes} bytes\n")?),
     })
+}
+
+/// The module was compiled to this image.
+pub fn compiled(alloc: Global, image: &Image) -> Result<Output, AllocError>
+    requires { length (spelling image.now) ≤ IMAGE_BYTES }
+    ensures { IfOk result (λ a. view a ≡ compiled (spelling image.now)) }
+{
+    match write_image(alloc, image) {
+        Ok(bytes) => Ok(Output {
+            status: 0,
+            text: Text::Image(bytes),
+        }),
+        Err(_) => Err(AllocError),
+    }
 }
 
 fn kind_name(kind: Kind) -> &'static str
@@ -70,7 +109,7 @@ pub fn rejected(alloc: Global, refusal: Refusal) -> Result<Output, AllocError>
     let offset = refusal.offset;
     Ok(Output {
         status: 2,
-        text: format!(in alloc; "refused {kind} at {offset}\n")?,
+        text: Text::Line(format!(in alloc; "refused {kind} at {offset}\n")?),
     })
 }
 
@@ -92,7 +131,7 @@ pub fn unrunnable(alloc: Global, why: NotRunnable) -> Result<Output, AllocError>
     let why = reason(why);
     Ok(Output {
         status: 3,
-        text: format!(in alloc; "not runnable {why}\n")?,
+        text: Text::Line(format!(in alloc; "not runnable {why}\n")?),
     })
 }
 
@@ -105,7 +144,10 @@ pub fn returned(alloc: Global, value: Option<Value>) -> Result<Output, AllocErro
         Some(Value::I32(n)) => format!(in alloc; "i32 {n}\n")?,
         Some(Value::I64(n)) => format!(in alloc; "i64 {n}\n")?,
     };
-    Ok(Output { status: 0, text })
+    Ok(Output {
+        status: 0,
+        text: Text::Line(text),
+    })
 }
 
 /// The function trapped.
@@ -115,7 +157,42 @@ pub fn trapped(alloc: Global, kind: TrapKind) -> Result<Output, AllocError>
     let kind = kind.text();
     Ok(Output {
         status: 4,
-        text: format!(in alloc; "trap {kind}\n")?,
+        text: Text::Line(format!(in alloc; "trap {kind}\n")?),
+    })
+}
+
+fn fault_name(kind: FaultKind) -> &'static str
+    ensures { result.now ≡ fault_name kind }
+{
+    match kind {
+        FaultKind::Fetch => "fetch",
+        FaultKind::Word => "word",
+        FaultKind::Break => "break",
+        FaultKind::Target => "target",
+        FaultKind::Load => "load",
+        FaultKind::Store => "store",
+        FaultKind::Call => "call",
+    }
+}
+
+/// The machine has no step at this place.
+pub fn machine_fault(alloc: Global, kind: FaultKind, pc: u64) -> Result<Output, AllocError>
+    ensures { IfOk result (λ a. view a ≡ machine_fault kind pc) }
+{
+    let kind = fault_name(kind);
+    Ok(Output {
+        status: 9,
+        text: Text::Line(format!(in alloc; "machine fault {kind} at {pc}\n")?),
+    })
+}
+
+/// The bytes are no image: the offset of their first fault.
+pub fn bad_image(alloc: Global, offset: u64) -> Result<Output, AllocError>
+    ensures { IfOk result (λ a. view a ≡ bad_image offset) }
+{
+    Ok(Output {
+        status: 10,
+        text: Text::Line(format!(in alloc; "bad image at {offset}\n")?),
     })
 }
 
@@ -125,6 +202,6 @@ pub fn steps_spent(alloc: Global) -> Result<Output, AllocError>
 {
     Ok(Output {
         status: 5,
-        text: String::from_str(alloc, "steps spent\n")?,
+        text: Text::Line(String::from_str(alloc, "steps spent\n")?),
     })
 }

@@ -1,20 +1,34 @@
-//! The command `run`: calls a function that an image exports.
+//! Calls of functions that images export.
 
-ghost use Rattle.std.specs.Prelude.{◌≡◌, true, IfOk, map};
-ghost use Rattle.wasm_defs.specs.Host.{in_range, all_in_range};
+ghost use Rattle.std.specs.Prelude.{◌≡◌, ℕ, true, List, IfOk, map};
+ghost use Rattle.wasm_defs.specs.Host.{Stop, in_range, all_in_range};
 ghost use Rattle.wasm_defs.specs.Values.{value_of as value};
 ghost use Rattle.image_format.specs.ImageRun.{Ending};
 ghost use Rattle.image_run.specs.Ends.{IsEnd};
 ghost use Rattle.stream_compile.specs.Reading.{view};
-ghost use Rattle.stream_compile.specs.Running.{IsRunnable, NeverFaults, IsNoFault, EndsAs, RunsAs};
-ghost use Rattle.stream_compile.specs.Texts.{given_value};
+ghost use Rattle.stream_compile.specs.Running.{IsUnstopped, RunsAs};
+ghost use Rattle.stream_compile.specs.Texts.{given_value, EndsAs};
 
-use crate::output::{Output, returned, steps_spent, trapped, unrunnable};
-use command_words::{Argument, Run};
+use crate::output::{Output, machine_fault, returned, steps_spent, trapped, unrunnable};
+use command_words::{Argument, Call};
 use image_format::Image;
-use image_run::{Outcome, find_export, run_checks, run_export};
+use image_run::{Host, Instance, Outcome, Reply, run_checks};
 use std::alloc::{AllocError, Global};
 use wasm_defs::Value;
+
+/// A host that provides nothing: an image that imports anything isn't run, so it is never called.
+#[derive(Drop)]
+struct NoHost;
+
+impl Host for NoHost {
+    ghost is_ready = { λ _. true };
+
+    ghost answers = { λ _ _ reply _. reply ≡ Stop };
+
+    fn call(&mut self, _number: u32, _arguments: &[Value], _memory: &[u8]) -> Reply {
+        Reply::Stop
+    }
+}
 
 fn value_of(argument: Argument) -> Value
     ensures value { result ≡ given_value argument }
@@ -39,21 +53,20 @@ fn values_of(alloc: Global, arguments: &[Argument]) -> Result<Vec<Value>, AllocE
 
 /// Tells how a run ended.
 fn tell(alloc: Global, outcome: Outcome) -> Result<Output, AllocError>
-    requires { IsNoFault outcome }
-    ensures { IfOk result (λ o. (end : Ending) → IsEnd outcome end → EndsAs end (view o)) }
+    requires { IsUnstopped outcome }
+    ensures { IfOk result (λ o. (memory : List ℕ) (end : Ending) → IsEnd outcome memory end → EndsAs end (view o)) }
 {
     match outcome {
         Outcome::Returned(value) => returned(alloc, value),
         Outcome::Trapped(kind) => trapped(alloc, kind),
         Outcome::StepsSpent => steps_spent(alloc),
-        Outcome::Fault(_, _) => unreachable!(),
+        Outcome::Fault(kind, pc) => machine_fault(alloc, kind, pc),
+        Outcome::HostStopped => unreachable!(),
     }
 }
 
 /// Calls the function of an image that the words name, and tells how the call ended, or why there can be none.
-pub fn run_image(alloc: Global, image: &Image, call: &Run) -> Result<Output, AllocError>
-    requires runnable { IsRunnable image.now }
-    requires never_faults { NeverFaults image.now }
+pub fn run_image(alloc: Global, image: &Image, call: &Call) -> Result<Output, AllocError>
     ensures { IfOk result (λ o. RunsAs image.now call.now (view o)) }
 {
     let values = values_of(alloc, call.arguments.as_slice())?;
@@ -61,9 +74,7 @@ pub fn run_image(alloc: Global, image: &Image, call: &Run) -> Result<Output, All
     if let Some(why) = run_checks(image, name, &values) {
         return unrunnable(alloc, why);
     }
-    let Some(export) = find_export(image, name) else {
-        unreachable!()
-    };
-    let outcome = run_export(alloc, image, export, &values, call.steps)?;
+    let mut instance = Instance::load(alloc, image)?;
+    let outcome = instance.start_and_run(name, &values, &mut NoHost, call.steps);
     tell(alloc, outcome)
 }

@@ -1,13 +1,19 @@
-//! The beginning and the end of a function, and the stub of an imported one. `Templates` of `frame_layout` has the words.
+//! Calls (WebAssembly Core 1.0, 4.4.5.10 and 4.4.5.11), the beginning and the end of a function, and the stub of an imported one.
+//! `Templates` of `frame_layout` has the words.
 #![tactic(auto)]
 
+mod call;
+mod frames;
 mod import;
+mod indirect;
 mod prologue;
 mod returning;
 mod room;
 #[cfg(test)]
 mod tests;
 
+pub use call::emit_call;
 pub use import::emit_import_stub;
+pub use indirect::emit_indirect;
 pub use prologue::emit_prologue;
 pub use returning::emit_return;

@@ -1,6 +1,6 @@
 -- Any bytes have a verdict.
-use Rattle.std.proofs.Common.{◌≡◌, ◌≤◌, ◌⊎◌, inl, inr, ℕ, suc, ◌+◌, ◌*◌, List, [], ◌∷◌, ◌++◌, length, None, Some, refl, sym, ap, ◌∙◌, subst, append_assoc, arith}
-use Rattle.std.proofs.lemmas.Bool.{cases_lt}
+use Rattle.std.proofs.Common.{◌≡◌, ◌≤◌, ◌⊎◌, inl, inr, ℕ, suc, ◌+◌, ◌*◌, List, [], ◌∷◌, ◌++◌, length, Option, None, Some, refl, sym, ap, ◌∙◌, subst, append_assoc, arith}
+use Rattle.std.proofs.lemmas.Bool.{cases_Bool, cases_lt}
 use Rattle.std.proofs.lemmas.List.{append-nil}
 use Rattle.wasm_defs.specs.declared.fault.Refusal.{Refusal}
 use Rattle.wasm_defs.specs.declared.item.Item.{Item}
@@ -10,12 +10,14 @@ use Rattle.wasm_defs.specs.Outside.{Part, Section, Listed, Coded, Body, module_r
 use Rattle.wasm_defs.specs.Supported.{is_compiled_section}
 use Rattle.wasm_defs.specs.Trees.{Seq}
 use Rattle.wasm_defs.specs.Typing.{Context}
-use Rattle.wasm_defs.specs.Faults.{first_outside, ending_fault, sections_of, items_of, bodies_of, read_of, context_at, IsCodeFault, IsValidCode, IsOutsideFault, IsFaultInside, IsFault, AreValid, Module, Verdict, Accepted, Rejected}
+use Rattle.wasm_defs.specs.Context.{context_of}
+use Rattle.wasm_defs.specs.declared.fault.Kind.TheVariants.{Invalid}
+use Rattle.wasm_defs.specs.Faults.{first_outside, ending_fault, sections_of, items_of, bodies_of, read_of, context_at, may_start, started, StartsRight, IsStartFault, IsCodeFault, IsValidCode, IsOutsideFault, IsFaultInside, IsFault, AreValid, Module, Verdict, Accepted, Rejected}
 use Rattle.wasm_laws.specs.Sections.{AreBytes}
 use Rattle.wasm_laws.proofs.Behind.{bodies_stand_behind}
 use Rattle.wasm_laws.proofs.Earlier.{no_later_offset}
 use Rattle.wasm_laws.proofs.Plain.{items_are_plain, plain_has_no_more}
-use Rattle.wasm_laws.proofs.Verdicts.{valid_has_no_fault}
+use Rattle.wasm_laws.proofs.Verdicts.{valid_has_no_fault, starts_without_fault}
 use Rattle.frame_layout.specs.Templates.{exit_stub}
 use Rattle.image_linker.specs.ImageOf.{size_of, stub_size, front_size}
 use Rattle.image_linker.specs.Judging.{sizes, text_bytes, limit_at, IsTextFault, IsFaultOf, IsModuleOf, IsVerdictOf}
@@ -34,10 +36,29 @@ code_least : (c : Context) (b : Body) → IsJudged c (read_of b).code → HasLea
 code_least c b (inl v) = inr (λ s f. valid_has_no_fault c (read_of b).code v.0 s v.1 f)
 code_least c b (inr p) = inl (p.0, p.1, λ s g. no_later_offset p.0 s (p.1.1 s g.0))
 
+-- ---- and of the start function
+
+start_least : (c : Context) (o : Option (ℕ × ℕ)) → HasLeast (IsStartFault c o)
+start_least c None = inr (λ s f. f)
+start_least c (Some index) =
+    elim (cases_Bool (may_start c index.1)) [
+      | inl may ↦ inr (λ s f. starts_without_fault c (Some index) s may f)
+      | inr wrong ↦ inl (record { offset = index.0; kind = Invalid }, (wrong, refl), λ s f. omega (arith, ap (λ (r : Refusal). r.offset) f.1))
+    ]
+
+starts_of : (c : Context) (o : Option (ℕ × ℕ)) → ((s : Refusal) → IsStartFault c o s → ⊥) → StartsRight c o
+starts_of c None none = tt
+starts_of c (Some index) none =
+    elim (cases_Bool (may_start c index.1)) [
+      | inl may ↦ may
+      | inr wrong ↦ absurd (none (record { offset = index.0; kind = Invalid }) (wrong, refl))
+    ]
+
 inside_least : (items : List Item) (k : ℕ) (parts : List Part) → HasLeast (IsFaultInside items k parts)
 inside_least items k [] = inr (λ s f. f)
 inside_least items k (Section at id ∷ parts) = inside_least items k parts
-inside_least items k (Listed x ∷ parts) = inside_least (items ++ x ∷ []) k parts
+inside_least items k (Listed x ∷ parts) =
+    least_either (IsStartFault (context_of items) (started x)) (IsFaultInside (items ++ x ∷ []) k parts) (start_least (context_of items) (started x)) (inside_least (items ++ x ∷ []) k parts)
 inside_least items k (Coded b ∷ parts) =
     least_either (IsCodeFault (context_at items k b) (read_of b).code) (IsFaultInside items (suc k) parts)
     (code_least (context_at items k b) b (body_judged (context_at items k b) b.first b.bytes)) (inside_least items (suc k) parts)
@@ -45,7 +66,9 @@ inside_least items k (Coded b ∷ parts) =
 trees_of : (items : List Item) (k : ℕ) (parts : List Part) → ((s : Refusal) → IsFaultInside items k parts s → ⊥) → (trees : List Seq) × AreValid items k parts trees
 trees_of items k [] none = ([], tt)
 trees_of items k (Section at id ∷ parts) none = trees_of items k parts none
-trees_of items k (Listed x ∷ parts) none = trees_of (items ++ x ∷ []) k parts none
+trees_of items k (Listed x ∷ parts) none =
+    let rest = trees_of (items ++ x ∷ []) k parts (λ s f. none s (inr f)) in
+    (rest.0, (starts_of (context_of items) (started x) (λ s f. none s (inl f)), rest.1))
 trees_of items k (Coded b ∷ parts) none =
     elim (body_judged (context_at items k b) b.first b.bytes) [
       | inl v ↦ let rest = trees_of items (suc k) parts (λ s f. none s (inr f)) in (v.0 ∷ rest.0, (v.1, rest.1))
@@ -94,7 +117,7 @@ text_keeps bytes front (Section at id ∷ parts) k words trees e v none le =
     (rw same v) (rw same none) le
 text_keeps bytes front (Listed x ∷ parts) k words trees e v none le =
     text_keeps bytes (front ++ Listed x ∷ []) parts k words trees (e ∙ sym (append_assoc front (Listed x ∷ []) parts))
-    (rw (items_of-append front (Listed x ∷ [])) v) (rw (items_of-append front (Listed x ∷ [])) none) le
+    (rw (items_of-append front (Listed x ∷ [])) v.1) (rw (items_of-append front (Listed x ∷ [])) none) le
 text_keeps bytes front (Coded b ∷ parts) k words [] e v none le = absurd v
 text_keeps bytes front (Coded b ∷ parts) k words (tree ∷ trees) e v none le =
     let items = items_of (module_read bytes).parts in

@@ -1,16 +1,18 @@
 -- The faults of a module, but for that of its image's text.
-use Rattle.std.specs.Prelude.{◌≡◌, ◌<◌, ◌≤◌, ◌⊎◌, ℕ, suc, ◌+◌, List, [], ◌∷◌, ◌++◌, length, Bool, Option, None, Some, nat_lt, nat_le, if◌then◌else◌}
+use Rattle.std.specs.Prelude.{◌≡◌, ◌<◌, ◌≤◌, ◌⊎◌, ℕ, suc, ◌+◌, List, [], ◌∷◌, ◌++◌, ◌==◌, ◌&&◌, length, Bool, true, false, Option, None, Some, nat_lt, nat_le, if◌then◌else◌}
 use Rattle.wasm_defs.specs.declared.fault.Kind.{Kind}
 use Rattle.wasm_defs.specs.declared.fault.Kind.TheVariants.{Malformed, Unsupported, Limit, Invalid, Ended}
 use Rattle.wasm_defs.specs.declared.fault.Refusal.{Refusal}
 use Rattle.wasm_defs.specs.declared.item.Item.{Item}
+use Rattle.wasm_defs.specs.declared.item.Item.TheVariants.{Start}
 use Rattle.wasm_defs.specs.declared.token.Token.{Token}
+use Rattle.wasm_defs.specs.declared.types.FuncType.{FuncType}
 use Rattle.wasm_defs.specs.Outside.{Part, Section, Listed, Coded, Body, Ending, Whole, Refused, Owed, module_read}
 use Rattle.wasm_defs.specs.Bodies.{Spelled, BodyRead, body_read}
 use Rattle.wasm_defs.specs.Context.{context_of, import_count, body_context, type_of_function}
 use Rattle.wasm_defs.specs.Supported.{is_compiled_section, is_compiled_opcode}
 use Rattle.wasm_defs.specs.Trees.{Seq, Tree}
-use Rattle.wasm_defs.specs.Typing.{Context, IsBody}
+use Rattle.wasm_defs.specs.Typing.{Context, IsBody, function_type}
 use Rattle.wasm_defs.specs.Viable.{IsViable, IsFaulty}
 
 -- ---- the order of faults: by the place, and at one place by the kind
@@ -66,6 +68,31 @@ IsOutsideFault bytes =
     let run = module_read bytes in
     IsFirst (λ r. (ending_fault (length bytes) run.ending ≡ Some r) ⊎ (first_outside is_compiled_section (sections_of run.parts) ≡ Some r))
 
+-- ---- of the start function
+
+-- a function without parameters and without results
+abbrev pub is_start_type : Option FuncType → Bool
+is_start_type None = false
+is_start_type (Some t) = length t.params == 0 && length t.results == 0
+
+abbrev pub may_start : Context → ℕ → Bool
+may_start c index = is_start_type (function_type c index)
+
+-- the start function that an item names: the offset of its index, and the index
+abbrev pub started : Item → Option (ℕ × ℕ)
+started (Start index) = Some index
+started x = None
+
+-- it is there, and of that type (3.4.7)
+abbrev pub StartsRight : Context → Option (ℕ × ℕ) → Type 0
+StartsRight c None = Unit {0}
+StartsRight c (Some index) = may_start c index.1 ≡ true
+
+-- else its index is invalid
+abbrev pub IsStartFault : Context → Option (ℕ × ℕ) → Refusal → Type 0
+IsStartFault c None r = ⊥
+IsStartFault c (Some index) r = (may_start c index.1 ≡ false) × (r ≡ record { offset = index.0; kind = Invalid })
+
 -- ---- in a body
 
 abbrev pub tokens_of : List (ℕ × Token) → List Token
@@ -101,11 +128,11 @@ context_at items k b =
     let c = context_of items in
     body_context c (type_of_function c (import_count items + k)) (read_of b).groups
 
--- a fault of one of the bodies, after these items and k bodies
+-- a fault of the start function or of one of the bodies, after these items and k bodies
 abbrev pub IsFaultInside : List Item → ℕ → List Part → Refusal → Type 0
 IsFaultInside items k [] r = ⊥
 IsFaultInside items k (Section at id ∷ parts) r = IsFaultInside items k parts r
-IsFaultInside items k (Listed x ∷ parts) r = IsFaultInside (items ++ x ∷ []) k parts r
+IsFaultInside items k (Listed x ∷ parts) r = IsStartFault (context_of items) (started x) r ⊎ IsFaultInside (items ++ x ∷ []) k parts r
 IsFaultInside items k (Coded b ∷ parts) r = IsCodeFault (context_at items k b) (read_of b).code r ⊎ IsFaultInside items (suc k) parts r
 
 -- ---- the module
@@ -120,12 +147,12 @@ pub record IsValidCode (c : Context) (code : Spelled) (tree : Seq) : Type 0 wher
   pub typed : IsBody c tree
   pub compiled : first_outside is_compiled_opcode code.opcodes ≡ None
 
--- the bodies are valid, with these trees
+-- the start function and the bodies are valid, the bodies with these trees
 abbrev pub AreValid : List Item → ℕ → List Part → List Seq → Type 0
 AreValid items k [] [] = Unit {0}
 AreValid items k [] (tree ∷ trees) = ⊥
 AreValid items k (Section at id ∷ parts) trees = AreValid items k parts trees
-AreValid items k (Listed x ∷ parts) trees = AreValid (items ++ x ∷ []) k parts trees
+AreValid items k (Listed x ∷ parts) trees = StartsRight (context_of items) (started x) × AreValid (items ++ x ∷ []) k parts trees
 AreValid items k (Coded b ∷ parts) [] = ⊥
 AreValid items k (Coded b ∷ parts) (tree ∷ trees) = IsValidCode (context_at items k b) (read_of b).code tree × AreValid items (suc k) parts trees
 

@@ -67,18 +67,18 @@ all_fit size [] = true
 all_fit size (w ∷ ws) = nat_le (w.0 + length w.1) size && all_fit size ws
 
 -- the value of a constant expression of type i32 (4.5.4)
-abbrev pub place_of : Constant → ℕ
-place_of c = unsigned I32 c.value.1
+abbrev pub i32_value : Constant → ℕ
+i32_value c = unsigned I32 c.value.1
 
 abbrev pub elements_of : List Item → List (Written (Option ℕ))
 elements_of [] = []
-elements_of (Element table place functions ∷ xs) = (place_of place, map Some functions.1) ∷ elements_of xs
+elements_of (Element table place functions ∷ xs) = (i32_value place, map Some functions.1) ∷ elements_of xs
 elements_of (_ ∷ xs) = elements_of xs
 
-abbrev pub segments_of : List Item → List (Written ℕ)
-segments_of [] = []
-segments_of (Segment memory place bytes ∷ xs) = (place_of place, bytes.1) ∷ segments_of xs
-segments_of (_ ∷ xs) = segments_of xs
+abbrev pub data_of : List Item → List (Written ℕ)
+data_of [] = []
+data_of (Segment memory place bytes ∷ xs) = (i32_value place, bytes.1) ∷ data_of xs
+data_of (_ ∷ xs) = data_of xs
 
 -- ---- the table, the memory and the globals
 
@@ -113,7 +113,7 @@ values_of (_ ∷ xs) = values_of xs
 
 -- every segment has its place: else the module can't be instantiated
 abbrev pub is_linkable : Module → Bool
-is_linkable m = all_fit (rows_of m.items) (elements_of m.items) && all_fit (page * pages_of m.items) (segments_of m.items)
+is_linkable m = all_fit (rows_of m.items) (elements_of m.items) && all_fit (page * pages_of m.items) (data_of m.items)
 
 abbrev pub instance_of : Module → run.Instance
 instance_of m = record {
@@ -126,7 +126,7 @@ instance_of m = record {
 -- the store, where the host has these replies
 abbrev pub store_of : Module → List Reply → run.Store
 store_of m replies = record {
-  memory = all_over (replicate (page * pages_of m.items) 0) (segments_of m.items);
+  memory = all_over (replicate (page * pages_of m.items) 0) (data_of m.items);
   globals = values_of m.items;
   calls = [];
   replies = replies;

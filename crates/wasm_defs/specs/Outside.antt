@@ -106,16 +106,16 @@ row id =
     else record { front = λ s. custom_name; entry = λ s. listed (start s); back = rest_of_section }
 
 -- the order of sections; custom ones stand anywhere
-abbrev pub place_of : ℕ → ℕ
-place_of id = id
+abbrev pub order_of : ℕ → ℕ
+order_of id = id
 
 -- functions are declared, and no code section came
 abbrev pub owes_code : Seen → Bool
-owes_code seen = nat_lt 0 seen.declared && nat_lt seen.last (place_of 10)
+owes_code seen = nat_lt 0 seen.declared && nat_lt seen.last (order_of 10)
 
 abbrev pub is_misplaced : Seen → ℕ → Bool
 is_misplaced seen id =
-    nat_lt 12 id || (not (id == 0) && nat_le (place_of id) seen.last) || (id == 11 && owes_code seen)
+    nat_lt 12 id || (not (id == 0) && nat_le (order_of id) seen.last) || (id == 11 && owes_code seen)
 
 -- a section's id, and where it ends
 unfoldable pub header : Seen → Reader (ℕ × ℕ)
@@ -130,7 +130,7 @@ header seen = do
         if nat_lt max_module (at + size.1) then refused Limit size.0 else done (id.1, at + size.1))
 
 abbrev pub entered : Seen → ℕ → Seen
-entered seen id = if id == 0 then seen else record seen { last = place_of id }
+entered seen id = if id == 0 then seen else record seen { last = order_of id }
 
 -- what an item or a body adds to what was seen
 abbrev pub noted : Seen → Part → Seen

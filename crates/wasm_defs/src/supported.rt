@@ -7,7 +7,7 @@ ghost use Rattle.wasm_defs.specs.Supported.{is_compiled_section, is_compiled_opc
 pub fn is_compiled_section(id: u8) -> bool
     ensures { result ≡ is_compiled_section id }
 {
-    matches!(id, 0..=1 | 3..=7 | 10)
+    matches!(id, 0..=1 | 3..=7 | 10..=11)
 }
 
 /// Whether the instruction of the opcode is compiled.
@@ -17,10 +17,12 @@ pub fn is_compiled_opcode(opcode: u8) -> bool
     matches!(
         opcode,
         0x00..=0x05
-            | 0x0B..=0x0F
+            | 0x0B..=0x10
             | 0x1A..=0x1B
-            | 0x20..=0x22
-            | 0x41..=0x42
+            | 0x20..=0x24
+            | 0x28..=0x29
+            | 0x2C..=0x37
+            | 0x3A..=0x42
             | 0x45..=0x5A
             | 0x67..=0x8A
             | 0xA7

@@ -1,10 +1,10 @@
 -- What opcodes spell; of compiled opcodes, code that is compiled.
-use Rattle.std.proofs.Common.{◌≡◌, ℕ, zero, suc, ◌+◌, ◌-◌, ◌≤◌, ◌||◌, eqb, nat_lt, nat_le, inl, inr, true, List, [], ◌∷◌, Option, None, Some, length, refl, sym, subst, arith, ◌<◌, ◌&&◌, Bool, ◌==◌}
+use Rattle.std.proofs.Common.{◌≡◌, ℕ, zero, suc, ◌+◌, ◌-◌, ◌≤◌, ◌||◌, eqb, nat_lt, nat_le, inl, inr, true, List, [], ◌∷◌, Option, None, Some, length, refl, subst, ◌<◌, ◌&&◌, Bool, ◌==◌}
 use Rattle.std.specs.Prelude.{slice_get, if◌then◌else◌}
-use Rattle.std.proofs.lemmas.Bool.{cases_Bool, cases_lt, or_cases, and_from, and_parts, eqb-true, leb-true, le-ltb, false≢true, lt-ltb}
+use Rattle.std.proofs.lemmas.Bool.{cases_Bool, cases_lt, and_from, and_parts, eqb-true, le-ltb, false≢true, lt-ltb}
 use Rattle.wasm_defs.specs.declared.operation.Operation.{Operation}
 use Rattle.wasm_defs.specs.declared.token.Plain.{Plain}
-use Rattle.wasm_defs.specs.declared.token.Plain.TheVariants.{LocalGet, LocalSet, LocalTee, Operate, Unreachable, Nop, Br, BrIf, BrTable, Return, Call, Discard, Select, GlobalGet, GlobalSet, MemorySize, MemoryGrow}
+use Rattle.wasm_defs.specs.declared.token.Plain.TheVariants.{LocalGet, LocalSet, LocalTee, Operate, Unreachable, Nop, Br, BrIf, Return, Call, Discard, Select, GlobalGet, GlobalSet, MemorySize, MemoryGrow}
 use Rattle.wasm_defs.specs.declared.token.Token.{Token}
 use Rattle.wasm_defs.specs.declared.token.Token.TheVariants as token
 use Rattle.wasm_defs.specs.declared.types.ValType.{ValType}
@@ -12,7 +12,7 @@ use Rattle.wasm_defs.specs.declared.types.ValType.TheVariants.{I32, I64}
 use Rattle.wasm_defs.specs.Opcodes.{operations, accesses}
 use Rattle.wasm_defs.specs.Entries.{within, bits_of}
 use Rattle.wasm_defs.specs.Fields.{Cursor, Read, Got, Fault, Wants, byte, number, u32, Reader, refused, done, vector}
-use Rattle.wasm_defs.specs.Bodies.{Group, local_groups, with_index, constant, control, variable, past_table, operated_at, numeric, instruction, depth_after, Spelled, closed, after_token, goes_on, spelled_from, body_cursor, last_of, read_code, body_read, block_type, with_type, branch_table, label, indirect, with_zero, with_mem_arg, memory, accessed_at}
+use Rattle.wasm_defs.specs.Bodies.{Group, local_groups, with_index, constant, control, variable, past_table, operated_at, numeric, instruction, depth_after, Spelled, closed, after_token, goes_on, spelled_from, body_cursor, last_of, read_code, body_read, block_type, with_type, branch_table, label, indirect, with_zero, zero_byte, with_mem_arg, mem_arg, memory, accessed_at}
 use Rattle.wasm_defs.specs.Faults.{first_outside, tokens_of}
 use Rattle.wasm_defs.specs.Supported.{is_compiled_opcode}
 use Rattle.wasm_defs.specs.Trees.{Seq, Nothing, Simple, Block, Loop, If, IfElse, spelled, Tree}
@@ -23,15 +23,12 @@ use Rattle.wasm_laws.proofs.BodyLaws.{local_groups_steady, instruction_steady}
 use Rattle.wasm_laws.proofs.Parts.{then_got}
 use Rattle.wasm_laws.proofs.Plain.{none_outside}
 use Rattle.wasm_defs.specs.declared.operation.Access.{Access}
+use Rattle.wasm_defs.specs.declared.operation.Access.TheVariants as access
 use Rattle.wasm_defs.specs.declared.token.BlockType.{BlockType}
 use Rattle.wasm_defs.specs.declared.token.BlockType.TheVariants.{Empty, Value}
 use Rattle.wasm_defs.specs.declared.fault.Kind.TheVariants.{Malformed, Unsupported}
 
 -- ---- instructions
-
--- an opcode between two others
-between : (low high b : ℕ) → within low high b ≡ true → (low ≤ b) × (b ≤ high)
-between low high b e = let k = and_parts (nat_le low b) (nat_le b high) e in (leb-true low b k.0, leb-true b high k.1)
 
 -- what the opcodes spell of which something holds
 pub record Spells (P : Token → Cursor → Type 0) (C : ℕ → Type 0) (d : Cursor) : Type 0 where
@@ -177,40 +174,14 @@ table_is_compiled d =
     then_got (λ i e. Unit {0}) IsCompiledToken (vector u32 label d) _ (always (vector u32 label d))
     (λ ls e u. then_got (λ i f. Unit {0}) IsCompiledToken (label e) _ (always (label e)) (λ l f v. refl))
 
--- opcodes of memory instructions aren't compiled
-no_access : (b : ℕ) → 0x28 ≤ b → b < 0x41 → is_compiled_opcode b ≡ true → ⊥
-no_access b ge lt e =
-    elim (or_cases _ _ e) [
-      | inr h ↦ outside 0xAC 0xAD h (omega arith)
-      | inl h ↦ elim (or_cases _ _ h) [
-        | inr e ↦ let is = eqb-true b 0xA7 e in omega (arith, is)
-        | inl h ↦ elim (or_cases _ _ h) [
-          | inr e ↦ outside 0x67 0x8A e (omega arith)
-          | inl h ↦ elim (or_cases _ _ h) [
-            | inr e ↦ outside 0x45 0x5A e (omega arith)
-            | inl h ↦ elim (or_cases _ _ h) [
-              | inr e ↦ outside 0x41 0x42 e (omega arith)
-              | inl h ↦ elim (or_cases _ _ h) [
-                | inr e ↦ below 0x20 0x22 e (omega arith)
-                | inl h ↦ elim (or_cases _ _ h) [
-                  | inr e ↦ below 0x1A 0x1B e (omega arith)
-                  | inl h ↦ elim (or_cases _ _ h) [
-                    | inr e ↦ below 0x0B 0x0F e (omega arith)
-                    | inl e ↦ below 0x00 0x05 e (omega arith)
-                  ]
-                ]
-              ]
-            ]
-          ]
-        ]
-      ]
-    ]
-  where
-    outside : (low high : ℕ) → within low high b ≡ true → 0x41 ≤ low → ⊥
-    outside low high e more = let k = between low high b e in omega (arith, k.0)
+access_is_compiled : (op : Access) (d : Cursor) → IfGot IsCompiledToken (with_mem_arg op d)
+unfolding with_mem_arg
+access_is_compiled (access.Load op) d = then_got (λ m e. Unit {0}) IsCompiledToken (mem_arg d) _ (always (mem_arg d)) (λ m e u. refl)
+access_is_compiled (access.Store op) d = then_got (λ m e. Unit {0}) IsCompiledToken (mem_arg d) _ (always (mem_arg d)) (λ m e u. refl)
 
-    below : (low high : ℕ) → within low high b ≡ true → high < 0x28 → ⊥
-    below low high e less = let k = between low high b e in omega (arith, k.1)
+zero_is_compiled : (p : Plain) (d : Cursor) → is_compiled_plain p ≡ true → IfGot IsCompiledToken (with_zero p d)
+unfolding with_zero
+zero_is_compiled p d h = then_got (λ x e. Unit {0}) IsCompiledToken (zero_byte Malformed d) _ (always (zero_byte Malformed d)) (λ x e u. h)
 
 abbrev pub IsCompiledOpcode : ℕ → Type 0
 IsCompiledOpcode b = is_compiled_opcode b ≡ true
@@ -228,18 +199,18 @@ all_are_compiled d = record {
   branches_if = λ c. index_is_compiled BrIf d (λ i. refl);
   tables = λ c. table_is_compiled d;
   returns = λ c. refl;
-  calls = λ c. absurd (false≢true c);
+  calls = λ c. index_is_compiled Call d (λ i. refl);
   indirects = λ c. absurd (false≢true c);
   drops = λ c. refl;
   selects = λ c. refl;
   gets = λ c. index_is_compiled LocalGet d (λ i. refl);
   sets = λ c. index_is_compiled LocalSet d (λ i. refl);
   tees = λ c. index_is_compiled LocalTee d (λ i. refl);
-  global_gets = λ c. absurd (false≢true c);
-  global_sets = λ c. absurd (false≢true c);
-  accesses_at = λ b ge lt c op. absurd (no_access b ge lt c);
-  sizes = λ c. absurd (false≢true c);
-  grows = λ c. absurd (false≢true c);
+  global_gets = λ c. index_is_compiled GlobalGet d (λ i. refl);
+  global_sets = λ c. index_is_compiled GlobalSet d (λ i. refl);
+  accesses_at = λ b ge lt c op. access_is_compiled op d;
+  sizes = λ c. zero_is_compiled MemorySize d refl;
+  grows = λ c. zero_is_compiled MemoryGrow d refl;
   narrow = λ c. constant_is_compiled I32 d;
   wide = λ c. constant_is_compiled I64 d;
   computes = λ op. refl;

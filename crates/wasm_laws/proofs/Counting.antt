@@ -1,22 +1,8 @@
 -- Each token takes a byte.
-use Rattle.std.proofs.Common.{◌≡◌, ℕ, zero, suc, ◌+◌, ◌≤◌, ◌<◌, true, List, [], ◌∷◌, Option, None, Some, length, refl, ap, arith}
-use Rattle.std.specs.Prelude.{slice_get}
-use Rattle.std.proofs.lemmas.Bool.{and_parts}
-use Rattle.wasm_defs.specs.declared.operation.Operation.{Operation}
-use Rattle.wasm_defs.specs.declared.operation.Operation.TheVariants.{Unary, Test, Binary, Compare, Convert}
-use Rattle.wasm_defs.specs.declared.operation.ConvertOp.TheVariants.{Wrap, ExtendS, ExtendU}
-use Rattle.wasm_defs.specs.declared.token.Plain.{Plain}
-use Rattle.wasm_defs.specs.declared.token.Plain.TheVariants.{Nop, Discard, Select, LocalGet, LocalSet, LocalTee, Const, Operate}
+use Rattle.std.proofs.Common.{ℕ, zero, suc, ◌+◌, ◌≤◌, List, [], ◌∷◌, length, arith}
 use Rattle.wasm_defs.specs.declared.token.Token.{Token}
-use Rattle.wasm_defs.specs.declared.token.Token.TheVariants as token
-use Rattle.wasm_defs.specs.declared.types.ValType.{ValType}
 use Rattle.wasm_defs.specs.Bodies.{Group, local_groups, instruction, depth_after, Spelled, closed, after_opcode, after_token, goes_on, spelled_from, body_cursor, last_of, read_code, body_read}
-use Rattle.wasm_defs.specs.Faults.{first_outside, tokens_of}
-use Rattle.wasm_defs.specs.Supported.{is_compiled_opcode}
 use Rattle.wasm_defs.specs.Fields.{Cursor, Read, Got, Fault, Wants, byte}
-use Rattle.wasm_defs.specs.Places.{Place, moved, after_rule, end_of, places, places_of, higher, greatest}
-use Rattle.wasm_defs.specs.Trees.{Seq, Nothing, Simple, Block, Loop, If, IfElse, spelled, Tree}
-use Rattle.wasm_defs.specs.Typing.{Types, Context, inside, Fixed, with_type, rule_of, operated}
 use Rattle.wasm_laws.specs.Steadiness.{Advances, LeavesFewer}
 use Rattle.wasm_laws.proofs.Steady.{moves_of, here_in}
 use Rattle.wasm_laws.proofs.Windows.{byte_field}

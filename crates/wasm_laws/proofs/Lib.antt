@@ -56,3 +56,5 @@ pub mod FieldKinds
 pub mod Later
 pub mod PartLists
 pub mod PartOrder
+pub mod Held
+pub mod Starts

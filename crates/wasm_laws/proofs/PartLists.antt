@@ -6,12 +6,12 @@ use Rattle.wasm_defs.specs.declared.fault.Refusal.{Refusal}
 use Rattle.wasm_defs.specs.declared.item.Item.{Item}
 use Rattle.wasm_defs.specs.declared.item.Item.TheVariants.{Signature, Imported, Function, Table, Memory, Global, Exported, Start, Element, Code, Segment}
 use Rattle.wasm_defs.specs.Trees.{Seq}
-use Rattle.wasm_defs.specs.Context.{functions_of}
+use Rattle.wasm_defs.specs.Context.{context_of, functions_of}
 use Rattle.wasm_defs.specs.Outside.{Part, Section, Listed, Coded, Body}
 use Rattle.wasm_defs.specs.Supported.{is_compiled_section}
-use Rattle.wasm_defs.specs.Faults.{first_outside, sections_of, items_of, bodies_of, unsupported_at, IsFaultInside, AreValid}
+use Rattle.wasm_defs.specs.Faults.{first_outside, sections_of, items_of, bodies_of, unsupported_at, started, IsFaultInside, AreValid}
 use Rattle.wasm_laws.specs.Typed.{AreTyped}
-use Rattle.wasm_laws.proofs.Verdicts.{valid_bodies}
+use Rattle.wasm_laws.proofs.Verdicts.{starts_without_fault, valid_bodies}
 
 pub items_of-append : (xs ys : List Part) → items_of (xs ++ ys) ≡ items_of xs ++ items_of ys
 items_of-append [] ys = refl
@@ -41,7 +41,7 @@ pub valid_both : (items : List Item) (k : ℕ) (front rest : List Part) (trees m
 valid_both items k [] rest [] more p q = let e : k + 0 ≡ k = omega arith in rw (append-nil, e) at q
 valid_both items k [] rest (t ∷ trees) more p q = absurd p
 valid_both items k (Section at id ∷ front) rest trees more p q = valid_both items k front rest trees more p q
-valid_both items k (Listed x ∷ front) rest trees more p q = valid_both (items ++ x ∷ []) k front rest trees more p (rw (append_assoc items (x ∷ []) (items_of front)) q)
+valid_both items k (Listed x ∷ front) rest trees more p q = (p.0, valid_both (items ++ x ∷ []) k front rest trees more p.1 (rw (append_assoc items (x ∷ []) (items_of front)) q))
 valid_both items k (Coded b ∷ front) rest [] more p q = absurd p
 valid_both items k (Coded b ∷ front) rest (t ∷ trees) more p q = let e : suc k + length (bodies_of front) ≡ k + suc (length (bodies_of front)) = omega arith in (p.0, valid_both items (suc k) front rest trees more p.1 (rw e q))
 
@@ -49,7 +49,8 @@ valid_both items k (Coded b ∷ front) rest (t ∷ trees) more p q = let e : suc
 pub fault_behind : (items : List Item) (k : ℕ) (front rest : List Part) (trees : List Seq) (r : Refusal) → AreValid items k front trees → IsFaultInside items k (front ++ rest) r → IsFaultInside (items ++ items_of front) (k + length (bodies_of front)) rest r
 fault_behind items k [] rest trees r p f = let e : k + 0 ≡ k = omega arith in rw (append-nil, e) f
 fault_behind items k (Section at id ∷ front) rest trees r p f = fault_behind items k front rest trees r p f
-fault_behind items k (Listed x ∷ front) rest trees r p f = rw (← append_assoc items (x ∷ []) (items_of front)) (fault_behind (items ++ x ∷ []) k front rest trees r p f)
+fault_behind items k (Listed x ∷ front) rest trees r p (inl f) = absurd (starts_without_fault (context_of items) (started x) r p.0 f)
+fault_behind items k (Listed x ∷ front) rest trees r p (inr f) = rw (← append_assoc items (x ∷ []) (items_of front)) (fault_behind (items ++ x ∷ []) k front rest trees r p.1 f)
 fault_behind items k (Coded b ∷ front) rest [] r p f = absurd p
 fault_behind items k (Coded b ∷ front) rest (t ∷ trees) r p (inl f) = absurd (valid_bodies items k (Coded b ∷ []) (t ∷ []) r (p.0, tt) (inl f))
 fault_behind items k (Coded b ∷ front) rest (t ∷ trees) r p (inr f) = let e : k + suc (length (bodies_of front)) ≡ suc k + length (bodies_of front) = omega arith in rw e (fault_behind items (suc k) front rest trees r p.1 f)
@@ -57,7 +58,7 @@ fault_behind items k (Coded b ∷ front) rest (t ∷ trees) r p (inr f) = let e 
 pub fault_of_rest : (items : List Item) (k : ℕ) (front rest : List Part) (r : Refusal) → IsFaultInside (items ++ items_of front) (k + length (bodies_of front)) rest r → IsFaultInside items k (front ++ rest) r
 fault_of_rest items k [] rest r f = let e : k + 0 ≡ k = omega arith in rw (append-nil, e) at f
 fault_of_rest items k (Section at id ∷ front) rest r f = fault_of_rest items k front rest r f
-fault_of_rest items k (Listed x ∷ front) rest r f = fault_of_rest (items ++ x ∷ []) k front rest r (rw (append_assoc items (x ∷ []) (items_of front)) f)
+fault_of_rest items k (Listed x ∷ front) rest r f = inr (fault_of_rest (items ++ x ∷ []) k front rest r (rw (append_assoc items (x ∷ []) (items_of front)) f))
 fault_of_rest items k (Coded b ∷ front) rest r f = let e : suc k + length (bodies_of front) ≡ k + suc (length (bodies_of front)) = omega arith in inr (fault_of_rest items (suc k) front rest r (rw e f))
 
 pub none_outside : (xs ys : List (ℕ × ℕ)) → first_outside is_compiled_section xs ≡ None → first_outside is_compiled_section (xs ++ ys) ≡ first_outside is_compiled_section ys

@@ -1,15 +1,18 @@
 -- What an entry of a section is: an item, or in the code section a body that lies in what was taken.
-use Rattle.std.proofs.Common.{◌≡◌, ℕ, ◌+◌, ◌≤◌, ◌<◌, Bool, true, false, cond, ltb, ◌||◌, eqb, List, length, refl, ap, arith, length-take, inl, inr}
+use Rattle.std.proofs.Common.{◌≡◌, ℕ, ◌+◌, ◌≤◌, ◌<◌, Bool, true, false, cond, ltb, ◌||◌, eqb, List, length, Option, None, Some, refl, ap, arith, length-take, inl, inr}
 use Rattle.std.proofs.lemmas.Bool.{cases_Bool, cases_lt, lt-ltb, le-ltb, or_parts, ltb-false}
 use Rattle.wasm_defs.specs.declared.item.Item.{Item}
+use Rattle.wasm_defs.specs.declared.fault.Kind.TheVariants.{Invalid}
 use Rattle.wasm_defs.specs.Limits.{max_body}
-use Rattle.wasm_defs.specs.Fields.{Cursor, Read, Got, Fault, Wants, Reader, then_go, past, room_of, window, u32, room, here, run, agree, fixed}
-use Rattle.wasm_defs.specs.Entries.{Seen, code}
+use Rattle.wasm_defs.specs.Fields.{Cursor, Read, Got, Fault, Wants, Reader, then_go, past, room_of, window, u32, room, here, run, agree, fixed, done, refused}
+use Rattle.wasm_defs.specs.Entries.{Seen, index, signature, imported, function, table, memory, global, exported, start, element, code, segment}
 use Rattle.wasm_defs.specs.Outside.{Body, Part, Section, Listed, Coded, listed, body, entries_of, code_entry, Row, row}
+use Rattle.wasm_defs.specs.Faults.{started}
 use Rattle.wasm_laws.specs.Order.{end_of}
 use Rattle.wasm_laws.proofs.Steady.{IfGot, IsMarked}
 use Rattle.wasm_laws.proofs.Windows.{cut_got}
 use Rattle.wasm_laws.proofs.FieldLaws.{u32_field}
+use Rattle.wasm_laws.proofs.Sorts.{Yields, yielding}
 
 pub then_got : {A B : Type 0} (P : A → Cursor → Type 0) (Q : B → Cursor → Type 0) (x : Read A) (f : A → Reader B) → IfGot P x → ((a : A) (d : Cursor) → P a d → IfGot Q (f a d)) → IfGot Q (then_go x f)
 then_got P Q (Got a d) f p h = h a d p
@@ -49,9 +52,14 @@ pub record Lies (c d : Cursor) (b : Body) : Type 0 where
   pub most : length b.bytes ≤ max_body
   pub taken : end_of b ≤ d.at
 
+-- an item that was taken: the start function's index stands among what was
+abbrev pub StartLies : Cursor → Option (ℕ × ℕ) → Cursor → Type 0
+StartLies c None d = Unit {0}
+StartLies c (Some index) d = IsMarked c index d
+
 abbrev pub PartLies : Cursor → Part → Cursor → Type 0
 PartLies c (Section at id) d = ⊥
-PartLies c (Listed x) d = Unit {0}
+PartLies c (Listed x) d = StartLies c (started x) d
 PartLies c (Coded b) d = Lies c d b
 
 -- ---- bodies
@@ -86,12 +94,77 @@ body_lies c =
           ])
     ])
 
+-- ---- items
+
+abbrev IsOther : Item → Type 0
+IsOther x = started x ≡ None
+
+other_lies : (c d : Cursor) (o : Option (ℕ × ℕ)) → o ≡ None → StartLies c o d
+other_lies c d None h = tt
+other_lies c d (Some index) h = absurd cc
+
+abbrev ItemLies : Cursor → Item → Cursor → Type 0
+ItemLies c x d = StartLies c (started x) d
+
+others_lie : (entry : Seen → Reader Item) → ((seen : Seen) → Yields IsOther (entry seen)) → (seen : Seen) (c : Cursor) → IfGot (ItemLies c) (entry seen c)
+others_lie entry yields seen c = got_map (λ x d. IsOther x) (ItemLies c) (entry seen c) (λ x d h. other_lies c d (started x) h) ((yields seen).got c)
+
+signature_other : (seen : Seen) → Yields IsOther (signature seen)
+unfolding signature
+signature_other seen = search yielding depth 40
+
+imported_other : (seen : Seen) → Yields IsOther (imported seen)
+unfolding imported
+imported_other seen = search yielding depth 40
+
+function_other : (seen : Seen) → Yields IsOther (function seen)
+unfolding function
+function_other seen = search yielding depth 40
+
+table_other : (seen : Seen) → Yields IsOther (table seen)
+unfolding table
+table_other seen = search yielding depth 40
+
+memory_other : (seen : Seen) → Yields IsOther (memory seen)
+unfolding memory
+memory_other seen = search yielding depth 40
+
+global_other : (seen : Seen) → Yields IsOther (global seen)
+unfolding global
+global_other seen = search yielding depth 40
+
+exported_other : (seen : Seen) → Yields IsOther (exported seen)
+unfolding exported
+exported_other seen = search yielding depth 40
+
+element_other : (seen : Seen) → Yields IsOther (element seen)
+unfolding element
+element_other seen = search yielding depth 40
+
+code_other : (seen : Seen) → Yields IsOther (code seen)
+unfolding code
+code_other seen = search yielding depth 40
+
+segment_other : (seen : Seen) → Yields IsOther (segment seen)
+unfolding segment
+segment_other seen = search yielding depth 40
+
+index_lies : (most : ℕ) (c : Cursor) → IfGot (IsMarked c) (index most c)
+unfolding index
+index_lies most c =
+    then_got (IsMarked c) (IsMarked c) (u32 c) _ (u32_field.marked c)
+    (λ i d q. either_got (λ (x : ℕ × ℕ) (e : Cursor). IsMarked c x e) (ltb i.1 most) (done i) (refused Invalid i.0) d (λ e. q) (λ e. tt))
+
+start_lies : (seen : Seen) (c : Cursor) → IfGot (ItemLies c) (start seen c)
+unfolding start
+start_lies seen c = then_got (IsMarked c) (ItemLies c) (index seen.functions c) _ (index_lies seen.functions c) (λ i d q. q)
+
 -- ---- rows
 
-listed_lies : (c : Cursor) (x : Read Item) → IfGot (PartLies c) (then_go x (λ y d. Got (Listed y) d))
-listed_lies c (Got y d) = tt
-listed_lies c (Fault r) = tt
-listed_lies c Wants = tt
+listed_lies : (c : Cursor) (x : Read Item) → IfGot (ItemLies c) x → IfGot (PartLies c) (then_go x (λ y d. Got (Listed y) d))
+listed_lies c (Got y d) h = h
+listed_lies c (Fault r) h = tt
+listed_lies c Wants h = tt
 
 pub record LyingRow (r : Row) : Type 0 where
   pub entry : (seen : Seen) (c : Cursor) → IfGot (PartLies c) (r.entry seen c)
@@ -100,23 +173,23 @@ either_row : (b : Bool) (p q : Row) → LyingRow p → LyingRow q → LyingRow (
 either_row true p q hp hq = hp
 either_row false p q hp hq = hq
 
-items_lie : (front : Seen → Reader ℕ) (entry : Seen → Reader Item) → LyingRow (entries_of front entry)
-items_lie front entry = record { entry = λ seen c. listed_lies c (entry seen c) }
+items_lie : (front : Seen → Reader ℕ) (entry : Seen → Reader Item) → ((seen : Seen) (c : Cursor) → IfGot (ItemLies c) (entry seen c)) → LyingRow (entries_of front entry)
+items_lie front entry lie = record { entry = λ seen c. listed_lies c (entry seen c) (lie seen c) }
 
 code_lies : (seen : Seen) (c : Cursor) → IfGot (PartLies c) (code_entry seen c)
-code_lies seen c = either_got (PartLies c) seen.counted body (listed (code seen)) c (λ e. body_lies c) (λ e. listed_lies c (code seen c))
+code_lies seen c = either_got (PartLies c) seen.counted body (listed (code seen)) c (λ e. body_lies c) (λ e. listed_lies c (code seen c) (others_lie code code_other seen c))
 
 pub row_lies : (id : ℕ) → LyingRow (row id)
 row_lies id =
-    either_row (eqb id 1) _ _ (items_lie _ _)
-    (either_row (eqb id 2) _ _ (items_lie _ _)
-    (either_row (eqb id 3) _ _ (items_lie _ _)
-    (either_row (eqb id 4) _ _ (items_lie _ _)
-    (either_row (eqb id 5) _ _ (items_lie _ _)
-    (either_row (eqb id 6) _ _ (items_lie _ _)
-    (either_row (eqb id 7) _ _ (items_lie _ _)
-    (either_row (eqb id 8) _ _ (items_lie _ _)
-    (either_row (eqb id 9) _ _ (items_lie _ _)
+    either_row (eqb id 1) _ _ (items_lie _ _ (others_lie signature signature_other))
+    (either_row (eqb id 2) _ _ (items_lie _ _ (others_lie imported imported_other))
+    (either_row (eqb id 3) _ _ (items_lie _ _ (others_lie function function_other))
+    (either_row (eqb id 4) _ _ (items_lie _ _ (others_lie table table_other))
+    (either_row (eqb id 5) _ _ (items_lie _ _ (others_lie memory memory_other))
+    (either_row (eqb id 6) _ _ (items_lie _ _ (others_lie global global_other))
+    (either_row (eqb id 7) _ _ (items_lie _ _ (others_lie exported exported_other))
+    (either_row (eqb id 8) _ _ (items_lie _ _ start_lies)
+    (either_row (eqb id 9) _ _ (items_lie _ _ (others_lie element element_other))
     (either_row (eqb id 10) _ _ (record { entry = code_lies })
-    (either_row (eqb id 11) _ _ (items_lie _ _)
-    (record { entry = λ seen c. listed_lies c _ })))))))))))
+    (either_row (eqb id 11) _ _ (items_lie _ _ (others_lie segment segment_other))
+    (record { entry = λ seen c. listed_lies c _ (start_lies seen c) })))))))))))

@@ -1,5 +1,5 @@
 -- The immediates of compiled code are in range.
-use Rattle.std.proofs.Common.{◌≡◌, ℕ, ◌+◌, ◌-◌, ◌*◌, ◌^◌, ◌<◌, ◌≤◌, inl, inr, true, false, List, [], None, ◌∷◌, sym, subst, ap, ◌∙◌, arith, ℤ, pos, zero, suc, refl, Bool}
+use Rattle.std.proofs.Common.{◌≡◌, ℕ, ◌+◌, ◌-◌, ◌*◌, ◌^◌, ◌<◌, ◌≤◌, inl, inr, true, false, List, [], None, ◌∷◌, sym, subst, ap, ◌∙◌, arith, ℤ, pos, zero, suc, refl}
 use Rattle.std.specs.Prelude.{negsuc, neg_ℤ, ◌≤ℤ◌, ◌<ℤ◌, FitsSigned}
 use Rattle.std.specs.Int.{w32, w64}
 use Rattle.std.proofs.lemmas.Bool.{cases_lt, lt-ltb, le-ltb}
@@ -8,12 +8,11 @@ use Rattle.std.proofs.lemmas.Nat.{pow_pos, pow-add}
 use Rattle.wasm_defs.proofs.NumberLaws.{AreBytes, reading_small}
 use Rattle.wasm_defs.specs.Numbers.{Reading, Number, CutOff, Bad, last_byte, after_byte, number_at, IsSmall}
 use Rattle.wasm_defs.specs.Faults.{first_outside, tokens_of}
-use Rattle.wasm_defs.specs.Fields.{Cursor, nat_of, window, room_of, from_reading, number, u32, Reader, vector, repeated, Read, Got, Fault, Wants}
-use Rattle.wasm_defs.specs.Bodies.{with_index, constant, control, variable, instruction, body_read, block_type, with_type, branch_table, label, indirect, with_zero, with_mem_arg, mem_arg, zero_byte}
-use Rattle.wasm_defs.specs.Supported.{is_compiled_opcode}
+use Rattle.wasm_defs.specs.Fields.{Cursor, nat_of, window, room_of, from_reading, number, u32, vector, repeated, Read, Got, Fault, Wants}
+use Rattle.wasm_defs.specs.Bodies.{with_index, constant, instruction, body_read, block_type, with_type, branch_table, label, indirect, with_zero, with_mem_arg, mem_arg, zero_byte}
 use Rattle.wasm_defs.specs.Trees.{Seq, Nothing, Simple, Block, Loop, If, IfElse, spelled, Tree}
 use Rattle.wasm_defs.specs.declared.token.Plain.{Plain}
-use Rattle.wasm_defs.specs.declared.token.Plain.TheVariants.{LocalGet, LocalSet, LocalTee, Unreachable, Nop, Br, BrIf, BrTable, Return, Call, Discard, Select, GlobalGet, GlobalSet, MemorySize, MemoryGrow, Operate}
+use Rattle.wasm_defs.specs.declared.token.Plain.TheVariants.{LocalGet, LocalSet, LocalTee, Br, BrIf, Call, GlobalGet, GlobalSet, MemorySize, MemoryGrow}
 use Rattle.wasm_defs.specs.declared.token.Token.{Token}
 use Rattle.wasm_defs.specs.declared.types.ValType.TheVariants.{I32, I64}
 use Rattle.wasm_defs.specs.Values.{unsigned}

@@ -231,12 +231,12 @@ items_are_indexed bytes =
 
 -- ---- items that are added one by one
 
-types_of-append : (xs ys : List Item) → types_of (xs ++ ys) ≡ types_of xs ++ types_of ys
+pub types_of-append : (xs ys : List Item) → types_of (xs ++ ys) ≡ types_of xs ++ types_of ys
 types_of-append [] ys = refl
 types_of-append (Signature form params results ty ∷ xs) ys = ap (λ l. ty ∷ l) (types_of-append xs ys)
 types_of-append (_ ∷ xs) ys = types_of-append xs ys
 
-functions_of-append : (xs ys : List Item) → functions_of (xs ++ ys) ≡ functions_of xs ++ functions_of ys
+pub functions_of-append : (xs ys : List Item) → functions_of (xs ++ ys) ≡ functions_of xs ++ functions_of ys
 functions_of-append [] ys = refl
 functions_of-append (Imported from what kind type_index ∷ xs) ys = ap (λ l. type_index.1 ∷ l) (functions_of-append xs ys)
 functions_of-append (Function type_index ∷ xs) ys = ap (λ l. type_index.1 ∷ l) (functions_of-append xs ys)

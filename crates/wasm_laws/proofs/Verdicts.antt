@@ -1,5 +1,5 @@
 -- A module has one verdict.
-use Rattle.std.proofs.Common.{◌≡◌, ◌≤◌, ◌<◌, ◌⊎◌, inl, inr, ℕ, suc, ◌+◌, Bool, List, [], ◌∷◌, ◌++◌, length, Option, None, Some, refl, sym, ap, ◌∙◌, append_assoc, arith}
+use Rattle.std.proofs.Common.{◌≡◌, ◌≤◌, ◌<◌, ◌⊎◌, inl, inr, ℕ, suc, ◌+◌, Bool, true, false, List, [], ◌∷◌, ◌++◌, length, Option, None, Some, refl, sym, ap, ◌∙◌, append_assoc, arith}
 use Rattle.std.proofs.lemmas.Bool.{cases_Bool}
 use Rattle.std.proofs.lemmas.List.{append-nil}
 use Rattle.wasm_defs.specs.declared.fault.Kind.{Kind}
@@ -10,10 +10,11 @@ use Rattle.wasm_defs.specs.Fields.{Read, Got, Fault, Wants}
 use Rattle.wasm_defs.specs.Bodies.{Group, Spelled, read_code, local_groups, body_cursor, last_of, body_read}
 use Rattle.wasm_defs.specs.Outside.{Part, Section, Listed, Coded, Body, module_read}
 use Rattle.wasm_defs.specs.Typing.{Context}
+use Rattle.wasm_defs.specs.Context.{context_of}
 use Rattle.wasm_defs.specs.Trees.{Seq}
 use Rattle.wasm_defs.specs.Viable.{IsViable}
 use Rattle.wasm_defs.specs.Supported.{is_compiled_section, is_compiled_opcode}
-use Rattle.wasm_defs.specs.Faults.{rank, IsNoLater, IsFirst, first_outside, ending_fault, sections_of, tokens_of, IsTokenFault, IsSpellingFault, IsCodeFault, IsValidCode, read_of, context_at, IsFaultInside, IsFault, AreValid}
+use Rattle.wasm_defs.specs.Faults.{rank, IsNoLater, IsFirst, first_outside, ending_fault, sections_of, tokens_of, IsTokenFault, IsSpellingFault, IsCodeFault, IsValidCode, read_of, context_at, may_start, started, StartsRight, IsStartFault, IsFaultInside, IsFault, AreValid}
 use Rattle.wasm_laws.specs.Steadiness.{Advances, StandsIn}
 use Rattle.wasm_laws.proofs.Faulty.{tokens_of-append, faulty_front}
 use Rattle.wasm_laws.proofs.Spelling.{AllWithin, Places, places_lower, stops_at, missing, IsOpen, open_later, spelled_places}
@@ -126,10 +127,20 @@ valid_has_no_fault c code tree r v f = of_candidate f.0
     of_candidate (inr (inl s)) = none_is_some code.fault r v.whole s.is
     of_candidate (inr (inr u)) = none_is_some _ r v.compiled u
 
+-- ---- a start function of the right type has no fault
+
+true_or_false : (b : Bool) → b ≡ true → b ≡ false → ⊥
+true_or_false b t f = cc
+
+pub starts_without_fault : (c : Context) (o : Option (ℕ × ℕ)) (r : Refusal) → StartsRight c o → IsStartFault c o r → ⊥
+starts_without_fault c None r p f = f
+starts_without_fault c (Some index) r p f = true_or_false (may_start c index.1) p f.0
+
 pub valid_bodies : (items : List Item) (k : ℕ) (parts : List Part) (trees : List Seq) (r : Refusal) → AreValid items k parts trees → IsFaultInside items k parts r → ⊥
 valid_bodies items k [] trees r v f = f
 valid_bodies items k (Section at id ∷ parts) trees r v f = valid_bodies items k parts trees r v f
-valid_bodies items k (Listed x ∷ parts) trees r v f = valid_bodies (items ++ x ∷ []) k parts trees r v f
+valid_bodies items k (Listed x ∷ parts) trees r v (inl f) = starts_without_fault (context_of items) (started x) r v.0 f
+valid_bodies items k (Listed x ∷ parts) trees r v (inr f) = valid_bodies (items ++ x ∷ []) k parts trees r v.1 f
 valid_bodies items k (Coded b ∷ parts) [] r v f = v
 valid_bodies items k (Coded b ∷ parts) (tree ∷ trees) r v (inl f) = valid_has_no_fault (context_at items k b) (read_of b).code tree r v.0 f
 valid_bodies items k (Coded b ∷ parts) (tree ∷ trees) r v (inr f) = valid_bodies items (suc k) parts trees r v.1 f

@@ -1,12 +1,12 @@
--- Code that is compiled so far: numeric and parametric instructions, those on locals, and control but calls (WebAssembly Core 1.0,
--- 2.4); and the immediates of all code.
+-- Code that is compiled so far: numeric, parametric, variable and memory instructions, and control but calls by the table
+-- (WebAssembly Core 1.0, 2.4); and the immediates of all code.
 use Rattle.std.specs.Prelude.{ℕ, ◌<◌, ◌^◌, Bool, true, false, ◌&&◌, List, [], ◌∷◌, FitsSigned}
 use Rattle.std.specs.Int.{w32, w64}
 use Rattle.wasm_defs.specs.declared.types.ValType.TheVariants.{I32, I64}
 use Rattle.wasm_defs.specs.declared.token.BlockType.{BlockType}
 use Rattle.wasm_defs.specs.declared.token.BlockType.TheVariants.{Empty, Value, Index}
 use Rattle.wasm_defs.specs.declared.token.Plain.{Plain}
-use Rattle.wasm_defs.specs.declared.token.Plain.TheVariants.{Unreachable, Nop, Br, BrIf, BrTable, Return, Call, CallIndirect, Discard, Select, LocalGet, LocalSet, LocalTee, GlobalGet, GlobalSet, Load, Store, Const, Operate}
+use Rattle.wasm_defs.specs.declared.token.Plain.TheVariants.{Unreachable, Nop, Br, BrIf, BrTable, Return, Call, CallIndirect, Discard, Select, LocalGet, LocalSet, LocalTee, GlobalGet, GlobalSet, Load, Store, MemorySize, MemoryGrow, Const, Operate}
 use Rattle.wasm_defs.specs.declared.token.Token.{Token}
 use Rattle.wasm_defs.specs.declared.token.Token.TheVariants as token
 use Rattle.wasm_defs.specs.Trees.{Seq, Nothing, Simple, Block, Loop, If, IfElse}
@@ -18,11 +18,18 @@ is_compiled_plain (Br l) = true
 is_compiled_plain (BrIf l) = true
 is_compiled_plain (BrTable ls l) = true
 is_compiled_plain Return = true
+is_compiled_plain (Call f) = true
 is_compiled_plain Discard = true
 is_compiled_plain Select = true
 is_compiled_plain (LocalGet x) = true
 is_compiled_plain (LocalSet x) = true
 is_compiled_plain (LocalTee x) = true
+is_compiled_plain (GlobalGet x) = true
+is_compiled_plain (GlobalSet x) = true
+is_compiled_plain (Load op m) = true
+is_compiled_plain (Store op m) = true
+is_compiled_plain MemorySize = true
+is_compiled_plain MemoryGrow = true
 is_compiled_plain (Const t n) = true
 is_compiled_plain (Operate op) = true
 is_compiled_plain _ = false

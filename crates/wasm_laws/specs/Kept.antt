@@ -1,6 +1,6 @@
 -- Limits that types, locals, bodies, tables, memories and globals keep to, and functions that exports name (WebAssembly Core 1.0,
 -- 3.2.2, 3.4.10, 4.5.3 and 5.5.13).
-use Rattle.std.specs.Prelude.{◌≤◌, ◌<◌, ℕ, ℤ, List, [], ◌∷◌, length, FitsSigned, IsSome}
+use Rattle.std.specs.Prelude.{◌≡◌, ◌≤◌, ◌<◌, ℕ, ℤ, List, [], ◌∷◌, length, FitsSigned, IsSome}
 use Rattle.std.specs.Int.{w32, w64}
 use Rattle.wasm_defs.specs.declared.item.Item.{Item}
 use Rattle.wasm_defs.specs.declared.item.Item.TheVariants.{Global}
@@ -64,3 +64,8 @@ pub record IsThere (c : Context) (functions index : ℕ) : Type 0 where
 abbrev pub AreThere : Context → ℕ → List (List ℕ × ℕ) → Type 0
 AreThere c functions [] = Unit {0}
 AreThere c functions (e ∷ es) = IsThere c functions e.1 × AreThere c functions es
+
+-- a function without parameters and results
+pub record TakesNothing (f : FuncType) : Type 0 where
+  pub params : f.params ≡ []
+  pub results : f.results ≡ []

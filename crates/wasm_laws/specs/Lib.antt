@@ -10,3 +10,4 @@ pub mod Compiled
 pub mod Plain
 pub mod Kept
 pub mod Completing
+pub mod Held

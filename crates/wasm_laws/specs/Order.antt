@@ -1,7 +1,8 @@
 -- Where the parts of a module stand: one behind the other, before the fault that ends reading (WebAssembly Core 1.0, 5.5).
-use Rattle.std.specs.Prelude.{◌≡◌, ◌≤◌, ◌<◌, ℕ, suc, ◌+◌, List, [], ◌∷◌, length, take, drop}
+use Rattle.std.specs.Prelude.{◌≡◌, ◌≤◌, ◌<◌, ℕ, suc, ◌+◌, List, [], ◌∷◌, length, take, drop, Option, None, Some}
 use Rattle.wasm_defs.specs.Limits.{max_body}
 use Rattle.wasm_defs.specs.Outside.{Body, Part, Section, Listed, Coded}
+use Rattle.wasm_defs.specs.Faults.{started}
 
 -- the offset behind a body
 abbrev pub end_of : Body → ℕ
@@ -15,12 +16,22 @@ pub record BodyStands (low last : ℕ) (b : Body) : Type 0 where
   pub most : length b.bytes ≤ max_body
   pub before : end_of b ≤ last
 
+-- an item from low on, and no later than last: the start function's index before it, since that may be a fault
+abbrev pub StartStands : (low last : ℕ) → Option (ℕ × ℕ) → Type 0
+StartStands low last None = low ≤ last
+StartStands low last (Some index) = (low ≤ index.0) × (index.0 < last)
+
+-- the first offset at which another part may stand behind an item
+abbrev pub behind_start : ℕ → Option (ℕ × ℕ) → ℕ
+behind_start low None = low
+behind_start low (Some index) = suc index.0
+
 -- the parts stand from low on, each behind the one before: sections and items no later than last, and bodies before it. Items
 -- stand behind what was read before them
 abbrev pub AreOrdered : ℕ → ℕ → List Part → Type 0
 AreOrdered low last [] = Unit {0}
 AreOrdered low last (Section at id ∷ parts) = (low ≤ at) × (at ≤ last) × AreOrdered (suc at) last parts
-AreOrdered low last (Listed x ∷ parts) = (low ≤ last) × AreOrdered low last parts
+AreOrdered low last (Listed x ∷ parts) = StartStands low last (started x) × AreOrdered (behind_start low (started x)) last parts
 AreOrdered low last (Coded b ∷ parts) = BodyStands low last b × AreOrdered (end_of b) last parts
 
 -- the parts are cut from the module's bytes: a section's id is the byte at its offset, and a body's bytes are those from the

@@ -1,17 +1,19 @@
 //! The laws of how a module's bytes are read.
 
-ghost use Rattle.std.specs.Prelude.{◌≡◌, ◌≤◌, ◌<◌, ℕ, Bool, length, List, [], None, Some, suc, true, ◌∷◌, ◌++◌};
+ghost use Rattle.std.specs.Prelude.{◌≡◌, ◌≤◌, ◌<◌, ◌*◌, ℕ, Bool, length, List, [], None, Some, suc, true, ◌∷◌, ◌++◌};
 ghost use Rattle.wasm_defs.specs.Bodies.{body_read, instruction, last_of, local_groups};
 ghost use Rattle.wasm_defs.specs.Context.{context_of, declared_count, functions_of, types_of};
 ghost use Rattle.wasm_defs.specs.Entries.{Seen};
 ghost use Rattle.wasm_defs.specs.Faults.{bodies_of, ending_fault, first_outside, IsModule, items_of, Module, sections_of, tokens_of};
 ghost use Rattle.wasm_defs.specs.Fields.{Cursor, Wants, byte, fixed, name, number, room_of};
-ghost use Rattle.wasm_defs.specs.Instances.{exports_of, is_linkable, named};
+ghost use Rattle.wasm_defs.specs.Instances.{all_fit, exports_of, is_linkable, named, pages_of, data_of, start_of};
+ghost use Rattle.wasm_defs.specs.Memory.{page};
 ghost use Rattle.wasm_defs.specs.Outside.{Body, Coded, header, module_read, Part, preamble, row, Section, section_end, Whole};
 ghost use Rattle.wasm_defs.specs.Places.{greatest, places_of};
 ghost use Rattle.wasm_defs.specs.Supported.{is_compiled_opcode, is_compiled_section};
 ghost use Rattle.wasm_defs.specs.Trees.{Seq, Tree};
-ghost use Rattle.wasm_defs.specs.Typing.{Context};
+ghost use Rattle.wasm_defs.specs.Typing.{Context, function_type};
+ghost use Rattle.wasm_defs.specs.declared.types.FuncType.{FuncType};
 ghost use Rattle.wasm_defs.specs.declared.fault.Refusal.{Refusal};
 ghost use Rattle.wasm_defs.specs.declared.item.Item.{Item};
 ghost use Rattle.wasm_defs.specs.declared.token.Token.{Token};
@@ -19,7 +21,7 @@ ghost use Rattle.wasm_laws.specs.Behind.{AreValidIn, StandBehind};
 ghost use Rattle.wasm_laws.specs.BodyOrder.{IsSpelledIn};
 ghost use Rattle.wasm_laws.specs.Completing.{Completes, CompletesOrPasses};
 ghost use Rattle.wasm_laws.specs.Counts.{AreDeclared};
-ghost use Rattle.wasm_laws.specs.Kept.{AreThere, BodiesAreSmall, ConstantsFit, IsThere, LocalsAreFew, SpacesAreSmall, TypesAreSmall};
+ghost use Rattle.wasm_laws.specs.Kept.{AreThere, BodiesAreSmall, ConstantsFit, IsThere, LocalsAreFew, SpacesAreSmall, TakesNothing, TypesAreSmall};
 ghost use Rattle.wasm_laws.specs.Order.{AreCutFrom, AreOrdered, BodyStands, end_of, first_section};
 ghost use Rattle.wasm_laws.specs.Plain.{ArePlain, HasNoMore};
 ghost use Rattle.wasm_laws.specs.Runs.{deciding_length, GoesOn, IsRefused};
@@ -122,14 +124,15 @@ pub fn bodies_stand_behind_items()
     ensures valid { (bytes : List ℕ) (m : Module) → IsModule bytes m → AreValidIn m.items 0 m.bodies m.trees }
 {}
 
-/// A module of the sections that are compiled so far has no items but types, functions, tables, memories, globals, exports and
-/// the code section's count: it imports nothing, has no segments and no start function, and can be instantiated.
+/// A module of the sections that are compiled so far has no items but types, functions, tables, memories, globals, exports, the code
+/// section's count and data segments: it imports nothing, writes nothing into its table, has no start function, and can be
+/// instantiated exactly where its memory has room for the segments.
 pub fn compiled_items_are_few()
     ensures items { (bytes : List ℕ) →
         let run = module_read bytes in
         first_outside is_compiled_section (sections_of run.parts) ≡ None → ArePlain (items_of run.parts) }
     ensures rest { (items : List Item) → ArePlain items → HasNoMore items }
-    ensures linkable { (m : Module) → ArePlain m.items → is_linkable m ≡ true }
+    ensures linkable { (m : Module) → ArePlain m.items → is_linkable m ≡ all_fit (page * pages_of m.items) (data_of m.items) }
 {}
 
 /// The code of a body whose opcodes are compiled so far is of compiled tokens, and so is the tree that they spell.
@@ -175,4 +178,10 @@ pub fn exports_are_there()
         AreThere (context_of items) (length (functions_of items)) (exports_of items) }
     ensures named { (c : Context) (functions : ℕ) (name : List ℕ) (exports : List (List ℕ × ℕ)) (index : ℕ) →
         AreThere c functions exports → named name exports ≡ Some index → IsThere c functions index }
+{}
+
+/// The start function of a module is one of its functions, and has neither parameters nor results (Core 3.4.7).
+pub fn start_functions_take_nothing()
+    ensures { (bytes : List ℕ) (m : Module) (f : ℕ) → IsModule bytes m → start_of m.items ≡ Some f
+        → (t : FuncType) × (function_type (context_of m.items) f ≡ Some t) × TakesNothing t }
 {}

@@ -1,11 +1,7 @@
 -- The locals of a function that was called: its arguments, and zeros.
-use Rattle.std.proofs.Common.{◌≡◌, ℕ, zero, suc, ◌+◌, ◌<◌, ◌⊎◌, inl, inr, ⊎_elim, true, List, [], ◌∷◌, ◌++◌, length, map, reverse, Some, refl, sym, ap, ◌∙◌, subst, arith}
+use Rattle.std.proofs.Common.{◌≡◌, ℕ, zero, suc, ◌<◌, true, List, [], ◌∷◌, length, map, Some, refl, sym, ap, subst, arith}
 use Rattle.std.specs.Prelude.{slice_get}
 use Rattle.std.proofs.lemmas.Bool.{and_parts, ltb-true, false≢true}
-use Rattle.std.proofs.lemmas.List.{map-append, reverse-append, length-reverse, length-append}
-use Rattle.rv_isa.specs.Steps.{Bytes}
-use Rattle.frame_layout.specs.Laws.{slot_at}
-use Rattle.sim_frames.proofs.Values.{Holds, holds_as, Operands}
 use Rattle.wasm_defs.specs.declared.types.ValType.{ValType}
 use Rattle.wasm_defs.specs.declared.types.ValType.TheVariants.{I32, I64}
 use Rattle.wasm_defs.specs.Typing.{Types, same_type, same_types}

@@ -1,8 +1,7 @@
 -- A branch: values move down to the label's base, and a jump leads to the label's place. The induction is over the labels
 -- that are passed.
-use Rattle.std.proofs.Common.{◌≡◌, ℕ, zero, suc, ◌+◌, ◌-◌, ◌^◌, ◌≤◌, inl, inr, ⊎_elim, List, [], ◌∷◌, ◌++◌, length, map, take, reverse, Option, Some, refl, sym, ap, ◌∙◌, subst, append_assoc, arith, ◌*◌}
+use Rattle.std.proofs.Common.{◌≡◌, ℕ, zero, suc, ◌+◌, ◌^◌, ◌≤◌, inl, List, [], ◌∷◌, ◌++◌, length, map, take, reverse, Option, Some, refl, sym, ap, ◌∙◌, subst, append_assoc, arith, ◌*◌}
 use Rattle.std.specs.Prelude.{slice_get}
-use Rattle.std.proofs.lemmas.Bool.{cases_lt}
 use Rattle.std.proofs.lemmas.List.{length-append, append-nil, length-reverse}
 use Rattle.rv_isa.specs.declared.operations.Op.{Op}
 use Rattle.rv_isa.specs.Steps.{State}

@@ -5,7 +5,7 @@ use Rattle.rv_isa.specs.declared.operations.Op.{Op}
 use Rattle.rv_isa.specs.Steps.{State}
 use Rattle.rv_isa.specs.Runs.{HasAt}
 use Rattle.wasm_defs.specs.declared.token.Plain.{Plain}
-use Rattle.wasm_defs.specs.declared.token.Plain.TheVariants.{Nop, Discard, Select, LocalGet, LocalSet, LocalTee, Const, Operate}
+use Rattle.wasm_defs.specs.declared.token.Plain.TheVariants.{Nop, Discard, Select, LocalGet, LocalSet, LocalTee, GlobalGet, GlobalSet, Load, Store, MemorySize, MemoryGrow, Const, Operate}
 use Rattle.wasm_defs.specs.Trees.{Seq, Simple}
 use Rattle.wasm_defs.specs.Typing.{Types, Context, Moves, Typed, rule_of}
 use Rattle.wasm_defs.specs.Places.{Place, after_rule}
@@ -25,7 +25,9 @@ use Rattle.sim_frames.proofs.Values.{Matches}
 use Rattle.sim_frames.proofs.Sitting.{has_words, sits_rest}
 use Rattle.simulation.proofs.Straight.Effects.{above, enough, effect_above}
 use Rattle.simulation.proofs.Straight.Instructions as one
-use Rattle.simulation.proofs.Straight.Outcomes.{outcome}
+use Rattle.simulation.proofs.Straight.Outcomes.{KeepsStore, outcome}
+use Rattle.sim_memory.specs.StoreStands.{StoreStands}
+use Rattle.sim_frames.specs.Functions.{global_types}
 
 pub simple_applied : (inst : Instance) (c : Config) (p : Plain) (rest : Seq) → IsStraightStep p → simple inst c p rest ≡ applied c rest (effect c.store c.frame.locals inst.cap p c.frame.operands)
 simple_applied inst c Nop rest h = refl
@@ -34,6 +36,12 @@ simple_applied inst c Select rest h = refl
 simple_applied inst c (LocalGet x) rest h = refl
 simple_applied inst c (LocalSet x) rest h = refl
 simple_applied inst c (LocalTee x) rest h = refl
+simple_applied inst c (GlobalGet x) rest h = refl
+simple_applied inst c (GlobalSet x) rest h = refl
+simple_applied inst c (Load o a) rest h = refl
+simple_applied inst c (Store o a) rest h = refl
+simple_applied inst c MemorySize rest h = refl
+simple_applied inst c MemoryGrow rest h = refl
 simple_applied inst c (Const t n) rest h = refl
 simple_applied inst c (Operate op) rest h = refl
 simple_applied inst c p rest h = absurd h
@@ -58,85 +66,106 @@ module _ (text : List (Option Op)) (near : length text ≤ 2 ^ 26) (inst : Insta
   abbrev types : Types
   types = types_of_values c.frame.operands
 
-  abbrev Whole : Effect → Type 0
-  Whole e = effect c.store c.frame.locals inst.cap p (c.frame.operands ++ belows c.frame.labels) ≡ e
-
-  abbrev Goes : Types → Type 0
-  Goes mid = one.Follows text at labels k.around (used c.callers) m.address s.bytes c.store inst.cap c.frame.locals (c.frame.operands ++ belows c.frame.labels) p (mid ++ types_of_values (belows c.frame.labels)) m.here s
-
-  abbrev Stops : Type 0
-  Stops = one.Halts text c.store inst.cap c.frame.locals (c.frame.operands ++ belows c.frame.labels) p s
-
-  height : length types + n ≡ length (c.frame.operands ++ belows c.frame.labels)
+  pub height : length (types_of_values c.frame.operands) + length (belows c.frame.labels) ≡ length (c.frame.operands ++ belows c.frame.labels)
   height = omega (arith, types_length c.frame.operands, length-append c.frame.operands (belows c.frame.labels))
 
-  module _ (mid : Types) (moves : Moves (rule_of at p) types mid) where
+  module _ (mid : Types) (moves : Moves (rule_of (under m.running.compiled.context m.running.os) p) (types_of_values c.frame.operands) mid) where
     place_is : after_rule (rule_of at p) (Some (length types + n)) ≡ Some (length mid + n)
     place_is = height_after at p types mid n step moves
 
-    behind : Typed at rest mid m.running.to → SitsAt text inst places k m.running.os (Some (length mid + n)) mid (m.here + length (words k.around at labels (length types + n) m.here p)) rest m.running.to m.running.there
+    pub behind : Typed (under m.running.compiled.context m.running.os) rest mid m.running.to
+        → SitsAt text inst places m.running.compiled m.running.os (Some (length mid + length (belows c.frame.labels))) mid
+        (m.here + length (words m.running.compiled.around (under m.running.compiled.context m.running.os) (labels_of m.running.os) (length (types_of_values c.frame.operands) + length (belows c.frame.labels)) m.here p)) rest m.running.to m.running.there
     behind typed =
         subst (λ (q : Place). SitsAt text inst places k m.running.os q mid (m.here + length (words k.around at labels (length types + n) m.here p)) rest m.running.to m.running.there) place_is
         (sits_rest text inst places k m.running.os p rest (length types + n) m.here types m.running.to m.running.there m.running.sits mid typed)
 
-    comes : Typed at rest mid m.running.to → Goes mid ⊎ Stops
-    comes typed =
-        let low = m.running.sits.low in
+    -- what the words need where they begin
+    pub moves_all : Moves (rule_of (under m.running.compiled.context m.running.os) p) (types_of_values (c.frame.operands ++ belows c.frame.labels)) (mid ++ types_of_values (belows c.frame.labels))
+    moves_all =
+        subst (λ (ts : Types). Moves (rule_of at p) ts (mid ++ types_of_values (belows c.frame.labels))) (sym (types_append c.frame.operands (belows c.frame.labels)))
+        (moves_above (rule_of at p) types mid (types_of_values (belows c.frame.labels)) moves)
+
+    pub low_behind : Typed (under m.running.compiled.context m.running.os) rest mid m.running.to → length (mid ++ types_of_values (belows c.frame.labels)) ≤ m.running.compiled.around.layout.greatest
+    low_behind typed =
         let later = behind typed in
-        let first = peak_here at (Simple p rest) (length types + n) in
         let next = peak_here at rest (length mid + n) in
-        outcome text near at labels k.around (used c.callers) m.address s.bytes c.store inst.cap c.frame.locals m.running.are m.here s (k.begin + m.here) m.at p (c.frame.operands ++ belows c.frame.labels)
-        (mid ++ types_of_values (belows c.frame.labels)) step
-        (subst (λ (ts : Types). Moves (rule_of at p) ts (mid ++ types_of_values (belows c.frame.labels))) (sym (types_append c.frame.operands (belows c.frame.labels)))
-        (moves_above (rule_of at p) types mid (types_of_values (belows c.frame.labels)) moves))
-        (omega (arith, height)) (omega (arith, later.low, length-append mid (types_of_values (belows c.frame.labels)), types_length (belows c.frame.labels)))
-        (subst (λ (h : ℕ). HasAt text (k.begin + m.here) (words k.around at labels h m.here p)) height
-        (has_words text inst places k m.running.os p rest (length types + n) m.here types m.running.to m.running.there m.running.sits))
-        (matches_now text inst places outer (record c.frame { code = Simple p rest }) c.callers s m)
+        omega (arith, later.low, length-append mid (types_of_values (belows c.frame.labels)), types_length (belows c.frame.labels))
 
-    abbrev Goal : Effect → Type 0
-    Goal e = Follows text inst places outer c.store c.later 128 (ahead (Simple p rest) + labels_ahead c.frame.labels) s (applied c rest e)
+  pub low_now : length (c.frame.operands ++ belows c.frame.labels) ≤ m.running.compiled.around.layout.greatest
+  low_now =
+      let low = m.running.sits.low in
+      let first = peak_here at (Simple p rest) (length types + n) in
+      omega (arith, height)
 
-    by_effect : Typed at rest mid m.running.to → (e : Effect) → Whole (above (belows c.frame.labels) e) → Goes mid ⊎ Stops → Goal e
-    by_effect typed (Gives store locals operands) whole_is (inl x) =
-        let same : Gives store locals (operands ++ belows c.frame.labels) ≡ Gives c.store x.locals_after x.after = sym whole_is ∙ x.gives in
-        let store_is : store ≡ c.store = cc in
-        let locals_are : x.locals_after ≡ locals = cc in
-        let after_is : x.after ≡ operands ++ belows c.frame.labels = cc in
-        let all : types_of_values operands ++ types_of_values (belows c.frame.labels) ≡ mid ++ types_of_values (belows c.frame.labels) =
-        sym (types_append operands (belows c.frame.labels)) ∙ ap types_of_values (sym after_is) ∙ x.types_are in
-        let types_are : types_of_values operands ≡ mid = append_cancel_right (types_of_values operands) mid (types_of_values (belows c.frame.labels)) all in
-        let pc_is = x.pc_is in
-        let at_is = m.at in
-        let size : length (words k.around at labels (length (c.frame.operands ++ belows c.frame.labels)) m.here p) ≡ length (words k.around at labels (length types + n) m.here p) =
-        ap (λ (h : ℕ). length (words k.around at labels h m.here p)) (sym height) in
-        record {
-          same_store = store_is;
-          same_later = refl;
-          leads = leads_less text inst places outer (128 + 128 * 0) (omega arith)
-              (proceeds text inst places outer (record c.frame { code = Simple p rest }) c.callers s m 128 x.steps (m.here + length (words k.around at labels (length types + n) m.here p)) m.running.there x.end locals operands rest c.frame.labels m.running.os m.running.to
-              x.short x.reaches (omega arith)
-              (subst (λ (vs : List Value). Matches k.around.layout (used c.callers) m.address s.bytes vs (operands ++ belows c.frame.labels) x.end) locals_are
-              (subst (λ (vs : List Value). Matches k.around.layout (used c.callers) m.address s.bytes x.locals_after vs x.end) after_is x.matches))
-              (ap types_of_values (sym locals_are) ∙ x.locals_are)
-              (subst (λ (ts : Types). SitsAt text inst places k m.running.os (Some (length ts + n)) ts (m.here + length (words k.around at labels (length types + n) m.here p)) rest m.running.to m.running.there) (sym types_are) (behind typed))
-              m.running.fit (registers_of s x.end x.others));
-          moves = inr (omega arith);
-        }
-    by_effect typed (Gives store locals operands) whole_is (inr x) = let wrong = sym whole_is ∙ x.gives in absurd cc
-    by_effect typed (Traps kind) whole_is (inl x) = let wrong = sym whole_is ∙ x.gives in absurd cc
-    by_effect typed (Traps kind) whole_is (inr x) =
-        let same : Traps kind ≡ Traps x.kind = sym whole_is ∙ x.gives in
-        let kind_is : x.kind ≡ kind = cc in
-        (refl, halts_at text inst places outer c.store c.later 128 x.steps s kind x.short (subst (λ (t : TrapKind). TrapsAt text x.steps x.behind (trap_number t) s) kind_is x.traps))
-    by_effect typed Fails whole_is (inl x) = let wrong = sym whole_is ∙ x.gives in absurd cc
-    by_effect typed Fails whole_is (inr x) = let wrong = sym whole_is ∙ x.gives in absurd cc
+  pub has_now : HasAt text (m.running.compiled.begin + m.here) (words m.running.compiled.around (under m.running.compiled.context m.running.os) (labels_of m.running.os) (length (c.frame.operands ++ belows c.frame.labels)) m.here p)
+  has_now =
+      subst (λ (h : ℕ). HasAt text (k.begin + m.here) (words k.around at labels h m.here p)) height
+      (has_words text inst places k m.running.os p rest (length types + n) m.here types m.running.to m.running.there m.running.sits)
 
-  pub straight_follows : Follows text inst places outer c.store c.later 128 (ahead (Simple p rest) + labels_ahead c.frame.labels) s (simple inst c p rest)
-  straight_follows =
-      let typed = m.running.sits.typed in
-      let mid = typed.0 in
-      let moves = typed.1 in
-      subst (λ (x : Step). Follows text inst places outer c.store c.later 128 (ahead (Simple p rest) + labels_ahead c.frame.labels) s x) (sym (simple_applied inst c p rest step))
-      (by_effect mid moves typed.2 (effect c.store c.frame.locals inst.cap p c.frame.operands)
-      (effect_above c.store c.frame.locals (belows c.frame.labels) inst.cap p c.frame.operands step (enough at p c.frame.operands mid step moves)) (comes mid moves typed.2))
+  pub size_now : length (words m.running.compiled.around (under m.running.compiled.context m.running.os) (labels_of m.running.os) (length (c.frame.operands ++ belows c.frame.labels)) m.here p)
+      ≡ length (words m.running.compiled.around (under m.running.compiled.context m.running.os) (labels_of m.running.os) (length (types_of_values c.frame.operands) + length (belows c.frame.labels)) m.here p)
+  size_now = ap (λ (h : ℕ). length (words k.around at labels h m.here p)) (sym height)
+
+  module _ (pages : ℕ) (holds : StoreStands c.store pages inst.cap s) (globals_are : global_types inst.context.globals ≡ types_of_values c.store.globals) where
+    abbrev Whole : Effect → Type 0
+    Whole e = effect c.store c.frame.locals inst.cap p (c.frame.operands ++ belows c.frame.labels) ≡ e
+
+    abbrev Goes : Types → Type 0
+    Goes mid = one.Follows text at labels k.around (used c.callers) m.address s.bytes c.store inst.cap c.frame.locals (c.frame.operands ++ belows c.frame.labels) p (mid ++ types_of_values (belows c.frame.labels)) m.here s
+
+    abbrev Stops : Type 0
+    Stops = one.Halts text c.store inst.cap c.frame.locals (c.frame.operands ++ belows c.frame.labels) p s
+
+    module _ (mid : Types) (moves : Moves (rule_of at p) types mid) where
+      comes : KeepsStore p → Typed at rest mid m.running.to → Goes mid ⊎ Stops
+      comes keeps typed =
+          outcome text near at labels k.around (used c.callers) m.address s.bytes c.store inst.cap c.frame.locals m.running.are m.here s (k.begin + m.here) m.at pages holds (ap global_types k.globals_are ∙ globals_are) p (c.frame.operands ++ belows c.frame.labels)
+          (mid ++ types_of_values (belows c.frame.labels)) step keeps (moves_all mid moves) low_now (low_behind mid moves typed) has_now
+          (matches_now text inst places outer (record c.frame { code = Simple p rest }) c.callers s m)
+
+      abbrev Goal : Effect → Type 0
+      Goal e = Follows text inst places outer c.store c.later 128 (ahead (Simple p rest) + labels_ahead c.frame.labels) s (applied c rest e)
+
+      by_effect : Typed at rest mid m.running.to → (e : Effect) → Whole (above (belows c.frame.labels) e) → Goes mid ⊎ Stops → Goal e
+      by_effect typed (Gives store locals operands) whole_is (inl x) =
+          let same : Gives store locals (operands ++ belows c.frame.labels) ≡ Gives c.store x.locals_after x.after = sym whole_is ∙ x.gives in
+          let store_is : store ≡ c.store = cc in
+          let locals_are : x.locals_after ≡ locals = cc in
+          let after_is : x.after ≡ operands ++ belows c.frame.labels = cc in
+          let all : types_of_values operands ++ types_of_values (belows c.frame.labels) ≡ mid ++ types_of_values (belows c.frame.labels) =
+          sym (types_append operands (belows c.frame.labels)) ∙ ap types_of_values (sym after_is) ∙ x.types_are in
+          let types_are : types_of_values operands ≡ mid = append_cancel_right (types_of_values operands) mid (types_of_values (belows c.frame.labels)) all in
+          let pc_is = x.pc_is in
+          let at_is = m.at in
+          let size = size_now in
+          record {
+            same_store = store_is;
+            same_later = refl;
+            leads = leads_less text inst places outer (128 + 128 * 0) (omega arith)
+                (proceeds text inst places outer (record c.frame { code = Simple p rest }) c.callers s m 128 x.steps (m.here + length (words k.around at labels (length types + n) m.here p)) m.running.there x.end locals operands rest c.frame.labels m.running.os m.running.to
+                x.short x.reaches (omega arith)
+                (subst (λ (vs : List Value). Matches k.around.layout (used c.callers) m.address s.bytes vs (operands ++ belows c.frame.labels) x.end) locals_are
+                (subst (λ (vs : List Value). Matches k.around.layout (used c.callers) m.address s.bytes x.locals_after vs x.end) after_is x.matches))
+                (ap types_of_values (sym locals_are) ∙ x.locals_are)
+                (subst (λ (ts : Types). SitsAt text inst places k m.running.os (Some (length ts + n)) ts (m.here + length (words k.around at labels (length types + n) m.here p)) rest m.running.to m.running.there) (sym types_are) (behind mid moves typed))
+                m.running.fit (registers_of s x.end x.others));
+            moves = inr (omega arith);
+          }
+      by_effect typed (Gives store locals operands) whole_is (inr x) = let wrong = sym whole_is ∙ x.gives in absurd cc
+      by_effect typed (Traps kind) whole_is (inl x) = let wrong = sym whole_is ∙ x.gives in absurd cc
+      by_effect typed (Traps kind) whole_is (inr x) =
+          let same : Traps kind ≡ Traps x.kind = sym whole_is ∙ x.gives in
+          let kind_is : x.kind ≡ kind = cc in
+          (refl, halts_at text inst places outer c.store c.later 128 x.steps s kind x.short (subst (λ (t : TrapKind). TrapsAt text x.steps x.behind (trap_number t) s) kind_is x.traps))
+      by_effect typed Fails whole_is (inl x) = let wrong = sym whole_is ∙ x.gives in absurd cc
+      by_effect typed Fails whole_is (inr x) = let wrong = sym whole_is ∙ x.gives in absurd cc
+
+    pub straight_follows : KeepsStore p → Follows text inst places outer c.store c.later 128 (ahead (Simple p rest) + labels_ahead c.frame.labels) s (simple inst c p rest)
+    straight_follows keeps =
+        let typed = m.running.sits.typed in
+        let mid = typed.0 in
+        let moves = typed.1 in
+        subst (λ (x : Step). Follows text inst places outer c.store c.later 128 (ahead (Simple p rest) + labels_ahead c.frame.labels) s x) (sym (simple_applied inst c p rest step))
+        (by_effect mid moves typed.2 (effect c.store c.frame.locals inst.cap p c.frame.operands)
+        (effect_above c.store c.frame.locals (belows c.frame.labels) inst.cap p c.frame.operands step (enough at p c.frame.operands mid step moves)) (comes mid moves keeps typed.2))

@@ -38,6 +38,7 @@ use Rattle.sim_memory.proofs.Parts.{load_range}
 use Rattle.sim_memory.proofs.Standing.{global_inside, global_read, written_stands}
 use Rattle.sim_memory.proofs.Stores.{store_law_does}
 use Rattle.sim_memory.proofs.StoreStanding.{store_set, store_stored}
+use Rattle.sim_frames.proofs.Sets.{set_types}
 use Rattle.sim_frames.proofs.Values.{Agree, Locals, Operands, Matches, locals_kept, operands_kept}
 use Rattle.simulation.proofs.Straight.Instructions.{most_steps, Follows, Halts, Outcome, put_follows}
 use Rattle.simulation.proofs.Straight.Operations.{typed_word, typed_range}
@@ -130,6 +131,9 @@ pub record Changes (code : List (Option Op)) (c : Context) (labels : List Label)
   pub after : List Value
   pub gives : effect store locals cap p operands ≡ Gives store_after locals after
   pub types_are : types_of_values after ≡ mid
+  pub calls_stay : store_after.calls ≡ store.calls
+  pub replies_stay : store_after.replies ≡ store.replies
+  pub globals_stay : types_of_values store_after.globals ≡ types_of_values store.globals
   pub steps : ℕ
   pub short : steps ≤ most_steps
   pub end : State
@@ -142,9 +146,9 @@ pub record Changes (code : List (Option Op)) (c : Context) (labels : List Label)
 module _ (code : List (Option Op)) (c : Context) (labels : List Label) (w : Around) (base there : ℕ) (b : Bytes) (store : Store)
     (cap : ℕ) (locals : List Value) (here : ℕ) (s : State) (i : ℕ) (at : s.pc ≡ place i) (pages : ℕ) (holds : StoreStands store pages cap s) where
   -- a global of the value's type
-  pub global_set_changes : (v u : Value) (below : List Value) (mid : Types) (x : ℕ) → slice_get store.globals x ≡ Some u → types_of_values below ≡ mid → suc (length below) ≤ w.layout.greatest
+  pub global_set_changes : (v u : Value) (below : List Value) (mid : Types) (x : ℕ) → slice_get store.globals x ≡ Some u → v.ty ≡ u.ty → types_of_values below ≡ mid → suc (length below) ≤ w.layout.greatest
       → HasAt code i (global_set_words w (suc (length below)) x) → Matches w.layout base there b locals (v ∷ below) s → Changes code c labels w base there b store cap pages locals (v ∷ below) (GlobalSet x) mid here s
-  global_set_changes v u below mid x is types high has m =
+  global_set_changes v u below mid x is same types high has m =
       let room = m.room in
       let within = slice_get_within store.globals x u is in
       let inside = global_inside s.bytes store.globals x holds.globals within in
@@ -158,6 +162,9 @@ module _ (code : List (Option Op)) (c : Context) (labels : List Label) (w : Arou
         after = below;
         gives = rw (lt-ltb x (length store.globals) within) refl;
         types_are = types;
+        calls_stay = refl;
+        replies_stay = refl;
+        globals_stay = set_types store.globals x u v is same;
         steps = 6;
         short = omega arith;
         end = d.end;
@@ -194,6 +201,9 @@ module _ (code : List (Option Op)) (c : Context) (labels : List Label) (w : Arou
           after = below;
           gives = ap (stored store locals below) e;
           types_are = types;
+          calls_stay = refl;
+          replies_stay = refl;
+          globals_stay = refl;
           steps = 18;
           short = omega arith;
           end = d.end;

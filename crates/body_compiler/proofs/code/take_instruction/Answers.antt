@@ -5,9 +5,12 @@ use Rattle.body_compiler.proofs.Going.{instruction_shrinks, refused_token, fault
 use Rattle.body_validator.specs.Checking.{guarded}
 use Rattle.control_emit.specs.Emits.{draft}
 use Rattle.body_compiler.proofs.Spelled.{taken_token, bytes_later}
-use Rattle.body_compiler.proofs.Known.{takes_there}
+use Rattle.wasm_defs.specs.Typing.{Context}
+use Rattle.index_spaces.specs.Spaces.{context_in}
+use Rattle.body_compiler.specs.Going.{calling}
+use Rattle.body_compiler.proofs.Known.{takes_there, calls_there, same_functions}
 use Rattle.body_compiler.proofs.Tying.{names, tied-after, some-labels}
-use Rattle.body_compiler.proofs.Walking.{any, no_context, taken_is_compiled, held-after, compiles_behind, stops_behind}
+use Rattle.body_compiler.proofs.Walking.{any, taken_is_compiled, step-held, compiles_behind, stops_behind}
 use Rattle.body_compiler.proofs.code.take_instruction.Goals as goal
 
 compiled : (c : goal.After-token-in-Ok-after_token-1) → is_compiled_opcode c.args.opcode ≡ true
@@ -36,40 +39,55 @@ take_step-requires-clause-there c =
     let steps = c.in-Ok-token.ensures.steps in
     takes_there c.args.check.now c.token.new.self c.in-Ok.token c.in-Ok-token.step c.requires.tied.known steps.0 steps.3
 
+pub take_step-requires-clause-called : goal.take_step-requires-clause-called
+take_step-requires-clause-called c =
+    let steps = c.in-Ok-token.ensures.steps in
+    let same = same_functions c.args.check.now.context (context_in c.context.result.now) (c.context.ensures.types ∙ ap (λ (x : Context). x.types) steps.1) (c.context.ensures.functions ∙ ap (λ (x : Context). x.functions) steps.1) in
+    calls_there c.args.check.now c.token.new.self (context_in c.context.result.now) c.in-Ok.token c.in-Ok-token.step same c.requires.tied.known steps.0 steps.3
+
 pub returns-in-Ok-take_step-clause-tied : goal.returns-in-Ok-take_step-clause-tied
 returns-in-Ok-take_step-clause-tied c =
     let yes = sym c.is_compiled_opcode-compiled.ensures ∙ taken_is_compiled c.is_compiled_opcode-compiled.result c.args.at c.args.last c.token.new.self c.in-Ok-after_token.ensures in
     let w = any c.args.draft.now.layout in
     let s = c.in-Ok-token.step in
     let steps = c.in-Ok-token.ensures.steps in
+    let own = c.args.check.now.context in
+    let same = same_functions own (context_in c.context.result.now) (c.context.ensures.types ∙ ap (λ (x : Context). x.types) steps.1) (c.context.ensures.functions ∙ ap (λ (x : Context). x.functions) steps.1) in
     let shrinks = instruction_shrinks c.args.at c.args.opcode c.args.fields.now c.instruction.new.fields c.in-Ok.token c.in-Ok.ensures in
-    tied-after w no_context c.in-Ok.token (guarded s.live s.height_before) (draft c.args.draft.now.labels c.args.draft.now.words) (draft c.take_step.new.draft.labels c.take_step.new.draft.words) c.args.check.now c.token.new.self
+    tied-after w own c.in-Ok.token (guarded s.live s.height_before) (draft c.args.draft.now.labels c.args.draft.now.words) (draft c.take_step.new.draft.labels c.take_step.new.draft.words) c.args.check.now c.token.new.self
     (length c.args.fields.now.rest + 1) (length c.instruction.new.fields.rest) (omega arith)
     (taken_token c.args.at c.args.opcode c.args.fields.now c.instruction.new.fields c.in-Ok.token c.requires.bytes yes c.in-Ok.ensures) c.requires.tied
-    (c.in-Ok-take_step.ensures.words w no_context refl) steps.0 steps.1
+    (c.in-Ok-take_step.ensures.words w own refl refl same) steps.0 steps.1
 
 pub returns-in-Ok-take_step-clause-shrinks : goal.returns-in-Ok-take_step-clause-shrinks
 returns-in-Ok-take_step-clause-shrinks c = instruction_shrinks c.args.at c.args.opcode c.args.fields.now c.instruction.new.fields c.in-Ok.token c.in-Ok.ensures
 
 pub returns-in-Ok-take_step-clause-held : goal.returns-in-Ok-take_step-clause-held
 returns-in-Ok-take_step-clause-held c =
-    held-after c.args.draft.now.layout c.in-Ok.token (guarded c.in-Ok-token.step.live c.in-Ok-token.step.height_before) (draft c.args.draft.now.labels c.args.draft.now.words) (draft c.take_step.new.draft.labels c.take_step.new.draft.words) c.requires.held
-    c.in-Ok-take_step.ensures.words
+    let w = any c.args.draft.now.layout in
+    let s = c.in-Ok-token.step in
+    let steps = c.in-Ok-token.ensures.steps in
+    let own = c.args.check.now.context in
+    let same = same_functions own (context_in c.context.result.now) (c.context.ensures.types ∙ ap (λ (x : Context). x.types) steps.1) (c.context.ensures.functions ∙ ap (λ (x : Context). x.functions) steps.1) in
+    step-held w own c.in-Ok.token (guarded s.live s.height_before) (draft c.args.draft.now.labels c.args.draft.now.words) (draft c.take_step.new.draft.labels c.take_step.new.draft.words) c.requires.held
+    (c.in-Ok-take_step.ensures.words w own refl refl same)
 
 pub returns-in-Ok-take_step-clause-goes : goal.returns-in-Ok-take_step-clause-goes
 returns-in-Ok-take_step-clause-goes c = λ c' code before front k h more.
     let steps = c.in-Ok-token.ensures.steps in
     let exact = c.in-Ok-token.ensures.exact (tokens_of k.going.tokens) k.going.reached in
     let yes = sym c.is_compiled_opcode-compiled.ensures ∙ taken_is_compiled c.is_compiled_opcode-compiled.result c.args.at c.args.last c.token.new.self c.in-Ok-after_token.ensures in
-    compiles_behind c' c.args.last c.args.at c.args.opcode before c.args.fields.now c.instruction.new.fields c.in-Ok.token c.in-Ok-token.step c.args.check.now c.token.new.self code c.args.draft.now.layout front
-    (draft c.args.draft.now.labels c.args.draft.now.words) (draft c.take_step.new.draft.labels c.take_step.new.draft.words) k h more
-    yes c.in-Ok.ensures steps.0 steps.1 exact.0 exact.1 (c.in-Ok-token.ensures.places (tokens_of k.going.tokens) k.going.reached) c.in-Ok-take_step.ensures.words
+    let d = context_in c.context.result.now in
+    let same = same_functions c.args.check.now.context d (c.context.ensures.types ∙ ap (λ (x : Context). x.types) steps.1) (c.context.ensures.functions ∙ ap (λ (x : Context). x.functions) steps.1) in
+    compiles_behind c' d c.args.last c.args.at c.args.opcode before c.args.fields.now c.instruction.new.fields c.in-Ok.token c.in-Ok-token.step c.args.check.now c.token.new.self code c.args.draft.now.layout front
+    (calling c.args.draft.now.labels c.args.draft.now.words c.args.draft.now.calls.items) (calling c.take_step.new.draft.labels c.take_step.new.draft.words c.take_step.new.draft.calls.items) k h more
+    yes c.in-Ok.ensures steps.0 steps.1 exact.0 exact.1 (c.in-Ok-token.ensures.places (tokens_of k.going.tokens) k.going.reached) same c.in-Ok-take_step.ensures.words c.in-Ok-take_step.ensures.calls
 
 pub returns-in-Ok-token-clause-goes : goal.returns-in-Ok-token-clause-goes
 returns-in-Ok-token-clause-goes c = λ c' code before front k h more.
     let g = k.going in
     let exact = c.in-Ok-token.ensures.exact (tokens_of g.tokens) g.reached in
-    stops_behind c' c.args.last c.args.at c.args.opcode before c.args.fields.now c.instruction.new.fields c.in-Ok.token c.args.check.now c.token.new.self code c.args.draft.now.layout front (draft c.args.draft.now.labels c.args.draft.now.words) c.in-Err.stop c.is_compiled_opcode-compiled.result g h more
+    stops_behind c' c.args.last c.args.at c.args.opcode before c.args.fields.now c.instruction.new.fields c.in-Ok.token c.args.check.now c.token.new.self code c.args.draft.now.layout front (calling c.args.draft.now.labels c.args.draft.now.words c.args.draft.now.calls.items) c.in-Err.stop c.is_compiled_opcode-compiled.result g h more
     (sym c.is_compiled_opcode-compiled.ensures) c.in-Ok.ensures c.in-Ok-token.ensures.steps.0 exact.1 c.in-Err.ensures
 
 pub returns-in-Err-Refused-token-clause-goes : goal.returns-in-Err-Refused-token-clause-goes

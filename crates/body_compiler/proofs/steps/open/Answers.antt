@@ -20,7 +20,7 @@ pub returns-in-Block : goal.returns-in-Block
 returns-in-Block c = λ w c' l.
     let a = draft c.args.labels.now c.args.buffer.now in
     let b = draft c.begin.new.self c.begin.new.buffer in
-    let begins = subst (λ (t : Token). OnOk c.begin.result (Begins w t c.args.live c.args.height c.args.height c.results_of-results.result a b)) c.in-Block.is (c.begin.ensures w l) in
+    let begins = subst (λ (t : Token). OnOk c.begin.result (Begins w t c.args.live c.args.height c.args.height c.results_of-results.result a b)) c.in-Block.is (c.begin.ensures.ok w l) in
     subst (λ (t : Token). OnOk c.begin.result (Step w c' t (guarded c.args.live c.args.height) a b)) (sym c.in-Block.is)
     (on_ok c.begin.result (opens_block w c' c.in-Block.ty c.args.live c.args.height c.results_of-results.result a b c.results_of-results.ensures.results) begins)
 
@@ -28,7 +28,7 @@ pub returns-in-Loop : goal.returns-in-Loop
 returns-in-Loop c = λ w c' l.
     let a = draft c.args.labels.now c.args.buffer.now in
     let b = draft c.begin-in-Loop.new.self c.begin-in-Loop.new.buffer in
-    let begins = subst (λ (t : Token). OnOk c.begin-in-Loop.result (Begins w t c.args.live c.args.height c.args.height 0 a b)) c.in-Loop.is (c.begin-in-Loop.ensures w l) in
+    let begins = subst (λ (t : Token). OnOk c.begin-in-Loop.result (Begins w t c.args.live c.args.height c.args.height 0 a b)) c.in-Loop.is (c.begin-in-Loop.ensures.ok w l) in
     subst (λ (t : Token). OnOk c.begin-in-Loop.result (Step w c' t (guarded c.args.live c.args.height) a b)) (sym c.in-Loop.is)
     (on_ok c.begin-in-Loop.result (opens_loop w c' c.in-Loop.field-0 c.args.live c.args.height a b (subst IsTaken c.in-Loop.is c.requires.taken)) begins)
 
@@ -38,6 +38,6 @@ returns-in-If c = λ w c' l.
     let b = draft c.begin-in-If.new.self c.begin-in-If.new.buffer in
     let base = c.saturating_sub-base.result in
     let n = c.results_of-results-in-If.result in
-    let begins = subst (λ (t : Token). OnOk c.begin-in-If.result (Begins w t c.args.live c.args.height base n a b)) c.in-If.is (c.begin-in-If.ensures w l) in
+    let begins = subst (λ (t : Token). OnOk c.begin-in-If.result (Begins w t c.args.live c.args.height base n a b)) c.in-If.is (c.begin-in-If.ensures.ok w l) in
     subst (λ (t : Token). OnOk c.begin-in-If.result (Step w c' t (guarded c.args.live c.args.height) a b)) (sym c.in-If.is)
     (on_ok c.begin-in-If.result (opens_if w c' c.in-If.ty c.args.live c.args.height base n a b c.saturating_sub-base.ensures c.results_of-results-in-If.ensures.results) begins)

@@ -1,15 +1,16 @@
-use Rattle.std.proofs.Common.{◌++◌, ap, ◌∙◌, sym, ℕ, List, append_assoc, take, arith}
-use Rattle.image_linker.specs.Linking.{words_of, front_words}
-use Rattle.image_linker.proofs.Loops.{words_taken}
+use Rattle.std.proofs.Common.{◌≡◌, length, length-append, ◌++◌, ap, ◌∙◌, sym, ℕ, List, arith}
+use Rattle.image_linker.proofs.Leading.{text_led, text_more}
 use Rattle.image_linker.proofs.linking.text_of.Goals as goal
 
 pub loop-code-preserved : goal.loop-code-preserved
 loop-code-preserved c =
-    let codes = c.args.codes.now in
-    let i = c.loop-code.code-index in
-    let next = words_taken codes i c.code-item.result (omega (arith, c.loop-code-test.true)) c.code-item.is in
-    c.in_ok-extend_from_slice.ensures.items
-    ∙ ap (λ (l : List ℕ). c.loop-code.text.items ++ l) c.as_slice.ensures
-    ∙ ap (λ (l : List ℕ). l ++ c.code-item.result.words) c.loop-code.invariant
-    ∙ append_assoc front_words (words_of (take i codes)) c.code-item.result.words
-    ∙ ap (λ (l : List ℕ). front_words ++ l) (sym next)
+    let code = c.code-item.result in
+    let old = c.loop-code.text.items in
+    let own = c.as_slice.result.now in
+    let all = c.extend_from_slice.new.self in
+    let more = c.in_ok-extend_from_slice.ensures in
+    let given : length c.deref_mut.result.now ≡ length (old ++ own) = ap (λ (l : List ℕ). length l) (c.deref_mut.ensures.value ∙ more.items) in
+    let here : c.len-here.result ≡ length old = omega (arith, c.len-here.ensures, c.deref_mut.ensures.len, more.len, given, length-append old own) in
+    text_more c.args.starts.now c.args.codes.now c.loop-code.code-index code old _ (omega (arith, c.loop-code-test.true)) c.code-item.is c.loop-code.invariant
+    (text_led c.args.starts.now code.relocations c.as_slice-in-loop-code.result.now old code.words c.deref_mut.result.now all.items c.lead_from.new.text c.len-here.result all.len
+    (more.items ∙ ap (λ (l : List ℕ). old ++ l) c.as_slice.ensures) c.deref_mut.ensures.value here c.as_slice-in-loop-code.ensures c.lead_from.ensures all.ok.0)

@@ -1,14 +1,13 @@
-use Rattle.std.proofs.Common.{◌≡◌, ℕ, ◌-◌, ◌*◌, List, [], ◌++◌, length, map, replicate, ap, ◌∙◌, arith}
-use Rattle.std.proofs.lemmas.List.{length-map}
+use Rattle.std.proofs.Common.{◌*◌, List, [], ap, ◌∙◌, refl, arith}
 use Rattle.wasm_defs.specs.Memory.{page}
 use Rattle.wasm_defs.specs.Instances.{all_over}
-use Rattle.wasm_defs.specs.Values.{value_of, words_of}
 use Rattle.image_format.specs.declared.image.Row.{Row}
 use Rattle.image_format.specs.declared.image.Segment.{Segment}
 use Rattle.image_format.specs.Environment.{row_words, word_bytes, segments_of}
 use Rattle.image_format.proofs.Placed.{segments_fit, pages_are_few}
+use Rattle.image_run.specs.States.{zeros}
 use Rattle.image_run.proofs.MemoryLaws.{all_fit_in_more}
-use Rattle.image_run.proofs.RegionLaws.{first_bytes_are, globals_short, table_short, stack_whole}
+use Rattle.image_run.proofs.RegionLaws.{loaded_is, globals_short, table_short}
 use Rattle.image_run.proofs.regions.regions_of.Goals as goal
 
 pub memory_of-requires-clause-size : goal.memory_of-requires-clause-size
@@ -20,20 +19,13 @@ memory_of-requires-clause-fit c =
     let there = segments_fit i.pages [] i.segments c.image.invariant.segments.1 in
     rw c.as_slice-3.ensures (all_fit_in_more (page * i.pages) (page * i.cap) i.segments (omega (arith, c.image.invariant.pages)) there)
 
-pub returns-clause-bytes : goal.returns-clause-bytes
-returns-clause-bytes c =
+pub returns-clause-loaded : goal.returns-clause-loaded
+returns-clause-loaded c =
     let i = c.image.inside in
-    let arguments = c.args.arguments.now in
-    let stack_words = word_bytes (words_of (map value_of arguments)) in
-    let count : 1048576 - 8 * length arguments ≡ 1048576 - 8 * length (map value_of arguments) = omega (arith, length-map arguments value_of) in
-    let stack = c.in_ok-stack.ensures ∙ ap (λ (n : ℕ). stack_words ++ replicate n 0) count in
-    let memory = c.in_ok-memory.ensures.items ∙ ap (λ (segments : List Segment). all_over (replicate (page * i.cap) 0) (segments_of segments)) c.as_slice-3.ensures in
+    let memory = c.in_ok-memory.ensures.items ∙ ap (λ (segments : List Segment). all_over (zeros (page * i.cap)) (segments_of segments)) c.as_slice-3.ensures in
     rw (← c.image.view_is)
-    (first_bytes_are _ (map value_of arguments) _ stack (c.in_ok-globals.ensures ∙ ap word_bytes c.as_slice.ensures)
+    (loaded_is _ _ _ refl c.in_ok-stack.ensures.items (c.in_ok-globals.ensures ∙ ap word_bytes c.as_slice.ensures)
     (c.in_ok-table.ensures ∙ ap (λ (rows : List Row). word_bytes (row_words rows)) c.as_slice-2.ensures) memory)
-
-pub returns-clause-stack : goal.returns-clause-stack
-returns-clause-stack c = stack_whole c.args.arguments.now c.in_ok-stack.stack.items c.in_ok-stack.ensures c.requires
 
 pub returns-clause-globals : goal.returns-clause-globals
 returns-clause-globals c = globals_short c.image.inside.globals _ (c.in_ok-globals.ensures ∙ ap word_bytes c.as_slice.ensures) c.image.invariant.globals.0

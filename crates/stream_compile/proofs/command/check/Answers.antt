@@ -1,5 +1,5 @@
 use Rattle.std.specs.Prelude.{nat_lt}
-use Rattle.command_words.specs.declared.command.Command.TheVariants.{Check}
+use Rattle.stream_compile.specs.Texts.{TellsCheck}
 use Rattle.stream_compile.proofs.Answering.{valid_comes, rejected_comes, read_fault_comes}
 use Rattle.stream_compile.proofs.command.check.Goals as goal
 
@@ -10,10 +10,10 @@ returns-in-Valid g c =
 
 pub returns-in-Refused : goal.returns-in-Refused
 returns-in-Refused g c =
-    rejected_comes c.rejected.result (Check c.args.options.now) (nat_lt (g.S.Source.faults c.args.source.now) (g.S.Source.faults c.stream_check.new.source)) (g.S.Source.left c.args.source.now) (g.S.Source.left c.stream_check.new.source) c.in-Refused.refusal
+    rejected_comes (TellsCheck) c.rejected.result (nat_lt (g.S.Source.faults c.args.source.now) (g.S.Source.faults c.stream_check.new.source)) (g.S.Source.left c.args.source.now) (g.S.Source.left c.stream_check.new.source) c.in-Refused.refusal
     c.in-Refused.ensures c.rejected.ensures
 
 pub returns-in-ReadFault : goal.returns-in-ReadFault
 returns-in-ReadFault g c =
-    read_fault_comes c.read_fault.result (Check c.args.options.now) (nat_lt (g.S.Source.faults c.args.source.now) (g.S.Source.faults c.stream_check.new.source)) (g.S.Source.left c.args.source.now) (g.S.Source.left c.stream_check.new.source)
+    read_fault_comes (TellsCheck) c.read_fault.result (nat_lt (g.S.Source.faults c.args.source.now) (g.S.Source.faults c.stream_check.new.source)) (g.S.Source.left c.args.source.now) (g.S.Source.left c.stream_check.new.source)
     c.in-ReadFault.ensures c.read_fault.ensures

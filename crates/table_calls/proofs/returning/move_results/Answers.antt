@@ -1,4 +1,4 @@
-use Rattle.std.proofs.Common.{◌≡◌, ◌++◌, map, List, ℕ, ap, ◌∙◌}
+use Rattle.std.proofs.Common.{◌++◌, map, List, ℕ, ap, ◌∙◌}
 use Rattle.rv_isa.specs.Words.{word_of}
 use Rattle.table_calls.proofs.Results.{one_more, moved_words}
 use Rattle.table_calls.proofs.returning.move_results.Goals as goal

@@ -5,12 +5,12 @@ use Rattle.body_cutter.specs.Queues.{Queue, with_bodies, all_closed}
 use Rattle.body_cutter.specs.Cuttings.{Cutting, left, handed, finished, IsPrompt}
 use Rattle.body_cutter.specs.Held.{end_by}
 use Rattle.body_cutter.specs.Places.{still}
-use Rattle.body_cutter.specs.Walks.{given, place_of, is_over, IsSound}
+use Rattle.body_cutter.specs.Walks.{given, position_of, is_over, IsSound}
 use Rattle.body_cutter.proofs.Cuts.{moved, closing, idle, goes, closes, closed_twice, tells_fault, length_with, number_with}
 use Rattle.body_cutter.proofs.cutter.Cutter.take_in.Goals as goal
 
 -- what is there is all that the bytes decide
-prompt_at : (w : Walk) (q : Queue) → IsSound w → finished (end_by w) q ≡ q → IsPrompt (record { place = place_of w; queue = q })
+prompt_at : (w : Walk) (q : Queue) → IsSound w → finished (end_by w) q ≡ q → IsPrompt (record { place = position_of w; queue = q })
 unfolding left
 prompt_at w q sound closed = record {
   queue = ap (λ (g : Given). (handed q g).queue) (idle w sound) ∙ closed;
@@ -43,7 +43,7 @@ returns-then-is_over-clause-same c =
     ap (λ (k : Cutting). left k (c.args.piece.now ++ more)) (sym c.self.view_is)
     ∙ moved c.self.inside.walk c.run.new.self c.self.inside.queue c.append.new.self (c.args.piece.now ++ more) more c.self.invariant.given (same more) q
     ∙ closing c.run.new.self c.append.new.self more sound over
-    ∙ ap (λ (p : Queue). handed p (still (place_of c.run.new.self) more)) (sym c.close.ensures)
+    ∙ ap (λ (p : Queue). handed p (still (position_of c.run.new.self) more)) (sym c.close.ensures)
 
 pub returns-else-is_over-clause-prompt : goal.returns-else-is_over-clause-prompt
 returns-else-is_over-clause-prompt c =

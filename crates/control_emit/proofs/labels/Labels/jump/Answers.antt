@@ -1,52 +1,12 @@
-use Rattle.std.proofs.Common.{◌≡◌, ◌-◌, ◌++◌, ℕ, Option, List, map, length, refl, ap, ◌∙◌, sym, subst}
-use Rattle.rv_isa.specs.Words.{word_of}
-use Rattle.frame_layout.specs.Macros.{distance, far}
-use Rattle.frame_layout.specs.Templates.{Around, move_words}
-use Rattle.control_emit.specs.Pending.{Pending, Shape, Within, place_or, end_at}
+use Rattle.std.proofs.Common.{ℕ, List, length}
+use Rattle.frame_layout.specs.Templates.{label_at, jump_words}
+use Rattle.control_emit.specs.Pending.{shapes, named}
 use Rattle.control_emit.specs.Emits.{draft, Emits}
-use Rattle.control_emit.specs.Walks.{end_shape}
-use Rattle.control_emit.proofs.Calls.{on_ok, framed, emits-plain, emits-lead}
+use Rattle.control_emit.proofs.Fronts.{settles}
 use Rattle.control_emit.proofs.labels.Labels.jump.Goals as goal
 
--- the values are moved
-moves : (w : Around) (labels : List Pending) (old new : List ℕ) (h from takes base : ℕ) → Within (length old) labels → from ≡ h - takes → new ≡ old ++ map word_of (move_words w takes from base)
-    → Emits (draft labels old) (draft labels new) (λ es. move_words w takes (h - takes) base)
-moves w labels old new h from takes base held e is =
-    emits-plain labels old new (move_words w takes (h - takes) base) held (is ∙ ap (λ (j : ℕ). old ++ map word_of (move_words w takes j base)) e)
-
-pub lead_behind-requires-clause-held : goal.lead_behind-requires-clause-held
-lead_behind-requires-clause-held c =
-    let w = framed c.args.layout.now in
-    let g = c.goal-goal.result in
-    (moves w c.args.self.now c.args.buffer.now c.append_moves.new.buffer c.args.height c.saturating_sub-from.result g.takes g.base c.requires.held c.saturating_sub-from.ensures (c.in_ok-append_moves.ensures w refl)).held
-
-pub returns-in-Some : goal.returns-in-Some
-returns-in-Some c = λ w l.
-    let g = c.goal-goal.result in
-    let s : Shape = record { base = g.base; takes = g.takes; start = g.start } in
-    let a = draft c.args.self.now c.args.buffer.now in
-    let b = draft c.args.self.now c.append_moves.new.buffer in
-    let z = draft c.args.self.now c.lead_back.new.buffer in
-    let k = c.args.label in
-    let moved = moves w c.args.self.now c.args.buffer.now c.append_moves.new.buffer c.args.height c.saturating_sub-from.result g.takes g.base c.requires.held c.saturating_sub-from.ensures (c.in_ok-append_moves.ensures w l) in
-    on_ok c.lead_back.result
-    (λ x.
-    let jump = emits-plain c.args.self.now c.append_moves.new.buffer c.lead_back.new.buffer (far (distance (length b.words) c.in-Some.place)) moved.held x in
-    let to = subst (λ (o : Option ℕ). Emits b z (λ es. far (distance (length b.words) (place_or o (end_at k es))))) (sym c.in-Some.is) jump in
-    emits-lead w a b z c.args.height k s (end_shape 0 0) moved to c.goal-goal.ensures.is c.requires.label)
-    c.lead_back.ensures
-
-pub returns-in-None : goal.returns-in-None
-returns-in-None c = λ w l.
-    let g = c.goal-goal.result in
-    let s : Shape = record { base = g.base; takes = g.takes; start = g.start } in
-    let a = draft c.args.self.now c.args.buffer.now in
-    let b = draft c.args.self.now c.append_moves.new.buffer in
-    let z = draft c.lead_behind.new.self c.lead_behind.new.buffer in
-    let k = c.args.label in
-    let moved = moves w c.args.self.now c.args.buffer.now c.append_moves.new.buffer c.args.height c.saturating_sub-from.result g.takes g.base c.requires.held c.saturating_sub-from.ensures (c.in_ok-append_moves.ensures w l) in
-    on_ok c.lead_behind.result
-    (λ x.
-    let to = subst (λ (o : Option ℕ). Emits b z (λ es. far (distance (length b.words) (place_or o (end_at k es))))) (sym c.in-None.is) x in
-    emits-lead w a b z c.args.height k s (end_shape 0 0) moved to c.goal-goal.ensures.is c.requires.label)
-    c.lead_behind.ensures
+pub returns-clause-ok : goal.returns-clause-ok
+returns-clause-ok c = λ w l.
+    settles
+    (λ (new : List ℕ). Emits (draft c.args.self.now c.args.buffer.now) (draft c.append_jump-outcome.new.self new) (λ ends. jump_words w c.args.height (length c.args.buffer.now) (label_at w (named (shapes c.args.self.now) ends) c.args.label)))
+    c.append_jump-outcome.result c.settled.result c.append_jump-outcome.new.buffer c.settled.new.buffer c.settled.ensures.is c.settled.ensures.ok (c.append_jump-outcome.ensures.ok w l)

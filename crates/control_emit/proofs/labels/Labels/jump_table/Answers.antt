@@ -1,38 +1,12 @@
-use Rattle.std.proofs.Common.{ℕ, length, refl, subst, arith}
-use Rattle.frame_layout.specs.Templates.{label_at, jump_words, jumps, table_front}
-use Rattle.control_emit.specs.Pending.{Shape, shapes, named}
+use Rattle.std.proofs.Common.{ℕ, List, map, length}
+use Rattle.frame_layout.specs.Templates.{label_at, jump_table_words}
+use Rattle.control_emit.specs.Pending.{shapes, named}
 use Rattle.control_emit.specs.Emits.{draft, Emits}
-use Rattle.control_emit.specs.Walks.{end_shape}
-use Rattle.control_emit.proofs.Composing.{count-shapes}
-use Rattle.control_emit.proofs.Calls.{on_ok, framed, named_all, emits-plain, emits-table}
+use Rattle.control_emit.proofs.Fronts.{settles}
 use Rattle.control_emit.proofs.labels.Labels.jump_table.Goals as goal
 
-pub jump_all-requires-clause-held : goal.jump_all-requires-clause-held
-jump_all-requires-clause-held c =
-    let w = framed c.args.layout.now in
-    (emits-plain c.args.self.now c.args.buffer.now c.append_front.new.buffer (table_front w c.args.height (length c.args.labels.now) c.goal-takes.result.takes) c.requires.held (c.in_ok-append_front.ensures w refl)).held
-
-pub jump-requires-clause-held : goal.jump-requires-clause-held
-jump-requires-clause-held c = (c.in_ok-jump_all.ensures (framed c.args.layout.now) refl).held
-
-pub jump-requires-clause-label : goal.jump-requires-clause-label
-jump-requires-clause-label c =
-    let count = count-shapes c.jump_all.new.self c.args.self.now (c.in_ok-jump_all.ensures (framed c.args.layout.now) refl).shapes_are in
-    omega (arith, c.requires.last)
-
-pub returns : goal.returns
-returns c = λ w l.
-    let g = c.goal-takes.result in
-    let s : Shape = record { base = g.base; takes = g.takes; start = g.start } in
-    let is = c.args.labels.now in
-    let a = draft c.args.self.now c.args.buffer.now in
-    let b = draft c.args.self.now c.append_front.new.buffer in
-    let m = draft c.jump_all.new.self c.jump_all.new.buffer in
-    let z = draft c.jump.new.self c.jump.new.buffer in
-    let first = emits-plain c.args.self.now c.args.buffer.now c.append_front.new.buffer (table_front w c.args.height (length is) g.takes) c.requires.held (c.in_ok-append_front.ensures w l) in
-    let all = subst (λ (j : ℕ). Emits b m (λ ends. jumps w j (length b.words) (named_all w b is ends))) c.saturating_sub-below.ensures (c.in_ok-jump_all.ensures w l) in
-    on_ok c.jump.result
-    (λ x.
-    let last = subst (λ (j : ℕ). Emits m z (λ ends. jump_words w j (length m.words) (label_at w (named (shapes m.labels) ends) c.args.last))) c.saturating_sub-below.ensures x in
-    emits-table w a b m z c.args.height c.args.last is s (end_shape 0 0) first all last c.goal-takes.ensures.is c.requires.last)
-    (c.jump.ensures w l)
+pub returns-clause-ok : goal.returns-clause-ok
+returns-clause-ok c = λ w l.
+    settles
+    (λ (new : List ℕ). Emits (draft c.args.self.now c.args.buffer.now) (draft c.append_jump_table-outcome.new.self new) (λ ends. jump_table_words w c.args.height (length c.args.buffer.now) (map (label_at w (named (shapes c.args.self.now) ends)) c.args.labels.now) (label_at w (named (shapes c.args.self.now) ends) c.args.last)))
+    c.append_jump_table-outcome.result c.settled.result c.append_jump_table-outcome.new.buffer c.settled.new.buffer c.settled.ensures.is c.settled.ensures.ok (c.append_jump_table-outcome.ensures.ok w l)

@@ -1,0 +1,23 @@
+-- How many bytes an image has.
+use Rattle.std.specs.Prelude.{ℕ, ◌+◌, ◌*◌, length, sum_by}
+use Rattle.wasm_defs.specs.declared.types.FuncType.{FuncType}
+use Rattle.image_format.specs.declared.image.Segment.{Segment}
+use Rattle.image_format.specs.declared.image.Import.{Import}
+use Rattle.image_format.specs.declared.image.Export.{Export}
+use Rattle.image_format.specs.Contents.{Image}
+
+abbrev pub signature_size : FuncType → ℕ
+signature_size s = 5 + length s.params
+
+abbrev pub segment_size : Segment → ℕ
+segment_size s = 8 + length s.bytes
+
+abbrev pub import_size : Import → ℕ
+import_size i = 8 + length i.module + length i.name + signature_size i.signature
+
+abbrev pub export_size : Export → ℕ
+export_size e = 8 + length e.name + signature_size e.signature
+
+-- twelve numbers of four bytes, among them the lists' lengths; and the elements of each list
+abbrev pub size_of : Image → ℕ
+size_of i = 48 + 4 * length i.text + 8 * length i.globals + 16 * length i.table + sum_by segment_size i.segments + sum_by import_size i.imports + sum_by export_size i.exports

@@ -1,0 +1,110 @@
+-- Calls that are led to their functions.
+use Rattle.std.proofs.Common.{◌≡◌, ◌≤◌, ◌<◌, ℕ, zero, suc, ◌+◌, List, [], ◌∷◌, ◌++◌, take, drop, length, refl, sym, ap, ◌∙◌, arith, append_assoc, length-append}
+use Rattle.std.specs.Prelude.{slice_set, slice_index_or}
+use Rattle.std.proofs.lemmas.List.{append-nil, length-set, take_at, take_all, drop_at, drop_all}
+use Rattle.rv_isa.specs.declared.compiled.Relocation.{Relocation}
+use Rattle.rv_isa.specs.declared.compiled.Code.{Code}
+use Rattle.rv_isa.specs.declared.operations.Op.TheVariants.{Auipc, Jalr}
+use Rattle.rv_isa.specs.Runs.{hi, lo}
+use Rattle.rv_isa.specs.Words.{word_of}
+use Rattle.frame_layout.specs.Macros.{ra}
+use Rattle.frame_layout.specs.Functions.{with_distance, with_distances}
+use Rattle.image_linker.specs.ImageOf.{front_of, distances}
+use Rattle.image_linker.specs.Linking.{words_of, front_words, words_at, words_from}
+
+-- ---- one call
+
+beyond : (words : List ℕ) (place word : ℕ) → length words ≤ place → slice_set words place word ≡ words
+beyond [] place word h = refl
+beyond (x ∷ words) zero word h = absurd (omega arith)
+beyond (x ∷ words) (suc place) word h = ap (λ (l : List ℕ). x ∷ l) (beyond words place word (omega arith))
+
+-- where its words aren't among these, they stay
+pub stays : (distance place : ℕ) (words : List ℕ) → length words ≤ place → words ≡ with_distance distance place words
+stays distance place words h =
+    let u = word_of (Auipc ra (hi distance)) in
+    let v = word_of (Jalr ra ra (lo distance)) in
+    sym (ap (λ (l : List ℕ). slice_set l (place + 1) v) (beyond words place u h) ∙ beyond words (place + 1) v (omega arith))
+
+-- ---- the calls of a code
+
+-- the one of an index, if there is one
+abbrev call_at : List Relocation → ℕ → Relocation
+call_at rs i = slice_index_or rs i (record { place = 0; function = 0 })
+
+abbrev led : (ℕ → ℕ → ℕ) → Relocation → List ℕ → List ℕ
+led d r words = with_distance (d r.place r.function) r.place words
+
+lead_suc : (d : ℕ → ℕ → ℕ) (rs : List Relocation) (i : ℕ) (words : List ℕ) → i < length rs → with_distances d (take (suc i) rs) words ≡ led d (call_at rs i) (with_distances d (take i rs) words)
+lead_suc d [] i words lt = absurd (omega arith)
+lead_suc d (x ∷ rs) zero words lt = refl
+lead_suc d (x ∷ rs) (suc i) words lt = lead_suc d rs i (led d x words) (omega arith)
+
+pub lead_taken : (d : ℕ → ℕ → ℕ) (rs : List Relocation) (i : ℕ) (old new words : List ℕ) → i < length rs
+    → new ≡ with_distance (d (slice_index_or rs i (record { place = 0; function = 0 })).place (slice_index_or rs i (record { place = 0; function = 0 })).function) (slice_index_or rs i (record { place = 0; function = 0 })).place old
+    → old ≡ with_distances d (take i rs) words → new ≡ with_distances d (take (i + 1) rs) words
+lead_taken d rs i old new words lt is before =
+    let k : suc i ≡ i + 1 = omega arith in
+    is ∙ ap (led d (call_at rs i)) before ∙ sym (lead_suc d rs i words lt) ∙ ap (λ (n : ℕ). with_distances d (take n rs) words) k
+
+length-lead : (d : ℕ → ℕ → ℕ) (rs : List Relocation) (words : List ℕ) → length (with_distances d rs words) ≡ length words
+length-lead d [] words = refl
+length-lead d (r ∷ rs) words = length-lead d rs (with_distance (d r.place r.function) r.place words) ∙ length-set _ _ _ ∙ length-set _ _ _
+
+-- ---- all codes
+
+-- there are as many words
+pub length-words : (places : List ℕ) (here : ℕ) (codes : List Code) → length (words_from places here codes) ≡ length (words_of codes)
+length-words places here [] = refl
+length-words places here (c ∷ cs) =
+    length-append (words_at places here c) (words_from places (here + length c.words) cs)
+    ∙ omega (arith, length-lead (distances places here) c.relocations c.words, length-words places (here + length c.words) cs, length-append c.words (words_of cs))
+
+words_suc : (places : List ℕ) (here : ℕ) (codes : List Code) (i : ℕ) (c : Code) → i < length codes → c ≡ slice_index_or codes i c
+    → words_from places here (take (suc i) codes) ≡ words_from places here (take i codes) ++ words_at places (here + length (words_of (take i codes))) c
+words_suc places here [] i c lt e = absurd (omega arith)
+words_suc places here (x ∷ xs) zero c lt e =
+    let k : here + 0 ≡ here = omega arith in
+    append-nil (words_at places here x) ∙ ap (λ (y : Code). words_at places here y) (sym e) ∙ ap (λ (n : ℕ). words_at places n c) (sym k)
+words_suc places here (x ∷ xs) (suc i) c lt e =
+    let k : here + length x.words + length (words_of (take i xs)) ≡ here + length (x.words ++ words_of (take i xs)) = omega (arith, length-append x.words (words_of (take i xs))) in
+    ap (λ (l : List ℕ). words_at places here x ++ l) (words_suc places (here + length x.words) xs i c (omega arith) e ∙ ap (λ (n : ℕ). words_from places (here + length x.words) (take i xs) ++ words_at places n c) k)
+    ∙ sym (append_assoc (words_at places here x) (words_from places (here + length x.words) (take i xs)) (words_at places (here + length (x.words ++ words_of (take i xs))) c))
+
+pub words_from-taken : (places : List ℕ) (here : ℕ) (codes : List Code) (i : ℕ) (c : Code) → i < length codes → c ≡ slice_index_or codes i c
+    → words_from places here (take (i + 1) codes) ≡ words_from places here (take i codes) ++ words_at places (here + length (words_of (take i codes))) c
+words_from-taken places here codes i c lt e = let k : i + 1 ≡ suc i = omega arith in rw k (words_suc places here codes i c lt e)
+
+-- ---- a text
+
+-- the calls of the code that stands last in it
+pub text_led : (places : List ℕ) (rs calls : List Relocation) (old own given all led : List ℕ) (here n : ℕ) → all ≡ old ++ own → given ≡ all → here ≡ length old → calls ≡ rs
+    → led ≡ take here given ++ with_distances (distances places here) calls (drop here given) → n ≡ length all
+    → take n (led ++ drop (length led) all) ≡ old ++ with_distances (distances places (length old)) rs own
+text_led places rs calls old own given all led here n all_is given_is here_is calls_are led_is n_is =
+    let whole : given ≡ old ++ own = given_is ∙ all_is in
+    let front : take here given ≡ old = ap (take here) whole ∙ take_at old own here (sym here_is) in
+    let back : drop here given ≡ own = ap (drop here) whole ∙ drop_at old own here (sym here_is) in
+    let is : led ≡ old ++ with_distances (distances places here) calls own =
+    led_is ∙ ap (λ (l : List ℕ). l ++ with_distances (distances places here) calls (drop here given)) front ∙ ap (λ (l : List ℕ). old ++ with_distances (distances places here) calls l) back in
+    let same : led ≡ old ++ with_distances (distances places (length old)) rs own =
+    is ∙ ap (λ (k : ℕ). old ++ with_distances (distances places k) calls own) here_is ∙ ap (λ (l : List Relocation). old ++ with_distances (distances places (length old)) l own) calls_are in
+    let long : length led ≡ length all =
+    ap length is ∙ omega (arith, length-append old (with_distances (distances places here) calls own), length-lead (distances places here) calls own, length-append old own, ap length all_is) in
+    ap (λ (l : List ℕ). take n (led ++ l)) (drop_all (length led) all (omega (arith, long)))
+    ∙ ap (take n) (append-nil led)
+    ∙ take_all n led (omega (arith, long, n_is))
+    ∙ same
+
+-- one code more
+pub text_more : (places : List ℕ) (codes : List Code) (i : ℕ) (c : Code) (old new : List ℕ) → i < length codes → c ≡ slice_index_or codes i c
+    → old ≡ front_words ++ words_from places (front_of 0) (take i codes) → new ≡ old ++ with_distances (distances places (length old)) c.relocations c.words
+    → new ≡ front_words ++ words_from places (front_of 0) (take (i + 1) codes)
+text_more places codes i c old new lt e before is =
+    let words = words_from places (front_of 0) (take i codes) in
+    let here : length old ≡ front_of 0 + length (words_of (take i codes)) = ap length before ∙ omega (arith, length-words places (front_of 0) (take i codes)) in
+    is
+    ∙ ap (λ (n : ℕ). old ++ words_at places n c) here
+    ∙ ap (λ (l : List ℕ). l ++ words_at places (front_of 0 + length (words_of (take i codes))) c) before
+    ∙ append_assoc front_words words (words_at places (front_of 0 + length (words_of (take i codes))) c)
+    ∙ ap (λ (l : List ℕ). front_words ++ l) (sym (words_from-taken places (front_of 0) codes i c lt e))

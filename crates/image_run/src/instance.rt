@@ -1,0 +1,126 @@
+//! Instances of images.
+ghost use Rattle.std.specs.Prelude.{◌≡◌, ◌*◌, true, false, Some, None, IfOk, map, take};
+ghost use Rattle.wasm_defs.specs.Values.{type_of, value_of};
+ghost use Rattle.image_format.specs.declared.image.Export.{Export};
+ghost use Rattle.image_run.specs.Checks.{export_named, unfit};
+ghost use Rattle.image_run.specs.Ends.{RunsTo};
+
+use crate::checks::find_export;
+use crate::host::Host;
+use crate::outcome::Outcome;
+use crate::regions::regions_of;
+use crate::run::{enter, returned, run_function, run_start};
+use image_format::{Image, PARAMS};
+use rv64im_machine::{Machine, Region};
+use std::alloc::{AllocError, Global};
+use std::marker::Model;
+use wasm_defs::Value;
+
+/// An image that is loaded, and all memory that a run of it can want. It runs once. Contracts see the image, its memory as it is
+/// now, and whether it has run.
+#[derive(Drop)]
+pub struct Instance<'a> {
+    image: &'a Image,
+    machine: Machine,
+    pages: u32,
+    room: Vec<Value>,
+    has_run: bool,
+}
+
+impl<'a> Model for Instance<'a> {
+    ghost use Rattle.std.specs.Prelude.{◌*◌, take};
+    ghost use Rattle.wasm_defs.specs.Memory.{page};
+    ghost use Rattle.image_run.specs.States.{Contents, IsInstance};
+
+    ghost Value = { Contents };
+
+    ghost view = { λ s. record { image = s.image.now; memory = take (page * s.pages) s.machine.bytes.memory; has_run = s.has_run } };
+
+    ghost invariant = { λ s. IsInstance s.image.now s.machine s.pages s.room.items s.has_run };
+}
+
+impl<'a> Instance<'a> {
+    /// Loads an image: takes the memory for its stack, its globals, its table, its memory as large as it may grow, its text, and the
+    /// arguments of its imports.
+    pub fn load(alloc: Global, image: &'a Image) -> Result<Self, AllocError>
+        ensures image { IfOk result (λ s. s.image ≡ image.now) }
+        ensures ready { IfOk result (λ s. s.has_run ≡ false) }
+    {
+        let regions = regions_of(alloc, image)?;
+        let machine = Machine::new(alloc, image.text.as_slice(), regions)?;
+        let room = vec![in alloc; Value::I32(0); PARAMS as usize]?;
+        Ok(Instance {
+            image,
+            machine,
+            pages: image.pages,
+            room,
+            has_run: false,
+        })
+    }
+
+    /// Whether the instance has run.
+    pub fn has_run(&self) -> bool
+        ensures { result ≡ self.now.has_run }
+    {
+        self.has_run
+    }
+
+    /// The bytes of the memory, as large as it is now.
+    pub fn memory(&self) -> &[u8]
+        ensures { result.now ≡ self.now.memory }
+    {
+        let size = 65_536 * self.pages as usize;
+        &self.machine.bytes(Region::Memory)[..size]
+    }
+
+    /// Runs the start function of the image, if it has one, and then the exported function of that name with these arguments, both
+    /// together for at most so many steps of the machine. The host answers the calls of imports. No memory is taken.
+    ///
+    /// The conditions are that the image has the export, that the arguments are of its types, that the image isn't unlinkable, and
+    /// that the instance hasn't run.
+    pub fn start_and_run<H: Host>(
+        &mut self,
+        export: &str,
+        arguments: &[Value],
+        host: &mut H,
+        steps: u64,
+    ) -> Outcome
+        requires ready { self.old.has_run ≡ false }
+        requires host { H.is_ready host.old ≡ true }
+        requires fit { unfit self.old.image (map type_of arguments.now) (export_named export.now self.old.image.exports) ≡ None }
+        ensures image { self.new.image ≡ self.old.image }
+        ensures has_run { self.new.has_run ≡ true }
+        ensures host { H.is_ready host.new ≡ true }
+        ensures run { (e : Export) × (export_named export.now self.old.image.exports ≡ Some e)
+            × RunsTo H.answers self.old.image e (map value_of arguments.now) steps host.old host.new result self.new.memory }
+    {
+        let Some(export) = find_export(self.image, export) else {
+            unreachable!()
+        };
+        let mut left = steps;
+        self.has_run = true;
+        if let Some(outcome) = run_start(
+            &mut self.machine,
+            &mut self.pages,
+            &mut self.room,
+            self.image,
+            host,
+            &mut left,
+        ) {
+            return outcome;
+        }
+        enter(&mut self.machine, self.pages, export.offset, arguments);
+        if let Some(outcome) = run_function(
+            &mut self.machine,
+            &mut self.pages,
+            &mut self.room,
+            self.image,
+            host,
+            &mut left,
+        ) {
+            return outcome;
+        }
+        let results = export.signature.results.as_slice();
+        Outcome::Returned(returned(self.machine.bytes(Region::Stack), results))
+    }
+}

@@ -1,0 +1,166 @@
+//! Loads and stores (Core 4.4.4).
+
+ghost use Rattle.std.specs.Prelude.{◌≡◌, ◌<◌, ◌≤◌, ◌-◌, ◌^◌, ◌++◌, map, OnOk, OnErr};
+ghost use Rattle.rv_isa.specs.Words.{word_of};
+ghost use Rattle.wasm_defs.specs.Memory.{load_count, store_count};
+ghost use Rattle.frame_layout.specs.Slots.{operand};
+ghost use Rattle.frame_layout.specs.Templates.{Around, address, machine_load, machine_store, load_words, store_words};
+ghost use Rattle.memory_emit.specs.Sorts.{IsLoad, IsStore, access_words};
+
+use crate::registers::{memory, memory_size};
+use frame_layout::Layout;
+use frame_layout::macros::slot_load as value_load;
+use frame_layout::words::{const_32, slot_load, slot_store, trap, zero_extend};
+use rv_isa::{
+    BranchOp, Imm12, ImmOp, LoadOp as MachineLoad, Op, RegOp, Register, StoreOp as MachineStore,
+    WordBuffer, encode_branch, encode_imm, encode_reg,
+};
+use std::alloc::AllocError;
+use wasm_defs::{LoadOp, Plain, StoreOp, Token, TrapKind};
+
+/// The words that bring the address of so many bytes into t0, from an operand that counts from the memory's first byte and an
+/// offset, both of 32 bits. Their sum isn't cut to 32 bits. They trap where the bytes don't all lie in the memory.
+fn address(layout: &Layout, height: u32, offset: u32, bytes: u16) -> [u32; 17]
+    requires fits { operand layout.now height < 2 ^ 32 }
+    requires few { bytes ≤ 8 }
+    ensures { (w : Around) → w.layout ≡ layout.now → result ≡ map word_of (address w height offset bytes) }
+{
+    let [a, b, c] = slot_load(Register::T0, layout.operand(height));
+    let [d, e] = zero_extend(Register::T0);
+    let [f, g, h, i, j] = const_32(Register::T1, u64::from(offset));
+    let [x, y, z] = trap(TrapKind::MemoryBounds);
+    let first = encode_reg(RegOp::Add, Register::T0, Register::T0, Register::T1);
+    let end = encode_imm(ImmOp::Addi, Register::T1, Register::T0, Imm12::new(bytes));
+    let within = encode_branch(BranchOp::Bgeu, memory_size(), Register::T1, Imm12::new(8));
+    let there = encode_reg(RegOp::Add, Register::T0, Register::T0, memory());
+    [
+        a, b, c, d, e, f, g, h, i, j, first, end, within, x, y, z, there,
+    ]
+}
+
+/// The machine's operation of a load, and how many bytes it reads.
+fn load_row(op: LoadOp) -> (MachineLoad, u16)
+    ensures operation { (w : Around) → result.0 ≡ machine_load w op }
+    ensures bytes { result.1 ≡ load_count op }
+    ensures few { result.1 ≤ 8 }
+{
+    match op {
+        LoadOp::I32Load => (MachineLoad::Lw, 4),
+        LoadOp::I64Load => (MachineLoad::Ld, 8),
+        LoadOp::I32Load8S | LoadOp::I64Load8S => (MachineLoad::Lb, 1),
+        LoadOp::I32Load8U | LoadOp::I64Load8U => (MachineLoad::Lbu, 1),
+        LoadOp::I32Load16S | LoadOp::I64Load16S => (MachineLoad::Lh, 2),
+        LoadOp::I32Load16U | LoadOp::I64Load16U => (MachineLoad::Lhu, 2),
+        LoadOp::I64Load32S => (MachineLoad::Lw, 4),
+        LoadOp::I64Load32U => (MachineLoad::Lwu, 4),
+    }
+}
+
+/// The machine's operation of a store, and how many bytes it writes.
+fn store_row(op: StoreOp) -> (MachineStore, u16)
+    ensures operation { (w : Around) → result.0 ≡ machine_store w op }
+    ensures bytes { result.1 ≡ store_count op }
+    ensures few { result.1 ≤ 8 }
+{
+    match op {
+        StoreOp::I32Store | StoreOp::I64Store32 => (MachineStore::Sw, 4),
+        StoreOp::I64Store => (MachineStore::Sd, 8),
+        StoreOp::I32Store8 | StoreOp::I64Store8 => (MachineStore::Sb, 1),
+        StoreOp::I32Store16 | StoreOp::I64Store16 => (MachineStore::Sh, 2),
+    }
+}
+
+/// Appends the words of a load whose address is the topmost of so many operands.
+fn load(
+    buffer: &mut WordBuffer,
+    layout: &Layout,
+    height: u32,
+    op: LoadOp,
+    offset: u32,
+) -> Result<(), AllocError>
+    requires operand { 1 ≤ height }
+    requires fits { operand layout.now (height - 1) < 2 ^ 32 }
+    ensures ok { (w : Around) → w.layout ≡ layout.now → OnOk result (buffer.new ≡ buffer.old ++ map word_of (load_words w height op offset)) }
+    ensures err { OnErr result (buffer.new ≡ buffer.old) }
+{
+    let (op, bytes) = load_row(op);
+    let address = address(layout, height - 1, offset, bytes);
+    let load = Op::Load {
+        op,
+        rd: Register::T0,
+        rs1: Register::T0,
+        imm: Imm12::new(0),
+    };
+    let back = slot_store(Register::T0, layout.operand(height - 1));
+    buffer.append_around(&address, &[load], &back)
+}
+
+/// Appends the words of a store, whose value is the topmost of so many operands and whose address lies below it.
+fn store(
+    buffer: &mut WordBuffer,
+    layout: &Layout,
+    height: u32,
+    op: StoreOp,
+    offset: u32,
+) -> Result<(), AllocError>
+    requires operands { 2 ≤ height }
+    requires fits { operand layout.now (height - 1) < 2 ^ 32 }
+    ensures ok { (w : Around) → w.layout ≡ layout.now → OnOk result (buffer.new ≡ buffer.old ++ map word_of (store_words w height op offset)) }
+    ensures err { OnErr result (buffer.new ≡ buffer.old) }
+{
+    let (op, bytes) = store_row(op);
+    let address = address(layout, height - 2, offset, bytes);
+    let [x, y, z] = value_load(Register::T2, layout.operand(height - 1));
+    let store = Op::Store {
+        op,
+        rs1: Register::T0,
+        rs2: Register::T2,
+        imm: Imm12::new(0),
+    };
+    buffer.append_around(&address, &[x, y, z, store], &[])
+}
+
+/// Appends the words of a load, or none for want of memory. Its address is the topmost of so many operands.
+pub fn emit_load(
+    buffer: &mut WordBuffer,
+    layout: &Layout,
+    height: u32,
+    token: &Token,
+) -> Result<(), AllocError>
+    requires sort { IsLoad token.now }
+    requires operand { 1 ≤ height }
+    requires fits { operand layout.now (height - 1) < 2 ^ 32 }
+    ensures ok { (w : Around) → w.layout ≡ layout.now → OnOk result (buffer.new ≡ buffer.old ++ map word_of (access_words w height token.now)) }
+    ensures err { OnErr result (buffer.new ≡ buffer.old) }
+{
+    let Token::Plain(plain) = token else {
+        unreachable!()
+    };
+    match plain {
+        Plain::Load(op, memory) => load(buffer, layout, height, *op, memory.offset),
+        _ => unreachable!(),
+    }
+}
+
+/// Appends the words of a store, or none for want of memory. Its value is the topmost of so many operands, and its address the
+/// one below.
+pub fn emit_store(
+    buffer: &mut WordBuffer,
+    layout: &Layout,
+    height: u32,
+    token: &Token,
+) -> Result<(), AllocError>
+    requires sort { IsStore token.now }
+    requires operands { 2 ≤ height }
+    requires fits { operand layout.now (height - 1) < 2 ^ 32 }
+    ensures ok { (w : Around) → w.layout ≡ layout.now → OnOk result (buffer.new ≡ buffer.old ++ map word_of (access_words w height token.now)) }
+    ensures err { OnErr result (buffer.new ≡ buffer.old) }
+{
+    let Token::Plain(plain) = token else {
+        unreachable!()
+    };
+    match plain {
+        Plain::Store(op, memory) => store(buffer, layout, height, *op, memory.offset),
+        _ => unreachable!(),
+    }
+}

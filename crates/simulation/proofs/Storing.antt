@@ -1,0 +1,121 @@
+-- An instruction that changes the store, or asks for pages, in the running frame of any configuration.
+use Rattle.std.proofs.Common.{◌≡◌, ℕ, ◌+◌, ◌^◌, ◌≤◌, ◌⊎◌, inl, inr, List, ◌++◌, length, Option, Some, refl, sym, ap, ◌∙◌, subst, arith}
+use Rattle.std.proofs.lemmas.List.{append_cancel_right}
+use Rattle.rv_isa.specs.declared.operations.Op.{Op}
+use Rattle.wasm_defs.specs.declared.value.TrapKind.{TrapKind}
+use Rattle.wasm_defs.specs.declared.token.Plain.{Plain}
+use Rattle.wasm_defs.specs.Trees.{Seq, Simple}
+use Rattle.wasm_defs.specs.Typing.{Types, Context, Moves, Typed, rule_of}
+use Rattle.wasm_defs.specs.Values.{Value, types_of_values, trap_number}
+use Rattle.wasm_defs.specs.Configurations.{Instance, Store, Config, Step, Trapped, belows, used}
+use Rattle.wasm_defs.specs.Reductions.{applied, simple}
+use Rattle.wasm_defs.specs.Effects.{Effect, Gives, Traps, Fails, effect}
+use Rattle.frame_layout.specs.Laws.{TrapsAt}
+use Rattle.frame_layout.specs.Templates.{Label, words}
+use Rattle.image_format.specs.Contents.{Image}
+use Rattle.image_format.specs.Environment.{code_of_image}
+use Rattle.image_format.specs.ImageRun.{Running}
+use Rattle.sim_frames.specs.Covered.{IsStraightStep}
+use Rattle.sim_frames.specs.Functions.{global_types}
+use Rattle.sim_frames.proofs.Frames.{labels_of, under, Compiled, SitsAt, FramesStay}
+use Rattle.sim_frames.proofs.Follows.{matches_now, stands_on, ahead, labels_ahead, halts_at}
+use Rattle.sim_frames.proofs.Rules.{types_append}
+use Rattle.sim_frames.proofs.Values as values
+use Rattle.simulation.specs.Laws.{EnvironmentStands}
+use Rattle.simulation.proofs.Changing.{ChangesStore, Passes, passes}
+use Rattle.simulation.proofs.Matching.{StoreStays, Matches, Leads, lifted}
+use Rattle.simulation.proofs.Straight.Effects.{above, enough, effect_above}
+use Rattle.simulation.proofs.Straight.Instructions as one
+use Rattle.simulation.proofs.Straight.Lifts.{simple_applied, behind, moves_all, low_now, has_now, size_now}
+
+module _ (im : Image) (near : length (code_of_image im) ≤ 2 ^ 26) (inst : Instance) (places : ℕ → ℕ) (outer : Types) (environment : EnvironmentStands inst im) (c : Config) (r : Running) (x : Matches im inst places outer c r)
+    (p : Plain) (rest : Seq) (step : IsStraightStep p) (changes : ChangesStore p) (m : FramesStay (code_of_image im) inst places outer (record c.frame { code = Simple p rest }) c.callers r.machine) where
+  abbrev text : List (Option Op)
+  text = code_of_image im
+
+  abbrev k : Compiled (code_of_image im) inst places c.frame.function
+  k = m.running.compiled
+
+  abbrev at : Context
+  at = under k.context m.running.os
+
+  abbrev labels : List Label
+  labels = labels_of m.running.os
+
+  abbrev lower : List Value
+  lower = belows c.frame.labels
+
+  abbrev size : ℕ
+  size = ahead (Simple p rest) + labels_ahead c.frame.labels
+
+  abbrev Whole : Effect → Type 0
+  Whole e = effect c.store c.frame.locals im.cap p (c.frame.operands ++ belows c.frame.labels) ≡ e
+
+  abbrev Goes : Types → Type 0
+  Goes mid = Passes im at labels k.around (used c.callers) m.address c.store c.frame.locals (c.frame.operands ++ belows c.frame.labels) p (mid ++ types_of_values (belows c.frame.labels)) m.here r
+
+  abbrev Stops : Type 0
+  Stops = one.Halts (code_of_image im) c.store im.cap c.frame.locals (c.frame.operands ++ belows c.frame.labels) p r.machine
+
+  module _ (mid : Types) (moves : Moves (rule_of at p) (types_of_values c.frame.operands) mid) (typed : Typed at rest mid m.running.to) where
+    comes : Goes mid ⊎ Stops
+    comes =
+        passes im near environment.few at labels k.around (used c.callers) m.address c.store c.frame.locals m.here r (k.begin + m.here) m.at x.store.stands (ap global_types k.globals_are ∙ x.store.types) p (c.frame.operands ++ belows c.frame.labels)
+        (mid ++ types_of_values (belows c.frame.labels)) step changes (moves_all text near inst places outer c r.machine p rest step m mid moves) (low_now text near inst places outer c r.machine p rest step m) (has_now text near inst places outer c r.machine p rest step m)
+        (matches_now text inst places outer (record c.frame { code = Simple p rest }) c.callers r.machine m)
+
+    abbrev Goal : Effect → Type 0
+    Goal e = Leads im inst places outer 128 size r (applied c rest e)
+
+    by_effect : (e : Effect) → Whole (above (belows c.frame.labels) e) → Goes mid ⊎ Stops → Goal e
+    by_effect (Gives store locals operands) whole_is (inl y) =
+        let same : Gives store locals (operands ++ lower) ≡ Gives y.store_after c.frame.locals y.after = sym whole_is ∙ y.gives in
+        let store_is : y.store_after ≡ store = cc in
+        let locals_are : c.frame.locals ≡ locals = cc in
+        let after_is : y.after ≡ operands ++ lower = cc in
+        let all : types_of_values operands ++ types_of_values lower ≡ mid ++ types_of_values lower = sym (types_append operands lower) ∙ ap types_of_values (sym after_is) ∙ y.types_are in
+        let types_are : types_of_values operands ≡ mid = append_cancel_right (types_of_values operands) mid (types_of_values lower) all in
+        let pc_is = y.pc_is in
+        let at_is = m.at in
+        let count = size_now text near inst places outer c r.machine p rest step m in
+        let here = m.here + length (words k.around at labels (length (types_of_values c.frame.operands) + length lower) m.here p) in
+        let sits = behind text near inst places outer c r.machine p rest step m mid moves typed in
+        record {
+          steps = y.steps;
+          within = omega (arith, y.short);
+          moves = inr (omega arith);
+          to = y.last;
+          goes = y.goes;
+          matches = record {
+            stay = stands_on text inst places outer (record c.frame { code = Simple p rest }) c.callers r.machine m here m.running.there y.bytes y.last.machine locals operands rest c.frame.labels m.running.os m.running.to (omega arith)
+                (subst (λ (vs : List Value). values.Matches k.around.layout (used c.callers) m.address y.bytes vs (operands ++ lower) y.last.machine) locals_are
+                (subst (λ (vs : List Value). values.Matches k.around.layout (used c.callers) m.address y.bytes c.frame.locals vs y.last.machine) after_is y.matches))
+                y.low (ap types_of_values (sym locals_are))
+                (subst (λ (ts : Types). SitsAt text inst places k m.running.os (Some (length ts + length lower)) ts here rest m.running.to m.running.there) (sym types_are) sits)
+                m.running.fit;
+            store = subst (λ (st : Store). StoreStays im inst st y.last) store_is
+                (record { calls = y.calls ∙ x.store.calls ∙ sym y.calls_stay; replies = y.replies ∙ x.store.replies ∙ sym y.replies_stay; stands = y.stands; types = x.store.types ∙ sym y.globals_stay });
+            results = y.results ∙ x.results;
+            later = x.later;
+            no_more = y.later ∙ x.no_more;
+          };
+        }
+    by_effect (Gives store locals operands) whole_is (inr y) = let wrong = sym whole_is ∙ y.gives in absurd cc
+    by_effect (Traps kind) whole_is (inl y) = let wrong = sym whole_is ∙ y.gives in absurd cc
+    by_effect (Traps kind) whole_is (inr y) =
+        let same : Traps kind ≡ Traps y.kind = sym whole_is ∙ y.gives in
+        let kind_is : y.kind ≡ kind = cc in
+        lifted im inst places outer c.store c.later r x.store x.results x.later x.no_more 128 size (Trapped c.store kind)
+        (refl, halts_at text inst places outer c.store c.later 128 y.steps r.machine kind y.short (subst (λ (t : TrapKind). TrapsAt text y.steps y.behind (trap_number t) r.machine) kind_is y.traps))
+    by_effect Fails whole_is (inl y) = let wrong = sym whole_is ∙ y.gives in absurd cc
+    by_effect Fails whole_is (inr y) = let wrong = sym whole_is ∙ y.gives in absurd cc
+
+  pub storing_leads : Leads im inst places outer 128 (ahead (Simple p rest) + labels_ahead c.frame.labels) r (simple inst c p rest)
+  storing_leads =
+      let typed = m.running.sits.typed in
+      let mid = typed.0 in
+      let moves = typed.1 in
+      let same_cap = ap (λ (n : ℕ). applied c rest (effect c.store c.frame.locals n p c.frame.operands)) (sym environment.cap) in
+      subst (λ (next : Step). Leads im inst places outer 128 size r next) (sym (simple_applied inst c p rest step ∙ same_cap))
+      (by_effect mid moves typed.2 (effect c.store c.frame.locals im.cap p c.frame.operands)
+      (effect_above c.store c.frame.locals lower im.cap p c.frame.operands step (enough at p c.frame.operands mid step moves)) (comes mid moves typed.2))

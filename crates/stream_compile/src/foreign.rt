@@ -1,0 +1,39 @@
+//! Images that a source gives.
+
+ghost use Rattle.std.specs.Prelude.{◌≡◌, ◌<◌, ◌^◌, ◌-◌, true, nat_lt, IfOk};
+ghost use Rattle.stream_compile.specs.Running.{IsForeign};
+
+use image_format::{Image, ImageStop, read_image};
+use io_edges::{Source, Stop, read_all};
+use std::alloc::{AllocError, Global};
+
+/// How many bytes are read: one more than an image may have, so that they decide about any.
+const IMAGE_INPUT: usize = 1_073_741_825;
+
+/// What a source gives, as an image.
+#[derive(Drop)]
+pub enum Foreign {
+    /// The bytes are this image's.
+    Image(Image),
+    /// They are none: the offset of their first fault.
+    Bad(u64),
+    /// The source failed.
+    Failed,
+}
+
+/// Reads an image: to the source's end, to its fault, or until the bytes are more than an image has.
+pub fn read_foreign<S: Source>(alloc: Global, source: &mut S) -> Result<Foreign, AllocError>
+    requires faults { S.faults source.old < 2 ^ 64 - 1 }
+    requires open { S.is_open source.old ≡ true }
+    ensures { IfOk result (IsForeign (nat_lt (S.faults source.old) (S.faults source.new)) (S.left source.old) (S.left source.new)) }
+{
+    let input = read_all(alloc, source, IMAGE_INPUT)?;
+    match input.stop {
+        Stop::Failed => Ok(Foreign::Failed),
+        Stop::End | Stop::Full => match read_image(alloc, input.bytes.as_slice()) {
+            Ok(image) => Ok(Foreign::Image(image)),
+            Err(ImageStop::Bad(offset)) => Ok(Foreign::Bad(offset)),
+            Err(ImageStop::NoMemory) => Err(AllocError),
+        },
+    }
+}
