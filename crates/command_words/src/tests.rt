@@ -1,6 +1,8 @@
 //! Words and what they mean, worked out by hand.
 
-use crate::{Argument, Arguments, Command, Export, Options, WordsStop, argument_of, command_of};
+use crate::{
+    Argument, Arguments, Call, Command, Export, Options, WordsStop, argument_of, command_of,
+};
 use std::alloc::Global;
 use std::test::Fail;
 
@@ -19,9 +21,9 @@ fn is_check(found: &Result<Command, WordsStop>, wanted: Options) -> bool {
     }
 }
 
-/// A call that words ask for.
+/// What words of `run` ask for.
 #[derive(Drop)]
-struct Call<'a> {
+struct Wanted<'a> {
     export: &'a str,
     arguments: &'a [Argument],
     workers: u64,
@@ -29,15 +31,15 @@ struct Call<'a> {
     steps: u64,
 }
 
-fn is_run(found: &Result<Command, WordsStop>, wanted: &Call<'_>) -> bool {
+fn is_run(found: &Result<Command, WordsStop>, wanted: &Wanted<'_>) -> bool {
     let Ok(Command::Run(run)) = found else {
         return false;
     };
-    run.export.as_str() == wanted.export
-        && run.arguments.as_slice() == wanted.arguments
+    run.call.export.as_str() == wanted.export
+        && run.call.arguments.as_slice() == wanted.arguments
         && run.options.workers == wanted.workers
         && run.options.batch == wanted.batch
-        && run.steps == wanted.steps
+        && run.call.steps == wanted.steps
 }
 
 #[test]
@@ -107,7 +109,7 @@ fn a_call_has_its_words(rt: HostRuntime) -> Result<(), Fail> {
         ),
     ];
     for (line, export, arguments) in rows {
-        let wanted = Call {
+        let wanted = Wanted {
             export,
             arguments,
             workers: 4,
@@ -231,7 +233,7 @@ fn a_call_has_its_options(rt: HostRuntime) -> Result<(), Fail> {
         ),
     ];
     for (line, workers, batch, steps) in rows {
-        let wanted = Call {
+        let wanted = Wanted {
             export: "f",
             arguments: &[Argument::I32(1), Argument::I32(2)],
             workers,
@@ -257,8 +259,38 @@ fn a_call_has_many_arguments(rt: HostRuntime) -> Result<(), Fail> {
     let Ok(Command::Run(run)) = command_of(rt.alloc(), &words) else {
         return Err(Fail::from("no call"));
     };
-    assert!(rt; run.arguments.into_vec().as_slice() == wanted.as_slice());
-    assert!(rt; run.export.into_string().as_str() == "sum");
+    let Call {
+        export,
+        arguments,
+        ..
+    } = run.call;
+    assert!(rt; arguments.into_vec().as_slice() == wanted.as_slice());
+    assert!(rt; export.into_string().as_str() == "sum");
+    Ok(())
+}
+
+#[test]
+fn each_command_has_its_options(rt: HostRuntime) -> Result<(), Fail> {
+    let compiled = read(rt.alloc(), &["wstream", "compile", "--batch=7"])?;
+    let wanted = Options {
+        workers: 4,
+        batch: 7,
+    };
+    let is_compile = match compiled {
+        Ok(Command::Compile(options)) => options == wanted,
+        _ => false,
+    };
+    assert!(rt; is_compile);
+    let executed = read(
+        rt.alloc(),
+        &["wstream", "exec", "add", "i32:2", "--steps", "9"],
+    )?;
+    let Ok(Command::Exec(call)) = executed else {
+        return Err(Fail::from("no call of an image"));
+    };
+    assert!(rt; call.export.as_str() == "add");
+    assert!(rt; call.arguments.as_slice() == [Argument::I32(2)].as_slice());
+    assert!(rt; call.steps == 9);
     Ok(())
 }
 
