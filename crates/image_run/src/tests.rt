@@ -1,5 +1,5 @@
 //! Images of bytes, and what their runs come to.
-ghost use Rattle.std.specs.Prelude.{true, Unit};
+ghost use Rattle.std.specs.Prelude.{true};
 
 use crate::{
     Host, Instance, NotRunnable, Outcome, Patch, Reply, SinkHost, call_checks, find_export,
