@@ -14,8 +14,8 @@ use Rattle.frame_layout.specs.Templates.{exit_stub}
 use Rattle.image_format.specs.Contents.{IsImage}
 use Rattle.index_spaces.specs.Entries.{function_exports, all_exports_of}
 use Rattle.index_spaces.specs.Spaces.{Spaces, spaces_of, context_in}
-use Rattle.image_linker.specs.ImageOf.{front_of, image_of}
-use Rattle.image_linker.specs.Linking.{NumbersFit, words_of, starts_of, linked, linked_export}
+use Rattle.image_linker.specs.ImageOf.{image_of}
+use Rattle.image_linker.specs.Linking.{NumbersFit, linked}
 use Rattle.image_linker.specs.Judging.{IsModuleOf}
 use Rattle.image_linker.proofs.Items.{numbers_fit}
 use Rattle.image_linker.proofs.Bounded.{images_keep_bounds}
@@ -54,7 +54,6 @@ whole_done bytes left s seen fits j whole count =
       are_all = j.are_all;
       image_is = ap (λ (x : Spaces). linked x j.all) h.spaces_are ∙ image;
       bounded = images_keep_bounds bytes m fits is;
-      fits = omega (arith, h.words, j.are_all.words, ap (λ (x : Spaces). x.imported) h.spaces_are);
       numbers = subst (λ (x : Spaces). NumbersFit x.globals x.initials) (sym h.spaces_are) (numbers_fit m.items constants);
     }
 
@@ -67,10 +66,6 @@ kept_are (Some k) given all e h = let same : given ≡ k = cc in same ∙ h
 module _ (bytes : List ℕ) (s : Compilation) (given : List Code) (d : IsDone bytes s) (is : Some given ≡ s.codes.kept) where
   given_are : given ≡ d.all
   given_are = kept_are s.codes.kept given d.all is d.are_all.kept
-
-  -- the words are few
-  pub few_words : 4 * (front_of s.spaces.imported + length (words_of given)) ≤ 2 ^ 28
-  few_words = omega (arith, d.fits, d.are_all.words, ap (λ (l : List Code). length (words_of l)) given_are)
 
   -- what is linked keeps the bounds of images
   pub is_bounded : IsImage (linked s.spaces given)
