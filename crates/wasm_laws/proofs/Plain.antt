@@ -24,13 +24,13 @@ none_outside compiled x xs h =
 
 plain_of_section : (x : Item) → is_compiled_section (section_of x) ≡ true → is_plain_item x ≡ true
 plain_of_section (Signature form params results ty) h = refl
-plain_of_section (Imported from what kind i) h = absurd cc
+plain_of_section (Imported from what kind i) h = refl
 plain_of_section (Function i) h = refl
 plain_of_section (Table element limits) h = refl
 plain_of_section (Memory limits) h = refl
 plain_of_section (Global ty mutable init) h = refl
 plain_of_section (Exported name kind index) h = refl
-plain_of_section (Start index) h = absurd cc
+plain_of_section (Start index) h = refl
 plain_of_section (Element table place functions) h = absurd cc
 plain_of_section (Code count end) h = refl
 plain_of_section (Segment memory place bytes) h = refl
@@ -47,16 +47,18 @@ items_are_plain bytes none = sorted_are_plain 0 0 (module_read bytes).parts refl
 -- ---- what there isn't
 
 pub plain_has_no_more : (items : List Item) → ArePlain items → HasNoMore items
-plain_has_no_more [] h = record { imports = refl; imported = λ c n. refl; elements = refl; start = refl }
-plain_has_no_more (Signature form params results ty ∷ xs) h = let r = plain_has_no_more xs h.1 in record { imports = r.imports; imported = r.imported; elements = r.elements; start = r.start }
-plain_has_no_more (Function i ∷ xs) h = let r = plain_has_no_more xs h.1 in record { imports = r.imports; imported = r.imported; elements = r.elements; start = r.start }
-plain_has_no_more (Table element limits ∷ xs) h = let r = plain_has_no_more xs h.1 in record { imports = r.imports; imported = r.imported; elements = r.elements; start = r.start }
-plain_has_no_more (Memory limits ∷ xs) h = let r = plain_has_no_more xs h.1 in record { imports = r.imports; imported = r.imported; elements = r.elements; start = r.start }
-plain_has_no_more (Global ty mutable init ∷ xs) h = let r = plain_has_no_more xs h.1 in record { imports = r.imports; imported = r.imported; elements = r.elements; start = r.start }
-plain_has_no_more (Exported name kind index ∷ xs) h = let r = plain_has_no_more xs h.1 in record { imports = r.imports; imported = r.imported; elements = r.elements; start = r.start }
-plain_has_no_more (Code count end ∷ xs) h = let r = plain_has_no_more xs h.1 in record { imports = r.imports; imported = r.imported; elements = r.elements; start = r.start }
-plain_has_no_more (Segment memory place bytes ∷ xs) h = let r = plain_has_no_more xs h.1 in record { imports = r.imports; imported = r.imported; elements = r.elements; start = r.start }
-plain_has_no_more (_ ∷ xs) h = absurd cc
+plain_has_no_more [] h = record { elements = refl }
+plain_has_no_more (Signature form params results ty ∷ xs) h = record { elements = (plain_has_no_more xs h.1).elements }
+plain_has_no_more (Imported from what kind i ∷ xs) h = record { elements = (plain_has_no_more xs h.1).elements }
+plain_has_no_more (Function i ∷ xs) h = record { elements = (plain_has_no_more xs h.1).elements }
+plain_has_no_more (Table element limits ∷ xs) h = record { elements = (plain_has_no_more xs h.1).elements }
+plain_has_no_more (Memory limits ∷ xs) h = record { elements = (plain_has_no_more xs h.1).elements }
+plain_has_no_more (Global ty mutable init ∷ xs) h = record { elements = (plain_has_no_more xs h.1).elements }
+plain_has_no_more (Exported name kind index ∷ xs) h = record { elements = (plain_has_no_more xs h.1).elements }
+plain_has_no_more (Start index ∷ xs) h = record { elements = (plain_has_no_more xs h.1).elements }
+plain_has_no_more (Code count end ∷ xs) h = record { elements = (plain_has_no_more xs h.1).elements }
+plain_has_no_more (Segment memory place bytes ∷ xs) h = record { elements = (plain_has_no_more xs h.1).elements }
+plain_has_no_more (Element table place functions ∷ xs) h = absurd cc
 
 -- such a module can be instantiated where the memory has room for its segments
 pub plain_is_linkable : (m : Module) → ArePlain m.items → is_linkable m ≡ all_fit (page * pages_of m.items) (data_of m.items)

@@ -124,9 +124,8 @@ pub fn bodies_stand_behind_items()
     ensures valid { (bytes : List ℕ) (m : Module) → IsModule bytes m → AreValidIn m.items 0 m.bodies m.trees }
 {}
 
-/// A module of the sections that are compiled so far has no items but types, functions, tables, memories, globals, exports, the code
-/// section's count and data segments: it imports nothing, writes nothing into its table, has no start function, and can be
-/// instantiated exactly where its memory has room for the segments.
+/// A module of the sections that are compiled so far has no element segments: it writes nothing into its table, and can be
+/// instantiated exactly where its memory has room for the data segments.
 pub fn compiled_items_are_few()
     ensures items { (bytes : List ℕ) →
         let run = module_read bytes in
