@@ -1,17 +1,18 @@
 -- Plain modules, which keep their limits and whose bodies are of covered instructions: so are all that are compiled so far.
 use Rattle.std.proofs.Common.{◌≡◌, ℕ, suc, ◌^◌, ◌<◌, ◌≤◌, List, [], ◌∷◌, length, Some}
+use Rattle.std.specs.Prelude.{slice_get}
 use Rattle.wasm_defs.specs.declared.item.Item.{Item}
-use Rattle.wasm_defs.specs.Limits.{max_module, max_params}
+use Rattle.wasm_defs.specs.Limits.{max_entries, max_module, max_params}
 use Rattle.wasm_defs.specs.Outside.{Body}
 use Rattle.wasm_defs.specs.Trees.{Seq}
 use Rattle.wasm_defs.specs.Typing.{IsBody}
 use Rattle.wasm_defs.specs.Faults.{context_at, Module}
-use Rattle.wasm_defs.specs.Instances.{data_of, exports_of, named, function_of}
+use Rattle.wasm_defs.specs.Instances.{data_of, exports_of, named, function_of, instance_of}
 use Rattle.wasm_laws.specs.Kept.{SpacesAreSmall, ConstantsFit}
 use Rattle.wasm_laws.specs.Plain.{ArePlain}
 use Rattle.frame_layout.specs.Slots.{need}
 use Rattle.sim_frames.specs.Covered.{IsCovered}
-use Rattle.wasm_defs.specs.Context.{functions_of}
+use Rattle.wasm_defs.specs.Context.{types_of, functions_of}
 use Rattle.image_linker.specs.ImageOf.{layout_of}
 use Rattle.image_linker.proofs.SegmentFacts.{AreHeld}
 
@@ -35,5 +36,8 @@ pub record IsCoveredModule (m : Module) : Type 0 where
   pub segments : AreHeld (data_of m.items) max_module
   pub bodies : AreCoveredBodies m.items 0 m.bodies m.trees
   pub functions : length (functions_of m.items) ≡ length m.bodies
+  pub types : length (types_of m.items) ≤ max_entries
+  -- functions in rows of the table are there
+  pub rows : (a f : ℕ) → slice_get (instance_of m).table a ≡ Some (Some f) → f < length m.bodies
   -- exported functions are there
   pub exports : (name : List ℕ) (f : ℕ) → named name (exports_of m.items) ≡ Some f → f < length m.bodies

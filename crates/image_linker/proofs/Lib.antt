@@ -7,6 +7,7 @@ pub mod Items
 pub mod Placed
 pub mod Arguments
 pub mod LoadedMemory
+pub mod TableRows
 pub mod SegmentFacts
 pub mod DataRows
 pub mod Called

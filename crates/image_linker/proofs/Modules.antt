@@ -27,11 +27,12 @@ use Rattle.wasm_laws.specs.Plain.{HasNoMore}
 use Rattle.wasm_laws.proofs.Plain.{plain_has_no_more}
 use Rattle.frame_layout.specs.Templates.{exit_stub}
 use Rattle.image_format.specs.Bounds.{IsOffset}
-use Rattle.image_format.specs.Environment.{segments_of as image_segments}
+use Rattle.image_format.specs.Environment.{segments_of as image_segments, loaded}
 use Rattle.image_format.specs.ImageRun.{Running, begin, first_running, steps, image_run}
 use Rattle.image_format.specs.ImageRun as image_run
 use Rattle.simulation.specs.SameRuns.{SameRuns}
 use Rattle.sim_frames.specs.Functions.{Compiled, Known}
+use Rattle.simulation.specs.Tables.{TableHolds}
 use Rattle.simulation.specs.Laws.{IsInvoked, ImportsStand, EnvironmentStands}
 use Rattle.simulation.proofs.Alike.{functions_run_alike}
 use Rattle.image_linker.specs.ImageOf.{around, distances, code_of_function, stub_places, places_from, front_size, places_of_functions, offset_of, row_of, table_of, segment_of, placed_segments, start_offset, text_of, image_of}
@@ -41,6 +42,7 @@ use Rattle.image_linker.proofs.CoveredModules.{AreCoveredBodies, IsCoveredModule
 use Rattle.image_linker.proofs.CoveredFacts.{module_is_covered}
 use Rattle.image_linker.proofs.Items.{globals_typed, values_in_range, values_are_words}
 use Rattle.image_linker.proofs.LoadedMemory.{HaveBytes}
+use Rattle.image_linker.proofs.TableRows.{table_has_rows, table_stands, table_called}
 use Rattle.image_linker.proofs.Placed.{Placed, code_is_short, text_length, exit_stands, function_stands}
 use Rattle.image_linker.proofs.Called.{IsSmall, IsFirst, is_called}
 
@@ -54,11 +56,13 @@ module _ (m : Module) (good : IsCoveredModule m) (short : length (text_of m) ≤
   none : HasNoMore m.items
   none = plain_has_no_more m.items good.items
 
-  table_length : (b : Bool) → length (table_of m b) ≡ rows_of m.items
-  table_length true =
-      ap (λ (es : List (Written (Option ℕ))). length (map (row_of m) (all_over (replicate (rows_of m.items) None) es))) none.elements
-      ∙ length-map (replicate (rows_of m.items) None) (row_of m) ∙ length-replicate (rows_of m.items) None
-  table_length false = length-replicate (rows_of m.items) (row_of m None)
+  -- the image has as many rows as the table at first, where segments have their places
+  has_all : is_linkable m ≡ true → all_fit (rows_of m.items) (elements_of m.items) ≡ true
+  has_all can_link = (and_parts (all_fit (rows_of m.items) (elements_of m.items)) (all_fit (page * pages_of m.items) (data_of m.items)) can_link).0
+
+  table_length : is_linkable m ≡ true → length (table_of m (is_linkable m)) ≡ rows_of m.items
+  table_length can_link =
+      ap (λ (b : Bool). length (table_of m b)) can_link ∙ length-map (instance_of m).table (row_of m) ∙ table_has_rows m (has_all can_link)
 
   -- the image has the module's segments
   segments_again : (ws : List (Written ℕ)) → image_segments (map segment_of ws) ≡ ws
@@ -71,7 +75,7 @@ module _ (m : Module) (good : IsCoveredModule m) (short : length (text_of m) ≤
   small : is_linkable m ≡ true → IsSmall (image_of m)
   small can_link = record {
     globals = omega (arith, length-map (values_of m.items) value_word, good.spaces.globals);
-    table = omega (arith, table_length (is_linkable m), good.spaces.rows);
+    table = omega (arith, table_length can_link, good.spaces.rows);
     pages = good.spaces.pages;
     cap = good.spaces.cap;
     fit = subst (λ (ws : List (Written ℕ)). all_fit (page * pages_of m.items) ws ≡ true) (sym (placed_are can_link))
@@ -159,8 +163,8 @@ module _ (m : Module) (good : IsCoveredModule m) (short : length (text_of m) ≤
       let within = typed_within g t e in
       (Declared (func g within), declared g within, type_is g within ∙ ap type_or_empty e)
 
-  compiled : (f : ℕ) (within : f < length m.bodies) → Compiled text (instance_of m) places (func f within)
-  compiled f within =
+  compiled : is_linkable m ≡ true → (f : ℕ) (within : f < length m.bodies) → Compiled text (instance_of m) places (func f within)
+  compiled can_link f within =
       let x = there f within in
       record {
         begin = x.begin;
@@ -177,6 +181,8 @@ module _ (m : Module) (good : IsCoveredModule m) (short : length (text_of m) ≤
         params = refl;
         locals = refl;
         highest = refl;
+        rows_are = sym (table_has_rows m (has_all can_link));
+        like_is = refl;
         fits = x.good.fits;
         has = x.has;
         inside = has_inside text x.begin (code_of_function m.items (places_of_functions m) x.begin f x.body x.tree) (omega arith) x.has;
@@ -196,19 +202,34 @@ module _ (m : Module) (good : IsCoveredModule m) (short : length (text_of m) ≤
       let is = place_is f within in
       (omega (arith, is, inside, some, few), omega (arith, is), omega (arith, is, inside, some, count))
 
-  known : (i : ℕ) (h : Function) → slice_get (functions_of m) i ≡ Some h → Known text (instance_of m) places i h
+  known : is_linkable m ≡ true → (i : ℕ) (h : Function) → slice_get (functions_of m) i ≡ Some h → Known text (instance_of m) places i h
   unfolding compiled
-  known i h is =
+  known can_link i h is =
       let within = within_bodies i h is in
       let there_is = declared i within in
-      record { func = func i within; is = cc; compiled = compiled i within; begin_is = place_at i within }
+      record { func = func i within; is = cc; compiled = compiled can_link i within; begin_is = place_at i within }
 
   -- none is imported
   no_imports : ImportsStand (instance_of m) (image_of m)
-  no_imports index number ty is = let x = (known index (Imported number ty) is).is in absurd cc
+  no_imports index number ty is = let x = declared index (within_bodies index (Imported number ty) is) in let wrong : Imported number ty ≡ Declared (func index (within_bodies index (Imported number ty) is)) = cc in absurd cc
 
   environment : EnvironmentStands (instance_of m) (image_of m)
   environment = record { imports = no_imports; cap = refl; few = omega (arith, good.spaces.cap) }
+
+  -- a row's function is declared, and its place lies in the text
+  in_row : (a f : ℕ) → slice_get (instance_of m).table a ≡ Some (Some f) → (h : Function) × (slice_get (functions_of m) f ≡ Some h) × (type_of h ≡ type_of_function (context_of m.items) f)
+  in_row a f is = let within = good.rows a f is in (Declared (func f within), declared f within, type_is f within)
+
+  place_is_near : (a f : ℕ) → slice_get (instance_of m).table a ≡ Some (Some f) → places f < 2 ^ 60
+  place_is_near a f is =
+      let within = good.rows a f is in
+      let x = there f within in
+      let inside = has_inside text x.begin (code_of_function m.items (places_of_functions m) x.begin f x.body x.tree) (omega arith) x.has in
+      let few = code_is_short m short in
+      omega (arith, place_at f within)
+
+  table_now : is_linkable m ≡ true → TableHolds (instance_of m) places (loaded (image_of m))
+  table_now can_link = table_stands m can_link (omega (arith, good.types)) places (λ f. refl) place_is_near in_row
 
   module _ (can_link : is_linkable m ≡ true) (f : ℕ) (within : f < length m.bodies) where
     pub function_runs_alike : (arguments : List Value) (replies : List Reply) → are_of (type_of_function (context_of m.items) f).params arguments ≡ true
@@ -221,7 +242,7 @@ module _ (m : Module) (good : IsCoveredModule m) (short : length (text_of m) ≤
         let typed : are_of g.ty.params arguments ≡ true = ap (λ (ty : FuncType). are_of ty.params arguments) (type_is f within) ∙ are in
         let called = is_called (image_of m) (small can_link) g x.begin store arguments replies typed x.good.few_params (first can_link replies) in
         let r = begin (image_of m) replies (record { offset = 4 * x.begin; arguments = arguments }, g.ty.results) [] in
-        let same = functions_run_alike (instance_of m) (image_of m) places (Declared g) f store arguments r (λ i h is. inl (known i h is)) environment (declared f within) (subst (λ (n : ℕ). IsInvoked g.ty n (cap_of m.items) store arguments r) (place_at f within) called) (globals_typed m.items) (exit_stands m good) (code_is_short m short) in
+        let same = functions_run_alike (instance_of m) (image_of m) places (Declared g) f store arguments r (λ i h is. inl (known can_link i h is)) environment (declared f within) (subst (λ (n : ℕ). IsInvoked g.ty n (cap_of m.items) store arguments r) (place_at f within) called) (globals_typed m.items) (table_called (instance_of m) places (image_of m) replies (record { offset = 4 * x.begin; arguments = arguments }, g.ty.results) [] (table_now can_link)) (exit_stands m good) (code_is_short m short) in
         subst (λ (q : Running). SameRuns (module_run m f arguments replies) (λ n. image_run.run_of (steps (image_of m) n q))) (sym (first_is f within replies arguments)) (
         subst (λ (start : Option ℕ). SameRuns (λ k. module_run.run_of (run (instance_of m) k (first_state start store invoked))) (λ n. image_run.run_of (steps (image_of m) n r))) (sym none.start) same)
 
