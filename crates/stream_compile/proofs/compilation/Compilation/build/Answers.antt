@@ -1,4 +1,5 @@
-use Rattle.std.proofs.Common.{ap, ◌∙◌}
+use Rattle.std.proofs.Common.{sym, ap, ◌∙◌, subst}
+use Rattle.image_format.specs.Contents.{IsImage}
 use Rattle.index_spaces.specs.Spaces.{Spaces}
 use Rattle.image_linker.specs.Linking.{linked}
 use Rattle.stream_compile.specs.declared.answer.Checked.{Checked}
@@ -8,7 +9,7 @@ use Rattle.stream_compile.proofs.compilation.Compilation.build.Goals as goal
 pub link-requires-clause-bounded : goal.link-requires-clause-bounded
 link-requires-clause-bounded c =
     let d = c.requires.done in
-    rw c.context.ensures (is_bounded d.0 c.args.self.now c.as_slice.result.now d.1 c.as_slice.ensures)
+    subst (λ (s : Spaces). IsImage (linked s c.as_slice.result.now)) (sym c.context.ensures) (is_bounded d.0 c.args.self.now c.as_slice.result.now d.1 c.as_slice.ensures)
 
 pub link-requires-clause-numbers : goal.link-requires-clause-numbers
 link-requires-clause-numbers c = let d = c.requires.done.1 in rw c.context.ensures d.numbers
