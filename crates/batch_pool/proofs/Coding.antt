@@ -4,7 +4,8 @@ use Rattle.std.proofs.lemmas.List.{append-nil}
 use Rattle.std.proofs.lemmas.List.Elements.{All-tail, All-cons}
 use Rattle.wasm_defs.specs.declared.fault.Refusal.{Refusal}
 use Rattle.wasm_defs.specs.Bodies.{body_read}
-use Rattle.wasm_defs.specs.Typing.{Context}
+use Rattle.wasm_defs.specs.Instances.{first_minimum}
+use Rattle.index_spaces.specs.Spaces.{Spaces, context_in}
 use Rattle.wasm_laws.proofs.Verdicts.{code_fault_inside}
 use Rattle.body_cutter.specs.declared.body.Body.{Body}
 use Rattle.body_compiler.specs.declared.code.BodyStop.TheVariants.{Refused}
@@ -16,11 +17,11 @@ use Rattle.body_compiler.specs.Compiling.{Compiles}
 use Rattle.batch_pool.specs.declared.bodies.Made.TheVariants.{Faulty}
 use Rattle.batch_pool.specs.Working.{CompilesBody, IsCodeFor, AreCodesFor, IsRow, IsMade, FitsBody}
 
-pub fault_inside : (c : Context) (b : Body) (r : Refusal) → IsLowBody b → CompilesBody c b (Err (Refused r)) → r.offset < b.first + length b.bytes
+pub fault_inside : (c : Spaces) (b : Body) (r : Refusal) → IsLowBody b → CompilesBody c b (Err (Refused r)) → r.offset < b.first + length b.bytes
 fault_inside c b r low fault = let some = low.some in
     (code_fault_inside (context_of_body c b.index (body_read b.first b.bytes)) (record { size = b.size; first = b.first; bytes = b.bytes }) r (omega arith) fault).1
 
-module _ (c : Context) (cells : List ℕ) where
+module _ (c : Spaces) (cells : List ℕ) where
   pub codes_push : (bs : List Body) (ks : List RowCode) (b : Body) (k : RowCode) → AreCodesFor c cells bs ks → IsCodeFor c cells b k → AreCodesFor c cells (bs ++ b ∷ []) (ks ++ k ∷ [])
   codes_push [] [] b k are is = (is, tt)
   codes_push [] (x ∷ ks) b k are is = absurd are
@@ -52,5 +53,5 @@ module _ (c : Context) (cells : List ℕ) where
   coding_ends bodies rest codes i over = subst (λ (l : List Body). AreCodesFor c cells l codes) (sym (i.1 ∙ (ap (λ (l : List Body). i.0 ++ l) over ∙ append-nil i.0))) i.2
 
   -- what compiling answered, of the body's bytes
-  pub refused_of : (b : Body) (bytes : List ℕ) (stop : BodyStop) (r : Refusal) → bytes ≡ b.bytes → stop ≡ Refused r → Compiles c b.index (body_read b.first bytes) (Err stop) → CompilesBody c b (Err (Refused r))
-  refused_of b bytes stop r same is compiled = subst (λ (z : List ℕ × BodyStop). Compiles c b.index (body_read b.first z.0) (Err z.1)) (λ i. (same i, is i)) compiled
+  pub refused_of : (b : Body) (bytes : List ℕ) (stop : BodyStop) (r : Refusal) → bytes ≡ b.bytes → stop ≡ Refused r → Compiles (first_minimum c.tables) (context_in c) b.index (body_read b.first bytes) (Err stop) → CompilesBody c b (Err (Refused r))
+  refused_of b bytes stop r same is compiled = subst (λ (z : List ℕ × BodyStop). Compiles (first_minimum c.tables) (context_in c) b.index (body_read b.first z.0) (Err z.1)) (λ i. (same i, is i)) compiled

@@ -2,7 +2,6 @@
 ghost use Rattle.std.specs.Prelude.{true, ℕ, ◌≡◌, ◌<◌, ◌^◌, ◌↔◌, ◌++◌, ◌∷◌, [], All, IsTrue, IfOk, IfSome, OnOk, OnErr, length};
 ghost use Rattle.std.specs.Arc.{arc_value};
 ghost use Rattle.wasm_laws.specs.Kept.{TypesAreSmall};
-ghost use Rattle.index_spaces.specs.Spaces.{context_in};
 ghost use Rattle.cancel_drain.specs.Views.{times};
 ghost use Rattle.batch_pool.specs.Low.{IsLow};
 ghost use Rattle.batch_pool.specs.Working.{IsRowOf, FitsBody, Fits, Grows, IsServed};
@@ -27,14 +26,14 @@ const LAST_TURN: u32 = 1_048_576;
 
 /// Whether the function of a body is in the context, and has a cell.
 fn fits_body(cells: &Cells, context: &Context, body: &Body) -> bool
-    ensures { IsTrue result ↔ FitsBody (context_in context.now) (length cells.now) body.now }
+    ensures { IsTrue result ↔ FitsBody context.now (length cells.now) body.now }
 {
     context.has_type_of_function(body.index) && body.index < cells.count()
 }
 
 /// Whether all bodies fit.
 fn fit_all(cells: &Cells, context: &Context, bodies: &LinkedList<Body>) -> bool
-    ensures { IsTrue result ↔ All (FitsBody (context_in context.now) (length cells.now)) bodies.now }
+    ensures { IsTrue result ↔ All (FitsBody context.now (length cells.now)) bodies.now }
 {
     for body in bodies.iter() {
         if !fits_body(cells, context, body) {
@@ -46,7 +45,7 @@ fn fit_all(cells: &Cells, context: &Context, bodies: &LinkedList<Body>) -> bool
 
 /// Whether the board has a place for a batch, and its bodies fit.
 pub fn fits(board: &Board, cells: &Cells, context: &Context, ticket: &Ticket) -> bool
-    ensures { IsTrue result ↔ Fits (context_in context.now) board.now.functions (length cells.now) ticket.now }
+    ensures { IsTrue result ↔ Fits context.now board.now.functions (length cells.now) ticket.now }
 {
     ticket.number < board.functions() && fit_all(cells, context, ticket.batch.bodies.as_list())
 }
@@ -98,12 +97,12 @@ fn run(
     batch: Arc<Batch, Global>,
 ) -> Result<Row, AllocError>
     requires table { seat.old.table ≡ board.now.table }
-    requires fits { All (FitsBody (context_in context.now) (length cells.now)) (arc_value batch).bodies }
+    requires fits { All (FitsBody context.now (length cells.now)) (arc_value batch).bodies }
     requires types { TypesAreSmall context.now.types }
     requires low { IsLow (arc_value batch) }
     requires running { 0 < times (arc_value batch).number (arc_value batch).start seat.old.view.running }
     ensures table { seat.new.table ≡ seat.old.table }
-    ensures row { IfOk result (IsRowOf (context_in context.now) cells.now) }
+    ensures row { IfOk result (IsRowOf context.now cells.now) }
     ensures batch { IfOk result (λ row. arc_value row.batch ≡ arc_value batch) }
     ensures runs { IfOk result (λ row. Runs seat.old.view row seat.new.view) }
     ensures err { OnErr result (seat.new ≡ seat.old) }
@@ -131,9 +130,9 @@ pub fn serve<G: Gate>(
     requires table { seat.old.table ≡ board.now.table }
     requires types { TypesAreSmall context.now.types }
     ensures table { seat.new.table ≡ seat.old.table }
-    ensures grows { Grows (context_in context.now) cells.now seat.old.view seat.new.view rows.old.items rows.new.items }
+    ensures grows { Grows context.now cells.now seat.old.view seat.new.view rows.old.items rows.new.items }
     ensures running { OnOk result (seat.new.view.running ≡ seat.old.view.running) }
-    ensures served { OnOk result (Fits (context_in context.now) board.now.functions (length cells.now) ticket → IsServed seat.new.view ticket) }
+    ensures served { OnOk result (Fits context.now board.now.functions (length cells.now) ticket → IsServed seat.new.view ticket) }
 {
     if !fits(board, cells, context, &ticket) {
         return Ok(());

@@ -8,7 +8,7 @@ use Rattle.wasm_defs.specs.declared.operation.ConvertOp.TheVariants.{Wrap, Exten
 use Rattle.wasm_defs.specs.declared.token.BlockType.{BlockType}
 use Rattle.wasm_defs.specs.declared.token.BlockType.TheVariants.{Empty, Value, Index}
 use Rattle.wasm_defs.specs.declared.token.Plain.{Plain}
-use Rattle.wasm_defs.specs.declared.token.Plain.TheVariants.{Unreachable, Nop, Br, BrIf, BrTable, Return, Call, Discard, Select, LocalGet, LocalSet, LocalTee, GlobalGet, GlobalSet, Load, Store, MemorySize, MemoryGrow, Const, Operate}
+use Rattle.wasm_defs.specs.declared.token.Plain.TheVariants.{Unreachable, Nop, Br, BrIf, BrTable, Return, Call, CallIndirect, Discard, Select, LocalGet, LocalSet, LocalTee, GlobalGet, GlobalSet, Load, Store, MemorySize, MemoryGrow, Const, Operate}
 use Rattle.wasm_defs.specs.declared.token.Token.{Token}
 use Rattle.wasm_defs.specs.declared.token.Token.TheVariants as token
 use Rattle.wasm_defs.specs.declared.types.FuncType.{FuncType}
@@ -128,9 +128,16 @@ straight_low c (Const t n) s = omega arith
 straight_low c (Operate op) s = operation_low op
 straight_low c _ s = absurd cc
 
-called_low : (t : Option FuncType) → ((f : FuncType) → t ≡ Some f → length f.results ≤ 1) → IsLow (with_type t (called []))
-called_low None h = tt
-called_low (Some f) h = let n = length-reverse f.results in let k = h f refl in omega arith
+called_low : (on_top : Types) (t : Option FuncType) → ((f : FuncType) → t ≡ Some f → length f.results ≤ 1) → IsLow (with_type t (called on_top))
+called_low on_top None h = tt
+called_low on_top (Some f) h = let n = length-reverse f.results in let k = h f refl in omega arith
+
+function_small : (c : Context) → FunctionsAreSmall c → (f : ℕ) (t : FuncType) → function_type c f ≡ Some t → length t.results ≤ 1
+function_small c small f t e = by (slice_get c.functions f) refl
+  where
+    by : (o : Option ℕ) → slice_get c.functions f ≡ o → length t.results ≤ 1
+    by None is = let h : None ≡ Some t = rw is at e in absurd cc
+    by (Some i) is = let h : slice_get c.types i ≡ Some t = rw is at e in small i t h
 
 control_low : (c : Context) (p : Plain) → LabelsAreSmall c.labels → FunctionsAreSmall c → is_control_plain p ≡ true → IsLow (rule_of c p)
 control_low c Unreachable small functions s = tt
@@ -138,7 +145,8 @@ control_low c (Br l) small functions s = type_low (slice_get c.labels l) Stops (
 control_low c (BrIf l) small functions s = type_low (slice_get c.labels l) (λ ts. Fixed (I32 ∷ ts) ts) (λ ts e. small l ts e)
 control_low c (BrTable ls l) small functions s = type_low (slice_get c.labels l) (λ ts. only_if (are_labels c.labels ts ls) (Stops (I32 ∷ ts))) (λ ts e. only_low (are_labels c.labels ts ls) (Stops (I32 ∷ ts)) tt)
 control_low c Return small functions s = tt
-control_low c (Call f) small functions s = called_low (function_type c f) (λ t e. functions f t e)
+control_low c (Call f) small functions s = called_low [] (function_type c f) (λ t e. function_small c functions f t e)
+control_low c (CallIndirect i) small functions s = only_low (nat_lt 0 c.tables) (with_type (slice_get c.types i) (called (I32 ∷ []))) (called_low (I32 ∷ []) (slice_get c.types i) (λ t e. functions i t e))
 control_low c _ small functions s = absurd cc
 
 plain_low : (c : Context) (p : Plain) → LabelsAreSmall c.labels → FunctionsAreSmall c → IsTakenPlain p → IsLow (rule_of c p)
@@ -204,7 +212,11 @@ functions_at c [] f = refl
 functions_at c (g ∷ fs) f = functions_at c fs f
 
 small_at : (c : Context) (fs : Frames) → FunctionsAreSmall c → FunctionsAreSmall (at c fs)
-small_at c fs h f t e = h f t (sym (functions_at c fs f) ∙ e)
+small_at c fs h i t e = h i t (ap (λ (ts : List FuncType). slice_get ts i) (sym (types_at c fs)) ∙ e)
+  where
+    types_at : (c : Context) (fs : Frames) → (at c fs).types ≡ c.types
+    types_at c [] = refl
+    types_at c (f ∷ fs) = types_at c fs
 
 step_rises : (c : Context) (t : Token) (fs gs : Frames) → c.labels ≡ [] → FunctionsAreSmall c → IsTaken t → AllSmall fs → step c t fs ≡ Some gs → Rises fs gs
 step_rises c t [] gs none functions taken h e = absurd cc

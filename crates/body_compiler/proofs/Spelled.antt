@@ -6,7 +6,7 @@ use Rattle.std.proofs.Math.Seq.{drop-append_seam}
 use Rattle.wasm_defs.specs.declared.token.BlockType.{BlockType}
 use Rattle.wasm_defs.specs.declared.token.BlockType.TheVariants.{Empty, Value, Index}
 use Rattle.wasm_defs.specs.declared.token.Plain.{Plain}
-use Rattle.wasm_defs.specs.declared.token.Plain.TheVariants.{Unreachable, Nop, Br, BrIf, BrTable, Return, Call, Discard, Select, LocalGet, LocalSet, LocalTee, GlobalGet, GlobalSet, Load, Store, MemorySize, MemoryGrow, Const, Operate}
+use Rattle.wasm_defs.specs.declared.token.Plain.TheVariants.{Unreachable, Nop, Br, BrIf, BrTable, Return, Call, CallIndirect, Discard, Select, LocalGet, LocalSet, LocalTee, GlobalGet, GlobalSet, Load, Store, MemorySize, MemoryGrow, Const, Operate}
 use Rattle.wasm_defs.specs.declared.token.Token.{Token}
 use Rattle.wasm_defs.specs.declared.token.Token.TheVariants as token
 use Rattle.wasm_defs.specs.Bodies.{instruction}
@@ -21,7 +21,7 @@ use Rattle.wasm_laws.proofs.BodyLaws.{instruction_steady}
 use Rattle.wasm_laws.proofs.Bytes.{each_byte}
 use Rattle.wasm_laws.proofs.Compiled.{IsCompiledToken, instruction_is_compiled}
 use Rattle.wasm_laws.proofs.Ranges.{InRange, instruction_in_range}
-use Rattle.body_compiler.specs.Steps.{called_plain, is_control_plain, IsSpelledType, IsTaken, IsTakenPlain}
+use Rattle.body_compiler.specs.Steps.{called_plain, indirect_plain, is_control_plain, IsSpelledType, IsTaken, IsTakenPlain}
 use Rattle.wasm_defs.specs.Supported.{is_compiled_opcode}
 use Rattle.body_compiler.proofs.Going.{byte_is}
 
@@ -68,18 +68,19 @@ taken_token at b d e t bytes compiled is =
     (subst (λ (x : Read Token). IfGot InRange x) is (instruction_in_range at b d (each_byte d.rest bytes)))
 
 -- an instruction that is none of these is straight
-pub others : (p : Plain) → IsTakenPlain p → (p ≡ Unreachable → ⊥) → ((l : ℕ) → p ≡ Br l → ⊥) → ((l : ℕ) → p ≡ BrIf l → ⊥) → ((ls : List ℕ) (l : ℕ) → p ≡ BrTable ls l → ⊥) → (p ≡ Return → ⊥) → called_plain p ≡ None → (is_straight_plain p ≡ true) × IsInRange p
-others p (inr h) a b c d e n = h
-others p (inl h) a b c d e n = absurd (none p h a b c d e n)
+pub others : (p : Plain) → IsTakenPlain p → (p ≡ Unreachable → ⊥) → ((l : ℕ) → p ≡ Br l → ⊥) → ((l : ℕ) → p ≡ BrIf l → ⊥) → ((ls : List ℕ) (l : ℕ) → p ≡ BrTable ls l → ⊥) → (p ≡ Return → ⊥) → called_plain p ≡ None → indirect_plain p ≡ None → (is_straight_plain p ≡ true) × IsInRange p
+others p (inr h) a b c d e n m = h
+others p (inl h) a b c d e n m = absurd (none p h a b c d e n m)
   where
-    none : (p : Plain) → is_control_plain p ≡ true → (p ≡ Unreachable → ⊥) → ((l : ℕ) → p ≡ Br l → ⊥) → ((l : ℕ) → p ≡ BrIf l → ⊥) → ((ls : List ℕ) (l : ℕ) → p ≡ BrTable ls l → ⊥) → (p ≡ Return → ⊥) → called_plain p ≡ None → ⊥
-    none Unreachable h a b c d e n = a refl
-    none (Br l) h a b c d e n = b l refl
-    none (BrIf l) h a b c d e n = c l refl
-    none (BrTable ls l) h a b c d e n = d ls l refl
-    none Return h a b c d e n = e refl
-    none (Call f) h a b c d e n = absurd cc
-    none _ h a b c d e n = absurd cc
+    none : (p : Plain) → is_control_plain p ≡ true → (p ≡ Unreachable → ⊥) → ((l : ℕ) → p ≡ Br l → ⊥) → ((l : ℕ) → p ≡ BrIf l → ⊥) → ((ls : List ℕ) (l : ℕ) → p ≡ BrTable ls l → ⊥) → (p ≡ Return → ⊥) → called_plain p ≡ None → indirect_plain p ≡ None → ⊥
+    none Unreachable h a b c d e n m = a refl
+    none (Br l) h a b c d e n m = b l refl
+    none (BrIf l) h a b c d e n m = c l refl
+    none (BrTable ls l) h a b c d e n m = d ls l refl
+    none Return h a b c d e n m = e refl
+    none (Call f) h a b c d e n m = absurd cc
+    none (CallIndirect i) h a b c d e n m = absurd cc
+    none _ h a b c d e n m = absurd cc
 
 -- ---- bytes
 

@@ -90,11 +90,12 @@ fn take_instruction(
     requires slots { link draft.old.layout ≤ 51000 }
     ensures shrinks { OnOk result (length fields.new.rest ≤ length fields.old.rest) }
     ensures layout { draft.new.layout ≡ draft.old.layout }
+    ensures rows { draft.new.rows ≡ draft.old.rows }
     ensures held { OnOk result (IsHeld (drafted draft.new.labels draft.new.words)) }
     ensures bytes { OnOk result (AreBytes fields.new.rest) }
     ensures tied { OnOk result (AreTied draft.new.labels check.new (length fields.new.rest)) }
     ensures grows { OnOk result (length draft.old.words ≤ length draft.new.words) }
-    ensures goes { (c : ContextGiven) (code : SpelledGiven) (before : CursorGiven) (front : List ℕ) → IsCompiling c last before check.old code draft.old.layout front (calling draft.old.labels draft.old.words draft.old.calls.items) → byte before ≡ Got (at, opcode) fields.old → check.old.checker.frames ≢ [] → Goes c last code draft.old.layout front result fields.new check.new (calling draft.new.labels draft.new.words draft.new.calls.items) }
+    ensures goes { (c : ContextGiven) (code : SpelledGiven) (before : CursorGiven) (front : List ℕ) → IsCompiling c last before check.old code draft.old.layout front (calling draft.old.labels draft.old.words draft.old.calls.items draft.old.rows) → byte before ≡ Got (at, opcode) fields.old → check.old.checker.frames ≢ [] → Goes c last code draft.old.layout front result fields.new check.new (calling draft.new.labels draft.new.words draft.new.calls.items draft.new.rows) }
 {
     let compiled = is_compiled_opcode(opcode);
     match instruction(fields, alloc, at, opcode) {
@@ -141,11 +142,12 @@ pub fn judge_code(
     requires tied { AreTied draft.old.labels check.old (length fields.old.rest) }
     requires slots { link draft.old.layout ≤ 51000 }
     ensures layout { draft.new.layout ≡ draft.old.layout }
+    ensures rows { draft.new.rows ≡ draft.old.rows }
     ensures held { OnOk result (IsHeld (drafted draft.new.labels draft.new.words)) }
     ensures over { OnOk result (check.new.checker.frames ≡ []) }
     ensures most { OnOk result (check.new.checker.greatest ≤ max_body) }
     ensures grows { OnOk result (length draft.old.words ≤ length draft.new.words) }
-    ensures judges { (c : ContextGiven) (code : SpelledGiven) (front : List ℕ) → IsCompiling c last fields.old check.old code draft.old.layout front (calling draft.old.labels draft.old.words draft.old.calls.items) → Judges c code draft.old.layout front result check.new (calling draft.new.labels draft.new.words draft.new.calls.items) }
+    ensures judges { (c : ContextGiven) (code : SpelledGiven) (front : List ℕ) → IsCompiling c last fields.old check.old code draft.old.layout front (calling draft.old.labels draft.old.words draft.old.calls.items draft.old.rows) → Judges c code draft.old.layout front result check.new (calling draft.new.labels draft.new.words draft.new.calls.items draft.new.rows) }
 {
     while !check.is_over() {
         match fields.byte() {

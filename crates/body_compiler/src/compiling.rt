@@ -3,6 +3,7 @@
 ghost use Rattle.std.specs.Prelude.{◌≡◌, ◌+◌, ◌<◌, ◌≤◌, ◌^◌, [], IsSome, length};
 ghost use Rattle.wasm_defs.specs.Bodies.{body_read, Spelled as SpelledGiven};
 ghost use Rattle.wasm_defs.specs.Context.{type_of_function};
+ghost use Rattle.wasm_defs.specs.Instances.{first_minimum};
 ghost use Rattle.wasm_defs.specs.Limits.{max_body, max_locals};
 ghost use Rattle.wasm_defs.specs.Typing.{Context as ContextGiven, function_type};
 ghost use Rattle.index_spaces.specs.Spaces.{context_in};
@@ -25,9 +26,11 @@ use rv_isa::Code;
 use std::alloc::Global;
 use wasm_defs::FuncType;
 
-/// Compiles the code of a body whose last byte has the offset `last`, of a function of that type with so many declared locals.
+/// Compiles the code of a body whose last byte has the offset `last`, of a function of that type with so many declared locals, in a
+/// module whose table has so many rows at first.
 fn compile_code(
     alloc: Global,
+    rows: u32,
     function: &FuncType,
     locals: u32,
     fields: &mut Fields<'_>,
@@ -42,7 +45,7 @@ fn compile_code(
     requires unlabelled { check.context.labels ≡ [] }
     requires functions { FunctionsAreSmall check.context }
     requires results { length check.context.results ≡ length function.now.results }
-    ensures { (c : ContextGiven) (code : SpelledGiven) (g : IsGoing c last fields.old check.entry code) → g.tokens ≡ [] → length c.results ≡ length function.now.results → Makes c code (record { params = length function.now.params; locals = locals; greatest = 0 }) (length function.now.results) result }
+    ensures { (c : ContextGiven) (code : SpelledGiven) (g : IsGoing c last fields.old check.entry code) → g.tokens ≡ [] → length c.results ≡ length function.now.results → Makes rows c code (record { params = length function.now.params; locals = locals; greatest = 0 }) (length function.now.results) result }
 {
     let layout = Layout {
         params: function.params.as_slice().len() as u32,
@@ -51,7 +54,7 @@ fn compile_code(
     };
     let results = function.results.as_slice().len() as u32;
     let bytes = fields.rest().len();
-    let Ok(mut draft) = begin(alloc, layout, results, bytes) else {
+    let Ok(mut draft) = begin(alloc, layout, rows, results, bytes) else {
         return Err(BodyStop::NoMemory);
     };
     match judge_code(alloc, fields, &mut check, &mut draft, last) {
@@ -62,6 +65,16 @@ fn compile_code(
     match finish(draft, greatest as u32, results) {
         Ok(code) => Ok(code),
         Err(_) => Err(BodyStop::NoMemory),
+    }
+}
+
+/// The rows that the table has at first (Core 4.5.3), or 0 where there is none.
+fn rows_of(context: &Context) -> u32
+    ensures { result ≡ first_minimum context.now.tables }
+{
+    match context.tables().first() {
+        Some(limits) => limits.min.1,
+        None => 0,
     }
 }
 
@@ -82,7 +95,7 @@ pub fn compile(
     requires types { TypesAreSmall (context_in context.now).types }
     requires most { length bytes.now ≤ max_body }
     requires fits { offset + length bytes.now < 2 ^ 63 }
-    ensures { Compiles (context_in context.now) index (body_read offset bytes.now) result }
+    ensures { Compiles (first_minimum context.now.tables) (context_in context.now) index (body_read offset bytes.now) result }
 {
     let len = bytes.len() as u64;
     let last = offset + len.saturating_sub(1);
@@ -93,7 +106,8 @@ pub fn compile(
     match declare_locals(&mut fields, &mut check) {
         Ok(locals) => {
             let function = context.type_of_function(index);
-            compile_code(alloc, function, locals, &mut fields, check, last)
+            let rows = rows_of(context);
+            compile_code(alloc, rows, function, locals, &mut fields, check, last)
         }
         Err(stop) => Err(stop_of(stop, last)),
     }

@@ -1,16 +1,16 @@
 -- The modules that verdicts accept so far are of covered instructions.
-use Rattle.std.proofs.Common.{◌≡◌, ℕ, zero, suc, ◌+◌, ◌<◌, ◌≤◌, ◌&&◌, Option, true, List, [], ◌∷◌, length, None, Some, refl, sym, ap, subst, arith}
+use Rattle.std.proofs.Common.{◌≡◌, ℕ, zero, suc, ◌+◌, ◌<◌, ◌≤◌, ◌&&◌, Option, true, List, [], ◌∷◌, length, None, Some, refl, sym, ap, subst, arith, replicate, ◌∙◌}
 use Rattle.std.proofs.lemmas.Bool.{and_parts, false≢true}
 use Rattle.wasm_defs.specs.declared.item.Item.{Item}
 use Rattle.wasm_defs.specs.declared.types.ValType.TheVariants.{I32, I64}
 use Rattle.wasm_defs.specs.declared.token.Plain.{Plain}
 use Rattle.wasm_defs.specs.declared.token.Plain.TheVariants.{Unreachable, Br, BrIf, BrTable, Return, Call, Nop, Discard, Select, LocalGet, LocalSet, LocalTee, GlobalGet, GlobalSet, Load, Store, MemorySize, MemoryGrow, Const, Operate}
-use Rattle.wasm_defs.specs.Context.{type_or_empty, type_of_function, context_of, import_count, declared_count, functions_of}
+use Rattle.wasm_defs.specs.Context.{type_or_empty, type_of_function, context_of, import_count, declared_count, types_of, functions_of}
 use Rattle.wasm_defs.specs.Entries.{Seen}
 use Rattle.wasm_defs.specs.Outside.{Body, Ending, Whole, Refused, Owed, module_read}
 use Rattle.wasm_defs.specs.Trees.{Seq, Nothing, Simple, Block, Loop, If, IfElse}
 use Rattle.wasm_defs.specs.Faults.{tokens_of, read_of, context_at, ending_fault, IsValidCode, Module, IsModule}
-use Rattle.wasm_defs.specs.Instances.{exports_of, named, start_of}
+use Rattle.wasm_defs.specs.Instances.{Written, rows_of, all_over, instance_of, exports_of, named, start_of}
 use Rattle.wasm_laws.specs.Behind.{AreValidIn}
 use Rattle.wasm_laws.specs.Kept.{TypesAreSmall, BodyIsSmall, BodiesAreSmall, SpacesAreSmall, ConstantsFit, AreThere, TakesNothing}
 use Rattle.wasm_laws.specs.Plain.{ArePlain}
@@ -20,10 +20,12 @@ use Rattle.wasm_laws.proofs.Behind.{bodies_are_valid}
 use Rattle.wasm_laws.proofs.Bytes.{each_byte, HaveBytes, bodies_have_bytes}
 use Rattle.wasm_laws.proofs.Constants.{constants_fit}
 use Rattle.wasm_laws.proofs.Counts.{bodies_match}
+use Rattle.wasm_laws.proofs.Counted.{entries_in, entries_are_few}
+use Rattle.wasm_defs.specs.Limits.{max_entries}
 use Rattle.wasm_laws.proofs.Exports.{types_are_small, function_is_small, exports_are_there, named_is_there}
 use Rattle.wasm_laws.proofs.Counting.{tokens_are_few}
 use Rattle.wasm_laws.proofs.Locals.{bodies_are_small}
-use Rattle.wasm_laws.proofs.Plain.{items_are_plain}
+use Rattle.wasm_laws.proofs.Plain.{items_are_plain, plain_has_no_more}
 use Rattle.wasm_laws.proofs.Ranges.{constant_fits, long_constant_fits, tree_is_in_range}
 use Rattle.wasm_laws.proofs.Spaces.{spaces_are_small}
 use Rattle.wasm_laws.proofs.Starts.{start_is_right}
@@ -31,7 +33,7 @@ use Rattle.wasm_laws.proofs.Compiled.{tree_is_compiled}
 use Rattle.wasm_laws.proofs.Typed.{functions_of-counts}
 use Rattle.sim_frames.specs.Covered.{IsCoveredStep, IsCovered}
 use Rattle.wasm_defs.specs.Typing.{Types, Context, inside, function_type}
-use Rattle.std.specs.Prelude.{slice_get}
+use Rattle.std.specs.Prelude.{◌≢◌, slice_get}
 use Rattle.std.proofs.lemmas.List.{length-reverse}
 use Rattle.std.proofs.lemmas.Option.{slice_get_within}
 use Rattle.wasm_defs.specs.declared.types.FuncType.{FuncType}
@@ -43,6 +45,7 @@ use Rattle.sim_frames.proofs.Lows.{TakesOne, IsFew, FewIn, body_low, tokens_spel
 use Rattle.image_linker.proofs.CoveredModules.{IsCoveredBody, AreCoveredBodies, IsCoveredModule}
 use Rattle.image_linker.proofs.Imported.{ImportsFirst, imports_come_first}
 use Rattle.image_linker.proofs.SegmentFacts.{segments_are_held}
+use Rattle.image_linker.proofs.TableRows.{types_are_few}
 
 -- ---- bodies
 
@@ -122,7 +125,7 @@ few_functions c small f t e = by (slice_get c.functions f) refl
     by (Some i) is = let h : slice_get c.types i ≡ Some t = rw is at e in small_at c.types small i t h
 
 few_in : (c : Context) → TypesAreSmall c.types → c.labels ≡ [] → length c.results ≤ 1 → FewIn (inside c c.results)
-few_in c small none one = record { labels = labels; functions = few_functions c small }
+few_in c small none one = record { labels = labels; functions = few_functions c small; types = small_at c.types small }
   where
     none_there : (ls : List Types) (l : ℕ) (ts : Types) → ls ≡ [] → slice_get ls l ≡ Some ts → length ts ≤ 1
     none_there [] l ts e is = absurd cc
@@ -207,6 +210,22 @@ module _ (bytes : List ℕ) (m : Module) (fits : AreBytes bytes) (is : IsModule 
   small_types : TypesAreSmall (context_of m.items).types
   small_types = subst (λ (items : List Item). TypesAreSmall (context_of items).types) (sym is.items) (types_are_small bytes)
 
+  -- so far no row has a function
+  no_row : (n a f : ℕ) → slice_get (replicate n None) a ≢ Some (Some f)
+  no_row zero a f e = absurd cc
+  no_row (suc n) zero f e = absurd cc
+  no_row (suc n) (suc a) f e = no_row n a f e
+
+  in_rows : (a f : ℕ) → slice_get (instance_of m).table a ≡ Some (Some f) → f < length (functions_of m.items)
+  in_rows a f e =
+      let none = (plain_has_no_more m.items plain).elements in
+      absurd (no_row (rows_of m.items) a f (ap (λ (es : List (Written (Option ℕ))). slice_get (all_over (replicate (rows_of m.items) None) es) a) (sym none) ∙ e))
+
+  few_types : length (types_of m.items) ≤ max_entries
+  few_types =
+      let listed : entries_in 1 m.items ≤ max_entries = subst (λ (items : List Item). entries_in 1 items ≤ max_entries) (sym is.items) (entries_are_few 1 (λ ten. absurd cc) bytes) in
+      omega (arith, types_are_few m.items)
+
   pub module_is_covered : IsCoveredModule m
   module_is_covered = record {
     items = plain;
@@ -218,6 +237,8 @@ module _ (bytes : List ℕ) (m : Module) (fits : AreBytes bytes) (is : IsModule 
         (subst HaveBytes (sym is.bodies) (bodies_have_bytes bytes fits)) (subst BodiesAreSmall (sym is.bodies) (bodies_are_small bytes)) (bodies_are_valid bytes m is);
     imports_first = subst ImportsFirst (sym is.items) (imports_come_first bytes);
     functions = functions_match;
+    few_types = few_types;
+    rows = in_rows;
     exports = exported;
     start = started;
     types = small_types;

@@ -8,6 +8,7 @@ pub mod Regions
 pub mod Items
 pub mod Placed
 pub mod LoadedMemory
+pub mod TableRows
 pub mod SegmentFacts
 pub mod DataRows
 pub mod Called

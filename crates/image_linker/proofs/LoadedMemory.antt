@@ -15,8 +15,8 @@ HaveBytes (w ∷ ws) = AreBytes w.1 × HaveBytes ws
 
 -- ---- one segment
 
-over_length : (old : List ℕ) (w : Written ℕ) → w.0 + length w.1 ≤ length old → length (over old w) ≡ length old
-over_length old w fits =
+over_length : {A : Type 0} (old : List A) (w : Written A) → w.0 + length w.1 ≤ length old → length (over old w) ≡ length old
+over_length {A} old w fits =
     length-append (take w.0 old) (w.1 ++ drop (w.0 + length w.1) old)
     ∙ omega (arith, length-take-le w.0 old (omega arith), length-append w.1 (drop (w.0 + length w.1) old), length-drop (w.0 + length w.1) old, fits)
 
@@ -36,14 +36,14 @@ over_bytes old w bytes new =
 
 -- ---- all of them
 
-first_fits : (size : ℕ) (w : Written ℕ) (ws : List (Written ℕ)) → all_fit size (w ∷ ws) ≡ true → (w.0 + length w.1 ≤ size) × (all_fit size ws ≡ true)
-first_fits size w ws fit =
+first_fits : {A : Type 0} (size : ℕ) (w : Written A) (ws : List (Written A)) → all_fit size (w ∷ ws) ≡ true → (w.0 + length w.1 ≤ size) × (all_fit size ws ≡ true)
+first_fits {A} size w ws fit =
     let parts = and_parts (nat_le (w.0 + length w.1) size) (all_fit size ws) fit in
     (leb-true (w.0 + length w.1) size parts.0, parts.1)
 
-all_over_length : (old : List ℕ) (ws : List (Written ℕ)) (size : ℕ) → length old ≡ size → all_fit size ws ≡ true → length (all_over old ws) ≡ size
-all_over_length old [] size is fit = is
-all_over_length old (w ∷ ws) size is fit =
+pub all_over_length : {A : Type 0} (old : List A) (ws : List (Written A)) (size : ℕ) → length old ≡ size → all_fit size ws ≡ true → length (all_over old ws) ≡ size
+all_over_length {A} old [] size is fit = is
+all_over_length {A} old (w ∷ ws) size is fit =
     let h = first_fits size w ws fit in
     all_over_length (over old w) ws size (over_length old w (omega (arith, is, h.0)) ∙ is) h.1
 

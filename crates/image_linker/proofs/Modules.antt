@@ -1,8 +1,8 @@
 -- A module of what is compiled so far behaves as its image does.
-use Rattle.std.proofs.Common.{◌≡◌, inl, inr, ⊎_elim, ℕ, zero, suc, ◌-◌, ◌∷◌, ◌+◌, ◌*◌, ◌^◌, ◌<◌, ◌≤◌, Bool, true, false, List, [], map, length, replicate, Option, Some, None, refl, sym, ap, ◌∙◌, subst, arith}
+use Rattle.std.proofs.Common.{◌≡◌, inl, inr, ⊎_elim, ℕ, zero, suc, ◌-◌, ◌∷◌, ◌+◌, ◌*◌, ◌^◌, ◌<◌, ◌≤◌, Bool, true, List, [], map, length, replicate, Option, Some, None, refl, sym, ap, ◌∙◌, subst, arith}
 use Rattle.std.specs.Prelude.{◌≢◌, ◌==◌, if◌then◌else◌, slice_get, slice_index, option_map}
 use Rattle.std.proofs.lemmas.Bool.{cases_lt, cond-false, ne_eqb, and_parts}
-use Rattle.std.proofs.lemmas.List.{length-append, length-map, length-replicate}
+use Rattle.std.proofs.lemmas.List.{length-append, length-map}
 use Rattle.std.proofs.lemmas.Option.{slice_get-map, slice_get_within}
 use Rattle.rv_isa.specs.Words.{word_of, decoded}
 use Rattle.rv_isa.specs.Steps.{code_of}
@@ -31,12 +31,13 @@ use Rattle.wasm_laws.proofs.Plain.{plain_has_no_more}
 use Rattle.frame_layout.specs.Templates.{import_stub, exit_stub}
 use Rattle.image_format.specs.declared.image.Import.{Import}
 use Rattle.image_format.specs.Bounds.{IsOffset}
-use Rattle.image_format.specs.Environment.{Entry, segments_of as image_segments}
+use Rattle.image_format.specs.Environment.{Entry, segments_of as image_segments, loaded}
 use Rattle.image_format.specs.ImageRun.{Running, begin, steps, image_run}
 use Rattle.image_format.specs.ImageRun as image_run
 use Rattle.simulation.specs.SameRuns.{SameRuns}
 use Rattle.sim_frames.specs.Functions.{Compiled, Known, Placed as IsPlaced}
 use Rattle.simulation.specs.Entries.{IsEntry}
+use Rattle.simulation.specs.Tables.{TableHolds}
 use Rattle.simulation.specs.Laws.{IsInvoked, ImportsStand, EnvironmentStands}
 use Rattle.simulation.proofs.Alike.{functions_run_alike}
 use Rattle.image_linker.specs.ImageOf.{around, distances, code_of_function, stub_places, places_from, front_size, places_of_functions, offset_of, row_of, table_of, segment_of, placed_segments, imports_of, stub_size, start_offset, text_of, image_of}
@@ -46,6 +47,7 @@ use Rattle.image_linker.proofs.CoveredModules.{AreCoveredBodies, IsCoveredModule
 use Rattle.image_linker.proofs.CoveredFacts.{module_is_covered}
 use Rattle.image_linker.proofs.Items.{globals_typed, values_in_range, values_are_words}
 use Rattle.image_linker.proofs.LoadedMemory.{HaveBytes}
+use Rattle.image_linker.proofs.TableRows.{table_has_rows, table_stands, table_called}
 use Rattle.image_linker.proofs.Imported.{IsStub, get_left, get_right, index_right, imports_length, places_length, stub_place, stub_stands, type_by, imports_typed}
 use Rattle.image_linker.proofs.Placed.{Placed, code_is_short, text_length, exit_stands, stubs_stand, function_stands}
 use Rattle.image_linker.proofs.Called.{IsSmall, IsFirst, is_called}
@@ -60,11 +62,13 @@ module _ (m : Module) (good : IsCoveredModule m) (short : length (text_of m) ≤
   none : HasNoMore m.items
   none = plain_has_no_more m.items good.items
 
-  table_length : (b : Bool) → length (table_of m b) ≡ rows_of m.items
-  table_length true =
-      ap (λ (es : List (Written (Option ℕ))). length (map (row_of m) (all_over (replicate (rows_of m.items) None) es))) none.elements
-      ∙ length-map (replicate (rows_of m.items) None) (row_of m) ∙ length-replicate (rows_of m.items) None
-  table_length false = length-replicate (rows_of m.items) (row_of m None)
+  -- the image has as many rows as the table at first, where segments have their places
+  has_all : is_linkable m ≡ true → all_fit (rows_of m.items) (elements_of m.items) ≡ true
+  has_all can_link = (and_parts (all_fit (rows_of m.items) (elements_of m.items)) (all_fit (page * pages_of m.items) (data_of m.items)) can_link).0
+
+  table_length : is_linkable m ≡ true → length (table_of m (is_linkable m)) ≡ rows_of m.items
+  table_length can_link =
+      ap (λ (b : Bool). length (table_of m b)) can_link ∙ length-map (instance_of m).table (row_of m) ∙ table_has_rows m (has_all can_link)
 
   -- the image has the module's segments
   segments_again : (ws : List (Written ℕ)) → image_segments (map segment_of ws) ≡ ws
@@ -77,7 +81,7 @@ module _ (m : Module) (good : IsCoveredModule m) (short : length (text_of m) ≤
   small : is_linkable m ≡ true → IsSmall (image_of m)
   small can_link = record {
     globals = omega (arith, length-map (values_of m.items) value_word, good.spaces.globals);
-    table = omega (arith, table_length (is_linkable m), good.spaces.rows);
+    table = omega (arith, table_length can_link, good.spaces.rows);
     pages = good.spaces.pages;
     cap = good.spaces.cap;
     fit = subst (λ (ws : List (Written ℕ)). all_fit (page * pages_of m.items) ws ≡ true) (sym (placed_are can_link))
@@ -190,8 +194,8 @@ module _ (m : Module) (good : IsCoveredModule m) (short : length (text_of m) ≤
       let h = function_at g (typed_within g t e) in
       (h.0, h.1, is_typed g h.0 h.1 ∙ ap type_or_empty e)
 
-  compiled : (k : ℕ) (within : k < length m.bodies) → Compiled text (instance_of m) places (func k within)
-  compiled k within =
+  compiled : is_linkable m ≡ true → (k : ℕ) (within : k < length m.bodies) → Compiled text (instance_of m) places (func k within)
+  compiled can_link k within =
       let x = there k within in
       record {
         begin = x.begin;
@@ -208,6 +212,8 @@ module _ (m : Module) (good : IsCoveredModule m) (short : length (text_of m) ≤
         params = refl;
         locals = refl;
         highest = refl;
+        rows_are = sym (table_has_rows m (has_all can_link));
+        like_is = refl;
         fits = x.good.fits;
         has = x.has;
         inside = has_inside text x.begin (code_of_function m.items (places_of_functions m) x.begin k x.body x.tree) (omega arith) x.has;
@@ -215,18 +221,18 @@ module _ (m : Module) (good : IsCoveredModule m) (short : length (text_of m) ≤
         functions = functions_typed;
       }
 
-  known : (i k : ℕ) (within : k < length m.bodies) → i ≡ import_count m.items + k → (h : Function) → slice_get (functions_of m) i ≡ Some h → Known text (instance_of m) places i h
+  known : is_linkable m ≡ true → (i k : ℕ) (within : k < length m.bodies) → i ≡ import_count m.items + k → (h : Function) → slice_get (functions_of m) i ≡ Some h → Known text (instance_of m) places i h
   unfolding compiled
-  known i k within index h is =
+  known can_link i k within index h is =
       let same : Some h ≡ Some (Declared (func k within)) = sym is ∙ ap (slice_get (functions_of m)) index ∙ declared k within in
-      record { func = func k within; is = cc; compiled = compiled k within; begin_is = place_at k within ∙ ap places (sym index) }
+      record { func = func k within; is = cc; compiled = compiled can_link k within; begin_is = place_at k within ∙ ap places (sym index) }
 
   few_imports : import_count m.items < 2 ^ 26
   few_imports = omega (arith, short, text_length m good)
 
   -- each has its place
-  all_placed : (i : ℕ) (h : Function) → slice_get (functions_of m) i ≡ Some h → IsPlaced text (instance_of m) places i h
-  all_placed i h is = ⊎_elim first later (cases_lt i imported)
+  all_placed : is_linkable m ≡ true → (i : ℕ) (h : Function) → slice_get (functions_of m) i ≡ Some h → IsPlaced text (instance_of m) places i h
+  all_placed can_link i h is = ⊎_elim first later (cases_lt i imported)
     where
       first : i < import_count m.items → IsPlaced text (instance_of m) places i h
       first less =
@@ -238,7 +244,7 @@ module _ (m : Module) (good : IsCoveredModule m) (short : length (text_of m) ≤
       later : import_count m.items ≤ i → IsPlaced text (instance_of m) places i h
       later le =
           let k = i - imported in
-          inl (known i k (omega (arith, slice_get_within (functions_of m) i h is, functions_length)) (omega arith) h is)
+          inl (known can_link i k (omega (arith, slice_get_within (functions_of m) i h is, functions_length)) (omega arith) h is)
 
   -- behind the exit stub, inside the text
   place_within : (i : ℕ) (h : Function) → slice_get (functions_of m) i ≡ Some h → (2 ≤ places i) × (places i < length text)
@@ -284,12 +290,27 @@ module _ (m : Module) (good : IsCoveredModule m) (short : length (text_of m) ≤
       later : import_count m.items ≤ index → (i : Import) × (slice_get (imports_of (context_of m.items) m.items) number ≡ Some i) × (i.signature ≡ ty)
       later le =
           let k = index - imported in
-          let x = known index k (omega (arith, slice_get_within (functions_of m) index (Imported number ty) is, functions_length)) (omega arith) (Imported number ty) is in
-          let wrong = x.is in
+          let at : index ≡ imported + k = omega arith in
+          let within : k < length m.bodies = omega (arith, slice_get_within (functions_of m) index (Imported number ty) is, functions_length) in
+          let wrong : Some (Imported number ty) ≡ Some (Declared (func k within)) = sym is ∙ ap (slice_get (functions_of m)) at ∙ declared k within in
           absurd cc
 
   environment : EnvironmentStands (instance_of m) (image_of m)
   environment = record { imports = imports_stand; cap = refl; few = omega (arith, good.spaces.cap) }
+
+  -- a row's function is there, and its place lies in the text
+  in_row : (a f : ℕ) → slice_get (instance_of m).table a ≡ Some (Some f) → (h : Function) × (slice_get (functions_of m) f ≡ Some h) × (type_of h ≡ type_of_function (context_of m.items) f)
+  in_row a f is = let h = function_at f (good.rows a f is) in (h.0, h.1, is_typed f h.0 h.1)
+
+  place_is_near : (a f : ℕ) → slice_get (instance_of m).table a ≡ Some (Some f) → places f < 2 ^ 60
+  place_is_near a f is =
+      let h = function_at f (good.rows a f is) in
+      let within = (place_within f h.0 h.1).1 in
+      let few = code_is_short m short in
+      omega arith
+
+  table_now : is_linkable m ≡ true → TableHolds (instance_of m) places (loaded (image_of m))
+  table_now can_link = table_stands m can_link (omega (arith, good.few_types)) places (λ f. refl) place_is_near in_row
 
   -- ---- runs: the start function, if there is one, and then an exported one
 
@@ -337,8 +358,8 @@ module _ (m : Module) (good : IsCoveredModule m) (short : length (text_of m) ≤
 
       by_start : (start : Option ℕ) → start_of m.items ≡ start → Alike start
       by_start None e =
-          functions_run_alike (instance_of m) (image_of m) places h exported [] (store_of m replies) (begin (image_of m) replies entry []) all_placed environment is
-          (invoked f h is arguments [] are) tt (globals_typed m.items) (exit_stands m good) (code_is_short m short)
+          functions_run_alike (instance_of m) (image_of m) places h exported [] (store_of m replies) (begin (image_of m) replies entry []) (all_placed can_link) environment is
+          (invoked f h is arguments [] are) tt (globals_typed m.items) (table_called (instance_of m) places (image_of m) replies entry [] (table_now can_link)) (exit_stands m good) (code_is_short m short)
       by_start (Some s) e =
           let right = good.start s e in
           let takes = right.1 in
@@ -350,7 +371,7 @@ module _ (m : Module) (good : IsCoveredModule m) (short : length (text_of m) ≤
           let first_invoked : IsInvoked (type_of g.0) (places s) (cap_of m.items) (store_of m replies) [] r =
           subst (λ (results : List ValType). IsInvoked (type_of g.0) (places s) (cap_of m.items) (store_of m replies) [] (begin (image_of m) replies (record { offset = offset_of m s; arguments = [] }, results) (entry ∷ []))) takes.results
           (invoked s g.0 g.1 [] (entry ∷ []) none_given) in
-          let same = functions_run_alike (instance_of m) (image_of m) places g.0 (record { function = s; arguments = [] }) (exported ∷ []) (store_of m replies) r all_placed environment g.1 first_invoked (is_entry, tt) (globals_typed m.items) (exit_stands m good) (code_is_short m short) in
+          let same = functions_run_alike (instance_of m) (image_of m) places g.0 (record { function = s; arguments = [] }) (exported ∷ []) (store_of m replies) r (all_placed can_link) environment g.1 first_invoked (is_entry, tt) (globals_typed m.items) (table_called (instance_of m) places (image_of m) replies (record { offset = start_offset m (Some s); arguments = [] }, []) (entry ∷ []) (table_now can_link)) (exit_stands m good) (code_is_short m short) in
           subst (λ (q : Running). SameRuns (λ k. module_run.run_of (run (instance_of m) k (first_state (Some s) (store_of m replies) exported))) (λ n. image_run.run_of (steps (image_of m) n q)))
           (sym (cond-false (start_offset m (Some s) == 0) (begin (image_of m) replies entry []) r (ne_eqb (start_offset m (Some s)) 0 some))) same
 

@@ -1,7 +1,6 @@
 //! Starts workers, feeds them, and gathers what they made.
 ghost use Rattle.std.specs.Prelude.{◌≡◌, ◌<◌, ◌+◌, ◌-◌, ◌^◌, [], All, length, vec_len, IfSome};
 ghost use Rattle.wasm_laws.specs.Kept.{TypesAreSmall};
-ghost use Rattle.index_spaces.specs.Spaces.{context_in};
 ghost use Rattle.cancel_drain.specs.Handles.{Sitter};
 ghost use Rattle.pool_scope.specs.Gathering.{Gathers, IsWorked, IsFresh, AreOf};
 
@@ -38,10 +37,10 @@ fn take_in(
 ) -> Option<()>
     requires table { seat.old.table ≡ board.now.table }
     requires room { seat.old.view.parts < 2 ^ 64 - 1 }
-    requires worked { (s : Sitter) × IsFresh board.now.table s × IsWorked (context_in context.now) cells.now s worked }
+    requires worked { (s : Sitter) × IsFresh board.now.table s × IsWorked context.now cells.now s worked }
     ensures table { seat.new.table ≡ seat.old.table }
     ensures parts { seat.new.view.parts ≡ seat.old.view.parts + 1 }
-    ensures gathers { IfSome result (λ _. Gathers (context_in context.now) cells.now seat.old.view seat.new.view rows.old.items rows.new.items) }
+    ensures gathers { IfSome result (λ _. Gathers context.now cells.now seat.old.view seat.new.view rows.old.items rows.new.items) }
 {
     let _ = context;
     let _ = cells;
@@ -72,7 +71,7 @@ fn join_all<'a, R: Threads>(
     requires each { All (λ h. AreOf context.now cells.now board.now.table h.promise) handles.items }
     ensures table { seat.new.table ≡ seat.old.table }
     ensures parts { IfSome result (λ _. seat.new.view.parts ≡ seat.old.view.parts + vec_len handles.entry) }
-    ensures gathers { IfSome result (λ _. Gathers (context_in context.now) cells.now seat.old.view seat.new.view rows.old.items rows.new.items) }
+    ensures gathers { IfSome result (λ _. Gathers context.now cells.now seat.old.view seat.new.view rows.old.items rows.new.items) }
 {
     for handle in handles {
         take_in(board, context, cells, seat, rows, handle.join(rt))?;
@@ -98,7 +97,7 @@ pub fn run_all<R: Threads + Wait + Sync, G: Gate>(
     requires parts { length hands.items < seat.view.parts }
     ensures table { IfSome result (λ w. w.seat.table ≡ seat.table) }
     ensures parts { IfSome result (λ w. w.seat.view.parts ≡ seat.view.parts) }
-    ensures gathers { IfSome result (λ w. Gathers (context_in context.now) cells.now seat.view w.seat.view [] w.rows) }
+    ensures gathers { IfSome result (λ w. Gathers context.now cells.now seat.view w.seat.view [] w.rows) }
 {
     let refused = AtomicU64::new(u64::MAX);
     let told = &refused;
@@ -112,7 +111,7 @@ pub fn run_all<R: Threads + Wait + Sync, G: Gate>(
             requires parts { (length hands.items < seat.view.parts) × (seat.view.parts < 2 ^ 64) }
             ensures table { IfSome result (λ w. w.seat.table ≡ seat.table) }
             ensures parts { IfSome result (λ w. w.seat.view.parts ≡ seat.view.parts) }
-            ensures gathers { IfSome result (λ w. Gathers (context_in context.entry.now) cells.entry.now seat.view w.seat.view [] w.rows) }
+            ensures gathers { IfSome result (λ w. Gathers context.entry.now cells.entry.now seat.view w.seat.view [] w.rows) }
         {
             let mut seat = seat;
             let mut rows: Vec<Row> = Vec::new(alloc);
@@ -130,7 +129,7 @@ pub fn run_all<R: Threads + Wait + Sync, G: Gate>(
                     promise,
                     move || -> Worked
                         requires { (part.table ≡ board.now.table) × TypesAreSmall context.now.types }
-                        ensures { IsWorked (context_in context.entry.now) cells.entry.now part result }
+                        ensures { IsWorked context.entry.now cells.entry.now part result }
                     {
                         labour_at(
                             rt, alloc, hand, board, part, cells, context, gate, mine, told,

@@ -1,7 +1,6 @@
 //! The end: the thread that fed the workers tries each batch itself, and closes the board.
 ghost use Rattle.std.specs.Prelude.{◌≡◌, ◌<◌, ℕ, [], true, length, IfSome, OnOk, OnErr};
 ghost use Rattle.wasm_laws.specs.Kept.{TypesAreSmall};
-ghost use Rattle.index_spaces.specs.Spaces.{context_in};
 ghost use Rattle.batch_pool.specs.Working.{Grows, Fits};
 ghost use Rattle.cancel_drain.specs.Views.{publishes, IsAbove};
 ghost use Rattle.cancel_drain.specs.Closing.{IsTried, IsClosed, IsSettled};
@@ -28,10 +27,10 @@ pub fn keep(
     requires feeder { seat.old.view.feeder ≡ true }
     requires number { ticket.number ≡ length seat.old.view.published }
     requires start { IsAbove seat.old.view.published ticket.start }
-    requires fits { Fits (context_in context.now) board.now.functions (length cells.now) ticket }
-    requires kept { AreKept (context_in context.now) board.now.functions (length cells.now) seat.old.view.published kept.old.items }
+    requires fits { Fits context.now board.now.functions (length cells.now) ticket }
+    requires kept { AreKept context.now board.now.functions (length cells.now) seat.old.view.published kept.old.items }
     ensures view { OnOk result (seat.new ≡ record seat.old { view = publishes seat.old.view ticket.start }) }
-    ensures kept { OnOk result (AreKept (context_in context.now) board.now.functions (length cells.now) seat.new.view.published kept.new.items) }
+    ensures kept { OnOk result (AreKept context.now board.now.functions (length cells.now) seat.new.view.published kept.new.items) }
     ensures err { OnErr result ((seat.new ≡ seat.old) × (kept.new.items ≡ kept.old.items)) }
 {
     let _ = cells;
@@ -56,9 +55,9 @@ fn try_all<G: Gate>(
     requires table { seat.old.table ≡ board.now.table }
     requires types { TypesAreSmall context.now.types }
     requires feeder { seat.old.view.feeder ≡ true }
-    requires kept { AreKept (context_in context.now) board.now.functions (length cells.now) seat.old.view.published kept.items }
+    requires kept { AreKept context.now board.now.functions (length cells.now) seat.old.view.published kept.items }
     ensures table { seat.new.table ≡ seat.old.table }
-    ensures grows { Grows (context_in context.now) cells.now seat.old.view seat.new.view rows.old.items rows.new.items }
+    ensures grows { Grows context.now cells.now seat.old.view seat.new.view rows.old.items rows.new.items }
     ensures running { IfSome result (λ _. seat.new.view.running ≡ seat.old.view.running) }
     ensures tried { IfSome result (λ _. (b : ℕ) → b < length seat.new.view.published → IsTried seat.new.view b) }
 {
@@ -86,8 +85,8 @@ pub fn settle<G: Gate>(
     requires table { seat.table ≡ board.table }
     requires types { TypesAreSmall context.now.types }
     requires seat { (seat.view.feeder ≡ true) × (seat.view.running ≡ []) × (seat.view.parts ≡ board.seats) }
-    requires kept { AreKept (context_in context.now) board.functions (length cells.now) seat.view.published kept.items }
-    ensures { IfSome result (λ closed. (w : View) × Grows (context_in context.now) cells.now seat.view w rows.old.items rows.new.items
+    requires kept { AreKept context.now board.functions (length cells.now) seat.view.published kept.items }
+    ensures { IfSome result (λ closed. (w : View) × Grows context.now cells.now seat.view w rows.old.items rows.new.items
         × IsClosed board.functions w closed.least closed.states × ((b : ℕ) → b < length w.published → IsSettled w closed.least b)) }
 {
     let mut seat = seat;

@@ -1,7 +1,6 @@
 //! Workers in threads, and the caller behind them.
 ghost use Rattle.std.specs.Prelude.{◌≡◌, ◌+◌, ◌<◌, true, [], length, IfOk, OnOk};
 ghost use Rattle.cancel_drain.specs.Views.{first_view};
-ghost use Rattle.index_spaces.specs.Spaces.{context_in};
 ghost use Rattle.wasm_laws.specs.Kept.{TypesAreSmall};
 ghost use Rattle.pool_scope.specs.Settling.{AreKept};
 
@@ -78,7 +77,7 @@ fn keep_all(
     ensures feeder { OnOk result (seat.new.view.feeder ≡ true) }
     ensures running { OnOk result (seat.new.view.running ≡ []) }
     ensures parts { OnOk result (seat.new.view.parts ≡ seat.old.view.parts) }
-    ensures kept { IfOk result (λ v. AreKept (context_in context.now) board.now.functions (length cells.now) seat.new.view.published v.items) }
+    ensures kept { IfOk result (λ v. AreKept context.now board.now.functions (length cells.now) seat.new.view.published v.items) }
 {
     let mut kept = Vec::new(alloc);
     for number in 0..BATCHES {

@@ -60,6 +60,7 @@ pub record Passes (image : Image) (c : Context) (labels : List Label) (w : Aroun
   pub bytes : Bytes
   pub matches : Matches w.layout base there bytes locals after last.machine
   pub low : Agree base r.machine.bytes last.machine.bytes
+  pub table_stays : last.machine.bytes.table ≡ r.machine.bytes.table
   pub stands : StoreStands store_after last.pages image.cap last.machine
   pub calls : last.calls ≡ r.calls
   pub replies : last.replies ≡ r.replies
@@ -99,6 +100,7 @@ module _ (image : Image) (near : length (code_of_image image) ≤ 2 ^ 26) (few :
     bytes = record x.end.bytes { stack = r.machine.bytes.stack };
     matches = x.matches;
     low = record { by = λ k less. x.matches.low.by k less };
+    table_stays = x.table_stays;
     stands = x.stands;
     calls = refl;
     replies = refl;
@@ -161,6 +163,7 @@ module _ (image : Image) (near : length (code_of_image image) ≤ 2 ^ 26) (few :
           bytes = r.machine.bytes;
           matches = matches;
           low = matches.low;
+          table_stays = ap (λ (b : Bytes). b.table) g.bytes_are;
           stands = subst (λ (n : ℕ). StoreStands after n image.cap g.last.machine) (sym g.pages_are) g.stands;
           calls = g.calls;
           replies = g.replies;

@@ -3,7 +3,7 @@ use Rattle.std.proofs.Common.{◌≡◌, ℕ, ◌+◌, ◌*◌, ◌/◌, ◌^◌
 use Rattle.std.specs.Prelude.{slice_get}
 use Rattle.std.proofs.lemmas.Bool.{cond-true, eq-eqb}
 use Rattle.rv_isa.specs.declared.stepping.Region.TheVariants.{Stack, Globals, Table, Memory}
-use Rattle.rv_isa.specs.Steps.{State, reg, text_base}
+use Rattle.rv_isa.specs.Steps.{State, Bytes, reg, text_base, value_at}
 use Rattle.rv_isa.specs.Runs.{AreBytes, FitWindows}
 use Rattle.wasm_defs.specs.declared.types.ValType.{ValType}
 use Rattle.wasm_defs.specs.Limits.{max_params}
@@ -20,10 +20,24 @@ use Rattle.sim_frames.proofs.Rules.{types_length}
 use Rattle.sim_frames.proofs.Values.{SameBeside}
 use Rattle.sim_frames.proofs.Words.{word_small}
 use Rattle.simulation.specs.Entries.{IsEntry, AreEntries}
+use Rattle.simulation.specs.Tables.{TableHolds}
 use Rattle.simulation.specs.Laws.{IsInvoked}
 use Rattle.simulation.proofs.Calls.Arguments.{are_of_types}
 use Rattle.simulation.proofs.FirstSlots.{stack_is, slots_are}
 use Rattle.simulation.proofs.Steps.{with_machine}
+
+-- the table's rows stand where its bytes stay
+pub table_kept : (inst : Instance) (places : ℕ → ℕ) (b c : Bytes) → c.table ≡ b.table → TableHolds inst places b → TableHolds inst places c
+table_kept inst places b c same h = record {
+  rows = record {
+    size = ap length same ∙ h.rows.size;
+    empty = λ a is. ap (λ (l : List ℕ). value_at 8 (16 * a) l) same ∙ h.rows.empty a is;
+    code_is = λ a f is. ap (λ (l : List ℕ). value_at 8 (16 * a) l) same ∙ h.rows.code_is a f is;
+    like_is = λ a f is. ap (λ (l : List ℕ). value_at 8 (16 * a + 8) l) same ∙ h.rows.like_is a f is;
+  };
+  functions = h.functions;
+  few_types = h.few_types;
+}
 
 module _ (image : Image) (inst : Instance) (places : ℕ → ℕ) where
   -- a function is called from outside next, and others afterwards
@@ -32,11 +46,12 @@ module _ (image : Image) (inst : Instance) (places : ℕ → ℕ) where
     pub is : slice_get inst.functions next.function ≡ Some function
     pub invoked : IsInvoked (type_of function) (places next.function) image.cap store next.arguments r
     pub types : global_types inst.context.globals ≡ types_of_values store.globals
+    pub table : TableHolds inst places r.machine.bytes
     pub entries : AreEntries inst places later r.later
 
   -- the machine stands behind the call that ends a function; what lies beside the stack is as before
   module _ (store : Store) (r : Running) (t : State) (size : length t.bytes.stack ≡ 8 * max_slots) (windows : FitWindows t.bytes) (beside : SameBeside r.machine.bytes t.bytes)
-      (calls : r.calls ≡ store.calls) (replies : r.replies ≡ store.replies) (stands : StoreStands store r.pages image.cap r.machine) (types : global_types inst.context.globals ≡ types_of_values store.globals)
+      (calls : r.calls ≡ store.calls) (replies : r.replies ≡ store.replies) (stands : StoreStands store r.pages image.cap r.machine) (types : global_types inst.context.globals ≡ types_of_values store.globals) (table : TableHolds inst places r.machine.bytes)
       (next : Invocation) (more : List Invocation) (e : Entry × List ValType) (es : List (Entry × List ValType)) (is : IsEntry inst places next e) (others : AreEntries inst places more es) where
     abbrev pub entering : Running
     entering = record r { machine = entered r.pages t.bytes e.0; results = e.1; later = es }
@@ -87,6 +102,7 @@ module _ (image : Image) (inst : Instance) (places : ℕ → ℕ) where
         };
       };
       types = types;
+      table = table_kept inst places r.machine.bytes (entered r.pages t.bytes e.0).bytes beside.table table;
       entries = others;
     }
 

@@ -36,8 +36,8 @@ module _ (im : Image) (near : length (code_of_image im) ≤ 2 ^ 26) (inst : Inst
   abbrev Comes : Option Function → Type 0
   Comes o = Leads im inst places (type_of x.function).results 128 0 r (start_function store o next.arguments [] later)
 
-  stores : StoreStays im inst store r
-  stores = record { calls = x.invoked.calls; replies = x.invoked.replies; stands = x.invoked.stands; types = x.types }
+  stores : StoreStays im inst places store r
+  stores = record { calls = x.invoked.calls; replies = x.invoked.replies; stands = x.invoked.stands; types = x.types; table = x.table }
 
   are : AreOf (type_of x.function).params next.arguments
   are = are_of_types ty.params next.arguments x.invoked.are_of_types

@@ -24,6 +24,7 @@ use Rattle.sim_frames.proofs.Values as values
 use Rattle.simulation.specs.Entries.{AreEntries}
 use Rattle.simulation.specs.Laws.{EnvironmentStands}
 use Rattle.simulation.proofs.Changing.{ChangesStore, Passes, passes}
+use Rattle.simulation.proofs.Entering.{table_kept}
 use Rattle.simulation.proofs.Matching.{StoreStays, Matches, Leads, lifted}
 use Rattle.simulation.proofs.Straight.Effects.{above, enough, effect_above}
 use Rattle.simulation.proofs.Straight.Instructions as one
@@ -94,8 +95,8 @@ module _ (im : Image) (near : length (code_of_image im) ≤ 2 ^ 26) (inst : Inst
                 y.low (ap types_of_values (sym locals_are))
                 (subst (λ (ts : Types). SitsAt text inst places k m.running.os (Some (length ts + length lower)) ts here rest m.running.to m.running.there) (sym types_are) sits)
                 m.running.fit;
-            store = subst (λ (st : Store). StoreStays im inst st y.last) store_is
-                (record { calls = y.calls ∙ x.store.calls ∙ sym y.calls_stay; replies = y.replies ∙ x.store.replies ∙ sym y.replies_stay; stands = y.stands; types = x.store.types ∙ sym y.globals_stay });
+            store = subst (λ (st : Store). StoreStays im inst places st y.last) store_is
+                (record { calls = y.calls ∙ x.store.calls ∙ sym y.calls_stay; replies = y.replies ∙ x.store.replies ∙ sym y.replies_stay; stands = y.stands; types = x.store.types ∙ sym y.globals_stay; table = table_kept inst places r.machine.bytes y.last.machine.bytes y.table_stays x.store.table });
             results = y.results ∙ x.results;
             later = subst (AreEntries inst places c.later) (sym y.later) x.later;
           };

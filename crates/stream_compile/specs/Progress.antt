@@ -19,6 +19,7 @@ use Rattle.wasm_defs.specs.declared.front_stop.FrontStop.{FrontStop}
 use Rattle.wasm_defs.specs.declared.front_stop.FrontStop.TheVariants.{Refused, NoMemory}
 use Rattle.body_compiler.specs.declared.code.BodyStop.{BodyStop}
 use Rattle.body_compiler.specs.declared.code.BodyStop.TheVariants as body
+use Rattle.wasm_defs.specs.Instances.{first_minimum}
 use Rattle.body_compiler.specs.Compiling.{Compiles}
 use Rattle.image_linker.specs.ImageOf.{front_of}
 use Rattle.image_linker.specs.Codes.{IsCodeOf}
@@ -94,8 +95,8 @@ front_stop body.NoMemory = NoMemory
 
 -- a body's code, or its first fault
 abbrev pub TakesBody : Spaces → ℕ → GivenBody → Result Code FrontStop → Type 0
-TakesBody spaces bodies b (Ok code) = Compiles (context_in spaces) (spaces.imported + bodies) (body_read b.first b.bytes) (Ok code)
-TakesBody spaces bodies b (Err (Refused r)) = Compiles (context_in spaces) (spaces.imported + bodies) (body_read b.first b.bytes) (Err (body.Refused r))
+TakesBody spaces bodies b (Ok code) = Compiles (first_minimum spaces.tables) (context_in spaces) (spaces.imported + bodies) (body_read b.first b.bytes) (Ok code)
+TakesBody spaces bodies b (Err (Refused r)) = Compiles (first_minimum spaces.tables) (context_in spaces) (spaces.imported + bodies) (body_read b.first b.bytes) (Err (body.Refused r))
 TakesBody spaces bodies b (Err NoMemory) = Unit {0}
 
 -- a body was taken: its code stands behind the others; or the body has a fault, or with it the text passes its limit

@@ -141,6 +141,7 @@ pub record Changes (code : List (Option Op)) (c : Context) (labels : List Label)
   pub pc_is : end.pc ≡ s.pc + 4 * length (words w c labels (length operands) here p)
   pub others : (r : ℕ) → is_scratch r ≡ false → reg end.registers r ≡ reg s.registers r
   pub matches : Matches w.layout base there (record end.bytes { stack = b.stack }) locals after end
+  pub table_stays : end.bytes.table ≡ s.bytes.table
   pub stands : StoreStands store_after pages cap end
 
 module _ (code : List (Option Op)) (c : Context) (labels : List Label) (w : Around) (base there : ℕ) (b : Bytes) (store : Store)
@@ -172,6 +173,7 @@ module _ (code : List (Option Op)) (c : Context) (labels : List Label) (w : Arou
         pc_is = d.pc_is;
         others = d.others;
         matches = beside_matches bytes refl (fits bytes (subst (λ (n : ℕ). n ≤ window) (sym size) (m.frame.windows Globals)) m.frame.windows) m below m.live.1 d;
+        table_stays = ap (λ (c : Bytes). c.table) d.bytes_are;
         stands = store_set code store pages cap 6 6 x v s holds within m.live.0.range d;
       }
     where
@@ -211,6 +213,7 @@ module _ (code : List (Option Op)) (c : Context) (labels : List Label) (w : Arou
           pc_is = d.pc_is;
           others = d.others;
           matches = beside_matches (with_memory s.bytes memory) refl (fits memory (subst (λ (n : ℕ). n ≤ window) (sym now.size) (m.frame.windows Memory)) m.frame.windows) m below m.live.1.1 d;
+          table_stays = ap (λ (c : Bytes). c.table) d.bytes_are;
           stands = store_stored code store pages cap 18 21 (x.number + mem.offset) (store_count o) y.number memory s holds e d;
         })
 

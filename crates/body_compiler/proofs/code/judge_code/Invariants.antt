@@ -10,12 +10,13 @@ use Rattle.body_compiler.proofs.code.judge_code.Given as goal
 abbrev pub invariant-loop-alloc : goal.invariant-loop-alloc
 invariant-loop-alloc l = record {
   layout : l.draft.layout ≡ l.fn.draft.layout;
+  rows : l.draft.rows ≡ l.fn.draft.rows;
   held : IsHeld (draft l.draft.labels l.draft.words);
   tied : AreTied l.draft.labels l.check (length l.fields.rest);
   grows : length l.fn.draft.words ≤ length l.draft.words;
   bytes : AreBytes l.fields.rest;
-  goes : (c : Context) (code : Spelled) (front : List ℕ) → IsCompiling c l.last l.fn.fields l.fn.check code l.fn.draft.layout front (calling l.fn.draft.labels l.fn.draft.words l.fn.draft.calls.items)
-      → IsCompiling c l.last l.fields l.check code l.fn.draft.layout front (calling l.draft.labels l.draft.words l.draft.calls.items);
+  goes : (c : Context) (code : Spelled) (front : List ℕ) → IsCompiling c l.last l.fn.fields l.fn.check code l.fn.draft.layout front (calling l.fn.draft.labels l.fn.draft.words l.fn.draft.calls.items l.fn.draft.rows)
+      → IsCompiling c l.last l.fields l.check code l.fn.draft.layout front (calling l.draft.labels l.draft.words l.draft.calls.items l.draft.rows);
 }
 
 abbrev pub decreases-loop-alloc : goal.decreases-loop-alloc

@@ -8,9 +8,9 @@ use Rattle.body_compiler.proofs.Spelled.{taken_token, bytes_later}
 use Rattle.wasm_defs.specs.Typing.{Context}
 use Rattle.index_spaces.specs.Spaces.{context_in}
 use Rattle.body_compiler.specs.Going.{calling}
-use Rattle.body_compiler.proofs.Known.{takes_there, calls_there, same_functions}
+use Rattle.body_compiler.proofs.Known.{takes_there, calls_there, rows_there, same_functions}
 use Rattle.body_compiler.proofs.Tying.{names, tied-after, some-labels}
-use Rattle.body_compiler.proofs.Walking.{any, taken_is_compiled, step-held, compiles_behind, stops_behind}
+use Rattle.body_compiler.proofs.Walking.{any, unlinked, taken_is_compiled, step-held, compiles_behind, stops_behind}
 use Rattle.body_compiler.proofs.code.take_instruction.Goals as goal
 
 compiled : (c : goal.After-token-in-Ok-after_token-1) → is_compiled_opcode c.args.opcode ≡ true
@@ -45,10 +45,16 @@ take_step-requires-clause-called c =
     let same = same_functions c.args.check.now.context (context_in c.context.result.now) (c.context.ensures.types ∙ ap (λ (x : Context). x.types) steps.1) (c.context.ensures.functions ∙ ap (λ (x : Context). x.functions) steps.1) in
     calls_there c.args.check.now c.token.new.self (context_in c.context.result.now) c.in-Ok.token c.in-Ok-token.step same c.requires.tied.known steps.0 steps.3
 
+pub take_step-requires-clause-row : goal.take_step-requires-clause-row
+take_step-requires-clause-row c =
+    let steps = c.in-Ok-token.ensures.steps in
+    let same = same_functions c.args.check.now.context (context_in c.context.result.now) (c.context.ensures.types ∙ ap (λ (x : Context). x.types) steps.1) (c.context.ensures.functions ∙ ap (λ (x : Context). x.functions) steps.1) in
+    rows_there c.args.check.now c.token.new.self (context_in c.context.result.now) c.in-Ok.token c.in-Ok-token.step same c.requires.tied.known steps.0 steps.3
+
 pub returns-in-Ok-take_step-clause-tied : goal.returns-in-Ok-take_step-clause-tied
 returns-in-Ok-take_step-clause-tied c =
     let yes = sym c.is_compiled_opcode-compiled.ensures ∙ taken_is_compiled c.is_compiled_opcode-compiled.result c.args.at c.args.last c.token.new.self c.in-Ok-after_token.ensures in
-    let w = any c.args.draft.now.layout in
+    let w = any c.args.draft.now.rows (context_in c.context.result.now).types c.args.draft.now.layout in
     let s = c.in-Ok-token.step in
     let steps = c.in-Ok-token.ensures.steps in
     let own = c.args.check.now.context in
@@ -57,20 +63,20 @@ returns-in-Ok-take_step-clause-tied c =
     tied-after w own c.in-Ok.token (guarded s.live s.height_before) (draft c.args.draft.now.labels c.args.draft.now.words) (draft c.take_step.new.draft.labels c.take_step.new.draft.words) c.args.check.now c.token.new.self
     (length c.args.fields.now.rest + 1) (length c.instruction.new.fields.rest) (omega arith)
     (taken_token c.args.at c.args.opcode c.args.fields.now c.instruction.new.fields c.in-Ok.token c.requires.bytes yes c.in-Ok.ensures) c.requires.tied
-    (c.in-Ok-take_step.ensures.words w own refl refl same) steps.0 steps.1
+    (c.in-Ok-take_step.ensures.words w own refl (unlinked c.args.draft.now.rows (context_in c.context.result.now).types c.args.draft.now.layout) same) steps.0 steps.1
 
 pub returns-in-Ok-take_step-clause-shrinks : goal.returns-in-Ok-take_step-clause-shrinks
 returns-in-Ok-take_step-clause-shrinks c = instruction_shrinks c.args.at c.args.opcode c.args.fields.now c.instruction.new.fields c.in-Ok.token c.in-Ok.ensures
 
 pub returns-in-Ok-take_step-clause-held : goal.returns-in-Ok-take_step-clause-held
 returns-in-Ok-take_step-clause-held c =
-    let w = any c.args.draft.now.layout in
+    let w = any c.args.draft.now.rows (context_in c.context.result.now).types c.args.draft.now.layout in
     let s = c.in-Ok-token.step in
     let steps = c.in-Ok-token.ensures.steps in
     let own = c.args.check.now.context in
     let same = same_functions own (context_in c.context.result.now) (c.context.ensures.types ∙ ap (λ (x : Context). x.types) steps.1) (c.context.ensures.functions ∙ ap (λ (x : Context). x.functions) steps.1) in
     step-held w own c.in-Ok.token (guarded s.live s.height_before) (draft c.args.draft.now.labels c.args.draft.now.words) (draft c.take_step.new.draft.labels c.take_step.new.draft.words) c.requires.held
-    (c.in-Ok-take_step.ensures.words w own refl refl same)
+    (c.in-Ok-take_step.ensures.words w own refl (unlinked c.args.draft.now.rows (context_in c.context.result.now).types c.args.draft.now.layout) same)
 
 pub returns-in-Ok-take_step-clause-goes : goal.returns-in-Ok-take_step-clause-goes
 returns-in-Ok-take_step-clause-goes c = λ c' code before front k h more.
@@ -80,14 +86,14 @@ returns-in-Ok-take_step-clause-goes c = λ c' code before front k h more.
     let d = context_in c.context.result.now in
     let same = same_functions c.args.check.now.context d (c.context.ensures.types ∙ ap (λ (x : Context). x.types) steps.1) (c.context.ensures.functions ∙ ap (λ (x : Context). x.functions) steps.1) in
     compiles_behind c' d c.args.last c.args.at c.args.opcode before c.args.fields.now c.instruction.new.fields c.in-Ok.token c.in-Ok-token.step c.args.check.now c.token.new.self code c.args.draft.now.layout front
-    (calling c.args.draft.now.labels c.args.draft.now.words c.args.draft.now.calls.items) (calling c.take_step.new.draft.labels c.take_step.new.draft.words c.take_step.new.draft.calls.items) k h more
-    yes c.in-Ok.ensures steps.0 steps.1 exact.0 exact.1 (c.in-Ok-token.ensures.places (tokens_of k.going.tokens) k.going.reached) same c.in-Ok-take_step.ensures.words c.in-Ok-take_step.ensures.calls
+    (calling c.args.draft.now.labels c.args.draft.now.words c.args.draft.now.calls.items c.args.draft.now.rows) (calling c.take_step.new.draft.labels c.take_step.new.draft.words c.take_step.new.draft.calls.items c.take_step.new.draft.rows) k h more
+    yes c.in-Ok.ensures steps.0 steps.1 exact.0 exact.1 (c.in-Ok-token.ensures.places (tokens_of k.going.tokens) k.going.reached) same c.in-Ok-take_step.ensures.words c.in-Ok-take_step.ensures.calls c.in-Ok-take_step.ensures.rows
 
 pub returns-in-Ok-token-clause-goes : goal.returns-in-Ok-token-clause-goes
 returns-in-Ok-token-clause-goes c = λ c' code before front k h more.
     let g = k.going in
     let exact = c.in-Ok-token.ensures.exact (tokens_of g.tokens) g.reached in
-    stops_behind c' c.args.last c.args.at c.args.opcode before c.args.fields.now c.instruction.new.fields c.in-Ok.token c.args.check.now c.token.new.self code c.args.draft.now.layout front (calling c.args.draft.now.labels c.args.draft.now.words c.args.draft.now.calls.items) c.in-Err.stop c.is_compiled_opcode-compiled.result g h more
+    stops_behind c' c.args.last c.args.at c.args.opcode before c.args.fields.now c.instruction.new.fields c.in-Ok.token c.args.check.now c.token.new.self code c.args.draft.now.layout front (calling c.args.draft.now.labels c.args.draft.now.words c.args.draft.now.calls.items c.args.draft.now.rows) c.in-Err.stop c.is_compiled_opcode-compiled.result g h more
     (sym c.is_compiled_opcode-compiled.ensures) c.in-Ok.ensures c.in-Ok-token.ensures.steps.0 exact.1 c.in-Err.ensures
 
 pub returns-in-Err-Refused-token-clause-goes : goal.returns-in-Err-Refused-token-clause-goes

@@ -1,5 +1,4 @@
 use Rattle.std.proofs.Common.{◌≡◌, ◌+◌, ◌*◌, [], length, true}
-use Rattle.index_spaces.specs.Spaces.{context_in}
 use Rattle.cancel_drain.specs.Views.{IsAbove}
 use Rattle.pool_scope.specs.Settling.{AreKept}
 use Rattle.pool_scope.proofs.tests.keep_all.Given as goal
@@ -12,5 +11,5 @@ invariant-loop-number l = record {
   parts : l.seat.view.parts ≡ l.initial.seat.view.parts;
   count : l.number ≡ length l.seat.view.published;
   above : IsAbove l.seat.view.published (100 + 10 * l.number);
-  kept : AreKept (context_in l.context) l.board.functions (length l.cells) l.seat.view.published l.kept.items;
+  kept : AreKept l.context l.board.functions (length l.cells) l.seat.view.published l.kept.items;
 }
