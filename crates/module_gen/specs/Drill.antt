@@ -1,6 +1,6 @@
 -- The drill: a module with n functions that each add a number, 0 to n - 1, to their argument, and with one that calls them in turn,
 -- first with 0, and returns the last one's result. That one is exported as `run` (WebAssembly Core 1.0, 5.4 and 5.5).
-use Rattle.std.specs.Prelude.{ℕ, ◌+◌, List, [], ◌∷◌, ◌++◌, length, replicate, codes}
+use Rattle.std.specs.Prelude.{ℕ, ◌+◌, List, [], ◌∷◌, ◌++◌, length, replicate}
 use Rattle.std.specs.List.{flat_map, range_with_len}
 use Rattle.wasm_defs.specs.Outside.{magic, version}
 use Rattle.module_gen.specs.Numbers.{unsigned, signed}

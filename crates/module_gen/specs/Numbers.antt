@@ -13,7 +13,7 @@ signed_end = 64
 -- bytes.
 unfoldable pub spelling : (end most : ℕ) → ℕ → List ℕ
 spelling end zero n = []
-spelling end (suc k) n = if nat_lt n end then n ∷ [] else n % 128 + 128 ∷ spelling end k (n / 128)
+spelling end (suc k) n = if nat_lt n end then n ∷ [] else (n % 128 + 128) ∷ spelling end k (n / 128)
 
 -- a number of 32 bits without a sign
 abbrev pub unsigned : ℕ → List ℕ

@@ -39,6 +39,7 @@ fn adder_content_size(i: u32) -> u32
 }
 
 /// How many bytes the bodies of the first `n` functions have.
+#[tactic(auto, using(crate::proofs::Lists::length_more, crate::proofs::Lists::adder_length))]
 fn adders_size(n: u32) -> u32
     requires { n ≤ 50000 }
     ensures value { result ≡ length (flat_map adder (below n)) }
@@ -52,6 +53,7 @@ fn adders_size(n: u32) -> u32
 }
 
 /// How many bytes the calls of the first `n` functions have.
+#[tactic(auto, using(crate::proofs::Lists::length_more, crate::proofs::Lists::call_length))]
 fn calls_size(n: u32) -> u32
     requires { n ≤ 50000 }
     ensures value { result ≡ length (flat_map call (below n)) }
@@ -95,9 +97,11 @@ fn put_adder(out: &mut Vec<u8>, i: u32) -> Result<(), AllocError>
     put_unsigned(out, adder_content_size(i))?;
     out.extend_from_slice(&[0x00, 0x20, 0x00, 0x41])?;
     put_number(out, SIGNED_END, i)?;
-    out.extend_from_slice(&[0x6A, 0x0B])
+    out.extend_from_slice(&[0x6A, 0x0B])?;
+    Ok(())
 }
 
+#[tactic(auto, using(crate::proofs::Lists::flat_more))]
 fn put_adders(out: &mut Vec<u8>, n: u32) -> Result<(), AllocError>
     ensures { OnOk result (out.new.items ≡ out.old.items ++ flat_map adder (below n)) }
 {
@@ -107,6 +111,7 @@ fn put_adders(out: &mut Vec<u8>, n: u32) -> Result<(), AllocError>
     Ok(())
 }
 
+#[tactic(auto, unfolding(crate::specs::Drill::call))]
 fn put_call(out: &mut Vec<u8>, i: u32) -> Result<(), AllocError>
     ensures { OnOk result (out.new.items ≡ out.old.items ++ call i) }
 {
@@ -114,6 +119,7 @@ fn put_call(out: &mut Vec<u8>, i: u32) -> Result<(), AllocError>
     put_unsigned(out, i)
 }
 
+#[tactic(auto, using(crate::proofs::Lists::flat_more))]
 fn put_calls(out: &mut Vec<u8>, n: u32) -> Result<(), AllocError>
     ensures { OnOk result (out.new.items ≡ out.old.items ++ flat_map call (below n)) }
 {
