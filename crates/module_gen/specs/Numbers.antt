@@ -1,5 +1,6 @@
 -- The shortest spellings of numbers (WebAssembly Core 1.0, 5.2.2).
-use Rattle.std.specs.Prelude.{ℕ, zero, suc, ◌+◌, ◌/◌, ◌%◌, List, [], ◌∷◌, nat_lt, if◌then◌else◌}
+use Rattle.std.specs.Prelude.{ℕ, zero, suc, ◌+◌, ◌/◌, ◌%◌, ◌≤◌, pos, Bool, List, [], ◌∷◌, length, nat_lt, if◌then◌else◌}
+use Rattle.wasm_defs.specs.Numbers.{Spells}
 
 -- A number below this bound has one byte.
 abbrev pub unsigned_end : ℕ
@@ -22,3 +23,7 @@ unsigned n = spelling unsigned_end 5 n
 -- one with a sign, which isn't negative
 abbrev pub signed : ℕ → List ℕ
 signed n = spelling signed_end 5 n
+
+-- the bytes spell a number of 32 bits that isn't negative, and no fewer bytes do
+abbrev pub IsShortest : (with_sign : Bool) → ℕ → List ℕ → Type 0
+IsShortest with_sign n bytes = Spells (pos n) 32 with_sign bytes × ((other : List ℕ) → Spells (pos n) 32 with_sign other → length bytes ≤ length other)

@@ -2,9 +2,11 @@
 #![tactic(auto)]
 
 mod drill;
+mod laws;
 mod numbers;
 
 pub use drill::drill_module;
+pub use laws::numbers_are_short;
 
 #[cfg(test)]
 mod tests;

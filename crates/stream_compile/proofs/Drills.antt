@@ -80,8 +80,7 @@ image_drills (Ok a) d bytes rest built made (calm, came, is_came, end, is) e =
     let m = is.«module» in
     let same : came ≡ drill_bytes d.count = flat_came bytes rest came is_came ∙ made in
     let here : ChecksAndDrills (not_runnable (image_of m) (codes "run") []) (image_of m) built.functions d.steps (view a) =
-    subst (λ (i : Image). ChecksAndDrills (not_runnable i (codes "run") []) i built.functions d.steps (view a)) is.image_is e in
-    (
+    subst (λ (i : Image). ChecksAndDrills (not_runnable i (codes "run") []) i built.functions d.steps (view a)) is.image_is e in (
       Accepted m,
       subst (λ (l : List ℕ). IsVerdictOf l (Accepted m)) same is.is.is,
       (is.is.same, drill_told m built.functions d.steps (view a) (not_runnable (image_of m) (codes "run") []) is.is.same is.is.functions_are refl here),

@@ -1,5 +1,5 @@
 -- What the program answers and writes.
-use Rattle.std.specs.Prelude.{◌≡◌, ◌⊎◌, ℕ, Bool, true, false, List, [], ◌∷◌, ◌++◌, length, take, Option, None, Some, codes, String, string_bytes, map, Result, Ok, Err}
+use Rattle.std.specs.Prelude.{◌≡◌, ◌⊎◌, ℕ, ℤ, Bool, true, false, List, [], ◌∷◌, ◌++◌, length, take, Option, None, Some, codes, String, string_bytes, map, Result, Ok, Err}
 use Rattle.std.specs.Fmt.{decimal, signed_decimal}
 use Rattle.std.specs.Global.{Global}
 use Rattle.std.specs.Io.KnownBytes.{append_known}
@@ -91,10 +91,13 @@ abbrev pub returned : List Value → Outcome
 returned [] = record { status = 0; text = codes "ok\n" }
 returned (v ∷ vs) = record { status = 0; text = type_name v.ty ++ signed_decimal (signed v.ty v.number) ++ codes "\n" }
 
--- what the last of so many functions returned
+-- what the last of so many functions returned, as a signed number
+abbrev pub drill_line : (functions : ℕ) → ℤ → Outcome
+drill_line functions n = record { status = 0; text = codes "functions " ++ (decimal functions ++ (codes " result " ++ (signed_decimal n ++ codes "\n"))) }
+
 abbrev pub drilled : (functions : ℕ) → List Value → Outcome
 drilled functions [] = returned []
-drilled functions (v ∷ vs) = record { status = 0; text = codes "functions " ++ decimal functions ++ codes " result " ++ signed_decimal (signed v.ty v.number) ++ codes "\n" }
+drilled functions (v ∷ vs) = drill_line functions (signed v.ty v.number)
 
 abbrev pub trapped : TrapKind → Outcome
 trapped kind = record { status = 4; text = codes "trap " ++ trap_text kind ++ codes "\n" }
