@@ -11,6 +11,8 @@ mod calls;
 #[cfg(test)]
 mod control;
 #[cfg(test)]
+mod drills;
+#[cfg(test)]
 mod faults;
 #[cfg(test)]
 mod held_back;
