@@ -31,7 +31,10 @@ fn drills_return_their_sums(rt: HostRuntime) -> Result<(), Fail> {
             &["wstream", "drill", "50000"],
             "0 functions 50001 result 1249975000\n",
         ),
-        (&["wstream", "drill", "1000", "--steps", "0"], "5 steps spent\n"),
+        (
+            &["wstream", "drill", "1000", "--steps", "0"],
+            "5 steps spent\n",
+        ),
     ];
     for (words, wanted) in rows {
         assert_eq!(rt;
