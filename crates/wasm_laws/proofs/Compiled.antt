@@ -21,12 +21,19 @@ use Rattle.wasm_laws.proofs.Steady.{IfGot, Advance, Advances, always, here_in}
 use Rattle.wasm_laws.proofs.Windows.{byte_field}
 use Rattle.wasm_laws.proofs.BodyLaws.{local_groups_steady, instruction_steady}
 use Rattle.wasm_laws.proofs.Parts.{then_got}
-use Rattle.wasm_laws.proofs.Plain.{none_outside}
 use Rattle.wasm_defs.specs.declared.operation.Access.{Access}
 use Rattle.wasm_defs.specs.declared.operation.Access.TheVariants as access
 use Rattle.wasm_defs.specs.declared.token.BlockType.{BlockType}
 use Rattle.wasm_defs.specs.declared.token.BlockType.TheVariants.{Empty, Value}
 use Rattle.wasm_defs.specs.declared.fault.Kind.TheVariants.{Malformed, Unsupported}
+
+-- what isn't outside is compiled
+pub none_outside : (compiled : ℕ → Bool) (x : ℕ × ℕ) (xs : List (ℕ × ℕ)) → first_outside compiled (x ∷ xs) ≡ None → (compiled x.1 ≡ true) × (first_outside compiled xs ≡ None)
+none_outside compiled x xs h =
+    elim (cases_Bool (compiled x.1)) [
+      | inl is ↦ (is, rw is at h)
+      | inr other ↦ absurd (let t = rw other at h in cc)
+    ]
 
 -- ---- instructions
 
@@ -183,6 +190,12 @@ zero_is_compiled : (p : Plain) (d : Cursor) → is_compiled_plain p ≡ true →
 unfolding with_zero
 zero_is_compiled p d h = then_got (λ x e. Unit {0}) IsCompiledToken (zero_byte Malformed d) _ (always (zero_byte Malformed d)) (λ x e u. h)
 
+indirect_is_compiled : (d : Cursor) → IfGot IsCompiledToken (indirect d)
+unfolding indirect
+indirect_is_compiled d =
+    then_got (λ i e. Unit {0}) IsCompiledToken (u32 d) _ (always (u32 d))
+    (λ i e u. then_got (λ x f. Unit {0}) IsCompiledToken (zero_byte Unsupported e) _ (always (zero_byte Unsupported e)) (λ x f v. refl))
+
 abbrev pub IsCompiledOpcode : ℕ → Type 0
 IsCompiledOpcode b = is_compiled_opcode b ≡ true
 
@@ -200,7 +213,7 @@ all_are_compiled d = record {
   tables = λ c. table_is_compiled d;
   returns = λ c. refl;
   calls = λ c. index_is_compiled Call d (λ i. refl);
-  indirects = λ c. absurd (false≢true c);
+  indirects = λ c. indirect_is_compiled d;
   drops = λ c. refl;
   selects = λ c. refl;
   gets = λ c. index_is_compiled LocalGet d (λ i. refl);

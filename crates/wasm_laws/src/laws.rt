@@ -6,8 +6,7 @@ ghost use Rattle.wasm_defs.specs.Context.{context_of, declared_count, functions_
 ghost use Rattle.wasm_defs.specs.Entries.{Seen};
 ghost use Rattle.wasm_defs.specs.Faults.{bodies_of, ending_fault, first_outside, IsModule, items_of, Module, sections_of, tokens_of};
 ghost use Rattle.wasm_defs.specs.Fields.{Cursor, Wants, byte, fixed, name, number, room_of};
-ghost use Rattle.wasm_defs.specs.Instances.{all_fit, exports_of, is_linkable, named, pages_of, data_of, start_of};
-ghost use Rattle.wasm_defs.specs.Memory.{page};
+ghost use Rattle.wasm_defs.specs.Instances.{exports_of, named, start_of};
 ghost use Rattle.wasm_defs.specs.Outside.{Body, Coded, header, module_read, Part, preamble, row, Section, section_end, Whole};
 ghost use Rattle.wasm_defs.specs.Places.{greatest, places_of};
 ghost use Rattle.wasm_defs.specs.Supported.{is_compiled_opcode, is_compiled_section};
@@ -23,7 +22,6 @@ ghost use Rattle.wasm_laws.specs.Completing.{Completes, CompletesOrPasses};
 ghost use Rattle.wasm_laws.specs.Counts.{AreDeclared};
 ghost use Rattle.wasm_laws.specs.Kept.{AreThere, BodiesAreSmall, ConstantsFit, IsThere, LocalsAreFew, SpacesAreSmall, TakesNothing, TypesAreSmall};
 ghost use Rattle.wasm_laws.specs.Order.{AreCutFrom, AreOrdered, BodyStands, end_of, first_section};
-ghost use Rattle.wasm_laws.specs.Plain.{ArePlain, HasNoMore};
 ghost use Rattle.wasm_laws.specs.Runs.{deciding_length, GoesOn, IsRefused};
 ghost use Rattle.wasm_laws.specs.Sections.{AreBytes};
 ghost use Rattle.wasm_laws.specs.Steadiness.{Steady, SteadyEnd, SteadyRow, Takes, token};
@@ -122,16 +120,6 @@ pub fn bodies_stand_behind_items()
         let run = module_read bytes in
         run.parts ≡ front ++ Coded b ∷ back → StandBehind run.parts front back }
     ensures valid { (bytes : List ℕ) (m : Module) → IsModule bytes m → AreValidIn m.items 0 m.bodies m.trees }
-{}
-
-/// A module of the sections that are compiled so far has no element segments: it writes nothing into its table, and can be
-/// instantiated exactly where its memory has room for the data segments.
-pub fn compiled_items_are_few()
-    ensures items { (bytes : List ℕ) →
-        let run = module_read bytes in
-        first_outside is_compiled_section (sections_of run.parts) ≡ None → ArePlain (items_of run.parts) }
-    ensures rest { (items : List Item) → ArePlain items → HasNoMore items }
-    ensures linkable { (m : Module) → ArePlain m.items → is_linkable m ≡ all_fit (page * pages_of m.items) (data_of m.items) }
 {}
 
 /// The code of a body whose opcodes are compiled so far is of compiled tokens, and so is the tree that they spell.
