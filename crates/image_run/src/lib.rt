@@ -14,6 +14,10 @@ mod regions;
 mod run;
 mod sink_host;
 #[cfg(test)]
+mod host_tests;
+#[cfg(test)]
+mod test_images;
+#[cfg(test)]
 mod tests;
 mod words;
 
