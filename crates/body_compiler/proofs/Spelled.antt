@@ -33,6 +33,7 @@ plain_taken (BrIf l) c r = inl refl
 plain_taken (BrTable ls l) c r = inl refl
 plain_taken Return c r = inl refl
 plain_taken (Call f) c r = inl refl
+plain_taken (CallIndirect i) c r = inl refl
 plain_taken Discard c r = inr (refl, r)
 plain_taken Select c r = inr (refl, r)
 plain_taken (LocalGet x) c r = inr (refl, r)
@@ -46,7 +47,6 @@ plain_taken MemorySize c r = inr (refl, r)
 plain_taken MemoryGrow c r = inr (refl, r)
 plain_taken (Const t n) c r = inr (refl, r)
 plain_taken (Operate op) c r = inr (refl, r)
-plain_taken _ c r = absurd cc
 
 type_taken : (t : BlockType) → is_compiled_type t ≡ true → IsSpelledType t
 type_taken Empty c = tt

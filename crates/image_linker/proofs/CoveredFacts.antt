@@ -1,16 +1,16 @@
 -- The modules that verdicts accept so far are of covered instructions.
-use Rattle.std.proofs.Common.{◌≡◌, ℕ, zero, suc, ◌+◌, ◌<◌, ◌≤◌, ◌&&◌, Option, true, List, [], ◌∷◌, length, replicate, None, Some, refl, sym, ap, ◌∙◌, subst, arith}
+use Rattle.std.proofs.Common.{◌≡◌, ℕ, zero, suc, ◌+◌, ◌<◌, ◌≤◌, ◌&&◌, Option, true, List, [], ◌∷◌, length, None, Some, refl, sym, ap, subst, arith}
 use Rattle.std.proofs.lemmas.Bool.{and_parts, false≢true}
 use Rattle.wasm_defs.specs.declared.item.Item.{Item}
 use Rattle.wasm_defs.specs.declared.types.ValType.TheVariants.{I32, I64}
 use Rattle.wasm_defs.specs.declared.token.Plain.{Plain}
-use Rattle.wasm_defs.specs.declared.token.Plain.TheVariants.{Unreachable, Br, BrIf, BrTable, Return, Call, Nop, Discard, Select, LocalGet, LocalSet, LocalTee, GlobalGet, GlobalSet, Load, Store, MemorySize, MemoryGrow, Const, Operate}
+use Rattle.wasm_defs.specs.declared.token.Plain.TheVariants.{Unreachable, Br, BrIf, BrTable, Return, Call, CallIndirect, Nop, Discard, Select, LocalGet, LocalSet, LocalTee, GlobalGet, GlobalSet, Load, Store, MemorySize, MemoryGrow, Const, Operate}
 use Rattle.wasm_defs.specs.Context.{type_of_function, context_of, import_count, declared_count, types_of, functions_of}
 use Rattle.wasm_defs.specs.Entries.{Seen}
 use Rattle.wasm_defs.specs.Outside.{Body, Ending, Whole, Refused, Owed, module_read}
 use Rattle.wasm_defs.specs.Trees.{Seq, Nothing, Simple, Block, Loop, If, IfElse}
 use Rattle.wasm_defs.specs.Faults.{tokens_of, read_of, context_at, ending_fault, IsValidCode, Module, IsModule}
-use Rattle.wasm_defs.specs.Instances.{Written, rows_of, all_over, instance_of, exports_of, named}
+use Rattle.wasm_defs.specs.Instances.{rows_of, elements_of, instance_of, exports_of, named}
 use Rattle.wasm_laws.specs.Behind.{AreValidIn}
 use Rattle.wasm_laws.specs.Kept.{TypesAreSmall, BodyIsSmall, BodiesAreSmall, SpacesAreSmall, ConstantsFit, AreThere}
 use Rattle.wasm_laws.specs.Plain.{ArePlain}
@@ -32,7 +32,7 @@ use Rattle.wasm_laws.proofs.Compiled.{tree_is_compiled}
 use Rattle.wasm_laws.proofs.Typed.{functions_of-counts}
 use Rattle.sim_frames.specs.Covered.{IsCoveredStep, IsCovered}
 use Rattle.wasm_defs.specs.Typing.{Types, Context, inside, function_type}
-use Rattle.std.specs.Prelude.{◌≢◌, slice_get}
+use Rattle.std.specs.Prelude.{slice_get}
 use Rattle.std.proofs.lemmas.List.{length-reverse}
 use Rattle.wasm_defs.specs.declared.types.FuncType.{FuncType}
 use Rattle.wasm_defs.specs.declared.token.BlockType.{BlockType}
@@ -43,6 +43,7 @@ use Rattle.sim_frames.proofs.Lows.{TakesOne, IsFew, FewIn, body_low, tokens_spel
 use Rattle.image_linker.proofs.CoveredModules.{IsCoveredBody, AreCoveredBodies, IsCoveredModule}
 use Rattle.image_linker.proofs.SegmentFacts.{segments_are_held}
 use Rattle.image_linker.proofs.TableRows.{types_are_few}
+use Rattle.image_linker.proofs.ElementFacts.{elements_are_below, row_below}
 
 -- ---- bodies
 
@@ -54,6 +55,7 @@ covered_step (BrIf l) e range = tt
 covered_step (BrTable ls l) e range = tt
 covered_step Return e range = tt
 covered_step (Call f) e range = tt
+covered_step (CallIndirect i) e range = tt
 covered_step Discard e range = tt
 covered_step Select e range = tt
 covered_step (LocalGet x) e range = tt
@@ -68,7 +70,6 @@ covered_step MemoryGrow e range = tt
 covered_step (Const I32 n) e range = constant_fits n range
 covered_step (Const I64 n) e range = long_constant_fits n range
 covered_step (Operate op) e range = tt
-covered_step p e range = absurd (false≢true e)
 
 takes_one : (c : Context) (type : BlockType) → is_compiled_type type ≡ true → TakesOne c type
 takes_one c Empty e = (omega arith, omega arith)
@@ -189,16 +190,8 @@ module _ (bytes : List ℕ) (m : Module) (fits : AreBytes bytes) (is : IsModule 
       subst (λ (items : List Item). AreThere (context_of items) (length (functions_of items)) (exports_of items)) (sym is.items) (exports_are_there bytes) in
       omega (arith, (named_is_there (context_of m.items) (length (functions_of m.items)) name (exports_of m.items) f there e).function, functions_match)
 
-  -- so far no row has a function
-  no_row : (n a f : ℕ) → slice_get (replicate n None) a ≢ Some (Some f)
-  no_row zero a f e = absurd cc
-  no_row (suc n) zero f e = absurd cc
-  no_row (suc n) (suc a) f e = no_row n a f e
-
   in_rows : (a f : ℕ) → slice_get (instance_of m).table a ≡ Some (Some f) → f < length m.bodies
-  in_rows a f e =
-      let none = (plain_has_no_more m.items plain).elements in
-      absurd (no_row (rows_of m.items) a f (ap (λ (es : List (Written (Option ℕ))). slice_get (all_over (replicate (rows_of m.items) None) es) a) (sym none) ∙ e))
+  in_rows a f e = omega (arith, row_below (length (functions_of m.items)) (rows_of m.items) a f (elements_of m.items) (elements_are_below bytes m fits is) e, functions_match)
 
   few_types : length (types_of m.items) ≤ max_entries
   few_types =

@@ -5,7 +5,7 @@ use Rattle.std.specs.Int.{w64, cast_unsigned}
 use Rattle.std.proofs.lemmas.Bool.{false≢true, lt-ltb, le-ltb}
 use Rattle.wasm_defs.specs.declared.context.GlobalType.{GlobalType}
 use Rattle.wasm_defs.specs.declared.item.Item.{Item}
-use Rattle.wasm_defs.specs.declared.item.Item.TheVariants.{Signature, Function, Table, Memory, Global, Exported, Code, Segment}
+use Rattle.wasm_defs.specs.declared.item.Item.TheVariants.{Signature, Function, Table, Memory, Global, Exported, Element, Code, Segment}
 use Rattle.wasm_defs.specs.declared.types.ValType.{ValType}
 use Rattle.wasm_defs.specs.declared.types.ValType.TheVariants.{I32, I64}
 use Rattle.wasm_defs.specs.Context.{globals_of}
@@ -28,6 +28,7 @@ no_stubs c number (Signature form params results ty ∷ items) h = no_stubs c nu
 no_stubs c number (Function index ∷ items) h = no_stubs c number items h.1
 no_stubs c number (Table element limits ∷ items) h = no_stubs c number items h.1
 no_stubs c number (Memory limits ∷ items) h = no_stubs c number items h.1
+no_stubs c number (Element table place functions ∷ items) h = no_stubs c number items h.1
 no_stubs c number (Global ty mutable init ∷ items) h = no_stubs c number items h.1
 no_stubs c number (Exported name kind index ∷ items) h = no_stubs c number items h.1
 no_stubs c number (Code count end ∷ items) h = no_stubs c number items h.1
@@ -40,6 +41,7 @@ no_imports c (Signature form params results ty ∷ items) h = no_imports c items
 no_imports c (Function index ∷ items) h = no_imports c items h.1
 no_imports c (Table element limits ∷ items) h = no_imports c items h.1
 no_imports c (Memory limits ∷ items) h = no_imports c items h.1
+no_imports c (Element table place functions ∷ items) h = no_imports c items h.1
 no_imports c (Global ty mutable init ∷ items) h = no_imports c items h.1
 no_imports c (Exported name kind index ∷ items) h = no_imports c items h.1
 no_imports c (Code count end ∷ items) h = no_imports c items h.1

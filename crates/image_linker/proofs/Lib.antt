@@ -8,6 +8,9 @@ pub mod Placed
 pub mod Arguments
 pub mod LoadedMemory
 pub mod TableRows
+pub mod ElementRows
+pub mod ElementFacts
+pub mod LinkedRows
 pub mod SegmentFacts
 pub mod DataRows
 pub mod Called

@@ -42,7 +42,7 @@ use Rattle.image_linker.proofs.CoveredModules.{AreCoveredBodies, IsCoveredModule
 use Rattle.image_linker.proofs.CoveredFacts.{module_is_covered}
 use Rattle.image_linker.proofs.Items.{globals_typed, values_in_range, values_are_words}
 use Rattle.image_linker.proofs.LoadedMemory.{HaveBytes}
-use Rattle.image_linker.proofs.TableRows.{table_has_rows, table_stands, table_called}
+use Rattle.image_linker.proofs.TableRows.{RowFits, fits, table_has_rows, table_stands, table_called}
 use Rattle.image_linker.proofs.Placed.{Placed, code_is_short, text_length, exit_stands, function_stands}
 use Rattle.image_linker.proofs.Called.{IsSmall, IsFirst, is_called}
 
@@ -227,6 +227,10 @@ module _ (m : Module) (good : IsCoveredModule m) (short : length (text_of m) ≤
       let inside = has_inside text x.begin (code_of_function m.items (places_of_functions m) x.begin f x.body x.tree) (omega arith) x.has in
       let few = code_is_short m short in
       omega (arith, place_at f within)
+
+  -- the numbers of rows are words
+  pub rows_fit : (a : ℕ) (o : Option ℕ) → slice_get (instance_of m).table a ≡ Some o → RowFits m o
+  rows_fit = fits m (omega (arith, good.types)) places (λ f. refl) place_is_near
 
   table_now : is_linkable m ≡ true → TableHolds (instance_of m) places (loaded (image_of m))
   table_now can_link = table_stands m can_link (omega (arith, good.types)) places (λ f. refl) place_is_near in_row

@@ -7,5 +7,6 @@ pub mod laws;
 mod linking;
 mod segments;
 mod spaces;
+mod tables;
 
 pub use linking::link;

@@ -7,10 +7,11 @@ ghost use Rattle.image_format.specs.Contents.{IsImage};
 ghost use Rattle.index_spaces.specs.Spaces.{context_in};
 ghost use Rattle.index_spaces.specs.Entries.{function_exports};
 ghost use Rattle.image_linker.specs.ImageOf.{front_of, distances};
-ghost use Rattle.image_linker.specs.Linking.{NumbersFit, words_of, words_from, starts_of, front_words, linked, linked_export};
+ghost use Rattle.image_linker.specs.Linking.{NumbersFit, words_of, words_from, starts_of, front_words, has_room, linked, linked_export};
 
 use crate::segments::{have_room, placed_segments};
-use crate::spaces::{first_cap, first_minimum, global_words, rows_of};
+use crate::spaces::{first_cap, first_minimum, global_words};
+use crate::tables::{have_rows, rows_of};
 use frame_layout::macros::{call, distance};
 use image_format::{Export, Exports, Globals, Image, Imports, Segments, Table, Text, Version};
 use index_spaces::{Context, copy_of_name, copy_of_type};
@@ -37,7 +38,7 @@ fn exit_stub() -> [u32; 2]
 }
 
 /// The place of a function, or 0 where it has none.
-fn start_at(starts: &[u32], function: u32) -> u32
+pub(crate) fn start_at(starts: &[u32], function: u32) -> u32
     ensures { result ≡ slice_index starts.now function }
 {
     match starts.get(function as usize) {
@@ -148,11 +149,20 @@ fn exports_of(alloc: Global, context: &Context, starts: &[u32]) -> Result<Vec<Ex
     Ok(exports)
 }
 
+/// Whether the table and the memory have room for all segments (Core 4.5.4).
+fn is_linkable(context: &Context) -> bool
+    ensures { result ≡ has_room context.now }
+{
+    have_rows(first_minimum(context.tables()), context.elements())
+        && have_room(first_minimum(context.memories()), context.segments())
+}
+
 /// Links the codes of a module's declared functions, in the order of their indices, to the module's image.
 ///
-/// Each call leads to its function. So far a module has no imports, no element segments and no start function. The text has at most
-/// 268,435,456 bytes, what is linked keeps the bounds of images, and the numbers of the globals' constants are of the globals' types.
-/// Where some data segment has no place in the memory, the image has none and is marked as one that can't be instantiated.
+/// Each call leads to its function, and so do the rows of the table. So far a module has no imports and no start function. The text has
+/// at most 268,435,456 bytes, what is linked keeps the bounds of images, and the numbers of the globals' constants are of the globals'
+/// types. All segments are looked at before any is written: where one has no place in the table or the memory, the image has no row
+/// with a function and no data segment, and is marked as one that can't be instantiated.
 pub fn link(alloc: Global, context: &Context, codes: &[Code]) -> Result<Image, AllocError>
     requires fits { 4 * (front_of context.now.imported + length (words_of codes.now)) ≤ 2 ^ 28 }
     requires bounded { IsImage (linked context.now codes.now) }
@@ -163,9 +173,9 @@ pub fn link(alloc: Global, context: &Context, codes: &[Code]) -> Result<Image, A
     let text = text_of(alloc, codes, &starts)?;
     let exports = exports_of(alloc, context, &starts)?;
     let globals = global_words(alloc, context)?;
-    let table = rows_of(alloc, context)?;
     let pages = first_minimum(context.memories());
-    let linkable = have_room(pages, context.segments());
+    let linkable = is_linkable(context);
+    let table = rows_of(alloc, context, &starts, linkable)?;
     let segments = placed_segments(alloc, linkable, context.segments())?;
     Ok(Image {
         version: Version::One,

@@ -273,6 +273,16 @@ impl Context {
         (index as usize) < self.functions.len()
     }
 
+    /// The index of the type of the function of the index, where there is such a function.
+    pub fn type_index(&self, index: u32) -> Option<u32>
+        ensures { result ≡ slice_get self.now.functions index }
+    {
+        match self.functions.get(index as usize) {
+            Some(type_index) => Some(*type_index),
+            None => None,
+        }
+    }
+
     /// Whether there are a function of the index and its type.
     pub fn has_type_of_function(&self, index: u32) -> bool
         ensures { result ≡ is_some (function_type (context_in self.now) index) }

@@ -16,3 +16,5 @@ mod faults;
 mod held_back;
 #[cfg(test)]
 mod operations;
+#[cfg(test)]
+mod tables;

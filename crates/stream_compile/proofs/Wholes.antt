@@ -18,6 +18,7 @@ use Rattle.image_linker.specs.ImageOf.{front_of, image_of}
 use Rattle.image_linker.specs.Linking.{NumbersFit, words_of, starts_of, linked, linked_export}
 use Rattle.image_linker.specs.Judging.{IsModuleOf}
 use Rattle.image_linker.proofs.Items.{numbers_fit}
+use Rattle.image_linker.proofs.ElementFacts.{elements_are_below, functions_typed}
 use Rattle.image_linker.proofs.Bounded.{images_keep_bounds}
 use Rattle.image_linker.proofs.Modules.{images_behave_alike}
 use Rattle.image_linker.proofs.Short.{images_are_short}
@@ -39,7 +40,7 @@ whole_done bytes left s seen fits j whole count =
     let h = w.1 in
     let plain : ArePlain m.items = subst ArePlain (sym h.is.items) (items_are_plain bytes h.is.compiled) in
     let is : IsModuleOf bytes m = record { is = h.is; fits = omega (arith, h.words, words_are_sizes m.items 0 m.bodies m.trees j.all h.coded) } in
-    let image : linked (spaces_of m.items) j.all ≡ image_of m = linked_is_image m j.all plain h.coded in
+    let image : linked (spaces_of m.items) j.all ≡ image_of m = linked_is_image m j.all plain (elements_are_below bytes m fits h.is) (functions_typed bytes m h.is) h.coded in
     let constants : ConstantsFit m.items = subst ConstantsFit (sym h.is.items) (constants_fit bytes fits) in
     record {
       «module» = m;

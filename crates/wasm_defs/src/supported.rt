@@ -7,7 +7,7 @@ ghost use Rattle.wasm_defs.specs.Supported.{is_compiled_section, is_compiled_opc
 pub fn is_compiled_section(id: u8) -> bool
     ensures { result ≡ is_compiled_section id }
 {
-    matches!(id, 0..=1 | 3..=7 | 10..=11)
+    matches!(id, 0..=1 | 3..=7 | 9..=11)
 }
 
 /// Whether the instruction of the opcode is compiled.
@@ -17,7 +17,7 @@ pub fn is_compiled_opcode(opcode: u8) -> bool
     matches!(
         opcode,
         0x00..=0x05
-            | 0x0B..=0x10
+            | 0x0B..=0x11
             | 0x1A..=0x1B
             | 0x20..=0x24
             | 0x28..=0x29

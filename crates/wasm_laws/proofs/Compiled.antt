@@ -183,6 +183,12 @@ zero_is_compiled : (p : Plain) (d : Cursor) → is_compiled_plain p ≡ true →
 unfolding with_zero
 zero_is_compiled p d h = then_got (λ x e. Unit {0}) IsCompiledToken (zero_byte Malformed d) _ (always (zero_byte Malformed d)) (λ x e u. h)
 
+indirect_is_compiled : (d : Cursor) → IfGot IsCompiledToken (indirect d)
+unfolding indirect
+indirect_is_compiled d =
+    then_got (λ i e. Unit {0}) IsCompiledToken (u32 d) _ (always (u32 d))
+    (λ i e u. then_got (λ x f. Unit {0}) IsCompiledToken (zero_byte Unsupported e) _ (always (zero_byte Unsupported e)) (λ x f v. refl))
+
 abbrev pub IsCompiledOpcode : ℕ → Type 0
 IsCompiledOpcode b = is_compiled_opcode b ≡ true
 
@@ -200,7 +206,7 @@ all_are_compiled d = record {
   tables = λ c. table_is_compiled d;
   returns = λ c. refl;
   calls = λ c. index_is_compiled Call d (λ i. refl);
-  indirects = λ c. absurd (false≢true c);
+  indirects = λ c. indirect_is_compiled d;
   drops = λ c. refl;
   selects = λ c. refl;
   gets = λ c. index_is_compiled LocalGet d (λ i. refl);

@@ -1,11 +1,9 @@
 -- Where only some sections are compiled, a module of them has their items alone.
-use Rattle.std.proofs.Common.{◌≡◌, ℕ, ◌*◌, Bool, true, List, [], ◌∷◌, None, max, refl, subst, sym, inl, inr}
+use Rattle.std.proofs.Common.{◌≡◌, ℕ, Bool, true, List, [], ◌∷◌, None, max, refl, subst, sym, inl, inr}
 use Rattle.std.proofs.lemmas.Bool.{cases_Bool}
 use Rattle.wasm_defs.specs.declared.item.Item.{Item}
 use Rattle.wasm_defs.specs.declared.item.Item.TheVariants.{Signature, Imported, Function, Table, Memory, Global, Exported, Start, Element, Code, Segment}
-use Rattle.wasm_defs.specs.Faults.{first_outside, sections_of, items_of, Module}
-use Rattle.wasm_defs.specs.Instances.{pages_of, data_of, all_fit, is_linkable}
-use Rattle.wasm_defs.specs.Memory.{page}
+use Rattle.wasm_defs.specs.Faults.{first_outside, sections_of, items_of}
 use Rattle.wasm_defs.specs.Items.{section_of}
 use Rattle.wasm_defs.specs.Outside.{Part, Section, Listed, Coded, module_read}
 use Rattle.wasm_defs.specs.Supported.{is_compiled_section}
@@ -31,7 +29,7 @@ plain_of_section (Memory limits) h = refl
 plain_of_section (Global ty mutable init) h = refl
 plain_of_section (Exported name kind index) h = refl
 plain_of_section (Start index) h = absurd cc
-plain_of_section (Element table place functions) h = absurd cc
+plain_of_section (Element table place functions) h = refl
 plain_of_section (Code count end) h = refl
 plain_of_section (Segment memory place bytes) h = refl
 
@@ -47,17 +45,14 @@ items_are_plain bytes none = sorted_are_plain 0 0 (module_read bytes).parts refl
 -- ---- what there isn't
 
 pub plain_has_no_more : (items : List Item) → ArePlain items → HasNoMore items
-plain_has_no_more [] h = record { imports = refl; imported = λ c n. refl; elements = refl; start = refl }
-plain_has_no_more (Signature form params results ty ∷ xs) h = let r = plain_has_no_more xs h.1 in record { imports = r.imports; imported = r.imported; elements = r.elements; start = r.start }
-plain_has_no_more (Function i ∷ xs) h = let r = plain_has_no_more xs h.1 in record { imports = r.imports; imported = r.imported; elements = r.elements; start = r.start }
-plain_has_no_more (Table element limits ∷ xs) h = let r = plain_has_no_more xs h.1 in record { imports = r.imports; imported = r.imported; elements = r.elements; start = r.start }
-plain_has_no_more (Memory limits ∷ xs) h = let r = plain_has_no_more xs h.1 in record { imports = r.imports; imported = r.imported; elements = r.elements; start = r.start }
-plain_has_no_more (Global ty mutable init ∷ xs) h = let r = plain_has_no_more xs h.1 in record { imports = r.imports; imported = r.imported; elements = r.elements; start = r.start }
-plain_has_no_more (Exported name kind index ∷ xs) h = let r = plain_has_no_more xs h.1 in record { imports = r.imports; imported = r.imported; elements = r.elements; start = r.start }
-plain_has_no_more (Code count end ∷ xs) h = let r = plain_has_no_more xs h.1 in record { imports = r.imports; imported = r.imported; elements = r.elements; start = r.start }
-plain_has_no_more (Segment memory place bytes ∷ xs) h = let r = plain_has_no_more xs h.1 in record { imports = r.imports; imported = r.imported; elements = r.elements; start = r.start }
+plain_has_no_more [] h = record { imports = refl; imported = λ c n. refl; start = refl }
+plain_has_no_more (Signature form params results ty ∷ xs) h = let r = plain_has_no_more xs h.1 in record { imports = r.imports; imported = r.imported; start = r.start }
+plain_has_no_more (Function i ∷ xs) h = let r = plain_has_no_more xs h.1 in record { imports = r.imports; imported = r.imported; start = r.start }
+plain_has_no_more (Table element limits ∷ xs) h = let r = plain_has_no_more xs h.1 in record { imports = r.imports; imported = r.imported; start = r.start }
+plain_has_no_more (Memory limits ∷ xs) h = let r = plain_has_no_more xs h.1 in record { imports = r.imports; imported = r.imported; start = r.start }
+plain_has_no_more (Global ty mutable init ∷ xs) h = let r = plain_has_no_more xs h.1 in record { imports = r.imports; imported = r.imported; start = r.start }
+plain_has_no_more (Exported name kind index ∷ xs) h = let r = plain_has_no_more xs h.1 in record { imports = r.imports; imported = r.imported; start = r.start }
+plain_has_no_more (Element table place functions ∷ xs) h = let r = plain_has_no_more xs h.1 in record { imports = r.imports; imported = r.imported; start = r.start }
+plain_has_no_more (Code count end ∷ xs) h = let r = plain_has_no_more xs h.1 in record { imports = r.imports; imported = r.imported; start = r.start }
+plain_has_no_more (Segment memory place bytes ∷ xs) h = let r = plain_has_no_more xs h.1 in record { imports = r.imports; imported = r.imported; start = r.start }
 plain_has_no_more (_ ∷ xs) h = absurd cc
-
--- such a module can be instantiated where the memory has room for its segments
-pub plain_is_linkable : (m : Module) → ArePlain m.items → is_linkable m ≡ all_fit (page * pages_of m.items) (data_of m.items)
-plain_is_linkable m h = let r = plain_has_no_more m.items h in rw r.elements refl

@@ -1,5 +1,5 @@
--- Code that is compiled so far: numeric, parametric, variable and memory instructions, and control but calls by the table
--- (WebAssembly Core 1.0, 2.4); and the immediates of all code.
+-- Code that is compiled so far: numeric, parametric, variable, memory and control instructions (WebAssembly Core 1.0, 2.4); and the
+-- immediates of all code.
 use Rattle.std.specs.Prelude.{ℕ, ◌<◌, ◌^◌, Bool, true, false, ◌&&◌, List, [], ◌∷◌, FitsSigned}
 use Rattle.std.specs.Int.{w32, w64}
 use Rattle.wasm_defs.specs.declared.types.ValType.TheVariants.{I32, I64}
@@ -19,6 +19,7 @@ is_compiled_plain (BrIf l) = true
 is_compiled_plain (BrTable ls l) = true
 is_compiled_plain Return = true
 is_compiled_plain (Call f) = true
+is_compiled_plain (CallIndirect i) = true
 is_compiled_plain Discard = true
 is_compiled_plain Select = true
 is_compiled_plain (LocalGet x) = true
@@ -32,7 +33,6 @@ is_compiled_plain MemorySize = true
 is_compiled_plain MemoryGrow = true
 is_compiled_plain (Const t n) = true
 is_compiled_plain (Operate op) = true
-is_compiled_plain _ = false
 
 -- a block takes nothing, and leaves one value at most
 abbrev pub is_compiled_type : BlockType → Bool

@@ -6,8 +6,7 @@ ghost use Rattle.wasm_defs.specs.Context.{context_of, declared_count, functions_
 ghost use Rattle.wasm_defs.specs.Entries.{Seen};
 ghost use Rattle.wasm_defs.specs.Faults.{bodies_of, ending_fault, first_outside, IsModule, items_of, Module, sections_of, tokens_of};
 ghost use Rattle.wasm_defs.specs.Fields.{Cursor, Wants, byte, fixed, name, number, room_of};
-ghost use Rattle.wasm_defs.specs.Instances.{all_fit, exports_of, is_linkable, named, pages_of, data_of, start_of};
-ghost use Rattle.wasm_defs.specs.Memory.{page};
+ghost use Rattle.wasm_defs.specs.Instances.{exports_of, named, start_of};
 ghost use Rattle.wasm_defs.specs.Outside.{Body, Coded, header, module_read, Part, preamble, row, Section, section_end, Whole};
 ghost use Rattle.wasm_defs.specs.Places.{greatest, places_of};
 ghost use Rattle.wasm_defs.specs.Supported.{is_compiled_opcode, is_compiled_section};
@@ -124,15 +123,13 @@ pub fn bodies_stand_behind_items()
     ensures valid { (bytes : List ℕ) (m : Module) → IsModule bytes m → AreValidIn m.items 0 m.bodies m.trees }
 {}
 
-/// A module of the sections that are compiled so far has no items but types, functions, tables, memories, globals, exports, the code
-/// section's count and data segments: it imports nothing, writes nothing into its table, has no start function, and can be
-/// instantiated exactly where its memory has room for the segments.
+/// A module of the sections that are compiled so far has no items but types, functions, tables, memories, globals, exports, element
+/// segments, the code section's count and data segments: it imports nothing, and has no start function.
 pub fn compiled_items_are_few()
     ensures items { (bytes : List ℕ) →
         let run = module_read bytes in
         first_outside is_compiled_section (sections_of run.parts) ≡ None → ArePlain (items_of run.parts) }
     ensures rest { (items : List Item) → ArePlain items → HasNoMore items }
-    ensures linkable { (m : Module) → ArePlain m.items → is_linkable m ≡ all_fit (page * pages_of m.items) (data_of m.items) }
 {}
 
 /// The code of a body whose opcodes are compiled so far is of compiled tokens, and so is the tree that they spell.
