@@ -19,7 +19,7 @@ use Rattle.batch_pool.specs.Working.{CompilesBody, IsCodeFor, AreCodesFor, IsRow
 
 pub fault_inside : (c : Spaces) (b : Body) (r : Refusal) → IsLowBody b → CompilesBody c b (Err (Refused r)) → r.offset < b.first + length b.bytes
 fault_inside c b r low fault = let some = low.some in
-    (code_fault_inside (context_of_body c b.index (body_read b.first b.bytes)) (record { size = b.size; first = b.first; bytes = b.bytes }) r (omega arith) fault).1
+    (code_fault_inside (context_of_body (context_in c) b.index (body_read b.first b.bytes)) (record { size = b.size; first = b.first; bytes = b.bytes }) r (omega arith) fault).1
 
 module _ (c : Spaces) (cells : List ℕ) where
   pub codes_push : (bs : List Body) (ks : List RowCode) (b : Body) (k : RowCode) → AreCodesFor c cells bs ks → IsCodeFor c cells b k → AreCodesFor c cells (bs ++ b ∷ []) (ks ++ k ∷ [])

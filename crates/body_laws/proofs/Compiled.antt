@@ -11,7 +11,7 @@ use Rattle.wasm_defs.specs.Supported.{is_compiled_opcode}
 use Rattle.wasm_defs.specs.Trees.{Seq, Tree}
 use Rattle.wasm_laws.specs.Kept.{LocalsAreFew}
 use Rattle.wasm_laws.specs.Steadiness as steady
-use Rattle.wasm_laws.proofs.Plain.{none_outside}
+use Rattle.wasm_laws.proofs.Compiled.{none_outside}
 use Rattle.wasm_laws.proofs.Steady.{IfGot}
 use Rattle.wasm_laws.proofs.Spelt.{cursor, Ready, Found, later}
 use Rattle.wasm_laws.proofs.SpeltFields.{byte_spelt}

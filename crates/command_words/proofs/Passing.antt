@@ -1,4 +1,5 @@
--- Where clap's model finds no fault, the options of each command have numbers in their ranges, and `run` has EXPORT.
+-- Where clap's model finds no fault, the options of each command have numbers in their ranges, `run` and `exec` have EXPORT, and
+-- `drill` has N.
 use Rattle.std.proofs.Common.{◌≡◌, ◌∙◌, ◌⊎◌, ℕ, Bool, true, false, List, [], ◌∷◌, Option, Some, None, refl, ap, ap₂, sym, subst, true≢false, inl, inr}
 use Rattle.std.specs.Prelude.{◌≢◌, ◌||◌, Any, codes, cond, find, is_some, not, option_and_then, option_map}
 use Rattle.std.specs.List.{list_any}
@@ -17,11 +18,12 @@ use Rattle.clap.specs.declared.builder.value_parser.ValueParser.{ValueParser}
 use Rattle.clap.specs.declared.builder.value_parser.ValueParser.TheVariants as parser
 use Rattle.clap.specs.declared.error.kind.ErrorKind.TheVariants.{MissingRequiredArgument}
 use Rattle.command_words.specs.Arguments.{arguments_in}
-use Rattle.command_words.specs.Grammar.{IsNoArgument, IsOutside, call_in, call_of, call_words, check, command_in, command_named, command_without, compile, exec, found_words, number_in, options_in, options_of, program, run, run_in, run_of}
+use Rattle.command_words.specs.Grammar.{IsNoArgument, IsOutside, call_in, call_of, call_words, check, command_in, command_named, command_without, compile, drill, drill_in, drill_of, exec, found_words, number_in, options_in, options_of, program, run, run_in, run_of}
 use Rattle.command_words.specs.declared.argument.Argument.{Argument}
 use Rattle.command_words.specs.declared.command.Call.{Call}
 use Rattle.command_words.specs.declared.command.Command.{Command}
 use Rattle.command_words.specs.declared.command.Command.TheVariants as command
+use Rattle.command_words.specs.declared.command.Drill.{Drill}
 use Rattle.command_words.specs.declared.command.Options.{Options}
 use Rattle.command_words.specs.declared.command.Run.{Run}
 use Rattle.command_words.proofs.ArgumentWords.{other_word}
@@ -43,6 +45,9 @@ no_short_exec x = refl
 
 no_short_run : HasNoShort (leaf run).rules
 no_short_run x = refl
+
+no_short_drill : HasNoShort (leaf drill).rules
+no_short_drill x = refl
 
 -- ---- the arguments, for each name
 
@@ -104,6 +109,30 @@ run_steps = (
   (inr (refl, refl), (other (codes "steps") _ _ refl refl, (other (codes "steps") _ _ refl refl, (own (codes "steps") _ _ refl (one_number 0 1000000000000 _ refl refl refl), tt)))),
 )
 
+drill_count : AllFit (codes "n") (parser.Unsigned 1 50000) (leaf drill).rules
+drill_count = (
+  own (codes "n") _ _ refl (one_number 1 50000 _ refl refl refl),
+  (other (codes "n") _ _ refl refl, (other (codes "n") _ _ refl refl, (other (codes "n") _ _ refl refl, tt))),
+)
+
+drill_workers : AllFit (codes "workers") (parser.Unsigned 0 64) (leaf drill).rules
+drill_workers = (
+  other (codes "workers") _ _ refl refl,
+  (own (codes "workers") _ _ refl (one_number 0 64 _ refl refl refl), (other (codes "workers") _ _ refl refl, (other (codes "workers") _ _ refl refl, tt))),
+)
+
+drill_batch : AllFit (codes "batch") (parser.Unsigned 1 1048576) (leaf drill).rules
+drill_batch = (
+  other (codes "batch") _ _ refl refl,
+  (other (codes "batch") _ _ refl refl, (own (codes "batch") _ _ refl (one_number 1 1048576 _ refl refl refl), (other (codes "batch") _ _ refl refl, tt))),
+)
+
+drill_steps : AllFit (codes "steps") (parser.Unsigned 0 1000000000000) (leaf drill).rules
+drill_steps = (
+  other (codes "steps") _ _ refl refl,
+  (other (codes "steps") _ _ refl refl, (other (codes "steps") _ _ refl refl, (own (codes "steps") _ _ refl (one_number 0 1000000000000 _ refl refl refl), tt))),
+)
+
 -- ---- what is read where a subcommand's level has no fault
 
 abbrev Passes : Shape → List Text → Type 0
@@ -141,6 +170,12 @@ run_options words e =
     let w = number_read (codes "workers") 0 64 (leaf run) run_workers no_short_run refl words e in
     let b = number_read (codes "batch") 1 1048576 (leaf run) run_batch no_short_run refl words e in
     options_read (rows_of (leaf run) words) w.0 b.0 w.1 b.1
+
+drill_options : (words : List Text) → Passes (leaf drill) words → (o : Options) × (options_in (rows_of (leaf drill) words) ≡ Some o)
+drill_options words e =
+    let w = number_read (codes "workers") 0 64 (leaf drill) drill_workers no_short_drill refl words e in
+    let b = number_read (codes "batch") 1 1048576 (leaf drill) drill_batch no_short_drill refl words e in
+    options_read (rows_of (leaf drill) words) w.0 b.0 w.1 b.1
 
 given_has : (name : Text) (rows : List Row) → is_given name rows ≡ true → has_row name rows ≡ true
 given_has name [] e = absurd (true≢false (sym e))
@@ -216,6 +251,22 @@ exec_read words e = go (call_read (leaf exec) exec_takes words e)
     go (inr any) = inr any
     go (inl call) = inl (command.Exec call.0, ap (option_map command.Exec) call.1)
 
+count_read : (words : List Text) → Passes (leaf drill) words → (n : ℕ) × (option_and_then (number_in 1 50000) (one_of (codes "n") (rows_of (leaf drill) words)) ≡ Some n)
+count_read words e =
+    let rows = rows_of (leaf drill) words in
+    let has = given_has (codes "n") rows (wanted (is_given (codes "n") rows) (last_check (leaf drill) [] words false [] e).1) in
+    let v = value_good (codes "n") (parser.Unsigned 1 50000) rows has (level_good (codes "n") (parser.Unsigned 1 50000) (leaf drill) drill_count no_short_drill words e) in
+    (digits_value 10 (without_leading_plus v.0), rw (v.2, v.3) refl)
+
+drill_read : (words : List Text) → Passes (leaf drill) words → IsEither (Some (codes "drill", rows_of (leaf drill) words))
+drill_read words e =
+    let o = drill_options words e in
+    let n = count_read words e in
+    let s = number_read (codes "steps") 0 1000000000000 (leaf drill) drill_steps no_short_drill refl words e in
+    let d : Drill = record { options = o.0; count = n.0; steps = s.0 } in
+    let read : drill_in (rows_of (leaf drill) words) ≡ Some d = rw (o.1, n.1, s.1) refl in
+    inl (command.Drill d, ap (option_map command.Drill) read)
+
 -- ---- the program
 
 missing : (has : Bool) (rows : List Row) → check_fault (built program).top rows has ≡ [] → has ≡ true
@@ -226,20 +277,22 @@ stop_read : (stop : Option (Text × List Text)) → entered_fault (built program
     → IsEither (entered (built program) stop)
 stop_read None e has = absurd (true≢false (sym has))
 stop_read (Some p) e has =
-    go (answers_to p.0 (label_of (leaf check))) (answers_to p.0 (label_of (leaf compile))) (answers_to p.0 (label_of (leaf run))) (answers_to p.0 (label_of (leaf exec))) e has
+    go (answers_to p.0 (label_of (leaf check))) (answers_to p.0 (label_of (leaf compile))) (answers_to p.0 (label_of (leaf run))) (answers_to p.0 (label_of (leaf exec)))
+    (answers_to p.0 (label_of (leaf drill))) e has
   where
-    go : (a b c d : Bool) → option_map_or (λ s. level_fault s [] nothing_held p.1 false []) (cond a (Some (leaf check)) (cond b (Some (leaf compile)) (cond c (Some (leaf run)) (cond d (Some (leaf exec)) None)))) [] ≡ []
-        → is_some (option_map (λ s. rows_at s p.1) (cond a (Some (leaf check)) (cond b (Some (leaf compile)) (cond c (Some (leaf run)) (cond d (Some (leaf exec)) None))))) ≡ true
-        → IsEither (option_map (λ s. rows_at s p.1) (cond a (Some (leaf check)) (cond b (Some (leaf compile)) (cond c (Some (leaf run)) (cond d (Some (leaf exec)) None)))))
-    go true b c d e has =
+    go : (a b c d f : Bool) → option_map_or (λ s. level_fault s [] nothing_held p.1 false []) (cond a (Some (leaf check)) (cond b (Some (leaf compile)) (cond c (Some (leaf run)) (cond d (Some (leaf exec)) (cond f (Some (leaf drill)) None))))) [] ≡ []
+        → is_some (option_map (λ s. rows_at s p.1) (cond a (Some (leaf check)) (cond b (Some (leaf compile)) (cond c (Some (leaf run)) (cond d (Some (leaf exec)) (cond f (Some (leaf drill)) None)))))) ≡ true
+        → IsEither (option_map (λ s. rows_at s p.1) (cond a (Some (leaf check)) (cond b (Some (leaf compile)) (cond c (Some (leaf run)) (cond d (Some (leaf exec)) (cond f (Some (leaf drill)) None))))))
+    go true b c d f e has =
         let o = check_read p.1 e in
         inl (command.Check o.0, ap (option_map command.Check) o.1)
-    go false true c d e has =
+    go false true c d f e has =
         let o = compile_read p.1 e in
         inl (command.Compile o.0, ap (option_map command.Compile) o.1)
-    go false false true d e has = run_read p.1 e
-    go false false false true e has = exec_read p.1 e
-    go false false false false e has = absurd (true≢false (sym has))
+    go false false true d f e has = run_read p.1 e
+    go false false false true f e has = exec_read p.1 e
+    go false false false false true e has = drill_read p.1 e
+    go false false false false false e has = absurd (true≢false (sym has))
 
 named_read : (words : List Text) → fault_of program words ≡ [] → IsEither (subcommand_of program words)
 named_read words e =

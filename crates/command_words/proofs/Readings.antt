@@ -10,11 +10,12 @@ use Rattle.clap.specs.ValueTests.{is_unsigned_in}
 use Rattle.clap.specs.declared.builder.value_parser.ValueParser.TheVariants as parser
 use Rattle.clap.proofs.ValueTestLemmas.{accepts-Accepts}
 use Rattle.command_words.specs.Arguments.{AreArguments, arguments_in}
-use Rattle.command_words.specs.Grammar.{AreInRange, IsInRange, IsNoArgument, call_in, call_of, call_words, found_words, command_named, command_without, number_in, options_in, options_of, run_in, run_of}
+use Rattle.command_words.specs.Grammar.{AreInRange, IsInRange, IsNoArgument, call_in, call_of, call_words, found_words, command_named, command_without, drill_in, drill_of, number_in, options_in, options_of, run_in, run_of}
 use Rattle.command_words.specs.declared.argument.Argument.{Argument}
 use Rattle.command_words.specs.declared.command.Call.{Call}
 use Rattle.command_words.specs.declared.command.Command.{Command}
 use Rattle.command_words.specs.declared.command.Command.TheVariants as command
+use Rattle.command_words.specs.declared.command.Drill.{Drill}
 use Rattle.command_words.specs.declared.command.Options.{Options}
 use Rattle.command_words.specs.declared.command.Run.{Run}
 use Rattle.command_words.proofs.ArgumentWords.{are_arguments, no_other}
@@ -72,32 +73,53 @@ run_parts_of None c r is = absurd (some≢none r is)
 run_parts : (rows : List Row) (r : Run) → run_in rows ≡ Some r → (options_in rows ≡ Some r.options) × (call_in rows ≡ Some r.call)
 run_parts rows r is = run_parts_of (options_in rows) (call_in rows) r is
 
+drill_parts_of : (o : Option Options) (n s : Option ℕ) (d : Drill) → drill_of o n s ≡ Some d → (o ≡ Some d.options) × (n ≡ Some d.count) × (s ≡ Some d.steps)
+drill_parts_of (Some o) (Some n) (Some s) d is = (
+  ap (option_map (λ (x : Drill). x.options)) is,
+  ap (option_map (λ (x : Drill). x.count)) is,
+  ap (option_map (λ (x : Drill). x.steps)) is,
+)
+drill_parts_of (Some o) (Some n) None d is = absurd (some≢none d is)
+drill_parts_of (Some o) None s d is = absurd (some≢none d is)
+drill_parts_of None n s d is = absurd (some≢none d is)
+
+drill_bounds : (rows : List Row) (d : Drill) → drill_in rows ≡ Some d → AreInRange d.options × (1 ≤ d.count) × (d.count ≤ 50000) × (d.steps ≤ 1000000000000)
+drill_bounds rows d is =
+    let n = one_of (codes "n") rows in
+    let s = one_of (codes "steps") rows in
+    let parts = drill_parts_of (options_in rows) (option_and_then (number_in 1 50000) n) (option_and_then (number_in 0 1000000000000) s) d is in
+    let count = found_bounds 1 50000 n d.count parts.1 in
+    let steps = found_bounds 0 1000000000000 s d.steps parts.2 in
+    (options_bounds rows d.options parts.0, count.0, count.1, steps.1)
+
 -- what a command is read of
 abbrev IsRead : List Row → Command → Type 0
 IsRead rows (command.Check o) = options_in rows ≡ Some o
 IsRead rows (command.Compile o) = options_in rows ≡ Some o
 IsRead rows (command.Run r) = run_in rows ≡ Some r
 IsRead rows (command.Exec c) = call_in rows ≡ Some c
+IsRead rows (command.Drill d) = drill_in rows ≡ Some d
 
 made_of : {X : Type 0} (make : X → Command) (P : Command → Type 0) (read x : Option X) (c : Command) → ((v : X) → read ≡ Some v → P (make v)) → read ≡ x → option_map make x ≡ Some c → P c
 made_of make P read None c each is e = absurd (some≢none c e)
 made_of make P read (Some v) c each is e = subst P (ap (λ y. unwrap_or y c) e) (each v is)
 
--- the command of a subcommand that has one of the four names, or none
-abbrev by_name : Bool → Bool → Bool → Bool → List Row → Option Command
-by_name check compile run exec rows =
+-- the command of a subcommand that has one of the five names, or none
+abbrev by_name : Bool → Bool → Bool → Bool → Bool → List Row → Option Command
+by_name check compile run exec drill rows =
     cond check (option_map command.Check (options_in rows))
-    (cond compile (option_map command.Compile (options_in rows)) (cond run (option_map command.Run (run_in rows)) (cond exec (option_map command.Exec (call_in rows)) None)))
+    (cond compile (option_map command.Compile (options_in rows)) (cond run (option_map command.Run (run_in rows)) (cond exec (option_map command.Exec (call_in rows)) (cond drill (option_map command.Drill (drill_in rows)) None))))
 
-by_name_read : (check compile run exec : Bool) (rows : List Row) (c : Command) → by_name check compile run exec rows ≡ Some c → IsRead rows c
-by_name_read true compile run exec rows c e = made_of command.Check (IsRead rows) (options_in rows) (options_in rows) c (λ v is. is) refl e
-by_name_read false true run exec rows c e = made_of command.Compile (IsRead rows) (options_in rows) (options_in rows) c (λ v is. is) refl e
-by_name_read false false true exec rows c e = made_of command.Run (IsRead rows) (run_in rows) (run_in rows) c (λ v is. is) refl e
-by_name_read false false false true rows c e = made_of command.Exec (IsRead rows) (call_in rows) (call_in rows) c (λ v is. is) refl e
-by_name_read false false false false rows c e = absurd (some≢none c e)
+by_name_read : (check compile run exec drill : Bool) (rows : List Row) (c : Command) → by_name check compile run exec drill rows ≡ Some c → IsRead rows c
+by_name_read true compile run exec drill rows c e = made_of command.Check (IsRead rows) (options_in rows) (options_in rows) c (λ v is. is) refl e
+by_name_read false true run exec drill rows c e = made_of command.Compile (IsRead rows) (options_in rows) (options_in rows) c (λ v is. is) refl e
+by_name_read false false true exec drill rows c e = made_of command.Run (IsRead rows) (run_in rows) (run_in rows) c (λ v is. is) refl e
+by_name_read false false false true drill rows c e = made_of command.Exec (IsRead rows) (call_in rows) (call_in rows) c (λ v is. is) refl e
+by_name_read false false false false true rows c e = made_of command.Drill (IsRead rows) (drill_in rows) (drill_in rows) c (λ v is. is) refl e
+by_name_read false false false false false rows c e = absurd (some≢none c e)
 
 named_read : (p : Text × List Row) (c : Command) → command_named p ≡ Some c → IsRead p.1 c
-named_read p c e = by_name_read (bytes_eq p.0 (codes "check")) (bytes_eq p.0 (codes "compile")) (bytes_eq p.0 (codes "run")) (bytes_eq p.0 (codes "exec")) p.1 c e
+named_read p c e = by_name_read (bytes_eq p.0 (codes "check")) (bytes_eq p.0 (codes "compile")) (bytes_eq p.0 (codes "run")) (bytes_eq p.0 (codes "exec")) (bytes_eq p.0 (codes "drill")) p.1 c e
 
 steps_bounds : (rows : List Row) (c : Call) → call_in rows ≡ Some c → c.steps ≤ 1000000000000
 steps_bounds rows c is = (found_bounds 0 1000000000000 (one_of (codes "steps") rows) c.steps (call_parts rows c is).1).1
@@ -107,6 +129,7 @@ read_bounds rows (command.Check o) is = options_bounds rows o is
 read_bounds rows (command.Compile o) is = options_bounds rows o is
 read_bounds rows (command.Run r) is = let read = run_parts rows r is in (options_bounds rows r.options read.0, steps_bounds rows r.call read.1)
 read_bounds rows (command.Exec c) is = steps_bounds rows c is
+read_bounds rows (command.Drill d) is = drill_bounds rows d is
 
 pub in_ranges : (ks : Kinds) (named : Option (Text × List Row)) (c : Command) → command_without ks named ≡ Some c → IsInRange c
 in_ranges [] None c e = absurd (some≢none c e)
@@ -128,16 +151,16 @@ apart_names name a b x y is_a is_b differ e f =
     let other : name ≡ b = (bytes_eq-Decides name b).0 f in
     differ (sym is_a ∙ ap second (sym first ∙ other) ∙ is_b)
 
-no_call : (check compile run exec : Bool) (rows : List Row) (c : Command) → (check ≡ true → (run || exec) ≡ false) → (compile ≡ true → (run || exec) ≡ false)
-    → by_name check compile run exec rows ≡ Some c → Any IsNoArgument (cond (run || exec) (found_words rows) []) → ⊥
-no_call check compile false false rows c one two e any = no_word any
-no_call true compile true exec rows c one two e any = absurd (true≢false (one refl))
-no_call true compile false true rows c one two e any = absurd (true≢false (one refl))
-no_call false true true exec rows c one two e any = absurd (true≢false (two refl))
-no_call false true false true rows c one two e any = absurd (true≢false (two refl))
-no_call false false true exec rows c one two e any =
+no_call : (check compile run exec drill : Bool) (rows : List Row) (c : Command) → (check ≡ true → (run || exec) ≡ false) → (compile ≡ true → (run || exec) ≡ false)
+    → by_name check compile run exec drill rows ≡ Some c → Any IsNoArgument (cond (run || exec) (found_words rows) []) → ⊥
+no_call check compile false false drill rows c one two e any = no_word any
+no_call true compile true exec drill rows c one two e any = absurd (true≢false (one refl))
+no_call true compile false true drill rows c one two e any = absurd (true≢false (one refl))
+no_call false true true exec drill rows c one two e any = absurd (true≢false (two refl))
+no_call false true false true drill rows c one two e any = absurd (true≢false (two refl))
+no_call false false true exec drill rows c one two e any =
     made_of command.Run (λ c. ⊥) (run_in rows) (run_in rows) c (λ r is. no_other (found_words rows) r.call.arguments (call_parts rows r.call (run_parts rows r is).1).0 any) refl e
-no_call false false false true rows c one two e any =
+no_call false false false true drill rows c one two e any =
     made_of command.Exec (λ c. ⊥) (call_in rows) (call_in rows) c (λ d is. no_other (found_words rows) d.arguments (call_parts rows d is).0 any) refl e
 
 -- no name is that of two subcommands
@@ -151,7 +174,7 @@ neither_name name a x is not_run not_exec e = go (bytes_eq name (codes "run")) (
 
 none_other : (p : Text × List Row) (c : Command) → command_named p ≡ Some c → Any IsNoArgument (call_words (Some p)) → ⊥
 none_other p c e any =
-    no_call (bytes_eq p.0 (codes "check")) (bytes_eq p.0 (codes "compile")) (bytes_eq p.0 (codes "run")) (bytes_eq p.0 (codes "exec")) p.1 c
+    no_call (bytes_eq p.0 (codes "check")) (bytes_eq p.0 (codes "compile")) (bytes_eq p.0 (codes "run")) (bytes_eq p.0 (codes "exec")) (bytes_eq p.0 (codes "drill")) p.1 c
     (neither_name p.0 (codes "check") 104 refl (λ x. omega (arith, x)) (λ x. omega (arith, x)))
     (neither_name p.0 (codes "compile") 111 refl (λ x. omega (arith, x)) (λ x. omega (arith, x))) e any
 
@@ -173,19 +196,21 @@ HasArguments words (command.Check o) = Unit {0}
 HasArguments words (command.Compile o) = Unit {0}
 HasArguments words (command.Run r) = AreArguments words r.call.arguments
 HasArguments words (command.Exec c) = AreArguments words c.arguments
+HasArguments words (command.Drill d) = Unit {0}
 
-by_name_arguments : (check compile run exec : Bool) (rows : List Row) (c : Command) → by_name check compile run exec rows ≡ Some c → HasArguments (cond (run || exec) (found_words rows) []) c
-by_name_arguments true compile run exec rows c e = made_of command.Check (HasArguments _) (options_in rows) (options_in rows) c (λ v is. tt) refl e
-by_name_arguments false true run exec rows c e = made_of command.Compile (HasArguments _) (options_in rows) (options_in rows) c (λ v is. tt) refl e
-by_name_arguments false false true exec rows c e =
+by_name_arguments : (check compile run exec drill : Bool) (rows : List Row) (c : Command) → by_name check compile run exec drill rows ≡ Some c → HasArguments (cond (run || exec) (found_words rows) []) c
+by_name_arguments true compile run exec drill rows c e = made_of command.Check (HasArguments _) (options_in rows) (options_in rows) c (λ v is. tt) refl e
+by_name_arguments false true run exec drill rows c e = made_of command.Compile (HasArguments _) (options_in rows) (options_in rows) c (λ v is. tt) refl e
+by_name_arguments false false true exec drill rows c e =
     made_of command.Run (HasArguments (found_words rows)) (run_in rows) (run_in rows) c (λ r is. are_arguments (found_words rows) r.call.arguments (call_parts rows r.call (run_parts rows r is).1).0) refl e
-by_name_arguments false false false true rows c e =
+by_name_arguments false false false true drill rows c e =
     made_of command.Exec (HasArguments (found_words rows)) (call_in rows) (call_in rows) c (λ d is. are_arguments (found_words rows) d.arguments (call_parts rows d is).0) refl e
-by_name_arguments false false false false rows c e = absurd (some≢none c e)
+by_name_arguments false false false false true rows c e = made_of command.Drill (HasArguments []) (drill_in rows) (drill_in rows) c (λ v is. tt) refl e
+by_name_arguments false false false false false rows c e = absurd (some≢none c e)
 
 pub command_arguments : (ks : Kinds) (named : Option (Text × List Row)) (c : Command) → command_without ks named ≡ Some c → HasArguments (call_words named) c
 command_arguments [] None c e = absurd (some≢none c e)
-command_arguments [] (Some p) c e = by_name_arguments (bytes_eq p.0 (codes "check")) (bytes_eq p.0 (codes "compile")) (bytes_eq p.0 (codes "run")) (bytes_eq p.0 (codes "exec")) p.1 c e
+command_arguments [] (Some p) c e = by_name_arguments (bytes_eq p.0 (codes "check")) (bytes_eq p.0 (codes "compile")) (bytes_eq p.0 (codes "run")) (bytes_eq p.0 (codes "exec")) (bytes_eq p.0 (codes "drill")) p.1 c e
 command_arguments (k ∷ ks) named c e = absurd (some≢none c e)
 
 pub run_arguments : (ks : Kinds) (named : Option (Text × List Row)) (r : Run) → command_without ks named ≡ Some (command.Run r) → AreArguments (call_words named) r.call.arguments

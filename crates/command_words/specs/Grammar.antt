@@ -15,6 +15,7 @@ use Rattle.command_words.specs.declared.argument.Argument.{Argument}
 use Rattle.command_words.specs.declared.command.Call.{Call}
 use Rattle.command_words.specs.declared.command.Command.{Command}
 use Rattle.command_words.specs.declared.command.Command.TheVariants as command
+use Rattle.command_words.specs.declared.command.Drill.{Drill}
 use Rattle.command_words.specs.declared.command.Options.{Options}
 use Rattle.command_words.specs.declared.command.Run.{Run}
 use Rattle.command_words.specs.declared.command.WordsStop.{WordsStop}
@@ -47,6 +48,10 @@ export = record (new_rule (codes "export")) { required = true }
 abbrev pub arguments : Rule
 arguments = record (new_rule (codes "arguments")) { action = Some Append }
 
+-- N: one number
+abbrev pub count : Rule
+count = record (new_rule (codes "n")) { required = true; parser = Some (parser.Unsigned 1 50000) }
+
 -- the options of each command on a module
 abbrev pub with_options : App → App
 with_options a = with_rule (with_rule a workers) batch
@@ -67,12 +72,15 @@ run = with_rule (with_options (with_words (new_app (codes "run")))) steps
 abbrev pub exec : App
 exec = with_rule (with_words (new_app (codes "exec"))) steps
 
+abbrev pub drill : App
+drill = with_rule (with_options (with_rule (new_app (codes "drill")) count)) steps
+
 -- the commands on a module that call nothing, and those that call a function
 abbrev pub with_modules : App → App
 with_modules a = with_subcommand (with_subcommand a check.top) compile.top
 
 abbrev pub with_calls : App → App
-with_calls a = with_subcommand (with_subcommand a run.top) exec.top
+with_calls a = with_subcommand (with_subcommand (with_subcommand a run.top) exec.top) drill.top
 
 -- the program: a subcommand is wanted, and no word asks for help
 abbrev pub program : App
@@ -118,12 +126,21 @@ run_of _ _ = None
 abbrev pub run_in : List Row → Option Run
 run_in rows = run_of (options_in rows) (call_in rows)
 
+abbrev pub drill_of : Option Options → Option ℕ → Option ℕ → Option Drill
+drill_of (Some o) (Some n) (Some s) = Some (record { options = o; count = n; steps = s })
+drill_of _ _ _ = None
+
+abbrev pub drill_in : List Row → Option Drill
+drill_in rows = drill_of (options_in rows) (option_and_then (number_in 1 50000) (one_of (codes "n") rows))
+    (option_and_then (number_in 0 1000000000000) (one_of (codes "steps") rows))
+
 abbrev pub command_named : Text × List Row → Option Command
 command_named p =
     if bytes_eq p.0 (codes "check") then option_map command.Check (options_in p.1)
     else if bytes_eq p.0 (codes "compile") then option_map command.Compile (options_in p.1)
     else if bytes_eq p.0 (codes "run") then option_map command.Run (run_in p.1)
     else if bytes_eq p.0 (codes "exec") then option_map command.Exec (call_in p.1)
+    else if bytes_eq p.0 (codes "drill") then option_map command.Drill (drill_in p.1)
     else None
 
 -- the command that clap's model reads, where it finds no fault
@@ -148,6 +165,7 @@ IsInRange (command.Check o) = AreInRange o
 IsInRange (command.Compile o) = AreInRange o
 IsInRange (command.Run r) = AreInRange r.options × (r.call.steps ≤ 1000000000000)
 IsInRange (command.Exec c) = c.steps ≤ 1000000000000
+IsInRange (command.Drill d) = AreInRange d.options × (1 ≤ d.count) × (d.count ≤ 50000) × (d.steps ≤ 1000000000000)
 
 -- the words of ARGS, where the subcommand makes a call
 abbrev pub call_words : Option (Text × List Row) → List Text

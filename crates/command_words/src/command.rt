@@ -35,6 +35,17 @@ pub struct Run {
     pub call: Call,
 }
 
+/// What `drill` does: how it compiles the drill's module, and how long it may run.
+#[derive(Clone, Copy, Debug, PartialEq, Eq)]
+pub struct Drill {
+    /// The options that all commands on a module have.
+    pub options: Options,
+    /// How many functions the module has that each add a number, from 1 to 50,000.
+    pub count: u64,
+    /// The most steps that the run may take, from 0 to 1,000,000,000,000: 100,000,000 where the words say none.
+    pub steps: u64,
+}
+
 /// A command of the program.
 #[derive(Debug, Drop)]
 pub enum Command {
@@ -46,6 +57,8 @@ pub enum Command {
     Run(Run),
     /// `exec`: call a function that an image exports.
     Exec(Call),
+    /// `drill`: compile a module that the program makes by itself, and run it.
+    Drill(Drill),
 }
 
 /// Why words give no command.

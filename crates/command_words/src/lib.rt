@@ -9,7 +9,7 @@ mod parser;
 mod reading;
 
 pub use argument::{Argument, argument_of};
-pub use command::{Call, Command, Options, Run, WordsStop};
+pub use command::{Call, Command, Drill, Options, Run, WordsStop};
 pub use laws::{arguments_are_one, commands_are_one};
 pub use lists::{Arguments, Export};
 pub use reading::command_of;

@@ -3,7 +3,7 @@
 ghost use Rattle.std.specs.Prelude.{◌≡◌, IfOk, false};
 ghost use Rattle.clap.specs.Words.{app_of, rule_of};
 ghost use Rattle.clap.specs.declared.builder.command.Command.TheViews.{out-Command};
-ghost use Rattle.command_words.specs.Grammar.{arguments, batch, check, compile, exec, export, program, run, steps, with_calls, with_modules, with_options, with_words, workers};
+ghost use Rattle.command_words.specs.Grammar.{arguments, batch, check, compile, count, drill, exec, export, program, run, steps, with_calls, with_modules, with_options, with_words, workers};
 
 use clap::{Arg, ArgAction, Command as Parser, value_parser};
 use std::alloc::{AllocError, Global};
@@ -57,6 +57,16 @@ fn arguments<'a>(alloc: Global) -> Arg<'a>
     Arg::new(alloc, "arguments").action(ArgAction::Append)
 }
 
+/// `N`.
+fn count<'a>(alloc: Global) -> Arg<'a>
+    ensures rule { rule_of result ≡ count }
+    ensures local { result.global ≡ false }
+{
+    Arg::new(alloc, "n")
+        .required(true)
+        .value_parser(value_parser!(u64).range(1..=50_000))
+}
+
 /// The parser with the options of each command on a module.
 fn with_options<'a>(alloc: Global, parser: Parser<'a>) -> Result<Parser<'a>, AllocError>
     ensures app { IfOk result (λ p. app_of p ≡ with_options (app_of parser.entry)) }
@@ -106,6 +116,15 @@ fn exec<'a>(alloc: Global) -> Result<Parser<'a>, AllocError>
     with_words(alloc, Parser::new(alloc, "exec"))?.arg(steps(alloc))
 }
 
+/// The subcommand `drill`.
+fn drill<'a>(alloc: Global) -> Result<Parser<'a>, AllocError>
+    ensures app { IfOk result (λ p. app_of p ≡ drill) }
+    ensures local { IfOk result (λ p. (out-Command p).has_globals ≡ false) }
+{
+    let words = Parser::new(alloc, "drill").arg(count(alloc))?;
+    with_options(alloc, words)?.arg(steps(alloc))
+}
+
 /// The parser with `check` and `compile`.
 fn with_modules<'a>(alloc: Global, parser: Parser<'a>) -> Result<Parser<'a>, AllocError>
     ensures { IfOk result (λ p. app_of p ≡ with_modules (app_of parser.entry)) }
@@ -115,11 +134,14 @@ fn with_modules<'a>(alloc: Global, parser: Parser<'a>) -> Result<Parser<'a>, All
         .subcommand(compile(alloc)?)
 }
 
-/// The parser with `run` and `exec`.
+/// The parser with `run`, `exec` and `drill`.
 fn with_calls<'a>(alloc: Global, parser: Parser<'a>) -> Result<Parser<'a>, AllocError>
     ensures { IfOk result (λ p. app_of p ≡ with_calls (app_of parser.entry)) }
 {
-    parser.subcommand(run(alloc)?)?.subcommand(exec(alloc)?)
+    parser
+        .subcommand(run(alloc)?)?
+        .subcommand(exec(alloc)?)?
+        .subcommand(drill(alloc)?)
 }
 
 /// The parser of the grammar.

@@ -3,10 +3,10 @@
 ghost use Rattle.std.specs.Prelude.{◌≡◌, codes, map, option_and_then, option_map, string_bytes};
 ghost use Rattle.clap.specs.Words.{first_of, found_of, one_of, rows_of, subcommand_rows_of};
 ghost use Rattle.command_words.specs.Arguments.{arguments_in};
-ghost use Rattle.command_words.specs.Grammar.{Gives, Reads, call_in, found_words, command_in, command_named, in_range, number_in, options_in, run_in};
+ghost use Rattle.command_words.specs.Grammar.{Gives, Reads, call_in, found_words, command_in, command_named, drill_in, in_range, number_in, options_in, run_in};
 
 use crate::argument::argument_of;
-use crate::command::{Call, Command, Options, Run, WordsStop};
+use crate::command::{Call, Command, Drill, Options, Run, WordsStop};
 use crate::lists::{Arguments, Export};
 use crate::parser::program;
 use clap::ArgMatches;
@@ -28,6 +28,12 @@ fn number_in(matches: &ArgMatches<'_>, id: &str, least: u64, most: u64) -> Optio
     ensures { result ≡ option_and_then (number_in least most) (one_of id.now (rows_of (found_of matches.now))) }
 {
     in_range(matches.get_one::<u64>(id), least, most)
+}
+
+fn steps_in(matches: &ArgMatches<'_>) -> Option<u64>
+    ensures { result ≡ option_and_then (number_in 0 1000000000000) (one_of (codes "steps") (rows_of (found_of matches.now))) }
+{
+    number_in(matches, "steps", 0, 1_000_000_000_000)
 }
 
 fn options_in(matches: &ArgMatches<'_>) -> Option<Options>
@@ -73,7 +79,7 @@ fn call_in(alloc: Global, matches: &ArgMatches<'_>) -> Result<Call, WordsStop>
 {
     let export = export_in(matches).ok_or(WordsStop::Outside)?;
     let arguments = arguments_in(alloc, matches)?;
-    let steps = number_in(matches, "steps", 0, 1_000_000_000_000).ok_or(WordsStop::Outside)?;
+    let steps = steps_in(matches).ok_or(WordsStop::Outside)?;
     Ok(Call {
         export: Export::new(String::from_str(alloc, export)?),
         arguments,
@@ -89,6 +95,16 @@ fn run_in(alloc: Global, matches: &ArgMatches<'_>) -> Result<Run, WordsStop>
     Ok(Run { options, call })
 }
 
+fn drill_in(matches: &ArgMatches<'_>) -> Option<Drill>
+    ensures { result ≡ drill_in (rows_of (found_of matches.now)) }
+{
+    Some(Drill {
+        options: options_in(matches)?,
+        count: number_in(matches, "n", 1, 50_000)?,
+        steps: steps_in(matches)?,
+    })
+}
+
 fn command_in(alloc: Global, matches: &ArgMatches<'_>) -> Result<Command, WordsStop>
     ensures { Gives (option_and_then command_named (subcommand_rows_of matches.now)) result }
 {
@@ -98,17 +114,19 @@ fn command_in(alloc: Global, matches: &ArgMatches<'_>) -> Result<Command, WordsS
         "compile" => Ok(Command::Compile(options_in(inner).ok_or(WordsStop::Outside)?)),
         "run" => Ok(Command::Run(run_in(alloc, inner)?)),
         "exec" => Ok(Command::Exec(call_in(alloc, inner)?)),
+        "drill" => Ok(Command::Drill(drill_in(inner).ok_or(WordsStop::Outside)?)),
         _ => Err(WordsStop::Outside),
     }
 }
 
 /// Reads the command that the words give, of which the first is the program's name.
 ///
-/// After it comes a subcommand: `check`, `compile`, `run EXPORT ARGS`, or `exec EXPORT ARGS`. EXPORT is one word of any text, and
-/// ARGS are any number of words, each `i32:N` or `i64:N` as `argument_of` reads them. `check`, `compile` and `run` have the options
-/// `--workers N` and `--batch N`, and `run` and `exec` have `--steps N`. An option may be written `--workers=N`, and comes once at
-/// most, before, between or behind the other words of its subcommand. N is decimal digits, before which a plus may stand. All words
-/// that follow a word `--` belong to EXPORT and ARGS. Words that ask for help are outside the grammar.
+/// After it comes a subcommand: `check`, `compile`, `run EXPORT ARGS`, `exec EXPORT ARGS`, or `drill N`. EXPORT is one word of any
+/// text, and ARGS are any number of words, each `i32:N` or `i64:N` as `argument_of` reads them. `check`, `compile`, `run` and `drill`
+/// have the options `--workers N` and `--batch N`, and `run`, `exec` and `drill` have `--steps N`. An option may be written
+/// `--workers=N`, and comes once at most, before, between or behind the other words of its subcommand. N is decimal digits, before
+/// which a plus may stand. All words that follow a word `--` belong to EXPORT and ARGS, or are the N of `drill`. Words that ask for
+/// help are outside the grammar.
 ///
 /// `Outside` says that the words are outside the grammar, and `NoMemory`, which may come at any words, that memory ran out.
 pub fn command_of(alloc: Global, words: &Vec<String>) -> Result<Command, WordsStop>

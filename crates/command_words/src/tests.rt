@@ -1,7 +1,7 @@
 //! Words and what they mean, worked out by hand.
 
 use crate::{
-    Argument, Arguments, Call, Command, Export, Options, WordsStop, argument_of, command_of,
+    Argument, Arguments, Call, Command, Drill, Export, Options, WordsStop, argument_of, command_of,
 };
 use std::alloc::Global;
 use std::test::Fail;
@@ -291,6 +291,65 @@ fn each_command_has_its_options(rt: HostRuntime) -> Result<(), Fail> {
     assert!(rt; call.export.as_str() == "add");
     assert!(rt; call.arguments.as_slice() == [Argument::I32(2)].as_slice());
     assert!(rt; call.steps == 9);
+    Ok(())
+}
+
+#[test]
+fn a_drill_has_its_numbers(rt: HostRuntime) -> Result<(), Fail> {
+    let rows: [(&[&str], u64, u64, u64, u64); 7] = [
+        (&["wstream", "drill", "1"], 1, 4, 4096, 100_000_000),
+        (&["wstream", "drill", "50000"], 50_000, 4, 4096, 100_000_000),
+        (&["wstream", "drill", "+007"], 7, 4, 4096, 100_000_000),
+        (&["wstream", "drill", "--", "2"], 2, 4, 4096, 100_000_000),
+        (
+            &["wstream", "drill", "--workers", "8", "3"],
+            3,
+            8,
+            4096,
+            100_000_000,
+        ),
+        (
+            &["wstream", "drill", "3", "--batch=1"],
+            3,
+            4,
+            1,
+            100_000_000,
+        ),
+        (&["wstream", "drill", "3", "--steps", "0"], 3, 4, 4096, 0),
+    ];
+    for (line, count, workers, batch, steps) in rows {
+        let wanted = Drill {
+            options: Options { workers, batch },
+            count,
+            steps,
+        };
+        let found = read(rt.alloc(), line)?;
+        let is_drill = match found {
+            Ok(Command::Drill(drill)) => drill == wanted,
+            _ => false,
+        };
+        assert!(rt; is_drill);
+    }
+    Ok(())
+}
+
+#[test]
+fn words_of_no_drill_are_outside(rt: HostRuntime) -> Result<(), Fail> {
+    let rows: [&[&str]; 10] = [
+        &["wstream", "drill"],
+        &["wstream", "drill", "0"],
+        &["wstream", "drill", "50001"],
+        &["wstream", "drill", "-1"],
+        &["wstream", "drill", "x"],
+        &["wstream", "drill", ""],
+        &["wstream", "drill", "1", "2"],
+        &["wstream", "drill", "1", "--workers", "65"],
+        &["wstream", "drill", "1", "--steps", "1000000000001"],
+        &["wstream", "drill", "1", "--help"],
+    ];
+    for line in rows {
+        assert!(rt; matches!(read(rt.alloc(), line)?, Err(WordsStop::Outside)));
+    }
     Ok(())
 }
 

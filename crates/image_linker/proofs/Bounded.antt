@@ -1,5 +1,5 @@
 -- The image of a module keeps the bounds of images.
-use Rattle.std.proofs.Common.{◌≡◌, ℕ, zero, suc, ◌+◌, ◌*◌, ◌^◌, ◌<◌, ◌≤◌, Bool, true, false, List, [], ◌∷◌, ◌++◌, map, length, replicate, Option, Some, refl, sym, ap, ◌∙◌, subst, arith}
+use Rattle.std.proofs.Common.{◌≡◌, ℕ, zero, suc, ◌+◌, ◌*◌, ◌^◌, ◌<◌, ◌≤◌, Bool, true, false, List, [], ◌∷◌, ◌++◌, map, length, replicate, Option, None, Some, refl, sym, ap, ◌∙◌, subst, arith}
 use Rattle.std.specs.Prelude.{All, nat_le, slice_get}
 use Rattle.std.proofs.lemmas.Bool.{and_parts, leb-true}
 use Rattle.std.proofs.lemmas.List.{length-map, length-replicate}
@@ -17,15 +17,13 @@ use Rattle.wasm_defs.specs.Memory.{page}
 use Rattle.wasm_defs.specs.Values.{word_of as value_word, words_of}
 use Rattle.wasm_laws.specs.Kept.{TypesAreSmall, AreThere}
 use Rattle.wasm_laws.specs.Sections.{AreBytes}
-use Rattle.wasm_laws.specs.Plain.{HasNoMore}
 use Rattle.wasm_laws.proofs.Bytes.{each_byte}
 use Rattle.wasm_laws.proofs.Counted.{entries_in, entries_are_few}
 use Rattle.wasm_laws.proofs.Described.{module_is_described}
-use Rattle.wasm_laws.proofs.Exports.{types_are_small, exports_are_there}
-use Rattle.wasm_laws.proofs.Plain.{plain_has_no_more}
+use Rattle.wasm_laws.proofs.Exports.{exports_are_there}
 use Rattle.wasm_defs.specs.Rules.{AllKeep}
 use Rattle.image_format.specs.Contents.{IsImage}
-use Rattle.image_format.specs.Bounds.{IsText, IsOffset, AreGlobals, IsRow, IsTable, Each, SegmentFits, AreSegments, bytes_of, AreImports, IsImport, AreExports}
+use Rattle.image_format.specs.Bounds.{IsText, IsOffset, AreGlobals, IsRow, IsTable, Each, SegmentFits, AreSegments, bytes_of, AreImports, AreExports}
 use Rattle.image_format.specs.declared.image.Row.{Row}
 use Rattle.image_format.specs.declared.image.Segment.{Segment}
 use Rattle.image_linker.specs.ImageOf.{text_of, offset_of, row_of, table_of, segment_of, placed_segments, imports_of, export_of, start_offset, image_of}
@@ -35,7 +33,8 @@ use Rattle.image_linker.specs.Laws.{ImagesKeepBounds}
 use Rattle.image_linker.proofs.CoveredModules.{IsCoveredModule}
 use Rattle.image_linker.proofs.CoveredFacts.{module_is_covered}
 use Rattle.image_linker.proofs.ExportBounds.{AreNamed, exports_are_few, sections_named, items_keep, exports_fit}
-use Rattle.image_linker.proofs.Items.{no_imports, values_are_words}
+use Rattle.image_linker.proofs.ImportBounds.{imports_are_few, imports_counted, imports_fit}
+use Rattle.image_linker.proofs.Items.{values_are_words}
 use Rattle.image_linker.proofs.Modules.{function_offset, rows_fit}
 use Rattle.image_linker.proofs.TableRows.{RowFits, table_has_rows}
 use Rattle.image_linker.proofs.Placed.{text_length, text_in_range}
@@ -74,9 +73,6 @@ module _ (bytes : List ℕ) (m : Module) (fits : AreBytes bytes) (is : IsModuleO
   good : IsCoveredModule m
   good = module_is_covered bytes m fits is.is
 
-  none : HasNoMore m.items
-  none = plain_has_no_more m.items good.items
-
   text_words : length (map word_of (text_of m)) ≤ 2 ^ 26
   text_words = let keeps = is.fits in omega (arith, text_length m good, length-map (text_of m) word_of)
 
@@ -113,14 +109,23 @@ module _ (bytes : List ℕ) (m : Module) (fits : AreBytes bytes) (is : IsModuleO
       )
   segments false can_not = (omega arith, tt)
 
-  imports : AreImports (imports_of (context_of m.items) m.items)
-  imports = subst AreImports (sym (no_imports (context_of m.items) m.items good.items)) (omega arith, All-nil IsImport)
+  start_at : (o : Option ℕ) → start_of m.items ≡ o → IsOffset (length (map word_of (text_of m))) (start_offset m o)
+  start_at None e = (omega arith, refl, omega (arith, text.least))
+  start_at (Some f) e = function_offset m good (omega (arith, text_words, length-map (text_of m) word_of)) f (good.start f e).0
 
   start : IsOffset (length (map word_of (text_of m))) (start_offset m (start_of m.items))
-  start = subst (IsOffset (length (map word_of (text_of m)))) (sym (ap (start_offset m) none.start)) (omega arith, refl, omega (arith, text.least))
+  start = start_at (start_of m.items) refl
 
   types : TypesAreSmall (context_of m.items).types
-  types = subst (λ (items : List Item). TypesAreSmall (context_of items).types) (sym is.is.items) (types_are_small bytes)
+  types = good.types
+
+  imports : AreImports (imports_of (context_of m.items) m.items)
+  imports =
+      let d = module_is_described bytes m (each_byte bytes fits) is.is in
+      let named = subst AreNamed (sym d.2) (sections_named d.0 _ _ d.1.spelled.spelled.second.second) in
+      let keep = subst (AllKeep nothing) (sym d.2) (items_keep nothing d.0 d.1.kept.each) in
+      let listed : entries_in 2 m.items ≤ max_entries = subst (λ (items : List Item). entries_in 2 items ≤ max_entries) (sym is.is.items) (entries_are_few 2 (λ ten. absurd cc) bytes) in
+      (omega (arith, imports_counted (context_of m.items) m.items, imports_are_few m.items, listed), imports_fit (context_of m.items) nothing m.items types named keep)
 
   there : AreThere (context_of m.items) (length (functions_of m.items)) (exports_of m.items)
   there = subst (λ (items : List Item). AreThere (context_of items) (length (functions_of items)) (exports_of items)) (sym is.is.items) (exports_are_there bytes)
@@ -131,7 +136,7 @@ module _ (bytes : List ℕ) (m : Module) (fits : AreBytes bytes) (is : IsModuleO
       omega (arith, length-map (exports_of m.items) (export_of m), exports_are_few m.items, listed)
 
   places : (f : ℕ) → f < length (functions_of m.items) → IsOffset (length (map word_of (text_of m))) (offset_of m f)
-  places f within = function_offset m good (omega (arith, text_words, length-map (text_of m) word_of)) f (omega (arith, good.functions, within))
+  places f within = function_offset m good (omega (arith, text_words, length-map (text_of m) word_of)) f within
 
   exports : AreExports (length (map word_of (text_of m))) (map (export_of m) (exports_of m.items))
   exports =

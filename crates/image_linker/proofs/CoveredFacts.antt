@@ -1,19 +1,18 @@
--- The modules that verdicts accept so far are of covered instructions.
-use Rattle.std.proofs.Common.{◌≡◌, ℕ, zero, suc, ◌+◌, ◌<◌, ◌≤◌, ◌&&◌, Option, true, List, [], ◌∷◌, length, None, Some, refl, sym, ap, subst, arith}
+-- The modules that verdicts accept are of covered instructions.
+use Rattle.std.proofs.Common.{◌≡◌, ℕ, zero, suc, ◌+◌, ◌<◌, ◌≤◌, ◌&&◌, Option, true, List, [], ◌∷◌, length, None, Some, refl, sym, ap, subst, arith, ◌∙◌}
 use Rattle.std.proofs.lemmas.Bool.{and_parts, false≢true}
 use Rattle.wasm_defs.specs.declared.item.Item.{Item}
 use Rattle.wasm_defs.specs.declared.types.ValType.TheVariants.{I32, I64}
 use Rattle.wasm_defs.specs.declared.token.Plain.{Plain}
 use Rattle.wasm_defs.specs.declared.token.Plain.TheVariants.{Unreachable, Br, BrIf, BrTable, Return, Call, CallIndirect, Nop, Discard, Select, LocalGet, LocalSet, LocalTee, GlobalGet, GlobalSet, Load, Store, MemorySize, MemoryGrow, Const, Operate}
-use Rattle.wasm_defs.specs.Context.{type_of_function, context_of, import_count, declared_count, types_of, functions_of}
+use Rattle.wasm_defs.specs.Context.{type_or_empty, type_of_function, context_of, import_count, declared_count, types_of, functions_of}
 use Rattle.wasm_defs.specs.Entries.{Seen}
 use Rattle.wasm_defs.specs.Outside.{Body, Ending, Whole, Refused, Owed, module_read}
 use Rattle.wasm_defs.specs.Trees.{Seq, Nothing, Simple, Block, Loop, If, IfElse}
 use Rattle.wasm_defs.specs.Faults.{tokens_of, read_of, context_at, ending_fault, IsValidCode, Module, IsModule}
-use Rattle.wasm_defs.specs.Instances.{rows_of, elements_of, instance_of, exports_of, named}
+use Rattle.wasm_defs.specs.Instances.{rows_of, elements_of, instance_of, exports_of, named, start_of}
 use Rattle.wasm_laws.specs.Behind.{AreValidIn}
-use Rattle.wasm_laws.specs.Kept.{TypesAreSmall, BodyIsSmall, BodiesAreSmall, SpacesAreSmall, ConstantsFit, AreThere}
-use Rattle.wasm_laws.specs.Plain.{ArePlain}
+use Rattle.wasm_laws.specs.Kept.{TypesAreSmall, BodyIsSmall, BodiesAreSmall, SpacesAreSmall, ConstantsFit, AreThere, TakesNothing}
 use Rattle.wasm_laws.specs.Sections.{AreBytes}
 use Rattle.wasm_laws.specs.Compiled.{is_compiled_plain, is_compiled_type, is_compiled, IsInRange, TreeIsInRange}
 use Rattle.wasm_laws.proofs.Behind.{bodies_are_valid}
@@ -25,15 +24,16 @@ use Rattle.wasm_defs.specs.Limits.{max_entries}
 use Rattle.wasm_laws.proofs.Exports.{types_are_small, function_is_small, exports_are_there, named_is_there}
 use Rattle.wasm_laws.proofs.Counting.{tokens_are_few}
 use Rattle.wasm_laws.proofs.Locals.{bodies_are_small}
-use Rattle.wasm_laws.proofs.Plain.{items_are_plain, plain_has_no_more}
 use Rattle.wasm_laws.proofs.Ranges.{constant_fits, long_constant_fits, tree_is_in_range}
 use Rattle.wasm_laws.proofs.Spaces.{spaces_are_small}
+use Rattle.wasm_laws.proofs.Starts.{start_is_right}
 use Rattle.wasm_laws.proofs.Compiled.{tree_is_compiled}
 use Rattle.wasm_laws.proofs.Typed.{functions_of-counts}
 use Rattle.sim_frames.specs.Covered.{IsCoveredStep, IsCovered}
 use Rattle.wasm_defs.specs.Typing.{Types, Context, inside, function_type}
 use Rattle.std.specs.Prelude.{slice_get}
 use Rattle.std.proofs.lemmas.List.{length-reverse}
+use Rattle.std.proofs.lemmas.Option.{slice_get_within}
 use Rattle.wasm_defs.specs.declared.types.FuncType.{FuncType}
 use Rattle.wasm_defs.specs.declared.token.BlockType.{BlockType}
 use Rattle.wasm_defs.specs.declared.token.BlockType.TheVariants.{Empty, Value, Index}
@@ -41,6 +41,7 @@ use Rattle.wasm_defs.specs.declared.token.Token.{Token}
 use Rattle.wasm_defs.specs.declared.token.Token.TheVariants as token
 use Rattle.sim_frames.proofs.Lows.{TakesOne, IsFew, FewIn, body_low, tokens_spelled}
 use Rattle.image_linker.proofs.CoveredModules.{IsCoveredBody, AreCoveredBodies, IsCoveredModule}
+use Rattle.image_linker.proofs.Imported.{ImportsFirst, imports_come_first}
 use Rattle.image_linker.proofs.SegmentFacts.{segments_are_held}
 use Rattle.image_linker.proofs.TableRows.{types_are_few}
 use Rattle.image_linker.proofs.ElementFacts.{elements_are_below, row_below}
@@ -174,24 +175,39 @@ no_fault len (Refused r) e = absurd cc
 no_fault len Owed e = absurd cc
 
 module _ (bytes : List ℕ) (m : Module) (fits : AreBytes bytes) (is : IsModule bytes m) where
-  plain : ArePlain m.items
-  plain = subst ArePlain (sym is.items) (items_are_plain bytes is.compiled)
-
-  -- as many functions as bodies
-  functions_match : length (functions_of m.items) ≡ length m.bodies
+  -- as many declared functions as bodies
+  functions_match : length (functions_of m.items) ≡ import_count m.items + length m.bodies
   functions_match =
       let whole = no_fault (length bytes) (module_read bytes).ending is.whole in
       let matched = bodies_match bytes whole.0 whole.1 in
-      omega (arith, functions_of-counts m.items, (plain_has_no_more m.items plain).imports, matched, ap declared_count is.items, ap length is.bodies)
+      omega (arith, functions_of-counts m.items, matched, ap declared_count is.items, ap length is.bodies)
 
-  exported : (name : List ℕ) (f : ℕ) → named name (exports_of m.items) ≡ Some f → f < length m.bodies
+  exported : (name : List ℕ) (f : ℕ) → named name (exports_of m.items) ≡ Some f → f < length (functions_of m.items)
   exported name f e =
       let there : AreThere (context_of m.items) (length (functions_of m.items)) (exports_of m.items) =
       subst (λ (items : List Item). AreThere (context_of items) (length (functions_of items)) (exports_of items)) (sym is.items) (exports_are_there bytes) in
-      omega (arith, (named_is_there (context_of m.items) (length (functions_of m.items)) name (exports_of m.items) f there e).function, functions_match)
+      (named_is_there (context_of m.items) (length (functions_of m.items)) name (exports_of m.items) f there e).function
 
-  in_rows : (a f : ℕ) → slice_get (instance_of m).table a ≡ Some (Some f) → f < length m.bodies
-  in_rows a f e = omega (arith, row_below (length (functions_of m.items)) (rows_of m.items) a f (elements_of m.items) (elements_are_below bytes m fits is) e, functions_match)
+  -- a function that has a type is there
+  typed_is_there : (f : ℕ) (t : FuncType) → function_type (context_of m.items) f ≡ Some t → f < length (functions_of m.items)
+  typed_is_there f t e = by_index (slice_get (functions_of m.items) f) refl
+    where
+      by_index : (o : Option ℕ) → slice_get (functions_of m.items) f ≡ o → f < length (functions_of m.items)
+      by_index None found = let wrong : None ≡ Some t = rw found at e in absurd cc
+      by_index (Some index) found = slice_get_within (functions_of m.items) f index found
+
+  started : (f : ℕ) → start_of m.items ≡ Some f → (f < length (functions_of m.items)) × TakesNothing (type_of_function (context_of m.items) f)
+  started f e =
+      let right = start_is_right bytes m f is e in (
+        typed_is_there f right.0 right.1,
+        subst TakesNothing (sym (ap type_or_empty right.1)) right.2,
+      )
+
+  small_types : TypesAreSmall (context_of m.items).types
+  small_types = subst (λ (items : List Item). TypesAreSmall (context_of items).types) (sym is.items) (types_are_small bytes)
+
+  in_rows : (a f : ℕ) → slice_get (instance_of m).table a ≡ Some (Some f) → f < length (functions_of m.items)
+  in_rows a f e = row_below (length (functions_of m.items)) (rows_of m.items) a f (elements_of m.items) (elements_are_below bytes m fits is) e
 
   few_types : length (types_of m.items) ≤ max_entries
   few_types =
@@ -200,15 +216,17 @@ module _ (bytes : List ℕ) (m : Module) (fits : AreBytes bytes) (is : IsModule 
 
   pub module_is_covered : IsCoveredModule m
   module_is_covered = record {
-    items = plain;
     spaces = subst SpacesAreSmall (sym is.items) (spaces_are_small bytes);
     constants = subst ConstantsFit (sym is.items) (constants_fit bytes fits);
     segments = segments_are_held bytes m fits is;
     bodies =
-        covered_bodies m.items (subst (λ (items : List Item). TypesAreSmall (context_of items).types) (sym is.items) (types_are_small bytes)) 0 m.bodies m.trees
+        covered_bodies m.items small_types 0 m.bodies m.trees
         (subst HaveBytes (sym is.bodies) (bodies_have_bytes bytes fits)) (subst BodiesAreSmall (sym is.bodies) (bodies_are_small bytes)) (bodies_are_valid bytes m is);
+    imports_first = subst ImportsFirst (sym is.items) (imports_come_first bytes);
     functions = functions_match;
-    types = few_types;
+    few_types = few_types;
     rows = in_rows;
     exports = exported;
+    start = started;
+    types = small_types;
   }

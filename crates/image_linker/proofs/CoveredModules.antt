@@ -1,5 +1,5 @@
--- Plain modules, which keep their limits and whose bodies are of covered instructions: so are all that are compiled so far.
-use Rattle.std.proofs.Common.{◌≡◌, ℕ, suc, ◌^◌, ◌<◌, ◌≤◌, List, [], ◌∷◌, length, Some}
+-- Modules that keep their limits and whose bodies are of covered instructions: so are all that are compiled.
+use Rattle.std.proofs.Common.{◌≡◌, ℕ, suc, ◌+◌, ◌^◌, ◌<◌, ◌≤◌, List, [], ◌∷◌, length, Some}
 use Rattle.std.specs.Prelude.{slice_get}
 use Rattle.wasm_defs.specs.declared.item.Item.{Item}
 use Rattle.wasm_defs.specs.Limits.{max_entries, max_module, max_params}
@@ -7,13 +7,13 @@ use Rattle.wasm_defs.specs.Outside.{Body}
 use Rattle.wasm_defs.specs.Trees.{Seq}
 use Rattle.wasm_defs.specs.Typing.{IsBody}
 use Rattle.wasm_defs.specs.Faults.{context_at, Module}
-use Rattle.wasm_defs.specs.Instances.{data_of, exports_of, named, function_of, instance_of}
-use Rattle.wasm_laws.specs.Kept.{SpacesAreSmall, ConstantsFit}
-use Rattle.wasm_laws.specs.Plain.{ArePlain}
+use Rattle.wasm_defs.specs.Instances.{data_of, exports_of, named, function_of, instance_of, start_of}
+use Rattle.wasm_laws.specs.Kept.{SpacesAreSmall, ConstantsFit, TakesNothing, TypesAreSmall}
 use Rattle.frame_layout.specs.Slots.{need}
 use Rattle.sim_frames.specs.Covered.{IsCovered}
-use Rattle.wasm_defs.specs.Context.{types_of, functions_of}
+use Rattle.wasm_defs.specs.Context.{context_of, types_of, functions_of, import_count, type_of_function}
 use Rattle.image_linker.specs.ImageOf.{layout_of}
+use Rattle.image_linker.proofs.Imported.{ImportsFirst}
 use Rattle.image_linker.proofs.SegmentFacts.{AreHeld}
 
 -- the k-th body
@@ -30,14 +30,18 @@ AreCoveredBodies items k (b ∷ bodies) (tree ∷ trees) = IsCoveredBody items k
 AreCoveredBodies items k bodies trees = ⊥
 
 pub record IsCoveredModule (m : Module) : Type 0 where
-  pub items : ArePlain m.items
   pub spaces : SpacesAreSmall m.items
   pub constants : ConstantsFit m.items
   pub segments : AreHeld (data_of m.items) max_module
   pub bodies : AreCoveredBodies m.items 0 m.bodies m.trees
-  pub functions : length (functions_of m.items) ≡ length m.bodies
-  pub types : length (types_of m.items) ≤ max_entries
+  -- imported functions come first
+  pub imports_first : ImportsFirst m.items
+  pub functions : length (functions_of m.items) ≡ import_count m.items + length m.bodies
+  pub few_types : length (types_of m.items) ≤ max_entries
   -- functions in rows of the table are there
-  pub rows : (a f : ℕ) → slice_get (instance_of m).table a ≡ Some (Some f) → f < length m.bodies
+  pub rows : (a f : ℕ) → slice_get (instance_of m).table a ≡ Some (Some f) → f < length (functions_of m.items)
   -- exported functions are there
-  pub exports : (name : List ℕ) (f : ℕ) → named name (exports_of m.items) ≡ Some f → f < length m.bodies
+  pub exports : (name : List ℕ) (f : ℕ) → named name (exports_of m.items) ≡ Some f → f < length (functions_of m.items)
+  -- and so is the start function, which takes and gives nothing
+  pub start : (f : ℕ) → start_of m.items ≡ Some f → (f < length (functions_of m.items)) × TakesNothing (type_of_function (context_of m.items) f)
+  pub types : TypesAreSmall (context_of m.items).types

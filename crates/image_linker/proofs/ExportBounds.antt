@@ -7,7 +7,7 @@ use Rattle.std.specs.Str.{IsUtf8, bytes_eq}
 use Rattle.std.specs.Ordering.{nat_cmp, eq_by_cmp}
 use Rattle.std.specs.Cmp.Lexicographic.{slice_cmp, texts_ties, nat_list_cmp_total}
 use Rattle.wasm_defs.specs.declared.item.Item.{Item}
-use Rattle.wasm_defs.specs.declared.item.Item.TheVariants.{Exported}
+use Rattle.wasm_defs.specs.declared.item.Item.TheVariants.{Imported, Exported}
 use Rattle.wasm_defs.specs.declared.item.Extern.TheVariants as extern
 use Rattle.wasm_defs.specs.Context.{context_of}
 use Rattle.wasm_defs.specs.Entries.{Seen, note}
@@ -35,7 +35,8 @@ exports_are_few (x ∷ items) = exports_are_few items
 
 -- ---- names are UTF-8
 
-abbrev IsNamed : Item → Type 0
+abbrev pub IsNamed : Item → Type 0
+IsNamed (Imported from what kind type_index) = IsUtf8 from.1 × IsUtf8 what.1
 IsNamed (Exported label kind index) = IsUtf8 label.1
 IsNamed _ = Unit {0}
 
@@ -48,6 +49,7 @@ both_named [] ys p q = q
 both_named (x ∷ xs) ys p q = (p.0, both_named xs ys p.1 q)
 
 item_named : (x : Item) (at : ℕ) (bytes : List ℕ) → item_is x at bytes → IsNamed x
+item_named (Imported from what kind type_index) at bytes s = (s.first.0, s.second.first.0)
 item_named (Exported label kind index) at bytes s = s.first.0
 item_named x at bytes s = tt
 

@@ -1,54 +1,23 @@
--- What a plain module's items come to in its image: no imports and none of their stubs, and words of its globals' constants.
+-- What a module's items come to in its image: words of its globals' constants.
 use Rattle.std.proofs.Common.{◌≡◌, ℕ, zero, suc, ◌-◌, ◌^◌, ◌<◌, List, [], ◌∷◌, map, Some, refl, ap, subst, arith, ℤ, pos}
 use Rattle.std.specs.Prelude.{negsuc, slice_get}
 use Rattle.std.specs.Int.{w64, cast_unsigned}
-use Rattle.std.proofs.lemmas.Bool.{false≢true, lt-ltb, le-ltb}
+use Rattle.std.proofs.lemmas.Bool.{lt-ltb, le-ltb}
 use Rattle.wasm_defs.specs.declared.context.GlobalType.{GlobalType}
 use Rattle.wasm_defs.specs.declared.item.Item.{Item}
-use Rattle.wasm_defs.specs.declared.item.Item.TheVariants.{Signature, Function, Table, Memory, Global, Exported, Element, Code, Segment}
+use Rattle.wasm_defs.specs.declared.item.Item.TheVariants.{Global}
 use Rattle.wasm_defs.specs.declared.types.ValType.{ValType}
 use Rattle.wasm_defs.specs.declared.types.ValType.TheVariants.{I32, I64}
 use Rattle.wasm_defs.specs.Context.{globals_of}
 use Rattle.wasm_defs.specs.Instances.{values_of}
-use Rattle.wasm_defs.specs.Typing.{Context}
 use Rattle.wasm_defs.specs.Values.{Value, InRange, modulus, unsigned, word, words_of, types_of_values}
 use Rattle.wasm_laws.specs.Kept.{FitsType, ConstantsFit}
-use Rattle.wasm_laws.specs.Plain.{ArePlain}
 use Rattle.wasm_laws.proofs.Ranges.{constant_fits, long_constant_fits}
 use Rattle.index_spaces.specs.Entries.{initials_of, initial_values}
 use Rattle.sim_frames.specs.Functions.{global_types}
 use Rattle.sim_frames.proofs.Words.{word_small}
-use Rattle.image_linker.specs.ImageOf.{stubs_from, imports_of}
 use Rattle.image_linker.specs.Linking.{NumbersFit}
 use Rattle.image_linker.proofs.Regions.{AreWords}
-
-pub no_stubs : (c : Context) (number : ℕ) (items : List Item) → ArePlain items → stubs_from c number items ≡ []
-no_stubs c number [] h = refl
-no_stubs c number (Signature form params results ty ∷ items) h = no_stubs c number items h.1
-no_stubs c number (Function index ∷ items) h = no_stubs c number items h.1
-no_stubs c number (Table element limits ∷ items) h = no_stubs c number items h.1
-no_stubs c number (Memory limits ∷ items) h = no_stubs c number items h.1
-no_stubs c number (Element table place functions ∷ items) h = no_stubs c number items h.1
-no_stubs c number (Global ty mutable init ∷ items) h = no_stubs c number items h.1
-no_stubs c number (Exported name kind index ∷ items) h = no_stubs c number items h.1
-no_stubs c number (Code count end ∷ items) h = no_stubs c number items h.1
-no_stubs c number (Segment memory place bytes ∷ items) h = no_stubs c number items h.1
-no_stubs c number (x ∷ items) h = absurd (false≢true h.0)
-
-pub no_imports : (c : Context) (items : List Item) → ArePlain items → imports_of c items ≡ []
-no_imports c [] h = refl
-no_imports c (Signature form params results ty ∷ items) h = no_imports c items h.1
-no_imports c (Function index ∷ items) h = no_imports c items h.1
-no_imports c (Table element limits ∷ items) h = no_imports c items h.1
-no_imports c (Memory limits ∷ items) h = no_imports c items h.1
-no_imports c (Element table place functions ∷ items) h = no_imports c items h.1
-no_imports c (Global ty mutable init ∷ items) h = no_imports c items h.1
-no_imports c (Exported name kind index ∷ items) h = no_imports c items h.1
-no_imports c (Code count end ∷ items) h = no_imports c items h.1
-no_imports c (Segment memory place bytes ∷ items) h = no_imports c items h.1
-no_imports c (x ∷ items) h = absurd (false≢true h.0)
-
--- ---- the constants of globals
 
 pub numbers_fit : (items : List Item) → ConstantsFit items → NumbersFit (globals_of items) (initials_of items)
 numbers_fit [] h = tt

@@ -10,7 +10,7 @@ use Rattle.rv_isa.specs.Words.{word_of}
 use Rattle.frame_layout.specs.Macros.{ra}
 use Rattle.frame_layout.specs.Functions.{with_distance, with_distances}
 use Rattle.image_linker.specs.ImageOf.{front_of, distances}
-use Rattle.image_linker.specs.Linking.{words_of, front_words, words_at, words_from}
+use Rattle.image_linker.specs.Linking.{words_of, words_at, words_from}
 
 -- ---- one call
 
@@ -96,15 +96,16 @@ text_led places rs calls old own given all led here n all_is given_is here_is ca
     ∙ take_all n led (omega (arith, long, n_is))
     ∙ same
 
--- one code more
-pub text_more : (places : List ℕ) (codes : List Code) (i : ℕ) (c : Code) (old new : List ℕ) → i < length codes → c ≡ slice_index_or codes i c
-    → old ≡ front_words ++ words_from places (front_of 0) (take i codes) → new ≡ old ++ with_distances (distances places (length old)) c.relocations c.words
-    → new ≡ front_words ++ words_from places (front_of 0) (take (i + 1) codes)
-text_more places codes i c old new lt e before is =
-    let words = words_from places (front_of 0) (take i codes) in
-    let here : length old ≡ front_of 0 + length (words_of (take i codes)) = ap length before ∙ omega (arith, length-words places (front_of 0) (take i codes)) in
+-- one code more, behind the words in front of the functions
+pub text_more : (front : List ℕ) (imported : ℕ) (places : List ℕ) (codes : List Code) (i : ℕ) (c : Code) (old new : List ℕ) → length front ≡ front_of imported → i < length codes → c ≡ slice_index_or codes i c
+    → old ≡ front ++ words_from places (front_of imported) (take i codes) → new ≡ old ++ with_distances (distances places (length old)) c.relocations c.words
+    → new ≡ front ++ words_from places (front_of imported) (take (i + 1) codes)
+text_more front imported places codes i c old new size lt e before is =
+    let words = words_from places (front_of imported) (take i codes) in
+    let here : length old ≡ front_of imported + length (words_of (take i codes)) =
+    ap length before ∙ omega (arith, size, length-append front words, length-words places (front_of imported) (take i codes)) in
     is
     ∙ ap (λ (n : ℕ). old ++ words_at places n c) here
-    ∙ ap (λ (l : List ℕ). l ++ words_at places (front_of 0 + length (words_of (take i codes))) c) before
-    ∙ append_assoc front_words words (words_at places (front_of 0 + length (words_of (take i codes))) c)
-    ∙ ap (λ (l : List ℕ). front_words ++ l) (sym (words_from-taken places (front_of 0) codes i c lt e))
+    ∙ ap (λ (l : List ℕ). l ++ words_at places (front_of imported + length (words_of (take i codes))) c) before
+    ∙ append_assoc front words (words_at places (front_of imported + length (words_of (take i codes))) c)
+    ∙ ap (λ (l : List ℕ). front ++ l) (sym (words_from-taken places (front_of imported) codes i c lt e))

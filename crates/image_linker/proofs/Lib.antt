@@ -1,11 +1,12 @@
 pub mod Linked
 pub mod Loops
 pub mod Leading
+pub mod Fronts
+pub mod Imported
 pub mod CoveredModules
 pub mod Regions
 pub mod Items
 pub mod Placed
-pub mod Arguments
 pub mod LoadedMemory
 pub mod TableRows
 pub mod ElementRows
@@ -18,5 +19,6 @@ pub mod CoveredFacts
 pub mod Modules
 pub mod WordRanges
 pub mod ExportBounds
+pub mod ImportBounds
 pub mod Bounded
 pub mod Short

@@ -3,16 +3,23 @@ use Rattle.std.proofs.Common.{◌≡◌, ℕ, suc, ◌+◌, List, [], ◌∷◌,
 use Rattle.std.proofs.lemmas.List.{map-append}
 use Rattle.rv_isa.specs.Words.{word_of}
 use Rattle.rv_isa.specs.declared.compiled.Code.{Code}
+use Rattle.std.specs.Prelude.{slice_get}
 use Rattle.wasm_defs.specs.declared.item.Item.{Item}
+use Rattle.wasm_defs.specs.declared.item.Item.TheVariants.{Imported}
+use Rattle.wasm_defs.specs.Context.{type_or_empty}
+use Rattle.wasm_defs.specs.Typing.{Context}
 use Rattle.wasm_defs.specs.Outside.{Body}
 use Rattle.wasm_defs.specs.Trees.{Seq}
 use Rattle.rv_isa.specs.declared.compiled.Relocation.{Relocation}
 use Rattle.wasm_defs.specs.Faults.{context_at}
+use Rattle.frame_layout.specs.Templates.{import_stub}
 use Rattle.frame_layout.specs.Functions.{no_distance, with_distances, calls_of}
 use Rattle.sim_frames.proofs.Filling.{calls_are_filled}
-use Rattle.image_linker.specs.ImageOf.{around, size_of, places_from, code_from, code_of_function, distances}
+use Rattle.image_format.specs.declared.image.Import.{Import}
+use Rattle.index_spaces.specs.Entries.{imports_of}
+use Rattle.image_linker.specs.ImageOf.{around, size_of, stubs_from, places_from, code_from, code_of_function, distances, imports_of as image_imports}
 use Rattle.image_linker.specs.Codes.{IsCodeOf, AreCodesOf}
-use Rattle.image_linker.specs.Linking.{starts_from, words_at, words_from}
+use Rattle.image_linker.specs.Linking.{stub_words, starts_from, words_at, words_from, linked_import}
 
 -- a function's words
 code_linked : (items : List Item) (places : List ℕ) (here k : ℕ) (b : Body) (tree : Seq) (code : Code)
@@ -48,3 +55,20 @@ places_linked items here k [] [] (code ∷ codes) h = absurd h
 places_linked items here k [] (tree ∷ trees) codes h = absurd h
 places_linked items here k (b ∷ bodies) [] codes h = absurd h
 places_linked items here k (b ∷ bodies) (tree ∷ trees) [] h = absurd h
+
+-- ---- imports
+
+-- the words of their stubs
+pub stubs_linked : (c : Context) (number : ℕ) (items : List Item) → stub_words c.types number (imports_of items) ≡ map word_of (stubs_from c number items)
+stubs_linked c number [] = refl
+stubs_linked c number (Imported from what kind type_index ∷ items) =
+    let stub = import_stub (length (type_or_empty (slice_get c.types type_index.1)).params) number in
+    ap (λ (l : List ℕ). map word_of stub ++ l) (stubs_linked c (suc number) items) ∙ sym (map-append word_of stub (stubs_from c (suc number) items))
+stubs_linked c number (x ∷ items) = stubs_linked c number items
+
+-- and those of the image
+pub imports_linked : (c : Context) (items : List Item) → map (linked_import c.types) (imports_of items) ≡ image_imports c items
+imports_linked c [] = refl
+imports_linked c (Imported from what kind type_index ∷ items) =
+    ap (λ (l : List Import). linked_import c.types (record { «module» = from.1; name = what.1; type_index = type_index.1 }) ∷ l) (imports_linked c items)
+imports_linked c (x ∷ items) = imports_linked c items

@@ -1,12 +1,14 @@
--- A module of what is compiled so far behaves as its image does.
-use Rattle.std.proofs.Common.{◌≡◌, inl, ℕ, suc, ◌∷◌, ◌+◌, ◌*◌, ◌^◌, ◌<◌, ◌≤◌, Bool, true, false, List, [], ◌++◌, map, length, replicate, Option, Some, None, refl, sym, ap, ◌∙◌, subst, arith}
-use Rattle.std.specs.Prelude.{slice_get, slice_index, option_map}
-use Rattle.std.proofs.lemmas.Bool.{cond-true, eq-eqb, and_parts}
-use Rattle.std.proofs.lemmas.List.{length-map, length-replicate}
+-- A module behaves as its image does.
+use Rattle.std.proofs.Common.{◌≡◌, inl, inr, ⊎_elim, ℕ, zero, suc, ◌-◌, ◌∷◌, ◌+◌, ◌*◌, ◌^◌, ◌<◌, ◌≤◌, Bool, true, List, [], map, length, replicate, Option, Some, None, refl, sym, ap, ◌∙◌, subst, arith}
+use Rattle.std.specs.Prelude.{◌≢◌, ◌==◌, if◌then◌else◌, slice_get, slice_index, option_map}
+use Rattle.std.proofs.lemmas.Bool.{cases_lt, cond-false, ne_eqb, and_parts}
+use Rattle.std.proofs.lemmas.List.{length-append, length-map}
 use Rattle.std.proofs.lemmas.Option.{slice_get-map, slice_get_within}
 use Rattle.rv_isa.specs.Words.{word_of, decoded}
 use Rattle.rv_isa.specs.Steps.{code_of}
 use Rattle.wasm_defs.specs.declared.types.FuncType.{FuncType}
+use Rattle.wasm_defs.specs.declared.types.ValType.{ValType}
+use Rattle.wasm_defs.specs.Limits.{max_params}
 use Rattle.wasm_defs.specs.Memory.{page}
 use Rattle.wasm_defs.specs.Context.{context_of, import_count, type_or_empty, type_of_function, functions_of as context_functions}
 use Rattle.wasm_defs.specs.Typing.{function_type}
@@ -22,20 +24,21 @@ use Rattle.wasm_defs.specs.Configurations.{Func, Function, Imported, Declared, I
 use Rattle.wasm_defs.specs.Reductions.{run}
 use Rattle.wasm_defs.specs.ModuleRun.{first_state, module_run}
 use Rattle.wasm_defs.specs.ModuleRun as module_run
-use Rattle.wasm_defs.specs.Instances.{Written, rows_of, pages_of, cap_of, all_over, all_fit, elements_of, data_of, is_linkable, instance_of, store_of, start_of, values_of, function_of, declared_from, declared_functions, functions_of}
-use Rattle.wasm_laws.specs.Plain.{HasNoMore}
-use Rattle.wasm_laws.proofs.Plain.{plain_has_no_more}
-use Rattle.frame_layout.specs.Templates.{exit_stub}
+use Rattle.wasm_defs.specs.Instances.{Written, imports_from, rows_of, pages_of, cap_of, all_over, all_fit, elements_of, data_of, is_linkable, instance_of, store_of, start_of, values_of, function_of, declared_from, declared_functions, functions_of}
+use Rattle.wasm_laws.proofs.Exports.{function_is_small}
+use Rattle.frame_layout.specs.Templates.{import_stub, exit_stub}
+use Rattle.image_format.specs.declared.image.Import.{Import}
 use Rattle.image_format.specs.Bounds.{IsOffset}
-use Rattle.image_format.specs.Environment.{segments_of as image_segments, loaded}
-use Rattle.image_format.specs.ImageRun.{Running, begin, first_running, steps, image_run}
+use Rattle.image_format.specs.Environment.{Entry, segments_of as image_segments, loaded}
+use Rattle.image_format.specs.ImageRun.{Running, begin, steps, image_run}
 use Rattle.image_format.specs.ImageRun as image_run
 use Rattle.simulation.specs.SameRuns.{SameRuns}
-use Rattle.sim_frames.specs.Functions.{Compiled, Known}
+use Rattle.sim_frames.specs.Functions.{Compiled, Known, Placed as IsPlaced}
+use Rattle.simulation.specs.Entries.{IsEntry}
 use Rattle.simulation.specs.Tables.{TableHolds}
 use Rattle.simulation.specs.Laws.{IsInvoked, ImportsStand, EnvironmentStands}
 use Rattle.simulation.proofs.Alike.{functions_run_alike}
-use Rattle.image_linker.specs.ImageOf.{around, distances, code_of_function, stub_places, places_from, front_size, places_of_functions, offset_of, row_of, table_of, segment_of, placed_segments, start_offset, text_of, image_of}
+use Rattle.image_linker.specs.ImageOf.{around, distances, code_of_function, stub_places, places_from, front_size, places_of_functions, offset_of, row_of, table_of, segment_of, placed_segments, imports_of, stub_size, start_offset, text_of, image_of}
 use Rattle.image_linker.specs.Laws.{ImagesBehaveAlike}
 use Rattle.image_linker.specs.Same.{Same}
 use Rattle.image_linker.proofs.CoveredModules.{AreCoveredBodies, IsCoveredModule}
@@ -43,7 +46,8 @@ use Rattle.image_linker.proofs.CoveredFacts.{module_is_covered}
 use Rattle.image_linker.proofs.Items.{globals_typed, values_in_range, values_are_words}
 use Rattle.image_linker.proofs.LoadedMemory.{HaveBytes}
 use Rattle.image_linker.proofs.TableRows.{RowFits, fits, table_has_rows, table_stands, table_called}
-use Rattle.image_linker.proofs.Placed.{Placed, code_is_short, text_length, exit_stands, function_stands}
+use Rattle.image_linker.proofs.Imported.{IsStub, get_left, get_right, index_right, imports_length, places_length, stub_place, stub_stands, type_by, imports_typed}
+use Rattle.image_linker.proofs.Placed.{Placed, code_is_short, text_length, exit_stands, stubs_stand, function_stands}
 use Rattle.image_linker.proofs.Called.{IsSmall, IsFirst, is_called}
 
 -- words that stand in a text lie in it
@@ -53,9 +57,6 @@ has_inside code i (op ∷ []) some has = omega (arith, slice_get_within code i (
 has_inside code i (op ∷ next ∷ ops) some has = omega (arith, has_inside code (suc i) (next ∷ ops) (omega arith) has.1)
 
 module _ (m : Module) (good : IsCoveredModule m) (short : length (text_of m) ≤ 2 ^ 26) where
-  none : HasNoMore m.items
-  none = plain_has_no_more m.items good.items
-
   -- the image has as many rows as the table at first, where segments have their places
   has_all : is_linkable m ≡ true → all_fit (rows_of m.items) (elements_of m.items) ≡ true
   has_all can_link = (and_parts (all_fit (rows_of m.items) (elements_of m.items)) (all_fit (page * pages_of m.items) (data_of m.items)) can_link).0
@@ -93,52 +94,44 @@ module _ (m : Module) (good : IsCoveredModule m) (short : length (text_of m) ≤
     replies_are = refl;
   }
 
-  -- ---- a function that is exported
-
-  module _ (f : ℕ) (within : f < length m.bodies) where
-    abbrev there : Placed (code_of (map word_of (text_of m))) m.items (places_of_functions m) (front_size m.items) 0 m.bodies m.trees f f
-    there = function_stands m good f within
-
-    abbrev func : Func
-    func = function_of m.items f there.body there.tree
-
-    declared : slice_get (functions_of m) f ≡ Some (Declared func)
-    declared =
-        ap (λ (imported : List Function). slice_get (imported ++ map Declared (declared_functions m)) f) (none.imported (context_of m.items) 0)
-        ∙ slice_get-map Declared (declared_functions m) f ∙ ap (option_map Declared) there.declared
-
-    place_is : offset_of m f ≡ 4 * there.begin
-    place_is =
-        ap (λ (n : ℕ). 4 * slice_index (stub_places (length exit_stub) n ++ places_from m.items (front_size m.items) 0 m.bodies m.trees) f) none.imports
-        ∙ ap (λ (n : ℕ). 4 * n) there.place_is
-
-    type_is : func.ty ≡ type_of_function (context_of m.items) f
-    type_is =
-        let index : import_count m.items + f ≡ f = omega (arith, none.imports) in
-        ap (type_of_function (context_of m.items)) index
-
-    -- its place
-    place_at : there.begin ≡ slice_index (places_of_functions m) f
-    place_at =
-        sym (ap (λ (n : ℕ). slice_index (stub_places (length exit_stub) n ++ places_from m.items (front_size m.items) 0 m.bodies m.trees) f) none.imports ∙ there.place_is)
-
-    -- no start function runs before
-    first_is : (replies : List Reply) (arguments : List Value)
-        → first_running (image_of m) replies (record { offset = offset_of m f; arguments = arguments }, (type_of_function (context_of m.items) f).results)
-        ≡ begin (image_of m) replies (record { offset = 4 * there.begin; arguments = arguments }, func.ty.results) []
-    first_is replies arguments =
-        let no_offset : start_offset m (start_of m.items) ≡ 0 = ap (start_offset m) none.start in
-        cond-true _ _ _ (eq-eqb (start_offset m (start_of m.items)) 0 no_offset)
-        ∙ ap (λ (n : ℕ). begin (image_of m) replies (record { offset = n; arguments = arguments }, (type_of_function (context_of m.items) f).results) []) place_is
-        ∙ ap (λ (ty : FuncType). begin (image_of m) replies (record { offset = 4 * there.begin; arguments = arguments }, ty.results) []) (sym type_is)
-
-  -- ---- all functions
-
   abbrev text : List (Option Op)
   text = code_of (map word_of (text_of m))
 
   abbrev places : ℕ → ℕ
   places i = slice_index (places_of_functions m) i
+
+  abbrev imported : ℕ
+  imported = import_count m.items
+
+  -- ---- a declared function
+
+  module _ (k : ℕ) (within : k < length m.bodies) where
+    abbrev there : Placed (code_of (map word_of (text_of m))) m.items (places_of_functions m) (front_size m.items) 0 m.bodies m.trees k k
+    there = function_stands m good k within
+
+    abbrev func : Func
+    func = function_of m.items k there.body there.tree
+
+    declared : slice_get (functions_of m) (import_count m.items + k) ≡ Some (Declared func)
+    declared =
+        get_right (imports_from (context_of m.items) 0 m.items) (map Declared (declared_functions m)) (imported + k) k (omega (arith, imports_length (context_of m.items) 0 m.items))
+        ∙ slice_get-map Declared (declared_functions m) k ∙ ap (option_map Declared) there.declared
+
+    -- its place
+    place_at : there.begin ≡ slice_index (places_of_functions m) (import_count m.items + k)
+    place_at =
+        sym (index_right (stub_places (length exit_stub) imported) (places_from m.items (front_size m.items) 0 m.bodies m.trees) (imported + k) k (omega (arith, places_length (length exit_stub) imported)) ∙ there.place_is)
+
+  -- ---- an imported one
+
+  asked : (i : ℕ) (h : Function) → i < import_count m.items → slice_get (functions_of m) i ≡ Some h → IsStub (code_of (map word_of (text_of m))) (context_of m.items) m.items i (slice_index (places_of_functions m) i) i h
+  asked i h less is =
+      let c = context_of m.items in
+      let stubs = imports_from c 0 m.items in
+      let found : slice_get stubs i ≡ Some h = sym (get_left stubs (map Declared (declared_functions m)) i (omega (arith, less, imports_length c 0 m.items))) ∙ is in
+      stub_stands text c good.types m.items (length exit_stub) 0 i (places i) i h (stub_place (length exit_stub) imported i (length exit_stub + stub_size * i) (places_from m.items (front_size m.items) 0 m.bodies m.trees) less refl) (omega arith) (stubs_stand m good) found
+
+  -- ---- all functions
 
   declared_length : (items : List Item) (k : ℕ) (bodies : List Body) (trees : List Seq) → AreCoveredBodies items k bodies trees → length (declared_from items k bodies trees) ≡ length bodies
   declared_length items k [] [] h = refl
@@ -146,30 +139,63 @@ module _ (m : Module) (good : IsCoveredModule m) (short : length (text_of m) ≤
   declared_length items k (b ∷ bodies) [] h = absurd h
   declared_length items k (b ∷ bodies) (tree ∷ trees) h = ap suc (declared_length items (suc k) bodies trees h.1)
 
-  within_bodies : (i : ℕ) (h : Function) → slice_get (functions_of m) i ≡ Some h → i < length m.bodies
-  within_bodies i h is =
-      let is' : slice_get (map Declared (declared_functions m)) i ≡ Some h = ap (λ (imported : List Function). slice_get (imported ++ map Declared (declared_functions m)) i) (sym (none.imported (context_of m.items) 0)) ∙ is in
-      omega (arith, slice_get_within (map Declared (declared_functions m)) i h is', length-map (declared_functions m) Declared, declared_length m.items 0 m.bodies m.trees good.bodies)
+  functions_length : length (functions_of m) ≡ import_count m.items + length m.bodies
+  functions_length =
+      length-append (imports_from (context_of m.items) 0 m.items) (map Declared (declared_functions m))
+      ∙ omega (arith, imports_length (context_of m.items) 0 m.items, length-map (declared_functions m) Declared, declared_length m.items 0 m.bodies m.trees good.bodies)
 
-  typed_within : (g : ℕ) (t : FuncType) → function_type (context_of m.items) g ≡ Some t → g < length m.bodies
+  -- a function of an index has the type that the context says
+  typed_by : (i : ℕ) (o : Option ℕ) → slice_get (context_functions m.items) i ≡ o → type_by (context_of m.items) o ≡ type_of_function (context_of m.items) i
+  typed_by i None is = rw is refl
+  typed_by i (Some index) is = rw is refl
+
+  is_typed : (i : ℕ) (h : Function) → slice_get (functions_of m) i ≡ Some h → type_of h ≡ type_of_function (context_of m.items) i
+  is_typed i h is = ⊎_elim first later (cases_lt i imported)
+    where
+      first : i < import_count m.items → type_of h ≡ type_of_function (context_of m.items) i
+      first less =
+          let c = context_of m.items in
+          let stubs = imports_from c 0 m.items in
+          let found : slice_get stubs i ≡ Some h = sym (get_left stubs (map Declared (declared_functions m)) i (omega (arith, less, imports_length c 0 m.items))) ∙ is in
+          imports_typed c 0 m.items i h good.imports_first found ∙ typed_by i (slice_get (context_functions m.items) i) refl
+
+      later : import_count m.items ≤ i → type_of h ≡ type_of_function (context_of m.items) i
+      later le =
+          let k = i - imported in
+          let index : i ≡ imported + k = omega arith in
+          let within : k < length m.bodies = omega (arith, slice_get_within (functions_of m) i h is, functions_length) in
+          let same : Some h ≡ Some (Declared (func k within)) = sym is ∙ ap (slice_get (functions_of m)) index ∙ declared k within in
+          let function_is : h ≡ Declared (func k within) = cc in
+          ap type_of function_is ∙ ap (type_of_function (context_of m.items)) (sym index)
+
+  get_there : (hs : List Function) (i : ℕ) → i < length hs → (h : Function) × (slice_get hs i ≡ Some h)
+  get_there [] i less = absurd (omega arith)
+  get_there (h ∷ hs) zero less = (h, refl)
+  get_there (h ∷ hs) (suc i) less = get_there hs i (omega arith)
+
+  -- each that the context knows is there
+  function_at : (i : ℕ) → i < length (context_functions m.items) → (h : Function) × (slice_get (functions_of m) i ≡ Some h)
+  function_at i within = get_there (functions_of m) i (omega (arith, within, functions_length, good.functions))
+
+  typed_within : (g : ℕ) (t : FuncType) → function_type (context_of m.items) g ≡ Some t → g < length (context_functions m.items)
   typed_within g t e = by_index (slice_get (context_functions m.items) g) refl
     where
-      by_index : (o : Option ℕ) → slice_get (context_functions m.items) g ≡ o → g < length m.bodies
+      by_index : (o : Option ℕ) → slice_get (context_functions m.items) g ≡ o → g < length (context_functions m.items)
       by_index None is = let wrong : None ≡ Some t = rw is at e in absurd cc
-      by_index (Some index) is = omega (arith, slice_get_within (context_functions m.items) g index is, good.functions)
+      by_index (Some index) is = slice_get_within (context_functions m.items) g index is
 
   functions_typed : (g : ℕ) (t : FuncType) → function_type (context_of m.items) g ≡ Some t → (h : Function) × (slice_get (functions_of m) g ≡ Some h) × (type_of h ≡ t)
   functions_typed g t e =
-      let within = typed_within g t e in
-      (Declared (func g within), declared g within, type_is g within ∙ ap type_or_empty e)
+      let h = function_at g (typed_within g t e) in
+      (h.0, h.1, is_typed g h.0 h.1 ∙ ap type_or_empty e)
 
-  compiled : is_linkable m ≡ true → (f : ℕ) (within : f < length m.bodies) → Compiled text (instance_of m) places (func f within)
-  compiled can_link f within =
-      let x = there f within in
+  compiled : is_linkable m ≡ true → (k : ℕ) (within : k < length m.bodies) → Compiled text (instance_of m) places (func k within)
+  compiled can_link k within =
+      let x = there k within in
       record {
         begin = x.begin;
-        around = around m.items f x.body x.tree (distances (places_of_functions m) x.begin);
-        context = context_at m.items f x.body;
+        around = around m.items k x.body x.tree (distances (places_of_functions m) x.begin);
+        context = context_at m.items k x.body;
         covered = x.good.covered;
         typed = x.good.typed;
         no_labels = refl;
@@ -185,75 +211,179 @@ module _ (m : Module) (good : IsCoveredModule m) (short : length (text_of m) ≤
         like_is = refl;
         fits = x.good.fits;
         has = x.has;
-        inside = has_inside text x.begin (code_of_function m.items (places_of_functions m) x.begin f x.body x.tree) (omega arith) x.has;
+        inside = has_inside text x.begin (code_of_function m.items (places_of_functions m) x.begin k x.body x.tree) (omega arith) x.has;
         distances = λ here g. refl;
         functions = functions_typed;
       }
 
+  known : is_linkable m ≡ true → (i k : ℕ) (within : k < length m.bodies) → i ≡ import_count m.items + k → (h : Function) → slice_get (functions_of m) i ≡ Some h → Known text (instance_of m) places i h
+  unfolding compiled
+  known can_link i k within index h is =
+      let same : Some h ≡ Some (Declared (func k within)) = sym is ∙ ap (slice_get (functions_of m)) index ∙ declared k within in
+      record { func = func k within; is = cc; compiled = compiled can_link k within; begin_is = place_at k within ∙ ap places (sym index) }
+
+  few_imports : import_count m.items < 2 ^ 26
+  few_imports = omega (arith, short, text_length m good)
+
+  -- each has its place
+  all_placed : is_linkable m ≡ true → (i : ℕ) (h : Function) → slice_get (functions_of m) i ≡ Some h → IsPlaced text (instance_of m) places i h
+  all_placed can_link i h is = ⊎_elim first later (cases_lt i imported)
+    where
+      first : i < import_count m.items → IsPlaced text (instance_of m) places i h
+      first less =
+          let x = asked i h less is in
+          let small = x.small in
+          let few = few_imports in
+          inr (record { number = i; ty = x.ty; is = x.is; has = x.has; few = omega (arith, small.params); small = omega (arith, less, few); one_result = small.results })
+
+      later : import_count m.items ≤ i → IsPlaced text (instance_of m) places i h
+      later le =
+          let k = i - imported in
+          inl (known can_link i k (omega (arith, slice_get_within (functions_of m) i h is, functions_length)) (omega arith) h is)
+
+  -- behind the exit stub, inside the text
+  place_within : (i : ℕ) (h : Function) → slice_get (functions_of m) i ≡ Some h → (2 ≤ places i) × (places i < length text)
+  place_within i h is = ⊎_elim first later (cases_lt i imported)
+    where
+      first : i < import_count m.items → (2 ≤ places i) × (places i < length text)
+      first less =
+          let x = asked i h less is in
+          let at = stub_place (length exit_stub) imported i (length exit_stub + stub_size * i) (places_from m.items (front_size m.items) 0 m.bodies m.trees) less refl in
+          (omega (arith, at), omega (arith, has_inside text (places i) (import_stub (length x.ty.params) i) (omega arith) x.has))
+
+      later : import_count m.items ≤ i → (2 ≤ places i) × (places i < length text)
+      later le =
+          let k = i - imported in
+          let within : k < length m.bodies = omega (arith, slice_get_within (functions_of m) i h is, functions_length) in
+          let x = there k within in
+          let index : imported + k ≡ i = omega arith in
+          let at = place_at k within ∙ ap places index in
+          let words = code_of_function m.items (places_of_functions m) x.begin k x.body x.tree in
+          let behind = x.behind in
+          (omega (arith, at, behind), omega (arith, at, has_inside text x.begin words (omega arith) x.has))
+
   -- its offset is that of a word of the text
-  pub function_offset : (f : ℕ) → f < length m.bodies → IsOffset (length (map word_of (text_of m))) (offset_of m f)
+  pub function_offset : (f : ℕ) → f < length (context_functions m.items) → IsOffset (length (map word_of (text_of m))) (offset_of m f)
   function_offset f within =
-      let x = there f within in
-      let words = code_of_function m.items (places_of_functions m) x.begin f x.body x.tree in
-      let some : 0 < length words = omega arith in
-      let inside = has_inside text x.begin words some x.has in
+      let h = function_at f within in
+      let at = place_within f h.0 h.1 in
       let count : length text ≡ length (map word_of (text_of m)) = length-map (map word_of (text_of m)) decoded in
       let few = code_is_short m short in
-      let is = place_is f within in
-      (omega (arith, is, inside, some, few), omega (arith, is), omega (arith, is, inside, some, count))
+      (omega (arith, at.1, few), omega arith, omega (arith, at.1, count))
 
-  known : is_linkable m ≡ true → (i : ℕ) (h : Function) → slice_get (functions_of m) i ≡ Some h → Known text (instance_of m) places i h
-  unfolding compiled
-  known can_link i h is =
-      let within = within_bodies i h is in
-      let there_is = declared i within in
-      record { func = func i within; is = cc; compiled = compiled can_link i within; begin_is = place_at i within }
+  imports_stand : ImportsStand (instance_of m) (image_of m)
+  imports_stand index number ty is = ⊎_elim first later (cases_lt index imported)
+    where
+      first : index < import_count m.items → (i : Import) × (slice_get (imports_of (context_of m.items) m.items) number ≡ Some i) × (i.signature ≡ ty)
+      first less =
+          let x = asked index (Imported number ty) less is in
+          let same = x.is in
+          let number_is : index ≡ number = cc in
+          let type_is : x.ty ≡ ty = cc in
+          (x.import, ap (slice_get (imports_of (context_of m.items) m.items)) (sym number_is) ∙ x.found, x.signature ∙ type_is)
 
-  -- none is imported
-  no_imports : ImportsStand (instance_of m) (image_of m)
-  no_imports index number ty is = let x = declared index (within_bodies index (Imported number ty) is) in let wrong : Imported number ty ≡ Declared (func index (within_bodies index (Imported number ty) is)) = cc in absurd cc
+      later : import_count m.items ≤ index → (i : Import) × (slice_get (imports_of (context_of m.items) m.items) number ≡ Some i) × (i.signature ≡ ty)
+      later le =
+          let k = index - imported in
+          let at : index ≡ imported + k = omega arith in
+          let within : k < length m.bodies = omega (arith, slice_get_within (functions_of m) index (Imported number ty) is, functions_length) in
+          let wrong : Some (Imported number ty) ≡ Some (Declared (func k within)) = sym is ∙ ap (slice_get (functions_of m)) at ∙ declared k within in
+          absurd cc
 
   environment : EnvironmentStands (instance_of m) (image_of m)
-  environment = record { imports = no_imports; cap = refl; few = omega (arith, good.spaces.cap) }
+  environment = record { imports = imports_stand; cap = refl; few = omega (arith, good.spaces.cap) }
 
-  -- a row's function is declared, and its place lies in the text
+  -- a row's function is there, and its place lies in the text
   in_row : (a f : ℕ) → slice_get (instance_of m).table a ≡ Some (Some f) → (h : Function) × (slice_get (functions_of m) f ≡ Some h) × (type_of h ≡ type_of_function (context_of m.items) f)
-  in_row a f is = let within = good.rows a f is in (Declared (func f within), declared f within, type_is f within)
+  in_row a f is = let h = function_at f (good.rows a f is) in (h.0, h.1, is_typed f h.0 h.1)
 
   place_is_near : (a f : ℕ) → slice_get (instance_of m).table a ≡ Some (Some f) → places f < 2 ^ 60
   place_is_near a f is =
-      let within = good.rows a f is in
-      let x = there f within in
-      let inside = has_inside text x.begin (code_of_function m.items (places_of_functions m) x.begin f x.body x.tree) (omega arith) x.has in
+      let h = function_at f (good.rows a f is) in
+      let within = (place_within f h.0 h.1).1 in
       let few = code_is_short m short in
-      omega (arith, place_at f within)
+      omega arith
 
   -- the numbers of rows are words
   pub rows_fit : (a : ℕ) (o : Option ℕ) → slice_get (instance_of m).table a ≡ Some o → RowFits m o
-  rows_fit = fits m (omega (arith, good.types)) places (λ f. refl) place_is_near
+  rows_fit = fits m (omega (arith, good.few_types)) places (λ f. refl) place_is_near
 
   table_now : is_linkable m ≡ true → TableHolds (instance_of m) places (loaded (image_of m))
-  table_now can_link = table_stands m can_link (omega (arith, good.types)) places (λ f. refl) place_is_near in_row
+  table_now can_link = table_stands m can_link (omega (arith, good.few_types)) places (λ f. refl) place_is_near in_row
 
-  module _ (can_link : is_linkable m ≡ true) (f : ℕ) (within : f < length m.bodies) where
-    pub function_runs_alike : (arguments : List Value) (replies : List Reply) → are_of (type_of_function (context_of m.items) f).params arguments ≡ true
+  -- ---- runs: the start function, if there is one, and then an exported one
+
+  few_params : (f : ℕ) → length (type_of_function (context_of m.items) f).params ≤ max_params
+  few_params f = let small = function_is_small (context_of m.items) f good.types in small.params
+
+  module _ (can_link : is_linkable m ≡ true) (replies : List Reply) where
+    -- the image where a function is called from outside, and others perhaps afterwards
+    invoked : (f : ℕ) (h : Function) → slice_get (functions_of m) f ≡ Some h → (arguments : List Value) (later : List (Entry × List ValType)) → are_of (type_of_function (context_of m.items) f).params arguments ≡ true
+        → IsInvoked (type_of h) (places f) (cap_of m.items) (store_of m replies) arguments
+        (begin (image_of m) replies (record { offset = offset_of m f; arguments = arguments }, (type_of_function (context_of m.items) f).results) later)
+    invoked f h is arguments later are =
+        let ty = type_of_function (context_of m.items) f in
+        subst (λ (t : FuncType). IsInvoked t (places f) (cap_of m.items) (store_of m replies) arguments (begin (image_of m) replies (record { offset = offset_of m f; arguments = arguments }, ty.results) later)) (sym (is_typed f h is))
+        (is_called (image_of m) (small can_link) ty (places f) (store_of m replies) arguments replies later are (few_params f) (first can_link replies))
+
+    module _ (f : ℕ) (h : Function) (is : slice_get (functions_of m) f ≡ Some h) (arguments : List Value) (are : are_of (type_of_function (context_of m.items) f).params arguments ≡ true) where
+      abbrev exported : Invocation
+      exported = record { function = f; arguments = arguments }
+
+      abbrev entry : Entry × List ValType
+      entry = (record { offset = offset_of m f; arguments = arguments }, (type_of_function (context_of m.items) f).results)
+
+      is_entry : IsEntry (instance_of m) places (record { function = f; arguments = arguments }) (record { offset = offset_of m f; arguments = arguments }, (type_of_function (context_of m.items) f).results)
+      is_entry = record {
+        function = h;
+        is = is;
+        offset = refl;
+        arguments = refl;
+        are_of_types = ap (λ (ty : FuncType). are_of ty.params arguments) (is_typed f h is) ∙ are;
+        few = subst (λ (ty : FuncType). length ty.params ≤ max_params) (sym (is_typed f h is)) (few_params f);
+        results = ap (λ (ty : FuncType). ty.results) (sym (is_typed f h is));
+      }
+
+      -- what runs first, with this start function or none
+      abbrev first_by : Option ℕ → Running
+      first_by start =
+          if start_offset m start == 0
+          then begin (image_of m) replies (record { offset = offset_of m f; arguments = arguments }, (type_of_function (context_of m.items) f).results) []
+          else begin (image_of m) replies (record { offset = start_offset m start; arguments = [] }, []) ((record { offset = offset_of m f; arguments = arguments }, (type_of_function (context_of m.items) f).results) ∷ [])
+
+      abbrev Alike : Option ℕ → Type 0
+      Alike start =
+          SameRuns (λ k. module_run.run_of (run (instance_of m) k (first_state start (store_of m replies) (record { function = f; arguments = arguments })))) (λ n. image_run.run_of (steps (image_of m) n (first_by start)))
+
+      by_start : (start : Option ℕ) → start_of m.items ≡ start → Alike start
+      by_start None e =
+          functions_run_alike (instance_of m) (image_of m) places h exported [] (store_of m replies) (begin (image_of m) replies entry []) (all_placed can_link) environment is
+          (invoked f h is arguments [] are) tt (globals_typed m.items) (table_called (instance_of m) places (image_of m) replies entry [] (table_now can_link)) (exit_stands m good) (code_is_short m short)
+      by_start (Some s) e =
+          let right = good.start s e in
+          let takes = right.1 in
+          let g = function_at s right.0 in
+          let behind = (place_within s g.0 g.1).0 in
+          let some : start_offset m (Some s) ≢ 0 = λ (z : start_offset m (Some s) ≡ 0). absurd (omega (arith, z, behind)) in
+          let none_given : are_of (type_of_function (context_of m.items) s).params [] ≡ true = ap (λ (ts : List ValType). are_of ts []) takes.params in
+          let r = begin (image_of m) replies (record { offset = start_offset m (Some s); arguments = [] }, []) (entry ∷ []) in
+          let first_invoked : IsInvoked (type_of g.0) (places s) (cap_of m.items) (store_of m replies) [] r =
+          subst (λ (results : List ValType). IsInvoked (type_of g.0) (places s) (cap_of m.items) (store_of m replies) [] (begin (image_of m) replies (record { offset = offset_of m s; arguments = [] }, results) (entry ∷ []))) takes.results
+          (invoked s g.0 g.1 [] (entry ∷ []) none_given) in
+          let same = functions_run_alike (instance_of m) (image_of m) places g.0 (record { function = s; arguments = [] }) (exported ∷ []) (store_of m replies) r (all_placed can_link) environment g.1 first_invoked (is_entry, tt) (globals_typed m.items) (table_called (instance_of m) places (image_of m) replies (record { offset = start_offset m (Some s); arguments = [] }, []) (entry ∷ []) (table_now can_link)) (exit_stands m good) (code_is_short m short) in
+          subst (λ (q : Running). SameRuns (λ k. module_run.run_of (run (instance_of m) k (first_state (Some s) (store_of m replies) exported))) (λ n. image_run.run_of (steps (image_of m) n q)))
+          (sym (cond-false (start_offset m (Some s) == 0) (begin (image_of m) replies entry []) r (ne_eqb (start_offset m (Some s)) 0 some))) same
+
+    pub function_runs_alike : (f : ℕ) → f < length (context_functions m.items) → (arguments : List Value) → are_of (type_of_function (context_of m.items) f).params arguments ≡ true
         → SameRuns (module_run m f arguments replies) (image_run (image_of m) (offset_of m f) (type_of_function (context_of m.items) f).results arguments replies)
-    function_runs_alike arguments replies are =
-        let x = there f within in
-        let g = func f within in
-        let invoked : Invocation = record { function = f; arguments = arguments } in
-        let store = store_of m replies in
-        let typed : are_of g.ty.params arguments ≡ true = ap (λ (ty : FuncType). are_of ty.params arguments) (type_is f within) ∙ are in
-        let called = is_called (image_of m) (small can_link) g x.begin store arguments replies typed x.good.few_params (first can_link replies) in
-        let r = begin (image_of m) replies (record { offset = 4 * x.begin; arguments = arguments }, g.ty.results) [] in
-        let same = functions_run_alike (instance_of m) (image_of m) places (Declared g) f store arguments r (λ i h is. inl (known can_link i h is)) environment (declared f within) (subst (λ (n : ℕ). IsInvoked g.ty n (cap_of m.items) store arguments r) (place_at f within) called) (globals_typed m.items) (table_called (instance_of m) places (image_of m) replies (record { offset = 4 * x.begin; arguments = arguments }, g.ty.results) [] (table_now can_link)) (exit_stands m good) (code_is_short m short) in
-        subst (λ (q : Running). SameRuns (module_run m f arguments replies) (λ n. image_run.run_of (steps (image_of m) n q))) (sym (first_is f within replies arguments)) (
-        subst (λ (start : Option ℕ). SameRuns (λ k. module_run.run_of (run (instance_of m) k (first_state start store invoked))) (λ n. image_run.run_of (steps (image_of m) n r))) (sym none.start) same)
+    function_runs_alike f within arguments are =
+        let h = function_at f within in
+        by_start f h.0 h.1 arguments are (start_of m.items) refl
 
 pub straight_modules_behave_alike : (m : Module) → IsCoveredModule m → length (text_of m) ≤ 2 ^ 26 → Same m (image_of m)
 straight_modules_behave_alike m good short = record {
   unlinkable = refl;
-  runs = λ can_link name f arguments replies is are. function_runs_alike m good short can_link f (good.exports name f is) arguments replies are;
+  runs = λ can_link name f arguments replies is are. function_runs_alike m good short can_link replies f (good.exports name f is) arguments are;
 }
 
 pub images_behave_alike : ImagesBehaveAlike

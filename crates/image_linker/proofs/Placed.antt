@@ -1,5 +1,5 @@
 -- Each function's words stand in the text from its place on.
-use Rattle.std.proofs.Common.{◌≡◌, ℕ, zero, suc, ◌+◌, ◌*◌, ◌^◌, ◌<◌, ◌≤◌, List, [], ◌∷◌, ◌++◌, map, length, Option, Some, refl, sym, ap, ◌∙◌, subst, arith}
+use Rattle.std.proofs.Common.{◌≡◌, ℕ, zero, suc, ◌+◌, ◌^◌, ◌<◌, ◌≤◌, List, [], ◌∷◌, ◌++◌, map, length, Option, Some, refl, sym, ◌∙◌, subst, arith}
 use Rattle.std.specs.Prelude.{slice_get, slice_index}
 use Rattle.std.proofs.lemmas.List.{append-nil, length-append, length-map}
 use Rattle.rv_isa.specs.declared.operations.Op.{Op}
@@ -10,10 +10,9 @@ use Rattle.rv_isa.proofs.RunLaws.{words_stand}
 use Rattle.wasm_defs.specs.declared.item.Item.{Item}
 use Rattle.wasm_defs.specs.Outside.{Body}
 use Rattle.wasm_defs.specs.Trees.{Seq}
-use Rattle.wasm_defs.specs.Context.{context_of, import_count}
+use Rattle.wasm_defs.specs.Context.{context_of}
 use Rattle.wasm_defs.specs.Faults.{context_at, Module}
 use Rattle.wasm_defs.specs.Instances.{function_of, declared_from}
-use Rattle.wasm_laws.proofs.Plain.{plain_has_no_more}
 use Rattle.frame_layout.specs.Templates.{exit_stub}
 use Rattle.frame_layout.specs.Functions.{no_distance}
 use Rattle.frame_layout.proofs.Standing.{has_first, has_rest as has_second}
@@ -21,10 +20,10 @@ use Rattle.sim_frames.proofs.Sitting.{has_at}
 use Rattle.sim_frames.proofs.Sizes.{function_length}
 use Rattle.simulation.proofs.MacroRanges.{both_in_range}
 use Rattle.simulation.proofs.Ranges.{exit_in_range, function_in_range}
-use Rattle.image_linker.specs.ImageOf.{around, distances, size_of, stub_size, front_size, places_from, code_of_function, code_from, stubs_from, places_of_functions, text_of}
+use Rattle.image_linker.specs.ImageOf.{around, distances, size_of, front_size, places_from, code_of_function, code_from, stubs_from, places_of_functions, text_of}
 use Rattle.image_linker.specs.Judging.{sizes}
 use Rattle.image_linker.proofs.CoveredModules.{IsCoveredBody, AreCoveredBodies, IsCoveredModule}
-use Rattle.image_linker.proofs.Items.{no_stubs}
+use Rattle.image_linker.proofs.Imported.{stubs_length, each_stub_in_range}
 
 -- ---- one function among those from a place on
 
@@ -33,6 +32,7 @@ pub record Placed (code : List (Option Op)) (items : List Item) (places : List �
   pub body : Body
   pub tree : Seq
   pub begin : ℕ
+  pub behind : here ≤ begin
   pub place_is : slice_index (places_from items here k bodies trees) j ≡ begin
   pub has : HasAt code begin (code_of_function items places begin number body tree)
   pub declared : slice_get (declared_from items k bodies trees) j ≡ Some (function_of items number body tree)
@@ -49,7 +49,7 @@ module _ (code : List (Option Op)) (items : List Item) (places : List ℕ) where
       → HasAt code here (code_of_function items places here k b tree) → Placed code items places here k (b ∷ bodies) (tree ∷ trees) 0 number
   first_placed here k number b bodies tree trees e good has =
       let same : k ≡ number = omega (arith, e) in
-      let at_k : Placed code items places here k (b ∷ bodies) (tree ∷ trees) 0 k = record { body = b; tree = tree; begin = here; place_is = refl; has = has; declared = refl; good = good } in
+      let at_k : Placed code items places here k (b ∷ bodies) (tree ∷ trees) 0 k = record { body = b; tree = tree; begin = here; behind = omega arith; place_is = refl; has = has; declared = refl; good = good } in
       subst (λ (n : ℕ). Placed code items places here k (b ∷ bodies) (tree ∷ trees) 0 n) same at_k
 
   pub placed : (here k : ℕ) (bodies : List Body) (trees : List Seq) (j number : ℕ) → k + j ≡ number → AreCoveredBodies items k bodies trees → HasAt code here (code_from items places here k bodies trees) → j < length bodies
@@ -64,7 +64,7 @@ module _ (code : List (Option Op)) (items : List Item) (places : List ℕ) where
       let there : here + length words ≡ here + size_of items k b tree = omega (arith, function_size_is items places here k b tree good.0) in
       let rest = placed (here + size_of items k b tree) (suc k) bodies trees j number (omega (arith, e)) good.1
       (has_at code (here + length words) (here + size_of items k b tree) behind there (has_second code here words behind has)) (omega arith) in
-      record { body = rest.body; tree = rest.tree; begin = rest.begin; place_is = rest.place_is; has = rest.has; declared = rest.declared; good = rest.good }
+      record { body = rest.body; tree = rest.tree; begin = rest.begin; behind = omega (arith, rest.behind); place_is = rest.place_is; has = rest.has; declared = rest.declared; good = rest.good }
 
 code_in_range : (items : List Item) (places : List ℕ) (here k : ℕ) (bodies : List Body) (trees : List Seq) → AreCoveredBodies items k bodies trees → AllInRange (code_from items places here k bodies trees)
 code_in_range items places here k [] [] good = tt
@@ -95,10 +95,9 @@ pub text_length : (m : Module) → IsCoveredModule m → length (text_of m) ≡ 
 text_length m good =
     let stubs = stubs_from (context_of m.items) 0 m.items in
     let functions = code_from m.items (places_of_functions m) (front_size m.items) 0 m.bodies m.trees in
-    let none : length stubs ≡ 0 = ap length (no_stubs (context_of m.items) 0 m.items good.items) in
-    let no_count : stub_size * import_count m.items ≡ 0 = ap (λ (n : ℕ). stub_size * n) (plain_has_no_more m.items good.items).imports in
+    let stubbed = stubs_length (context_of m.items) 0 m.items in
     let counted = functions_length m.items (places_of_functions m) (front_size m.items) 0 m.bodies m.trees good.bodies in
-    length-append exit_stub (stubs ++ functions) ∙ omega (arith, length-append stubs functions, none, no_count, counted)
+    length-append exit_stub (stubs ++ functions) ∙ omega (arith, length-append stubs functions, stubbed, counted)
 
 module _ (m : Module) (good : IsCoveredModule m) where
   abbrev pub code : List (Option Op)
@@ -111,7 +110,7 @@ module _ (m : Module) (good : IsCoveredModule m) where
   stubs = stubs_from (context_of m.items) 0 m.items
 
   stubs_in_range : AllInRange (stubs_from (context_of m.items) 0 m.items)
-  stubs_in_range = subst AllInRange (sym (no_stubs (context_of m.items) 0 m.items good.items)) tt
+  stubs_in_range = each_stub_in_range (context_of m.items) 0 m.items
 
   pub text_in_range : AllInRange (text_of m)
   text_in_range =
@@ -123,13 +122,13 @@ module _ (m : Module) (good : IsCoveredModule m) where
   pub exit_stands : HasAt (code_of (map word_of (text_of m))) 0 exit_stub
   exit_stands = has_first (code_of (map word_of (text_of m))) 0 exit_stub (stubs ++ functions) whole
 
+  pub stubs_stand : HasAt (code_of (map word_of (text_of m))) (length exit_stub) (stubs_from (context_of m.items) 0 m.items)
+  stubs_stand = has_first (code_of (map word_of (text_of m))) (length exit_stub) stubs functions (has_second code 0 exit_stub (stubs ++ functions) whole)
+
   functions_stand : HasAt (code_of (map word_of (text_of m))) (front_size m.items) functions
   functions_stand =
-      let behind = has_second code 0 exit_stub (stubs ++ functions) whole in
-      let last = has_second code (0 + length exit_stub) stubs functions behind in
-      let none : length stubs ≡ 0 = ap length (no_stubs (context_of m.items) 0 m.items good.items) in
-      let no_count : stub_size * import_count m.items ≡ 0 = ap (λ (n : ℕ). stub_size * n) (plain_has_no_more m.items good.items).imports in
-      has_at code (0 + length exit_stub + length stubs) (front_size m.items) functions (omega (arith, none, no_count)) last
+      let last = has_second code (length exit_stub) stubs functions (has_second code 0 exit_stub (stubs ++ functions) whole) in
+      has_at code (length exit_stub + length stubs) (front_size m.items) functions (omega (arith, stubs_length (context_of m.items) 0 m.items)) last
 
   pub function_stands : (f : ℕ) → f < length m.bodies → Placed (code_of (map word_of (text_of m))) m.items (places_of_functions m) (front_size m.items) 0 m.bodies m.trees f f
   function_stands f less =

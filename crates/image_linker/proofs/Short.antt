@@ -1,5 +1,5 @@
 -- The image of a module has few enough bytes to be written.
-use Rattle.std.proofs.Common.{◌≡◌, ◌∙◌, ℕ, ◌+◌, ◌*◌, ◌≤◌, Bool, true, false, List, [], ◌∷◌, ◌++◌, map, length, refl, sym, ap, arith}
+use Rattle.std.proofs.Common.{◌≡◌, ℕ, ◌+◌, ◌*◌, ◌≤◌, Bool, true, false, List, [], ◌∷◌, ◌++◌, map, length, refl, arith}
 use Rattle.std.specs.Prelude.{sum_by, slice_get}
 use Rattle.std.specs.List.{All}
 use Rattle.std.proofs.lemmas.List.Elements.{All-head, All-tail}
@@ -11,22 +11,18 @@ use Rattle.wasm_defs.specs.Faults.{Module}
 use Rattle.wasm_defs.specs.Instances.{exports_of, data_of, i32_value, is_linkable}
 use Rattle.wasm_defs.specs.Typing.{Context}
 use Rattle.wasm_defs.specs.Context.{context_of, type_or_empty}
-use Rattle.wasm_laws.specs.Held.{held_bytes, all_held}
-use Rattle.wasm_laws.specs.Sections.{AreBytes}
+use Rattle.wasm_laws.specs.Held.{all_held}
 use Rattle.wasm_laws.proofs.Bytes.{each_byte}
 use Rattle.wasm_laws.proofs.Described.{module_is_described}
 use Rattle.wasm_laws.proofs.Held.{module_holds}
-use Rattle.image_format.specs.declared.limits.TheConstants.{IMAGE_BYTES}
 use Rattle.image_format.specs.declared.image.Segment.{Segment as Placed}
 use Rattle.image_format.specs.declared.image.Import.{Import}
 use Rattle.image_format.specs.declared.image.Export.{Export}
 use Rattle.image_format.specs.Bounds.{Each, IsImport, ExportFits}
 use Rattle.image_format.specs.Contents.{Image, IsImage}
-use Rattle.image_format.specs.ImageBytes.{spelling}
 use Rattle.image_format.specs.Sizes.{segment_size, import_size, export_size, size_of}
 use Rattle.image_format.proofs.Sizes.{spelling_size}
 use Rattle.image_linker.specs.ImageOf.{segment_of, placed_segments, imports_of, export_of, image_of}
-use Rattle.image_linker.specs.Judging.{IsModuleOf}
 use Rattle.image_linker.specs.Laws.{ImagesAreShort}
 use Rattle.image_linker.proofs.Bounded.{images_keep_bounds}
 

@@ -1,10 +1,10 @@
 -- The rows of a module's table in the region of its image.
-use Rattle.std.proofs.Common.{◌≡◌, ℕ, zero, suc, ◌+◌, ◌*◌, ◌^◌, ◌<◌, ◌≤◌, Bool, true, inl, inr, List, [], ◌∷◌, map, length, replicate, Option, None, Some, refl, sym, ap, ◌∙◌, subst, arith}
-use Rattle.std.specs.Prelude.{slice_get, slice_index, option_map, if◌then◌else◌}
+use Rattle.std.proofs.Common.{◌≡◌, ℕ, suc, ◌+◌, ◌*◌, ◌^◌, ◌<◌, ◌≤◌, Bool, true, inl, inr, List, [], ◌∷◌, map, length, replicate, Option, None, Some, refl, sym, ap, ◌∙◌, subst, arith}
+use Rattle.std.specs.Prelude.{slice_get, slice_index, option_map}
 use Rattle.std.proofs.lemmas.Bool.{cases_Bool}
 use Rattle.std.proofs.lemmas.List.{length-map, length-replicate}
 use Rattle.std.proofs.lemmas.Option.{slice_get-map}
-use Rattle.rv_isa.specs.Steps.{Bytes, value_at, text_base}
+use Rattle.rv_isa.specs.Steps.{value_at}
 use Rattle.wasm_defs.specs.declared.item.Item.{Item}
 use Rattle.wasm_defs.specs.declared.item.Item.TheVariants.{Signature}
 use Rattle.wasm_defs.specs.declared.types.FuncType.{FuncType}
@@ -12,9 +12,8 @@ use Rattle.wasm_defs.specs.Typing.{same_function_types}
 use Rattle.wasm_defs.specs.Context.{context_of, types_of, type_of_function, first_like}
 use Rattle.wasm_defs.specs.Configurations.{Function, Instance, type_of}
 use Rattle.wasm_defs.specs.Faults.{Module}
-use Rattle.wasm_defs.specs.Instances.{rows_of, elements_of, all_over, all_fit, is_linkable, instance_of, functions_of}
+use Rattle.wasm_defs.specs.Instances.{rows_of, elements_of, all_fit, is_linkable, instance_of, functions_of}
 use Rattle.wasm_laws.proofs.Counted.{entries_in}
-use Rattle.image_format.specs.declared.image.Row.{Row}
 use Rattle.image_format.specs.Environment.{Entry, word_bytes, row_words, loaded}
 use Rattle.image_format.specs.ImageRun.{begin}
 use Rattle.image_format.specs.Contents.{Image}
@@ -22,8 +21,8 @@ use Rattle.wasm_defs.specs.Host.{Reply}
 use Rattle.wasm_defs.specs.declared.types.ValType.{ValType}
 use Rattle.sim_memory.specs.Regions.{row_code, row_like}
 use Rattle.simulation.specs.Tables.{type_in, TableHolds}
-use Rattle.simulation.proofs.Matching.{table_kept}
-use Rattle.image_linker.specs.ImageOf.{places_of_functions, offset_of, row_of, table_of, image_of}
+use Rattle.simulation.proofs.Entering.{table_kept}
+use Rattle.image_linker.specs.ImageOf.{places_of_functions, row_of, table_of, image_of}
 use Rattle.image_linker.proofs.LoadedMemory.{all_over_length}
 use Rattle.image_linker.proofs.Regions.{AreWords, word_bytes_length, row_words_length, word_is_read, row_words_at}
 

@@ -1,28 +1,30 @@
 -- What is linked: the index spaces of a module and the codes of its functions.
-use Rattle.std.specs.Prelude.{ℕ, ℤ, ◌+◌, ◌*◌, ◌^◌, ◌<◌, ◌&&◌, Bool, true, false, not, List, [], ◌∷◌, ◌++◌, map, length, replicate, Option, None, Some, nat_lt, slice_get, slice_index, if◌then◌else◌}
+use Rattle.std.specs.Prelude.{ℕ, ℤ, ◌+◌, ◌*◌, ◌^◌, ◌<◌, ◌&&◌, Bool, true, false, not, List, [], ◌∷◌, ◌++◌, map, length, replicate, suc, Option, None, Some, nat_lt, slice_get, slice_index, if◌then◌else◌}
 use Rattle.std.specs.List.{All}
 use Rattle.rv_isa.specs.Words.{word_of}
 use Rattle.rv_isa.specs.declared.compiled.Code.{Code}
 use Rattle.wasm_defs.specs.declared.context.GlobalType.{GlobalType}
 use Rattle.rv_isa.specs.Steps.{text_base}
 use Rattle.wasm_defs.specs.declared.types.FuncType.{FuncType}
-use Rattle.wasm_defs.specs.Context.{type_of_function, like}
+use Rattle.wasm_defs.specs.Context.{type_or_empty, type_of_function, like}
 use Rattle.wasm_defs.specs.Instances.{Written, first_minimum, first_cap, all_over, all_fit}
 use Rattle.wasm_defs.specs.Memory.{page}
 use Rattle.wasm_defs.specs.Values as value
 use Rattle.wasm_laws.specs.Kept.{FitsType}
-use Rattle.frame_layout.specs.Templates.{exit_stub}
+use Rattle.frame_layout.specs.Templates.{import_stub, exit_stub}
 use Rattle.frame_layout.specs.Functions.{with_distances}
 use Rattle.image_format.specs.declared.version.Version.TheVariants.{One}
 use Rattle.image_format.specs.Contents.{Image}
 use Rattle.image_format.specs.declared.image.Row.{Row}
+use Rattle.image_format.specs.declared.image.Import.{Import as Imported}
 use Rattle.image_format.specs.declared.image.Export.{Export}
 use Rattle.image_format.specs.declared.image.Segment.{Segment}
+use Rattle.index_spaces.specs.declared.entries.Import.{Import}
 use Rattle.index_spaces.specs.declared.entries.ElementRow.{ElementRow}
 use Rattle.index_spaces.specs.declared.entries.DataRow.{DataRow}
 use Rattle.index_spaces.specs.Entries.{function_exports, initial_values, written_rows, written_segments}
 use Rattle.index_spaces.specs.Spaces.{Spaces, context_in}
-use Rattle.image_linker.specs.ImageOf.{front_of, distances}
+use Rattle.image_linker.specs.ImageOf.{front_of, stub_places, distances}
 
 -- the words of the codes, one behind the other
 abbrev pub words_of : List Code → List ℕ
@@ -34,12 +36,22 @@ abbrev pub starts_from : (here : ℕ) → List Code → List ℕ
 starts_from here [] = []
 starts_from here (c ∷ cs) = here ∷ starts_from (here + length c.words) cs
 
--- the words in front of the functions, where nothing is imported
-abbrev pub front_words : List ℕ
-front_words = map word_of exit_stub
+-- the stubs of imports, of which so many came before
+abbrev pub stub_words : List FuncType → (number : ℕ) → List Import → List ℕ
+stub_words types number [] = []
+stub_words types number (i ∷ imports) =
+    map word_of (import_stub (length (type_or_empty (slice_get types i.type_index)).params) number) ++ stub_words types (suc number) imports
 
-abbrev pub starts_of : List Code → List ℕ
-starts_of codes = starts_from (front_of 0) codes
+-- the words in front of the functions: the exit stub, and a stub for each import
+abbrev pub front_words : Spaces → List ℕ
+front_words s = map word_of exit_stub ++ stub_words s.types 0 s.imports
+
+-- where all functions begin, of which so many are imported
+abbrev pub starts_behind : (imported : ℕ) → List Code → List ℕ
+starts_behind imported codes = stub_places (length exit_stub) imported ++ starts_from (front_of imported) codes
+
+abbrev pub starts_of : Spaces → List Code → List ℕ
+starts_of s codes = starts_behind (length s.imports) codes
 
 -- the words of a code that begins at a place of the text, once its calls lead to the functions, which begin at these places
 abbrev pub words_at : (places : List ℕ) (here : ℕ) → Code → List ℕ
@@ -50,9 +62,18 @@ abbrev pub words_from : (places : List ℕ) (here : ℕ) → List Code → List 
 words_from places here [] = []
 words_from places here (c ∷ cs) = words_at places here c ++ words_from places (here + length c.words) cs
 
--- an exported function has the place of its code
+-- an import has the type of its index
+abbrev pub linked_import : List FuncType → Import → Imported
+linked_import types i = record { «module» = i.module; name = i.name; signature = type_or_empty (slice_get types i.type_index) }
+
+-- an exported function has the place of its code, or of its stub
 abbrev pub linked_export : Spaces → List ℕ → List ℕ × ℕ → Export
 linked_export s starts e = record { name = e.0; signature = type_of_function (context_in s) e.1; offset = 4 * slice_index starts e.1 }
+
+-- the place of the start function, or 0 where there is none
+abbrev pub linked_start : List ℕ → Option ℕ → ℕ
+linked_start starts None = 0
+linked_start starts (Some f) = 4 * slice_index starts f
 
 -- a row without a function
 abbrev pub empty_row : Row
@@ -101,18 +122,18 @@ NumbersFit [] [] = Unit {0}
 NumbersFit (g ∷ globals) (n ∷ numbers) = FitsType g.ty n × NumbersFit globals numbers
 NumbersFit globals numbers = ⊥
 
--- the image of a module that imports nothing, and has no start function
+-- the image of a module
 abbrev pub linked : Spaces → List Code → Image
 linked s codes = record {
   version = One;
-  text = front_words ++ words_from (starts_of codes) (front_of 0) codes;
+  text = front_words s ++ words_from (starts_of s codes) (front_of (length s.imports)) codes;
   globals = global_words s;
-  table = linked_rows s (starts_of codes) (has_room s);
+  table = linked_rows s (starts_of s codes) (has_room s);
   pages = first_minimum s.memories;
   cap = first_cap s.memories;
   segments = linked_segments (has_room s) s.segments;
-  imports = [];
-  exports = map (linked_export s (starts_of codes)) (function_exports s.exports);
-  start = 0;
+  imports = map (linked_import s.types) s.imports;
+  exports = map (linked_export s (starts_of s codes)) (function_exports s.exports);
+  start = linked_start (starts_of s codes) s.start;
   unlinkable = not (has_room s);
 }

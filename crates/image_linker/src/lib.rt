@@ -3,6 +3,7 @@
 //! and that images keep their bounds.
 #![tactic(auto)]
 
+mod imports;
 pub mod laws;
 mod linking;
 mod segments;

@@ -3,39 +3,23 @@
 ghost use Rattle.std.specs.Prelude.{◌≡◌, ◌≤◌, ◌<◌, ◌+◌, ◌*◌, ◌++◌, ◌^◌, ℕ, length, map, take, drop, slice_index, slice_set, IfOk};
 ghost use Rattle.wasm_defs.specs.Context.{type_of_function};
 ghost use Rattle.frame_layout.specs.Functions.{with_distance, with_distances};
+ghost use Rattle.image_format.specs.Bounds.{AreImports};
 ghost use Rattle.image_format.specs.Contents.{IsImage};
 ghost use Rattle.index_spaces.specs.Spaces.{context_in};
 ghost use Rattle.index_spaces.specs.Entries.{function_exports};
 ghost use Rattle.image_linker.specs.ImageOf.{front_of, distances};
-ghost use Rattle.image_linker.specs.Linking.{NumbersFit, words_of, words_from, starts_of, front_words, has_room, linked, linked_export};
+ghost use Rattle.image_linker.specs.Linking.{NumbersFit, words_of, words_from, starts_behind, front_words, has_room, linked, linked_export, linked_import, linked_start};
 
+use crate::imports::{front, front_of, imports_of, stub_places};
 use crate::segments::{have_room, placed_segments};
 use crate::spaces::{first_cap, first_minimum, global_words};
 use crate::tables::{have_rows, rows_of};
 use frame_layout::macros::{call, distance};
 use image_format::{Export, Exports, Globals, Image, Imports, Segments, Table, Text, Version};
 use index_spaces::{Context, copy_of_name, copy_of_type};
-use rv_isa::{Code, Imm12, ImmOp, Op, Register, Relocation, encode};
+use rv_isa::{Code, Relocation, encode};
 use std::alloc::{AllocError, Global};
 use wasm_defs::{Extern, FuncType, ValTypes};
-
-/// The words in front of the functions' codes: the exit stub, where nothing is imported.
-const FRONT_WORDS: u32 = 2;
-
-/// The exit stub: a7 becomes 0, and the environment is called.
-fn exit_stub() -> [u32; 2]
-    ensures { result ≡ front_words }
-{
-    [
-        encode(Op::Imm {
-            op: ImmOp::Addi,
-            rd: Register::new(17),
-            rs1: Register::new(0),
-            imm: Imm12::new(0),
-        }),
-        encode(Op::Ecall),
-    ]
-}
 
 /// The place of a function, or 0 where it has none.
 pub(crate) fn start_at(starts: &[u32], function: u32) -> u32
@@ -90,11 +74,17 @@ fn lead_from(text: &mut [u32], calls: &[Relocation], starts: &[u32], here: usize
     lead_all(&mut text[here..], calls, starts, here);
 }
 
-/// The words of a text with these codes, in order, which begin at these places.
-fn text_of(alloc: Global, codes: &[Code], starts: &[u32]) -> Result<Vec<u32>, AllocError>
-    ensures { IfOk result (λ text. text.items ≡ front_words ++ words_from starts.now (front_of 0) codes.now) }
+/// The words of a text with the stubs and these codes, in order, where functions begin at these places.
+fn text_of(
+    alloc: Global,
+    context: &Context,
+    codes: &[Code],
+    starts: &[u32],
+) -> Result<Vec<u32>, AllocError>
+    requires { AreImports (map (linked_import context.now.types) context.now.imports) }
+    ensures { IfOk result (λ text. text.items ≡ front_words context.now ++ words_from starts.now (front_of (length context.now.imports)) codes.now) }
 {
-    let mut text = Vec::from_slice(alloc, &exit_stub())?;
+    let mut text = front(alloc, context)?;
     for code in codes {
         let here = text.len();
         text.extend_from_slice(code.words.as_slice())?;
@@ -103,13 +93,13 @@ fn text_of(alloc: Global, codes: &[Code], starts: &[u32]) -> Result<Vec<u32>, Al
     Ok(text)
 }
 
-/// Where the codes begin in their text, in words.
-fn starts_of(alloc: Global, codes: &[Code]) -> Result<Vec<u32>, AllocError>
-    requires { 2 + length (words_of codes.now) < 2 ^ 32 }
-    ensures { IfOk result (λ starts. starts.items ≡ starts_of codes.now) }
+/// Where all functions begin in their text, in words: so many that are imported, and those of the codes.
+fn starts_of(alloc: Global, imported: usize, codes: &[Code]) -> Result<Vec<u32>, AllocError>
+    requires { front_of imported + length (words_of codes.now) < 2 ^ 32 }
+    ensures { IfOk result (λ starts. starts.items ≡ starts_behind imported codes.now) }
 {
-    let mut starts = Vec::with_capacity(alloc, codes.len())?;
-    let mut here = FRONT_WORDS;
+    let mut starts = stub_places(alloc, imported)?;
+    let mut here = front_of(imported);
     for code in codes {
         starts.push(here)?;
         here += code.words.as_slice().len() as u32;
@@ -157,20 +147,30 @@ fn is_linkable(context: &Context) -> bool
         && have_room(first_minimum(context.memories()), context.segments())
 }
 
+/// The offset of the start function's first word, or 0 where there is none.
+fn start_of(starts: &[u32], start: Option<u32>) -> u32
+    requires { (i : ℕ) → slice_index starts.now i < 2 ^ 27 }
+    ensures { result ≡ linked_start starts.now start }
+{
+    match start {
+        Some(function) => 4 * start_at(starts, function),
+        None => 0,
+    }
+}
+
 /// Links the codes of a module's declared functions, in the order of their indices, to the module's image.
 ///
-/// Each call leads to its function, and so do the rows of the table. So far a module has no imports and no start function. The text has
-/// at most 268,435,456 bytes, what is linked keeps the bounds of images, and the numbers of the globals' constants are of the globals'
-/// types. All segments are looked at before any is written: where one has no place in the table or the memory, the image has no row
-/// with a function and no data segment, and is marked as one that can't be instantiated.
+/// Each call leads to its function, or to the stub of an imported one, and so do the rows of the table. The text has at most 268,435,456
+/// bytes, what is linked keeps the bounds of images, and the numbers of the globals' constants are of the globals' types. All segments
+/// are looked at before any is written: where one has no place in the table or the memory, the image has no row with a function and no
+/// data segment, and is marked as one that can't be instantiated.
 pub fn link(alloc: Global, context: &Context, codes: &[Code]) -> Result<Image, AllocError>
-    requires fits { 4 * (front_of context.now.imported + length (words_of codes.now)) ≤ 2 ^ 28 }
     requires bounded { IsImage (linked context.now codes.now) }
     requires numbers { NumbersFit context.now.globals context.now.initials }
     ensures { IfOk result (λ i. i ≡ linked context.now codes.now) }
 {
-    let starts = starts_of(alloc, codes)?;
-    let text = text_of(alloc, codes, &starts)?;
+    let starts = starts_of(alloc, context.imports().len(), codes)?;
+    let text = text_of(alloc, context, codes, &starts)?;
     let exports = exports_of(alloc, context, &starts)?;
     let globals = global_words(alloc, context)?;
     let pages = first_minimum(context.memories());
@@ -185,9 +185,9 @@ pub fn link(alloc: Global, context: &Context, codes: &[Code]) -> Result<Image, A
         pages,
         cap: first_cap(context.memories()),
         segments: Segments::new(segments),
-        imports: Imports::new(Vec::new(alloc)),
+        imports: Imports::new(imports_of(alloc, context)?),
         exports: Exports::new(exports),
-        start: 0,
+        start: start_of(&starts, context.start()),
         unlinkable: !linkable,
     })
 }

@@ -1,12 +1,12 @@
 -- The regions that an image is loaded to.
-use Rattle.std.proofs.Common.{◌≡◌, ℕ, ◌*◌, ◌≤◌, List, length, ap, ◌∙◌, arith}
+use Rattle.std.proofs.Common.{◌≡◌, ℕ, ◌*◌, ◌≤◌, List, length, take, ap, ◌∙◌, arith}
 use Rattle.rv_isa.specs.Steps.{Bytes}
 use Rattle.wasm_defs.specs.Memory.{page}
 use Rattle.wasm_defs.specs.Instances.{all_over}
 use Rattle.image_format.specs.Contents.{Image}
 use Rattle.image_format.specs.declared.image.Row.{Row}
 use Rattle.image_format.specs.Environment.{stack_size, loaded, word_bytes, row_words, segments_of}
-use Rattle.image_run.specs.States.{IsLoaded, zeros}
+use Rattle.image_run.specs.States.{IsLoaded, first_memory, zeros}
 use Rattle.image_run.proofs.WordLaws.{length-word_bytes, length-row_words}
 
 pub loaded_is : (i : Image) (size : ℕ) (b : Bytes) → size ≡ stack_size → b.stack ≡ zeros size → b.globals ≡ word_bytes i.globals → b.table ≡ word_bytes (row_words i.table)
@@ -17,6 +17,11 @@ loaded_is i size b is stack globals table memory =
     ∙ ap (λ (x : List ℕ). record b { globals = word_bytes i.globals; table = x }) table
     ∙ ap (λ (x : List ℕ). record b { globals = word_bytes i.globals; table = word_bytes (row_words i.table); memory = x }) memory
     ∙ ap (λ (x : List ℕ). record (loaded i) { stack = x }) (stack ∙ ap zeros is)
+
+-- the pages that the memory has at first
+pub first_is : (i : Image) (b : Bytes) (pages : ℕ) → IsLoaded i b → pages ≡ i.pages → take (page * pages) b.memory ≡ first_memory i
+unfolding IsLoaded first_memory
+first_is i b pages is pages_are = ap (λ n. take (page * n) b.memory) pages_are ∙ ap (λ (x : Bytes). take (page * i.pages) x.memory) is
 
 pub globals_short : (globals bytes : List ℕ) → bytes ≡ word_bytes globals → length globals ≤ 100000 → length bytes ≤ 800000
 globals_short globals bytes e few = omega (arith, ap length e, length-word_bytes globals)

@@ -1,5 +1,5 @@
 -- Machines of an image, and what an instance of it is.
-use Rattle.std.specs.Prelude.{◌≡◌, ℕ, ◌*◌, ◌≤◌, Bool, false, List, length, replicate}
+use Rattle.std.specs.Prelude.{◌≡◌, ℕ, ◌*◌, ◌≤◌, Bool, false, List, length, take, replicate}
 use Rattle.rv_isa.specs.Steps.{Bytes, State}
 use Rattle.rv64im_machine.specs.Contents.{Contents as Machine}
 use Rattle.wasm_defs.specs.declared.types.ValType.{ValType}
@@ -24,6 +24,10 @@ zeros size = replicate size 0
 -- the bytes are those that the image is loaded to
 unfoldable pub IsLoaded : Image → Bytes → Type 0
 IsLoaded i bytes = bytes ≡ loaded i
+
+-- the memory of an image that is loaded and hasn't run, as large as it is at first
+unfoldable pub first_memory : Image → List ℕ
+first_memory i = take (page * i.pages) (loaded i).memory
 
 -- the machine has the image's text and a whole stack, and its memory has room up to the image's cap
 pub record RunsImage (i : Image) (m : Machine) (pages : ℕ) : Type 0 where

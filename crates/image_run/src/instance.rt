@@ -4,6 +4,7 @@ ghost use Rattle.wasm_defs.specs.Values.{type_of, value_of};
 ghost use Rattle.image_format.specs.declared.image.Export.{Export};
 ghost use Rattle.image_run.specs.Checks.{export_named, unfit};
 ghost use Rattle.image_run.specs.Ends.{RunsTo};
+ghost use Rattle.image_run.specs.States.{first_memory};
 
 use crate::checks::find_export;
 use crate::host::Host;
@@ -41,9 +42,10 @@ impl<'a> Model for Instance<'a> {
 
 impl<'a> Instance<'a> {
     /// Loads an image: takes the memory for its stack, its globals, its table, its memory as large as it may grow, its text, and the
-    /// arguments of its imports.
+    /// arguments of its imports. The memory has the image's segments in their places, and zeros elsewhere (Core 1.0, 4.5.4).
     pub fn load(alloc: Global, image: &'a Image) -> Result<Self, AllocError>
         ensures image { IfOk result (λ s. s.image ≡ image.now) }
+        ensures memory { IfOk result (λ s. s.memory ≡ first_memory image.now) }
         ensures ready { IfOk result (λ s. s.has_run ≡ false) }
     {
         let regions = regions_of(alloc, image)?;

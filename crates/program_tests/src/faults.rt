@@ -7,7 +7,7 @@ use std::test::Fail;
 use std::thread::Threads;
 
 /// What follows the header of a faulty module, and its fault. Offsets count from the header's first byte.
-const FAULTS: [(&str, &str); 51] = [
+const FAULTS: [(&str, &str); 49] = [
     // A name is one field, refused as soon as no more bytes can complete it.
     ("00 03 85", "malformed at 10"),
     ("00 04 02 E2", "malformed at 10"),
@@ -26,12 +26,10 @@ const FAULTS: [(&str, &str); 51] = [
     ("0D 00", "malformed at 8"),
     ("03 01 00 01 01 00", "malformed at 11"),
     ("01 01 00 01 01 00", "malformed at 11"),
-    ("02 01 00", "unsupported at 8"),
-    ("02 00", "unsupported at 8"),
     ("0C 01 00", "unsupported at 8"),
     // Of a section that isn't compiled the id may be wrong, and its size comes later.
     ("03 01 00 02 01 00", "malformed at 11"),
-    ("02 FF FF FF FF 0F", "unsupported at 8"),
+    ("0C FF FF FF FF 0F", "unsupported at 8"),
     // Types: more than there may be, a value type that is left out, one of none, and two results.
     ("01 04 A1 8D 06", "limit at 10"),
     ("01 05 01 60 01 7D 00", "unsupported at 13"),
@@ -142,7 +140,7 @@ const FAULTS: [(&str, &str); 51] = [
     ),
     (
         "01 04 01 60 00 00 03 03 02 00 00 08 01 00 0A 07 02 02 00 6A 02 00 43",
-        "unsupported at 19",
+        "invalid at 27",
     ),
 ];
 
@@ -265,7 +263,7 @@ const LONG_FAULTS: [(&str, usize, &str, &str); 8] = [
         "00 F3 FF FF 1F 00",
         67_108_864,
         "02 00",
-        "unsupported at 67108864",
+        "limit at 67108864",
     ),
     (
         "00 F3 FF FF 1F 00",

@@ -11,10 +11,14 @@ mod calls;
 #[cfg(test)]
 mod control;
 #[cfg(test)]
+mod drills;
+#[cfg(test)]
 mod faults;
 #[cfg(test)]
 mod held_back;
 #[cfg(test)]
 mod operations;
+#[cfg(test)]
+mod starts;
 #[cfg(test)]
 mod tables;

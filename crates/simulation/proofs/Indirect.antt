@@ -12,7 +12,7 @@ use Rattle.wasm_defs.specs.Trees.{Seq, Simple}
 use Rattle.wasm_defs.specs.Typing.{Types, same_function_types}
 use Rattle.wasm_defs.specs.Context.{type_or_empty, first_like}
 use Rattle.wasm_defs.specs.Values.{Value, types_of_values, trap_number}
-use Rattle.wasm_defs.specs.Configurations.{Func, Function, Imported, Declared, type_of, Instance, Invocation, Config, Step, Trapped, belows}
+use Rattle.wasm_defs.specs.Configurations.{Func, Function, Imported, Declared, type_of, Instance, Config, Step, Trapped, belows}
 use Rattle.wasm_defs.specs.Reductions.{enter, ask, call, call_typed, call_row, call_indirect, simple}
 use Rattle.frame_layout.specs.Slots.{operand}
 use Rattle.frame_layout.specs.Laws.{TrapsAt}
@@ -57,7 +57,7 @@ module _ (im : Image) (near : length (code_of_image im) ≤ 2 ^ 26) (inst : Inst
 
     halts : {behind : ℕ} (steps : ℕ) (kind : TrapKind) → steps ≤ 128 → TrapsAt (code_of_image im) steps behind (trap_number kind) r.machine → Goes (Trapped c.store kind)
     halts {behind} steps kind short y =
-        lifted im inst places outer c.store c.later r start.store start.results start.later start.no_more 128 size (Trapped c.store kind) (refl, halts_at text inst places outer c.store c.later 128 steps r.machine kind short y)
+        lifted im inst places outer c.store c.later r start.store start.results start.later 128 size (Trapped c.store kind) (refl, halts_at text inst places outer c.store c.later 128 steps r.machine kind short y)
 
     module _ (v : Value) (below : List Value) (m : FramesStay (code_of_image im) inst places outer (record c.frame { operands = v ∷ below; code = Simple (CallIndirect type) rest }) c.callers r.machine) where
       abbrev ty : FuncType
@@ -79,7 +79,7 @@ module _ (im : Image) (near : length (code_of_image im) ≤ 2 ^ 26) (inst : Inst
             let arguments = reverse (take (length func.ty.params) below) in
             let callers = record c.frame { operands = drop (length func.ty.params) below; code = rest } ∷ c.callers in
             let step = enter c.store func arguments callers c.later in
-            lifted im inst places outer c.store c.later r start.store start.results start.later start.no_more 128 size step
+            lifted im inst places outer c.store c.later r start.store start.results start.later 128 size step
             (follows_less text inst places outer c.store c.later (29 + (24 + 128 * owed_of step)) (128 + 128 * owed_of step) size r.machine step (omega arith)
             (follows_after text inst places outer c.store c.later 29 (24 + 128 * owed_of step) size r.machine b.end b.reaches (same_beside r.machine.bytes b.end.bytes b.bytes_are) b.registers step
             (enters_follow text near inst places outer stub c.store c.later size func callee arguments callers b.end (place (m.running.compiled.begin + (m.here + 38))) (b.at ∙ ap place (sym begin_is)) b.frame b.link_is b.types b.stand b.stay)))
@@ -93,10 +93,9 @@ module _ (im : Image) (near : length (code_of_image im) ≤ 2 ^ 26) (inst : Inst
             let arguments = reverse (take (length t.params) below) in
             let callers = record c.frame { operands = drop (length t.params) below; code = rest } ∷ c.callers in
             let stores = store_moves im inst places c.store r b.end (same_beside r.machine.bytes b.end.bytes b.bytes_are) b.registers start.store in
-            let leads = ask_leads im near inst places outer stub c.store q stores start.results start.no_more size number t i.0 i.1 i.2 few small one_result callers (place (m.running.compiled.begin + (m.here + 38))) arguments (places f) has b.at b.frame b.link_is b.types b.stand b.stay in
-            let step = ask number t c.store arguments callers [] in
-            subst (λ (later : List Invocation). Leads im inst places outer 128 size r (ask number t c.store arguments callers later)) (sym start.later)
-            (leads_less im inst places outer (29 + 64) 128 size r step (omega arith) (leads_after im inst places outer 29 64 size r q step (goes_by im 29 r b.end b.reaches) leads))
+            let leads = ask_leads im near inst places outer stub c.store c.later q stores start.results start.later size number t i.0 i.1 i.2 few small one_result callers (place (m.running.compiled.begin + (m.here + 38))) arguments (places f) has b.at b.frame b.link_is b.types b.stand b.stay in
+            let step = ask number t c.store arguments callers c.later in
+            leads_less im inst places outer (29 + 64) 128 size r step (omega arith) (leads_after im inst places outer 29 64 size r q step (goes_by im 29 r b.end b.reaches) leads)
 
         by_kind : (h : Function) → slice_get inst.functions f ≡ Some h → type_of h ≡ ty → Placed (code_of_image im) inst places f h → Called h
         by_kind h is ty_is (inl k) = subst Called (sym k.is) (entered k.func k.compiled k.begin_is (ap type_of (sym k.is) ∙ ty_is))

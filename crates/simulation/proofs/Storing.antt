@@ -21,9 +21,11 @@ use Rattle.sim_frames.proofs.Frames.{labels_of, under, Compiled, SitsAt, FramesS
 use Rattle.sim_frames.proofs.Follows.{matches_now, stands_on, ahead, labels_ahead, halts_at}
 use Rattle.sim_frames.proofs.Rules.{types_append}
 use Rattle.sim_frames.proofs.Values as values
+use Rattle.simulation.specs.Entries.{AreEntries}
 use Rattle.simulation.specs.Laws.{EnvironmentStands}
 use Rattle.simulation.proofs.Changing.{ChangesStore, Passes, passes}
-use Rattle.simulation.proofs.Matching.{StoreStays, Matches, table_kept, Leads, lifted}
+use Rattle.simulation.proofs.Entering.{table_kept}
+use Rattle.simulation.proofs.Matching.{StoreStays, Matches, Leads, lifted}
 use Rattle.simulation.proofs.Straight.Effects.{above, enough, effect_above}
 use Rattle.simulation.proofs.Straight.Instructions as one
 use Rattle.simulation.proofs.Straight.Lifts.{simple_applied, behind, moves_all, low_now, has_now, size_now}
@@ -96,8 +98,7 @@ module _ (im : Image) (near : length (code_of_image im) ≤ 2 ^ 26) (inst : Inst
             store = subst (λ (st : Store). StoreStays im inst places st y.last) store_is
                 (record { calls = y.calls ∙ x.store.calls ∙ sym y.calls_stay; replies = y.replies ∙ x.store.replies ∙ sym y.replies_stay; stands = y.stands; types = x.store.types ∙ sym y.globals_stay; table = table_kept inst places r.machine.bytes y.last.machine.bytes y.table_stays x.store.table });
             results = y.results ∙ x.results;
-            later = x.later;
-            no_more = y.later ∙ x.no_more;
+            later = subst (AreEntries inst places c.later) (sym y.later) x.later;
           };
         }
     by_effect (Gives store locals operands) whole_is (inr y) = let wrong = sym whole_is ∙ y.gives in absurd cc
@@ -105,7 +106,7 @@ module _ (im : Image) (near : length (code_of_image im) ≤ 2 ^ 26) (inst : Inst
     by_effect (Traps kind) whole_is (inr y) =
         let same : Traps kind ≡ Traps y.kind = sym whole_is ∙ y.gives in
         let kind_is : y.kind ≡ kind = cc in
-        lifted im inst places outer c.store c.later r x.store x.results x.later x.no_more 128 size (Trapped c.store kind)
+        lifted im inst places outer c.store c.later r x.store x.results x.later 128 size (Trapped c.store kind)
         (refl, halts_at text inst places outer c.store c.later 128 y.steps r.machine kind y.short (subst (λ (t : TrapKind). TrapsAt text y.steps y.behind (trap_number t) r.machine) kind_is y.traps))
     by_effect Fails whole_is (inl y) = let wrong = sym whole_is ∙ y.gives in absurd cc
     by_effect Fails whole_is (inr y) = let wrong = sym whole_is ∙ y.gives in absurd cc

@@ -1,5 +1,5 @@
 -- The table of an instance (WebAssembly Core 1.0, 4.2.7) in a running image.
-use Rattle.std.specs.Prelude.{◌≡◌, ℕ, ◌^◌, ◌<◌, List, [], length, Option, None, Some, slice_get}
+use Rattle.std.specs.Prelude.{◌≡◌, ℕ, ◌^◌, ◌<◌, [], length, Option, None, Some, slice_get}
 use Rattle.rv_isa.specs.Steps.{Bytes}
 use Rattle.wasm_defs.specs.declared.types.FuncType.{FuncType}
 use Rattle.wasm_defs.specs.Context.{first_like}

@@ -44,13 +44,13 @@ use Rattle.stream_compile.specs.Running.{IsUnstopped, RunsAs}
 -- ---- exports
 
 -- the module's function that an export of its image is
-record Exports (m : Module) (name : List ℕ) (es : List (List ℕ × ℕ)) (e : Export) : Type 0 where
-  function : ℕ
-  named_is : named name es ≡ Some function
-  signature_is : e.signature ≡ type_of_function (context_of m.items) function
-  offset_is : e.offset ≡ offset_of m function
+pub record Exports (m : Module) (name : List ℕ) (es : List (List ℕ × ℕ)) (e : Export) : Type 0 where
+  pub function : ℕ
+  pub named_is : named name es ≡ Some function
+  pub signature_is : e.signature ≡ type_of_function (context_of m.items) function
+  pub offset_is : e.offset ≡ offset_of m function
 
-export_is : (m : Module) (name : List ℕ) (es : List (List ℕ × ℕ)) (e : Export) → export_named name (map (export_of m) es) ≡ Some e → Exports m name es e
+pub export_is : (m : Module) (name : List ℕ) (es : List (List ℕ × ℕ)) (e : Export) → export_named name (map (export_of m) es) ≡ Some e → Exports m name es e
 export_is m name [] e is = absurd cc
 export_is m name (x ∷ es) e is =
     elim (cases_Bool (bytes_eq name x.0)) [
@@ -98,7 +98,7 @@ no_imports [] h = refl
 no_imports (x ∷ is) h = absurd cc
 
 -- an image that imports anything isn't run
-imports_nothing : (i : Image) (name : List ℕ) (types : List ValType) → not_runnable i name types ≡ None → i.imports ≡ []
+pub imports_nothing : (i : Image) (name : List ℕ) (types : List ValType) → not_runnable i name types ≡ None → i.imports ≡ []
 imports_nothing i name types is =
     elim (cases_Bool (has_unknown_import i.imports)) [
       | inl h ↦ absurd (let t : Some UnknownImport ≡ None = rw h at is in cc)
@@ -118,10 +118,10 @@ same_length ts us h = ap (λ (l : List ValType). length l) (same_types-true ts u
 
 -- ---- runs
 
-abbrev Results : Module → ℕ → List ValType
+abbrev pub Results : Module → ℕ → List ValType
 Results m f = (type_of_function (context_of m.items) f).results
 
-runs_alike : (m : Module) (name : List ℕ) (arguments : List Value) (e : Export) (found : Exports m name (exports_of m.items) e) → Same m (image_of m) → Passed (image_of m) (types_of_values arguments) e
+pub runs_alike : (m : Module) (name : List ℕ) (arguments : List Value) (e : Export) (found : Exports m name (exports_of m.items) e) → Same m (image_of m) → Passed (image_of m) (types_of_values arguments) e
     → all_in_range arguments ≡ true → SameRuns (module_run m found.function arguments []) (image_run (image_of m) (offset_of m found.function) (Results m found.function) arguments [])
 runs_alike m name arguments e found same passed ranges =
     let params = (type_of_function (context_of m.items) found.function).params in
@@ -136,19 +136,19 @@ runs_alike m name arguments e found same passed ranges =
     links true h = refl
     links false h = absurd cc
 
-end_is : (i : Image) (offset : ℕ) (results : List ValType) (arguments : List Value) (n : ℕ) → run_end i offset results arguments n ≡ (image_run i offset results arguments [] n).end
+pub end_is : (i : Image) (offset : ℕ) (results : List ValType) (arguments : List Value) (n : ℕ) → run_end i offset results arguments n ≡ (image_run i offset results arguments [] n).end
 unfolding run_end
 end_is i offset results arguments n = refl
 
 -- the end of the call of an export, where it is that of the module's function
-ends_there : (m : Module) (name : List ℕ) (es : List (List ℕ × ℕ)) (e : Export) (found : Exports m name es e) (arguments : List Value) (n : ℕ)
+pub ends_there : (m : Module) (name : List ℕ) (es : List (List ℕ × ℕ)) (e : Export) (found : Exports m name es e) (arguments : List Value) (n : ℕ)
     → run_end (image_of m) e.offset e.signature.results arguments n ≡ run_end (image_of m) (offset_of m found.function) (Results m found.function) arguments n
 ends_there m name es e found arguments n =
     ap (λ (offset : ℕ). run_end (image_of m) offset e.signature.results arguments n) found.offset_is
     ∙ ap (λ (f : FuncType). run_end (image_of m) (offset_of m found.function) f.results arguments n) found.signature_is
 
 -- what an image's end tells of its module
-tells_end : (runs : ℕ → module_runs.Run) (image : ℕ → ImageRun) (n : ℕ) (end : Ending) (o : Outcome) → SameRuns runs image → (image n).end ≡ end → EndsAs end o → TellsEnd end runs o
+pub tells_end : (runs : ℕ → module_runs.Run) (image : ℕ → ImageRun) (n : ℕ) (end : Ending) (o : Outcome) → SameRuns runs image → (image n).end ≡ end → EndsAs end o → TellsEnd end runs o
 tells_end runs image n (As (Returns values memory globals)) o alike is tells =
     let k = alike.ends_only n (Returns values memory globals) is tt in
     let same : As (runs k.0).end ≡ As (Returns values memory globals) = sym (ap (λ (r : ImageRun). r.end) k.1) ∙ is in
@@ -247,7 +247,7 @@ module _ (H : Type 0) (Calls : H → HostCall → Reply → H → Type 0) (from 
   alone : i.imports ≡ []
   alone = imports_nothing i name (map type_of values) (sym is ∙ none)
 
-  runs_to : (e : Export) (n : ℕ) → RunsTo Calls i e (map value_of values) n from to outcome memory → IsEnd outcome memory (run_end i e.offset e.signature.results (map value_of values) n)
+  pub runs_to : (e : Export) (n : ℕ) → RunsTo Calls i e (map value_of values) n from to outcome memory → IsEnd outcome memory (run_end i e.offset e.signature.results (map value_of values) n)
   runs_to e n done = subst (IsEnd outcome memory) (run_end_is i e (map value_of values) n) (ends_alone i alone e (map value_of values) n H Calls from to outcome memory done)
 
   pub unstopped : (steps : ℕ) → (e : Export) × (export_named name i.exports ≡ Some e) × RunsTo Calls i e (map value_of values) steps from to outcome memory → IsUnstopped outcome

@@ -4,8 +4,6 @@ use Rattle.std.proofs.lemmas.List.{append-nil}
 use Rattle.rv_isa.specs.declared.compiled.Code.{Code}
 use Rattle.wasm_defs.specs.declared.fault.Refusal.{Refusal}
 use Rattle.wasm_defs.specs.declared.item.Item.{Item}
-use Rattle.wasm_defs.specs.declared.item.Item.TheVariants.{Imported}
-use Rattle.wasm_defs.specs.Context.{import_count}
 use Rattle.wasm_defs.specs.Limits.{max_text}
 use Rattle.wasm_defs.specs.Trees.{Seq}
 use Rattle.wasm_defs.specs.Entries.{Seen}
@@ -27,17 +25,13 @@ use Rattle.stream_compile.specs.Codes.{Coding, AreAll, with_code}
 use Rattle.stream_compile.specs.Progress.{IsJudging, body_of_spaces}
 use Rattle.wasm_laws.proofs.PartLists.{items_of-append, bodies_of-append}
 use Rattle.wasm_laws.proofs.PartOrder.{start_fault_stands, fault_after, section_after}
+use Rattle.image_linker.proofs.ImportBounds.{imports_are_few}
 use Rattle.stream_compile.proofs.TextFaults.{text_after, tree_once}
 use Rattle.stream_compile.proofs.CodeWords.{all_more, codes_both, codes_of_module}
 use Rattle.stream_compile.proofs.Judging as judging
 use Rattle.stream_compile.proofs.Judging.{IsVerdictBesideText, context_is, inside_rest, outside_rest}
 
 -- ---- steps
-
-imports_are_few : (items : List Item) → import_count items ≤ entries_in 2 items
-imports_are_few [] = omega arith
-imports_are_few (Imported from what kind type_index ∷ items) = omega (arith, imports_are_few items)
-imports_are_few (x ∷ items) = imports_are_few items
 
 pub begins : (bytes : List ℕ) (left : Run) (spaces : Spaces) (codes : Coding) → left ≡ module_read bytes → spaces ≡ spaces_of [] → AreAll codes [] → IsJudging bytes left spaces codes
 begins bytes left spaces codes is none uncoded = rw (is, none) (record {

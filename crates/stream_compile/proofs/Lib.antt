@@ -19,3 +19,4 @@ pub mod Answering
 pub mod Calls
 pub mod Stopped
 pub mod ForeignLaws
+pub mod Drills

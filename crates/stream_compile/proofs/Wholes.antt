@@ -6,16 +6,14 @@ use Rattle.wasm_defs.specs.declared.item.Item.{Item}
 use Rattle.wasm_defs.specs.Entries.{Seen}
 use Rattle.wasm_defs.specs.Context.{types_of}
 use Rattle.wasm_defs.specs.Outside.{Run, Whole, ends}
-use Rattle.wasm_laws.specs.Plain.{ArePlain}
 use Rattle.wasm_laws.specs.Kept.{ConstantsFit}
 use Rattle.wasm_laws.proofs.Constants.{constants_fit}
-use Rattle.wasm_laws.proofs.Plain.{items_are_plain, plain_has_no_more}
 use Rattle.frame_layout.specs.Templates.{exit_stub}
 use Rattle.image_format.specs.Contents.{IsImage}
 use Rattle.index_spaces.specs.Entries.{function_exports, all_exports_of}
 use Rattle.index_spaces.specs.Spaces.{Spaces, spaces_of, context_in}
-use Rattle.image_linker.specs.ImageOf.{front_of, image_of}
-use Rattle.image_linker.specs.Linking.{NumbersFit, words_of, starts_of, linked, linked_export}
+use Rattle.image_linker.specs.ImageOf.{image_of}
+use Rattle.image_linker.specs.Linking.{NumbersFit, linked}
 use Rattle.image_linker.specs.Judging.{IsModuleOf}
 use Rattle.image_linker.proofs.Items.{numbers_fit}
 use Rattle.image_linker.proofs.ElementFacts.{elements_are_below, functions_typed}
@@ -38,9 +36,8 @@ whole_done bytes left s seen fits j whole count =
     let w = is_whole bytes left s.spaces s.codes seen j whole in
     let m = w.0 in
     let h = w.1 in
-    let plain : ArePlain m.items = subst ArePlain (sym h.is.items) (items_are_plain bytes h.is.compiled) in
     let is : IsModuleOf bytes m = record { is = h.is; fits = omega (arith, h.words, words_are_sizes m.items 0 m.bodies m.trees j.all h.coded) } in
-    let image : linked (spaces_of m.items) j.all ≡ image_of m = linked_is_image m j.all plain (elements_are_below bytes m fits h.is) (functions_typed bytes m h.is) h.coded in
+    let image : linked (spaces_of m.items) j.all ≡ image_of m = linked_is_image m j.all (elements_are_below bytes m fits h.is) (functions_typed bytes m h.is) h.coded in
     let constants : ConstantsFit m.items = subst ConstantsFit (sym h.is.items) (constants_fit bytes fits) in
     record {
       «module» = m;
@@ -55,7 +52,6 @@ whole_done bytes left s seen fits j whole count =
       are_all = j.are_all;
       image_is = ap (λ (x : Spaces). linked x j.all) h.spaces_are ∙ image;
       bounded = images_keep_bounds bytes m fits is;
-      fits = omega (arith, h.words, j.are_all.words, ap (λ (x : Spaces). x.imported) h.spaces_are);
       numbers = subst (λ (x : Spaces). NumbersFit x.globals x.initials) (sym h.spaces_are) (numbers_fit m.items constants);
     }
 
@@ -68,10 +64,6 @@ kept_are (Some k) given all e h = let same : given ≡ k = cc in same ∙ h
 module _ (bytes : List ℕ) (s : Compilation) (given : List Code) (d : IsDone bytes s) (is : Some given ≡ s.codes.kept) where
   given_are : given ≡ d.all
   given_are = kept_are s.codes.kept given d.all is d.are_all.kept
-
-  -- the words are few
-  pub few_words : 4 * (front_of s.spaces.imported + length (words_of given)) ≤ 2 ^ 28
-  few_words = omega (arith, d.fits, d.are_all.words, ap (λ (l : List Code). length (words_of l)) given_are)
 
   -- what is linked keeps the bounds of images
   pub is_bounded : IsImage (linked s.spaces given)

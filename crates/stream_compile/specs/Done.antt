@@ -1,16 +1,15 @@
 -- A module whose bytes have ended.
-use Rattle.std.specs.Prelude.{◌≡◌, ◌≤◌, ◌+◌, ◌*◌, ℕ, List, length, Result, Ok, Err}
+use Rattle.std.specs.Prelude.{◌≡◌, ◌≤◌, ℕ, List, length, Result, Ok, Err}
 use Rattle.rv_isa.specs.declared.compiled.Code.{Code}
 use Rattle.wasm_defs.specs.declared.front_stop.FrontStop.{FrontStop}
 use Rattle.wasm_defs.specs.declared.front_stop.FrontStop.TheVariants.{Refused, NoMemory}
 use Rattle.wasm_defs.specs.Context.{declared_count}
-use Rattle.wasm_defs.specs.Limits.{max_text}
 use Rattle.wasm_defs.specs.Faults.{Module, Accepted, Rejected}
 use Rattle.image_format.specs.declared.limits.TheConstants.{IMAGE_BYTES}
 use Rattle.image_format.specs.Contents.{IsImage}
 use Rattle.image_format.specs.ImageBytes.{spelling}
 use Rattle.section_reader.specs.FrontLeft.{total}
-use Rattle.image_linker.specs.ImageOf.{front_of, image_of}
+use Rattle.image_linker.specs.ImageOf.{image_of}
 use Rattle.image_linker.specs.Linking.{NumbersFit, linked}
 use Rattle.image_linker.specs.Judging.{IsVerdictOf}
 use Rattle.image_linker.specs.Same.{Same}
@@ -34,8 +33,7 @@ pub record IsDone (bytes : List ℕ) (s : Compilation) : Type 0 where
   pub are_all : AreAll s.codes all
   pub image_is : linked s.spaces all ≡ image_of «module»
   pub bounded : IsImage (image_of «module»)
-  -- the codes can be linked: their words are few, and the constants of globals are numbers of their types
-  pub fits : 4 * (front_of s.spaces.imported + s.codes.words) ≤ max_text
+  -- the codes can be linked: the constants of globals are numbers of their types
   pub numbers : NumbersFit s.spaces.globals s.spaces.initials
 
 -- the bytes are a module, which was compiled; or this is its fault of least offset

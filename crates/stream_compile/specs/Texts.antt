@@ -1,13 +1,14 @@
 -- What the program answers and writes.
-use Rattle.std.specs.Prelude.{◌≡◌, ◌⊎◌, ℕ, Bool, true, false, List, [], ◌∷◌, ◌++◌, length, take, Option, None, Some, codes, String, string_bytes, map, Result, Ok, Err}
+use Rattle.std.specs.Prelude.{◌≡◌, ◌⊎◌, ℕ, ℤ, Bool, true, false, List, [], ◌∷◌, ◌++◌, length, take, Option, None, Some, codes, String, string_bytes, map, Result, Ok, Err}
 use Rattle.std.specs.Fmt.{decimal, signed_decimal}
 use Rattle.std.specs.Global.{Global}
 use Rattle.std.specs.Io.KnownBytes.{append_known}
 use Rattle.command_words.specs.declared.argument.Argument.{Argument}
 use Rattle.command_words.specs.declared.argument.Argument.TheVariants as argument
 use Rattle.command_words.specs.declared.command.Command.{Command}
-use Rattle.command_words.specs.declared.command.Command.TheVariants.{Check, Compile, Run, Exec}
+use Rattle.command_words.specs.declared.command.Command.TheVariants.{Check, Compile, Run, Exec, Drill}
 use Rattle.command_words.specs.declared.command.Call.{Call as Given}
+use Rattle.command_words.specs.declared.command.Drill.{Drill as Drilled}
 use Rattle.command_words.specs.Grammar.{command_in}
 use Rattle.wasm_defs.specs.declared.fault.Kind.{Kind}
 use Rattle.wasm_defs.specs.declared.fault.Kind.TheVariants.{Malformed, Unsupported, Limit, Invalid, Ended}
@@ -36,6 +37,7 @@ use Rattle.image_run.specs.declared.checks.NotRunnable.TheVariants.{UnknownImpor
 use Rattle.image_run.specs.Checks.{export_named, not_runnable}
 use Rattle.rv_isa.specs.declared.stepping.FaultKind.{FaultKind}
 use Rattle.rv_isa.specs.declared.stepping.FaultKind.TheVariants.{Fetch, Word, Break, Target, Load, Store, Call}
+use Rattle.module_gen.specs.Drill.{drill_bytes}
 use Rattle.stream_compile.specs.Came.{Came, CameUpTo, image_input}
 
 -- a status, and what is written
@@ -88,6 +90,14 @@ type_name I64 = codes "i64 "
 abbrev pub returned : List Value → Outcome
 returned [] = record { status = 0; text = codes "ok\n" }
 returned (v ∷ vs) = record { status = 0; text = type_name v.ty ++ signed_decimal (signed v.ty v.number) ++ codes "\n" }
+
+-- what the last of so many functions returned, as a signed number
+abbrev pub drill_line : (functions : ℕ) → ℤ → Outcome
+drill_line functions n = record { status = 0; text = codes "functions " ++ (decimal functions ++ (codes " result " ++ (signed_decimal n ++ codes "\n"))) }
+
+abbrev pub drilled : (functions : ℕ) → List Value → Outcome
+drilled functions [] = returned []
+drilled functions (v ∷ vs) = drill_line functions (signed v.ty v.number)
 
 abbrev pub trapped : TrapKind → Outcome
 trapped kind = record { status = 4; text = codes "trap " ++ trap_text kind ++ codes "\n" }
@@ -177,6 +187,40 @@ TellsCall c m o =
     let arguments = arguments_of c.arguments in
     ChecksAndRuns (not_runnable (image_of m) c.export (types_of_values arguments)) m c.export arguments c.steps o
 
+-- ---- of a drill
+
+-- the line of a run of its image, with the number of functions in front of the value
+abbrev pub DrillEndsAs : (functions : ℕ) → Ending → Outcome → Type 0
+DrillEndsAs functions (As (Returns values memory globals)) o = o ≡ drilled functions values
+DrillEndsAs functions (As (Traps kind memory globals)) o = o ≡ trapped kind
+DrillEndsAs functions (As Going) o = o ≡ steps_spent
+DrillEndsAs functions (As Stops) o = ⊥
+DrillEndsAs functions (As Fails) o = ⊥
+DrillEndsAs functions (Fault kind pc) o = o ≡ machine_fault kind pc
+
+abbrev pub ChecksAndDrills : Option NotRunnable → Image → (functions steps : ℕ) → Outcome → Type 0
+ChecksAndDrills (Some why) i functions steps o = o ≡ unrunnable why
+ChecksAndDrills None i functions steps o =
+    (e : Export) × (export_named (codes "run") i.exports ≡ Some e) × DrillEndsAs functions (run_end i e.offset e.signature.results [] steps) o
+
+-- of a run of the module, as TellsEnd says it
+abbrev pub TellsDrillEnd : (functions : ℕ) → Ending → (ℕ → module_runs.Run) → Outcome → Type 0
+TellsDrillEnd functions (As (Returns values memory globals)) runs o = (k : ℕ) × ((runs k).end ≡ Returns values memory globals) × (o ≡ drilled functions values)
+TellsDrillEnd functions (As (Traps kind memory globals)) runs o = (k : ℕ) × ((runs k).end ≡ Traps kind memory globals) × (o ≡ trapped kind)
+TellsDrillEnd functions (As Going) runs o = o ≡ steps_spent
+TellsDrillEnd functions (As Stops) runs o = ⊥
+TellsDrillEnd functions (As Fails) runs o = ⊥
+TellsDrillEnd functions (Fault kind pc) runs o = ⊥
+
+abbrev pub ChecksAndRunsDrill : Option NotRunnable → Module → (steps : ℕ) → Outcome → Type 0
+ChecksAndRunsDrill (Some why) m steps o = o ≡ unrunnable why
+ChecksAndRunsDrill None m steps o =
+    (f : ℕ) × (named (codes "run") (exports_of m.items) ≡ Some f)
+    × TellsDrillEnd (declared_count m.items) (run_end (image_of m) (offset_of m f) (type_of_function (context_of m.items) f).results [] steps) (module_run m f [] []) o
+
+abbrev pub TellsDrill : (steps : ℕ) → Module → Outcome → Type 0
+TellsDrill steps m o = ChecksAndRunsDrill (not_runnable (image_of m) (codes "run") []) m steps o
+
 -- the module and its image behave alike, and this is told of it; or the module is refused
 abbrev pub OfVerdict : (Module → Outcome → Type 0) → Verdict → Outcome → Type 0
 OfVerdict Tells (Accepted m) o = Same m (image_of m) × Tells m o
@@ -195,6 +239,10 @@ stopped (Some r) = rejected r
 abbrev pub OfModule : ((bytes : ℕ) → Module → Outcome → Type 0) → Bool → List ℕ → Outcome → Type 0
 OfModule Tells true bytes o = (s : Option Refusal) × IsStoppedAt bytes s × (o ≡ stopped s)
 OfModule Tells false bytes o = (v : Verdict) × IsVerdictOf bytes v × OfVerdict (Tells (length bytes)) v o
+
+-- the module is the one that is made, of the given size
+abbrev pub OfDrill : Drilled → Outcome → Type 0
+OfDrill d o = (v : Verdict) × IsVerdictOf (drill_bytes d.count) v × OfVerdict (TellsDrill d.steps) v o
 
 -- of a command on an image
 abbrev pub OfReading : Given → Result Image ℕ → Outcome → Type 0
@@ -216,6 +264,16 @@ ComesTo (Some (Check options)) failed left rest o = ComesOfModule TellsCheck fai
 ComesTo (Some (Compile options)) failed left rest o = ComesOfModule (λ bytes m. TellsImage m) failed left rest o
 ComesTo (Some (Run r)) failed left rest o = ComesOfModule (λ bytes m. TellsCall r.call m) failed left rest o
 ComesTo (Some (Exec c)) failed left rest o = (bytes : List ℕ) × CameUpTo image_input left rest failed bytes × OfImage c failed bytes o
+ComesTo (Some (Drill d)) failed left rest o = OfDrill d o
+
+-- outside the command grammar, and for `drill`, nothing is read
+abbrev pub ReadsNothing : Option Command → Type 0
+ReadsNothing None = Unit {0}
+ReadsNothing (Some (Check options)) = ⊥
+ReadsNothing (Some (Compile options)) = ⊥
+ReadsNothing (Some (Run r)) = ⊥
+ReadsNothing (Some (Exec c)) = ⊥
+ReadsNothing (Some (Drill d)) = Unit {0}
 
 -- ---- what is written
 

@@ -1,12 +1,14 @@
 //! The commands of the program.
 
-ghost use Rattle.std.specs.Prelude.{◌≡◌, ◌<◌, ◌^◌, ◌-◌, true, None, Some, min, nat_lt, IfOk};
+ghost use Rattle.std.specs.Prelude.{◌≡◌, ◌<◌, ◌^◌, ◌-◌, true, None, Some, min, nat_lt, IfOk, IfSome};
+ghost use Rattle.command_words.specs.Grammar.{IsInRange};
 ghost use Rattle.command_words.specs.declared.command.Command.TheVariants.{Check, Compile, Exec, Run as RunCommand};
 ghost use Rattle.stream_compile.specs.Reading.{view};
-ghost use Rattle.stream_compile.specs.Texts.{command_said, ComesTo, AnswersAndWrites};
+ghost use Rattle.stream_compile.specs.Texts.{command_said, ComesTo, AnswersAndWrites, ReadsNothing};
 
 use crate::answer::{Answer, CheckAnswer, Settings};
 use crate::compiling::{stream_check, stream_compile};
+use crate::drill::drill;
 use crate::foreign::{Foreign, read_foreign};
 use crate::output::{Output, accepted, bad_image, compiled, read_fault, rejected, usage};
 use crate::running::run_image;
@@ -27,7 +29,8 @@ fn settings_of(options: &Options) -> Settings
 
 /// The command that the words are, or that they are outside the command grammar.
 fn command_in(alloc: Global, words: &Vec<String>) -> Result<Option<Command>, AllocError>
-    ensures { IfOk result (λ command. command ≡ command_said words.now.items) }
+    ensures said { IfOk result (λ command. command ≡ command_said words.now.items) }
+    ensures ranges { IfOk result (λ command. IfSome command IsInRange) }
 {
     match command_of(alloc, words) {
         Ok(command) => Ok(Some(command)),
@@ -110,7 +113,8 @@ fn exec<S: Source>(alloc: Global, call: &Call, source: &mut S) -> Result<Output,
     }
 }
 
-/// What the source comes to: where there is no command, the words ask for nothing, and the source stays as it is.
+/// What the source comes to: where there is no command, the words ask for nothing. There, and where the command is `drill`, the
+/// source stays as it is.
 fn answer_to<R: Threads + Wait + Sync, S: Source, G: Gate>(
     rt: &R,
     alloc: Global,
@@ -120,8 +124,9 @@ fn answer_to<R: Threads + Wait + Sync, S: Source, G: Gate>(
 ) -> Result<Output, AllocError>
     requires faults { S.faults source.old < 2 ^ 64 - 1 }
     requires open { S.is_open source.old ≡ true }
+    requires ranges { IfSome command.now IsInRange }
     ensures answer { IfOk result (λ o. ComesTo command.now (nat_lt (S.faults source.old) (S.faults source.new)) (S.left source.old) (S.left source.new) (view o)) }
-    ensures untouched { command.now ≡ None → source.new ≡ source.old }
+    ensures untouched { ReadsNothing command.now → source.new ≡ source.old }
 {
     match command {
         None => usage(alloc),
@@ -129,6 +134,7 @@ fn answer_to<R: Threads + Wait + Sync, S: Source, G: Gate>(
         Some(Command::Compile(options)) => compile(rt, alloc, options, source, gate),
         Some(Command::Run(call)) => run(rt, alloc, call, source, gate),
         Some(Command::Exec(call)) => exec(alloc, call, source),
+        Some(Command::Drill(words)) => drill(rt, alloc, words, settings_of(&words.options), gate),
     }
 }
 
@@ -139,7 +145,7 @@ fn answer_to<R: Threads + Wait + Sync, S: Source, G: Gate>(
 /// called so, 4 where it trapped, 5 where its run hadn't ended after all steps, 6 where the source failed and the bytes that
 /// came have no fault that more bytes don't mend, 7 where the sink failed, 8 where memory ran out, after which nothing is
 /// written, 9 where the machine had no step, and 10 where the bytes are no image; the last two come of `exec` alone. For words
-/// outside the command grammar the source isn't read.
+/// outside the command grammar, and for `drill`, the source isn't read.
 pub fn top<R: Threads + Wait + Sync, S: Source, O: Sink, G: Gate>(
     rt: &R,
     alloc: Global,
@@ -154,7 +160,7 @@ pub fn top<R: Threads + Wait + Sync, S: Source, O: Sink, G: Gate>(
     requires sink_open { O.is_open out.old ≡ true }
     ensures answer { AnswersAndWrites (command_said words.now.items) (nat_lt (S.faults source.old) (S.faults source.new)) (S.left source.old) (S.left source.new) result
         (nat_lt (O.faults out.old) (O.faults out.new)) (O.written out.old) (O.written out.new) }
-    ensures untouched { command_said words.now.items ≡ None → source.new ≡ source.old }
+    ensures untouched { ReadsNothing (command_said words.now.items) → source.new ≡ source.old }
 {
     let Ok(command) = command_in(alloc, words) else {
         return 8;

@@ -7,6 +7,7 @@ mod codes;
 mod command;
 mod compilation;
 mod compiling;
+mod drill;
 mod foreign;
 mod laws;
 mod output;

@@ -6,7 +6,7 @@ ghost use Rattle.image_run.specs.Hosts.{values_of};
 ghost use Rattle.image_format.specs.declared.limits.TheConstants.{IMAGE_BYTES};
 ghost use Rattle.image_format.specs.ImageBytes.{spelling};
 ghost use Rattle.stream_compile.specs.Reading.{bytes_of, view};
-ghost use Rattle.stream_compile.specs.Texts.{usage, read_fault, accepted, compiled, kind_name, rejected, reason, unrunnable, returned, trapped, steps_spent, fault_name, machine_fault, bad_image};
+ghost use Rattle.stream_compile.specs.Texts.{usage, read_fault, accepted, compiled, drill_line, drilled, kind_name, rejected, reason, unrunnable, returned, trapped, steps_spent, fault_name, machine_fault, bad_image};
 
 use image_format::{Image, write_image};
 use image_run::NotRunnable;
@@ -148,6 +148,27 @@ pub fn returned(alloc: Global, value: Option<Value>) -> Result<Output, AllocErro
         status: 0,
         text: Text::Line(text),
     })
+}
+
+/// The line of a drill.
+fn drill_line(alloc: Global, functions: u64, value: i64) -> Result<Output, AllocError>
+    ensures { IfOk result (λ a. view a ≡ drill_line functions value) }
+{
+    Ok(Output {
+        status: 0,
+        text: Text::Line(format!(in alloc; "functions {functions} result {value}\n")?),
+    })
+}
+
+/// What the last of so many functions returned.
+pub fn drilled(alloc: Global, functions: u64, value: Option<Value>) -> Result<Output, AllocError>
+    ensures { IfOk result (λ a. view a ≡ drilled functions (values_of value)) }
+{
+    match value {
+        None => returned(alloc, None),
+        Some(Value::I32(n)) => drill_line(alloc, functions, i64::from(n)),
+        Some(Value::I64(n)) => drill_line(alloc, functions, n),
+    }
 }
 
 /// The function trapped.

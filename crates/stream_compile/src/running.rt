@@ -18,7 +18,7 @@ use wasm_defs::Value;
 
 /// A host that provides nothing: an image that imports anything isn't run, so it is never called.
 #[derive(Drop)]
-struct NoHost;
+pub struct NoHost;
 
 impl Host for NoHost {
     ghost is_ready = { λ _. true };
@@ -52,7 +52,7 @@ fn values_of(alloc: Global, arguments: &[Argument]) -> Result<Vec<Value>, AllocE
 }
 
 /// Tells how a run ended.
-fn tell(alloc: Global, outcome: Outcome) -> Result<Output, AllocError>
+pub fn tell(alloc: Global, outcome: Outcome) -> Result<Output, AllocError>
     requires { IsUnstopped outcome }
     ensures { IfOk result (λ o. (memory : List ℕ) (end : Ending) → IsEnd outcome memory end → EndsAs end (view o)) }
 {

@@ -16,11 +16,12 @@ use Rattle.wasm_defs.specs.Faults.{first_outside, ending_fault, sections_of, ite
 use Rattle.wasm_laws.specs.Sections.{AreBytes}
 use Rattle.wasm_laws.proofs.Behind.{bodies_stand_behind}
 use Rattle.wasm_laws.proofs.Earlier.{no_later_offset}
-use Rattle.wasm_laws.proofs.Plain.{items_are_plain, plain_has_no_more}
+use Rattle.wasm_laws.proofs.Counted.{entries_are_few}
 use Rattle.wasm_laws.proofs.Verdicts.{valid_has_no_fault, starts_without_fault}
 use Rattle.frame_layout.specs.Templates.{exit_stub}
 use Rattle.image_linker.specs.ImageOf.{size_of, stub_size, front_size}
 use Rattle.image_linker.specs.Judging.{sizes, text_bytes, limit_at, IsTextFault, IsFaultOf, IsModuleOf, IsVerdictOf}
+use Rattle.image_linker.proofs.ImportBounds.{imports_are_few}
 use Rattle.stream_compile.proofs.CodeWords.{same_size}
 use Rattle.stream_compile.proofs.Once.{no_fault_of}
 use Rattle.wasm_laws.proofs.PartLists.{items_of-append}
@@ -157,8 +158,7 @@ module_of bytes none = of (outside_first bytes)
         let valid = trees_of [] 0 all (λ s f. none s (inl (inr f))) in
         let compiled : first_outside is_compiled_section (sections_of all) ≡ None = none_of _ (λ s e. outside s (inr e)) in
         let m : Module = record { items = items_of all; bodies = bodies_of all; trees = valid.0 } in
-        let front : front_size (items_of all) ≡ 2 = ap (λ (n : ℕ). length exit_stub + stub_size * n) (plain_has_no_more (items_of all) (items_are_plain bytes compiled)).imports in
-        let first : text_bytes (items_of all) 0 ≤ max_text = omega (arith, front) in (
+        let first : text_bytes (items_of all) 0 ≤ max_text = omega (arith, imports_are_few (items_of all), entries_are_few 2 (λ ten. absurd cc) bytes) in (
           m,
           record {
             is = record { whole = none_of _ (λ s e. outside s (inl e)); compiled = compiled; items = refl; bodies = refl; valid = valid.1 };

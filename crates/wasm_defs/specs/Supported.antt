@@ -2,9 +2,9 @@
 use Rattle.std.specs.Prelude.{ℕ, Bool, ◌||◌, ◌==◌}
 use Rattle.wasm_defs.specs.Entries.{within}
 
--- custom sections, the types, functions, tables, memories, globals, exports, elements, code and data
+-- custom sections, the types, imports, functions, tables, memories, globals, exports, the start function, elements, code and data
 abbrev pub is_compiled_section : ℕ → Bool
-is_compiled_section id = within 0 1 id || within 3 7 id || within 9 11 id
+is_compiled_section id = within 0 11 id
 
 -- control; `drop` and `select`; those on locals and globals; and all memory and numeric instructions,
 -- constants among them, but those of floats

@@ -7,7 +7,7 @@ ghost use Rattle.wasm_defs.specs.Supported.{is_compiled_section, is_compiled_opc
 pub fn is_compiled_section(id: u8) -> bool
     ensures { result ≡ is_compiled_section id }
 {
-    matches!(id, 0..=1 | 3..=7 | 9..=11)
+    matches!(id, 0..=11)
 }
 
 /// Whether the instruction of the opcode is compiled.

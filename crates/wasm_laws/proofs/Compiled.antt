@@ -21,12 +21,19 @@ use Rattle.wasm_laws.proofs.Steady.{IfGot, Advance, Advances, always, here_in}
 use Rattle.wasm_laws.proofs.Windows.{byte_field}
 use Rattle.wasm_laws.proofs.BodyLaws.{local_groups_steady, instruction_steady}
 use Rattle.wasm_laws.proofs.Parts.{then_got}
-use Rattle.wasm_laws.proofs.Plain.{none_outside}
 use Rattle.wasm_defs.specs.declared.operation.Access.{Access}
 use Rattle.wasm_defs.specs.declared.operation.Access.TheVariants as access
 use Rattle.wasm_defs.specs.declared.token.BlockType.{BlockType}
 use Rattle.wasm_defs.specs.declared.token.BlockType.TheVariants.{Empty, Value}
 use Rattle.wasm_defs.specs.declared.fault.Kind.TheVariants.{Malformed, Unsupported}
+
+-- what isn't outside is compiled
+pub none_outside : (compiled : ℕ → Bool) (x : ℕ × ℕ) (xs : List (ℕ × ℕ)) → first_outside compiled (x ∷ xs) ≡ None → (compiled x.1 ≡ true) × (first_outside compiled xs ≡ None)
+none_outside compiled x xs h =
+    elim (cases_Bool (compiled x.1)) [
+      | inl is ↦ (is, rw is at h)
+      | inr other ↦ absurd (let t = rw other at h in cc)
+    ]
 
 -- ---- instructions
 

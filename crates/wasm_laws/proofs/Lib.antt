@@ -42,7 +42,6 @@ pub mod Behind
 pub mod Compiled
 pub mod Ranges
 pub mod Counting
-pub mod Plain
 pub mod Bytes
 pub mod Locals
 pub mod Kept

@@ -7,7 +7,6 @@ pub mod Typed
 pub mod Sections
 pub mod Behind
 pub mod Compiled
-pub mod Plain
 pub mod Kept
 pub mod Completing
 pub mod Held

@@ -22,7 +22,6 @@ ghost use Rattle.wasm_laws.specs.Completing.{Completes, CompletesOrPasses};
 ghost use Rattle.wasm_laws.specs.Counts.{AreDeclared};
 ghost use Rattle.wasm_laws.specs.Kept.{AreThere, BodiesAreSmall, ConstantsFit, IsThere, LocalsAreFew, SpacesAreSmall, TakesNothing, TypesAreSmall};
 ghost use Rattle.wasm_laws.specs.Order.{AreCutFrom, AreOrdered, BodyStands, end_of, first_section};
-ghost use Rattle.wasm_laws.specs.Plain.{ArePlain, HasNoMore};
 ghost use Rattle.wasm_laws.specs.Runs.{deciding_length, GoesOn, IsRefused};
 ghost use Rattle.wasm_laws.specs.Sections.{AreBytes};
 ghost use Rattle.wasm_laws.specs.Steadiness.{Steady, SteadyEnd, SteadyRow, Takes, token};
@@ -121,15 +120,6 @@ pub fn bodies_stand_behind_items()
         let run = module_read bytes in
         run.parts ≡ front ++ Coded b ∷ back → StandBehind run.parts front back }
     ensures valid { (bytes : List ℕ) (m : Module) → IsModule bytes m → AreValidIn m.items 0 m.bodies m.trees }
-{}
-
-/// A module of the sections that are compiled so far has no items but types, functions, tables, memories, globals, exports, element
-/// segments, the code section's count and data segments: it imports nothing, and has no start function.
-pub fn compiled_items_are_few()
-    ensures items { (bytes : List ℕ) →
-        let run = module_read bytes in
-        first_outside is_compiled_section (sections_of run.parts) ≡ None → ArePlain (items_of run.parts) }
-    ensures rest { (items : List Item) → ArePlain items → HasNoMore items }
 {}
 
 /// The code of a body whose opcodes are compiled so far is of compiled tokens, and so is the tree that they spell.

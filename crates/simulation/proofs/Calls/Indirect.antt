@@ -1,5 +1,5 @@
 -- A call by a row of the table, up to the function's first word.
-use Rattle.std.proofs.Common.{◌≡◌, ℕ, suc, ◌+◌, ◌-◌, ◌^◌, ◌<◌, ◌≤◌, ◌||◌, ◌==◌, Bool, true, false, List, [], ◌∷◌, ◌++◌, length, take, drop, reverse, Option, Some, None, refl, sym, ap, ◌∙◌, subst, arith, ◌*◌}
+use Rattle.std.proofs.Common.{◌≡◌, ℕ, suc, ◌+◌, ◌-◌, ◌^◌, ◌<◌, ◌≤◌, Bool, true, false, List, [], ◌∷◌, ◌++◌, length, take, drop, reverse, Option, Some, None, refl, sym, ap, ◌∙◌, subst, arith}
 use Rattle.std.specs.Prelude.{slice_get, nat_lt}
 use Rattle.std.proofs.lemmas.List.{length-append, length-reverse, reverse-reverse, take-append-drop, length-take-le}
 use Rattle.std.proofs.Common.{append_assoc}
@@ -15,16 +15,16 @@ use Rattle.wasm_defs.specs.declared.types.ValType.TheVariants.{I32}
 use Rattle.wasm_defs.specs.declared.types.FuncType.{FuncType}
 use Rattle.wasm_defs.specs.declared.token.Plain.TheVariants.{CallIndirect}
 use Rattle.wasm_defs.specs.Trees.{Seq, Simple}
-use Rattle.wasm_defs.specs.Typing.{Types, Context, Moves, Rule, Fixed, with_type, only_if, called}
+use Rattle.wasm_defs.specs.Typing.{Types, Context, Moves, with_type, only_if, called}
 use Rattle.wasm_defs.specs.Places.{Place, after_rule}
 use Rattle.wasm_defs.specs.Context.{type_or_empty}
 use Rattle.wasm_defs.specs.Values.{Value, types_of_values}
-use Rattle.wasm_defs.specs.Configurations.{Function, Instance, Frame, Config, belows, part, used, max_slots}
-use Rattle.frame_layout.specs.Macros.{x0, ra, t0, t1, t2, s0, s4, s5, shift, back, forward, trap, zero_extend, const_32}
+use Rattle.wasm_defs.specs.Configurations.{Instance, Frame, Config, belows, part, used, max_slots}
+use Rattle.frame_layout.specs.Macros.{x0, ra, t0, t1, t2, s4, s5, shift, back, forward, trap, zero_extend, const_32}
 use Rattle.frame_layout.specs.Slots.{operand}
-use Rattle.frame_layout.specs.Templates.{load_operand, indirect_words, exit_stub}
+use Rattle.frame_layout.specs.Templates.{load_operand, indirect_words}
 use Rattle.frame_layout.specs.Laws.{slot_at, IsFrame}
-use Rattle.frame_layout.proofs.Standing.{has_first, has_rest}
+use Rattle.frame_layout.proofs.Standing.{has_rest}
 use Rattle.sim_memory.specs.Regions.{HasRegions}
 use Rattle.sim_memory.specs.TableLaws.{Begins, BeginsRow}
 use Rattle.sim_memory.proofs.Tables.{indirect_does}

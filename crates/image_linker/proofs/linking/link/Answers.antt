@@ -1,23 +1,30 @@
-use Rattle.std.proofs.Common.{◌≡◌, ◌∙◌, sym, ap, subst, ℕ, ◌+◌, ◌*◌, ◌≤◌, ◌<◌, ◌^◌, arith, List, length}
-use Rattle.std.specs.Prelude.{slice_index}
+use Rattle.std.proofs.Common.{◌≡◌, ◌∙◌, sym, ap, subst, ◌*◌, ◌<◌, ◌^◌, arith, length}
 use Rattle.wasm_defs.specs.Memory.{page}
-use Rattle.wasm_defs.specs.Instances.{first_minimum, all_fit}
-use Rattle.image_linker.specs.Linking.{words_of, starts_of, ArePlaced}
-use Rattle.image_linker.proofs.DataRows.{placed_where}
-use Rattle.index_spaces.specs.Entries.{written_rows, written_segments}
 use Rattle.std.proofs.lemmas.Bool.{and_parts}
-use Rattle.image_linker.proofs.Loops.{starts_within}
+use Rattle.wasm_defs.specs.Instances.{first_minimum, all_fit}
+use Rattle.index_spaces.specs.Entries.{written_rows, written_segments}
+use Rattle.image_linker.specs.Linking.{starts_behind, ArePlaced}
+use Rattle.image_linker.proofs.DataRows.{placed_where}
+use Rattle.image_linker.proofs.Fronts.{words_are_few, starts_small}
 use Rattle.image_linker.proofs.linking.link.Goals as goal
 
-small : (n : ℕ) → n ≤ 2 ^ 26 → n < 2 ^ 27
-small n le = omega arith
+pub starts_of-requires : goal.starts_of-requires
+starts_of-requires c =
+    let few = words_are_few c.args.context.now c.args.codes.now c.requires.bounded in
+    omega (arith, few, ap (λ l. length l) c.imports.ensures)
+
+pub text_of-requires : goal.text_of-requires
+text_of-requires c = c.requires.bounded.imports
 
 pub exports_of-requires : goal.exports_of-requires
-exports_of-requires c = λ i.
-    let within : 2 + length (words_of c.args.codes.now) ≤ 2 ^ 26 = omega (arith, c.requires.fits) in
-    let here = small (slice_index (starts_of c.args.codes.now) i) (starts_within 2 (2 ^ 26) c.args.codes.now i within) in
-    let same : c.deref-2.result.now ≡ starts_of c.args.codes.now = c.deref-2.ensures.value ∙ c.in_ok-starts.ensures in
-    subst (λ (l : List ℕ). slice_index l i < 2 ^ 27) (sym same) here
+exports_of-requires c =
+    starts_small c.args.context.now c.args.codes.now c.deref-2.result.now c.requires.bounded
+    (c.deref-2.ensures.value ∙ c.in_ok-starts.ensures ∙ ap (λ imports. starts_behind (length imports) c.args.codes.now) c.imports.ensures)
+
+pub start_of-requires : goal.start_of-requires
+start_of-requires c =
+    starts_small c.args.context.now c.args.codes.now c.deref-3.result.now c.requires.bounded
+    (c.deref-3.ensures.value ∙ c.in_ok-starts.ensures ∙ ap (λ imports. starts_behind (length imports) c.args.codes.now) c.imports.ensures)
 
 pub rows_of-requires : goal.rows_of-requires
 rows_of-requires c = λ yes.

@@ -1,4 +1,6 @@
-use Rattle.std.proofs.Common.{◌≡◌, length, length-append, ◌++◌, ap, ◌∙◌, sym, ℕ, List, arith}
+use Rattle.std.proofs.Common.{◌≡◌, length, length-append, ◌++◌, ap, ◌∙◌, ℕ, List, arith}
+use Rattle.image_linker.specs.Linking.{front_words}
+use Rattle.image_linker.proofs.Fronts.{front_length}
 use Rattle.image_linker.proofs.Leading.{text_led, text_more}
 use Rattle.image_linker.proofs.linking.text_of.Goals as goal
 
@@ -11,6 +13,6 @@ loop-code-preserved c =
     let more = c.in_ok-extend_from_slice.ensures in
     let given : length c.deref_mut.result.now ≡ length (old ++ own) = ap (λ (l : List ℕ). length l) (c.deref_mut.ensures.value ∙ more.items) in
     let here : c.len-here.result ≡ length old = omega (arith, c.len-here.ensures, c.deref_mut.ensures.len, more.len, given, length-append old own) in
-    text_more c.args.starts.now c.args.codes.now c.loop-code.code-index code old _ (omega (arith, c.loop-code-test.true)) c.code-item.is c.loop-code.invariant
+    text_more (front_words c.args.context.now) (length c.args.context.now.imports) c.args.starts.now c.args.codes.now c.loop-code.code-index code old _ (front_length c.args.context.now) (omega (arith, c.loop-code-test.true)) c.code-item.is c.loop-code.invariant
     (text_led c.args.starts.now code.relocations c.as_slice-in-loop-code.result.now old code.words c.deref_mut.result.now all.items c.lead_from.new.text c.len-here.result all.len
     (more.items ∙ ap (λ (l : List ℕ). old ++ l) c.as_slice.ensures) c.deref_mut.ensures.value here c.as_slice-in-loop-code.ensures c.lead_from.ensures all.ok.0)

@@ -1,17 +1,15 @@
-use Rattle.std.proofs.Common.{ap, ◌∙◌}
+use Rattle.std.proofs.Common.{sym, ap, ◌∙◌, subst}
+use Rattle.image_format.specs.Contents.{IsImage}
 use Rattle.index_spaces.specs.Spaces.{Spaces}
 use Rattle.image_linker.specs.Linking.{linked}
 use Rattle.stream_compile.specs.declared.answer.Checked.{Checked}
-use Rattle.stream_compile.proofs.Wholes.{few_words, is_bounded, done_built}
+use Rattle.stream_compile.proofs.Wholes.{is_bounded, done_built}
 use Rattle.stream_compile.proofs.compilation.Compilation.build.Goals as goal
-
-pub link-requires-clause-fits : goal.link-requires-clause-fits
-link-requires-clause-fits c = rw c.context.ensures (few_words c.requires.done.0 c.args.self.now c.as_slice.result.now c.requires.done.1 c.as_slice.ensures)
 
 pub link-requires-clause-bounded : goal.link-requires-clause-bounded
 link-requires-clause-bounded c =
     let d = c.requires.done in
-    rw c.context.ensures (is_bounded d.0 c.args.self.now c.as_slice.result.now d.1 c.as_slice.ensures)
+    subst (λ (s : Spaces). IsImage (linked s c.as_slice.result.now)) (sym c.context.ensures) (is_bounded d.0 c.args.self.now c.as_slice.result.now d.1 c.as_slice.ensures)
 
 pub link-requires-clause-numbers : goal.link-requires-clause-numbers
 link-requires-clause-numbers c = let d = c.requires.done.1 in rw c.context.ensures d.numbers

@@ -1,0 +1,115 @@
+//! The imports of a module: their stubs, which stand in front of its functions, and the imports of its image.
+
+ghost use Rattle.std.specs.Prelude.{◌≡◌, ◌≤◌, ◌<◌, ◌+◌, ◌*◌, ◌^◌, length, map, slice_get, IfOk};
+ghost use Rattle.wasm_defs.specs.Context.{type_or_empty};
+ghost use Rattle.rv_isa.specs.Words.{word_of};
+ghost use Rattle.frame_layout.specs.Templates.{exit_stub};
+ghost use Rattle.image_format.specs.Bounds.{AreImports};
+ghost use Rattle.image_linker.specs.ImageOf.{front_of, stub_places};
+ghost use Rattle.image_linker.specs.Linking.{front_words, linked_import};
+
+use image_format::Import;
+use index_spaces::{Context, copy_of_name, copy_of_type};
+use rv_isa::{Imm12, ImmOp, Op, Register, WordBuffer, encode};
+use std::alloc::{AllocError, Global};
+use table_calls::emit_import_stub;
+use wasm_defs::{FuncType, ValTypes};
+
+/// Words of the exit stub.
+const EXIT_WORDS: u32 = 2;
+
+/// Words of an import's stub.
+const STUB_WORDS: u32 = 18;
+
+/// The exit stub: a7 becomes 0, and the environment is called.
+fn exit_stub() -> [u32; 2]
+    ensures { result ≡ map word_of exit_stub }
+{
+    [
+        encode(Op::Imm {
+            op: ImmOp::Addi,
+            rd: Register::new(17),
+            rs1: Register::new(0),
+            imm: Imm12::new(0),
+        }),
+        encode(Op::Ecall),
+    ]
+}
+
+/// The number of words in front of the functions' codes, where so many functions are imported.
+pub(crate) fn front_of(imported: usize) -> u32
+    requires { front_of imported < 2 ^ 32 }
+    ensures { result ≡ front_of imported }
+{
+    EXIT_WORDS + STUB_WORDS * imported as u32
+}
+
+/// The places of so many stubs, in words.
+pub(crate) fn stub_places(alloc: Global, imported: usize) -> Result<Vec<u32>, AllocError>
+    requires { front_of imported < 2 ^ 32 }
+    ensures { IfOk result (λ places. places.items ≡ stub_places (length exit_stub) imported) }
+{
+    let mut places = Vec::with_capacity(alloc, imported)?;
+    for number in 0..imported {
+        places.push(front_of(number))?;
+    }
+    Ok(places)
+}
+
+/// The number of a type's parameters, or 0 where the context has no such type.
+fn params_of(context: &Context, type_index: u32) -> u32
+    requires { length (type_or_empty (slice_get context.now.types type_index)).params < 2 ^ 32 }
+    ensures { result ≡ length (type_or_empty (slice_get context.now.types type_index)).params }
+{
+    if context.has_type(type_index) {
+        context.type_at(type_index).params.as_slice().len() as u32
+    } else {
+        0
+    }
+}
+
+/// The words in front of the functions' codes: the exit stub, and a stub for each import.
+pub(crate) fn front(alloc: Global, context: &Context) -> Result<Vec<u32>, AllocError>
+    requires { AreImports (map (linked_import context.now.types) context.now.imports) }
+    ensures { IfOk result (λ text. text.items ≡ front_words context.now) }
+{
+    let mut text = Vec::from_slice(alloc, &exit_stub())?;
+    let mut stub = WordBuffer::with_room(alloc, STUB_WORDS as usize)?;
+    let mut number = 0;
+    for import in context.imports() {
+        stub.truncate(0);
+        emit_import_stub(&mut stub, params_of(context, import.type_index), number)?;
+        text.extend_from_slice(stub.as_slice())?;
+        number += 1;
+    }
+    Ok(text)
+}
+
+/// A copy of the type of an index, or of the empty type where the context has none.
+fn signature_at(alloc: Global, context: &Context, type_index: u32) -> Result<FuncType, AllocError>
+    ensures { IfOk result (λ f. f ≡ type_or_empty (slice_get context.now.types type_index)) }
+{
+    if context.has_type(type_index) {
+        copy_of_type(alloc, context.type_at(type_index))
+    } else {
+        Ok(FuncType {
+            params: ValTypes::new(Vec::new(alloc)),
+            results: ValTypes::new(Vec::new(alloc)),
+        })
+    }
+}
+
+/// The imports of the image: the names and the types of the imported functions.
+pub(crate) fn imports_of(alloc: Global, context: &Context) -> Result<Vec<Import>, AllocError>
+    ensures { IfOk result (λ imports. imports.items ≡ map (linked_import context.now.types) context.now.imports) }
+{
+    let mut imports = Vec::with_capacity(alloc, context.imports().len())?;
+    for import in context.imports() {
+        imports.push(Import {
+            module: copy_of_name(alloc, &import.module)?,
+            name: copy_of_name(alloc, &import.name)?,
+            signature: signature_at(alloc, context, import.type_index)?,
+        })?;
+    }
+    Ok(imports)
+}
