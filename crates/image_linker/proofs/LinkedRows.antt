@@ -3,6 +3,7 @@ use Rattle.std.proofs.Common.{◌≡◌, ℕ, zero, suc, ◌+◌, ◌*◌, ◌<�
 use Rattle.std.specs.Prelude.{All, IsSome, slice_get, slice_index, nat_lt, if◌then◌else◌}
 use Rattle.std.proofs.lemmas.Bool.{cond-true, lt-ltb}
 use Rattle.std.proofs.lemmas.List.{length-map, map-append, take-map, drop-map}
+use Rattle.std.proofs.lemmas.List.Elements.{All-head, All-tail}
 use Rattle.std.proofs.lemmas.Option.{slice_get_within}
 use Rattle.rv_isa.specs.Steps.{text_base}
 use Rattle.wasm_defs.specs.declared.item.Item.{Item}
@@ -29,7 +30,7 @@ like_is c f typed = by (slice_get c.functions f) refl
     within i (Some t) e some = slice_get_within c.types i t e
 
     by : (o : Option ℕ) → slice_get c.functions f ≡ o → like_of c.types (slice_get c.functions f) ≡ first_like c.types (type_of_function c f)
-    by None is = let none : IsSome {A = FuncType} None = rw is at typed in absurd cc
+    by None is = let none : IsSome {T = FuncType} None = rw is at typed in absurd cc
     by (Some i) is =
         let some : IsSome (slice_get c.types i) = rw is at typed in
         rw is (cond-true (nat_lt i (length c.types)) (like c.types i) 0 (lt-ltb i (length c.types) (within i (slice_get c.types i) refl some)))
@@ -48,7 +49,9 @@ module _ (m : Module) (starts : List ℕ) (places_are : starts ≡ places_of_fun
   functions_are : (functions : List ℕ) → All (IsBelow (length (context_of m.items).functions)) (map (λ (f : ℕ). Some f) functions) → map (linked_row (spaces_of m.items) starts) functions ≡ map (row_of m) (map (λ (f : ℕ). Some f) functions)
   functions_are [] below = refl
   functions_are (f ∷ functions) below =
-      ap₂ (λ (r : Row) (rs : List Row). r ∷ rs) (row_is f (below 0 None (omega arith))) (functions_are functions (λ k d lt. below (k + 1) d (omega arith)))
+      let n = length (context_of m.items).functions in
+      let rest = map (λ (g : ℕ). Some g) functions in
+      ap₂ (λ (r : Row) (rs : List Row). r ∷ rs) (row_is f (All-head (IsBelow n) (Some f) rest below)) (functions_are functions (All-tail (IsBelow n) (Some f) rest below))
 
   abbrev imaged : Written (Option ℕ) → Written Row
   imaged w = (w.0, map (row_of m) w.1)

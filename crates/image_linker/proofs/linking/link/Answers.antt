@@ -23,8 +23,8 @@ exports_of-requires c =
 
 pub start_of-requires : goal.start_of-requires
 start_of-requires c =
-    starts_small c.args.context.now c.args.codes.now c.deref-3.result.now c.requires.bounded
-    (c.deref-3.ensures.value ∙ c.in_ok-starts.ensures ∙ ap (λ imports. starts_behind (length imports) c.args.codes.now) c.imports.ensures)
+    starts_small c.args.context.now c.args.codes.now c.deref-4.result.now c.requires.bounded
+    (c.deref-4.ensures.value ∙ c.in_ok-starts.ensures ∙ ap (λ imports. starts_behind (length imports) c.args.codes.now) c.imports.ensures)
 
 pub rows_of-requires : goal.rows_of-requires
 rows_of-requires c = λ yes.
