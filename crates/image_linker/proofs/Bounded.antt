@@ -1,5 +1,5 @@
 -- The image of a module keeps the bounds of images.
-use Rattle.std.proofs.Common.{◌≡◌, ℕ, zero, suc, ◌+◌, ◌*◌, ◌^◌, ◌<◌, ◌≤◌, Bool, true, false, List, [], ◌∷◌, ◌++◌, map, length, replicate, Option, None, Some, refl, sym, ap, ◌∙◌, subst, arith}
+use Rattle.std.proofs.Common.{◌≡◌, ℕ, zero, suc, ◌+◌, ◌*◌, ◌^◌, ◌<◌, ◌≤◌, Bool, true, false, List, [], ◌∷◌, ◌++◌, map, length, replicate, Option, None, Some, refl, sym, subst, arith}
 use Rattle.std.specs.Prelude.{All, nat_le, slice_get}
 use Rattle.std.proofs.lemmas.Bool.{and_parts, leb-true}
 use Rattle.std.proofs.lemmas.List.{length-map, length-replicate}
@@ -24,7 +24,6 @@ use Rattle.wasm_laws.proofs.Exports.{exports_are_there}
 use Rattle.wasm_defs.specs.Rules.{AllKeep}
 use Rattle.image_format.specs.Contents.{IsImage}
 use Rattle.image_format.specs.Bounds.{IsText, IsOffset, AreGlobals, IsRow, IsTable, Each, SegmentFits, AreSegments, bytes_of, AreImports, AreExports}
-use Rattle.image_format.specs.declared.image.Row.{Row}
 use Rattle.image_format.specs.declared.image.Segment.{Segment}
 use Rattle.image_linker.specs.ImageOf.{text_of, offset_of, row_of, table_of, segment_of, placed_segments, imports_of, export_of, start_offset, image_of}
 use Rattle.image_linker.specs.Judging.{IsModuleOf}

@@ -1,5 +1,5 @@
 -- The element segments of a module that some bytes are: their functions are there, and have types.
-use Rattle.std.proofs.Common.{◌≡◌, ℕ, ◌+◌, ◌<◌, ◌≤◌, List, [], ◌∷◌, ◌++◌, take, drop, map, length, replicate, Option, None, Some, sym, subst, arith}
+use Rattle.std.proofs.Common.{◌≡◌, ℕ, ◌+◌, ◌<◌, ◌≤◌, List, [], ◌∷◌, ◌++◌, take, drop, length, replicate, Option, None, Some, sym, subst, arith}
 use Rattle.std.specs.Prelude.{All, IsSome, slice_get}
 use Rattle.std.proofs.lemmas.Option.{slice_get_within, get_or_from_slice_get}
 use Rattle.std.proofs.lemmas.List.Elements.{All-append, All-take, All-drop, All-map, All-weaker, All-replicate, All-get_or}
@@ -8,7 +8,7 @@ use Rattle.wasm_defs.specs.declared.item.Item.TheVariants.{Imported, Function, E
 use Rattle.wasm_defs.specs.Context.{context_of, functions_of}
 use Rattle.wasm_defs.specs.Entries.{Seen, nothing, note}
 use Rattle.wasm_defs.specs.Faults.{Module, IsModule}
-use Rattle.wasm_defs.specs.Instances.{Written, rows_of, elements_of, over, all_over}
+use Rattle.wasm_defs.specs.Instances.{Written, elements_of, over, all_over}
 use Rattle.wasm_defs.specs.Rules.{AllKeep}
 use Rattle.wasm_defs.specs.Typing.{function_type}
 use Rattle.wasm_laws.specs.Sections.{AreBytes}

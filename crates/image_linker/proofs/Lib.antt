@@ -1,7 +1,9 @@
 pub mod Linked
 pub mod Loops
+pub mod Coded
 pub mod Leading
 pub mod Fronts
+pub mod Fields
 pub mod Imported
 pub mod CoveredModules
 pub mod Regions

@@ -4,3 +4,4 @@ pub mod Judging
 pub mod Laws
 pub mod Codes
 pub mod Linking
+pub mod Bodies

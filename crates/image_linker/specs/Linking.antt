@@ -112,6 +112,10 @@ abbrev pub ArePlaced : Bool → List DataRow → Type 0
 ArePlaced true rows = All (λ r. r.place < 2 ^ 32) rows
 ArePlaced false rows = Unit {0}
 
+-- the index spaces, with these data segments
+abbrev pub with_segments : Spaces → List DataRow → Spaces
+with_segments s segments = record s { segments = segments }
+
 -- the words of the values that the globals begin with
 abbrev pub global_words : Spaces → List ℕ
 global_words s = value.words_of (initial_values s.globals s.initials)

@@ -3,6 +3,7 @@
 //! and that images keep their bounds.
 #![tactic(auto)]
 
+mod codes;
 mod imports;
 pub mod laws;
 mod linking;
@@ -10,4 +11,5 @@ mod segments;
 mod spaces;
 mod tables;
 
+pub use codes::{BodyCode, text_limit};
 pub use linking::link;

@@ -7,17 +7,19 @@ ghost use Rattle.image_format.specs.Bounds.{AreImports};
 ghost use Rattle.image_format.specs.Contents.{IsImage};
 ghost use Rattle.index_spaces.specs.Spaces.{context_in};
 ghost use Rattle.index_spaces.specs.Entries.{function_exports};
+ghost use Rattle.image_linker.specs.Bodies.{codes_of};
 ghost use Rattle.image_linker.specs.ImageOf.{front_of, distances};
-ghost use Rattle.image_linker.specs.Linking.{NumbersFit, words_of, words_from, starts_behind, front_words, has_room, linked, linked_export, linked_import, linked_start};
+ghost use Rattle.image_linker.specs.Linking.{NumbersFit, words_of, words_from, starts_behind, front_words, has_room, with_segments, linked, linked_export, linked_import, linked_start};
 
+use crate::codes::BodyCode;
 use crate::imports::{front, front_of, imports_of, stub_places};
 use crate::segments::{have_room, placed_segments};
 use crate::spaces::{first_cap, first_minimum, global_words};
 use crate::tables::{have_rows, rows_of};
 use frame_layout::macros::{call, distance};
 use image_format::{Export, Exports, Globals, Image, Imports, Segments, Table, Text, Version};
-use index_spaces::{Context, copy_of_name, copy_of_type};
-use rv_isa::{Code, Relocation, encode};
+use index_spaces::{Context, DataRow, copy_of_name, copy_of_type};
+use rv_isa::{Relocation, encode};
 use std::alloc::{AllocError, Global};
 use wasm_defs::{Extern, FuncType, ValTypes};
 
@@ -78,14 +80,15 @@ fn lead_from(text: &mut [u32], calls: &[Relocation], starts: &[u32], here: usize
 fn text_of(
     alloc: Global,
     context: &Context,
-    codes: &[Code],
+    codes: &[BodyCode],
     starts: &[u32],
 ) -> Result<Vec<u32>, AllocError>
     requires { AreImports (map (linked_import context.now.types) context.now.imports) }
-    ensures { IfOk result (λ text. text.items ≡ front_words context.now ++ words_from starts.now (front_of (length context.now.imports)) codes.now) }
+    ensures { IfOk result (λ text. text.items ≡ front_words context.now ++ words_from starts.now (front_of (length context.now.imports)) (codes_of codes.now)) }
 {
     let mut text = front(alloc, context)?;
-    for code in codes {
+    for body in codes {
+        let code = body.code();
         let here = text.len();
         text.extend_from_slice(code.words.as_slice())?;
         lead_from(&mut text, code.relocations.as_slice(), starts, here);
@@ -94,15 +97,15 @@ fn text_of(
 }
 
 /// Where all functions begin in their text, in words: so many that are imported, and those of the codes.
-fn starts_of(alloc: Global, imported: usize, codes: &[Code]) -> Result<Vec<u32>, AllocError>
-    requires { front_of imported + length (words_of codes.now) < 2 ^ 32 }
-    ensures { IfOk result (λ starts. starts.items ≡ starts_behind imported codes.now) }
+fn starts_of(alloc: Global, imported: usize, codes: &[BodyCode]) -> Result<Vec<u32>, AllocError>
+    requires { front_of imported + length (words_of (codes_of codes.now)) < 2 ^ 32 }
+    ensures { IfOk result (λ starts. starts.items ≡ starts_behind imported (codes_of codes.now)) }
 {
     let mut starts = stub_places(alloc, imported)?;
     let mut here = front_of(imported);
-    for code in codes {
+    for body in codes {
         starts.push(here)?;
-        here += code.words.as_slice().len() as u32;
+        here += body.code().words.as_slice().len() as u32;
     }
     Ok(starts)
 }
@@ -140,11 +143,11 @@ fn exports_of(alloc: Global, context: &Context, starts: &[u32]) -> Result<Vec<Ex
 }
 
 /// Whether the table and the memory have room for all segments (Core 4.5.4).
-fn is_linkable(context: &Context) -> bool
-    ensures { result ≡ has_room context.now }
+fn is_linkable(context: &Context, segments: &[DataRow]) -> bool
+    ensures { result ≡ has_room (with_segments context.now segments.now) }
 {
     have_rows(first_minimum(context.tables()), context.elements())
-        && have_room(first_minimum(context.memories()), context.segments())
+        && have_room(first_minimum(context.memories()), segments)
 }
 
 /// The offset of the start function's first word, or 0 where there is none.
@@ -158,25 +161,30 @@ fn start_of(starts: &[u32], start: Option<u32>) -> u32
     }
 }
 
-/// Links the codes of a module's declared functions, in the order of their indices, to the module's image.
+/// Links the codes of a module's declared functions, in the order of their indices, and its data segments to the module's image.
 ///
 /// Each call leads to its function, or to the stub of an imported one, and so do the rows of the table. The text has at most 268,435,456
 /// bytes, what is linked keeps the bounds of images, and the numbers of the globals' constants are of the globals' types. All segments
 /// are looked at before any is written: where one has no place in the table or the memory, the image has no row with a function and no
 /// data segment, and is marked as one that can't be instantiated.
-pub fn link(alloc: Global, context: &Context, codes: &[Code]) -> Result<Image, AllocError>
-    requires bounded { IsImage (linked context.now codes.now) }
+pub fn link(
+    alloc: Global,
+    context: &Context,
+    codes: &[BodyCode],
+    segments: &[DataRow],
+) -> Result<Image, AllocError>
+    requires bounded { IsImage (linked (with_segments context.now segments.now) (codes_of codes.now)) }
     requires numbers { NumbersFit context.now.globals context.now.initials }
-    ensures { IfOk result (λ i. i ≡ linked context.now codes.now) }
+    ensures { IfOk result (λ i. i ≡ linked (with_segments context.now segments.now) (codes_of codes.now)) }
 {
     let starts = starts_of(alloc, context.imports().len(), codes)?;
     let text = text_of(alloc, context, codes, &starts)?;
     let exports = exports_of(alloc, context, &starts)?;
     let globals = global_words(alloc, context)?;
     let pages = first_minimum(context.memories());
-    let linkable = is_linkable(context);
+    let linkable = is_linkable(context, segments);
     let table = rows_of(alloc, context, &starts, linkable)?;
-    let segments = placed_segments(alloc, linkable, context.segments())?;
+    let placed = placed_segments(alloc, linkable, segments)?;
     Ok(Image {
         version: Version::One,
         text: Text::new(text),
@@ -184,7 +192,7 @@ pub fn link(alloc: Global, context: &Context, codes: &[Code]) -> Result<Image, A
         table: Table::new(table),
         pages,
         cap: first_cap(context.memories()),
-        segments: Segments::new(segments),
+        segments: Segments::new(placed),
         imports: Imports::new(imports_of(alloc, context)?),
         exports: Exports::new(exports),
         start: start_of(&starts, context.start()),

@@ -75,7 +75,7 @@ fn take_code(
             kind: Kind::Limit,
         }));
     }
-    match codes.add(code) {
+    match codes.add(alloc, body.size, code) {
         Ok(()) => Ok(()),
         Err(_) => Err(FrontStop::NoMemory),
     }

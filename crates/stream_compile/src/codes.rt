@@ -1,28 +1,32 @@
 //! The codes of bodies, which are kept to be linked or are only counted.
 
 ghost use Rattle.std.specs.Prelude.{◌≡◌, ◌<◌, ◌-◌, ◌+◌, ◌^◌, [], length, Some, None, IsSome, OnOk, OnErr};
+ghost use Rattle.image_linker.specs.Bodies.{codes_of};
 ghost use Rattle.stream_compile.specs.Codes.{no_code, with_code};
 
+use image_linker::BodyCode;
 use rv_isa::Code;
 use std::alloc::{AllocError, Global};
 use std::marker::Model;
+use std::sync::Arc;
 
 /// The codes of the bodies that were compiled, in order: how many, and how many words they have; they are kept where they will be
 /// linked.
 #[derive(Drop)]
 pub struct Codes {
-    kept: Option<Vec<Code>>,
+    kept: Option<Vec<BodyCode>>,
     count: u32,
     words: u64,
 }
 
 impl Model for Codes {
     ghost use Rattle.std.specs.Prelude.{option_map};
+    ghost use Rattle.image_linker.specs.Bodies.{codes_of};
     ghost use Rattle.stream_compile.specs.Codes.{Coding};
 
     ghost Value = { Coding };
 
-    ghost view = { λ c. record { count = c.count; words = c.words; kept = option_map (λ codes. codes.items) c.kept } };
+    ghost view = { λ c. record { count = c.count; words = c.words; kept = option_map (λ codes. codes_of codes.items) c.kept } };
 }
 
 impl Codes {
@@ -48,8 +52,8 @@ impl Codes {
         }
     }
 
-    /// One code more, which is let go where codes aren't kept.
-    pub fn add(&mut self, code: Code) -> Result<(), AllocError>
+    /// One code more, of the body whose size has this offset. It is let go where codes aren't kept.
+    pub fn add(&mut self, alloc: Global, size_offset: u64, code: Code) -> Result<(), AllocError>
         requires count { self.old.count < 2 ^ 32 - 1 }
         requires words { self.old.words + length code.words < 2 ^ 64 }
         ensures ok { OnOk result (self.new ≡ with_code self.old code) }
@@ -57,7 +61,8 @@ impl Codes {
     {
         let words = code.words.as_slice().len() as u64;
         if let Some(codes) = &mut self.kept {
-            codes.push(code)?;
+            let code = Arc::new(alloc, code)?;
+            codes.push(BodyCode { size_offset, code })?;
         }
         self.count += 1;
         self.words += words;
@@ -79,9 +84,9 @@ impl Codes {
     }
 
     /// The codes, which are kept.
-    pub fn as_slice(&self) -> &[Code]
+    pub fn as_slice(&self) -> &[BodyCode]
         requires { IsSome self.now.kept }
-        ensures { Some result.now ≡ self.now.kept }
+        ensures { Some (codes_of result.now) ≡ self.now.kept }
     {
         match &self.kept {
             Some(codes) => codes.as_slice(),

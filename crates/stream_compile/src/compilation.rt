@@ -306,7 +306,13 @@ impl Compilation {
         requires kept { IsSome self.now.codes.kept }
         ensures { IfOk result (λ built. (bytes : List ℕ) → IsDone bytes self.now → IsBuilt bytes built) }
     {
-        let image = link(self.alloc, self.spaces.context(), self.codes.as_slice())?;
+        let context = self.spaces.context();
+        let image = link(
+            self.alloc,
+            context,
+            self.codes.as_slice(),
+            context.segments(),
+        )?;
         let Checked { functions, bytes } = self.checked();
         Ok(Built {
             image,

@@ -1,4 +1,4 @@
-use Rattle.std.proofs.Common.{◌+◌, ℕ, map, length, refl, sym, ap, ◌∙◌, arith, List}
+use Rattle.std.proofs.Common.{ℕ, map, length, refl, sym, ap, ◌∙◌, arith, List}
 use Rattle.image_format.specs.declared.image.Row.{Row}
 use Rattle.image_linker.proofs.ElementRows.{each_fits, all_more, all_length}
 use Rattle.wasm_defs.specs.Instances.{over}

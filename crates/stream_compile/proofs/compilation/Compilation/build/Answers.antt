@@ -1,7 +1,8 @@
 use Rattle.std.proofs.Common.{sym, ap, ◌∙◌, subst}
 use Rattle.image_format.specs.Contents.{IsImage}
 use Rattle.index_spaces.specs.Spaces.{Spaces}
-use Rattle.image_linker.specs.Linking.{linked}
+use Rattle.image_linker.specs.Bodies.{codes_of}
+use Rattle.image_linker.specs.Linking.{with_segments, linked}
 use Rattle.stream_compile.specs.declared.answer.Checked.{Checked}
 use Rattle.stream_compile.proofs.Wholes.{is_bounded, done_built}
 use Rattle.stream_compile.proofs.compilation.Compilation.build.Goals as goal
@@ -9,13 +10,17 @@ use Rattle.stream_compile.proofs.compilation.Compilation.build.Goals as goal
 pub link-requires-clause-bounded : goal.link-requires-clause-bounded
 link-requires-clause-bounded c =
     let d = c.requires.done in
-    subst (λ (s : Spaces). IsImage (linked s c.as_slice.result.now)) (sym c.context.ensures) (is_bounded d.0 c.args.self.now c.as_slice.result.now d.1 c.as_slice.ensures)
+    let given = codes_of c.as_slice.result.now in
+    let same = ap (with_segments c.context-context.result.now) c.segments.ensures ∙ c.context-context.ensures in
+    subst (λ (s : Spaces). IsImage (linked s given)) (sym same) (is_bounded d.0 c.args.self.now given d.1 c.as_slice.ensures)
 
 pub link-requires-clause-numbers : goal.link-requires-clause-numbers
-link-requires-clause-numbers c = let d = c.requires.done.1 in rw c.context.ensures d.numbers
+link-requires-clause-numbers c = let d = c.requires.done.1 in rw c.context-context.ensures d.numbers
 
 pub returns : goal.returns
 returns c = λ bytes d.
-    done_built bytes c.args.self.now c.as_slice.result.now d c.as_slice.ensures _
-    (c.in_ok-image.ensures ∙ ap (λ (x : Spaces). linked x c.as_slice.result.now) c.context.ensures)
+    let given = codes_of c.as_slice.result.now in
+    let same = ap (with_segments c.context-context.result.now) c.segments.ensures ∙ c.context-context.ensures in
+    done_built bytes c.args.self.now given d c.as_slice.ensures _
+    (c.in_ok-image.ensures ∙ ap (λ (x : Spaces). linked x given) same)
     (ap (λ (x : Checked). x.functions) c.checked-functions.ensures) (ap (λ (x : Checked). x.bytes) c.checked-functions.ensures)

@@ -1,0 +1,47 @@
+//! The codes of bodies, and the limit on their text.
+
+ghost use Rattle.std.specs.Prelude.{◌≡◌};
+ghost use Rattle.image_linker.specs.Bodies.{code_of, IsTextLimit};
+
+use index_spaces::Context;
+use rv_isa::Code;
+use std::alloc::Global;
+use std::sync::Arc;
+use wasm_defs::{Kind, MAX_TEXT, Refusal};
+
+/// The code of a body.
+#[derive(Drop)]
+pub struct BodyCode {
+    /// The offset of the body's size in the module.
+    pub size_offset: u64,
+    pub code: Arc<Code, Global>,
+}
+
+impl BodyCode {
+    /// The code itself.
+    pub fn code(&self) -> &Code
+        ensures { result.now ≡ code_of self.now }
+    {
+        &self.code
+    }
+}
+
+/// The fault of the text limit, where the codes of a module's declared functions, in the order of their indices, pass it.
+///
+/// In front of the codes stand the exit stub and the stubs of the imports. The fault is `Limit`, and stands at the size of the first
+/// body with whose code the text has more than 268,435,456 bytes.
+pub fn text_limit(context: &Context, codes: &[BodyCode]) -> Option<Refusal>
+    ensures { IsTextLimit context.now codes.now result }
+{
+    let mut words: u128 = 2 + 18 * context.imports().len() as u128;
+    for body in codes {
+        words += body.code().words.as_slice().len() as u128;
+        if u128::from(MAX_TEXT) < 4 * words {
+            return Some(Refusal {
+                offset: body.size_offset,
+                kind: Kind::Limit,
+            });
+        }
+    }
+    None
+}
