@@ -6,6 +6,8 @@ mod answer;
 mod checks;
 mod environment;
 mod host;
+#[cfg(test)]
+mod host_tests;
 mod imports;
 mod instance;
 mod layout;
@@ -13,8 +15,6 @@ mod outcome;
 mod regions;
 mod run;
 mod sink_host;
-#[cfg(test)]
-mod host_tests;
 #[cfg(test)]
 mod test_images;
 #[cfg(test)]
