@@ -1,15 +1,15 @@
 //! A body's code: its tokens are read one after the other, checked, compared with what is compiled so far, and compiled.
 
-ghost use Rattle.std.specs.Prelude.{◌≡◌, ◌≢◌, ◌≤◌, ℕ, ◌+◌, List, [], length, OnOk, if◌then◌else◌};
+ghost use Rattle.std.specs.Prelude.{◌≡◌, ◌≢◌, ◌≤◌, ℕ, ◌+◌, List, [], length, OnOk};
 ghost use Rattle.wasm_defs.specs.Bodies.{Spelled as SpelledGiven};
 ghost use Rattle.wasm_defs.specs.Fields.{Cursor as CursorGiven, Got, byte};
 ghost use Rattle.wasm_defs.specs.Limits.{max_body};
 ghost use Rattle.wasm_defs.specs.Typing.{Context as ContextGiven};
-ghost use Rattle.wasm_defs.specs.Faults.{earlier, unsupported_at};
+ghost use Rattle.wasm_defs.specs.Supported.{is_compiled_opcode};
 ghost use Rattle.frame_layout.specs.Slots.{link};
 ghost use Rattle.wasm_laws.specs.Sections.{AreBytes};
 ghost use Rattle.body_compiler.specs.Steps.{AreTied};
-ghost use Rattle.body_compiler.specs.Going.{IsCompiling, calling, Goes, Judges, Taken, without_opcode};
+ghost use Rattle.body_compiler.specs.Going.{IsCompiling, calling, Goes, Judges, fault_there, without_instruction, without_opcode};
 ghost use Rattle.control_emit.specs.Emits.{draft as drafted, IsHeld};
 
 use crate::draft::{Draft, take_step};
@@ -33,7 +33,7 @@ pub enum BodyStop {
 
 /// A fault of an instruction whose opcode stands at an offset: what isn't compiled is unsupported there.
 fn fault_of(compiled: bool, at: u64, refusal: Refusal) -> Refusal
-    ensures { result ≡ (if compiled then refusal else earlier refusal (unsupported_at at)) }
+    ensures { result ≡ fault_there compiled at refusal }
 {
     if compiled {
         return refusal;
@@ -54,22 +54,17 @@ fn malformed(offset: u64) -> Refusal
     }
 }
 
-/// What follows an instruction that was taken.
-fn after_token(check: &Check<'_>, compiled: bool, at: u64, last: u64) -> Result<(), BodyStop>
-    ensures { Taken compiled at last check.now result }
+/// Why an instruction isn't read, whose opcode stands at an offset, in a body whose last byte has the offset `last`.
+#[inline(never)]
+fn unread(stop: Stop, opcode: u8, at: u64, last: u64) -> BodyStop
+    ensures { result ≡ without_instruction (is_compiled_opcode opcode) at last stop }
 {
-    if compiled {
-        return Ok(());
+    let compiled = is_compiled_opcode(opcode);
+    match stop {
+        Stop::Refused(refusal) => BodyStop::Refused(fault_of(compiled, at, refusal)),
+        Stop::Wants => BodyStop::Refused(fault_of(compiled, at, malformed(last))),
+        Stop::NoMemory => BodyStop::NoMemory,
     }
-    let refusal = if at == last && !check.is_over() {
-        malformed(last)
-    } else {
-        Refusal {
-            offset: at,
-            kind: Kind::Unsupported,
-        }
-    };
-    Err(BodyStop::Refused(refusal))
 }
 
 /// Reads, checks and compiles the instruction behind an opcode at an offset, in a body whose last byte has the offset `last`.
@@ -97,24 +92,18 @@ fn take_instruction(
     ensures grows { OnOk result (length draft.old.words ≤ length draft.new.words) }
     ensures goes { (c : ContextGiven) (code : SpelledGiven) (before : CursorGiven) (front : List ℕ) → IsCompiling c last before check.old code draft.old.layout front (calling draft.old.labels draft.old.words draft.old.calls.items draft.old.rows) → byte before ≡ Got (at, opcode) fields.old → check.old.checker.frames ≢ [] → Goes c last code draft.old.layout front result fields.new check.new (calling draft.new.labels draft.new.words draft.new.calls.items draft.new.rows) }
 {
-    let compiled = is_compiled_opcode(opcode);
-    match instruction(fields, alloc, at, opcode) {
-        Ok(token) => match check.token(at, &token) {
-            Ok(step) => match after_token(check, compiled, at, last) {
-                Ok(()) => match take_step(draft, check.context(), &step, &token) {
-                    Ok(()) => Ok(()),
-                    Err(_) => Err(BodyStop::NoMemory),
-                },
-                Err(stop) => Err(stop),
-            },
-            Err(TokenStop::Refused(refusal)) => {
-                Err(BodyStop::Refused(fault_of(compiled, at, refusal)))
-            }
-            Err(TokenStop::NoMemory) => Err(BodyStop::NoMemory),
-        },
-        Err(Stop::Refused(refusal)) => Err(BodyStop::Refused(fault_of(compiled, at, refusal))),
-        Err(Stop::Wants) => Err(BodyStop::Refused(fault_of(compiled, at, malformed(last)))),
-        Err(Stop::NoMemory) => Err(BodyStop::NoMemory),
+    let token = match instruction(fields, alloc, at, opcode) {
+        Ok(token) => token,
+        Err(stop) => return Err(unread(stop, opcode, at, last)),
+    };
+    let step = match check.token(at, &token) {
+        Ok(step) => step,
+        Err(TokenStop::Refused(refusal)) => return Err(BodyStop::Refused(refusal)),
+        Err(TokenStop::NoMemory) => return Err(BodyStop::NoMemory),
+    };
+    match take_step(draft, check.context(), &step, &token) {
+        Ok(()) => Ok(()),
+        Err(_) => Err(BodyStop::NoMemory),
     }
 }
 

@@ -1,11 +1,12 @@
 //! The operands of the innermost frame, as a flat stack keeps them.
 
-ghost use Rattle.std.specs.Prelude.{◌≡◌, ◌+◌, ◌<◌, ◌≤◌, [], ◌∷◌, ◌++◌, length, map, reverse, take, drop, is_some, Some, vec_len, vec_capacity};
+ghost use Rattle.std.specs.Prelude.{◌≡◌, ◌+◌, ◌<◌, ◌≤◌, [], ◌∷◌, ◌++◌, length, map, reverse, take, drop, is_some, Some, vec_len, vec_capacity, OnOk};
 ghost use Rattle.body_validator.specs.Checking.{is_of, joined, take_all, any_at, selected_of};
 ghost use Rattle.wasm_defs.specs.Typing.{same_types};
 ghost use Rattle.body_validator.specs.Stacks.{own_of};
 ghost use Rattle.body_validator.specs.Exchange.{taken_types, with_condition, Exchanges};
 
+use std::alloc::AllocError;
 use wasm_defs::ValType;
 
 /// The type of an operand, where it is known.
@@ -143,6 +144,18 @@ pub enum Stop {
     NoMemory,
 }
 
+/// Makes room for so many more operands. Mostly there is some.
+#[inline(always)]
+fn make_room(operands: &mut Vec<Operand>, more: usize) -> Result<(), AllocError>
+    ensures items { operands.new.items ≡ operands.old.items }
+    ensures room { OnOk result (vec_len operands.new + more ≤ vec_capacity operands.new) }
+{
+    if more <= operands.capacity() - operands.len() {
+        return Ok(());
+    }
+    operands.reserve(more)
+}
+
 /// Takes operands from those above the base, and puts others in their place.
 #[inline(always)]
 pub fn exchange(
@@ -161,7 +174,7 @@ pub fn exchange(
     if !finds(&operands[base..], unknown, taken) {
         return Err(Stop::Refused);
     }
-    if operands.reserve(given.len()).is_err() {
+    if make_room(operands, given.len()).is_err() {
         return Err(Stop::NoMemory);
     }
     remove(operands, base, count_of(taken.types, taken.condition));

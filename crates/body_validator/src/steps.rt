@@ -57,12 +57,12 @@ fn begin<'a>(
     scope: &Scope<'a>,
     stack: &mut Stack<'a>,
     opening: Opening,
-    block: BlockType,
+    block: &BlockType,
     condition: bool,
 ) -> Result<(), Stop>
-    ensures { Steps (begun scope.now opening block condition stack.old) result stack.old stack.new }
+    ensures { Steps (begun scope.now opening block.now condition stack.old) result stack.old stack.new }
 {
-    let Some((params, results)) = block_types(scope, block) else {
+    let Some((params, results)) = block_types(scope, *block) else {
         return Err(Stop::Refused);
     };
     let taken = Taken {
@@ -78,9 +78,9 @@ pub fn take<'a>(scope: &Scope<'a>, stack: &mut Stack<'a>, token: &Token) -> Resu
 {
     match token {
         Token::Plain(plain) => take_plain(scope, stack, plain),
-        Token::Block(block) => begin(scope, stack, Opening::Block, *block, false),
-        Token::Loop(block) => begin(scope, stack, Opening::Loop, *block, false),
-        Token::If(block) => begin(scope, stack, Opening::If, *block, true),
+        Token::Block(block) => begin(scope, stack, Opening::Block, block, false),
+        Token::Loop(block) => begin(scope, stack, Opening::Loop, block, false),
+        Token::If(block) => begin(scope, stack, Opening::If, block, true),
         Token::Else => stack.turn(),
         Token::End => stack.leave(),
     }

@@ -10,11 +10,12 @@ ghost use Rattle.frame_layout.specs.Templates.{Around, load_operand, store_opera
 ghost use Rattle.control_emit.specs.Choices.{count_words, choice_words};
 ghost use Rattle.control_emit.specs.Emits.{IsFront};
 
+use crate::words::far;
 use frame_layout::Layout;
-use frame_layout::macros::{branch, const_32, far, imm, reg, shift, zero_extend};
+use frame_layout::macros::{branch, const_32, imm, reg, shift, zero_extend};
 use frame_layout::words::{slot_load, slot_store};
 use rv_isa::{
-    BranchOp, Imm12, Imm20, ImmOp, Op, RegOp, Register, ShiftOp, WordBuffer, encode, encode_branch,
+    BranchOp, Imm12, Imm20, ImmOp, Op, RegOp, Register, ShiftOp, WordBuffer, encode_branch,
 };
 use std::alloc::AllocError;
 
@@ -86,14 +87,15 @@ pub fn append_unless(buffer: &mut WordBuffer, takes: u32) -> Result<(), AllocErr
 {
     if takes <= MOST_PASSED {
         let bytes = 12 + 24 * takes as u16;
-        return buffer.append_ops(&[&[branch(BranchOp::Beq, Register::T0, Register::ZERO, bytes)]]);
+        let offset = Imm12::new(bytes / 2);
+        return buffer.push(encode_branch(BranchOp::Beq, Register::T0, Register::ZERO, offset));
     }
     let here = place_in(buffer);
     let past = here + 5 + 6 * takes as usize;
-    buffer.append_ops(&[
-        &[branch(BranchOp::Bne, Register::T0, Register::ZERO, 12)],
-        &far(here + 1, past),
-    ])
+    let past_jump = Imm12::new(6);
+    let over = encode_branch(BranchOp::Bne, Register::T0, Register::ZERO, past_jump);
+    let [upper, lower] = far(here + 1, past);
+    buffer.append(&[over, upper, lower])
 }
 
 /// Appends the words that pass over a jump where the topmost operand isn't zero, and a jump that leads to itself.
@@ -108,7 +110,7 @@ pub fn append_test(buffer: &mut WordBuffer, layout: &Layout, height: u32) -> Res
     let [a, b, c] = slot_load(Register::T0, layout.operand(height.saturating_sub(1)));
     let over = encode_branch(BranchOp::Bne, Register::T0, Register::ZERO, Imm12::new(6));
     let [upper, lower] = far(here, here);
-    buffer.append(&[a, b, c, over, encode(upper), encode(lower)])
+    buffer.append(&[a, b, c, over, upper, lower])
 }
 
 /// Appends the words that make of an index in t0 the count, where it is no less.

@@ -15,9 +15,9 @@ ghost use Rattle.control_emit.specs.Walks.{body_label, end_shape, start_shape, I
 use crate::jumps::{
     append_front, append_moves, append_test, append_topmost, append_unless, place_in,
 };
+use crate::words::far;
 use frame_layout::Layout;
-use frame_layout::macros::far;
-use rv_isa::{WordBuffer, encode};
+use rv_isa::WordBuffer;
 use std::alloc::{AllocError, Global};
 use std::marker::Model;
 use wasm_defs::Token;
@@ -93,8 +93,8 @@ fn patch(words: &mut WordBuffer, place: u32, there: usize)
 {
     let place = place as usize;
     let [first, second] = far(place, there);
-    words.patch(place, encode(first));
-    words.patch(place + 1, encode(second));
+    words.patch(place, first);
+    words.patch(place + 1, second);
 }
 
 /// A jump and those before it to the same end lead there.
@@ -129,7 +129,7 @@ fn lead_back(buffer: &mut WordBuffer, place: usize) -> Result<(), AllocError>
     ensures err { OnErr result (buffer.new ≡ buffer.old) }
 {
     let here = buffer.place();
-    buffer.append_ops(&[&far(here, place)])
+    buffer.append(&far(here, place))
 }
 
 /// What a call came to: where memory was wanting, only so many words stay.

@@ -9,11 +9,10 @@ ghost use Rattle.memory_emit.specs.Sorts.{IsLoad, IsStore, access_words};
 
 use crate::registers::{memory, memory_size};
 use frame_layout::Layout;
-use frame_layout::macros::slot_load as value_load;
 use frame_layout::words::{const_32, slot_load, slot_store, trap, zero_extend};
 use rv_isa::{
-    BranchOp, Imm12, ImmOp, LoadOp as MachineLoad, Op, RegOp, Register, StoreOp as MachineStore,
-    WordBuffer, encode_branch, encode_imm, encode_reg,
+    BranchOp, Imm12, ImmOp, LoadOp as MachineLoad, RegOp, Register, StoreOp as MachineStore,
+    WordBuffer, encode_branch, encode_imm, encode_load, encode_reg, encode_store,
 };
 use std::alloc::AllocError;
 use wasm_defs::{LoadOp, Plain, StoreOp, Token, TrapKind};
@@ -84,15 +83,17 @@ fn load(
     ensures err { OnErr result (buffer.new ≡ buffer.old) }
 {
     let (op, bytes) = load_row(op);
-    let address = address(layout, height - 1, offset, bytes);
-    let load = Op::Load {
-        op,
-        rd: Register::T0,
-        rs1: Register::T0,
-        imm: Imm12::new(0),
-    };
-    let back = slot_store(Register::T0, layout.operand(height - 1));
-    buffer.append_around(&address, &[load], &back)
+    let [a, b, c, d, e, f, g, h, i, j, k, l, m, n, o, p, q] = address(
+        layout,
+        height - 1,
+        offset,
+        bytes,
+    );
+    let load = encode_load(op, Register::T0, Register::T0, Imm12::new(0));
+    let [x, y, z] = slot_store(Register::T0, layout.operand(height - 1));
+    buffer.append(&[
+        a, b, c, d, e, f, g, h, i, j, k, l, m, n, o, p, q, load, x, y, z,
+    ])
 }
 
 /// Appends the words of a store, whose value is the topmost of so many operands and whose address lies below it.
@@ -109,15 +110,17 @@ fn store(
     ensures err { OnErr result (buffer.new ≡ buffer.old) }
 {
     let (op, bytes) = store_row(op);
-    let address = address(layout, height - 2, offset, bytes);
-    let [x, y, z] = value_load(Register::T2, layout.operand(height - 1));
-    let store = Op::Store {
-        op,
-        rs1: Register::T0,
-        rs2: Register::T2,
-        imm: Imm12::new(0),
-    };
-    buffer.append_around(&address, &[x, y, z, store], &[])
+    let [a, b, c, d, e, f, g, h, i, j, k, l, m, n, o, p, q] = address(
+        layout,
+        height - 2,
+        offset,
+        bytes,
+    );
+    let [x, y, z] = slot_load(Register::T2, layout.operand(height - 1));
+    let store = encode_store(op, Register::T0, Register::T2, Imm12::new(0));
+    buffer.append(&[
+        a, b, c, d, e, f, g, h, i, j, k, l, m, n, o, p, q, x, y, z, store,
+    ])
 }
 
 /// Appends the words of a load, or none for want of memory. Its address is the topmost of so many operands.
