@@ -1,4 +1,5 @@
-//! A body's code: its tokens are read one after the other, checked, compared with what is compiled so far, and compiled.
+//! A body's code: its tokens are read one after the other, checked and compiled. Each opcode behind which one is read is compiled so
+//! far, so the test for that is made where reading stops alone.
 
 ghost use Rattle.std.specs.Prelude.{◌≡◌, ◌≢◌, ◌≤◌, ℕ, ◌+◌, List, [], length, OnOk};
 ghost use Rattle.wasm_defs.specs.Bodies.{Spelled as SpelledGiven};

@@ -1,4 +1,4 @@
-use Rattle.std.proofs.Common.{◌≡◌, ◌+◌, ◌∙◌, true, length, refl, sym, ap, arith}
+use Rattle.std.proofs.Common.{◌+◌, ◌∙◌, true, length, refl, ap, arith}
 use Rattle.wasm_defs.specs.Faults.{tokens_of}
 use Rattle.body_compiler.proofs.Going.{instruction_shrinks, refused_token, unread_goes}
 use Rattle.body_compiler.proofs.Opcodes.{read_is_compiled}
