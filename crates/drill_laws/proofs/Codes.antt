@@ -1,5 +1,5 @@
 -- The bodies of a drill spell their trees.
-use Rattle.std.proofs.Common.{◌≡◌, ◌∙◌, ℕ, zero, suc, ◌+◌, ◌^◌, ◌<◌, ◌≤◌, pos, true, List, [], ◌∷◌, ◌++◌, length, refl, ap, inl, arith, append_assoc}
+use Rattle.std.proofs.Common.{◌≡◌, ℕ, zero, suc, ◌+◌, ◌^◌, ◌<◌, ◌≤◌, pos, List, [], ◌∷◌, ◌++◌, length, refl, ap, inl, arith, append_assoc}
 use Rattle.std.specs.List.{flat_map, range_with_len}
 use Rattle.wasm_defs.specs.declared.types.ValType.TheVariants.{I32}
 use Rattle.wasm_defs.specs.declared.operation.BinaryOp.TheVariants.{Add}
@@ -11,7 +11,7 @@ use Rattle.wasm_defs.specs.Bodies.{Group}
 use Rattle.wasm_defs.specs.Codes.{group_is, instruction_is, listed_vector_is}
 use Rattle.wasm_defs.specs.Faults.{tokens_of}
 use Rattle.wasm_defs.specs.Items.{◌then◌, each_is}
-use Rattle.wasm_defs.specs.Trees.{Seq, Tree, spelled}
+use Rattle.wasm_defs.specs.Trees.{Tree, spelled}
 use Rattle.module_gen.specs.Drill.{below, call}
 use Rattle.module_gen.specs.Numbers.{signed, unsigned}
 use Rattle.body_laws.specs.Spelled.{BeginsCompiled, compiled_token_is}
@@ -59,9 +59,9 @@ adder_spelled first i small =
     let all : List (ℕ × Token) = (constant, token.Plain (Const I32 (pos i))) ∷ adding in
     let adds = token_then sum (token.Plain (Operate (Binary I32 Add))) last (0x6A ∷ []) (0x0B ∷ []) refl refl (ends (sum + 1)) in
     let number = token_then constant (token.Plain (Const I32 (pos i))) adding (0x41 ∷ signed i) (0x6A ∷ 0x0B ∷ [])
-        (record { front = 0x41 ∷ []; back = signed i; parts = refl; first = refl; second = signed_spells i small }) refl adds in
+    (record { front = 0x41 ∷ []; back = signed i; parts = refl; first = refl; second = signed_spells i small }) refl adds in
     let gets = token_then (first + 1) (token.Plain (LocalGet 0)) all (0x20 ∷ 0x00 ∷ []) (0x41 ∷ (signed i ++ 0x6A ∷ 0x0B ∷ []))
-        (record { front = 0x20 ∷ []; back = 0x00 ∷ []; parts = refl; first = refl; second = one_byte 0 (omega arith) }) refl number in
+    (record { front = 0x20 ∷ []; back = 0x00 ∷ []; parts = refl; first = refl; second = one_byte 0 (omega arith) }) refl number in
     no_locals first (adder_tokens first i) (0x20 ∷ 0x00 ∷ 0x41 ∷ (signed i ++ 0x6A ∷ 0x0B ∷ [])) gets
 
 pub adder_nests : (first i : ℕ) → Tree (tokens_of (adder_tokens first i)) (adder_tree i)
@@ -86,7 +86,7 @@ calls_spelled at first (suc k) small =
     let one = call_is at first (omega (arith, small)) in
     let rest = calls_spelled (at + length (call first)) (first + 1) k (omega (arith, small)) in
     rw (append_assoc (call first) (flat_map call (range_with_len (first + 1) k)) (0x0B ∷ []))
-        (token_then at (token.Plain (Call first)) (call_tokens (at + length (call first)) (first + 1) k) (call first) (flat_map call (range_with_len (first + 1) k) ++ 0x0B ∷ []) one.0 one.1 rest)
+    (token_then at (token.Plain (Call first)) (call_tokens (at + length (call first)) (first + 1) k) (call first) (flat_map call (range_with_len (first + 1) k) ++ 0x0B ∷ []) one.0 one.1 rest)
 
 abbrev pub runner_tokens : (first n : ℕ) → List (ℕ × Token)
 runner_tokens first n = (first + 1, token.Plain (Const I32 (pos 0))) ∷ call_tokens (first + 1 + 2) 0 n

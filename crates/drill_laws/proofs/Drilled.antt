@@ -1,6 +1,6 @@
 -- The module of a drill, and its sections.
-use Rattle.std.proofs.Common.{◌≡◌, ◌∙◌, ℕ, zero, suc, ◌+◌, ◌<◌, ◌≤◌, List, [], ◌∷◌, ◌++◌, length, None, refl, ap, arith}
-use Rattle.std.specs.List.{flat_map, range_with_len}
+use Rattle.std.proofs.Common.{◌≡◌, ◌∙◌, ℕ, zero, suc, ◌+◌, List, [], ◌∷◌, ◌++◌, length, refl, ap, arith}
+use Rattle.std.specs.List.{flat_map}
 use Rattle.std.specs.Prelude.{replicate}
 use Rattle.wasm_defs.specs.declared.item.Extern.TheVariants as extern
 use Rattle.wasm_defs.specs.declared.item.Item.{Item}
@@ -151,7 +151,7 @@ context_is n =
     let at = functions_inside n + length (unsigned (n + 1)) in
     let behind = behind_functions n in
     context_made (function_items at n ++ behind) n (passed types_of (λ i xs. refl) at n behind) (functions_say at n behind) (passed tables_of (λ i xs. refl) at n behind)
-        (passed memories_of (λ i xs. refl) at n behind) (passed globals_of (λ i xs. refl) at n behind)
+    (passed memories_of (λ i xs. refl) at n behind) (passed globals_of (λ i xs. refl) at n behind)
 
 pub none_imported : (n : ℕ) → import_count (drill_items n) ≡ 0
 none_imported n = passed import_count (λ i xs. refl) (functions_inside n + length (unsigned (n + 1))) n (behind_functions n)

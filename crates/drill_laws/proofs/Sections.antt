@@ -1,13 +1,12 @@
 -- The bytes of a drill are spelled by the grammar as its sections.
-use Rattle.std.proofs.Common.{◌≡◌, ◌∙◌, ℕ, zero, suc, ◌+◌, ◌*◌, ◌^◌, ◌<◌, ◌≤◌, pos, false, List, [], ◌∷◌, ◌++◌, length, refl, ap, sym, subst, arith, append_assoc}
+use Rattle.std.proofs.Common.{◌≡◌, ℕ, zero, suc, ◌+◌, ◌*◌, ◌^◌, ◌<◌, ◌≤◌, pos, false, List, [], ◌∷◌, ◌++◌, length, refl, ap, sym, subst, arith, append_assoc}
 use Rattle.std.proofs.lemmas.List.{append-nil, length-append, length-replicate}
 use Rattle.std.proofs.lemmas.Str.{IsUtf8-from_ascii}
 use Rattle.std.specs.List.{flat_map, range_with_len}
 use Rattle.std.specs.Prelude.{replicate}
 use Rattle.std.specs.Str.{IsAscii, IsUtf8}
-use Rattle.wasm_defs.specs.declared.item.Item.{Item}
 use Rattle.wasm_defs.specs.Numbers.{Spells}
-use Rattle.wasm_defs.specs.Items.{AllOf, Payload, Section, Sized, body_is, each_is, item_is, listed_type_is, payload_id, payload_is, section_is, vector_is, Spelling, Vector, exactly, ◌then◌}
+use Rattle.wasm_defs.specs.Items.{AllOf, Payload, body_is, each_is, item_is, listed_type_is, payload_id, payload_is, section_is, vector_is, Spelling, Vector, exactly, ◌then◌}
 use Rattle.wasm_defs.specs.Outside.{magic, version}
 use Rattle.module_gen.specs.Drill.{adder, below, call, code, drill_bytes, exports, functions, runner, section, sized, types}
 use Rattle.module_gen.specs.Numbers.{spelling, unsigned}
@@ -63,6 +62,9 @@ body_spelled at content small least = record {
   size = (refl, unsigned_spells (length content) small);
   is = (refl, refl, least);
 }
+
+pub adder_content_short : (i : ℕ) → length (adder_content i) ≤ 11
+adder_content_short i = let size = content_length i in let few = signed_short i in omega (arith, size, few)
 
 adder_short : (i : ℕ) → length (adder i) ≤ 16
 unfolding adder
@@ -171,7 +173,7 @@ types_spelled : section_is types_section 8 types
 unfolding spelling types_content
 types_spelled = section_made 8 1 types_content (Vector 1 10 signatures) refl (omega arith) ((omega arith, omega arith, λ e. absurd (omega (arith, e)), λ e. absurd (omega (arith, e))), (refl, (refl, tt)), signatures_spelled)
 
-types_length : length types ≡ 12
+pub types_length : length types ≡ 12
 unfolding spelling
 types_length = refl
 
@@ -202,7 +204,7 @@ export_spelled at n small = vector_of item_is at (export_items (at + 1) n) (0x03
 -- ---- the sections of a drill
 
 module _ (n : ℕ) (most : n ≤ 50000) where
-  functions_length : length (functions_content n) ≤ n + 6
+  pub functions_length : length (functions_content n) ≤ n + 6
   functions_length =
       let parts = length-append (unsigned (n + 1)) (replicate n 0x00 ++ 0x01 ∷ []) in
       let zeros = length-append {A = ℕ} (replicate n 0x00) (0x01 ∷ []) in
@@ -213,10 +215,12 @@ module _ (n : ℕ) (most : n ≤ 50000) where
   functions_section_spelled : section_is (functions_section n) functions_at (functions n)
   functions_section_spelled =
       let few = functions_length in
-      section_made functions_at 3 (functions_content n) (functions_section n).payload refl (omega (arith, few, most))
-      ((omega arith, omega arith, λ e. absurd (omega (arith, e)), λ e. absurd (omega (arith, e))), all_are_functions (functions_inside n + length (unsigned (n + 1))) n,
-      vector_made item_is (functions_inside n) (n + 1) (all_functions n) (replicate n 0x00 ++ 0x01 ∷ []) (functions_count (functions_inside n + length (unsigned (n + 1))) n) (omega (arith, most))
-      (functions_spelled (functions_inside n + length (unsigned (n + 1))) n))
+      section_made functions_at 3 (functions_content n) (functions_section n).payload refl (omega (arith, few, most)) (
+        (omega arith, omega arith, λ e. absurd (omega (arith, e)), λ e. absurd (omega (arith, e))),
+        all_are_functions (functions_inside n + length (unsigned (n + 1))) n,
+        vector_made item_is (functions_inside n) (n + 1) (all_functions n) (replicate n 0x00 ++ 0x01 ∷ []) (functions_count (functions_inside n + length (unsigned (n + 1))) n) (omega (arith, most))
+            (functions_spelled (functions_inside n + length (unsigned (n + 1))) n),
+      )
 
   exports_section_spelled : section_is (exports_section n) (exports_at n) (exports n)
   exports_section_spelled =
@@ -237,10 +241,11 @@ module _ (n : ℕ) (most : n ≤ 50000) where
   code_section_spelled : section_is (code_section n) (code_at n) (code n)
   code_section_spelled =
       let few = code_length in
-      section_made (code_at n) 10 (code_content n) (code_section n).payload refl (omega (arith, few, most))
-      (refl,
-      vector_made body_is (code_inside n) (n + 1) (all_bodies n) (bodies_content n) (bodies_count (code_inside n + length (unsigned (n + 1))) 0 n n) (omega (arith, most))
-      (bodies_spelled (code_inside n + length (unsigned (n + 1))) 0 n n most))
+      section_made (code_at n) 10 (code_content n) (code_section n).payload refl (omega (arith, few, most)) (
+        refl,
+        vector_made body_is (code_inside n) (n + 1) (all_bodies n) (bodies_content n) (bodies_count (code_inside n + length (unsigned (n + 1))) 0 n n) (omega (arith, most))
+            (bodies_spelled (code_inside n + length (unsigned (n + 1))) 0 n n most),
+      )
 
   behind_types : each_is section_is (functions_section n ∷ exports_section n ∷ code_section n ∷ []) functions_at (functions n ++ (exports n ++ code n))
   behind_types = record {

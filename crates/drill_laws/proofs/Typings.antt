@@ -1,13 +1,11 @@
 -- The bodies of a drill are typed, and at most two operands lie in each.
-use Rattle.std.proofs.Common.{◌≡◌, ◌∙◌, ℕ, zero, suc, ◌+◌, ◌<◌, ◌≤◌, pos, List, [], ◌∷◌, ◌++◌, Some, refl, ap, sym, subst, arith}
+use Rattle.std.proofs.Common.{◌≡◌, ◌∙◌, ℕ, zero, suc, ◌+◌, ◌<◌, ◌≤◌, [], ◌∷◌, ◌++◌, Some, refl, ap, sym, subst, arith}
 use Rattle.std.specs.Prelude.{max, replicate, slice_get}
-use Rattle.wasm_defs.specs.declared.types.FuncType.{FuncType}
 use Rattle.wasm_defs.specs.declared.types.ValType.TheVariants.{I32}
 use Rattle.wasm_defs.specs.declared.token.Plain.TheVariants.{Call}
 use Rattle.wasm_defs.specs.Context.{body_context}
 use Rattle.wasm_defs.specs.Places.{Place, after_rule, end_of, greatest, places, places_of}
-use Rattle.wasm_defs.specs.Trees.{Seq}
-use Rattle.wasm_defs.specs.Typing.{Context, IsBody, Moves, Typed, Types, called, function_type, inside, rule_of, with_type}
+use Rattle.wasm_defs.specs.Typing.{Context, IsBody, Moves, Typed, function_type, inside, rule_of}
 use Rattle.drill_laws.specs.Functions.{adder_tree, adder_type, calls_from, runner_tree, runner_type}
 
 -- what the items of a drill say of its bodies
@@ -32,10 +30,15 @@ runner_context n = body_context (drill_context n) runner_type []
 -- ---- of one that adds
 
 pub adder_typed : (n i : ℕ) → IsBody (adder_context n) (adder_tree i)
-adder_typed n i =
-    (I32 ∷ [], record { taken = []; left = I32 ∷ []; below = []; before = refl; after = refl; allowed = (refl, refl) },
-    (I32 ∷ I32 ∷ [], record { taken = []; left = I32 ∷ []; below = I32 ∷ []; before = refl; after = refl; allowed = (refl, refl) },
-    (I32 ∷ [], record { taken = I32 ∷ I32 ∷ []; left = I32 ∷ []; below = []; before = refl; after = refl; allowed = (refl, refl) }, refl)))
+adder_typed n i = (
+  I32 ∷ [],
+  record { taken = []; left = I32 ∷ []; below = []; before = refl; after = refl; allowed = (refl, refl) },
+  (
+    I32 ∷ I32 ∷ [],
+    record { taken = []; left = I32 ∷ []; below = I32 ∷ []; before = refl; after = refl; allowed = (refl, refl) },
+    (I32 ∷ [], record { taken = I32 ∷ I32 ∷ []; left = I32 ∷ []; below = []; before = refl; after = refl; allowed = (refl, refl) }, refl),
+  ),
+)
 
 pub adder_low : (n i : ℕ) → greatest (places_of (adder_context n) (adder_tree i)) ≤ 2
 adder_low n i = omega arith
@@ -68,9 +71,11 @@ calls_typed c first zero are = refl
 calls_typed c first (suc k) are = (I32 ∷ [], call_moves c first (are first (omega arith)), calls_typed c (first + 1) k (λ j below. are j (omega (arith, below))))
 
 pub runner_typed : (n : ℕ) → IsBody (runner_context n) (runner_tree n)
-runner_typed n =
-    (I32 ∷ [], record { taken = []; left = I32 ∷ []; below = []; before = refl; after = refl; allowed = (refl, refl) },
-    calls_typed (inside (runner_context n) (I32 ∷ [])) 0 n (λ j below. adders_have_types n j (omega (arith, below))))
+runner_typed n = (
+  I32 ∷ [],
+  record { taken = []; left = I32 ∷ []; below = []; before = refl; after = refl; allowed = (refl, refl) },
+  calls_typed (inside (runner_context n) (I32 ∷ [])) 0 n (λ j below. adders_have_types n j (omega (arith, below))),
+)
 
 -- one operand lies in front of each call, and behind it
 stays : (c : Context) (f : ℕ) → function_type c f ≡ Some adder_type → after_rule (rule_of c (Call f)) (Some 1) ≡ Some 1

@@ -2,9 +2,17 @@
 #![tactic(auto)]
 
 ghost use Rattle.drill_laws.specs.Functions.{DrillsReturn};
+ghost use Rattle.drill_laws.specs.Modules.{DrillsAreModules};
 
 /// The last function of a drill returns the sum of the indices of the others, whatever the store, within five reductions for each
 /// of them and three more. No call exhausts the stack.
 pub fn drills_return()
     ensures { DrillsReturn }
+{}
+
+/// The bytes of a drill are a module that is valid, keeps all limits and holds nothing that isn't compiled: its functions are those
+/// that `drills_return` speaks of, it can be instantiated, and it exports the last of them alone, as `run` (Core 3.4.10 and 5.5).
+/// The limit on an image's text aside, no drill is refused.
+pub fn drills_are_modules()
+    ensures { DrillsAreModules }
 {}

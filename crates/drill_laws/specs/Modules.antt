@@ -1,0 +1,23 @@
+-- A drill as a module (WebAssembly Core 1.0, 2.5).
+use Rattle.std.specs.Prelude.{◌≡◌, ℕ, ◌+◌, ◌≤◌, true, [], ◌∷◌, None, Some, codes}
+use Rattle.wasm_defs.specs.Context.{context_of, declared_count, import_count}
+use Rattle.wasm_defs.specs.Faults.{IsModule, Module}
+use Rattle.wasm_defs.specs.Instances.{exports_of, instance_of, is_linkable, start_of}
+use Rattle.wasm_defs.specs.Typing.{function_type}
+use Rattle.module_gen.specs.Drill.{drill_bytes}
+use Rattle.drill_laws.specs.Functions.{HasDrill, runner_type}
+
+-- The module declares n functions that add, and the one that calls them. It imports nothing, has no start function, and can be
+-- instantiated; and the last function is its only export, by the name `run`.
+pub record IsDrill (n : ℕ) (m : Module) : Type 0 where
+  pub declared : declared_count m.items ≡ n + 1
+  pub imported : import_count m.items ≡ 0
+  pub functions : HasDrill n (instance_of m)
+  pub exports : exports_of m.items ≡ (codes "run", n) ∷ []
+  pub exported : function_type (context_of m.items) n ≡ Some runner_type
+  pub start : start_of m.items ≡ None
+  pub linkable : is_linkable m ≡ true
+
+-- The bytes are such a module: they are read whole, all of it is compiled, and it is valid.
+abbrev pub DrillsAreModules : Type 0
+DrillsAreModules = (n : ℕ) → n ≤ 50000 → (m : Module) × IsModule (drill_bytes n) m × IsDrill n m
