@@ -1,7 +1,7 @@
 -- The bytes of a drill are its module.
-use Rattle.std.proofs.Common.{◌≡◌, ◌∙◌, ℕ, zero, suc, ◌+◌, ◌<◌, ◌≤◌, true, List, [], ◌∷◌, ◌++◌, length, Some, refl, ap, sym, subst, arith}
+use Rattle.std.proofs.Common.{◌≡◌, ◌∙◌, ℕ, zero, suc, ◌+◌, ◌*◌, ◌<◌, ◌≤◌, true, List, [], ◌∷◌, ◌++◌, length, Some, refl, ap, sym, subst, arith}
 use Rattle.std.proofs.lemmas.List.{append-nil}
-use Rattle.std.specs.Prelude.{map, slice_get}
+use Rattle.std.specs.Prelude.{map, reverse, slice_get}
 use Rattle.wasm_defs.specs.declared.item.Item.{Item}
 use Rattle.wasm_defs.specs.declared.item.Item.TheVariants.{Function}
 use Rattle.wasm_defs.specs.declared.token.Token.{Token}
@@ -18,6 +18,7 @@ use Rattle.wasm_defs.specs.Places.{greatest, places_of}
 use Rattle.wasm_defs.specs.Trees.{Seq, Tree}
 use Rattle.wasm_defs.specs.Typing.{Context, IsBody, function_type}
 use Rattle.wasm_laws.specs.Behind.{StartsKeep}
+use Rattle.frame_layout.specs.Templates.{Around}
 use Rattle.body_laws.specs.Spelled.{AreSpelled, IsSpelled, IsSpelledModule}
 use Rattle.body_laws.proofs.Compiled.{each_plain}
 use Rattle.body_laws.proofs.SpeltCodes.{spelled_is_read}
@@ -26,6 +27,8 @@ use Rattle.module_gen.specs.Drill.{adder, drill_bytes}
 use Rattle.module_gen.specs.Numbers.{unsigned}
 use Rattle.drill_laws.specs.Functions.{HasDrill, IsFunction, adder_tree, adder_type, runner_tree, runner_type}
 use Rattle.drill_laws.specs.Modules.{DrillsAreModules}
+use Rattle.drill_laws.specs.Words.{words_of}
+use Rattle.drill_laws.proofs.Words.{adder_words, runner_words}
 use Rattle.drill_laws.proofs.Codes.{Spell, adder_content, adder_nests, adder_spelled, adder_tokens, runner_content, runner_nests, runner_spelled, runner_tokens}
 use Rattle.drill_laws.proofs.Drilled.{all_bodies, all_declared, behind_functions, bodies_from, body_at, code_inside, context_is, drill_items, drill_module, drill_sections, function_items, functions_inside, none_imported, passed, trees_from}
 use Rattle.drill_laws.proofs.Rules.{all_compiled, are_sections}
@@ -140,6 +143,24 @@ module _ (n : ℕ) (most : n ≤ 50000) (items : List Item) (says : context_of i
       )
   runner_found at first (suc c) k same all = runner_found (at + length (adder first)) (first + 1) c (suc k) (omega (arith, same)) (omega (arith, all))
 
+  -- ---- their words
+
+  one_result : (j : ℕ) (t : FuncType) (b : Body) → function_type (drill_context n) j ≡ Some t → length (reverse t.results) ≡ 1 → length (context_at items j b).results ≡ 1
+  one_result j t b typed one = ap (λ (f : FuncType). length (reverse f.results)) (type_is j t typed) ∙ one
+
+  few_words : (around : ℕ → Body → Seq → Around) (at first count k : ℕ) → k ≡ first → first + count ≡ n → words_of around items k (bodies_from at first count n) (trees_from first count n) ≤ 62 * count + (14 * n + 46)
+  few_words around at first zero k same all =
+      let b = body_at at (runner_content n) in
+      let typed : function_type (drill_context n) k ≡ Some runner_type = let last : k ≡ n = omega (arith, same, all) in ap (function_type (drill_context n)) last ∙ runner_has_type n in
+      let one = runner_words (around k b (runner_tree n)) (context_at items k b) n (one_result k runner_type b typed refl) in
+      omega (arith, one)
+  few_words around at first (suc c) k same all =
+      let b = body_at at (adder_content first) in
+      let typed = adders_have_types n k (omega (arith, same, all)) in
+      let one = adder_words (around k b (adder_tree first)) (context_at items k b) first (one_result k adder_type b typed refl) in
+      let rest = few_words around (at + length (adder first)) (first + 1) c (suc k) (omega (arith, same)) (omega (arith, all)) in
+      omega (arith, one, rest)
+
 -- ---- the module
 
 starts_kept : (before : List Item) (at n : ℕ) (behind : List Item) → ((front : List Item) → StartsKeep front behind) → StartsKeep before (function_items at n ++ behind)
@@ -196,5 +217,6 @@ drills_are_modules n most = (
     exported = ap (λ (c : Context). function_type c n) (context_is n) ∙ runner_has_type n;
     start = passed start_of (λ i xs. refl) (functions_at n) n (behind_functions n);
     linkable = linkable n;
+    words = λ around. let few = few_words n most (drill_items n) (context_is n) (none_imported n) around (bodies_at n) 0 n 0 refl (omega arith) in omega (arith, few);
   },
 )

@@ -6,9 +6,10 @@ use Rattle.wasm_defs.specs.Instances.{exports_of, instance_of, is_linkable, star
 use Rattle.wasm_defs.specs.Typing.{function_type}
 use Rattle.module_gen.specs.Drill.{drill_bytes}
 use Rattle.drill_laws.specs.Functions.{HasDrill, runner_type}
+use Rattle.drill_laws.specs.Words.{HasFewWords}
 
 -- The module declares n functions that add, and the one that calls them. It imports nothing, has no start function, and can be
--- instantiated; and the last function is its only export, by the name `run`.
+-- instantiated; the last function is its only export, by the name `run`; and its text is short.
 pub record IsDrill (n : ℕ) (m : Module) : Type 0 where
   pub declared : declared_count m.items ≡ n + 1
   pub imported : import_count m.items ≡ 0
@@ -17,6 +18,7 @@ pub record IsDrill (n : ℕ) (m : Module) : Type 0 where
   pub exported : function_type (context_of m.items) n ≡ Some runner_type
   pub start : start_of m.items ≡ None
   pub linkable : is_linkable m ≡ true
+  pub words : HasFewWords n m
 
 -- The bytes are such a module: they are read whole, all of it is compiled, and it is valid.
 abbrev pub DrillsAreModules : Type 0
