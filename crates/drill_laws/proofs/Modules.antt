@@ -1,5 +1,5 @@
 -- The bytes of a drill are its module.
-use Rattle.std.proofs.Common.{◌≡◌, ◌∙◌, ℕ, zero, suc, ◌+◌, ◌*◌, ◌<◌, ◌≤◌, true, List, [], ◌∷◌, ◌++◌, length, Some, refl, ap, sym, subst, arith}
+use Rattle.std.proofs.Common.{◌≡◌, ◌∙◌, ℕ, zero, suc, ◌+◌, ◌*◌, ◌<◌, ◌≤◌, true, List, [], ◌∷◌, ◌++◌, length, Option, Some, refl, ap, sym, subst, arith}
 use Rattle.std.proofs.lemmas.List.{append-nil}
 use Rattle.std.specs.Prelude.{map, reverse, slice_get}
 use Rattle.wasm_defs.specs.declared.item.Item.{Item}
@@ -9,10 +9,14 @@ use Rattle.wasm_defs.specs.declared.types.FuncType.{FuncType}
 use Rattle.wasm_defs.specs.Bodies.{Group}
 use Rattle.wasm_defs.specs.Codes.{Code}
 use Rattle.wasm_defs.specs.Configurations.{Declared, Func}
-use Rattle.wasm_defs.specs.Configurations as run
+use Rattle.wasm_defs.specs.Configurations.{Invocation, Step}
+use Rattle.wasm_defs.specs.Configurations as configured
+use Rattle.wasm_defs.specs.Reductions.{run}
+use Rattle.wasm_defs.specs.ModuleRun.{first_state, run_of}
+use Rattle.drill_laws.proofs.Steps.{drill_returns}
 use Rattle.wasm_defs.specs.Context.{body_context, context_of, declared_types, import_count, type_of_function, type_or_empty}
 use Rattle.wasm_defs.specs.Faults.{context_at, tokens_of}
-use Rattle.wasm_defs.specs.Instances.{data_of, declared_from, elements_of, exports_of, function_of, imports_from, instance_of, is_linkable, start_of}
+use Rattle.wasm_defs.specs.Instances.{data_of, declared_from, elements_of, exports_of, function_of, imports_from, instance_of, is_linkable, start_of, store_of}
 use Rattle.wasm_defs.specs.Outside.{Body}
 use Rattle.wasm_defs.specs.Places.{greatest, places_of}
 use Rattle.wasm_defs.specs.Trees.{Seq, Tree}
@@ -26,7 +30,7 @@ use Rattle.body_laws.proofs.SpelledModules.{spelled_is_module}
 use Rattle.module_gen.specs.Drill.{adder, drill_bytes}
 use Rattle.module_gen.specs.Numbers.{unsigned}
 use Rattle.drill_laws.specs.Functions.{HasDrill, IsFunction, adder_tree, adder_type, runner_tree, runner_type}
-use Rattle.drill_laws.specs.Modules.{DrillsAreModules}
+use Rattle.drill_laws.specs.Modules.{DrillsAreModules, DrillsRun}
 use Rattle.drill_laws.specs.Words.{words_of}
 use Rattle.drill_laws.proofs.Words.{adder_words, runner_words}
 use Rattle.drill_laws.proofs.Codes.{Spell, adder_content, adder_nests, adder_spelled, adder_tokens, runner_content, runner_nests, runner_spelled, runner_tokens}
@@ -116,7 +120,7 @@ module _ (n : ℕ) (most : n ≤ 50000) (items : List Item) (says : context_of i
     all_spelled (at + length (adder first)) (first + 1) c (suc k) (omega (arith, same)) (omega (arith, all)),
   )
 
-  abbrev all_of : (at first count k : ℕ) → List run.Function
+  abbrev all_of : (at first count k : ℕ) → List configured.Function
   all_of at first count k = map Declared (declared_from items k (bodies_from at first count n) (trees_from first count n))
 
   adders_found : (at first count k : ℕ) → k ≡ first → first + count ≡ n → (j : ℕ) → j < count
@@ -180,13 +184,13 @@ module _ (n : ℕ) where
       let adders = adders_found n most (drill_items n) (context_is n) (none_imported n) bodies_at 0 n 0 refl (omega arith) in
       let runner = runner_found n most (drill_items n) (context_is n) (none_imported n) bodies_at 0 n 0 refl (omega arith) in
       let all = all_of n most (drill_items n) (context_is n) (none_imported n) bodies_at 0 n 0 in
-      let same : (instance_of (drill_module n)).functions ≡ all = ap (λ (l : List run.Function). l ++ all) nothing in
+      let same : (instance_of (drill_module n)).functions ≡ all = ap (λ (l : List configured.Function). l ++ all) nothing in
       record {
         adders = λ j below.
             let (f, there, is) = adders j below in
             let at : 0 + j ≡ j = omega arith in
-            (f, ap (λ (l : List run.Function). slice_get l j) same ∙ there, subst (λ (i : ℕ). IsFunction adder_type (adder_tree i) f) at is);
-        runner = (runner.0, ap (λ (l : List run.Function). slice_get l n) same ∙ runner.1, runner.2);
+            (f, ap (λ (l : List configured.Function). slice_get l j) same ∙ there, subst (λ (i : ℕ). IsFunction adder_type (adder_tree i) f) at is);
+        runner = (runner.0, ap (λ (l : List configured.Function). slice_get l n) same ∙ runner.1, runner.2);
       }
 
   pub spelled : n ≤ 50000 → IsSpelledModule (drill_bytes n) (drill_module n) (drill_sections n)
@@ -220,3 +224,11 @@ drills_are_modules n most = (
     words = λ around. let few = few_words n most (drill_items n) (context_is n) (none_imported n) around (bodies_at n) 0 n 0 refl (omega arith) in omega (arith, few);
   },
 )
+
+pub drills_run : DrillsRun
+drills_run n m replies most is more =
+    let k = 5 * n + 3 + more in
+    let call : Invocation = record { function = n; arguments = [] } in
+    let i = instance_of m in
+    let store = store_of m replies in
+    ap (λ (o : Option ℕ). (run_of (run i k (first_state o store call))).end) is.start ∙ ap (λ (s : Step). (run_of s).end) (drill_returns n i store most is.functions more)

@@ -2,7 +2,7 @@
 #![tactic(auto)]
 
 ghost use Rattle.drill_laws.specs.Functions.{DrillsReturn};
-ghost use Rattle.drill_laws.specs.Modules.{DrillsAreModules};
+ghost use Rattle.drill_laws.specs.Modules.{DrillsAreModules, DrillsRun};
 
 /// The last function of a drill returns the sum of the indices of the others, whatever the store, within five reductions for each
 /// of them and three more. No call exhausts the stack.
@@ -15,4 +15,10 @@ pub fn drills_return()
 /// The limit on an image's text aside, no drill is refused.
 pub fn drills_are_modules()
     ensures { DrillsAreModules }
+{}
+
+/// The export of a drill's module returns that sum when it is called without arguments, whatever replies a host has, for each weight
+/// from 5 n + 3 on (Core 4.5.5). So it neither traps nor runs for ever.
+pub fn drills_run()
+    ensures { DrillsRun }
 {}
