@@ -20,3 +20,5 @@ mod held_back;
 mod operations;
 #[cfg(test)]
 mod starts;
+#[cfg(test)]
+mod tables;
