@@ -1,5 +1,5 @@
 -- What the command `drill` comes to.
-use Rattle.std.proofs.Common.{◌≡◌, ◌∙◌, ◌++◌, ℕ, ◌<◌, Bool, true, false, List, [], ◌∷◌, length, Option, Some, None, Result, Ok, Err, refl, sym, ap, subst, true≢false, append_assoc}
+use Rattle.std.proofs.Common.{◌≡◌, ◌∙◌, ◌++◌, ℕ, ◌<◌, ◌≤◌, Bool, true, false, List, [], ◌∷◌, length, Option, Some, None, Result, Ok, Err, refl, sym, ap, subst, true≢false, append_assoc}
 use Rattle.std.specs.Prelude.{IfOk, IfSome, codes, nat_lt, option_map, unwrap_or}
 use Rattle.std.specs.Io.KnownBytes.{prepend_known}
 use Rattle.std.specs.declared.alloc.AllocError.{AllocError}
@@ -15,7 +15,7 @@ use Rattle.image_format.specs.Contents.{Image}
 use Rattle.image_format.specs.declared.image.Export.{Export}
 use Rattle.image_format.specs.ImageRun.{Ending, As, Fault, ImageRun, image_run}
 use Rattle.image_linker.specs.ImageOf.{image_of, offset_of}
-use Rattle.image_linker.specs.Judging.{IsVerdictOf}
+use Rattle.image_linker.specs.Judging.{IsModuleOf, IsVerdictOf}
 use Rattle.image_linker.specs.Same.{Same}
 use Rattle.image_run.specs.Checks.{export_named, not_runnable}
 use Rattle.image_run.specs.Ends.{IsEnd}
@@ -33,6 +33,7 @@ use Rattle.stream_compile.specs.Came.{Came}
 use Rattle.stream_compile.specs.Compiling.{CompilesSource}
 use Rattle.stream_compile.specs.Reading.{view}
 use Rattle.stream_compile.specs.Texts.{Outcome, ChecksAndDrills, ChecksAndRunsDrill, DrillEndsAs, OfDrill, TellsDrill, TellsDrillEnd, read_fault, rejected, returned, run_end, trapped, unrunnable}
+use Rattle.stream_compile.proofs.DrillSums.{not_refused, sum_told}
 use Rattle.stream_compile.proofs.Calls.{Exports, Results, end_is, ends_there, export_is, passed, runs_alike, tells_end}
 
 -- ---- the source
@@ -74,25 +75,24 @@ drill_told m functions steps o None same counts passes (e, is, tells) =
 
 -- ---- what is told
 
-pub image_drills : (r : Result Output AllocError) (d : Drill) (bytes rest : List ℕ) (built : Built) → bytes ≡ drill_bytes d.count → CompilesSource false (Some bytes) (Some rest) (answer.Image built)
+pub image_drills : (r : Result Output AllocError) (d : Drill) (bytes rest : List ℕ) (built : Built) → d.count ≤ 50000 → bytes ≡ drill_bytes d.count → CompilesSource false (Some bytes) (Some rest) (answer.Image built)
     → IfOk r (λ o. ChecksAndDrills (not_runnable built.image (codes "run") []) built.image built.functions d.steps (view o)) → IfOk r (λ o. OfDrill d (view o))
-image_drills (Ok a) d bytes rest built made (calm, came, is_came, end, is) e =
+image_drills (Ok a) d bytes rest built most made (calm, came, is_came, end, is) e =
     let m = is.«module» in
     let same : came ≡ drill_bytes d.count = flat_came bytes rest came is_came ∙ made in
+    let module_is : IsModuleOf (drill_bytes d.count) m = subst (λ (l : List ℕ). IsModuleOf l m) same is.is.is in
     let here : ChecksAndDrills (not_runnable (image_of m) (codes "run") []) (image_of m) built.functions d.steps (view a) =
-    subst (λ (i : Image). ChecksAndDrills (not_runnable i (codes "run") []) i built.functions d.steps (view a)) is.image_is e in (
-      Accepted m,
-      subst (λ (l : List ℕ). IsVerdictOf l (Accepted m)) same is.is.is,
-      (is.is.same, drill_told m built.functions d.steps (view a) (not_runnable (image_of m) (codes "run") []) is.is.same is.is.functions_are refl here),
-    )
-image_drills (Err x) d bytes rest built made h e = tt
+    subst (λ (i : Image). ChecksAndDrills (not_runnable i (codes "run") []) i built.functions d.steps (view a)) is.image_is e in
+    let tells = drill_told m built.functions d.steps (view a) (not_runnable (image_of m) (codes "run") []) is.is.same is.is.functions_are refl here in
+    (m, module_is, is.is.same, tells, sum_told d m (view a) most module_is is.is.same tells)
+image_drills (Err x) d bytes rest built most made h e = tt
 
-pub refused_drills : (r : Result Output AllocError) (d : Drill) (bytes rest : List ℕ) (refusal : Refusal) → bytes ≡ drill_bytes d.count → CompilesSource false (Some bytes) (Some rest) (answer.Refused refusal)
-    → IfOk r (λ a. view a ≡ rejected refusal) → IfOk r (λ o. OfDrill d (view o))
-refused_drills (Ok a) d bytes rest refusal made (came, is_came, is) e =
+-- the bytes have no fault
+pub refused_drills : (r : Result Output AllocError) (d : Drill) (bytes rest : List ℕ) (refusal : Refusal) → d.count ≤ 50000 → bytes ≡ drill_bytes d.count → CompilesSource false (Some bytes) (Some rest) (answer.Refused refusal)
+    → IfOk r (λ o. OfDrill d (view o))
+refused_drills r d bytes rest refusal most made (came, is_came, is) =
     let same : came ≡ drill_bytes d.count = flat_came bytes rest came is_came ∙ made in
-    (Rejected refusal, subst (λ (l : List ℕ). IsVerdictOf l (Rejected refusal)) same is, e)
-refused_drills (Err x) d bytes rest refusal made h e = tt
+    not_refused d.count refusal (IfOk r (λ o. OfDrill d (view o))) most (subst (λ (l : List ℕ). IsVerdictOf l (Rejected refusal)) same is)
 
 -- bytes in memory don't fail
 pub no_fault : (left rest : Option (List ℕ)) (X : Type 0) → CompilesSource false left rest answer.ReadFault → X

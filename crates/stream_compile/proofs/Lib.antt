@@ -19,4 +19,6 @@ pub mod Answering
 pub mod Calls
 pub mod Stopped
 pub mod ForeignLaws
+pub mod DrillRuns
+pub mod DrillSums
 pub mod Drills

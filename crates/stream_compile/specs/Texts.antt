@@ -1,5 +1,5 @@
 -- What the program answers and writes.
-use Rattle.std.specs.Prelude.{◌≡◌, ◌⊎◌, ℕ, ℤ, Bool, true, false, List, [], ◌∷◌, ◌++◌, length, take, Option, None, Some, codes, String, string_bytes, map, Result, Ok, Err}
+use Rattle.std.specs.Prelude.{◌≡◌, ◌<◌, ◌⊎◌, ℕ, ◌+◌, ◌*◌, ℤ, pos, Bool, true, false, List, [], ◌∷◌, ◌++◌, length, take, Option, None, Some, codes, String, string_bytes, map, Result, Ok, Err}
 use Rattle.std.specs.Fmt.{decimal, signed_decimal}
 use Rattle.std.specs.Global.{Global}
 use Rattle.std.specs.Io.KnownBytes.{append_known}
@@ -30,7 +30,7 @@ use Rattle.image_format.specs.Reading.{image_or_offset}
 use Rattle.image_format.specs.declared.image.Export.{Export}
 use Rattle.image_format.specs.ImageRun.{Ending, As, Fault, image_run}
 use Rattle.image_linker.specs.ImageOf.{image_of, offset_of}
-use Rattle.image_linker.specs.Judging.{IsVerdictOf, IsStoppedAt}
+use Rattle.image_linker.specs.Judging.{IsModuleOf, IsVerdictOf, IsStoppedAt}
 use Rattle.image_linker.specs.Same.{Same}
 use Rattle.image_run.specs.declared.checks.NotRunnable.{NotRunnable}
 use Rattle.image_run.specs.declared.checks.NotRunnable.TheVariants.{UnknownImport, NoSuchExport, WrongArguments, Unlinkable}
@@ -38,6 +38,7 @@ use Rattle.image_run.specs.Checks.{export_named, not_runnable}
 use Rattle.rv_isa.specs.declared.stepping.FaultKind.{FaultKind}
 use Rattle.rv_isa.specs.declared.stepping.FaultKind.TheVariants.{Fetch, Word, Break, Target, Load, Store, Call}
 use Rattle.module_gen.specs.Drill.{drill_bytes}
+use Rattle.drill_laws.specs.Functions.{sum_below}
 use Rattle.stream_compile.specs.Came.{Came, CameUpTo, image_input}
 
 -- a status, and what is written
@@ -240,9 +241,14 @@ abbrev pub OfModule : ((bytes : ℕ) → Module → Outcome → Type 0) → Bool
 OfModule Tells true bytes o = (s : Option Refusal) × IsStoppedAt bytes s × (o ≡ stopped s)
 OfModule Tells false bytes o = (v : Verdict) × IsVerdictOf bytes v × OfVerdict (Tells (length bytes)) v o
 
--- the module is the one that is made, of the given size
+-- the sum of 0 to N - 1 is told, with N + 1 functions; or the steps are spent, which are fewer than so many
+abbrev pub TellsSum : Drilled → Outcome → Type 0
+TellsSum d o = (o ≡ drill_line (d.count + 1) (pos (sum_below d.count))) ⊎ ((d.steps < 640 * d.count + 448) × (o ≡ steps_spent))
+
+-- The bytes that are made, of the given size, are a module. It and its image behave alike, and this is told of it, which is the sum
+-- wherever the steps suffice.
 abbrev pub OfDrill : Drilled → Outcome → Type 0
-OfDrill d o = (v : Verdict) × IsVerdictOf (drill_bytes d.count) v × OfVerdict (TellsDrill d.steps) v o
+OfDrill d o = (m : Module) × IsModuleOf (drill_bytes d.count) m × Same m (image_of m) × TellsDrill d.steps m o × TellsSum d o
 
 -- of a command on an image
 abbrev pub OfReading : Given → Result Image ℕ → Outcome → Type 0
