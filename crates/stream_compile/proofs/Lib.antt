@@ -17,5 +17,6 @@ pub mod Pumping
 pub mod Once
 pub mod Answering
 pub mod Calls
+pub mod Printed
 pub mod Stopped
 pub mod ForeignLaws

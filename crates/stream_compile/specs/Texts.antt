@@ -1,5 +1,5 @@
 -- What the program answers and writes.
-use Rattle.std.specs.Prelude.{◌≡◌, ◌⊎◌, ℕ, Bool, true, false, List, [], ◌∷◌, ◌++◌, length, take, Option, None, Some, codes, String, string_bytes, map, Result, Ok, Err}
+use Rattle.std.specs.Prelude.{◌≡◌, ◌⊎◌, ℕ, Bool, true, false, List, [], ◌∷◌, ◌++◌, length, take, replicate, Option, None, Some, codes, String, string_bytes, map, Result, Ok, Err}
 use Rattle.std.specs.Fmt.{decimal, signed_decimal}
 use Rattle.std.specs.Global.{Global}
 use Rattle.std.specs.Io.KnownBytes.{append_known}
@@ -27,13 +27,17 @@ use Rattle.image_format.specs.Contents.{Image}
 use Rattle.image_format.specs.ImageBytes.{spelling}
 use Rattle.image_format.specs.Reading.{image_or_offset}
 use Rattle.image_format.specs.declared.image.Export.{Export}
-use Rattle.image_format.specs.ImageRun.{Ending, As, Fault, image_run}
+use Rattle.image_format.specs.declared.image.Import.{Import}
+use Rattle.image_format.specs.ImageRun.{Ending, As, Fault, ImageRun}
 use Rattle.image_linker.specs.ImageOf.{image_of, offset_of}
 use Rattle.image_linker.specs.Judging.{IsVerdictOf, IsStoppedAt}
 use Rattle.image_linker.specs.Same.{Same}
+use Rattle.simulation.specs.SameRuns.{BeginsWith}
+use Rattle.wasm_defs.specs.Host.{HostCall}
 use Rattle.image_run.specs.declared.checks.NotRunnable.{NotRunnable}
 use Rattle.image_run.specs.declared.checks.NotRunnable.TheVariants.{UnknownImport, NoSuchExport, WrongArguments, Unlinkable}
 use Rattle.image_run.specs.Checks.{export_named, not_runnable}
+use Rattle.image_run.specs.Printing.{printed, printing_run, replied}
 use Rattle.rv_isa.specs.declared.stepping.FaultKind.{FaultKind}
 use Rattle.rv_isa.specs.declared.stepping.FaultKind.TheVariants.{Fetch, Word, Break, Target, Load, Store, Call}
 use Rattle.stream_compile.specs.Came.{Came, CameUpTo, image_input}
@@ -122,11 +126,7 @@ given_value (argument.I64 n) = given.I64 n
 abbrev pub arguments_of : List Argument → List Value
 arguments_of arguments = map value_of (map given_value arguments)
 
--- how the run of an image's function ends within so many steps, where no call has a reply
-unfoldable pub run_end : Image → (offset : ℕ) → (results : List ValType) → List Value → (steps : ℕ) → Ending
-run_end i offset results arguments steps = (image_run i offset results arguments [] steps).end
-
--- the line of a run of an image that ended so, where no host was called
+-- the line of a run of an image that ended so, where the host stopped none
 abbrev pub EndsAs : Ending → Outcome → Type 0
 EndsAs (As (Returns values memory globals)) o = o ≡ returned values
 EndsAs (As (Traps kind memory globals)) o = o ≡ trapped kind
@@ -135,31 +135,49 @@ EndsAs (As Stops) o = ⊥
 EndsAs (As Fails) o = ⊥
 EndsAs (Fault kind pc) o = o ≡ machine_fault kind pc
 
+-- behind what the calls of a run print stands its line
+abbrev pub behind : List ℕ → Outcome → Outcome
+behind text line = record line { text = text ++ line.text }
+
+-- what is told of a run of an image: what its calls print, and its line
+abbrev pub TellsImageRun : List Import → ImageRun → Outcome → Type 0
+TellsImageRun imports r o = (line : Outcome) × EndsAs r.end line × (o ≡ behind (printed imports r.calls) line)
+
 -- of the function that the image exports under the name
 abbrev pub ChecksAndCalls : Option NotRunnable → Image → Given → Outcome → Type 0
 ChecksAndCalls (Some why) i c o = o ≡ unrunnable why
 ChecksAndCalls None i c o =
     (e : Export) × (export_named c.export i.exports ≡ Some e)
-    × EndsAs (run_end i e.offset e.signature.results (arguments_of c.arguments) c.steps) o
+    × TellsImageRun i.imports (printing_run i e.offset e.signature.results (arguments_of c.arguments) c.steps) o
 
 abbrev pub TellsImageCall : Given → Image → Outcome → Type 0
 TellsImageCall c i o = ChecksAndCalls (not_runnable i c.export (types_of_values (arguments_of c.arguments))) i c o
 
--- The line of a run of a module whose image ended so within its steps: the same end is that of the module's run by the reduction rules, for
--- some weight; or the image goes on after all its steps.
-abbrev pub TellsEnd : Ending → (ℕ → module_runs.Run) → Outcome → Type 0
-TellsEnd (As (Returns values memory globals)) runs o = (k : ℕ) × ((runs k).end ≡ Returns values memory globals) × (o ≡ returned values)
-TellsEnd (As (Traps kind memory globals)) runs o = (k : ℕ) × ((runs k).end ≡ Traps kind memory globals) × (o ≡ trapped kind)
-TellsEnd (As Going) runs o = o ≡ steps_spent
-TellsEnd (As Stops) runs o = ⊥
-TellsEnd (As Fails) runs o = ⊥
-TellsEnd (Fault kind pc) runs o = ⊥
+-- The line of a run of a module whose image made these calls and ended so within its steps. The same calls and the same end are
+-- those of the module's run by the reduction rules, for some weight; or the image goes on after all its steps, and its calls are a
+-- front of the module's for some weight.
+abbrev pub TellsEnd : List HostCall → Ending → (ℕ → module_runs.Run) → Outcome → Type 0
+TellsEnd calls (As (Returns values memory globals)) runs o = (k : ℕ) × (runs k ≡ record { calls = calls; end = Returns values memory globals }) × (o ≡ returned values)
+TellsEnd calls (As (Traps kind memory globals)) runs o = (k : ℕ) × (runs k ≡ record { calls = calls; end = Traps kind memory globals }) × (o ≡ trapped kind)
+TellsEnd calls (As Going) runs o = (k : ℕ) × BeginsWith (runs k).calls calls × (o ≡ steps_spent)
+TellsEnd calls (As Stops) runs o = ⊥
+TellsEnd calls (As Fails) runs o = ⊥
+TellsEnd calls (Fault kind pc) runs o = ⊥
+
+-- what its calls print, and its line
+abbrev pub TellsModuleRun : List Import → ImageRun → (ℕ → module_runs.Run) → Outcome → Type 0
+TellsModuleRun imports r runs o = (line : Outcome) × TellsEnd r.calls r.end runs line × (o ≡ behind (printed imports r.calls) line)
+
+-- the run of a module's function where the calls of its imports return, and change no memory
+abbrev pub printing_module_run : Module → (function : ℕ) → List Value → (steps weight : ℕ) → module_runs.Run
+printing_module_run m f arguments steps = module_run m f arguments (replicate steps replied)
 
 -- of the function that is exported under the name
 abbrev pub TellsRun : Module → (name : List ℕ) → List Value → (steps : ℕ) → Outcome → Type 0
 TellsRun m name arguments steps o =
     (f : ℕ) × (named name (exports_of m.items) ≡ Some f)
-    × TellsEnd (run_end (image_of m) (offset_of m f) (type_of_function (context_of m.items) f).results arguments steps) (module_run m f arguments []) o
+    × TellsModuleRun (image_of m).imports (printing_run (image_of m) (offset_of m f) (type_of_function (context_of m.items) f).results arguments steps)
+    (printing_module_run m f arguments steps) o
 
 abbrev pub ChecksAndRuns : Option NotRunnable → Module → (name : List ℕ) → List Value → (steps : ℕ) → Outcome → Type 0
 ChecksAndRuns (Some why) m name arguments steps o = o ≡ unrunnable why

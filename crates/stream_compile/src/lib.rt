@@ -12,6 +12,7 @@ mod laws;
 mod output;
 mod reading;
 mod running;
+mod writing;
 
 pub use answer::{Answer, Built, CheckAnswer, Checked, Settings};
 pub use command::top;
