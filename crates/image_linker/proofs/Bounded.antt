@@ -1,6 +1,6 @@
 -- The image of a module keeps the bounds of images.
 use Rattle.std.proofs.Common.{◌≡◌, ℕ, zero, suc, ◌+◌, ◌*◌, ◌^◌, ◌<◌, ◌≤◌, Bool, true, false, List, [], ◌∷◌, ◌++◌, map, length, replicate, Option, None, Some, refl, sym, ap, ◌∙◌, subst, arith}
-use Rattle.std.specs.Prelude.{All, nat_le}
+use Rattle.std.specs.Prelude.{All, nat_le, slice_get}
 use Rattle.std.proofs.lemmas.Bool.{and_parts, leb-true}
 use Rattle.std.proofs.lemmas.List.{length-map, length-replicate}
 use Rattle.std.proofs.lemmas.List.Elements.{All-nil, All-cons}
@@ -11,18 +11,16 @@ use Rattle.wasm_defs.specs.declared.item.Item.TheVariants as item
 use Rattle.wasm_defs.specs.Context.{context_of, functions_of}
 use Rattle.wasm_defs.specs.Entries.{nothing}
 use Rattle.wasm_defs.specs.Faults.{Module}
-use Rattle.wasm_defs.specs.Instances.{Written, exports_of, values_of, rows_of, pages_of, elements_of, data_of, is_linkable, all_over, all_fit, start_of}
+use Rattle.wasm_defs.specs.Instances.{Written, exports_of, values_of, rows_of, pages_of, elements_of, data_of, is_linkable, instance_of, all_fit, start_of}
 use Rattle.wasm_defs.specs.Limits.{max_entries, max_module, max_pages}
 use Rattle.wasm_defs.specs.Memory.{page}
 use Rattle.wasm_defs.specs.Values.{word_of as value_word, words_of}
 use Rattle.wasm_laws.specs.Kept.{TypesAreSmall, AreThere}
 use Rattle.wasm_laws.specs.Sections.{AreBytes}
-use Rattle.wasm_laws.specs.Plain.{HasNoMore}
 use Rattle.wasm_laws.proofs.Bytes.{each_byte}
 use Rattle.wasm_laws.proofs.Counted.{entries_in, entries_are_few}
 use Rattle.wasm_laws.proofs.Described.{module_is_described}
 use Rattle.wasm_laws.proofs.Exports.{exports_are_there}
-use Rattle.wasm_laws.proofs.Plain.{plain_has_no_more}
 use Rattle.wasm_defs.specs.Rules.{AllKeep}
 use Rattle.image_format.specs.Contents.{IsImage}
 use Rattle.image_format.specs.Bounds.{IsText, IsOffset, AreGlobals, IsRow, IsTable, Each, SegmentFits, AreSegments, bytes_of, AreImports, AreExports}
@@ -37,7 +35,8 @@ use Rattle.image_linker.proofs.CoveredFacts.{module_is_covered}
 use Rattle.image_linker.proofs.ExportBounds.{AreNamed, exports_are_few, sections_named, items_keep, exports_fit}
 use Rattle.image_linker.proofs.ImportBounds.{imports_are_few, imports_counted, imports_fit}
 use Rattle.image_linker.proofs.Items.{values_are_words}
-use Rattle.image_linker.proofs.Modules.{function_offset}
+use Rattle.image_linker.proofs.Modules.{function_offset, rows_fit}
+use Rattle.image_linker.proofs.TableRows.{RowFits, table_has_rows}
 use Rattle.image_linker.proofs.Placed.{text_length, text_in_range}
 use Rattle.image_linker.proofs.Regions.{AreWords}
 use Rattle.image_linker.proofs.SegmentFacts.{bytes_in}
@@ -46,11 +45,6 @@ use Rattle.image_linker.proofs.WordRanges.{words_are_short}
 each_word : (ws : List ℕ) → AreWords ws → All (λ value. value < 2 ^ 64) ws
 each_word [] h = All-nil (λ value. value < 2 ^ 64)
 each_word (w ∷ ws) h = All-cons (λ value. value < 2 ^ 64) w ws h.0 (each_word ws h.1)
-
--- rows without a function
-pub rows_made : (m : Module) (n : ℕ) → map (row_of m) (replicate n None) ≡ replicate n empty_row
-rows_made m zero = refl
-rows_made m (suc n) = ap (λ (l : List Row). empty_row ∷ l) (rows_made m n)
 
 empty_rows : (n most : ℕ) → n ≤ most → (length (replicate n empty_row) ≤ most) × All IsRow (replicate n empty_row)
 empty_rows n most le = (omega (arith, length-replicate n empty_row, le), each n)
@@ -79,9 +73,6 @@ module _ (bytes : List ℕ) (m : Module) (fits : AreBytes bytes) (is : IsModuleO
   good : IsCoveredModule m
   good = module_is_covered bytes m fits is.is
 
-  none : HasNoMore m.items
-  none = plain_has_no_more m.items good.items
-
   text_words : length (map word_of (text_of m)) ≤ 2 ^ 26
   text_words = let keeps = is.fits in omega (arith, text_length m good, length-map (text_of m) word_of)
 
@@ -95,12 +86,18 @@ module _ (bytes : List ℕ) (m : Module) (fits : AreBytes bytes) (is : IsModuleO
   globals : AreGlobals (words_of (values_of m.items))
   globals = (omega (arith, length-map (values_of m.items) value_word, good.spaces.globals), each_word (words_of (values_of m.items)) (values_are_words m.items good.constants))
 
-  table_is : (b : Bool) → table_of m b ≡ replicate (rows_of m.items) empty_row
-  table_is true = ap (λ l. map (row_of m) (all_over (replicate (rows_of m.items) None) l)) none.elements ∙ rows_made m (rows_of m.items)
-  table_is false = refl
+  each_row : (rows : List (Option ℕ)) → ((a : ℕ) (o : Option ℕ) → slice_get rows a ≡ Some o → RowFits m o) → All IsRow (map (row_of m) rows)
+  each_row [] fit = All-nil IsRow
+  each_row (o ∷ rows) fit = All-cons IsRow (row_of m o) (map (row_of m) rows) (fit 0 o refl) (each_row rows (λ a p is. fit (suc a) p is))
 
-  table : IsTable (table_of m (is_linkable m))
-  table = subst IsTable (sym (table_is (is_linkable m))) (empty_rows (rows_of m.items) 100000 (omega (arith, good.spaces.rows)))
+  table : (b : Bool) → is_linkable m ≡ b → IsTable (table_of m b)
+  table true can_link =
+      let fit = (and_parts (all_fit (rows_of m.items) (elements_of m.items)) (all_fit (page * pages_of m.items) (data_of m.items)) can_link).0 in
+      let few : length (text_of m) ≤ 2 ^ 26 = omega (arith, text_words, length-map (text_of m) word_of) in (
+        omega (arith, length-map (instance_of m).table (row_of m), table_has_rows m fit, good.spaces.rows),
+        each_row (instance_of m).table (rows_fit m good few),
+      )
+  table false can_not = empty_rows (rows_of m.items) 100000 (omega (arith, good.spaces.rows))
 
   segments : (b : Bool) → is_linkable m ≡ b → AreSegments (pages_of m.items) (placed_segments m b)
   segments true can_link =
@@ -153,7 +150,7 @@ module _ (bytes : List ℕ) (m : Module) (fits : AreBytes bytes) (is : IsModuleO
   bounds = record {
     text = text;
     globals = globals;
-    table = table;
+    table = table (is_linkable m) refl;
     pages = good.spaces.pages;
     cap = omega (arith, good.spaces.cap);
     segments = segments (is_linkable m) refl;

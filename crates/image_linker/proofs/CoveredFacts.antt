@@ -1,19 +1,18 @@
--- The modules that verdicts accept so far are of covered instructions.
-use Rattle.std.proofs.Common.{◌≡◌, ℕ, zero, suc, ◌+◌, ◌<◌, ◌≤◌, ◌&&◌, Option, true, List, [], ◌∷◌, length, None, Some, refl, sym, ap, subst, arith, replicate, ◌∙◌}
+-- The modules that verdicts accept are of covered instructions.
+use Rattle.std.proofs.Common.{◌≡◌, ℕ, zero, suc, ◌+◌, ◌<◌, ◌≤◌, ◌&&◌, Option, true, List, [], ◌∷◌, length, None, Some, refl, sym, ap, subst, arith, ◌∙◌}
 use Rattle.std.proofs.lemmas.Bool.{and_parts, false≢true}
 use Rattle.wasm_defs.specs.declared.item.Item.{Item}
 use Rattle.wasm_defs.specs.declared.types.ValType.TheVariants.{I32, I64}
 use Rattle.wasm_defs.specs.declared.token.Plain.{Plain}
-use Rattle.wasm_defs.specs.declared.token.Plain.TheVariants.{Unreachable, Br, BrIf, BrTable, Return, Call, Nop, Discard, Select, LocalGet, LocalSet, LocalTee, GlobalGet, GlobalSet, Load, Store, MemorySize, MemoryGrow, Const, Operate}
+use Rattle.wasm_defs.specs.declared.token.Plain.TheVariants.{Unreachable, Br, BrIf, BrTable, Return, Call, CallIndirect, Nop, Discard, Select, LocalGet, LocalSet, LocalTee, GlobalGet, GlobalSet, Load, Store, MemorySize, MemoryGrow, Const, Operate}
 use Rattle.wasm_defs.specs.Context.{type_or_empty, type_of_function, context_of, import_count, declared_count, types_of, functions_of}
 use Rattle.wasm_defs.specs.Entries.{Seen}
 use Rattle.wasm_defs.specs.Outside.{Body, Ending, Whole, Refused, Owed, module_read}
 use Rattle.wasm_defs.specs.Trees.{Seq, Nothing, Simple, Block, Loop, If, IfElse}
 use Rattle.wasm_defs.specs.Faults.{tokens_of, read_of, context_at, ending_fault, IsValidCode, Module, IsModule}
-use Rattle.wasm_defs.specs.Instances.{Written, rows_of, all_over, instance_of, exports_of, named, start_of}
+use Rattle.wasm_defs.specs.Instances.{rows_of, elements_of, instance_of, exports_of, named, start_of}
 use Rattle.wasm_laws.specs.Behind.{AreValidIn}
 use Rattle.wasm_laws.specs.Kept.{TypesAreSmall, BodyIsSmall, BodiesAreSmall, SpacesAreSmall, ConstantsFit, AreThere, TakesNothing}
-use Rattle.wasm_laws.specs.Plain.{ArePlain}
 use Rattle.wasm_laws.specs.Sections.{AreBytes}
 use Rattle.wasm_laws.specs.Compiled.{is_compiled_plain, is_compiled_type, is_compiled, IsInRange, TreeIsInRange}
 use Rattle.wasm_laws.proofs.Behind.{bodies_are_valid}
@@ -25,7 +24,6 @@ use Rattle.wasm_defs.specs.Limits.{max_entries}
 use Rattle.wasm_laws.proofs.Exports.{types_are_small, function_is_small, exports_are_there, named_is_there}
 use Rattle.wasm_laws.proofs.Counting.{tokens_are_few}
 use Rattle.wasm_laws.proofs.Locals.{bodies_are_small}
-use Rattle.wasm_laws.proofs.Plain.{items_are_plain, plain_has_no_more}
 use Rattle.wasm_laws.proofs.Ranges.{constant_fits, long_constant_fits, tree_is_in_range}
 use Rattle.wasm_laws.proofs.Spaces.{spaces_are_small}
 use Rattle.wasm_laws.proofs.Starts.{start_is_right}
@@ -33,7 +31,7 @@ use Rattle.wasm_laws.proofs.Compiled.{tree_is_compiled}
 use Rattle.wasm_laws.proofs.Typed.{functions_of-counts}
 use Rattle.sim_frames.specs.Covered.{IsCoveredStep, IsCovered}
 use Rattle.wasm_defs.specs.Typing.{Types, Context, inside, function_type}
-use Rattle.std.specs.Prelude.{◌≢◌, slice_get}
+use Rattle.std.specs.Prelude.{slice_get}
 use Rattle.std.proofs.lemmas.List.{length-reverse}
 use Rattle.std.proofs.lemmas.Option.{slice_get_within}
 use Rattle.wasm_defs.specs.declared.types.FuncType.{FuncType}
@@ -46,6 +44,7 @@ use Rattle.image_linker.proofs.CoveredModules.{IsCoveredBody, AreCoveredBodies, 
 use Rattle.image_linker.proofs.Imported.{ImportsFirst, imports_come_first}
 use Rattle.image_linker.proofs.SegmentFacts.{segments_are_held}
 use Rattle.image_linker.proofs.TableRows.{types_are_few}
+use Rattle.image_linker.proofs.ElementFacts.{elements_are_below, row_below}
 
 -- ---- bodies
 
@@ -57,6 +56,7 @@ covered_step (BrIf l) e range = tt
 covered_step (BrTable ls l) e range = tt
 covered_step Return e range = tt
 covered_step (Call f) e range = tt
+covered_step (CallIndirect i) e range = tt
 covered_step Discard e range = tt
 covered_step Select e range = tt
 covered_step (LocalGet x) e range = tt
@@ -71,7 +71,6 @@ covered_step MemoryGrow e range = tt
 covered_step (Const I32 n) e range = constant_fits n range
 covered_step (Const I64 n) e range = long_constant_fits n range
 covered_step (Operate op) e range = tt
-covered_step p e range = absurd (false≢true e)
 
 takes_one : (c : Context) (type : BlockType) → is_compiled_type type ≡ true → TakesOne c type
 takes_one c Empty e = (omega arith, omega arith)
@@ -176,9 +175,6 @@ no_fault len (Refused r) e = absurd cc
 no_fault len Owed e = absurd cc
 
 module _ (bytes : List ℕ) (m : Module) (fits : AreBytes bytes) (is : IsModule bytes m) where
-  plain : ArePlain m.items
-  plain = subst ArePlain (sym is.items) (items_are_plain bytes is.compiled)
-
   -- as many declared functions as bodies
   functions_match : length (functions_of m.items) ≡ import_count m.items + length m.bodies
   functions_match =
@@ -210,16 +206,8 @@ module _ (bytes : List ℕ) (m : Module) (fits : AreBytes bytes) (is : IsModule 
   small_types : TypesAreSmall (context_of m.items).types
   small_types = subst (λ (items : List Item). TypesAreSmall (context_of items).types) (sym is.items) (types_are_small bytes)
 
-  -- so far no row has a function
-  no_row : (n a f : ℕ) → slice_get (replicate n None) a ≢ Some (Some f)
-  no_row zero a f e = absurd cc
-  no_row (suc n) zero f e = absurd cc
-  no_row (suc n) (suc a) f e = no_row n a f e
-
   in_rows : (a f : ℕ) → slice_get (instance_of m).table a ≡ Some (Some f) → f < length (functions_of m.items)
-  in_rows a f e =
-      let none = (plain_has_no_more m.items plain).elements in
-      absurd (no_row (rows_of m.items) a f (ap (λ (es : List (Written (Option ℕ))). slice_get (all_over (replicate (rows_of m.items) None) es) a) (sym none) ∙ e))
+  in_rows a f e = row_below (length (functions_of m.items)) (rows_of m.items) a f (elements_of m.items) (elements_are_below bytes m fits is) e
 
   few_types : length (types_of m.items) ≤ max_entries
   few_types =
@@ -228,7 +216,6 @@ module _ (bytes : List ℕ) (m : Module) (fits : AreBytes bytes) (is : IsModule 
 
   pub module_is_covered : IsCoveredModule m
   module_is_covered = record {
-    items = plain;
     spaces = subst SpacesAreSmall (sym is.items) (spaces_are_small bytes);
     constants = subst ConstantsFit (sym is.items) (constants_fit bytes fits);
     segments = segments_are_held bytes m fits is;

@@ -1,4 +1,4 @@
--- Plain modules, which keep their limits and whose bodies are of covered instructions: so are all that are compiled so far.
+-- Modules that keep their limits and whose bodies are of covered instructions: so are all that are compiled.
 use Rattle.std.proofs.Common.{◌≡◌, ℕ, suc, ◌+◌, ◌^◌, ◌<◌, ◌≤◌, List, [], ◌∷◌, length, Some}
 use Rattle.std.specs.Prelude.{slice_get}
 use Rattle.wasm_defs.specs.declared.item.Item.{Item}
@@ -9,7 +9,6 @@ use Rattle.wasm_defs.specs.Typing.{IsBody}
 use Rattle.wasm_defs.specs.Faults.{context_at, Module}
 use Rattle.wasm_defs.specs.Instances.{data_of, exports_of, named, function_of, instance_of, start_of}
 use Rattle.wasm_laws.specs.Kept.{SpacesAreSmall, ConstantsFit, TakesNothing, TypesAreSmall}
-use Rattle.wasm_laws.specs.Plain.{ArePlain}
 use Rattle.frame_layout.specs.Slots.{need}
 use Rattle.sim_frames.specs.Covered.{IsCovered}
 use Rattle.wasm_defs.specs.Context.{context_of, types_of, functions_of, import_count, type_of_function}
@@ -31,7 +30,6 @@ AreCoveredBodies items k (b ∷ bodies) (tree ∷ trees) = IsCoveredBody items k
 AreCoveredBodies items k bodies trees = ⊥
 
 pub record IsCoveredModule (m : Module) : Type 0 where
-  pub items : ArePlain m.items
   pub spaces : SpacesAreSmall m.items
   pub constants : ConstantsFit m.items
   pub segments : AreHeld (data_of m.items) max_module

@@ -58,6 +58,11 @@ pub are_placed : (size : ℕ) (rows : List DataRow) (b : Bool) → size < 2 ^ 32
 are_placed size rows true small fit = places_are_small size rows small fit
 are_placed size rows false small fit = tt
 
+-- so are they where another test has to hold too
+pub placed_where : (other : Bool) (size : ℕ) (rows : List DataRow) (b : Bool) → size < 2 ^ 32 → b ≡ (other && all_fit size (written_segments rows)) → ArePlaced b rows
+placed_where other size rows true small e = places_are_small size rows small (and_parts other (all_fit size (written_segments rows)) (sym e)).1
+placed_where other size rows false small e = tt
+
 -- ---- copies
 
 segments_suc : (rows : List DataRow) (i : ℕ) (r : DataRow) → i < length rows → r ≡ slice_index_or rows i r → map placed_row (take (suc i) rows) ≡ map placed_row (take i rows) ++ placed_row r ∷ []

@@ -9,6 +9,9 @@ pub mod Items
 pub mod Placed
 pub mod LoadedMemory
 pub mod TableRows
+pub mod ElementRows
+pub mod ElementFacts
+pub mod LinkedRows
 pub mod SegmentFacts
 pub mod DataRows
 pub mod Called

@@ -15,7 +15,7 @@ HaveBytes (w ∷ ws) = AreBytes w.1 × HaveBytes ws
 
 -- ---- one segment
 
-over_length : {A : Type 0} (old : List A) (w : Written A) → w.0 + length w.1 ≤ length old → length (over old w) ≡ length old
+pub over_length : {A : Type 0} (old : List A) (w : Written A) → w.0 + length w.1 ≤ length old → length (over old w) ≡ length old
 over_length {A} old w fits =
     length-append (take w.0 old) (w.1 ++ drop (w.0 + length w.1) old)
     ∙ omega (arith, length-take-le w.0 old (omega arith), length-append w.1 (drop (w.0 + length w.1) old), length-drop (w.0 + length w.1) old, fits)

@@ -1,4 +1,4 @@
--- A module of what is compiled so far behaves as its image does.
+-- A module behaves as its image does.
 use Rattle.std.proofs.Common.{◌≡◌, inl, inr, ⊎_elim, ℕ, zero, suc, ◌-◌, ◌∷◌, ◌+◌, ◌*◌, ◌^◌, ◌<◌, ◌≤◌, Bool, true, List, [], map, length, replicate, Option, Some, None, refl, sym, ap, ◌∙◌, subst, arith}
 use Rattle.std.specs.Prelude.{◌≢◌, ◌==◌, if◌then◌else◌, slice_get, slice_index, option_map}
 use Rattle.std.proofs.lemmas.Bool.{cases_lt, cond-false, ne_eqb, and_parts}
@@ -25,9 +25,7 @@ use Rattle.wasm_defs.specs.Reductions.{run}
 use Rattle.wasm_defs.specs.ModuleRun.{first_state, module_run}
 use Rattle.wasm_defs.specs.ModuleRun as module_run
 use Rattle.wasm_defs.specs.Instances.{Written, imports_from, rows_of, pages_of, cap_of, all_over, all_fit, elements_of, data_of, is_linkable, instance_of, store_of, start_of, values_of, function_of, declared_from, declared_functions, functions_of}
-use Rattle.wasm_laws.specs.Plain.{HasNoMore}
 use Rattle.wasm_laws.proofs.Exports.{function_is_small}
-use Rattle.wasm_laws.proofs.Plain.{plain_has_no_more}
 use Rattle.frame_layout.specs.Templates.{import_stub, exit_stub}
 use Rattle.image_format.specs.declared.image.Import.{Import}
 use Rattle.image_format.specs.Bounds.{IsOffset}
@@ -47,7 +45,7 @@ use Rattle.image_linker.proofs.CoveredModules.{AreCoveredBodies, IsCoveredModule
 use Rattle.image_linker.proofs.CoveredFacts.{module_is_covered}
 use Rattle.image_linker.proofs.Items.{globals_typed, values_in_range, values_are_words}
 use Rattle.image_linker.proofs.LoadedMemory.{HaveBytes}
-use Rattle.image_linker.proofs.TableRows.{table_has_rows, table_stands, table_called}
+use Rattle.image_linker.proofs.TableRows.{RowFits, fits, table_has_rows, table_stands, table_called}
 use Rattle.image_linker.proofs.Imported.{IsStub, get_left, get_right, index_right, imports_length, places_length, stub_place, stub_stands, type_by, imports_typed}
 use Rattle.image_linker.proofs.Placed.{Placed, code_is_short, text_length, exit_stands, stubs_stand, function_stands}
 use Rattle.image_linker.proofs.Called.{IsSmall, IsFirst, is_called}
@@ -59,9 +57,6 @@ has_inside code i (op ∷ []) some has = omega (arith, slice_get_within code i (
 has_inside code i (op ∷ next ∷ ops) some has = omega (arith, has_inside code (suc i) (next ∷ ops) (omega arith) has.1)
 
 module _ (m : Module) (good : IsCoveredModule m) (short : length (text_of m) ≤ 2 ^ 26) where
-  none : HasNoMore m.items
-  none = plain_has_no_more m.items good.items
-
   -- the image has as many rows as the table at first, where segments have their places
   has_all : is_linkable m ≡ true → all_fit (rows_of m.items) (elements_of m.items) ≡ true
   has_all can_link = (and_parts (all_fit (rows_of m.items) (elements_of m.items)) (all_fit (page * pages_of m.items) (data_of m.items)) can_link).0
@@ -308,6 +303,10 @@ module _ (m : Module) (good : IsCoveredModule m) (short : length (text_of m) ≤
       let within = (place_within f h.0 h.1).1 in
       let few = code_is_short m short in
       omega arith
+
+  -- the numbers of rows are words
+  pub rows_fit : (a : ℕ) (o : Option ℕ) → slice_get (instance_of m).table a ≡ Some o → RowFits m o
+  rows_fit = fits m (omega (arith, good.few_types)) places (λ f. refl) place_is_near
 
   table_now : is_linkable m ≡ true → TableHolds (instance_of m) places (loaded (image_of m))
   table_now can_link = table_stands m can_link (omega (arith, good.few_types)) places (λ f. refl) place_is_near in_row

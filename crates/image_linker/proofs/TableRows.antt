@@ -71,17 +71,24 @@ module _ (m : Module) (rows : List (Option ℕ)) (fit : (a : ℕ) (o : Option �
         ap (λ (n : ℕ). value_at 8 n (word_bytes words)) second ∙ word_is_read words (2 * a + 1) (row_of m o).like small at.1,
       )
 
--- the rows stand in the region of the image that is loaded
-module _ (m : Module) (linkable : is_linkable m ≡ true) (few_types : length (context_of m.items).types < 2 ^ 32)
+-- functions lie near the text's beginning, and types are few
+module _ (m : Module) (few_types : length (context_of m.items).types < 2 ^ 32)
     (places : ℕ → ℕ) (places_are : (f : ℕ) → places f ≡ slice_index (places_of_functions m) f)
-    (near : (a f : ℕ) → slice_get (instance_of m).table a ≡ Some (Some f) → places f < 2 ^ 60)
-    (functions : (a f : ℕ) → slice_get (instance_of m).table a ≡ Some (Some f) → (h : Function) × (slice_get (functions_of m) f ≡ Some h) × (type_of h ≡ type_of_function (context_of m.items) f)) where
-  fits : (a : ℕ) (o : Option ℕ) → slice_get (instance_of m).table a ≡ Some o → RowFits m o
+    (near : (a f : ℕ) → slice_get (instance_of m).table a ≡ Some (Some f) → places f < 2 ^ 60) where
+  pub fits : (a : ℕ) (o : Option ℕ) → slice_get (instance_of m).table a ≡ Some o → RowFits m o
   fits a None is = (omega arith, omega arith)
   fits a (Some f) is =
       let low = near a f is in
       let place_is = places_are f in
       (omega arith, omega (arith, like_is_few (context_of m.items).types (type_of_function (context_of m.items) f)))
+
+-- the rows stand in the region of the image that is loaded
+module _ (m : Module) (linkable : is_linkable m ≡ true) (few_types : length (context_of m.items).types < 2 ^ 32)
+    (places : ℕ → ℕ) (places_are : (f : ℕ) → places f ≡ slice_index (places_of_functions m) f)
+    (near : (a f : ℕ) → slice_get (instance_of m).table a ≡ Some (Some f) → places f < 2 ^ 60)
+    (functions : (a f : ℕ) → slice_get (instance_of m).table a ≡ Some (Some f) → (h : Function) × (slice_get (functions_of m) f ≡ Some h) × (type_of h ≡ type_of_function (context_of m.items) f)) where
+  own : (a : ℕ) (o : Option ℕ) → slice_get (instance_of m).table a ≡ Some o → RowFits m o
+  own = fits m few_types places places_are near
 
   holds : TableHolds (instance_of m) places (record (loaded (image_of m)) { table = word_bytes (row_words (map (row_of m) (instance_of m).table)) })
   holds =
@@ -89,11 +96,11 @@ module _ (m : Module) (linkable : is_linkable m ≡ true) (few_types : length (c
       record {
         rows = record {
           size = omega (arith, word_bytes_length (row_words (map (row_of m) rows)), row_words_length (map (row_of m) rows), length-map rows (row_of m));
-          empty = λ a is. (row_read m rows fits a None is).0;
-          code_is = λ a f is. let place_is = places_are f in (row_read m rows fits a (Some f) is).0 ∙ omega arith;
+          empty = λ a is. (row_read m rows own a None is).0;
+          code_is = λ a f is. let place_is = places_are f in (row_read m rows own a (Some f) is).0 ∙ omega arith;
           like_is = λ a f is.
               let h = functions a f is in
-              (row_read m rows fits a (Some f) is).1
+              (row_read m rows own a (Some f) is).1
               ∙ ap (first_like (context_of m.items).types) (sym h.2 ∙ ap type_in (sym h.1));
         };
         functions = λ a f is. let h = functions a f is in (h.0, h.1);

@@ -1,12 +1,13 @@
 -- What is linked: the index spaces of a module and the codes of its functions.
-use Rattle.std.specs.Prelude.{ℕ, ℤ, ◌+◌, ◌*◌, ◌^◌, ◌<◌, Bool, true, false, not, List, [], ◌∷◌, ◌++◌, map, length, replicate, suc, Option, None, Some, slice_get, slice_index}
+use Rattle.std.specs.Prelude.{ℕ, ℤ, ◌+◌, ◌*◌, ◌^◌, ◌<◌, ◌&&◌, Bool, true, false, not, List, [], ◌∷◌, ◌++◌, map, length, replicate, suc, Option, None, Some, nat_lt, slice_get, slice_index, if◌then◌else◌}
 use Rattle.std.specs.List.{All}
 use Rattle.rv_isa.specs.Words.{word_of}
 use Rattle.rv_isa.specs.declared.compiled.Code.{Code}
 use Rattle.wasm_defs.specs.declared.context.GlobalType.{GlobalType}
+use Rattle.rv_isa.specs.Steps.{text_base}
 use Rattle.wasm_defs.specs.declared.types.FuncType.{FuncType}
-use Rattle.wasm_defs.specs.Context.{type_or_empty, type_of_function}
-use Rattle.wasm_defs.specs.Instances.{first_minimum, first_cap, all_fit}
+use Rattle.wasm_defs.specs.Context.{type_or_empty, type_of_function, like}
+use Rattle.wasm_defs.specs.Instances.{Written, first_minimum, first_cap, all_over, all_fit}
 use Rattle.wasm_defs.specs.Memory.{page}
 use Rattle.wasm_defs.specs.Values as value
 use Rattle.wasm_laws.specs.Kept.{FitsType}
@@ -19,8 +20,9 @@ use Rattle.image_format.specs.declared.image.Import.{Import as Imported}
 use Rattle.image_format.specs.declared.image.Export.{Export}
 use Rattle.image_format.specs.declared.image.Segment.{Segment}
 use Rattle.index_spaces.specs.declared.entries.Import.{Import}
+use Rattle.index_spaces.specs.declared.entries.ElementRow.{ElementRow}
 use Rattle.index_spaces.specs.declared.entries.DataRow.{DataRow}
-use Rattle.index_spaces.specs.Entries.{function_exports, initial_values, written_segments}
+use Rattle.index_spaces.specs.Entries.{function_exports, initial_values, written_rows, written_segments}
 use Rattle.index_spaces.specs.Spaces.{Spaces, context_in}
 use Rattle.image_linker.specs.ImageOf.{front_of, stub_places, distances}
 
@@ -77,9 +79,26 @@ linked_start starts (Some f) = 4 * slice_index starts f
 abbrev pub empty_row : Row
 empty_row = record { code = 0; like = 0 }
 
--- the memory has room for all data segments, of which else none is written
+-- the least index of a type that equals the type of an index, or 0 where there is none
+abbrev pub like_of : List FuncType → Option ℕ → ℕ
+like_of types None = 0
+like_of types (Some i) = if nat_lt i (length types) then like types i else 0
+
+-- a row with a function: the place of its code, and the index that stands for its type
+abbrev pub linked_row : Spaces → List ℕ → ℕ → Row
+linked_row s starts f = record { code = text_base + 4 * slice_index starts f; like = like_of s.types (slice_get s.functions f) }
+
+-- what element segments write into the table
+abbrev pub linked_elements : Spaces → List ℕ → List ElementRow → List (Written Row)
+linked_elements s starts rows = map (λ r. (r.place, map (linked_row s starts) r.functions)) rows
+
+abbrev pub linked_rows : Spaces → List ℕ → Bool → List Row
+linked_rows s starts true = all_over (replicate (first_minimum s.tables) empty_row) (linked_elements s starts s.elements)
+linked_rows s starts false = replicate (first_minimum s.tables) empty_row
+
+-- the table has room for all element segments, and the memory for all data segments; else none of both is written
 abbrev pub has_room : Spaces → Bool
-has_room s = all_fit (page * first_minimum s.memories) (written_segments s.segments)
+has_room s = all_fit (first_minimum s.tables) (written_rows s.elements) && all_fit (page * first_minimum s.memories) (written_segments s.segments)
 
 abbrev pub placed_row : DataRow → Segment
 placed_row r = record { place = r.place; bytes = r.bytes }
@@ -103,13 +122,13 @@ NumbersFit [] [] = Unit {0}
 NumbersFit (g ∷ globals) (n ∷ numbers) = FitsType g.ty n × NumbersFit globals numbers
 NumbersFit globals numbers = ⊥
 
--- the image of a module that has no element segments
+-- the image of a module
 abbrev pub linked : Spaces → List Code → Image
 linked s codes = record {
   version = One;
   text = front_words s ++ words_from (starts_of s codes) (front_of (length s.imports)) codes;
   globals = global_words s;
-  table = replicate (first_minimum s.tables) empty_row;
+  table = linked_rows s (starts_of s codes) (has_room s);
   pages = first_minimum s.memories;
   cap = first_cap s.memories;
   segments = linked_segments (has_room s) s.segments;

@@ -8,5 +8,6 @@ pub mod laws;
 mod linking;
 mod segments;
 mod spaces;
+mod tables;
 
 pub use linking::link;

@@ -8,11 +8,12 @@ ghost use Rattle.image_format.specs.Contents.{IsImage};
 ghost use Rattle.index_spaces.specs.Spaces.{context_in};
 ghost use Rattle.index_spaces.specs.Entries.{function_exports};
 ghost use Rattle.image_linker.specs.ImageOf.{front_of, distances};
-ghost use Rattle.image_linker.specs.Linking.{NumbersFit, words_of, words_from, starts_behind, front_words, linked, linked_export, linked_import, linked_start};
+ghost use Rattle.image_linker.specs.Linking.{NumbersFit, words_of, words_from, starts_behind, front_words, has_room, linked, linked_export, linked_import, linked_start};
 
 use crate::imports::{front, front_of, imports_of, stub_places};
 use crate::segments::{have_room, placed_segments};
-use crate::spaces::{first_cap, first_minimum, global_words, rows_of};
+use crate::spaces::{first_cap, first_minimum, global_words};
+use crate::tables::{have_rows, rows_of};
 use frame_layout::macros::{call, distance};
 use image_format::{Export, Exports, Globals, Image, Imports, Segments, Table, Text, Version};
 use index_spaces::{Context, copy_of_name, copy_of_type};
@@ -21,7 +22,7 @@ use std::alloc::{AllocError, Global};
 use wasm_defs::{Extern, FuncType, ValTypes};
 
 /// The place of a function, or 0 where it has none.
-fn start_at(starts: &[u32], function: u32) -> u32
+pub(crate) fn start_at(starts: &[u32], function: u32) -> u32
     ensures { result ≡ slice_index starts.now function }
 {
     match starts.get(function as usize) {
@@ -138,6 +139,14 @@ fn exports_of(alloc: Global, context: &Context, starts: &[u32]) -> Result<Vec<Ex
     Ok(exports)
 }
 
+/// Whether the table and the memory have room for all segments (Core 4.5.4).
+fn is_linkable(context: &Context) -> bool
+    ensures { result ≡ has_room context.now }
+{
+    have_rows(first_minimum(context.tables()), context.elements())
+        && have_room(first_minimum(context.memories()), context.segments())
+}
+
 /// The offset of the start function's first word, or 0 where there is none.
 fn start_of(starts: &[u32], start: Option<u32>) -> u32
     requires { (i : ℕ) → slice_index starts.now i < 2 ^ 27 }
@@ -151,9 +160,10 @@ fn start_of(starts: &[u32], start: Option<u32>) -> u32
 
 /// Links the codes of a module's declared functions, in the order of their indices, to the module's image.
 ///
-/// Each call leads to its function, or to the stub of an imported one. So far a module has no element segments. The text has at most
-/// 268,435,456 bytes, what is linked keeps the bounds of images, and the numbers of the globals' constants are of the globals' types.
-/// Where some data segment has no place in the memory, the image has none and is marked as one that can't be instantiated.
+/// Each call leads to its function, or to the stub of an imported one, and so do the rows of the table. The text has at most 268,435,456
+/// bytes, what is linked keeps the bounds of images, and the numbers of the globals' constants are of the globals' types. All segments
+/// are looked at before any is written: where one has no place in the table or the memory, the image has no row with a function and no
+/// data segment, and is marked as one that can't be instantiated.
 pub fn link(alloc: Global, context: &Context, codes: &[Code]) -> Result<Image, AllocError>
     requires bounded { IsImage (linked context.now codes.now) }
     requires numbers { NumbersFit context.now.globals context.now.initials }
@@ -163,9 +173,9 @@ pub fn link(alloc: Global, context: &Context, codes: &[Code]) -> Result<Image, A
     let text = text_of(alloc, context, codes, &starts)?;
     let exports = exports_of(alloc, context, &starts)?;
     let globals = global_words(alloc, context)?;
-    let table = rows_of(alloc, context)?;
     let pages = first_minimum(context.memories());
-    let linkable = have_room(pages, context.segments());
+    let linkable = is_linkable(context);
+    let table = rows_of(alloc, context, &starts, linkable)?;
     let segments = placed_segments(alloc, linkable, context.segments())?;
     Ok(Image {
         version: Version::One,

@@ -1,10 +1,9 @@
 //! What an image has of its module's tables, memories and globals.
 
-ghost use Rattle.std.specs.Prelude.{◌≡◌, IfOk, replicate};
+ghost use Rattle.std.specs.Prelude.{◌≡◌, IfOk};
 ghost use Rattle.wasm_defs.specs.Instances.{first_minimum, first_cap};
-ghost use Rattle.image_linker.specs.Linking.{NumbersFit, empty_row, global_words};
+ghost use Rattle.image_linker.specs.Linking.{NumbersFit, global_words};
 
-use image_format::Row;
 use index_spaces::Context;
 use std::alloc::{AllocError, Global};
 use wasm_defs::{Limits, MAX_PAGES};
@@ -30,14 +29,6 @@ pub(crate) fn first_cap(memories: &[Limits]) -> u32
         },
         None => 0,
     }
-}
-
-/// The rows of the table: none of them has a function.
-pub(crate) fn rows_of(alloc: Global, context: &Context) -> Result<Vec<Row>, AllocError>
-    ensures { IfOk result (λ rows. rows.items ≡ replicate (first_minimum context.now.tables) empty_row) }
-{
-    let rows = first_minimum(context.tables());
-    Ok(vec![in alloc; Row { code: 0, like: 0 }; rows as usize]?)
 }
 
 /// The words of the values that the globals begin with: a number of 32 bits is extended by its sign.

@@ -21,13 +21,13 @@ const FAULTS: [(&str, &str); 49] = [
     // Numbers of a sixth byte, or with stray bits in the fifth.
     ("01 80 80 80 80 80 00", "malformed at 9"),
     ("01 80 80 80 80 10", "malformed at 9"),
-    // Sections: past the limit on a module, unknown, out of order, not compiled, and left out.
+    // Sections: past the limit on a module, unknown, out of order, twice, and left out.
     ("01 FF FF FF FF 0F", "limit at 9"),
     ("0D 00", "malformed at 8"),
     ("03 01 00 01 01 00", "malformed at 11"),
     ("01 01 00 01 01 00", "malformed at 11"),
     ("0C 01 00", "unsupported at 8"),
-    // Of a section that isn't compiled the id may be wrong, and its size comes later.
+    // Imports come out of order; and of a section that is left out the id comes before its size.
     ("03 01 00 02 01 00", "malformed at 11"),
     ("0C FF FF FF FF 0F", "unsupported at 8"),
     // Types: more than there may be, a value type that is left out, one of none, and two results.
@@ -85,7 +85,7 @@ const FAULTS: [(&str, &str); 49] = [
         "01 04 01 60 00 00 03 02 01 00 0A 04 01 02 00 01",
         "malformed at 23",
     ),
-    // Compiled opcodes have their own fault alone. An `else` without an `if` and an unknown opcode are malformed, compiled or not.
+    // An operand that isn't there is invalid; an `else` without an `if` and an unknown opcode are malformed.
     (
         "01 04 01 60 00 00 03 02 01 00 0A 05 01 03 00 45 0B",
         "invalid at 23",
@@ -144,9 +144,9 @@ const FAULTS: [(&str, &str); 49] = [
     ),
 ];
 
-/// The same of tables, memories and globals, and of instructions that are left out or not compiled.
-const FURTHER_FAULTS: [(&str, &str); 33] = [
-    // At a body's last byte an opcode that isn't compiled is malformed, whole or not.
+/// The same of tables, memories, globals and element segments, of calls, and of instructions that are left out.
+const FURTHER_FAULTS: [(&str, &str); 36] = [
+    // At a body's last byte an opcode is malformed, whether its instruction is whole or not.
     (
         "01 04 01 60 00 00 03 02 01 00 0A 04 01 02 00 0F",
         "malformed at 23",
@@ -175,26 +175,37 @@ const FURTHER_FAULTS: [(&str, &str); 33] = [
     ("06 06 01 7F 00 05 00 0B", "invalid at 13"),
     ("06 06 01 7F 00 D0 00 0B", "malformed at 13"),
     ("06 08 01 7F 00 41 00 41 00 0B", "invalid at 15"),
-    // Before it what isn't compiled is unsupported: in valid code, where the same instruction is invalid, and where it is cut off.
+    // Element segments: of a table that isn't there, and with a function that isn't.
+    ("09 06 01 00 41 00 0B 00", "invalid at 11"),
     (
-        "01 04 01 60 00 00 03 02 01 00 04 04 01 70 00 01 0A 09 01 07 00 41 00 11 00 00 0B",
-        "unsupported at 31",
+        "04 04 01 70 00 01 09 07 01 00 41 00 0B 01 00",
+        "invalid at 22",
     ),
+    // Calls by a table that isn't there, also before a missing `end`; without the row's number; of a type that isn't there; with another
+    // table's index; and cut off.
     (
-        "01 04 01 60 00 00 03 02 01 00 0A 07 01 05 00 11 00 00 0B",
-        "unsupported at 23",
-    ),
-    (
-        "01 04 01 60 00 00 03 02 01 00 0A 07 01 05 00 11 05 00 0B",
-        "unsupported at 23",
-    ),
-    (
-        "01 04 01 60 00 00 03 02 01 00 0A 05 01 03 00 11 80",
-        "unsupported at 23",
+        "01 04 01 60 00 00 03 02 01 00 0A 09 01 07 00 41 00 11 00 00 0B",
+        "invalid at 25",
     ),
     (
         "01 04 01 60 00 00 03 02 01 00 0A 07 01 05 00 01 11 00 00",
-        "unsupported at 24",
+        "invalid at 24",
+    ),
+    (
+        "01 04 01 60 00 00 03 02 01 00 04 04 01 70 00 01 0A 07 01 05 00 11 00 00 0B",
+        "invalid at 29",
+    ),
+    (
+        "01 04 01 60 00 00 03 02 01 00 04 04 01 70 00 01 0A 09 01 07 00 41 00 11 01 00 0B",
+        "invalid at 31",
+    ),
+    (
+        "01 04 01 60 00 00 03 02 01 00 04 04 01 70 00 01 0A 09 01 07 00 41 00 11 00 01 0B",
+        "unsupported at 33",
+    ),
+    (
+        "01 04 01 60 00 00 03 02 01 00 0A 05 01 03 00 11 80",
+        "malformed at 24",
     ),
     // A call of a function that isn't there, and one without its argument.
     (
@@ -246,7 +257,7 @@ const LONG_FAULTS: [(&str, usize, &str, &str); 8] = [
     // A name above its limit is one only when it is whole.
     ("00 A4 8D 06 A1 8D 06", 100_015, "", "ended at 100015"),
     ("00 A4 8D 06 A1 8D 06", 100_016, "", "limit at 12"),
-    // An id at the greatest offset of a module: its order comes first, then what isn't compiled, and then the limit.
+    // An id at the greatest offset of a module: its order comes first, then what is left out, and then the limit.
     (
         "00 F3 FF FF 1F 00",
         67_108_864,

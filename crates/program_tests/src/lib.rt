@@ -22,3 +22,5 @@ mod hosts;
 mod operations;
 #[cfg(test)]
 mod starts;
+#[cfg(test)]
+mod tables;

@@ -1,17 +1,15 @@
 -- What is linked of a whole module's codes is its image.
-use Rattle.std.proofs.Common.{◌≡◌, ℕ, ◌+◌, ◌*◌, Bool, true, false, List, [], ◌∷◌, ◌++◌, map, length, Option, None, Some, refl, sym, ap, ◌∙◌, append_assoc}
-use Rattle.std.specs.Prelude.{replicate, not, slice_index}
+use Rattle.std.proofs.Common.{◌≡◌, ℕ, ◌+◌, ◌*◌, ◌<◌, Bool, true, false, List, [], ◌∷◌, ◌++◌, map, length, Option, None, Some, refl, sym, ap, ◌∙◌, append_assoc}
+use Rattle.std.specs.Prelude.{◌&&◌, IsSome, not, slice_index}
 use Rattle.std.proofs.lemmas.List.{map-append}
 use Rattle.rv_isa.specs.Words.{word_of}
 use Rattle.rv_isa.specs.declared.compiled.Code.{Code}
-use Rattle.wasm_defs.specs.Typing.{Context}
+use Rattle.wasm_defs.specs.Typing.{Context, function_type}
 use Rattle.wasm_defs.specs.Context.{context_of, import_count, globals_of}
 use Rattle.wasm_defs.specs.Faults.{Module}
-use Rattle.wasm_defs.specs.Instances.{Written, is_linkable, exports_of, rows_of, pages_of, cap_of, values_of, start_of, all_over, all_fit}
+use Rattle.wasm_defs.specs.Instances.{Written, is_linkable, exports_of, rows_of, pages_of, cap_of, values_of, start_of, elements_of, all_fit}
 use Rattle.wasm_defs.specs.Memory.{page}
 use Rattle.wasm_defs.specs.Values.{Value, words_of as value_words}
-use Rattle.wasm_laws.specs.Plain.{ArePlain, HasNoMore}
-use Rattle.wasm_laws.proofs.Plain.{plain_has_no_more, plain_is_linkable}
 use Rattle.frame_layout.specs.Templates.{exit_stub}
 use Rattle.image_format.specs.declared.version.Version.TheVariants.{One}
 use Rattle.image_format.specs.Contents.{Image}
@@ -22,11 +20,12 @@ use Rattle.image_format.specs.declared.image.Export.{Export}
 use Rattle.index_spaces.specs.declared.entries.DataRow.{DataRow}
 use Rattle.index_spaces.specs.Entries.{imports_of, function_exports, all_exports_of, data_rows_of, initials_of, initial_values, written_segments}
 use Rattle.index_spaces.specs.Spaces.{spaces_of}
-use Rattle.index_spaces.proofs.EntriesOfItems.{imports_are_counted, exports_are_of_items, segments_are_of_items, values_are_of_items}
-use Rattle.image_linker.specs.ImageOf.{front_of, image_of, text_of, stubs_from, code_from, places_of_functions, stub_places, front_size, export_of, row_of, table_of, segment_of, placed_segments, start_offset}
+use Rattle.index_spaces.proofs.EntriesOfItems.{imports_are_counted, exports_are_of_items, elements_are_of_items, segments_are_of_items, values_are_of_items}
+use Rattle.image_linker.specs.ImageOf.{front_of, image_of, text_of, stubs_from, code_from, places_of_functions, stub_places, front_size, export_of, table_of, segment_of, placed_segments, start_offset}
 use Rattle.image_linker.specs.Codes.{AreCodesOf}
-use Rattle.image_linker.specs.Linking.{words_from, stub_words, starts_behind, starts_of, front_words, empty_row, has_room, placed_row, linked_segments, linked, linked_import, linked_export, linked_start}
-use Rattle.image_linker.proofs.Bounded.{rows_made}
+use Rattle.image_linker.specs.Linking.{words_from, stub_words, starts_behind, starts_of, front_words, linked_rows, has_room, placed_row, linked_segments, linked, linked_import, linked_export, linked_start}
+use Rattle.image_linker.proofs.ElementFacts.{AreBelow}
+use Rattle.image_linker.proofs.LinkedRows.{rows_linked}
 use Rattle.image_linker.proofs.Linked.{words_linked, places_linked, stubs_linked, imports_linked}
 
 -- ---- the image, field by field
@@ -35,12 +34,10 @@ abbrev image_by : List ℕ → List ℕ → List Row → ℕ → ℕ → List Se
 image_by text globals table pages cap segments imports exports start unlinkable =
     record { version = One; text = text; globals = globals; table = table; pages = pages; cap = cap; segments = segments; imports = imports; exports = exports; start = start; unlinkable = unlinkable }
 
-module _ (m : Module) (codes : List Code) (plain : ArePlain m.items) (coded : AreCodesOf m.items 0 m.bodies m.trees codes) where
+module _ (m : Module) (codes : List Code) (below : AreBelow (length (context_of m.items).functions) (elements_of m.items))
+    (typed : (f : ℕ) → f < length (context_of m.items).functions → IsSome (function_type (context_of m.items) f)) (coded : AreCodesOf m.items 0 m.bodies m.trees codes) where
   abbrev c : Context
   c = context_of m.items
-
-  none : HasNoMore m.items
-  none = plain_has_no_more m.items plain
 
   -- as many imports as imported functions
   counted : length (imports_of m.items) ≡ import_count m.items
@@ -70,15 +67,14 @@ module _ (m : Module) (codes : List Code) (plain : ArePlain m.items) (coded : Ar
       ap (λ (l : List (List ℕ × ℕ)). map (linked_export (spaces_of m.items) (starts_of (spaces_of m.items) codes)) l) (exports_are_of_items m.items)
       ∙ ap (λ (l : List ℕ). map (linked_export (spaces_of m.items) l) (exports_of m.items)) places_are
 
-  rows_are : (b : Bool) → replicate (rows_of m.items) empty_row ≡ table_of m b
-  rows_are true =
-      sym (rows_made m (rows_of m.items))
-      ∙ ap (λ l. map (row_of m) (all_over (replicate (rows_of m.items) None) l)) (sym none.elements)
-  rows_are false = refl
+  rows_are : (b : Bool) → linked_rows (spaces_of m.items) (starts_of (spaces_of m.items) codes) b ≡ table_of m b
+  rows_are b = rows_linked m (starts_of (spaces_of m.items) codes) places_are typed below b
 
-  -- the memory has room for the data segments where the module can be instantiated
+  -- the table and the memory have room for all segments where the module can be instantiated
   room_is : has_room (spaces_of m.items) ≡ is_linkable m
-  room_is = ap (λ (ws : List (Written ℕ)). all_fit (page * pages_of m.items) ws) (segments_are_of_items m.items) ∙ sym (plain_is_linkable m plain)
+  room_is =
+      ap (λ (es : List (Written (Option ℕ))). all_fit (rows_of m.items) es && all_fit (page * pages_of m.items) (written_segments (data_rows_of m.items))) (elements_are_of_items m.items)
+      ∙ ap (λ (ws : List (Written ℕ)). all_fit (rows_of m.items) (elements_of m.items) && all_fit (page * pages_of m.items) ws) (segments_are_of_items m.items)
 
   rows_placed : (rows : List DataRow) → map placed_row rows ≡ map segment_of (written_segments rows)
   rows_placed [] = refl
@@ -112,9 +108,9 @@ module _ (m : Module) (codes : List Code) (plain : ArePlain m.items) (coded : Ar
 
   pub linked_is_image : linked (spaces_of m.items) codes ≡ image_of m
   linked_is_image =
-      ap (λ (b : Bool). image_by (front_words (spaces_of m.items) ++ words_from (starts_of (spaces_of m.items) codes) (front_of (length (imports_of m.items))) codes) (value_words (initial_values (globals_of m.items) (initials_of m.items))) (replicate (rows_of m.items) empty_row) (pages_of m.items) (cap_of m.items) (linked_segments b (data_rows_of m.items)) linked_imports linked_exports starts (not b)) room_is
-      ∙ ap (λ (l : List ℕ). image_by l (value_words (initial_values (globals_of m.items) (initials_of m.items))) (replicate (rows_of m.items) empty_row) (pages_of m.items) (cap_of m.items) (linked_segments L (data_rows_of m.items)) linked_imports linked_exports starts (not L)) text_is
-      ∙ ap (λ (l : List Value). image_by words (value_words l) (replicate (rows_of m.items) empty_row) (pages_of m.items) (cap_of m.items) (linked_segments L (data_rows_of m.items)) linked_imports linked_exports starts (not L)) (values_are_of_items m.items)
+      ap (λ (b : Bool). image_by (front_words (spaces_of m.items) ++ words_from (starts_of (spaces_of m.items) codes) (front_of (length (imports_of m.items))) codes) (value_words (initial_values (globals_of m.items) (initials_of m.items))) (linked_rows (spaces_of m.items) (starts_of (spaces_of m.items) codes) b) (pages_of m.items) (cap_of m.items) (linked_segments b (data_rows_of m.items)) linked_imports linked_exports starts (not b)) room_is
+      ∙ ap (λ (l : List ℕ). image_by l (value_words (initial_values (globals_of m.items) (initials_of m.items))) (linked_rows (spaces_of m.items) (starts_of (spaces_of m.items) codes) L) (pages_of m.items) (cap_of m.items) (linked_segments L (data_rows_of m.items)) linked_imports linked_exports starts (not L)) text_is
+      ∙ ap (λ (l : List Value). image_by words (value_words l) (linked_rows (spaces_of m.items) (starts_of (spaces_of m.items) codes) L) (pages_of m.items) (cap_of m.items) (linked_segments L (data_rows_of m.items)) linked_imports linked_exports starts (not L)) (values_are_of_items m.items)
       ∙ ap (λ (l : List Row). image_by words values l (pages_of m.items) (cap_of m.items) (linked_segments L (data_rows_of m.items)) linked_imports linked_exports starts (not L)) (rows_are L)
       ∙ ap (λ (l : List Segment). image_by words values (table_of m L) (pages_of m.items) (cap_of m.items) l linked_imports linked_exports starts (not L)) (segments_are L)
       ∙ ap (λ (l : List Import). image_by words values (table_of m L) (pages_of m.items) (cap_of m.items) (placed_segments m L) l linked_exports starts (not L)) (imports_linked (context_of m.items) m.items)

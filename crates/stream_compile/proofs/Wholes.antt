@@ -6,10 +6,8 @@ use Rattle.wasm_defs.specs.declared.item.Item.{Item}
 use Rattle.wasm_defs.specs.Entries.{Seen}
 use Rattle.wasm_defs.specs.Context.{types_of}
 use Rattle.wasm_defs.specs.Outside.{Run, Whole, ends}
-use Rattle.wasm_laws.specs.Plain.{ArePlain}
 use Rattle.wasm_laws.specs.Kept.{ConstantsFit}
 use Rattle.wasm_laws.proofs.Constants.{constants_fit}
-use Rattle.wasm_laws.proofs.Plain.{items_are_plain, plain_has_no_more}
 use Rattle.frame_layout.specs.Templates.{exit_stub}
 use Rattle.image_format.specs.Contents.{IsImage}
 use Rattle.index_spaces.specs.Entries.{function_exports, all_exports_of}
@@ -18,6 +16,7 @@ use Rattle.image_linker.specs.ImageOf.{image_of}
 use Rattle.image_linker.specs.Linking.{NumbersFit, linked}
 use Rattle.image_linker.specs.Judging.{IsModuleOf}
 use Rattle.image_linker.proofs.Items.{numbers_fit}
+use Rattle.image_linker.proofs.ElementFacts.{elements_are_below, functions_typed}
 use Rattle.image_linker.proofs.Bounded.{images_keep_bounds}
 use Rattle.image_linker.proofs.Modules.{images_behave_alike}
 use Rattle.image_linker.proofs.Short.{images_are_short}
@@ -37,9 +36,8 @@ whole_done bytes left s seen fits j whole count =
     let w = is_whole bytes left s.spaces s.codes seen j whole in
     let m = w.0 in
     let h = w.1 in
-    let plain : ArePlain m.items = subst ArePlain (sym h.is.items) (items_are_plain bytes h.is.compiled) in
     let is : IsModuleOf bytes m = record { is = h.is; fits = omega (arith, h.words, words_are_sizes m.items 0 m.bodies m.trees j.all h.coded) } in
-    let image : linked (spaces_of m.items) j.all ≡ image_of m = linked_is_image m j.all plain h.coded in
+    let image : linked (spaces_of m.items) j.all ≡ image_of m = linked_is_image m j.all (elements_are_below bytes m fits h.is) (functions_typed bytes m h.is) h.coded in
     let constants : ConstantsFit m.items = subst ConstantsFit (sym h.is.items) (constants_fit bytes fits) in
     record {
       «module» = m;
