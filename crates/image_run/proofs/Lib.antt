@@ -10,5 +10,7 @@ pub mod ImportLaws
 pub mod RunLaws
 pub mod TypeLaws
 pub mod StartLaws
-pub mod ClosedLaws
+pub mod ReplyLaws
+pub mod PrintedRuns
+pub mod PrintingHosts
 pub mod SignatureLaws

@@ -6,7 +6,7 @@ use Rattle.io_edges.specs.Causes.{Rose}
 use Rattle.io_edges.specs.Streams.{WritesText}
 use Rattle.io_edges.proofs.Known.{append_more, take_step}
 
-past : (first second : List ℕ) (n : ℕ) → take (length first + n) (first ++ second) ≡ first ++ take n second
+pub past : (first second : List ℕ) (n : ℕ) → take (length first + n) (first ++ second) ≡ first ++ take n second
 past first second n =
     take_step (length first) n (first ++ second)
     ∙ ap (λ (l : List ℕ). l ++ take n (drop (length first) (first ++ second))) (take_at first second (length first) refl)

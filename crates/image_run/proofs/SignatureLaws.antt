@@ -1,5 +1,5 @@
 -- The signatures of an image's exports keep their bounds.
-use Rattle.std.proofs.Common.{◌≡◌, ℕ, suc, ◌≤◌, true, List, [], ◌∷◌, ◌++◌, length, map, None, Some, inl, inr, refl, ap, subst, arith}
+use Rattle.std.proofs.Common.{◌≡◌, ℕ, suc, ◌≤◌, true, false, List, [], ◌∷◌, ◌++◌, length, map, None, Some, inl, inr, refl, ap, subst, arith}
 use Rattle.std.specs.Str.{bytes_eq}
 use Rattle.std.proofs.lemmas.Bool.{and_parts, cases_Bool}
 use Rattle.std.proofs.lemmas.List.{length-map}
@@ -11,8 +11,8 @@ use Rattle.image_format.specs.Contents.{Image, IsImage}
 use Rattle.image_format.specs.declared.limits.TheConstants.{PARAMS}
 use Rattle.image_format.specs.declared.image.Export.{Export}
 use Rattle.image_format.specs.Bounds.{Each, ExportFits, IsSignature}
-use Rattle.image_run.specs.declared.checks.NotRunnable.TheVariants.{WrongArguments}
-use Rattle.image_run.specs.Checks.{export_named, unfit}
+use Rattle.image_run.specs.declared.checks.NotRunnable.TheVariants.{UnknownImport, WrongArguments}
+use Rattle.image_run.specs.Checks.{export_named, has_unknown_import, not_runnable, unfit}
 
 pub signature_of_export : (words : ℕ) (front es : List Export) (name : List ℕ) (e : Export) → Each (ExportFits words) front es → export_named name es ≡ Some e → IsSignature e.signature
 signature_of_export words front [] name e fits is = absurd cc
@@ -49,3 +49,11 @@ few_arguments i name values e bounds is found =
 
 pub one_result : (i : Image) (name : List ℕ) (e : Export) → IsImage i → export_named name i.exports ≡ Some e → length e.signature.results ≤ 1
 one_result i name e bounds found = (signature_of_export (length i.text) [] i.exports name e bounds.exports.1 found).results
+
+-- where the checks find nothing, all imports are known
+pub all_known : (i : Image) (name : List ℕ) (types : List ValType) → not_runnable i name types ≡ None → has_unknown_import i.imports ≡ false
+all_known i name types is =
+    elim (cases_Bool (has_unknown_import i.imports)) [
+      | inl h ↦ absurd (let t : Some UnknownImport ≡ None = rw h at is in cc)
+      | inr h ↦ h
+    ]

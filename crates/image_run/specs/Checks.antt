@@ -1,18 +1,19 @@
 -- Whether an exported function of an image can be run: what is told of the image, a name and the types of arguments.
-use Rattle.std.specs.Prelude.{ℕ, Bool, true, false, List, [], ◌∷◌, Option, None, Some, if◌then◌else◌}
+use Rattle.std.specs.Prelude.{ℕ, ◌||◌, not, Bool, true, false, List, [], ◌∷◌, Option, None, Some, is_some, if◌then◌else◌}
 use Rattle.std.specs.Str.{bytes_eq}
 use Rattle.wasm_defs.specs.declared.types.ValType.{ValType}
 use Rattle.wasm_defs.specs.Typing.{same_types}
 use Rattle.image_format.specs.Contents.{Image}
 use Rattle.image_format.specs.declared.image.Import.{Import}
 use Rattle.image_format.specs.declared.image.Export.{Export}
+use Rattle.image_run.specs.Printing.{function_of}
 use Rattle.image_run.specs.declared.checks.NotRunnable.{NotRunnable}
 use Rattle.image_run.specs.declared.checks.NotRunnable.TheVariants.{UnknownImport, NoSuchExport, WrongArguments, Unlinkable}
 
--- no import is known
+-- some import is no function that the program provides
 abbrev pub has_unknown_import : List Import → Bool
 has_unknown_import [] = false
-has_unknown_import (i ∷ is) = true
+has_unknown_import (i ∷ is) = not (is_some (function_of i)) || has_unknown_import is
 
 -- the first export of that name
 abbrev pub export_named : (name : List ℕ) → List Export → Option Export

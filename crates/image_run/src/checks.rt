@@ -3,15 +3,16 @@ ghost use Rattle.std.specs.Prelude.{◌≡◌, map};
 ghost use Rattle.std.specs.Option.{option_copied};
 ghost use Rattle.wasm_defs.specs.Values.{type_of};
 ghost use Rattle.wasm_defs.specs.Typing.{same_types};
-ghost use Rattle.image_run.specs.Checks.{export_named, not_runnable, unfit};
+ghost use Rattle.image_run.specs.Checks.{export_named, has_unknown_import, not_runnable, unfit};
 
-use image_format::{Export, Image};
+use crate::sink_host::function_of;
+use image_format::{Export, Image, Import};
 use wasm_defs::{ValType, Value};
 
 /// Why an exported function of an image isn't run.
 #[derive(Clone, Copy, Debug, PartialEq, Eq)]
 pub enum NotRunnable {
-    /// The image has an import that no host provides. So far none is provided.
+    /// The image has an import that is no function of the program's host, by its names and its type.
     UnknownImport,
     /// No exported function has the name.
     NoSuchExport,
@@ -67,14 +68,26 @@ pub fn call_checks(image: &Image, export: &str, arguments: &[Value]) -> Option<N
     }
 }
 
+/// Whether some import is no function of the program's host.
+fn has_unknown_import(imports: &[Import]) -> bool
+    ensures { result ≡ has_unknown_import imports.now }
+{
+    for import in imports {
+        if function_of(import).is_none() {
+            return true;
+        }
+    }
+    false
+}
+
 /// Why the exported function of a name can't be run with these arguments, if it can't: the first reason that holds, in the
 /// order of `NotRunnable`.
 pub fn run_checks(image: &Image, export: &str, arguments: &[Value]) -> Option<NotRunnable>
     ensures { result ≡ not_runnable image.now export.now (map type_of arguments.now) }
 {
-    if image.imports.as_slice().is_empty() {
-        call_checks(image, export, arguments)
-    } else {
+    if has_unknown_import(image.imports.as_slice()) {
         Some(NotRunnable::UnknownImport)
+    } else {
+        call_checks(image, export, arguments)
     }
 }

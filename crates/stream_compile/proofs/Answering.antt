@@ -117,19 +117,16 @@ pub is_short : (failed : Bool) (left rest : Option (List ℕ)) (built : Built) �
 is_short failed left rest built (calm, bytes, came, end, is) = subst (λ (i : Image). length (spelling i) ≤ IMAGE_BYTES) (sym is.image_is) is.is.short
 
 -- what a call of an image's function comes to is what that of the module's does
-pub image_comes : (r : Result Output AllocError) (run : Running) (failed : Bool) (left rest : Option (List ℕ)) (built : Built) → CompilesSource failed left rest (answer.Image built)
-    → IfOk r (λ o. RunsAs built.image run.call (view o)) → IfOk r (λ o. ComesTo (Some (Run run)) failed left rest (view o))
-image_comes (Ok a) run failed left rest built (calm, bytes, came, end, is) e =
+pub image_comes : (run : Running) (failed : Bool) (left rest : Option (List ℕ)) (built : Built) → CompilesSource failed left rest (answer.Image built)
+    → (o : Outcome) → RunsAs None built.image run.call o → ComesTo (Some (Run run)) failed left rest o
+image_comes run failed left rest built (calm, bytes, came, end, is) o e =
     let m = is.«module» in
-    rw calm (bytes, came, (Accepted m, is.is.is, (is.is.same, run_done m built.image run.call (view a) is.image_is is.is.same e)))
-image_comes (Err x) run failed left rest built h e = tt
+    rw calm (bytes, came, (Accepted m, is.is.is, (is.is.same, run_done None m built.image run.call o is.image_is is.is.same e)))
 
 -- ---- of images that the source gives
 
-pub called_comes : (r : Result Output AllocError) (call : Call) (failed : Bool) (left rest : Option (List ℕ)) (i : Image) → IsForeign failed left rest (foreign.Image i) → IfOk r (λ o. RunsAs i call (view o))
-    → IfOk r (λ o. ComesTo (Some (Exec call)) failed left rest (view o))
-called_comes (Ok a) call failed left rest i (calm, bytes, came, is) runs = rw calm (bytes, came, subst (λ (x : Result Image ℕ). OfReading call x (view a)) (sym is) runs.1)
-called_comes (Err x) call failed left rest i h runs = tt
+pub called_comes : (call : Call) (failed : Bool) (left rest : Option (List ℕ)) (i : Image) → IsForeign failed left rest (foreign.Image i) → (o : Outcome) → RunsAs None i call o → ComesTo (Some (Exec call)) failed left rest o
+called_comes call failed left rest i (calm, bytes, came, is) o runs = rw calm (bytes, came, subst (λ (x : Result Image ℕ). OfReading call x o) (sym is) runs.1)
 
 pub bad_comes : (r : Result Output AllocError) (call : Call) (failed : Bool) (left rest : Option (List ℕ)) (offset : ℕ) → IsForeign failed left rest (foreign.Bad offset) → IfOk r (λ o. view o ≡ bad_image offset)
     → IfOk r (λ o. ComesTo (Some (Exec call)) failed left rest (view o))

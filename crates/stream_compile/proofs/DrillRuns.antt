@@ -65,6 +65,9 @@ none_imported c (Element table place functions ∷ xs) h = none_imported c xs h
 none_imported c (Code count end ∷ xs) h = none_imported c xs h
 none_imported c (Segment memory place bytes ∷ xs) h = none_imported c xs h
 
+pub imports_nothing : (m : Module) → import_count m.items ≡ 0 → (image_of m).imports ≡ []
+imports_nothing m none = none_imported (context_of m.items) m.items none
+
 pub drill_type : (n : ℕ) (m : Module) → IsDrill n m → type_of_function (context_of m.items) n ≡ runner_type
 drill_type n m drill = ap type_or_empty drill.exported
 

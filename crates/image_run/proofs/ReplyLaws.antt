@@ -1,0 +1,321 @@
+-- Runs of images under other replies: what they have in common.
+use Rattle.std.proofs.Common.{◌≡◌, ℕ, zero, suc, ◌+◌, ◌-◌, ◌*◌, ◌%◌, ◌^◌, ◌==◌, ◌<◌, ◌≤◌, Bool, true, false, nat_le, max, if◌then◌else◌, List, [], ◌∷◌, ◌++◌, take, drop, length, replicate, Option, None, Some, slice_get, refl, sym, ap, ◌∙◌, subst, append_assoc, length-append, arith}
+use Rattle.std.proofs.lemmas.List.{append-nil, take_at, take-append-le}
+use Rattle.rv_isa.specs.declared.stepping.FaultKind.TheVariants as fault
+use Rattle.rv_isa.specs.Steps.{State, Registers, Stepped, Next, step, reg, set_reg}
+use Rattle.rv_isa.specs.Steps as machine
+use Rattle.wasm_defs.specs.declared.types.ValType.{ValType}
+use Rattle.wasm_defs.specs.declared.value.TrapKind.{TrapKind}
+use Rattle.wasm_defs.specs.Values.{Value, trap_of}
+use Rattle.wasm_defs.specs.Memory.{page}
+use Rattle.wasm_defs.specs.Host.{HostCall, Reply, Stop, Taken, Goes, Stops, taken}
+use Rattle.wasm_defs.specs.ModuleRun as run
+use Rattle.image_format.specs.Contents.{Image}
+use Rattle.image_format.specs.declared.image.Import.{Import}
+use Rattle.image_format.specs.Environment.{Entry, entered, code_of_image}
+use Rattle.image_format.specs.ImageRun.{Running, Stepping, To, Ended, Faulted, Waiting, Ending, As, ImageRun, answered, ask, asked, await_reply, call_import, environment, finish, globals_of, grow, memory_of, next, on, results_at, run_of, slots_at, stepped, steps, trapped, values_at, with_results}
+use Rattle.image_format.specs.ImageRun as image
+use Rattle.image_run.specs.Answers.{IsOver}
+use Rattle.image_run.specs.Printing.{replied}
+
+abbrev pub with_replies : Running → List Reply → Running
+with_replies r rs = record r { replies = rs }
+
+-- how a run may end that no reply stops
+abbrev pub IsUnstopped : Ending → Type 0
+IsUnstopped (As (run.Returns values memory globals)) = Unit {0}
+IsUnstopped (As (run.Traps kind memory globals)) = Unit {0}
+IsUnstopped (As run.Stops) = ⊥
+IsUnstopped (As run.Going) = Unit {0}
+IsUnstopped (As run.Fails) = ⊥
+IsUnstopped (image.Fault kind pc) = Unit {0}
+
+-- what a step comes to, behind these calls, whatever the replies are: the run goes on, or it ends, or it asks for a reply
+data Turn (i : Image) (calls : List HostCall) (f : List Reply → Stepping) : Type 0 where
+  GoesOn : (r : Running) → r.calls ≡ calls → ((rs : List Reply) → f rs ≡ To (with_replies r rs)) → Turn i calls f
+  Ends : (o : ImageRun) → o.calls ≡ calls → IsUnstopped o.end → ((rs : List Reply) → IsOver (f rs)) → ((rs : List Reply) → run_of (f rs) ≡ o) → Turn i calls f
+  Asks : (r : Running) (made : HostCall) (number at : ℕ) (import : Import) → r.calls ≡ calls ++ made ∷ [] → slice_get i.imports number ≡ Some import
+      → ((rs : List Reply) → f rs ≡ await_reply (with_replies r rs) import.signature.results at rs) → Turn i calls f
+
+abbrev grown_registers : Running → (more : ℕ) → Registers
+grown_registers r more = set_reg (set_reg r.machine.registers 10 r.pages) 18 (page * (r.pages + more))
+
+-- the machine behind a reply
+abbrev machine_behind : Running → (at : ℕ) → List Value → List ℕ → State
+machine_behind r at values memory =
+    let bytes = r.machine.bytes in
+    record r.machine { bytes = record bytes { stack = with_results bytes.stack at values; memory = memory ++ drop (length memory) bytes.memory } }
+
+module _ (i : Image) where
+  turn_if : (calls : List HostCall) (t : Bool) (f g : List Reply → Stepping) → Turn i calls f → Turn i calls g → Turn i calls (λ rs. if t then f rs else g rs)
+  turn_if calls true f g a b = a
+  turn_if calls false f g a b = b
+
+  module _ (r : Running) where
+    finish_turn : (later : List (Entry × List ValType)) → Turn i r.calls (λ rs. finish (with_replies r rs) later)
+    finish_turn [] = Ends (run_of (finish r [])) refl tt (λ rs. tt) (λ rs. refl)
+    finish_turn (e ∷ later) = GoesOn (record r { machine = entered r.pages r.machine.bytes e.0; results = e.1; later = later }) refl (λ rs. refl)
+
+    trapped_turn : (pc : ℕ) (kind : Option TrapKind) → Turn i r.calls (λ rs. trapped (with_replies r rs) pc kind)
+    trapped_turn pc None = Ends (run_of (trapped r pc None)) refl tt (λ rs. tt) (λ rs. refl)
+    trapped_turn pc (Some kind) = Ends (run_of (trapped r pc (Some kind))) refl tt (λ rs. tt) (λ rs. refl)
+
+    unknown_turn : (pc : ℕ) → Turn i r.calls (λ rs. Faulted (with_replies r rs) fault.Call pc)
+    unknown_turn pc = Ends (record { calls = r.calls; end = image.Fault fault.Call pc }) refl tt (λ rs. tt) (λ rs. refl)
+
+    grow_turn : (cap more : ℕ) → Turn i r.calls (λ rs. grow cap (with_replies r rs) more)
+    grow_turn cap more =
+        turn_if r.calls (nat_le (r.pages + more) cap) _ _
+        (GoesOn (record r { machine = record r.machine { registers = grown_registers r more }; pages = r.pages + more }) refl (λ rs. refl))
+        (GoesOn (record r { machine = record r.machine { registers = set_reg r.machine.registers 10 (2 ^ 64 - 1) } }) refl (λ rs. refl))
+
+    asked_turn : (pc number : ℕ) (import : Import) → slice_get i.imports number ≡ Some import → (at : Option ℕ) → Turn i r.calls (λ rs. asked (with_replies r rs) pc number import.signature at)
+    asked_turn pc number import is None = unknown_turn pc
+    asked_turn pc number import is (Some at) =
+        let made : HostCall = record { number = number; arguments = values_at r.machine.bytes.stack at import.signature.params; memory = memory_of r } in
+        Asks (record r { calls = r.calls ++ made ∷ [] }) made number at import refl is (λ rs. refl)
+
+    import_turn : (pc number : ℕ) (import : Option Import) → slice_get i.imports number ≡ import → Turn i r.calls (λ rs. call_import (with_replies r rs) pc number import)
+    import_turn pc number None is = unknown_turn pc
+    import_turn pc number (Some import) is = asked_turn pc number import is (slots_at (reg r.machine.registers 8) (max 1 (length import.signature.params)))
+
+    environment_turn : (pc : ℕ) → Turn i r.calls (λ rs. environment i (with_replies r rs) pc)
+    environment_turn pc =
+        let a0 = reg r.machine.registers 10 in
+        let a7 = reg r.machine.registers 17 in
+        turn_if r.calls (a7 == 0) _ _ (finish_turn r.later) (
+        turn_if r.calls (a7 == 1) _ _ (trapped_turn pc (trap_of a0)) (
+        turn_if r.calls (a7 == 2) _ _ (grow_turn i.cap (a0 % 2 ^ 32)) (
+        turn_if r.calls (a7 == 3) _ _ (import_turn pc a0 (slice_get i.imports a0) refl) (unknown_turn pc))))
+
+  stepped_turn : (r : Running) (now : Stepped) → Turn i r.calls (λ rs. stepped i (with_replies r rs) now)
+  stepped_turn r (Next s) = GoesOn (record r { machine = s }) refl (λ rs. refl)
+  stepped_turn r (machine.Call s) = environment_turn (record r { machine = s }) r.machine.pc
+  stepped_turn r (machine.Fault kind) = Ends (record { calls = r.calls; end = image.Fault kind r.machine.pc }) refl tt (λ rs. tt) (λ rs. refl)
+
+  next_turn : (r : Running) → Turn i r.calls (λ rs. next i (with_replies r rs))
+  next_turn r = stepped_turn r (step (code_of_image i) r.machine)
+
+  -- ---- the calls of a run begin with those that were made before
+
+  abbrev pub calls_of : Stepping → List HostCall
+  calls_of done = (run_of done).calls
+
+  abbrev pub BeginWith : List HostCall → Stepping → Type 0
+  BeginWith front done = (rest : List HostCall) × (calls_of done ≡ front ++ rest)
+
+  -- what a run with these replies comes to
+  abbrev pub goes : ℕ → Running → List Reply → Stepping
+  goes n r rs = steps i n (with_replies r rs)
+
+  over_on : (done : Stepping) (go : Running → Stepping) → IsOver done → on done go ≡ done
+  over_on (To r) go h = absurd h
+  over_on (Ended r end) go h = refl
+  over_on (Faulted r kind pc) go h = refl
+  over_on (Waiting r) go h = refl
+
+  abbrev pub GrowAll : ℕ → Type 0
+  GrowAll n = (r : Running) (rs : List Reply) → BeginWith r.calls (goes n r rs)
+
+  taken_grows : (n : ℕ) (r : Running) (rs before : List Reply) (at : ℕ) (t : Taken) → GrowAll n → BeginWith r.calls (on (answered (with_replies r before) rs at t) (steps i n))
+  taken_grows n r rs before at Stops all = ([], sym (append-nil r.calls))
+  taken_grows n r rs before at (Goes values memory) all = all (record r { machine = machine_behind r at values memory }) rs
+
+  reply_grows : (n : ℕ) (r : Running) (results : List ValType) (at : ℕ) (rs before : List Reply) → GrowAll n → BeginWith r.calls (on (await_reply (with_replies r before) results at rs) (steps i n))
+  reply_grows n r results at [] before all = ([], sym (append-nil r.calls))
+  reply_grows n r results at (q ∷ qs) before all = taken_grows n r qs before at (taken results (memory_of r) q) all
+
+  turn_grows : (n : ℕ) (calls : List HostCall) (f : List Reply → Stepping) (rs : List Reply) → Turn i calls f → GrowAll n → BeginWith calls (on (f rs) (steps i n))
+  turn_grows n calls f rs (GoesOn r same is) all = rw (is rs) (subst (λ (l : List HostCall). BeginWith l (goes n r rs)) same (all r rs))
+  turn_grows n calls f rs (Ends o same end over is) all =
+      rw (over_on (f rs) (steps i n) (over rs)) ([], ap (λ (x : ImageRun). x.calls) (is rs) ∙ same ∙ sym (append-nil calls))
+  turn_grows n calls f rs (Asks r made number at import same there is) all =
+      let b = reply_grows n r import.signature.results at rs rs all in
+      rw (is rs) (made ∷ b.0, b.1 ∙ ap (λ (l : List HostCall). l ++ b.0) same ∙ append_assoc calls (made ∷ []) b.0)
+
+  pub calls_grow : (n : ℕ) → GrowAll n
+  calls_grow zero r rs = ([], sym (append-nil r.calls))
+  calls_grow (suc n) r rs = turn_grows n r.calls _ rs (next_turn r) (calls_grow n)
+
+  -- ---- replies that begin alike: so do the calls, up to the one behind them
+
+  abbrev pub alike_until : Running → List Reply → ℕ
+  alike_until r p = length r.calls + length p + 1
+
+  abbrev pub Alike : ℕ → (done other : Stepping) → Type 0
+  Alike k done other = take k (calls_of done) ≡ take k (calls_of other)
+
+  abbrev pub AlikeAll : ℕ → Type 0
+  AlikeAll n = (r : Running) (p x y : List Reply) → Alike (alike_until r p) (goes n r (p ++ x)) (goes n r (p ++ y))
+
+  -- calls that are all made
+  made_alike : (k : ℕ) (front : List HostCall) (done other : Stepping) → k ≡ length front → BeginWith front done → BeginWith front other → Alike k done other
+  made_alike k front done other e a b =
+      let one : take k (calls_of done) ≡ front = ap (take k) a.1 ∙ take_at front a.0 k (sym e) in
+      let two : take k (calls_of other) ≡ front = ap (take k) b.1 ∙ take_at front b.0 k (sym e) in
+      one ∙ sym two
+
+  taken_alike : (n k : ℕ) (r : Running) (p x y before after : List Reply) (at : ℕ) (t : Taken) → k ≡ alike_until r p → AlikeAll n
+      → Alike k (on (answered (with_replies r before) (p ++ x) at t) (steps i n)) (on (answered (with_replies r after) (p ++ y) at t) (steps i n))
+  taken_alike n k r p x y before after at Stops e all = refl
+  taken_alike n k r p x y before after at (Goes values memory) e all =
+      rw e (all (record r { machine = machine_behind r at values memory }) p x y)
+
+  reply_alike : (n k : ℕ) (r : Running) (results : List ValType) (at : ℕ) (p x y before after : List Reply) → k ≡ length r.calls + length p → AlikeAll n
+      → Alike k (on (await_reply (with_replies r before) results at (p ++ x)) (steps i n)) (on (await_reply (with_replies r after) results at (p ++ y)) (steps i n))
+  reply_alike n k r results at [] x y before after e all =
+      made_alike k r.calls (on (await_reply (with_replies r before) results at x) (steps i n)) (on (await_reply (with_replies r after) results at y) (steps i n)) (omega (arith, e))
+      (reply_grows n r results at x before (calls_grow n)) (reply_grows n r results at y after (calls_grow n))
+  reply_alike n k r results at (q ∷ p) x y before after e all =
+      taken_alike n k r p x y before after at (taken results (memory_of r) q) (omega (arith, e)) all
+
+  turn_alike : (n k : ℕ) (calls : List HostCall) (f : List Reply → Stepping) (p x y : List Reply) → Turn i calls f → k ≡ length calls + length p + 1 → AlikeAll n
+      → Alike k (on (f (p ++ x)) (steps i n)) (on (f (p ++ y)) (steps i n))
+  turn_alike n k calls f p x y (GoesOn r same is) e all =
+      let until : k ≡ alike_until r p = e ∙ ap (λ (l : List HostCall). length l + length p + 1) (sym same) in
+      rw (is (p ++ x)) (rw (is (p ++ y)) (rw until (all r p x y)))
+  turn_alike n k calls f p x y (Ends o same end over is) e all =
+      rw (over_on (f (p ++ x)) (steps i n) (over (p ++ x))) (rw (over_on (f (p ++ y)) (steps i n) (over (p ++ y)))
+      (ap (λ (z : ImageRun). take k z.calls) (is (p ++ x) ∙ sym (is (p ++ y)))))
+  turn_alike n k calls f p x y (Asks r made number at import same there is) e all =
+      let size : length r.calls ≡ length calls + 1 = ap length same ∙ length-append calls (made ∷ []) in
+      rw (is (p ++ x)) (rw (is (p ++ y)) (reply_alike n k r import.signature.results at p x y (p ++ x) (p ++ y) (omega (arith, e, size)) all))
+
+  pub calls_alike : (n : ℕ) → AlikeAll n
+  calls_alike zero r p x y = refl
+  calls_alike (suc n) r p x y = turn_alike n (alike_until r p) r.calls _ p x y (next_turn r) refl (calls_alike n)
+
+  -- ---- more replies, where none was wanting, change nothing
+
+  abbrev pub Enough : ℕ → Running → (p y : List Reply) → Type 0
+  Enough n r p y = length (calls_of (goes n r p)) ≤ length r.calls + length p → run_of (goes n r (p ++ y)) ≡ run_of (goes n r p)
+
+  abbrev pub EnoughAll : ℕ → Type 0
+  EnoughAll n = (r : Running) (p y : List Reply) → Enough n r p y
+
+  taken_enough : (n : ℕ) (r : Running) (p y before after : List Reply) (at : ℕ) (t : Taken) → EnoughAll n
+      → length (calls_of (on (answered (with_replies r before) p at t) (steps i n))) ≤ length r.calls + length p
+      → run_of (on (answered (with_replies r after) (p ++ y) at t) (steps i n)) ≡ run_of (on (answered (with_replies r before) p at t) (steps i n))
+  taken_enough n r p y before after at Stops all few = refl
+  taken_enough n r p y before after at (Goes values memory) all few = all (record r { machine = machine_behind r at values memory }) p y few
+
+  -- the call itself was made
+  reply_enough : (n : ℕ) (r : Running) (results : List ValType) (at : ℕ) (p y before after : List Reply) → EnoughAll n
+      → length (calls_of (on (await_reply (with_replies r before) results at p) (steps i n))) + 1 ≤ length r.calls + length p
+      → run_of (on (await_reply (with_replies r after) results at (p ++ y)) (steps i n)) ≡ run_of (on (await_reply (with_replies r before) results at p) (steps i n))
+  reply_enough n r results at [] y before after all few =
+      absurd (omega (arith, few))
+  reply_enough n r results at (q ∷ p) y before after all few =
+      taken_enough n r p y before after at (taken results (memory_of r) q) all (omega (arith, few))
+
+  turn_enough : (n : ℕ) (calls : List HostCall) (f : List Reply → Stepping) (p y : List Reply) → Turn i calls f → EnoughAll n
+      → length (calls_of (on (f p) (steps i n))) ≤ length calls + length p → run_of (on (f (p ++ y)) (steps i n)) ≡ run_of (on (f p) (steps i n))
+  turn_enough n calls f p y (GoesOn r same is) all few =
+      let there : length (calls_of (goes n r p)) ≤ length calls + length p = subst (λ (z : Stepping). length (calls_of (on z (steps i n))) ≤ length calls + length p) (is p) few in
+      let here : length (calls_of (goes n r p)) ≤ length r.calls + length p = omega (arith, there, ap length same) in
+      rw (is p) (rw (is (p ++ y)) (all r p y here))
+  turn_enough n calls f p y (Ends o same end over is) all few =
+      rw (over_on (f p) (steps i n) (over p)) (rw (over_on (f (p ++ y)) (steps i n) (over (p ++ y))) (is (p ++ y) ∙ sym (is p)))
+  turn_enough n calls f p y (Asks r made number at import same there is) all few =
+      let size : length r.calls ≡ length calls + 1 = ap length same ∙ length-append calls (made ∷ []) in
+      let here = subst (λ (z : Stepping). length (calls_of (on z (steps i n))) ≤ length calls + length p) (is p) few in
+      rw (is p) (rw (is (p ++ y)) (reply_enough n r import.signature.results at p y p (p ++ y) all (omega (arith, here, size))))
+
+  pub replies_enough : (n : ℕ) → EnoughAll n
+  replies_enough zero r p y few = refl
+  replies_enough (suc n) r p y few = turn_enough n r.calls _ p y (next_turn r) (replies_enough n) few
+
+  -- ---- each step makes one call at most
+
+  abbrev pub Few : ℕ → ℕ → Stepping → Type 0
+  Few n calls done = length (calls_of done) ≤ calls + n
+
+  abbrev pub FewAll : ℕ → Type 0
+  FewAll n = (r : Running) (rs : List Reply) → Few n (length r.calls) (goes n r rs)
+
+  taken_few : (n : ℕ) (r : Running) (rs before : List Reply) (at : ℕ) (t : Taken) → FewAll n → Few n (length r.calls) (on (answered (with_replies r before) rs at t) (steps i n))
+  taken_few n r rs before at Stops all = omega arith
+  taken_few n r rs before at (Goes values memory) all = all (record r { machine = machine_behind r at values memory }) rs
+
+  reply_few : (n : ℕ) (r : Running) (results : List ValType) (at : ℕ) (rs before : List Reply) → FewAll n → Few n (length r.calls) (on (await_reply (with_replies r before) results at rs) (steps i n))
+  reply_few n r results at [] before all = omega arith
+  reply_few n r results at (q ∷ qs) before all = taken_few n r qs before at (taken results (memory_of r) q) all
+
+  turn_few : (n : ℕ) (calls : List HostCall) (f : List Reply → Stepping) (rs : List Reply) → Turn i calls f → FewAll n → Few (suc n) (length calls) (on (f rs) (steps i n))
+  turn_few n calls f rs (GoesOn r same is) all =
+      rw (is rs) (omega (arith, all r rs, ap length same))
+  turn_few n calls f rs (Ends o same end over is) all =
+      rw (over_on (f rs) (steps i n) (over rs)) (omega (arith, ap (λ (x : ImageRun). length x.calls) (is rs), ap length same))
+  turn_few n calls f rs (Asks r made number at import same there is) all =
+      let size : length r.calls ≡ length calls + 1 = ap length same ∙ length-append calls (made ∷ []) in
+      rw (is rs) (omega (arith, reply_few n r import.signature.results at rs rs all, size))
+
+  pub calls_few : (n : ℕ) → FewAll n
+  calls_few zero r rs = omega arith
+  calls_few (suc n) r rs = turn_few n r.calls _ rs (next_turn r) (calls_few n)
+
+  -- ---- a reply that stops the run, where it was asked for, ends it
+
+  abbrev pub IsStopped : Stepping → Type 0
+  IsStopped done = (run_of done).end ≡ As run.Stops
+
+  abbrev pub StoppedAll : ℕ → Type 0
+  StoppedAll n = (r : Running) (p x : List Reply) → length r.calls + length p < length (calls_of (goes n r (p ++ Stop ∷ x))) → IsStopped (goes n r (p ++ Stop ∷ x))
+
+  taken_stopped : (n : ℕ) (r : Running) (p x before : List Reply) (at : ℕ) (t : Taken) → StoppedAll n
+      → length r.calls + length p < length (calls_of (on (answered (with_replies r before) (p ++ Stop ∷ x) at t) (steps i n)))
+      → IsStopped (on (answered (with_replies r before) (p ++ Stop ∷ x) at t) (steps i n))
+  taken_stopped n r p x before at Stops all more = refl
+  taken_stopped n r p x before at (Goes values memory) all more = all (record r { machine = machine_behind r at values memory }) p x more
+
+  reply_stopped : (n : ℕ) (r : Running) (results : List ValType) (at : ℕ) (p x before : List Reply) → StoppedAll n
+      → length r.calls + length p ≤ length (calls_of (on (await_reply (with_replies r before) results at (p ++ Stop ∷ x)) (steps i n)))
+      → IsStopped (on (await_reply (with_replies r before) results at (p ++ Stop ∷ x)) (steps i n))
+  reply_stopped n r results at [] x before all more = refl
+  reply_stopped n r results at (q ∷ p) x before all more = taken_stopped n r p x before at (taken results (memory_of r) q) all (omega (arith, more))
+
+  turn_stopped : (n : ℕ) (calls : List HostCall) (f : List Reply → Stepping) (p x : List Reply) → Turn i calls f → StoppedAll n
+      → length calls + length p < length (calls_of (on (f (p ++ Stop ∷ x)) (steps i n))) → IsStopped (on (f (p ++ Stop ∷ x)) (steps i n))
+  turn_stopped n calls f p x (GoesOn r same is) all more =
+      let there : length calls + length p < length (calls_of (goes n r (p ++ Stop ∷ x))) =
+      subst (λ (z : Stepping). length calls + length p < length (calls_of (on z (steps i n)))) (is (p ++ Stop ∷ x)) more in
+      let here : length r.calls + length p < length (calls_of (goes n r (p ++ Stop ∷ x))) = omega (arith, there, ap length same) in
+      rw (is (p ++ Stop ∷ x)) (all r p x here)
+  turn_stopped n calls f p x (Ends o same end over is) all more =
+      let here : length calls + length p < length (calls_of (f (p ++ Stop ∷ x))) =
+      subst (λ (z : Stepping). length calls + length p < length (calls_of z)) (over_on (f (p ++ Stop ∷ x)) (steps i n) (over (p ++ Stop ∷ x))) more in
+      absurd (omega (arith, here, ap (λ (z : ImageRun). length z.calls) (is (p ++ Stop ∷ x)), ap length same))
+  turn_stopped n calls f p x (Asks r made number at import same there is) all more =
+      let size : length r.calls ≡ length calls + 1 = ap length same ∙ length-append calls (made ∷ []) in
+      let here = subst (λ (z : Stepping). length calls + length p < length (calls_of (on z (steps i n)))) (is (p ++ Stop ∷ x)) more in
+      rw (is (p ++ Stop ∷ x)) (reply_stopped n r import.signature.results at p x (p ++ Stop ∷ x) all (omega (arith, here, size)))
+
+  pub stops_end : (n : ℕ) → StoppedAll n
+  stops_end zero r p x more = absurd (omega (arith, more))
+  stops_end (suc n) r p x more = turn_stopped n r.calls _ p x (next_turn r) (stops_end n) more
+
+  -- ---- replies of functions without results, of an image that imports no others, stop no run
+
+  module _ (none : (number : ℕ) (import : Import) → slice_get i.imports number ≡ Some import → import.signature.results ≡ []) where
+    abbrev pub Unstopped : Stepping → Type 0
+    Unstopped done = IsUnstopped (run_of done).end
+
+    abbrev pub UnstoppedAll : ℕ → Type 0
+    UnstoppedAll n = (r : Running) (k : ℕ) → Unstopped (goes n r (replicate k replied))
+
+    reply_unstopped : (n : ℕ) (r : Running) (results : List ValType) (at k : ℕ) (before : List Reply) → results ≡ [] → UnstoppedAll n
+        → Unstopped (on (await_reply (with_replies r before) results at (replicate k replied)) (steps i n))
+    reply_unstopped n r results at zero before e all = tt
+    reply_unstopped n r results at (suc k) before e all =
+        rw e (all (record r { machine = machine_behind r at [] (memory_of r) }) k)
+
+    turn_unstopped : (n : ℕ) (calls : List HostCall) (f : List Reply → Stepping) (k : ℕ) → Turn i calls f → UnstoppedAll n → Unstopped (on (f (replicate k replied)) (steps i n))
+    turn_unstopped n calls f k (GoesOn r same is) all = rw (is (replicate k replied)) (all r k)
+    turn_unstopped n calls f k (Ends o same end over is) all =
+        rw (over_on (f (replicate k replied)) (steps i n) (over (replicate k replied))) (subst (λ (x : ImageRun). IsUnstopped x.end) (sym (is (replicate k replied))) end)
+    turn_unstopped n calls f k (Asks r made number at import same there is) all =
+        rw (is (replicate k replied)) (reply_unstopped n r import.signature.results at k (replicate k replied) (none number import there) all)
+
+    pub never_stopped : (n : ℕ) → UnstoppedAll n
+    never_stopped zero r k = tt
+    never_stopped (suc n) r k = turn_unstopped n r.calls _ k (next_turn r) (never_stopped n)
