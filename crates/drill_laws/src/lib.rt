@@ -1,4 +1,4 @@
-//! Laws of drills: what their functions return by the reduction rules of WebAssembly. They have no code.
+//! Laws of drills: that their bytes are modules, and what these return by the reduction rules of WebAssembly. They have no code.
 #![tactic(auto)]
 
 ghost use Rattle.drill_laws.specs.Functions.{DrillsReturn};
@@ -12,7 +12,7 @@ pub fn drills_return()
 
 /// The bytes of a drill are a module that is valid, keeps all limits and holds nothing that isn't compiled: its functions are those
 /// that `drills_return` speaks of, it can be instantiated, and it exports the last of them alone, as `run` (Core 3.4.10 and 5.5).
-/// The limit on an image's text aside, no drill is refused.
+/// Its functions have 76 n + 46 words at most, far fewer than a text may have.
 pub fn drills_are_modules()
     ensures { DrillsAreModules }
 {}
