@@ -50,7 +50,7 @@ front_of_more : (n : ℕ) (text more : List ℕ) → (k : ℕ) × (take n text �
 front_of_more n text more =
     elim (cases_Bool (nat_lt n (length text))) [
       | inl h ↦ (n, sym (take-append-le n text more (omega (arith, ltb-true n (length text) h))))
-      | inr h ↦ (length text, take_all text n (ltb-false n (length text) h) ∙ sym (take_at text more (length text) refl))
+      | inr h ↦ (length text, take_all n text (ltb-false n (length text) h) ∙ sym (take_at text more (length text) refl))
     ]
 
 module _ (drill : Option ℕ) (i : Image) (call : Call) (name : List ℕ) (values : List Given) (checked : Option NotRunnable) (b : Begun call name values) (none : checked ≡ None) (is : checked ≡ not_runnable i name (map type_of values))

@@ -72,13 +72,14 @@ fn write_returned<O: Sink>(out: &mut O, value: Option<Value>) -> bool
 }
 
 /// Writes the line of a drill with so many functions.
-fn write_drill_line<O: Sink>(out: &mut O, functions: u64, value: &[u8]) -> bool
+fn write_drill_line<O: Sink>(out: &mut O, functions: u64, value: i64) -> bool
     requires { O.is_open out.old ≡ true }
-    ensures { WritesText result (codes "functions " ++ (decimal functions ++ (codes " result " ++ (value.now ++ codes "\n")))) (O.written out.old) (O.written out.new) (O.faults out.old) (O.faults out.new) }
+    ensures { WritesText result (drill_line functions value).text (O.written out.old) (O.written out.new) (O.faults out.old) (O.faults out.new) }
 {
-    let mut buffer = Buffer::new();
-    if write_both(out, b"functions ", buffer.format(functions).as_bytes()) {
-        write_number(out, b" result ", value)
+    let mut count = Buffer::new();
+    let mut number = Buffer::new();
+    if write_both(out, b"functions ", count.format(functions).as_bytes()) {
+        write_number(out, b" result ", number.format(value).as_bytes())
     } else {
         false
     }
@@ -89,15 +90,10 @@ fn write_drilled<O: Sink>(out: &mut O, functions: u64, value: Option<Value>) -> 
     requires { O.is_open out.old ≡ true }
     ensures { WritesText result (drilled functions (values_of value)).text (O.written out.old) (O.written out.new) (O.faults out.old) (O.faults out.new) }
 {
-    let mut buffer = Buffer::new();
     match value {
         None => write_all(out, b"ok\n"),
-        Some(Value::I32(number)) => {
-            write_drill_line(out, functions, buffer.format(number).as_bytes())
-        }
-        Some(Value::I64(number)) => {
-            write_drill_line(out, functions, buffer.format(number).as_bytes())
-        }
+        Some(Value::I32(number)) => write_drill_line(out, functions, i64::from(number)),
+        Some(Value::I64(number)) => write_drill_line(out, functions, number),
     }
 }
 

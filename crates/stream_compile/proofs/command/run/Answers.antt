@@ -3,7 +3,7 @@ use Rattle.command_words.specs.declared.command.Command.TheVariants.{Run}
 use Rattle.stream_compile.specs.Reading.{view}
 use Rattle.stream_compile.specs.Running.{RunsAs}
 use Rattle.stream_compile.specs.Texts.{ComesTo, TellsCall}
-use Rattle.stream_compile.proofs.Answering.{image_comes, rejected_comes, read_fault_comes}
+use Rattle.stream_compile.proofs.Answering.{image_comes, rejected_comes}
 use Rattle.stream_compile.proofs.Printed.{told_as}
 use Rattle.stream_compile.proofs.command.run.Goals as goal
 
@@ -15,14 +15,8 @@ returns-in-Image-clause-told g c =
     told_as (RunsAs None c.in-Image.built.image c.args.call.now.call) (ComesTo (Some (Run c.args.call.now)) failed left rest) c.run_image.result (nat_lt (g.O.Sink.faults c.args.out.now) (g.O.Sink.faults c.run_image.new.out))
     (g.O.Sink.written c.args.out.now) (g.O.Sink.written c.run_image.new.out) (image_comes c.args.call.now failed left rest c.in-Image.built c.in-Image.ensures) c.run_image.ensures.told
 
-pub returns-in-Refused-clause-told : goal.returns-in-Refused-clause-told
-returns-in-Refused-clause-told g c =
+pub returns-in_ok-rejected-in-Refused-clause-told : goal.returns-in_ok-rejected-in-Refused-clause-told
+returns-in_ok-rejected-in-Refused-clause-told g c =
     let failed = nat_lt (g.S.Source.faults c.args.source.now) (g.S.Source.faults c.stream_compile.new.source) in
-    let output = c.in_ok-rejected.field-0 in
-    (view output, rejected_comes (λ bytes m. TellsCall None c.args.call.now.call m) (Ok output) failed (g.S.Source.left c.args.source.now) (g.S.Source.left c.stream_compile.new.source) c.in-Refused.refusal c.in-Refused.ensures c.in_ok-rejected.ensures, c.write.ensures)
-
-pub returns-in-ReadFault-clause-told : goal.returns-in-ReadFault-clause-told
-returns-in-ReadFault-clause-told g c =
-    let failed = nat_lt (g.S.Source.faults c.args.source.now) (g.S.Source.faults c.stream_compile.new.source) in
-    let output = c.in_ok-read_fault.field-0 in
-    (view output, read_fault_comes (λ bytes m. TellsCall None c.args.call.now.call m) (Ok output) failed (g.S.Source.left c.args.source.now) (g.S.Source.left c.stream_compile.new.source) c.in-ReadFault.ensures c.in_ok-read_fault.ensures, c.write.ensures)
+    let output = c.in_ok-rejected-in-Refused.field-0 in
+    (view output, rejected_comes (λ bytes m. TellsCall None c.args.call.now.call m) (Ok output) failed (g.S.Source.left c.args.source.now) (g.S.Source.left c.stream_compile.new.source) c.in-Refused.refusal c.in-Refused.ensures c.in_ok-rejected-in-Refused.ensures, c.write.ensures)

@@ -17,5 +17,5 @@ returns-in-Image-clause-told g c =
 pub returns-in-Refused-clause-told : goal.returns-in-Refused-clause-told
 returns-in-Refused-clause-told g c =
     let made = c.new-source.ensures ∙ c.as_slice.ensures.value ∙ c.in_ok-bytes.ensures in
-    let output = c.in_ok-rejected.field-0 in
+    let output = c.in_ok-rejected-in-Refused.field-0 in
     (view output, refused_drills c.args.drill.now c.new-source.result c.stream_compile.new.source c.in-Refused.refusal (view output) c.requires.most made c.in-Refused.ensures, c.write.ensures)
