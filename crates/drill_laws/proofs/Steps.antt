@@ -1,23 +1,20 @@
 -- A drill's run, reduction by reduction.
-use Rattle.std.proofs.Common.{◌≡◌, ◌∙◌, ℕ, zero, suc, ◌+◌, ◌*◌, ◌^◌, ◌%◌, ◌<◌, ◌≤◌, pos, false, List, [], ◌∷◌, ◌++◌, Some, refl, ap, sym, subst, arith}
+use Rattle.std.proofs.Common.{◌≡◌, ◌∙◌, ℕ, zero, suc, ◌+◌, ◌*◌, ◌^◌, ◌%◌, ◌<◌, ◌≤◌, pos, false, List, [], ◌∷◌, Some, refl, ap, arith}
 use Rattle.std.specs.Prelude.{slice_get, nat_lt}
 use Rattle.std.specs.List.{sum, range_with_len}
 use Rattle.std.proofs.lemmas.Bool.{le-ltb}
 use Rattle.std.proofs.lemmas.List.Sums.{sum_by-cons}
 use Rattle.std.proofs.Math.Nat.{mod-eq_of_lt}
-use Rattle.std.specs.Int.{w32, cast_unsigned}
 use Rattle.wasm_defs.specs.declared.types.FuncType.{FuncType}
 use Rattle.wasm_defs.specs.declared.types.ValType.{ValType}
 use Rattle.wasm_defs.specs.declared.types.ValType.TheVariants.{I32}
-use Rattle.wasm_defs.specs.declared.operation.BinaryOp.TheVariants.{Add}
-use Rattle.wasm_defs.specs.declared.operation.Operation.TheVariants.{Binary}
-use Rattle.wasm_defs.specs.declared.token.Plain.TheVariants.{Call, Const, LocalGet, Operate}
+use Rattle.wasm_defs.specs.declared.token.Plain.TheVariants.{Call}
 use Rattle.wasm_defs.specs.Trees.{Seq, Nothing, Simple}
 use Rattle.wasm_defs.specs.Values.{Value, modulus, unsigned}
 use Rattle.wasm_defs.specs.Effects.{value}
-use Rattle.wasm_defs.specs.Configurations.{Config, Declared, Frame, Func, Function, Inside, Instance, Outside, Returned, State, Step, Store, To}
+use Rattle.wasm_defs.specs.Configurations.{Declared, Frame, Func, Inside, Instance, Outside, Returned, State, Store, To}
 use Rattle.wasm_defs.specs.Reductions.{enter, next, on, run}
-use Rattle.drill_laws.specs.Functions.{DrillsReturn, HasDrill, IsFunction, adder_tree, adder_type, calls_from, runner_tree, runner_type, sum_below}
+use Rattle.drill_laws.specs.Functions.{DrillsReturn, IsFunction, adder_tree, adder_type, calls_from, runner_tree, runner_type, sum_below}
 
 -- a function whose other parts are known
 abbrev made : (ty : FuncType) (greatest : ℕ) (tree : Seq) → Func

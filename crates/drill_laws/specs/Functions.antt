@@ -1,5 +1,5 @@
 -- The functions of a drill, and what its last one returns by the reduction rules (WebAssembly Core 1.0, 4.4).
-use Rattle.std.specs.Prelude.{◌≡◌, ℕ, zero, suc, ◌+◌, ◌*◌, ◌<◌, ◌≤◌, pos, List, [], ◌∷◌, Some, slice_get}
+use Rattle.std.specs.Prelude.{◌≡◌, ℕ, zero, suc, ◌+◌, ◌*◌, ◌<◌, ◌≤◌, pos, [], ◌∷◌, Some, slice_get}
 use Rattle.std.specs.List.{sum, range_with_len}
 use Rattle.wasm_defs.specs.declared.types.FuncType.{FuncType}
 use Rattle.wasm_defs.specs.declared.types.ValType.TheVariants.{I32}
@@ -8,7 +8,7 @@ use Rattle.wasm_defs.specs.declared.operation.Operation.TheVariants.{Binary}
 use Rattle.wasm_defs.specs.declared.token.Plain.TheVariants.{Call, Const, LocalGet, Operate}
 use Rattle.wasm_defs.specs.Trees.{Seq, Nothing, Simple}
 use Rattle.wasm_defs.specs.Effects.{value}
-use Rattle.wasm_defs.specs.Configurations.{Declared, Func, Function, Instance, Outside, Returned, Store}
+use Rattle.wasm_defs.specs.Configurations.{Declared, Func, Instance, Outside, Returned, Store}
 use Rattle.wasm_defs.specs.Reductions.{run}
 
 abbrev pub adder_type : FuncType

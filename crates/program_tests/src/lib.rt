@@ -17,6 +17,8 @@ mod faults;
 #[cfg(test)]
 mod held_back;
 #[cfg(test)]
+mod hosts;
+#[cfg(test)]
 mod operations;
 #[cfg(test)]
 mod starts;

@@ -1,12 +1,7 @@
-//! Start functions and imports (WebAssembly Core 1.0, 2.5.9, 2.5.11, 4.5.4), with answers that were worked out by hand.
+//! Start functions (WebAssembly Core 1.0, 2.5.9, 4.5.4), with answers that were worked out by hand.
 
 use crate::answers::{HEADER, answer_to_line, bytes_of};
-use image_format::Image;
-use image_run::{Instance, Outcome, SinkHost, call_checks};
-use io_edges::{Flat, OpenGate, Page};
-use std::alloc::Global;
 use std::test::Fail;
-use stream_compile::{Answer, Settings, stream_compile};
 
 /// What follows the header of a module: `f` gives a global, which begins with 5, and which the start function sets to 7.
 const SETTING: &str = "01 08 02 60 00 00 60 00 01 7F 03 03 02 00 01 06 06 01 7F 01 41 05 0B \
@@ -30,12 +25,8 @@ const ENDLESS: &str = "01 04 01 60 00 00 03 03 02 00 00 07 05 01 01 66 00 01 08 
 const IMPORTED: &str =
     "01 04 01 60 00 00 02 07 01 01 68 01 73 00 00 03 02 01 00 07 05 01 01 66 00 01 08 01 00 0A 04 01 02 00 0B";
 
-/// `m` calls its import, which is numbered before it.
-const NUMBER: &str = "01 08 02 60 01 7E 00 60 00 00 02 0C 01 04 68 6F 73 74 03 6E 75 6D 00 00 \
-                      03 02 01 01 07 05 01 01 6D 00 01 0A 08 01 06 00 42 7B 10 00 0B";
-
 /// Modules, what they are asked for, and the answers.
-const ROWS: [(&str, &str, &str); 17] = [
+const ROWS: [(&str, &str, &str); 14] = [
     (SETTING, "run f", "0 i32 7\n"),
     (TRAPPING, "run f", "4 trap unreachable\n"),
     (TRAPPING, "check", "0 ok 1 functions 35 bytes\n"),
@@ -46,9 +37,6 @@ const ROWS: [(&str, &str, &str); 17] = [
     (ENDLESS, "run f", "4 trap call stack exhausted\n"),
     (IMPORTED, "check", "0 ok 1 functions 43 bytes\n"),
     (IMPORTED, "run f", "3 not runnable unknown import\n"),
-    (NUMBER, "check", "0 ok 1 functions 53 bytes\n"),
-    (NUMBER, "run m", "3 not runnable unknown import\n"),
-    (NUMBER, "run nosuch", "3 not runnable unknown import\n"),
     // No function; a parameter; a result; and a function that is declared behind the start section's index.
     ("08 01 00", "check", "2 refused invalid at 10\n"),
     (
@@ -77,46 +65,5 @@ fn start_functions_run_first(rt: HostRuntime) -> Result<(), Fail> {
         let told = answer_to_line(&rt, alloc, line.as_str(), &bytes)?;
         assert_eq!(rt; told.as_str(), want, "{words} of {module}");
     }
-    Ok(())
-}
-
-/// Two imports, which are numbered before the functions: the start function hands 7 to `host.num`, and `m` hands 65 to `host.put`, and
-/// then -5 to `host.num`.
-const PRINTING: &str = "01 0C 03 60 01 7E 00 60 01 7F 00 60 00 00 \
-                        02 17 02 04 68 6F 73 74 03 6E 75 6D 00 00 04 68 6F 73 74 03 70 75 74 00 01 \
-                        03 03 02 02 02 07 05 01 01 6D 00 03 08 01 02 \
-                        0A 14 02 06 00 42 07 10 00 0B 0B 00 41 C1 00 10 01 42 7B 10 00 0B";
-
-/// What `m` comes to within so many steps, with a host that prints.
-fn printed(alloc: Global, image: &Image, page: &mut Page, steps: u64) -> Result<Outcome, Fail> {
-    if call_checks(image, "m", &[]).is_some() {
-        return Err(Fail::from("not to be called"));
-    }
-    let mut host = SinkHost::new(image, page);
-    let mut instance = Instance::load(alloc, image)?;
-    Ok(instance.start_and_run("m", &[], &mut host, steps))
-}
-
-#[test]
-fn imports_are_numbered_before_functions(rt: HostRuntime) -> Result<(), Fail> {
-    let alloc = rt.alloc();
-    let bytes = bytes_of(alloc, &[HEADER, PRINTING])?;
-    let settings = Settings {
-        workers: 0,
-        batch: 4096,
-    };
-    let source = &mut Flat::new(&bytes);
-    let Answer::Image(built) = stream_compile(&rt, alloc, source, &OpenGate, settings) else {
-        return Err(Fail::from("it is a module"));
-    };
-    let mut page = Page::new(alloc, 64)?;
-    let outcome = printed(alloc, &built.image, &mut page, 1_000)?;
-    assert_eq!(rt; outcome, Outcome::Returned(None));
-    assert!(rt; page.bytes() == "7\nA-5\n".as_bytes());
-    // Only the start function has its steps.
-    let mut page = Page::new(alloc, 64)?;
-    let outcome = printed(alloc, &built.image, &mut page, 80)?;
-    assert_eq!(rt; outcome, Outcome::StepsSpent);
-    assert!(rt; page.bytes() == "7\n".as_bytes());
     Ok(())
 }

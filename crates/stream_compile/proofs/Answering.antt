@@ -29,7 +29,7 @@ use Rattle.stream_compile.specs.Done.{IsModuleOfSize, IsDone}
 use Rattle.stream_compile.specs.Running.{RunsAs, IsForeign}
 use Rattle.stream_compile.specs.Compiling.{IsBuilt, IsRefused, CompilesSource, ChecksSource}
 use Rattle.stream_compile.specs.Reading.{Settled, Judged, checked_of, answer_of, of_lasting, stopped_answer, view}
-use Rattle.stream_compile.specs.Texts.{Outcome, usage, read_fault, accepted, compiled, rejected, bad_image, TellsCheck, OfReading, OfModule, ComesOfModule, ComesTo}
+use Rattle.stream_compile.specs.Texts.{Outcome, read_fault, accepted, compiled, rejected, TellsCheck, OfReading, OfModule, ComesOfModule, ComesTo}
 use Rattle.stream_compile.proofs.Stopped.{stopped_of_verdict}
 use Rattle.stream_compile.proofs.Calls.{run_done}
 
@@ -92,10 +92,6 @@ judged_built failed left rest checked s built (calm, bytes, came, end, d, e) is 
 
 -- ---- what the program tells
 
-pub usage_comes : (r : Result Output AllocError) (command : Option Command) (failed : Bool) (left rest : Option (List ℕ)) → command ≡ None → IfOk r (λ a. view a ≡ usage) → IfOk r (λ o. ComesTo command failed left rest (view o))
-usage_comes (Ok a) command failed left rest none e = rw none e
-usage_comes (Err x) command failed left rest none e = tt
-
 valid_outcome : (bytes : List ℕ) (checked : Checked) (o : Outcome) → ((m : _) × IsModuleOfSize bytes m checked.functions checked.bytes) → o ≡ accepted checked.functions checked.bytes → OfModule TellsCheck false bytes o
 valid_outcome bytes checked o (m, is) e =
     (Accepted m, is.is, (is.same, e ∙ ap (λ (n : ℕ). accepted n checked.bytes) is.functions_are ∙ ap (λ (n : ℕ). accepted (declared_count m.items) n) is.size_is))
@@ -117,29 +113,16 @@ pub is_short : (failed : Bool) (left rest : Option (List ℕ)) (built : Built) �
 is_short failed left rest built (calm, bytes, came, end, is) = subst (λ (i : Image). length (spelling i) ≤ IMAGE_BYTES) (sym is.image_is) is.is.short
 
 -- what a call of an image's function comes to is what that of the module's does
-pub image_comes : (r : Result Output AllocError) (run : Running) (failed : Bool) (left rest : Option (List ℕ)) (built : Built) → CompilesSource failed left rest (answer.Image built)
-    → IfOk r (λ o. RunsAs built.image run.call (view o)) → IfOk r (λ o. ComesTo (Some (Run run)) failed left rest (view o))
-image_comes (Ok a) run failed left rest built (calm, bytes, came, end, is) e =
+pub image_comes : (run : Running) (failed : Bool) (left rest : Option (List ℕ)) (built : Built) → CompilesSource failed left rest (answer.Image built)
+    → (o : Outcome) → RunsAs None built.image run.call o → ComesTo (Some (Run run)) failed left rest o
+image_comes run failed left rest built (calm, bytes, came, end, is) o e =
     let m = is.«module» in
-    rw calm (bytes, came, (Accepted m, is.is.is, (is.is.same, run_done m built.image run.call (view a) is.image_is is.is.same e)))
-image_comes (Err x) run failed left rest built h e = tt
+    rw calm (bytes, came, (Accepted m, is.is.is, (is.is.same, run_done None m built.image run.call o is.image_is is.is.same e)))
 
 -- ---- of images that the source gives
 
-pub called_comes : (r : Result Output AllocError) (call : Call) (failed : Bool) (left rest : Option (List ℕ)) (i : Image) → IsForeign failed left rest (foreign.Image i) → IfOk r (λ o. RunsAs i call (view o))
-    → IfOk r (λ o. ComesTo (Some (Exec call)) failed left rest (view o))
-called_comes (Ok a) call failed left rest i (calm, bytes, came, is) runs = rw calm (bytes, came, subst (λ (x : Result Image ℕ). OfReading call x (view a)) (sym is) runs.1)
-called_comes (Err x) call failed left rest i h runs = tt
-
-pub bad_comes : (r : Result Output AllocError) (call : Call) (failed : Bool) (left rest : Option (List ℕ)) (offset : ℕ) → IsForeign failed left rest (foreign.Bad offset) → IfOk r (λ o. view o ≡ bad_image offset)
-    → IfOk r (λ o. ComesTo (Some (Exec call)) failed left rest (view o))
-bad_comes (Ok a) call failed left rest offset (calm, bytes, came, is) e = rw calm (bytes, came, subst (λ (x : Result Image ℕ). OfReading call x (view a)) (sym is) e)
-bad_comes (Err x) call failed left rest offset h e = tt
-
-pub failed_comes : (r : Result Output AllocError) (call : Call) (failed : Bool) (left rest : Option (List ℕ)) → IsForeign failed left rest foreign.Failed → IfOk r (λ o. view o ≡ read_fault)
-    → IfOk r (λ o. ComesTo (Some (Exec call)) failed left rest (view o))
-failed_comes (Ok a) call failed left rest (fails, bytes, came) e = rw fails (bytes, came, e)
-failed_comes (Err x) call failed left rest h e = tt
+pub called_comes : (call : Call) (failed : Bool) (left rest : Option (List ℕ)) (i : Image) → IsForeign failed left rest (foreign.Image i) → (o : Outcome) → RunsAs None i call o → ComesTo (Some (Exec call)) failed left rest o
+called_comes call failed left rest i (calm, bytes, came, is) o runs = rw calm (bytes, came, subst (λ (x : Result Image ℕ). OfReading call x o) (sym is) runs.1)
 
 -- ---- and of every command on a module
 

@@ -1,19 +1,14 @@
 -- A call of an image's function is the call of the module's.
-use Rattle.std.proofs.Common.{◌≡◌, ◌≢◌, ℕ, ◌≤◌, Bool, true, false, List, [], ◌∷◌, map, length, Option, Some, None, refl, sym, ap, ◌∙◌, subst, inl, inr, arith}
-use Rattle.std.proofs.Common.{◌++◌, Result, Ok, Err}
-use Rattle.std.proofs.lemmas.List.{length-map}
-use Rattle.std.specs.Prelude.{not, IfOk}
-use Rattle.std.specs.declared.alloc.AllocError.{AllocError}
+use Rattle.std.proofs.Common.{◌≡◌, ◌≢◌, ℕ, ◌≤◌, Bool, true, false, List, [], ◌∷◌, map, length, replicate, Option, Some, None, refl, sym, ap, ◌∙◌, subst, inl, inr, arith}
+use Rattle.std.specs.Prelude.{not}
 use Rattle.std.specs.Str.{bytes_eq}
 use Rattle.std.proofs.lemmas.Bool.{cases_Bool}
+use Rattle.std.proofs.lemmas.List.{length-map}
 use Rattle.wasm_defs.specs.declared.types.ValType.{ValType}
 use Rattle.wasm_defs.specs.declared.types.FuncType.{FuncType}
-use Rattle.wasm_defs.specs.declared.types.ValType.TheVariants.{I32, I64}
-use Rattle.wasm_defs.specs.declared.value.Value.{Value as Given}
-use Rattle.wasm_defs.specs.declared.value.Value.TheVariants as given
 use Rattle.wasm_defs.specs.Typing.{same_types}
-use Rattle.wasm_defs.specs.Values.{Value, type_of, value_of, types_of_values}
-use Rattle.wasm_defs.specs.Host.{HostCall, Reply, are_of, in_range, all_in_range}
+use Rattle.wasm_defs.specs.Values.{Value, types_of_values}
+use Rattle.wasm_defs.specs.Host.{HostCall, Reply, are_of, all_in_range}
 use Rattle.wasm_defs.specs.Context.{context_of, type_of_function}
 use Rattle.wasm_defs.specs.Faults.{Module}
 use Rattle.wasm_defs.specs.Instances.{exports_of, named, is_linkable}
@@ -22,24 +17,17 @@ use Rattle.wasm_defs.specs.ModuleRun as module_runs
 use Rattle.body_validator.proofs.OperandLaws.{same_types-of, same_types-true}
 use Rattle.image_format.specs.Contents.{Image}
 use Rattle.image_format.specs.declared.image.Export.{Export}
-use Rattle.image_format.specs.declared.image.Import.{Import}
 use Rattle.image_format.specs.ImageRun.{Ending, As, Fault, ImageRun, image_run}
 use Rattle.image_linker.specs.ImageOf.{image_of, export_of, offset_of}
 use Rattle.image_linker.specs.Same.{Same}
-use Rattle.simulation.specs.SameRuns.{SameRuns}
+use Rattle.simulation.specs.SameRuns.{SameRuns, BeginsWith, as_image}
 use Rattle.image_run.specs.declared.checks.NotRunnable.{NotRunnable}
 use Rattle.image_run.specs.declared.checks.NotRunnable.TheVariants.{UnknownImport, NoSuchExport, WrongArguments, Unlinkable}
 use Rattle.image_run.specs.Checks.{export_named, not_runnable, unfit, has_unknown_import}
-use Rattle.image_run.specs.declared.outcome.Outcome.{Outcome as Ran}
-use Rattle.image_run.specs.declared.outcome.Outcome.TheVariants as ran
-use Rattle.image_run.specs.Ends.{IsEnd, RunsTo, run_of_export}
-use Rattle.image_run.proofs.ClosedLaws.{ends_alone, never_stops}
-use Rattle.command_words.specs.declared.argument.Argument.{Argument}
+use Rattle.image_run.specs.Printing.{printing_run, replied}
 use Rattle.command_words.specs.declared.command.Call.{Call}
-use Rattle.stream_compile.specs.declared.output.Output.{Output}
-use Rattle.stream_compile.specs.Reading.{view}
-use Rattle.stream_compile.specs.Texts.{Outcome, unrunnable, given_value, arguments_of, run_end, EndsAs, ChecksAndCalls, TellsEnd, TellsRun, ChecksAndRuns}
-use Rattle.stream_compile.specs.Running.{IsUnstopped, RunsAs}
+use Rattle.stream_compile.specs.Texts.{Outcome, arguments_of, EndsAs, TellsImageRun, ChecksAndCalls, TellsEnd, TellsRun, ChecksAndRuns}
+use Rattle.stream_compile.specs.Running.{RunsAs}
 
 -- ---- exports
 
@@ -93,18 +81,6 @@ passed i name types e is found =
       | inr h ↦ let t : unfit i types (export_named name i.exports) ≡ None = rw h at is in unfit_not i types e (rw found at t)
     ]
 
-no_imports : (is : List Import) → has_unknown_import is ≡ false → is ≡ []
-no_imports [] h = refl
-no_imports (x ∷ is) h = absurd cc
-
--- an image that imports anything isn't run
-pub imports_nothing : (i : Image) (name : List ℕ) (types : List ValType) → not_runnable i name types ≡ None → i.imports ≡ []
-imports_nothing i name types is =
-    elim (cases_Bool (has_unknown_import i.imports)) [
-      | inl h ↦ absurd (let t : Some UnknownImport ≡ None = rw h at is in cc)
-      | inr h ↦ no_imports i.imports h
-    ]
-
 pub there : (i : Image) (name : List ℕ) (types : List ValType) → not_runnable i name types ≡ None → export_named name i.exports ≢ None
 there i name types is none =
     elim (cases_Bool (has_unknown_import i.imports)) [
@@ -121,165 +97,82 @@ same_length ts us h = ap (λ (l : List ValType). length l) (same_types-true ts u
 abbrev pub Results : Module → ℕ → List ValType
 Results m f = (type_of_function (context_of m.items) f).results
 
-pub runs_alike : (m : Module) (name : List ℕ) (arguments : List Value) (e : Export) (found : Exports m name (exports_of m.items) e) → Same m (image_of m) → Passed (image_of m) (types_of_values arguments) e
-    → all_in_range arguments ≡ true → SameRuns (module_run m found.function arguments []) (image_run (image_of m) (offset_of m found.function) (Results m found.function) arguments [])
-runs_alike m name arguments e found same passed ranges =
+runs_alike : (m : Module) (name : List ℕ) (arguments : List Value) (replies : List Reply) (e : Export) (found : Exports m name (exports_of m.items) e) → Same m (image_of m) → Passed (image_of m) (types_of_values arguments) e
+    → all_in_range arguments ≡ true → SameRuns (module_run m found.function arguments replies) (image_run (image_of m) (offset_of m found.function) (Results m found.function) arguments replies)
+runs_alike m name arguments replies e found same passed ranges =
     let params = (type_of_function (context_of m.items) found.function).params in
     let types = types_of_values arguments in
     let fit : same_types types params ≡ true = subst (λ (t : List ValType). same_types types t ≡ true) (ap (λ f. f.params) found.signature_is) passed.fit in
     let turned : same_types params types ≡ true = same_types-of params types (sym (same_types-true types params fit)) in
     let are : are_of params arguments ≡ true = rw (turned, ranges) refl in
     let linkable : is_linkable m ≡ true = links (is_linkable m) (sym same.unlinkable ∙ passed.linkable) in
-    same.runs linkable name found.function arguments [] found.named_is are
+    same.runs linkable name found.function arguments replies found.named_is are
   where
     links : (b : Bool) → not b ≡ false → b ≡ true
     links true h = refl
     links false h = absurd cc
 
-pub end_is : (i : Image) (offset : ℕ) (results : List ValType) (arguments : List Value) (n : ℕ) → run_end i offset results arguments n ≡ (image_run i offset results arguments [] n).end
-unfolding run_end
-end_is i offset results arguments n = refl
+run_is : (i : Image) (offset : ℕ) (results : List ValType) (arguments : List Value) (n : ℕ) → printing_run i offset results arguments n ≡ image_run i offset results arguments (replicate n replied) n
+unfolding printing_run
+run_is i offset results arguments n = refl
 
--- the end of the call of an export, where it is that of the module's function
-pub ends_there : (m : Module) (name : List ℕ) (es : List (List ℕ × ℕ)) (e : Export) (found : Exports m name es e) (arguments : List Value) (n : ℕ)
-    → run_end (image_of m) e.offset e.signature.results arguments n ≡ run_end (image_of m) (offset_of m found.function) (Results m found.function) arguments n
-ends_there m name es e found arguments n =
-    ap (λ (offset : ℕ). run_end (image_of m) offset e.signature.results arguments n) found.offset_is
-    ∙ ap (λ (f : FuncType). run_end (image_of m) (offset_of m found.function) f.results arguments n) found.signature_is
+-- the run of an export, where it is that of the module's function
+runs_there : (m : Module) (name : List ℕ) (es : List (List ℕ × ℕ)) (e : Export) (found : Exports m name es e) (arguments : List Value) (n : ℕ)
+    → printing_run (image_of m) e.offset e.signature.results arguments n ≡ printing_run (image_of m) (offset_of m found.function) (Results m found.function) arguments n
+runs_there m name es e found arguments n =
+    ap (λ (offset : ℕ). printing_run (image_of m) offset e.signature.results arguments n) found.offset_is
+    ∙ ap (λ (f : FuncType). printing_run (image_of m) (offset_of m found.function) f.results arguments n) found.signature_is
+
+same_run : (r : module_runs.Run) (calls : List HostCall) (end : End) → as_image r ≡ record { calls = calls; end = As end } → r ≡ record { calls = calls; end = end }
+same_run r calls end is =
+    let one : r.calls ≡ calls = ap (λ (x : ImageRun). x.calls) is in
+    let two : As r.end ≡ As end = ap (λ (x : ImageRun). x.end) is in
+    let three : r.end ≡ end = cc in
+    ap (λ (l : List HostCall). record r { calls = l }) one ∙ ap (λ (x : End). record { calls = calls; end = x }) three
 
 -- what an image's end tells of its module
-pub tells_end : (runs : ℕ → module_runs.Run) (image : ℕ → ImageRun) (n : ℕ) (end : Ending) (o : Outcome) → SameRuns runs image → (image n).end ≡ end → EndsAs end o → TellsEnd end runs o
-tells_end runs image n (As (Returns values memory globals)) o alike is tells =
-    let k = alike.ends_only n (Returns values memory globals) is tt in
-    let same : As (runs k.0).end ≡ As (Returns values memory globals) = sym (ap (λ (r : ImageRun). r.end) k.1) ∙ is in
-    (k.0, cc, tells)
-tells_end runs image n (As (Traps kind memory globals)) o alike is tells =
-    let k = alike.ends_only n (Traps kind memory globals) is tt in
-    let same : As (runs k.0).end ≡ As (Traps kind memory globals) = sym (ap (λ (r : ImageRun). r.end) k.1) ∙ is in
-    (k.0, cc, tells)
-tells_end runs image n (As Stops) o alike is tells = tells
-tells_end runs image n (As Going) o alike is tells = tells
-tells_end runs image n (As Fails) o alike is tells = tells
-tells_end runs image n (Fault kind pc) o alike is tells = absurd (alike.never_faults n kind pc is)
+tells_end : (drill : Option ℕ) (runs : ℕ → module_runs.Run) (image : ℕ → ImageRun) (n : ℕ) (calls : List HostCall) (end : Ending) (o : Outcome) → SameRuns runs image → image n ≡ record { calls = calls; end = end } → EndsAs drill end o → TellsEnd drill calls end runs o
+tells_end drill runs image n calls (As (Returns values memory globals)) o alike is tells =
+    let k = alike.ends_only n (Returns values memory globals) (ap (λ (r : ImageRun). r.end) is) tt in
+    (k.0, same_run (runs k.0) calls (Returns values memory globals) (sym k.1 ∙ is), tells)
+tells_end drill runs image n calls (As (Traps kind memory globals)) o alike is tells =
+    let k = alike.ends_only n (Traps kind memory globals) (ap (λ (r : ImageRun). r.end) is) tt in
+    (k.0, same_run (runs k.0) calls (Traps kind memory globals) (sym k.1 ∙ is), tells)
+tells_end drill runs image n calls (As Stops) o alike is tells = tells
+tells_end drill runs image n calls (As Going) o alike is tells =
+    let k = alike.calls_lead n (ap (λ (r : ImageRun). r.end) is) in
+    (k.0, subst (λ (l : List HostCall). BeginsWith (runs k.0).calls l) (ap (λ (r : ImageRun). r.calls) is) k.1, tells)
+tells_end drill runs image n calls (As Fails) o alike is tells = tells
+tells_end drill runs image n calls (Fault kind pc) o alike is tells = absurd (alike.never_faults n kind pc (ap (λ (r : ImageRun). r.end) is))
 
-tells_run : (m : Module) (r : Call) (o : Outcome) → Same m (image_of m) → all_in_range (arguments_of r.arguments) ≡ true → not_runnable (image_of m) r.export (types_of_values (arguments_of r.arguments)) ≡ None
-    → ChecksAndCalls None (image_of m) r o → TellsRun m r.export (arguments_of r.arguments) r.steps o
-tells_run m r o same ranges passes (e, is, tells) =
+tells_run : (drill : Option ℕ) (m : Module) (r : Call) (o : Outcome) → Same m (image_of m) → all_in_range (arguments_of r.arguments) ≡ true → not_runnable (image_of m) r.export (types_of_values (arguments_of r.arguments)) ≡ None
+    → ChecksAndCalls drill None (image_of m) r o → TellsRun drill m r.export (arguments_of r.arguments) r.steps o
+tells_run drill m r o same ranges passes (e, is, tells) =
     let arguments = arguments_of r.arguments in
     let i = image_of m in
     let found = export_is m r.export (exports_of m.items) e is in
-    let alike = runs_alike m r.export arguments e found same (passed i r.export (types_of_values arguments) e passes is) ranges in
-    let end = run_end i (offset_of m found.function) (Results m found.function) arguments r.steps in
-    let here : EndsAs end o = subst (λ (x : Ending). EndsAs x o) (ends_there m r.export (exports_of m.items) e found arguments r.steps) tells in (
+    let replies = replicate r.steps replied in
+    let alike = runs_alike m r.export arguments replies e found same (passed i r.export (types_of_values arguments) e passes is) ranges in
+    let run = printing_run i (offset_of m found.function) (Results m found.function) arguments r.steps in
+    let here : TellsImageRun drill i.imports run o = subst (λ (x : ImageRun). TellsImageRun drill i.imports x o) (runs_there m r.export (exports_of m.items) e found arguments r.steps) tells in (
       found.function,
       found.named_is,
-      tells_end (module_run m found.function arguments []) (image_run i (offset_of m found.function) (Results m found.function) arguments []) r.steps end o alike
-          (sym (end_is i (offset_of m found.function) (Results m found.function) arguments r.steps)) here,
+      (
+        here.0,
+        tells_end drill (module_run m found.function arguments replies) (image_run i (offset_of m found.function) (Results m found.function) arguments replies) r.steps run.calls run.end here.0 alike
+            (sym (run_is i (offset_of m found.function) (Results m found.function) arguments r.steps)) here.1,
+        here.2,
+      ),
     )
 
-checked_done : (m : Module) (r : Call) (o : Outcome) (why : Option NotRunnable) → Same m (image_of m) → all_in_range (arguments_of r.arguments) ≡ true → not_runnable (image_of m) r.export (types_of_values (arguments_of r.arguments)) ≡ why
-    → ChecksAndCalls why (image_of m) r o → ChecksAndRuns why m r.export (arguments_of r.arguments) r.steps o
-checked_done m r o (Some why) same ranges is h = h
-checked_done m r o None same ranges is h = tells_run m r o same ranges is h
+checked_done : (drill : Option ℕ) (m : Module) (r : Call) (o : Outcome) (why : Option NotRunnable) → Same m (image_of m) → all_in_range (arguments_of r.arguments) ≡ true → not_runnable (image_of m) r.export (types_of_values (arguments_of r.arguments)) ≡ why
+    → ChecksAndCalls drill why (image_of m) r o → ChecksAndRuns drill why m r.export (arguments_of r.arguments) r.steps o
+checked_done drill m r o (Some why) same ranges is h = h
+checked_done drill m r o None same ranges is h = tells_run drill m r o same ranges is h
 
 -- the line of the call of an image's function is the line of the call of the module's
-pub run_done : (m : Module) (i : Image) (r : Call) (o : Outcome) → i ≡ image_of m → Same m (image_of m) → RunsAs i r o
-    → ChecksAndRuns (not_runnable (image_of m) r.export (types_of_values (arguments_of r.arguments))) m r.export (arguments_of r.arguments) r.steps o
-run_done m i r o is same h =
-    let here : RunsAs (image_of m) r o = subst (λ (x : Image). RunsAs x r o) is h in
-    checked_done m r o (not_runnable (image_of m) r.export (types_of_values (arguments_of r.arguments))) same here.0 refl here.1
-
--- ---- what was checked of a call
-
-pub types_are : (values : List Given) → types_of_values (map value_of values) ≡ map type_of values
-types_are [] = refl
-types_are (given.I32 n ∷ values) = ap (λ (l : List ValType). I32 ∷ l) (types_are values)
-types_are (given.I64 n ∷ values) = ap (λ (l : List ValType). I64 ∷ l) (types_are values)
-
--- the name and the values of a call
-pub record Begun (call : Call) (name : List ℕ) (values : List Given) : Type 0 where
-  pub name_is : name ≡ call.export
-  pub values_are : values ≡ map given_value call.arguments
-  pub ranges : all_in_range (map value_of values) ≡ true
-
-pub begun : (call : Call) (name : List ℕ) (arguments : List Argument) (items values : List Given) → arguments ≡ call.arguments → items ≡ map given_value arguments → all_in_range (map value_of items) ≡ true → values ≡ items → name ≡ call.export → Begun call name values
-begun call name arguments items values same made ranges are named = record {
-  name_is = named;
-  values_are = are ∙ made ∙ ap (λ (l : List Argument). map given_value l) same;
-  ranges = subst (λ (l : List Given). all_in_range (map value_of l) ≡ true) (sym are) ranges;
-}
-
-all_are : (call : Call) (name : List ℕ) (values : List Given) → Begun call name values → map value_of values ≡ arguments_of call.arguments
-all_are call name values b = ap (λ (l : List Given). map value_of l) b.values_are
-
-ranges_are : (call : Call) (name : List ℕ) (values : List Given) → Begun call name values → all_in_range (arguments_of call.arguments) ≡ true
-ranges_are call name values b = subst (λ (l : List Value). all_in_range l ≡ true) (all_are call name values b) b.ranges
-
-checks_are : (i : Image) (call : Call) (name : List ℕ) (values : List Given) (checked : Option NotRunnable) → Begun call name values → checked ≡ not_runnable i name (map type_of values)
-    → not_runnable i call.export (types_of_values (arguments_of call.arguments)) ≡ checked
-checks_are i call name values checked b is =
-    ap (λ (l : List Value). not_runnable i call.export (types_of_values l)) (sym (all_are call name values b))
-    ∙ ap (λ (l : List ValType). not_runnable i call.export l) (types_are values)
-    ∙ ap (λ (n : List ℕ). not_runnable i n (map type_of values)) (sym b.name_is)
-    ∙ sym is
-
-pub unrunnable_runs : (r : Result Output AllocError) (i : Image) (call : Call) (name : List ℕ) (values : List Given) (checked : Option NotRunnable) (why : NotRunnable) → Begun call name values
-    → checked ≡ Some why → checked ≡ not_runnable i name (map type_of values) → IfOk r (λ o. view o ≡ unrunnable why) → IfOk r (λ o. RunsAs i call (view o))
-unrunnable_runs (Ok o) i call name values checked why b some is e =
-    (ranges_are call name values b, subst (λ (x : Option NotRunnable). ChecksAndCalls x i call (view o)) (sym (checks_are i call name values checked b is ∙ some)) e)
-unrunnable_runs (Err x) i call name values checked why b some is e = tt
-
--- the checks were passed, so the export can be called
-pub is_fit : (i : Image) (name : List ℕ) (types : List ValType) (checked : Option NotRunnable) → checked ≡ None → checked ≡ not_runnable i name types → unfit i types (export_named name i.exports) ≡ None
-is_fit i name types checked none is =
-    let passes : not_runnable i name types ≡ None = sym is ∙ none in
-    elim (cases_Bool (has_unknown_import i.imports)) [
-      | inl h ↦ absurd (let t : Some UnknownImport ≡ None = rw h at passes in cc)
-      | inr h ↦ rw h at passes
-    ]
-
-run_end_is : (i : Image) (e : Export) (arguments : List Value) (n : ℕ) → (run_of_export i e arguments [] n).end ≡ run_end i e.offset e.signature.results arguments n
-unfolding run_of_export run_end
-run_end_is i e arguments n = refl
-
--- the run that a host was handed, which it has no part in
-module _ (H : Type 0) (Calls : H → HostCall → Reply → H → Type 0) (from to : H) (i : Image) (name : List ℕ) (values : List Given) (checked : Option NotRunnable) (outcome : Ran) (memory : List ℕ) (none : checked ≡ None) (is : checked ≡ not_runnable i name (map type_of values)) where
-  alone : i.imports ≡ []
-  alone = imports_nothing i name (map type_of values) (sym is ∙ none)
-
-  pub runs_to : (e : Export) (n : ℕ) → RunsTo Calls i e (map value_of values) n from to outcome memory → IsEnd outcome memory (run_end i e.offset e.signature.results (map value_of values) n)
-  runs_to e n done = subst (IsEnd outcome memory) (run_end_is i e (map value_of values) n) (ends_alone i alone e (map value_of values) n H Calls from to outcome memory done)
-
-  pub unstopped : (steps : ℕ) → (e : Export) × (export_named name i.exports ≡ Some e) × RunsTo Calls i e (map value_of values) steps from to outcome memory → IsUnstopped outcome
-  unstopped steps (e, found, done) = by_outcome outcome refl
-    where
-      by_outcome : (o : Ran) → outcome ≡ o → IsUnstopped o
-      by_outcome (ran.Returned v) same = tt
-      by_outcome (ran.Trapped kind) same = tt
-      by_outcome ran.StepsSpent same = tt
-      by_outcome ran.HostStopped same = never_stops i alone e (map value_of values) steps H Calls from to outcome memory done same
-      by_outcome (ran.Fault kind pc) same = tt
-
-  pub told_runs : (r : Result Output AllocError) (call : Call) → Begun call name values
-      → (e : Export) × (export_named name i.exports ≡ Some e) × RunsTo Calls i e (map value_of values) call.steps from to outcome memory
-      → IfOk r (λ o. (memory : List ℕ) (end : Ending) → IsEnd outcome memory end → EndsAs end (view o)) → IfOk r (λ o. RunsAs i call (view o))
-  told_runs (Ok o) call b (e, found, done) tells =
-      let arguments = arguments_of call.arguments in
-      let there : export_named call.export i.exports ≡ Some e = ap (λ (n : List ℕ). export_named n i.exports) (sym b.name_is) ∙ found in
-      let to : IsEnd outcome memory (run_end i e.offset e.signature.results arguments call.steps) =
-      subst (λ (l : List Value). IsEnd outcome memory (run_end i e.offset e.signature.results l call.steps)) (all_are call name values b) (runs_to e call.steps done) in
-      let end = run_end i e.offset e.signature.results arguments call.steps in
-      let line : EndsAs end (view o) = tells memory end to in
-      (ranges_are call name values b, subst (λ (x : Option NotRunnable). ChecksAndCalls x i call (view o)) (sym (checks_are i call name values checked b is ∙ none)) (e, there, line))
-  told_runs (Err x) call b found tells = tt
-
-pushed_on : (items : List Given) (v : Given) → all_in_range (map value_of items) ≡ true → in_range (value_of v) ≡ true → all_in_range (map value_of (items ++ v ∷ [])) ≡ true
-pushed_on [] v h g = rw g refl
-pushed_on (x ∷ items) v h g =
-    elim (cases_Bool (in_range (value_of x))) [
-      | inl k ↦ let t : all_in_range (map value_of items) ≡ true = rw k at h in rw (k, pushed_on items v t g) refl
-      | inr k ↦ absurd (let t : false ≡ true = rw k at h in cc)
-    ]
-
-pub pushed : (items now : List Given) (v : Given) → now ≡ items ++ v ∷ [] → all_in_range (map value_of items) ≡ true → in_range (value_of v) ≡ true → all_in_range (map value_of now) ≡ true
-pushed items now v e h g = rw e (pushed_on items v h g)
+pub run_done : (drill : Option ℕ) (m : Module) (i : Image) (r : Call) (o : Outcome) → i ≡ image_of m → Same m (image_of m) → RunsAs drill i r o
+    → ChecksAndRuns drill (not_runnable (image_of m) r.export (types_of_values (arguments_of r.arguments))) m r.export (arguments_of r.arguments) r.steps o
+run_done drill m i r o is same h =
+    let here : RunsAs drill (image_of m) r o = subst (λ (x : Image). RunsAs drill x r o) is h in
+    checked_done drill m r o (not_runnable (image_of m) r.export (types_of_values (arguments_of r.arguments))) same here.0 refl here.1

@@ -17,6 +17,10 @@ pub mod Pumping
 pub mod Once
 pub mod Answering
 pub mod Calls
+pub mod ImageCalls
+pub mod Printed
 pub mod Stopped
 pub mod ForeignLaws
+pub mod DrillRuns
+pub mod DrillSums
 pub mod Drills

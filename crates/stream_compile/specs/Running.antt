@@ -1,27 +1,32 @@
 -- What a call of an image's function comes to.
-use Rattle.std.specs.Prelude.{◌≡◌, ℕ, Bool, true, false, List, Option, Result, Ok, Err}
+use Rattle.std.specs.Prelude.{◌≡◌, ℕ, Bool, true, false, List, [], Option, Result, Ok, Err}
 use Rattle.command_words.specs.declared.command.Call.{Call}
 use Rattle.wasm_defs.specs.Host.{all_in_range}
 use Rattle.image_format.specs.Contents.{Image}
 use Rattle.image_format.specs.Reading.{image_or_offset}
+use Rattle.image_run.specs.Hosts.{values_of}
 use Rattle.image_run.specs.declared.outcome.Outcome.{Outcome as Given}
 use Rattle.image_run.specs.declared.outcome.Outcome.TheVariants as given
 use Rattle.stream_compile.specs.declared.foreign.Foreign.{Foreign}
 use Rattle.stream_compile.specs.declared.foreign.Foreign.TheVariants as foreign
 use Rattle.stream_compile.specs.Came.{CameUpTo, image_input}
-use Rattle.stream_compile.specs.Texts.{Outcome, arguments_of, TellsImageCall}
+use Rattle.stream_compile.specs.Texts.{Outcome, Told, arguments_of, machine_fault, returned_by, steps_spent, trapped, TellsImageCall}
 
--- outcomes of a run in which no host is called
-abbrev pub IsUnstopped : Given → Type 0
-IsUnstopped (given.Returned v) = Unit {0}
-IsUnstopped (given.Trapped kind) = Unit {0}
-IsUnstopped given.StepsSpent = Unit {0}
-IsUnstopped given.HostStopped = ⊥
-IsUnstopped (given.Fault kind pc) = Unit {0}
+-- the line of an outcome of a run that no host stopped
+abbrev pub line_of : (drill : Option ℕ) → Given → Outcome
+line_of drill (given.Returned v) = returned_by drill (values_of v)
+line_of drill (given.Trapped kind) = trapped kind
+line_of drill given.StepsSpent = steps_spent
+line_of drill given.HostStopped = record { status = 7; text = [] }
+line_of drill (given.Fault kind pc) = machine_fault kind pc
+
+-- what was answered and written is an outcome of these
+abbrev pub IsTold : (Outcome → Type 0) → ℕ → Bool → (written written_now : Option (List ℕ)) → Type 0
+IsTold Comes status failed written written_now = (o : Outcome) × Comes o × Told status o failed written written_now
 
 -- the arguments are values, and this is the line of the call of the image's function
-abbrev pub RunsAs : Image → Call → Outcome → Type 0
-RunsAs i c o = (all_in_range (arguments_of c.arguments) ≡ true) × TellsImageCall c i o
+abbrev pub RunsAs : (drill : Option ℕ) → Image → Call → Outcome → Type 0
+RunsAs drill i c o = (all_in_range (arguments_of c.arguments) ≡ true) × TellsImageCall drill c i o
 
 -- what was read of a source is that image, or has its first fault there; or the source failed
 abbrev pub IsForeign : Bool → (left rest : Option (List ℕ)) → Foreign → Type 0

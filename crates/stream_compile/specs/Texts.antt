@@ -1,5 +1,5 @@
 -- What the program answers and writes.
-use Rattle.std.specs.Prelude.{◌≡◌, ◌⊎◌, ℕ, ℤ, Bool, true, false, List, [], ◌∷◌, ◌++◌, length, take, Option, None, Some, codes, String, string_bytes, map, Result, Ok, Err}
+use Rattle.std.specs.Prelude.{◌≡◌, ◌<◌, ◌⊎◌, ℕ, ◌+◌, ◌*◌, ℤ, pos, Bool, true, false, List, [], ◌∷◌, ◌++◌, length, take, replicate, Option, None, Some, codes, String, string_bytes, map, Result, Ok, Err}
 use Rattle.std.specs.Fmt.{decimal, signed_decimal}
 use Rattle.std.specs.Global.{Global}
 use Rattle.std.specs.Io.KnownBytes.{append_known}
@@ -28,16 +28,21 @@ use Rattle.image_format.specs.Contents.{Image}
 use Rattle.image_format.specs.ImageBytes.{spelling}
 use Rattle.image_format.specs.Reading.{image_or_offset}
 use Rattle.image_format.specs.declared.image.Export.{Export}
-use Rattle.image_format.specs.ImageRun.{Ending, As, Fault, image_run}
+use Rattle.image_format.specs.declared.image.Import.{Import}
+use Rattle.image_format.specs.ImageRun.{Ending, As, Fault, ImageRun}
 use Rattle.image_linker.specs.ImageOf.{image_of, offset_of}
-use Rattle.image_linker.specs.Judging.{IsVerdictOf, IsStoppedAt}
+use Rattle.image_linker.specs.Judging.{IsModuleOf, IsVerdictOf, IsStoppedAt}
 use Rattle.image_linker.specs.Same.{Same}
+use Rattle.simulation.specs.SameRuns.{BeginsWith}
+use Rattle.wasm_defs.specs.Host.{HostCall}
 use Rattle.image_run.specs.declared.checks.NotRunnable.{NotRunnable}
 use Rattle.image_run.specs.declared.checks.NotRunnable.TheVariants.{UnknownImport, NoSuchExport, WrongArguments, Unlinkable}
 use Rattle.image_run.specs.Checks.{export_named, not_runnable}
+use Rattle.image_run.specs.Printing.{printed, printing_run, replied}
 use Rattle.rv_isa.specs.declared.stepping.FaultKind.{FaultKind}
 use Rattle.rv_isa.specs.declared.stepping.FaultKind.TheVariants.{Fetch, Word, Break, Target, Load, Store, Call}
 use Rattle.module_gen.specs.Drill.{drill_bytes}
+use Rattle.drill_laws.specs.Functions.{sum_below}
 use Rattle.stream_compile.specs.Came.{Came, CameUpTo, image_input}
 
 -- a status, and what is written
@@ -132,48 +137,67 @@ given_value (argument.I64 n) = given.I64 n
 abbrev pub arguments_of : List Argument → List Value
 arguments_of arguments = map value_of (map given_value arguments)
 
--- how the run of an image's function ends within so many steps, where no call has a reply
-unfoldable pub run_end : Image → (offset : ℕ) → (results : List ValType) → List Value → (steps : ℕ) → Ending
-run_end i offset results arguments steps = (image_run i offset results arguments [] steps).end
+-- the line of the values that were returned: by a drill with so many functions, or by another run
+abbrev pub returned_by : (drill : Option ℕ) → List Value → Outcome
+returned_by None values = returned values
+returned_by (Some functions) values = drilled functions values
 
--- the line of a run of an image that ended so, where no host was called
-abbrev pub EndsAs : Ending → Outcome → Type 0
-EndsAs (As (Returns values memory globals)) o = o ≡ returned values
-EndsAs (As (Traps kind memory globals)) o = o ≡ trapped kind
-EndsAs (As Going) o = o ≡ steps_spent
-EndsAs (As Stops) o = ⊥
-EndsAs (As Fails) o = ⊥
-EndsAs (Fault kind pc) o = o ≡ machine_fault kind pc
+-- the line of a run of an image that ended so, where the host stopped none
+abbrev pub EndsAs : (drill : Option ℕ) → Ending → Outcome → Type 0
+EndsAs drill (As (Returns values memory globals)) o = o ≡ returned_by drill values
+EndsAs drill (As (Traps kind memory globals)) o = o ≡ trapped kind
+EndsAs drill (As Going) o = o ≡ steps_spent
+EndsAs drill (As Stops) o = ⊥
+EndsAs drill (As Fails) o = ⊥
+EndsAs drill (Fault kind pc) o = o ≡ machine_fault kind pc
+
+-- behind what the calls of a run print stands its line
+abbrev pub behind : List ℕ → Outcome → Outcome
+behind text line = record line { text = text ++ line.text }
+
+-- what is told of a run of an image: what its calls print, and its line
+abbrev pub TellsImageRun : (drill : Option ℕ) → List Import → ImageRun → Outcome → Type 0
+TellsImageRun drill imports r o = (line : Outcome) × EndsAs drill r.end line × (o ≡ behind (printed imports r.calls) line)
 
 -- of the function that the image exports under the name
-abbrev pub ChecksAndCalls : Option NotRunnable → Image → Given → Outcome → Type 0
-ChecksAndCalls (Some why) i c o = o ≡ unrunnable why
-ChecksAndCalls None i c o =
+abbrev pub ChecksAndCalls : (drill : Option ℕ) → Option NotRunnable → Image → Given → Outcome → Type 0
+ChecksAndCalls drill (Some why) i c o = o ≡ unrunnable why
+ChecksAndCalls drill None i c o =
     (e : Export) × (export_named c.export i.exports ≡ Some e)
-    × EndsAs (run_end i e.offset e.signature.results (arguments_of c.arguments) c.steps) o
+    × TellsImageRun drill i.imports (printing_run i e.offset e.signature.results (arguments_of c.arguments) c.steps) o
 
-abbrev pub TellsImageCall : Given → Image → Outcome → Type 0
-TellsImageCall c i o = ChecksAndCalls (not_runnable i c.export (types_of_values (arguments_of c.arguments))) i c o
+abbrev pub TellsImageCall : (drill : Option ℕ) → Given → Image → Outcome → Type 0
+TellsImageCall drill c i o = ChecksAndCalls drill (not_runnable i c.export (types_of_values (arguments_of c.arguments))) i c o
 
--- The line of a run of a module whose image ended so within its steps: the same end is that of the module's run by the reduction rules, for
--- some weight; or the image goes on after all its steps.
-abbrev pub TellsEnd : Ending → (ℕ → module_runs.Run) → Outcome → Type 0
-TellsEnd (As (Returns values memory globals)) runs o = (k : ℕ) × ((runs k).end ≡ Returns values memory globals) × (o ≡ returned values)
-TellsEnd (As (Traps kind memory globals)) runs o = (k : ℕ) × ((runs k).end ≡ Traps kind memory globals) × (o ≡ trapped kind)
-TellsEnd (As Going) runs o = o ≡ steps_spent
-TellsEnd (As Stops) runs o = ⊥
-TellsEnd (As Fails) runs o = ⊥
-TellsEnd (Fault kind pc) runs o = ⊥
+-- The line of a run of a module whose image made these calls and ended so within its steps. The same calls and the same end are
+-- those of the module's run by the reduction rules, for some weight; or the image goes on after all its steps, and its calls are a
+-- front of the module's for some weight.
+abbrev pub TellsEnd : (drill : Option ℕ) → List HostCall → Ending → (ℕ → module_runs.Run) → Outcome → Type 0
+TellsEnd drill calls (As (Returns values memory globals)) runs o = (k : ℕ) × (runs k ≡ record { calls = calls; end = Returns values memory globals }) × (o ≡ returned_by drill values)
+TellsEnd drill calls (As (Traps kind memory globals)) runs o = (k : ℕ) × (runs k ≡ record { calls = calls; end = Traps kind memory globals }) × (o ≡ trapped kind)
+TellsEnd drill calls (As Going) runs o = (k : ℕ) × BeginsWith (runs k).calls calls × (o ≡ steps_spent)
+TellsEnd drill calls (As Stops) runs o = ⊥
+TellsEnd drill calls (As Fails) runs o = ⊥
+TellsEnd drill calls (Fault kind pc) runs o = ⊥
+
+-- what its calls print, and its line
+abbrev pub TellsModuleRun : (drill : Option ℕ) → List Import → ImageRun → (ℕ → module_runs.Run) → Outcome → Type 0
+TellsModuleRun drill imports r runs o = (line : Outcome) × TellsEnd drill r.calls r.end runs line × (o ≡ behind (printed imports r.calls) line)
+
+-- the run of a module's function where the calls of its imports return, and change no memory
+abbrev pub printing_module_run : Module → (function : ℕ) → List Value → (steps weight : ℕ) → module_runs.Run
+printing_module_run m f arguments steps = module_run m f arguments (replicate steps replied)
 
 -- of the function that is exported under the name
-abbrev pub TellsRun : Module → (name : List ℕ) → List Value → (steps : ℕ) → Outcome → Type 0
-TellsRun m name arguments steps o =
+abbrev pub TellsRun : (drill : Option ℕ) → Module → (name : List ℕ) → List Value → (steps : ℕ) → Outcome → Type 0
+TellsRun drill m name arguments steps o =
     (f : ℕ) × (named name (exports_of m.items) ≡ Some f)
-    × TellsEnd (run_end (image_of m) (offset_of m f) (type_of_function (context_of m.items) f).results arguments steps) (module_run m f arguments []) o
+    × TellsModuleRun drill (image_of m).imports (printing_run (image_of m) (offset_of m f) (type_of_function (context_of m.items) f).results arguments steps)
+    (printing_module_run m f arguments steps) o
 
-abbrev pub ChecksAndRuns : Option NotRunnable → Module → (name : List ℕ) → List Value → (steps : ℕ) → Outcome → Type 0
-ChecksAndRuns (Some why) m name arguments steps o = o ≡ unrunnable why
-ChecksAndRuns None m name arguments steps o = TellsRun m name arguments steps o
+abbrev pub ChecksAndRuns : (drill : Option ℕ) → Option NotRunnable → Module → (name : List ℕ) → List Value → (steps : ℕ) → Outcome → Type 0
+ChecksAndRuns drill (Some why) m name arguments steps o = o ≡ unrunnable why
+ChecksAndRuns drill None m name arguments steps o = TellsRun drill m name arguments steps o
 
 -- what each command on a module of so many bytes comes to
 abbrev pub TellsCheck : (bytes : ℕ) → Module → Outcome → Type 0
@@ -182,44 +206,17 @@ TellsCheck bytes m o = o ≡ accepted (declared_count m.items) bytes
 abbrev pub TellsImage : Module → Outcome → Type 0
 TellsImage m o = o ≡ compiled (spelling (image_of m))
 
-abbrev pub TellsCall : Given → Module → Outcome → Type 0
-TellsCall c m o =
+abbrev pub TellsCall : (drill : Option ℕ) → Given → Module → Outcome → Type 0
+TellsCall drill c m o =
     let arguments = arguments_of c.arguments in
-    ChecksAndRuns (not_runnable (image_of m) c.export (types_of_values arguments)) m c.export arguments c.steps o
+    ChecksAndRuns drill (not_runnable (image_of m) c.export (types_of_values arguments)) m c.export arguments c.steps o
 
--- ---- of a drill
-
--- the line of a run of its image, with the number of functions in front of the value
-abbrev pub DrillEndsAs : (functions : ℕ) → Ending → Outcome → Type 0
-DrillEndsAs functions (As (Returns values memory globals)) o = o ≡ drilled functions values
-DrillEndsAs functions (As (Traps kind memory globals)) o = o ≡ trapped kind
-DrillEndsAs functions (As Going) o = o ≡ steps_spent
-DrillEndsAs functions (As Stops) o = ⊥
-DrillEndsAs functions (As Fails) o = ⊥
-DrillEndsAs functions (Fault kind pc) o = o ≡ machine_fault kind pc
-
-abbrev pub ChecksAndDrills : Option NotRunnable → Image → (functions steps : ℕ) → Outcome → Type 0
-ChecksAndDrills (Some why) i functions steps o = o ≡ unrunnable why
-ChecksAndDrills None i functions steps o =
-    (e : Export) × (export_named (codes "run") i.exports ≡ Some e) × DrillEndsAs functions (run_end i e.offset e.signature.results [] steps) o
-
--- of a run of the module, as TellsEnd says it
-abbrev pub TellsDrillEnd : (functions : ℕ) → Ending → (ℕ → module_runs.Run) → Outcome → Type 0
-TellsDrillEnd functions (As (Returns values memory globals)) runs o = (k : ℕ) × ((runs k).end ≡ Returns values memory globals) × (o ≡ drilled functions values)
-TellsDrillEnd functions (As (Traps kind memory globals)) runs o = (k : ℕ) × ((runs k).end ≡ Traps kind memory globals) × (o ≡ trapped kind)
-TellsDrillEnd functions (As Going) runs o = o ≡ steps_spent
-TellsDrillEnd functions (As Stops) runs o = ⊥
-TellsDrillEnd functions (As Fails) runs o = ⊥
-TellsDrillEnd functions (Fault kind pc) runs o = ⊥
-
-abbrev pub ChecksAndRunsDrill : Option NotRunnable → Module → (steps : ℕ) → Outcome → Type 0
-ChecksAndRunsDrill (Some why) m steps o = o ≡ unrunnable why
-ChecksAndRunsDrill None m steps o =
-    (f : ℕ) × (named (codes "run") (exports_of m.items) ≡ Some f)
-    × TellsDrillEnd (declared_count m.items) (run_end (image_of m) (offset_of m f) (type_of_function (context_of m.items) f).results [] steps) (module_run m f [] []) o
+-- a drill calls the module's last function, which is exported under this name
+abbrev pub drill_call : (steps : ℕ) → Given
+drill_call steps = record { export = codes "run"; arguments = []; steps = steps }
 
 abbrev pub TellsDrill : (steps : ℕ) → Module → Outcome → Type 0
-TellsDrill steps m o = ChecksAndRunsDrill (not_runnable (image_of m) (codes "run") []) m steps o
+TellsDrill steps m o = TellsCall (Some (declared_count m.items)) (drill_call steps) m o
 
 -- the module and its image behave alike, and this is told of it; or the module is refused
 abbrev pub OfVerdict : (Module → Outcome → Type 0) → Verdict → Outcome → Type 0
@@ -240,13 +237,18 @@ abbrev pub OfModule : ((bytes : ℕ) → Module → Outcome → Type 0) → Bool
 OfModule Tells true bytes o = (s : Option Refusal) × IsStoppedAt bytes s × (o ≡ stopped s)
 OfModule Tells false bytes o = (v : Verdict) × IsVerdictOf bytes v × OfVerdict (Tells (length bytes)) v o
 
--- the module is the one that is made, of the given size
+-- the sum of 0 to N - 1 is told, with N + 1 functions; or the steps are spent, which are fewer than so many
+abbrev pub TellsSum : Drilled → Outcome → Type 0
+TellsSum d o = (o ≡ drill_line (d.count + 1) (pos (sum_below d.count))) ⊎ ((d.steps < 640 * d.count + 448) × (o ≡ steps_spent))
+
+-- The bytes that are made, of the given size, are a module. It and its image behave alike, and this is told of it, which is the sum
+-- wherever the steps suffice.
 abbrev pub OfDrill : Drilled → Outcome → Type 0
-OfDrill d o = (v : Verdict) × IsVerdictOf (drill_bytes d.count) v × OfVerdict (TellsDrill d.steps) v o
+OfDrill d o = (m : Module) × IsModuleOf (drill_bytes d.count) m × Same m (image_of m) × TellsDrill d.steps m o × TellsSum d o
 
 -- of a command on an image
 abbrev pub OfReading : Given → Result Image ℕ → Outcome → Type 0
-OfReading c (Ok i) o = TellsImageCall c i o
+OfReading c (Ok i) o = TellsImageCall None c i o
 OfReading c (Err offset) o = o ≡ bad_image offset
 
 abbrev pub OfImage : Given → Bool → List ℕ → Outcome → Type 0
@@ -262,7 +264,7 @@ abbrev pub ComesTo : Option Command → Bool → (left rest : Option (List ℕ))
 ComesTo None failed left rest o = o ≡ usage
 ComesTo (Some (Check options)) failed left rest o = ComesOfModule TellsCheck failed left rest o
 ComesTo (Some (Compile options)) failed left rest o = ComesOfModule (λ bytes m. TellsImage m) failed left rest o
-ComesTo (Some (Run r)) failed left rest o = ComesOfModule (λ bytes m. TellsCall r.call m) failed left rest o
+ComesTo (Some (Run r)) failed left rest o = ComesOfModule (λ bytes m. TellsCall None r.call m) failed left rest o
 ComesTo (Some (Exec c)) failed left rest o = (bytes : List ℕ) × CameUpTo image_input left rest failed bytes × OfImage c failed bytes o
 ComesTo (Some (Drill d)) failed left rest o = OfDrill d o
 

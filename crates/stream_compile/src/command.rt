@@ -1,9 +1,10 @@
 //! The commands of the program.
 
-ghost use Rattle.std.specs.Prelude.{◌≡◌, ◌<◌, ◌^◌, ◌-◌, true, None, Some, min, nat_lt, IfOk, IfSome};
+ghost use Rattle.std.specs.Prelude.{◌≡◌, ◌<◌, ◌^◌, ◌-◌, true, None, Some, min, nat_lt, IfOk, IfSome, OnErr};
 ghost use Rattle.command_words.specs.Grammar.{IsInRange};
 ghost use Rattle.command_words.specs.declared.command.Command.TheVariants.{Check, Compile, Exec, Run as RunCommand};
 ghost use Rattle.stream_compile.specs.Reading.{view};
+ghost use Rattle.stream_compile.specs.Running.{IsTold};
 ghost use Rattle.stream_compile.specs.Texts.{command_said, ComesTo, AnswersAndWrites, ReadsNothing};
 
 use crate::answer::{Answer, CheckAnswer, Settings};
@@ -12,8 +13,9 @@ use crate::drill::drill;
 use crate::foreign::{Foreign, read_foreign};
 use crate::output::{Output, accepted, bad_image, compiled, read_fault, rejected, usage};
 use crate::running::run_image;
+use crate::writing::write;
 use command_words::{Call, Command, Options, Run, WordsStop, command_of};
-use io_edges::{Gate, Sink, Source, write_all};
+use io_edges::{Gate, Sink, Source};
 use std::alloc::{AllocError, Global};
 use std::sync::Wait;
 use std::thread::Threads;
@@ -79,62 +81,82 @@ fn compile<R: Threads + Wait + Sync, S: Source, G: Gate>(
     }
 }
 
-/// Compiles what the source gives, and calls one of its functions.
-fn run<R: Threads + Wait + Sync, S: Source, G: Gate>(
+/// Compiles what the source gives, and calls one of its functions. The result is the status.
+fn run<R: Threads + Wait + Sync, S: Source, O: Sink, G: Gate>(
     rt: &R,
     alloc: Global,
     call: &Run,
     source: &mut S,
+    out: &mut O,
     gate: &G,
-) -> Result<Output, AllocError>
+) -> Result<u8, AllocError>
     requires faults { S.faults source.old < 2 ^ 64 - 1 }
     requires open { S.is_open source.old ≡ true }
-    ensures { IfOk result (λ o. ComesTo (Some (RunCommand call.now)) (nat_lt (S.faults source.old) (S.faults source.new)) (S.left source.old) (S.left source.new) (view o)) }
+    requires sink_count { O.faults out.old < 2 ^ 64 - 1 }
+    requires sink_open { O.is_open out.old ≡ true }
+    ensures told { IfOk result (λ status. IsTold (ComesTo (Some (RunCommand call.now)) (nat_lt (S.faults source.old) (S.faults source.new)) (S.left source.old) (S.left source.new)) status (nat_lt (O.faults out.old) (O.faults out.new)) (O.written out.old) (O.written out.new)) }
+    ensures kept { OnErr result (out.new ≡ out.old) }
 {
     match stream_compile(rt, alloc, source, gate, settings_of(&call.options)) {
-        Answer::Image(built) => run_image(alloc, &built.image, &call.call),
-        Answer::Refused(refusal) => rejected(alloc, refusal),
-        Answer::ReadFault => read_fault(alloc),
+        Answer::Image(built) => run_image(alloc, &built.image, &call.call, None, out),
+        Answer::Refused(refusal) => Ok(write(out, &rejected(alloc, refusal)?)),
+        Answer::ReadFault => Ok(write(out, &read_fault(alloc)?)),
         Answer::NoMemory => Err(AllocError),
     }
 }
 
-/// Calls one of the functions of the image that the source gives.
-fn exec<S: Source>(alloc: Global, call: &Call, source: &mut S) -> Result<Output, AllocError>
+/// Calls one of the functions of the image that the source gives. The result is the status.
+fn exec<S: Source, O: Sink>(
+    alloc: Global,
+    call: &Call,
+    source: &mut S,
+    out: &mut O,
+) -> Result<u8, AllocError>
     requires faults { S.faults source.old < 2 ^ 64 - 1 }
     requires open { S.is_open source.old ≡ true }
-    ensures { IfOk result (λ o. ComesTo (Some (Exec call.now)) (nat_lt (S.faults source.old) (S.faults source.new)) (S.left source.old) (S.left source.new) (view o)) }
+    requires sink_count { O.faults out.old < 2 ^ 64 - 1 }
+    requires sink_open { O.is_open out.old ≡ true }
+    ensures told { IfOk result (λ status. IsTold (ComesTo (Some (Exec call.now)) (nat_lt (S.faults source.old) (S.faults source.new)) (S.left source.old) (S.left source.new)) status (nat_lt (O.faults out.old) (O.faults out.new)) (O.written out.old) (O.written out.new)) }
+    ensures kept { OnErr result (out.new ≡ out.old) }
 {
     let given = read_foreign(alloc, source)?;
     match given {
-        Foreign::Image(image) => run_image(alloc, &image, call),
-        Foreign::Bad(offset) => bad_image(alloc, offset),
-        Foreign::Failed => read_fault(alloc),
+        Foreign::Image(image) => run_image(alloc, &image, call, None, out),
+        Foreign::Bad(offset) => Ok(write(out, &bad_image(alloc, offset)?)),
+        Foreign::Failed => Ok(write(out, &read_fault(alloc)?)),
     }
 }
 
-/// What the source comes to: where there is no command, the words ask for nothing. There, and where the command is `drill`, the
-/// source stays as it is.
-fn answer_to<R: Threads + Wait + Sync, S: Source, G: Gate>(
+/// Writes what the source comes to, and gives the status: where there is no command, the words ask for nothing. There, and where
+/// the command is `drill`, the source stays as it is.
+fn answer_to<R: Threads + Wait + Sync, S: Source, O: Sink, G: Gate>(
     rt: &R,
     alloc: Global,
     command: &Option<Command>,
     source: &mut S,
+    out: &mut O,
     gate: &G,
-) -> Result<Output, AllocError>
+) -> Result<u8, AllocError>
     requires faults { S.faults source.old < 2 ^ 64 - 1 }
     requires open { S.is_open source.old ≡ true }
     requires ranges { IfSome command.now IsInRange }
-    ensures answer { IfOk result (λ o. ComesTo command.now (nat_lt (S.faults source.old) (S.faults source.new)) (S.left source.old) (S.left source.new) (view o)) }
+    requires sink_count { O.faults out.old < 2 ^ 64 - 1 }
+    requires sink_open { O.is_open out.old ≡ true }
+    ensures answer { IfOk result (λ status. IsTold (ComesTo command.now (nat_lt (S.faults source.old) (S.faults source.new)) (S.left source.old) (S.left source.new)) status (nat_lt (O.faults out.old) (O.faults out.new)) (O.written out.old) (O.written out.new)) }
+    ensures kept { OnErr result (out.new ≡ out.old) }
     ensures untouched { ReadsNothing command.now → source.new ≡ source.old }
 {
     match command {
-        None => usage(alloc),
-        Some(Command::Check(options)) => check(rt, alloc, options, source, gate),
-        Some(Command::Compile(options)) => compile(rt, alloc, options, source, gate),
-        Some(Command::Run(call)) => run(rt, alloc, call, source, gate),
-        Some(Command::Exec(call)) => exec(alloc, call, source),
-        Some(Command::Drill(words)) => drill(rt, alloc, words, settings_of(&words.options), gate),
+        None => Ok(write(out, &usage(alloc)?)),
+        Some(Command::Check(options)) => Ok(write(out, &check(rt, alloc, options, source, gate)?)),
+        Some(Command::Compile(options)) => {
+            Ok(write(out, &compile(rt, alloc, options, source, gate)?))
+        }
+        Some(Command::Run(call)) => run(rt, alloc, call, source, out, gate),
+        Some(Command::Exec(call)) => exec(alloc, call, source, out),
+        Some(Command::Drill(words)) => {
+            drill(rt, alloc, words, settings_of(&words.options), out, gate)
+        }
     }
 }
 
@@ -165,12 +187,8 @@ pub fn top<R: Threads + Wait + Sync, S: Source, O: Sink, G: Gate>(
     let Ok(command) = command_in(alloc, words) else {
         return 8;
     };
-    let Ok(output) = answer_to(rt, alloc, &command, source, gate) else {
-        return 8;
-    };
-    if write_all(out, output.text.as_bytes()) {
-        output.status
-    } else {
-        7
+    match answer_to(rt, alloc, &command, source, out, gate) {
+        Ok(status) => status,
+        Err(_) => 8,
     }
 }

@@ -1,69 +1,55 @@
 //! The command `drill`: a module that is made, compiled and run.
 
-ghost use Rattle.std.specs.Prelude.{◌≤◌, ℕ, List, [], IfOk, codes};
-ghost use Rattle.image_format.specs.ImageRun.{Ending};
-ghost use Rattle.image_run.specs.Ends.{IsEnd};
-ghost use Rattle.stream_compile.specs.Reading.{view};
-ghost use Rattle.stream_compile.specs.Running.{IsUnstopped};
-ghost use Rattle.stream_compile.specs.Texts.{ChecksAndDrills, DrillEndsAs, OfDrill};
-ghost use Rattle.image_run.specs.Checks.{not_runnable};
+ghost use Rattle.std.specs.Prelude.{◌≡◌, ◌≤◌, ◌<◌, ◌^◌, ◌-◌, true, nat_lt, IfOk, OnErr};
+ghost use Rattle.stream_compile.specs.Running.{IsTold};
+ghost use Rattle.stream_compile.specs.Texts.{drill_call, OfDrill};
 
-use crate::answer::{Answer, Built, Settings};
+use crate::answer::{Answer, Settings};
 use crate::compiling::stream_compile;
-use crate::output::{Output, drilled, read_fault, rejected, unrunnable};
-use crate::running::{NoHost, tell};
-use command_words::Drill;
-use image_run::{Instance, Outcome, run_checks};
-use io_edges::{Flat, Gate};
+use crate::output::{read_fault, rejected};
+use crate::running::run_image;
+use crate::writing::write;
+use command_words::{Arguments, Call, Drill, Export};
+use io_edges::{Flat, Gate, Sink};
 use module_gen::drill_module;
 use std::alloc::{AllocError, Global};
 use std::sync::Wait;
 use std::thread::Threads;
 
-/// The name under which the module exports its last function.
-const RUN: &str = "run";
-
-/// Tells how the run ended of a module with so many functions.
-fn tell_drill(alloc: Global, functions: u64, outcome: Outcome) -> Result<Output, AllocError>
-    requires { IsUnstopped outcome }
-    ensures { IfOk result (λ o. (memory : List ℕ) (end : Ending) → IsEnd outcome memory end → DrillEndsAs functions end (view o)) }
+/// The call of the module's last function, which it exports under this name.
+fn call_of(alloc: Global, drill: &Drill) -> Result<Call, AllocError>
+    ensures { IfOk result (λ call. call ≡ drill_call drill.now.steps) }
 {
-    match outcome {
-        Outcome::Returned(value) => drilled(alloc, functions, value),
-        other => tell(alloc, other),
-    }
+    Ok(Call {
+        export: Export::new(String::from_str(alloc, "run")?),
+        arguments: Arguments::new(Vec::new(alloc)),
+        steps: drill.steps,
+    })
 }
 
-/// Runs the module that was compiled.
-fn run_drill(alloc: Global, built: &Built, steps: u64) -> Result<Output, AllocError>
-    ensures { IfOk result (λ o. ChecksAndDrills (not_runnable built.now.image (codes "run") []) built.now.image built.now.functions steps (view o)) }
-{
-    if let Some(why) = run_checks(&built.image, RUN, &[]) {
-        return unrunnable(alloc, why);
-    }
-    let mut instance = Instance::load(alloc, &built.image)?;
-    let outcome = instance.start_and_run(RUN, &[], &mut NoHost, steps);
-    tell_drill(alloc, built.functions, outcome)
-}
-
-/// Makes the module, compiles it as it compiles any source, and runs it.
-pub fn drill<R: Threads + Wait + Sync, G: Gate>(
+/// Makes the module, compiles it as it compiles any source, and runs it. The result is the status.
+pub fn drill<R: Threads + Wait + Sync, O: Sink, G: Gate>(
     rt: &R,
     alloc: Global,
     drill: &Drill,
     settings: Settings,
+    out: &mut O,
     gate: &G,
-) -> Result<Output, AllocError>
+) -> Result<u8, AllocError>
     requires least { 1 ≤ drill.now.count }
     requires most { drill.now.count ≤ 50000 }
-    ensures { IfOk result (λ o. OfDrill drill.now (view o)) }
+    requires sink_count { O.faults out.old < 2 ^ 64 - 1 }
+    requires sink_open { O.is_open out.old ≡ true }
+    ensures told { IfOk result (λ status. IsTold (OfDrill drill.now) status (nat_lt (O.faults out.old) (O.faults out.new)) (O.written out.old) (O.written out.new)) }
+    ensures kept { OnErr result (out.new ≡ out.old) }
 {
     let bytes = drill_module(alloc, drill.count as u32)?;
+    let call = call_of(alloc, drill)?;
     let mut source = Flat::new(bytes.as_slice());
     match stream_compile(rt, alloc, &mut source, gate, settings) {
-        Answer::Image(built) => run_drill(alloc, &built, drill.steps),
-        Answer::Refused(refusal) => rejected(alloc, refusal),
-        Answer::ReadFault => read_fault(alloc),
+        Answer::Image(built) => run_image(alloc, &built.image, &call, Some(built.functions), out),
+        Answer::Refused(refusal) => Ok(write(out, &rejected(alloc, refusal)?)),
+        Answer::ReadFault => Ok(write(out, &read_fault(alloc)?)),
         Answer::NoMemory => Err(AllocError),
     }
 }

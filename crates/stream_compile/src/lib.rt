@@ -13,6 +13,7 @@ mod laws;
 mod output;
 mod reading;
 mod running;
+mod writing;
 
 pub use answer::{Answer, Built, CheckAnswer, Checked, Settings};
 pub use command::top;

@@ -1,18 +1,15 @@
 //! What the program answers: a status, and a text for standard output.
 
 ghost use Rattle.std.specs.Prelude.{◌≡◌, ◌≤◌, IfOk, length};
-ghost use Rattle.wasm_defs.specs.Values.{value_of};
-ghost use Rattle.image_run.specs.Hosts.{values_of};
 ghost use Rattle.image_format.specs.declared.limits.TheConstants.{IMAGE_BYTES};
 ghost use Rattle.image_format.specs.ImageBytes.{spelling};
 ghost use Rattle.stream_compile.specs.Reading.{bytes_of, view};
-ghost use Rattle.stream_compile.specs.Texts.{usage, read_fault, accepted, compiled, drill_line, drilled, kind_name, rejected, reason, unrunnable, returned, trapped, steps_spent, fault_name, machine_fault, bad_image};
+ghost use Rattle.stream_compile.specs.Texts.{usage, read_fault, accepted, compiled, kind_name, rejected, reason, unrunnable, bad_image};
 
 use image_format::{Image, write_image};
 use image_run::NotRunnable;
-use rv64im_machine::FaultKind;
 use std::alloc::{AllocError, Global};
-use wasm_defs::{Kind, Refusal, TrapKind, Value};
+use wasm_defs::{Kind, Refusal};
 
 /// What is written.
 #[derive(Drop)]
@@ -135,78 +132,6 @@ pub fn unrunnable(alloc: Global, why: NotRunnable) -> Result<Output, AllocError>
     })
 }
 
-/// The function returned, with a value as a signed number, or with none.
-pub fn returned(alloc: Global, value: Option<Value>) -> Result<Output, AllocError>
-    ensures { IfOk result (λ a. view a ≡ returned (values_of value)) }
-{
-    let text = match value {
-        None => String::from_str(alloc, "ok\n")?,
-        Some(Value::I32(n)) => format!(in alloc; "i32 {n}\n")?,
-        Some(Value::I64(n)) => format!(in alloc; "i64 {n}\n")?,
-    };
-    Ok(Output {
-        status: 0,
-        text: Text::Line(text),
-    })
-}
-
-/// The line of a drill.
-fn drill_line(alloc: Global, functions: u64, value: i64) -> Result<Output, AllocError>
-    ensures { IfOk result (λ a. view a ≡ drill_line functions value) }
-{
-    Ok(Output {
-        status: 0,
-        text: Text::Line(format!(in alloc; "functions {functions} result {value}\n")?),
-    })
-}
-
-/// What the last of so many functions returned.
-pub fn drilled(alloc: Global, functions: u64, value: Option<Value>) -> Result<Output, AllocError>
-    ensures { IfOk result (λ a. view a ≡ drilled functions (values_of value)) }
-{
-    match value {
-        None => returned(alloc, None),
-        Some(Value::I32(n)) => drill_line(alloc, functions, i64::from(n)),
-        Some(Value::I64(n)) => drill_line(alloc, functions, n),
-    }
-}
-
-/// The function trapped.
-pub fn trapped(alloc: Global, kind: TrapKind) -> Result<Output, AllocError>
-    ensures { IfOk result (λ a. view a ≡ trapped kind) }
-{
-    let kind = kind.text();
-    Ok(Output {
-        status: 4,
-        text: Text::Line(format!(in alloc; "trap {kind}\n")?),
-    })
-}
-
-fn fault_name(kind: FaultKind) -> &'static str
-    ensures { result.now ≡ fault_name kind }
-{
-    match kind {
-        FaultKind::Fetch => "fetch",
-        FaultKind::Word => "word",
-        FaultKind::Break => "break",
-        FaultKind::Target => "target",
-        FaultKind::Load => "load",
-        FaultKind::Store => "store",
-        FaultKind::Call => "call",
-    }
-}
-
-/// The machine has no step at this place.
-pub fn machine_fault(alloc: Global, kind: FaultKind, pc: u64) -> Result<Output, AllocError>
-    ensures { IfOk result (λ a. view a ≡ machine_fault kind pc) }
-{
-    let kind = fault_name(kind);
-    Ok(Output {
-        status: 9,
-        text: Text::Line(format!(in alloc; "machine fault {kind} at {pc}\n")?),
-    })
-}
-
 /// The bytes are no image: the offset of their first fault.
 pub fn bad_image(alloc: Global, offset: u64) -> Result<Output, AllocError>
     ensures { IfOk result (λ a. view a ≡ bad_image offset) }
@@ -214,15 +139,5 @@ pub fn bad_image(alloc: Global, offset: u64) -> Result<Output, AllocError>
     Ok(Output {
         status: 10,
         text: Text::Line(format!(in alloc; "bad image at {offset}\n")?),
-    })
-}
-
-/// The machine made all its steps, and the run hadn't ended.
-pub fn steps_spent(alloc: Global) -> Result<Output, AllocError>
-    ensures { IfOk result (λ a. view a ≡ steps_spent) }
-{
-    Ok(Output {
-        status: 5,
-        text: Text::Line(String::from_str(alloc, "steps spent\n")?),
     })
 }

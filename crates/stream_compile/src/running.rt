@@ -1,34 +1,19 @@
 //! Calls of functions that images export.
 
-ghost use Rattle.std.specs.Prelude.{◌≡◌, ℕ, true, List, IfOk, map};
-ghost use Rattle.wasm_defs.specs.Host.{Stop, in_range, all_in_range};
+ghost use Rattle.std.specs.Prelude.{◌≡◌, ◌<◌, ◌^◌, ◌-◌, true, IfOk, OnErr, map, nat_lt};
+ghost use Rattle.wasm_defs.specs.Host.{in_range, all_in_range};
 ghost use Rattle.wasm_defs.specs.Values.{value_of as value};
-ghost use Rattle.image_format.specs.ImageRun.{Ending};
-ghost use Rattle.image_run.specs.Ends.{IsEnd};
-ghost use Rattle.stream_compile.specs.Reading.{view};
-ghost use Rattle.stream_compile.specs.Running.{IsUnstopped, RunsAs};
-ghost use Rattle.stream_compile.specs.Texts.{given_value, EndsAs};
+ghost use Rattle.stream_compile.specs.Running.{IsTold, RunsAs};
+ghost use Rattle.stream_compile.specs.Texts.{given_value};
 
-use crate::output::{Output, machine_fault, returned, steps_spent, trapped, unrunnable};
+use crate::output::unrunnable;
+use crate::writing::{write, write_end};
 use command_words::{Argument, Call};
 use image_format::Image;
-use image_run::{Host, Instance, Outcome, Reply, run_checks};
+use image_run::{Instance, run_checks};
+use io_edges::Sink;
 use std::alloc::{AllocError, Global};
 use wasm_defs::Value;
-
-/// A host that provides nothing: an image that imports anything isn't run, so it is never called.
-#[derive(Drop)]
-pub struct NoHost;
-
-impl Host for NoHost {
-    ghost is_ready = { λ _. true };
-
-    ghost answers = { λ _ _ reply _. reply ≡ Stop };
-
-    fn call(&mut self, _number: u32, _arguments: &[Value], _memory: &[u8]) -> Reply {
-        Reply::Stop
-    }
-}
 
 fn value_of(argument: Argument) -> Value
     ensures value { result ≡ given_value argument }
@@ -51,30 +36,28 @@ fn values_of(alloc: Global, arguments: &[Argument]) -> Result<Vec<Value>, AllocE
     Ok(values)
 }
 
-/// Tells how a run ended.
-pub fn tell(alloc: Global, outcome: Outcome) -> Result<Output, AllocError>
-    requires { IsUnstopped outcome }
-    ensures { IfOk result (λ o. (memory : List ℕ) (end : Ending) → IsEnd outcome memory end → EndsAs end (view o)) }
-{
-    match outcome {
-        Outcome::Returned(value) => returned(alloc, value),
-        Outcome::Trapped(kind) => trapped(alloc, kind),
-        Outcome::StepsSpent => steps_spent(alloc),
-        Outcome::Fault(kind, pc) => machine_fault(alloc, kind, pc),
-        Outcome::HostStopped => unreachable!(),
-    }
-}
-
-/// Calls the function of an image that the words name, and tells how the call ended, or why there can be none.
-pub fn run_image(alloc: Global, image: &Image, call: &Call) -> Result<Output, AllocError>
-    ensures { IfOk result (λ o. RunsAs image.now call.now (view o)) }
+/// Calls the function of an image that the words name, and writes what its calls print and how it ended, or why there can be no
+/// call. For a drill, which has so many functions, the line of a value tells them. The result is the status.
+///
+/// All memory is taken before anything is written.
+pub fn run_image<O: Sink>(
+    alloc: Global,
+    image: &Image,
+    call: &Call,
+    drill: Option<u64>,
+    out: &mut O,
+) -> Result<u8, AllocError>
+    requires count { O.faults out.old < 2 ^ 64 - 1 }
+    requires open { O.is_open out.old ≡ true }
+    ensures told { IfOk result (λ status. IsTold (RunsAs drill image.now call.now) status (nat_lt (O.faults out.old) (O.faults out.new)) (O.written out.old) (O.written out.new)) }
+    ensures kept { OnErr result (out.new ≡ out.old) }
 {
     let values = values_of(alloc, call.arguments.as_slice())?;
     let name = call.export.as_str();
     if let Some(why) = run_checks(image, name, &values) {
-        return unrunnable(alloc, why);
+        return Ok(write(out, &unrunnable(alloc, why)?));
     }
     let mut instance = Instance::load(alloc, image)?;
-    let outcome = instance.start_and_run(name, &values, &mut NoHost, call.steps);
-    tell(alloc, outcome)
+    let outcome = instance.run_printing(name, &values, out, call.steps);
+    Ok(write_end(out, drill, outcome))
 }

@@ -1,19 +1,22 @@
-use Rattle.std.specs.Prelude.{nat_lt}
-use Rattle.stream_compile.specs.Texts.{TellsCall}
-use Rattle.stream_compile.proofs.Answering.{image_comes, rejected_comes, read_fault_comes}
+use Rattle.std.specs.Prelude.{nat_lt, None, Some, Ok}
+use Rattle.command_words.specs.declared.command.Command.TheVariants.{Run}
+use Rattle.stream_compile.specs.Reading.{view}
+use Rattle.stream_compile.specs.Running.{RunsAs}
+use Rattle.stream_compile.specs.Texts.{ComesTo, TellsCall}
+use Rattle.stream_compile.proofs.Answering.{image_comes, rejected_comes}
+use Rattle.stream_compile.proofs.Printed.{told_as}
 use Rattle.stream_compile.proofs.command.run.Goals as goal
 
-pub returns-in-Image : goal.returns-in-Image
-returns-in-Image g c =
-    image_comes c.run_image.result c.args.call.now (nat_lt (g.S.Source.faults c.args.source.now) (g.S.Source.faults c.stream_compile.new.source)) (g.S.Source.left c.args.source.now) (g.S.Source.left c.stream_compile.new.source) c.in-Image.built
-    c.in-Image.ensures c.run_image.ensures
+pub returns-in-Image-clause-told : goal.returns-in-Image-clause-told
+returns-in-Image-clause-told g c =
+    let failed = nat_lt (g.S.Source.faults c.args.source.now) (g.S.Source.faults c.stream_compile.new.source) in
+    let left = g.S.Source.left c.args.source.now in
+    let rest = g.S.Source.left c.stream_compile.new.source in
+    told_as (RunsAs None c.in-Image.built.image c.args.call.now.call) (ComesTo (Some (Run c.args.call.now)) failed left rest) c.run_image.result (nat_lt (g.O.Sink.faults c.args.out.now) (g.O.Sink.faults c.run_image.new.out))
+    (g.O.Sink.written c.args.out.now) (g.O.Sink.written c.run_image.new.out) (image_comes c.args.call.now failed left rest c.in-Image.built c.in-Image.ensures) c.run_image.ensures.told
 
-pub returns-in-Refused : goal.returns-in-Refused
-returns-in-Refused g c =
-    rejected_comes (λ bytes m. TellsCall c.args.call.now.call m) c.rejected.result (nat_lt (g.S.Source.faults c.args.source.now) (g.S.Source.faults c.stream_compile.new.source)) (g.S.Source.left c.args.source.now) (g.S.Source.left c.stream_compile.new.source) c.in-Refused.refusal
-    c.in-Refused.ensures c.rejected.ensures
-
-pub returns-in-ReadFault : goal.returns-in-ReadFault
-returns-in-ReadFault g c =
-    read_fault_comes (λ bytes m. TellsCall c.args.call.now.call m) c.read_fault.result (nat_lt (g.S.Source.faults c.args.source.now) (g.S.Source.faults c.stream_compile.new.source)) (g.S.Source.left c.args.source.now) (g.S.Source.left c.stream_compile.new.source)
-    c.in-ReadFault.ensures c.read_fault.ensures
+pub returns-in_ok-rejected-in-Refused-clause-told : goal.returns-in_ok-rejected-in-Refused-clause-told
+returns-in_ok-rejected-in-Refused-clause-told g c =
+    let failed = nat_lt (g.S.Source.faults c.args.source.now) (g.S.Source.faults c.stream_compile.new.source) in
+    let output = c.in_ok-rejected-in-Refused.field-0 in
+    (view output, rejected_comes (λ bytes m. TellsCall None c.args.call.now.call m) (Ok output) failed (g.S.Source.left c.args.source.now) (g.S.Source.left c.stream_compile.new.source) c.in-Refused.refusal c.in-Refused.ensures c.in_ok-rejected-in-Refused.ensures, c.write.ensures)

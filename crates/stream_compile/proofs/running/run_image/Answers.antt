@@ -1,24 +1,33 @@
-use Rattle.std.proofs.Common.{refl}
-use Rattle.stream_compile.proofs.Calls.{begun, unrunnable_runs, unstopped, told_runs}
+use Rattle.std.proofs.Common.{refl, ap, arith}
+use Rattle.stream_compile.specs.Reading.{view}
+use Rattle.stream_compile.proofs.ImageCalls.{begun, unrunnable_runs}
+use Rattle.stream_compile.proofs.Printed.{run_told, calm_count}
 use Rattle.stream_compile.proofs.running.run_image.Goals as goal
 
-pub returns-in-Some : goal.returns-in-Some
-returns-in-Some c =
+pub returns-in-Some-clause-told : goal.returns-in-Some-clause-told
+returns-in-Some-clause-told g c =
     let call = c.args.call.now in
     let values = c.deref.result.now in
     let b = begun call c.as_str-name.result.now c.as_slice.result.now c.in_ok-values.values.items values c.as_slice.ensures c.in_ok-values.ensures.values c.in_ok-values.ensures.ranges c.deref.ensures.value c.as_str-name.ensures in
-    unrunnable_runs c.unrunnable.result c.args.image.now call c.as_str-name.result.now values c.run_checks.result c.in-Some.why b c.in-Some.is c.run_checks.ensures c.unrunnable.ensures
+    let o = view c.in_ok-unrunnable.field-0 in
+    (o, unrunnable_runs c.args.drill c.args.image.now call c.as_str-name.result.now values c.run_checks.result c.in-Some.why o b c.in-Some.is c.run_checks.ensures c.in_ok-unrunnable.ensures, c.write.ensures)
 
-pub tell-requires : goal.tell-requires
-tell-requires c =
-    let done = rw (c.in_ok-instance.ensures.image, c.deref-2.ensures.value) at c.start_and_run-outcome.ensures.run in
-    unstopped _ _ _ _ c.args.image.now c.as_str-name.result.now c.in_ok-values.values.items c.run_checks.result c.start_and_run-outcome.result _ c.in_default.is (rw c.deref.ensures.value at c.run_checks.ensures)
-    c.args.call.now.steps done
+pub write_end-requires-clause-count : goal.write_end-requires-clause-count
+write_end-requires-clause-count g c =
+    λ going.
+    let calm = calm_count _ _ _ _ _ _ _ _ c.run_printing-outcome.ensures.run.2 going in
+    let same = (c.run_printing-outcome.ensures.calm calm).1 in
+    omega (arith, same, c.requires.count)
 
-pub returns : goal.returns
-returns c =
+pub returns-clause-told : goal.returns-clause-told
+returns-clause-told g c =
     let call = c.args.call.now in
+    let name = c.as_str-name.result.now in
     let values = c.in_ok-values.values.items in
-    let done = rw (c.in_ok-instance.ensures.image, c.deref-2.ensures.value) at c.start_and_run-outcome.ensures.run in
-    let b = begun call c.as_str-name.result.now c.as_slice.result.now values values c.as_slice.ensures c.in_ok-values.ensures.values c.in_ok-values.ensures.ranges refl c.as_str-name.ensures in
-    told_runs _ _ _ _ c.args.image.now c.as_str-name.result.now values c.run_checks.result c.start_and_run-outcome.result _ c.in_default.is (rw c.deref.ensures.value at c.run_checks.ensures) c.tell.result call b done c.tell.ensures
+    let done = rw (c.in_ok-instance.ensures.image, c.deref-2.ensures.value) at c.run_printing-outcome.ensures.run in
+    let b = begun call name c.as_slice.result.now values values c.as_slice.ensures c.in_ok-values.ensures.values c.in_ok-values.ensures.ranges refl c.as_str-name.ensures in
+    run_told c.args.drill c.args.image.now call name values c.run_checks.result b c.in_default.is (rw c.deref.ensures.value at c.run_checks.ensures) c.write_end.result (g.O.Sink.faults c.args.out.now) (g.O.Sink.faults c.run_printing-outcome.new.out)
+    (g.O.Sink.faults c.write_end.new.out) (g.O.Sink.written c.args.out.now) (g.O.Sink.written c.run_printing-outcome.new.out) (g.O.Sink.written c.write_end.new.out) c.run_printing-outcome.result _ done
+    (λ quiet. (c.run_printing-outcome.ensures.calm quiet).1)
+    (λ h. let s = c.write_end.ensures.stopped h in (s.0, ap g.O.Sink.written s.1, ap g.O.Sink.faults s.1))
+    c.write_end.ensures.told

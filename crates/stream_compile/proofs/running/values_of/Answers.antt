@@ -1,6 +1,6 @@
 use Rattle.std.proofs.Common.{arith}
 use Rattle.std.proofs.lemmas.Grind.{common_steps}
-use Rattle.stream_compile.proofs.Calls.{pushed}
+use Rattle.stream_compile.proofs.ImageCalls.{pushed}
 use Rattle.stream_compile.proofs.running.values_of.Goals as goal
 
 pub loop-argument-preserved : goal.loop-argument-preserved

@@ -1,0 +1,133 @@
+-- The image of a drill's module, and how its run ends.
+use Rattle.std.proofs.Common.{◌≡◌, ◌∙◌, ◌⊎◌, ℕ, zero, suc, ◌+◌, ◌*◌, ◌<◌, ◌≤◌, true, false, not, List, [], ◌∷◌, length, None, Some, refl, ap, sym, subst, inl, inr, arith}
+use Rattle.std.specs.Prelude.{codes, map}
+use Rattle.std.proofs.lemmas.Bool.{cases_lt}
+use Rattle.wasm_defs.specs.declared.item.Item.{Item}
+use Rattle.wasm_defs.specs.declared.item.Item.TheVariants.{Signature, Imported, Function, Table, Memory, Global, Exported, Start, Element, Code, Segment}
+use Rattle.wasm_defs.specs.declared.types.FuncType.{FuncType}
+use Rattle.wasm_defs.specs.declared.types.ValType.{ValType}
+use Rattle.wasm_defs.specs.declared.types.ValType.TheVariants.{I32}
+use Rattle.wasm_defs.specs.Context.{context_of, import_count, type_of_function, type_or_empty}
+use Rattle.wasm_defs.specs.Effects.{value}
+use Rattle.wasm_defs.specs.Faults.{Module}
+use Rattle.wasm_defs.specs.Host.{Reply}
+use Rattle.wasm_defs.specs.Instances.{exports_of}
+use Rattle.wasm_defs.specs.Limits.{max_text}
+use Rattle.wasm_defs.specs.ModuleRun.{End, Fails, Going, Returns, Stops, Traps, module_run}
+use Rattle.wasm_defs.specs.ModuleRun as module_runs
+use Rattle.wasm_defs.specs.Outside.{Body}
+use Rattle.wasm_defs.specs.Trees.{Seq}
+use Rattle.wasm_defs.specs.Typing.{Context}
+use Rattle.wasm_defs.specs.Values.{Value}
+use Rattle.frame_layout.specs.Functions.{no_distance}
+use Rattle.image_format.specs.Contents.{Image}
+use Rattle.image_format.specs.declared.image.Export.{Export}
+use Rattle.image_format.specs.declared.image.Import.{Import}
+use Rattle.image_format.specs.ImageRun.{As, Ended, Ending, Fault, Faulted, ImageRun, Running, Stepping, To, Waiting, image_run, next, on, run_of, steps}
+use Rattle.image_linker.specs.ImageOf.{around, export_of, front_of, image_of, imports_of, size_of}
+use Rattle.image_linker.specs.Judging.{IsModuleOf, sizes, text_bytes}
+use Rattle.image_run.specs.Checks.{export_named, not_runnable}
+use Rattle.simulation.specs.SameRuns.{IsOver, SameRuns, as_image}
+use Rattle.module_gen.specs.Drill.{drill_bytes}
+use Rattle.drill_laws.specs.Functions.{runner_type, sum_below}
+use Rattle.drill_laws.specs.Modules.{IsDrill}
+use Rattle.drill_laws.specs.Words.{words_of}
+use Rattle.drill_laws.proofs.Modules.{drills_are_modules, drills_run}
+
+-- ---- the text keeps its limit
+
+sizes_are : (items : List Item) (k : ℕ) (bodies : List Body) (trees : List Seq) → sizes items k bodies trees ≡ words_of (λ j b tree. around items j b tree no_distance) items k bodies trees
+sizes_are items k [] trees = refl
+sizes_are items k (b ∷ bodies) [] = refl
+sizes_are items k (b ∷ bodies) (tree ∷ trees) = ap (λ (x : ℕ). size_of items k b tree + x) (sizes_are items (suc k) bodies trees)
+
+pub drill_fits : (n : ℕ) → n ≤ 50000 → (m : Module) × IsModuleOf (drill_bytes n) m × IsDrill n m
+drill_fits n most =
+    let (m, is, drill) = drills_are_modules n most in
+    let words = drill.words (λ k b tree. around m.items k b tree no_distance) in
+    let same = sizes_are m.items 0 m.bodies m.trees in
+    let front : front_of (import_count m.items) ≡ 2 = ap front_of drill.imported in
+    (m, record { is = is; fits = omega (arith, words, same, front, most) }, drill)
+
+-- ---- its export can be called
+
+none_imported : (c : Context) (items : List Item) → import_count items ≡ 0 → imports_of c items ≡ []
+none_imported c [] h = refl
+none_imported c (Signature form params results ty ∷ xs) h = none_imported c xs h
+none_imported c (Imported from what kind type_index ∷ xs) h = absurd (omega (arith, h))
+none_imported c (Function type_index ∷ xs) h = none_imported c xs h
+none_imported c (Table element limits ∷ xs) h = none_imported c xs h
+none_imported c (Memory limits ∷ xs) h = none_imported c xs h
+none_imported c (Global ty mutable init ∷ xs) h = none_imported c xs h
+none_imported c (Exported label kind index ∷ xs) h = none_imported c xs h
+none_imported c (Start index ∷ xs) h = none_imported c xs h
+none_imported c (Element table place functions ∷ xs) h = none_imported c xs h
+none_imported c (Code count end ∷ xs) h = none_imported c xs h
+none_imported c (Segment memory place bytes ∷ xs) h = none_imported c xs h
+
+pub imports_nothing : (m : Module) → import_count m.items ≡ 0 → (image_of m).imports ≡ []
+imports_nothing m none = none_imported (context_of m.items) m.items none
+
+pub drill_type : (n : ℕ) (m : Module) → IsDrill n m → type_of_function (context_of m.items) n ≡ runner_type
+drill_type n m drill = ap type_or_empty drill.exported
+
+pub drill_runnable : (n : ℕ) (m : Module) → IsDrill n m → not_runnable (image_of m) (codes "run") [] ≡ None
+drill_runnable n m drill =
+    rw (none_imported (context_of m.items) m.items drill.imported, drill.exports, drill.exported, drill.linkable) refl
+
+-- ---- a run of an image that is over stays over
+
+on_more : (x : Stepping) (go more : Running → Stepping) (e : End) → IsOver e → ((t : Running) → (run_of (go t)).end ≡ As e → (run_of (more t)).end ≡ As e) → (run_of (on x go)).end ≡ As e → (run_of (on x more)).end ≡ As e
+on_more (To t) go more e over then h = then t h
+on_more (Ended r end) go more e over then h = h
+on_more (Faulted r kind pc) go more e over then h = h
+on_more (Waiting r) go more e over then h = h
+
+steps_stay : (i : Image) (few many : ℕ) (r : Running) (e : End) → few ≤ many → IsOver e → (run_of (steps i few r)).end ≡ As e → (run_of (steps i many r)).end ≡ As e
+steps_stay i zero many r e le over h = let same : Going ≡ e = cc in absurd (subst IsOver (sym same) over)
+steps_stay i (suc few) zero r e le over h = absurd (omega (arith, le))
+steps_stay i (suc few) (suc many) r e le over h = on_more (next i r) (steps i few) (steps i many) e over (λ t g. steps_stay i few many t e (omega (arith, le)) over g) h
+
+module _ (i : Image) (offset : ℕ) (results : List ValType) (arguments : List Value) (replies : List Reply) where
+  image_stays : (few many : ℕ) (e : End) → few ≤ many → IsOver e → (image_run i offset results arguments replies few).end ≡ As e → (image_run i offset results arguments replies many).end ≡ As e
+  image_stays few many e le over h = steps_stay i few many _ e le over h
+
+-- ---- the sum is returned, or the steps are spent, which so many aren't
+
+abbrev pub DrillEnds : (n steps : ℕ) → Ending → Type 0
+DrillEnds n steps end =
+    ((memory globals : List ℕ) × (end ≡ As (Returns (value I32 (sum_below n) ∷ []) memory globals)))
+    ⊎ ((steps < 640 * n + 448) × (end ≡ As Going))
+
+module _ (n : ℕ) (m : Module) (most : n ≤ 50000) (drill : IsDrill n m) (i : Image) (offset : ℕ) (results : List ValType) (replies : List Reply) (alike : SameRuns (module_run m n [] replies) (image_run i offset results [] replies)) where
+  image : ℕ → ImageRun
+  image = image_run i offset results [] replies
+
+  -- where it has ended sooner, it has ended in the same way
+  before : (few j : ℕ) (memory globals : List ℕ) (end : Ending) → few < j → j ≤ 640 * n + 448 → (image j).end ≡ As (Returns (value I32 (sum_below n) ∷ []) memory globals) → (image few).end ≡ end → DrillEnds n few end
+  unfolding image
+  before few j memory globals (As (Returns values other words)) less most there is =
+      let later = image_stays i offset results [] replies few j (Returns values other words) (omega (arith, less)) tt is in
+      inl (memory, globals, sym later ∙ there)
+  before few j memory globals (As (Traps kind other words)) less most there is =
+      let later = image_stays i offset results [] replies few j (Traps kind other words) (omega (arith, less)) tt is in
+      inl (memory, globals, sym later ∙ there)
+  before few j memory globals (As Stops) less most there is =
+      let later = image_stays i offset results [] replies few j Stops (omega (arith, less)) tt is in
+      inl (memory, globals, sym later ∙ there)
+  before few j memory globals (As Going) less most there is = inr (omega (arith, less, most), refl)
+  before few j memory globals (As Fails) less most there is = absurd (alike.is_module_end few is)
+  before few j memory globals (Fault kind pc) less most there is = absurd (alike.never_faults few kind pc is)
+
+  pub drill_ends : (count : ℕ) → DrillEnds n count (image_run i offset results [] replies count).end
+  unfolding image
+  drill_ends count =
+      let k = 5 * n + 3 + 0 in
+      let returned = drills_run n m replies most drill 0 in
+      let over : IsOver (module_run m n [] replies k).end = subst IsOver (sym returned) tt in
+      let (j, short, same) = alike.ends k over in
+      let there = ap (λ (r : ImageRun). r.end) same ∙ ap As returned in
+      elim (cases_lt count j) [
+        | inl less ↦ before count j _ _ (image_run i offset results [] replies count).end less (omega (arith, short)) there refl
+        | inr more ↦ inl (_, _, image_stays i offset results [] replies j count _ more tt there)
+      ]

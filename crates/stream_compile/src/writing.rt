@@ -1,0 +1,195 @@
+//! What is written to the sink. Nothing here takes memory.
+
+ghost use Rattle.std.specs.Prelude.{ℕ, Option, ◌≡◌, ◌≢◌, ◌<◌, ◌^◌, ◌-◌, ◌++◌, true, codes, nat_lt};
+ghost use Rattle.std.specs.Fmt.{decimal, signed_decimal};
+ghost use Rattle.wasm_defs.specs.Values.{value_of};
+ghost use Rattle.io_edges.specs.Streams.{WritesText};
+ghost use Rattle.image_run.specs.Hosts.{values_of};
+ghost use Rattle.image_run.specs.declared.outcome.Outcome.TheVariants.{HostStopped};
+ghost use Rattle.stream_compile.specs.Reading.{view};
+ghost use Rattle.stream_compile.specs.Running.{line_of};
+ghost use Rattle.stream_compile.specs.Texts.{drill_line, drilled, fault_name, machine_fault, returned, returned_by, Told};
+
+use crate::output::Output;
+use image_run::Outcome;
+use io_edges::{Sink, write_all};
+use itoa::Buffer;
+use rv64im_machine::FaultKind;
+use wasm_defs::{TrapKind, Value};
+
+/// The status where the sink failed.
+const SINK_FAILED: u8 = 7;
+
+/// Writes an answer, and gives its status.
+pub fn write<O: Sink>(out: &mut O, output: &Output) -> u8
+    requires count { O.faults out.old < 2 ^ 64 - 1 }
+    requires open { O.is_open out.old ≡ true }
+    ensures { Told result (view output.now) (nat_lt (O.faults out.old) (O.faults out.new)) (O.written out.old) (O.written out.new) }
+{
+    if write_all(out, output.text.as_bytes()) {
+        output.status
+    } else {
+        SINK_FAILED
+    }
+}
+
+/// Writes a text and another, and says whether the sink took them.
+fn write_both<O: Sink>(out: &mut O, first: &[u8], second: &[u8]) -> bool
+    requires { O.is_open out.old ≡ true }
+    ensures text { WritesText result (first.now ++ second.now) (O.written out.old) (O.written out.new) (O.faults out.old) (O.faults out.new) }
+    ensures open { result ≡ true → O.is_open out.new ≡ true }
+{
+    if write_all(out, first) {
+        write_all(out, second)
+    } else {
+        false
+    }
+}
+
+/// Writes a text, a number and a newline.
+fn write_number<O: Sink>(out: &mut O, front: &[u8], number: &[u8]) -> bool
+    requires { O.is_open out.old ≡ true }
+    ensures { WritesText result (front.now ++ (number.now ++ codes "\n")) (O.written out.old) (O.written out.new) (O.faults out.old) (O.faults out.new) }
+{
+    if write_all(out, front) {
+        write_both(out, number, b"\n")
+    } else {
+        false
+    }
+}
+
+/// Writes the value that a function returned, as a signed number, or that there is none.
+fn write_returned<O: Sink>(out: &mut O, value: Option<Value>) -> bool
+    requires { O.is_open out.old ≡ true }
+    ensures { WritesText result (returned (values_of value)).text (O.written out.old) (O.written out.new) (O.faults out.old) (O.faults out.new) }
+{
+    let mut buffer = Buffer::new();
+    match value {
+        None => write_all(out, b"ok\n"),
+        Some(Value::I32(number)) => write_number(out, b"i32 ", buffer.format(number).as_bytes()),
+        Some(Value::I64(number)) => write_number(out, b"i64 ", buffer.format(number).as_bytes()),
+    }
+}
+
+/// Writes the line of a drill with so many functions.
+fn write_drill_line<O: Sink>(out: &mut O, functions: u64, value: i64) -> bool
+    requires { O.is_open out.old ≡ true }
+    ensures { WritesText result (drill_line functions value).text (O.written out.old) (O.written out.new) (O.faults out.old) (O.faults out.new) }
+{
+    let mut count = Buffer::new();
+    let mut number = Buffer::new();
+    if write_both(out, b"functions ", count.format(functions).as_bytes()) {
+        write_number(out, b" result ", number.format(value).as_bytes())
+    } else {
+        false
+    }
+}
+
+/// Writes what the last of so many functions returned, as a signed number, or that it returned nothing.
+fn write_drilled<O: Sink>(out: &mut O, functions: u64, value: Option<Value>) -> bool
+    requires { O.is_open out.old ≡ true }
+    ensures { WritesText result (drilled functions (values_of value)).text (O.written out.old) (O.written out.new) (O.faults out.old) (O.faults out.new) }
+{
+    match value {
+        None => write_all(out, b"ok\n"),
+        Some(Value::I32(number)) => write_drill_line(out, functions, i64::from(number)),
+        Some(Value::I64(number)) => write_drill_line(out, functions, number),
+    }
+}
+
+/// Writes what was returned: of a drill with so many functions, or of another run.
+fn write_returned_by<O: Sink>(out: &mut O, drill: Option<u64>, value: Option<Value>) -> bool
+    requires { O.is_open out.old ≡ true }
+    ensures { WritesText result (returned_by drill (values_of value)).text (O.written out.old) (O.written out.new) (O.faults out.old) (O.faults out.new) }
+{
+    match drill {
+        None => write_returned(out, value),
+        Some(functions) => write_drilled(out, functions, value),
+    }
+}
+
+fn fault_name(kind: FaultKind) -> &'static str
+    ensures { result.now ≡ fault_name kind }
+{
+    match kind {
+        FaultKind::Fetch => "fetch",
+        FaultKind::Word => "word",
+        FaultKind::Break => "break",
+        FaultKind::Target => "target",
+        FaultKind::Load => "load",
+        FaultKind::Store => "store",
+        FaultKind::Call => "call",
+    }
+}
+
+/// Writes a name and a place.
+fn write_place<O: Sink>(out: &mut O, name: &[u8], pc: u64) -> bool
+    requires { O.is_open out.old ≡ true }
+    ensures { WritesText result (name.now ++ codes " at " ++ decimal pc ++ codes "\n") (O.written out.old) (O.written out.new) (O.faults out.old) (O.faults out.new) }
+{
+    let mut buffer = Buffer::new();
+    if write_all(out, name) {
+        write_number(out, b" at ", buffer.format(pc).as_bytes())
+    } else {
+        false
+    }
+}
+
+/// Writes that the machine has no step at a place.
+fn write_fault<O: Sink>(out: &mut O, kind: FaultKind, pc: u64) -> bool
+    requires { O.is_open out.old ≡ true }
+    ensures { WritesText result (machine_fault kind pc).text (O.written out.old) (O.written out.new) (O.faults out.old) (O.faults out.new) }
+{
+    if write_all(out, b"machine fault ") {
+        write_place(out, fault_name(kind).as_bytes(), pc)
+    } else {
+        false
+    }
+}
+
+/// Writes how a run ended that no host stopped.
+fn write_line<O: Sink>(out: &mut O, drill: Option<u64>, outcome: Outcome) -> bool
+    requires stopped { outcome ≢ HostStopped }
+    requires open { O.is_open out.old ≡ true }
+    ensures { WritesText result (line_of drill outcome).text (O.written out.old) (O.written out.new) (O.faults out.old) (O.faults out.new) }
+{
+    match outcome {
+        Outcome::Returned(value) => write_returned_by(out, drill, value),
+        Outcome::Trapped(kind) => write_number(out, b"trap ", kind.text().as_bytes()),
+        Outcome::StepsSpent => write_all(out, b"steps spent\n"),
+        Outcome::Fault(kind, pc) => write_fault(out, kind, pc),
+        Outcome::HostStopped => unreachable!(),
+    }
+}
+
+/// The status of an outcome.
+fn status_of(outcome: Outcome) -> u8
+    ensures { (drill : Option ℕ) → result ≡ (line_of drill outcome).status }
+{
+    match outcome {
+        Outcome::Returned(_) => 0,
+        Outcome::Trapped(_) => 4,
+        Outcome::StepsSpent => 5,
+        Outcome::HostStopped => SINK_FAILED,
+        Outcome::Fault(_, _) => 9,
+    }
+}
+
+/// Writes how a run ended, and gives its status. Where the host stopped it, the sink has failed, and nothing more is written.
+pub fn write_end<O: Sink>(out: &mut O, drill: Option<u64>, outcome: Outcome) -> u8
+    requires count { outcome ≢ HostStopped → O.faults out.old < 2 ^ 64 - 1 }
+    requires open { outcome ≢ HostStopped → O.is_open out.old ≡ true }
+    ensures stopped { outcome ≡ HostStopped → (result ≡ 7) × (out.new ≡ out.old) }
+    ensures told { outcome ≢ HostStopped → Told result (line_of drill outcome) (nat_lt (O.faults out.old) (O.faults out.new)) (O.written out.old) (O.written out.new) }
+{
+    match outcome {
+        Outcome::HostStopped => SINK_FAILED,
+        _ => {
+            if write_line(out, drill, outcome) {
+                status_of(outcome)
+            } else {
+                SINK_FAILED
+            }
+        }
+    }
+}
