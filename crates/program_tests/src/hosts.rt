@@ -16,6 +16,7 @@ const UNKNOWN: &str = "01 08 02 60 01 7E 00 60 00 00 02 0C 01 04 68 6F 73 74 03 
 /// An import `host.num` of an i32, and one that gives its number back.
 const NARROW: &str = "01 08 02 60 01 7F 00 60 00 00 02 0C 01 04 68 6F 73 74 03 6E 75 6D 00 00 \
                       03 02 01 01 07 05 01 01 6D 00 01 0A 08 01 06 00 41 7B 10 00 0B";
+
 const GIVING: &str = "01 09 02 60 01 7E 01 7E 60 00 00 02 0C 01 04 68 6F 73 74 03 6E 75 6D 00 00 \
                       03 02 01 01 07 05 01 01 6D 00 01 0A 09 01 07 00 42 7B 10 00 1A 0B";
 

@@ -1,4 +1,4 @@
-use Rattle.std.proofs.Common.{◌≡◌, ℕ, List, [], ◌++◌, length, rules, subst}
+use Rattle.std.proofs.Common.{◌≡◌, ℕ, List, [], ◌++◌, rules, subst}
 use Rattle.std.proofs.lemmas.List.{nil_from_length}
 use Rattle.stream_compile.specs.Streaming.{IsGoing}
 use Rattle.stream_compile.proofs.compilation.Compilation.feed.Goals as goal
