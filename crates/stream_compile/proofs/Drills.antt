@@ -1,5 +1,5 @@
 -- What the command `drill` comes to.
-use Rattle.std.proofs.Common.{◌≡◌, ◌∙◌, ◌++◌, ℕ, Bool, true, false, List, Option, Some, None, refl, sym, ap, subst, true≢false}
+use Rattle.std.proofs.Common.{◌≡◌, ◌∙◌, ◌++◌, ℕ, false, List, Option, Some, sym, ap, subst, true≢false}
 use Rattle.std.specs.Prelude.{unwrap_or}
 use Rattle.wasm_defs.specs.declared.fault.Refusal.{Refusal}
 use Rattle.wasm_defs.specs.Context.{declared_count}
