@@ -8,7 +8,6 @@ use Rattle.wasm_defs.specs.declared.front_stop.FrontStop.TheVariants as stop
 use Rattle.wasm_defs.specs.Context.{declared_count}
 use Rattle.wasm_defs.specs.Faults.{Module, Accepted, Rejected}
 use Rattle.image_linker.specs.Judging.{IsStoppedAt, lasting}
-use Rattle.command_words.specs.declared.command.Command.{Command}
 use Rattle.command_words.specs.declared.command.Command.TheVariants.{Check, Compile, Run, Exec}
 use Rattle.command_words.specs.declared.command.Options.{Options}
 use Rattle.command_words.specs.declared.command.Run.{Run as Running}

@@ -1,5 +1,5 @@
 -- What is written of a run whose calls print, and of its line.
-use Rattle.std.proofs.Common.{◌≡◌, ℕ, ◌+◌, ◌-◌, ◌^◌, ◌<◌, ◌≤◌, Bool, true, false, List, [], ◌++◌, take, length, map, Option, None, Some, nat_lt, refl, sym, ap, ◌∙◌, subst, inl, inr, arith, length-append}
+use Rattle.std.proofs.Common.{◌≡◌, ℕ, ◌+◌, Bool, true, false, List, ◌++◌, take, length, map, Option, None, Some, nat_lt, refl, sym, ap, ◌∙◌, subst, inl, inr, arith}
 use Rattle.std.specs.Prelude.{◌≢◌, IfOk, Result, Ok, Err}
 use Rattle.std.specs.declared.alloc.AllocError.{AllocError}
 use Rattle.std.specs.Io.KnownBytes.{append_known}
@@ -7,7 +7,7 @@ use Rattle.std.proofs.lemmas.Bool.{cases_Bool, ltb-true, ltb-false}
 use Rattle.std.proofs.lemmas.List.{take-append-le, take_all, take_at}
 use Rattle.io_edges.proofs.Known.{append_more}
 use Rattle.wasm_defs.specs.declared.value.Value.{Value as Given}
-use Rattle.wasm_defs.specs.Values.{Value, type_of, value_of}
+use Rattle.wasm_defs.specs.Values.{type_of, value_of}
 use Rattle.wasm_defs.specs.ModuleRun.{Returns, Traps, Stops, Going, Fails}
 use Rattle.image_format.specs.Contents.{Image}
 use Rattle.image_format.specs.declared.image.Export.{Export}
