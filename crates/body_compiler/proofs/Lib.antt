@@ -7,7 +7,6 @@ pub mod Framing
 pub mod Walking
 pub mod Tokens
 pub mod Spelled
-pub mod Opcodes
 pub mod Known
 pub mod Lows
 pub mod Tying

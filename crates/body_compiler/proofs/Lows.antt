@@ -1,5 +1,5 @@
 -- Heights rise by one at most with each token that is taken.
-use Rattle.std.proofs.Common.{◌≡◌, ◌≤◌, inl, inr, ℕ, zero, suc, ◌+◌, ◌-◌, Bool, true, false, List, [], ◌∷◌, ◌++◌, length, Option, None, Some, refl, sym, ap, ◌∙◌, subst, arith, length-append}
+use Rattle.std.proofs.Common.{◌≡◌, ◌≤◌, ℕ, zero, suc, ◌+◌, ◌-◌, Bool, true, false, List, [], ◌∷◌, ◌++◌, length, Option, None, Some, refl, sym, ap, ◌∙◌, subst, arith, length-append}
 use Rattle.std.specs.Prelude.{slice_get, nat_lt}
 use Rattle.std.proofs.lemmas.List.{length-reverse}
 use Rattle.wasm_defs.specs.declared.operation.Operation.{Operation}
@@ -16,13 +16,13 @@ use Rattle.wasm_defs.specs.declared.types.ValType.{ValType}
 use Rattle.wasm_defs.specs.declared.types.ValType.TheVariants.{I32}
 use Rattle.wasm_defs.specs.Places.{higher}
 use Rattle.wasm_defs.specs.Typing.{Types, Signature, Context, Rule, Untyped, Fixed, Stops, Discards, Selects, with_type, only_if, accesses, load_type, load_alignment, store_type, store_alignment, are_labels, function_type, called, rule_of, operated, block_type}
-use Rattle.body_compiler.specs.Emitted.{is_straight_plain}
 use Rattle.body_validator.specs.declared.stack.Opening.{Opening}
 use Rattle.body_validator.specs.declared.stack.Opening.TheVariants.{Block as Blocks, Loop as Loops, If as Ifs, Else as Elses}
 use Rattle.body_validator.specs.Checking.{Operand, Operands, Frame, Frames, ◌>>=◌, guarded, known, take_one, take_all, Taken, take_any, joined, put, apply, applied, label_of, at, enter, fresh, receive, step, height, starts_live, place_of, measured, Checker, step_checker}
 use Rattle.body_validator.specs.Checks.{Checked}
 use Rattle.body_validator.proofs.Options.{through, some_inside, guarded-true}
-use Rattle.body_compiler.specs.Steps.{is_control_plain, FunctionsAreSmall, IsSpelledType, IsTaken, IsTakenPlain, IsSmall, AllSmall}
+use Rattle.wasm_laws.specs.Immediates.{IsSpelledType, TokenIsInRange}
+use Rattle.body_compiler.specs.Steps.{FunctionsAreSmall, IsSmall, AllSmall}
 
 -- ---- operands
 
@@ -111,23 +111,6 @@ operation_low (Convert Wrap) = omega arith
 operation_low (Convert ExtendS) = omega arith
 operation_low (Convert ExtendU) = omega arith
 
-straight_low : (c : Context) (p : Plain) → is_straight_plain p ≡ true → IsLow (rule_of c p)
-straight_low c Nop s = omega arith
-straight_low c Discard s = tt
-straight_low c Select s = tt
-straight_low c (LocalGet x) s = local_low (slice_get c.locals x) _ (λ t. omega arith)
-straight_low c (LocalSet x) s = local_low (slice_get c.locals x) _ (λ t. omega arith)
-straight_low c (LocalTee x) s = local_low (slice_get c.locals x) _ (λ t. omega arith)
-straight_low c (GlobalGet x) s = local_low (slice_get c.globals x) _ (λ g. omega arith)
-straight_low c (GlobalSet x) s = local_low (slice_get c.globals x) _ (λ g. only_low g.mutable (Fixed (g.ty ∷ []) []) (omega arith))
-straight_low c (Load op m) s = only_low (accesses c m.align (load_alignment op)) (Fixed (I32 ∷ []) (load_type op ∷ [])) (omega arith)
-straight_low c (Store op m) s = only_low (accesses c m.align (store_alignment op)) (Fixed (store_type op ∷ I32 ∷ []) []) (omega arith)
-straight_low c MemorySize s = only_low (nat_lt 0 c.memories) (Fixed [] (I32 ∷ [])) (omega arith)
-straight_low c MemoryGrow s = only_low (nat_lt 0 c.memories) (Fixed (I32 ∷ []) (I32 ∷ [])) (omega arith)
-straight_low c (Const t n) s = omega arith
-straight_low c (Operate op) s = operation_low op
-straight_low c _ s = absurd cc
-
 called_low : (on_top : Types) (t : Option FuncType) → ((f : FuncType) → t ≡ Some f → length f.results ≤ 1) → IsLow (with_type t (called on_top))
 called_low on_top None h = tt
 called_low on_top (Some f) h = let n = length-reverse f.results in let k = h f refl in omega arith
@@ -139,19 +122,28 @@ function_small c small f t e = by (slice_get c.functions f) refl
     by None is = let h : None ≡ Some t = rw is at e in absurd cc
     by (Some i) is = let h : slice_get c.types i ≡ Some t = rw is at e in small i t h
 
-control_low : (c : Context) (p : Plain) → LabelsAreSmall c.labels → FunctionsAreSmall c → is_control_plain p ≡ true → IsLow (rule_of c p)
-control_low c Unreachable small functions s = tt
-control_low c (Br l) small functions s = type_low (slice_get c.labels l) Stops (λ ts e. tt)
-control_low c (BrIf l) small functions s = type_low (slice_get c.labels l) (λ ts. Fixed (I32 ∷ ts) ts) (λ ts e. small l ts e)
-control_low c (BrTable ls l) small functions s = type_low (slice_get c.labels l) (λ ts. only_if (are_labels c.labels ts ls) (Stops (I32 ∷ ts))) (λ ts e. only_low (are_labels c.labels ts ls) (Stops (I32 ∷ ts)) tt)
-control_low c Return small functions s = tt
-control_low c (Call f) small functions s = called_low [] (function_type c f) (λ t e. function_small c functions f t e)
-control_low c (CallIndirect i) small functions s = only_low (nat_lt 0 c.tables) (with_type (slice_get c.types i) (called (I32 ∷ []))) (called_low (I32 ∷ []) (slice_get c.types i) (λ t e. functions i t e))
-control_low c _ small functions s = absurd cc
-
-plain_low : (c : Context) (p : Plain) → LabelsAreSmall c.labels → FunctionsAreSmall c → IsTakenPlain p → IsLow (rule_of c p)
-plain_low c p small functions (inl s) = control_low c p small functions s
-plain_low c p small functions (inr s) = straight_low c p s.0
+plain_low : (c : Context) (p : Plain) → LabelsAreSmall c.labels → FunctionsAreSmall c → IsLow (rule_of c p)
+plain_low c Unreachable small functions = tt
+plain_low c Nop small functions = omega arith
+plain_low c (Br l) small functions = type_low (slice_get c.labels l) Stops (λ ts e. tt)
+plain_low c (BrIf l) small functions = type_low (slice_get c.labels l) (λ ts. Fixed (I32 ∷ ts) ts) (λ ts e. small l ts e)
+plain_low c (BrTable ls l) small functions = type_low (slice_get c.labels l) (λ ts. only_if (are_labels c.labels ts ls) (Stops (I32 ∷ ts))) (λ ts e. only_low (are_labels c.labels ts ls) (Stops (I32 ∷ ts)) tt)
+plain_low c Return small functions = tt
+plain_low c (Call f) small functions = called_low [] (function_type c f) (λ t e. function_small c functions f t e)
+plain_low c (CallIndirect i) small functions = only_low (nat_lt 0 c.tables) (with_type (slice_get c.types i) (called (I32 ∷ []))) (called_low (I32 ∷ []) (slice_get c.types i) (λ t e. functions i t e))
+plain_low c Discard small functions = tt
+plain_low c Select small functions = tt
+plain_low c (LocalGet x) small functions = local_low (slice_get c.locals x) _ (λ t. omega arith)
+plain_low c (LocalSet x) small functions = local_low (slice_get c.locals x) _ (λ t. omega arith)
+plain_low c (LocalTee x) small functions = local_low (slice_get c.locals x) _ (λ t. omega arith)
+plain_low c (GlobalGet x) small functions = local_low (slice_get c.globals x) _ (λ g. omega arith)
+plain_low c (GlobalSet x) small functions = local_low (slice_get c.globals x) _ (λ g. only_low g.mutable (Fixed (g.ty ∷ []) []) (omega arith))
+plain_low c (Load op m) small functions = only_low (accesses c m.align (load_alignment op)) (Fixed (I32 ∷ []) (load_type op ∷ [])) (omega arith)
+plain_low c (Store op m) small functions = only_low (accesses c m.align (store_alignment op)) (Fixed (store_type op ∷ I32 ∷ []) []) (omega arith)
+plain_low c MemorySize small functions = only_low (nat_lt 0 c.memories) (Fixed [] (I32 ∷ [])) (omega arith)
+plain_low c MemoryGrow small functions = only_low (nat_lt 0 c.memories) (Fixed (I32 ∷ []) (I32 ∷ [])) (omega arith)
+plain_low c (Const t n) small functions = omega arith
+plain_low c (Operate op) small functions = operation_low op
 
 -- ---- the labels of frames
 
@@ -218,10 +210,10 @@ small_at c fs h i t e = h i t (ap (λ (ts : List FuncType). slice_get ts i) (sym
     types_at c [] = refl
     types_at c (f ∷ fs) = types_at c fs
 
-step_rises : (c : Context) (t : Token) (fs gs : Frames) → c.labels ≡ [] → FunctionsAreSmall c → IsTaken t → AllSmall fs → step c t fs ≡ Some gs → Rises fs gs
+step_rises : (c : Context) (t : Token) (fs gs : Frames) → c.labels ≡ [] → FunctionsAreSmall c → TokenIsInRange t → AllSmall fs → step c t fs ≡ Some gs → Rises fs gs
 step_rises c t [] gs none functions taken h e = absurd cc
 step_rises c (token.Plain p) (f ∷ fs) gs none functions taken h e =
-    applied_rises (rule_of (at c (f ∷ fs)) p) f fs gs (plain_low (at c (f ∷ fs)) p (labels_small c (f ∷ fs) none h) (small_at c (f ∷ fs) functions) taken) h e
+    applied_rises (rule_of (at c (f ∷ fs)) p) f fs gs (plain_low (at c (f ∷ fs)) p (labels_small c (f ∷ fs) none h) (small_at c (f ∷ fs) functions)) h e
 step_rises c (token.Block t) (f ∷ fs) gs none functions taken h e =
     let x = through (block_type (at c (f ∷ fs)) t) (λ s. enter Blocks s s.params (f ∷ fs)) gs e in
     enter_rises Blocks x.value x.value.params f fs gs (spelled_small (at c (f ∷ fs)) t x.value taken x.is) h x.then
@@ -249,7 +241,7 @@ pub record Low (check : Checked) (left : ℕ) (bound : ℕ) : Type 0 where
   pub low : height check.checker.frames + left ≤ bound
   pub most : check.checker.greatest + left ≤ bound
 
-pub low-after : (check later : Checked) (t : Token) (left fewer bound : ℕ) → check.context.labels ≡ [] → FunctionsAreSmall check.context → IsTaken t → fewer + 1 ≤ left → Low check left bound
+pub low-after : (check later : Checked) (t : Token) (left fewer bound : ℕ) → check.context.labels ≡ [] → FunctionsAreSmall check.context → TokenIsInRange t → fewer + 1 ≤ left → Low check left bound
     → step_checker check.context t check.checker ≡ Some later.checker → Low later fewer bound
 low-after check later t left fewer bound none functions taken less h e =
     let x = through (step check.context t check.checker.frames) (λ fs. Some (measured check.checker.greatest fs)) later.checker e in

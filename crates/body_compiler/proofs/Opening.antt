@@ -12,7 +12,8 @@ use Rattle.control_emit.specs.Pending.{Shape}
 use Rattle.control_emit.specs.Emits.{Draft, Opens}
 use Rattle.control_emit.specs.Begins.{Begins}
 use Rattle.control_emit.specs.Walks.{Step, end_shape, start_shape}
-use Rattle.body_compiler.specs.Steps.{IsSpelledType, HasResults}
+use Rattle.wasm_laws.specs.Immediates.{IsSpelledType}
+use Rattle.body_compiler.specs.Steps.{HasResults}
 
 no_params : (c : Context) (t : BlockType) → IsSpelledType t → length (shape c t).params ≡ 0
 no_params c Empty s = refl

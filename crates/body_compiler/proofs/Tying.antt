@@ -18,7 +18,8 @@ use Rattle.control_emit.specs.Emits.{Draft}
 use Rattle.control_emit.specs.Walks.{Step}
 use Rattle.control_emit.proofs.Composing.{count-shapes, count-more}
 use Rattle.wasm_defs.specs.Limits.{max_body}
-use Rattle.body_compiler.specs.Steps.{FunctionsAreSmall, IsTaken, NamesPlain, NamesOpen, AreTied}
+use Rattle.wasm_laws.specs.Immediates.{TokenIsInRange}
+use Rattle.body_compiler.specs.Steps.{FunctionsAreSmall, NamesPlain, NamesOpen, AreTied}
 use Rattle.body_compiler.proofs.Depths.{checker_depth}
 use Rattle.body_compiler.proofs.Known.{known_after}
 use Rattle.body_compiler.proofs.Lows.{low-after}
@@ -120,7 +121,7 @@ depth_rises (token.If t) n = omega arith
 depth_rises token.Else n = omega arith
 depth_rises token.End n = omega arith
 
-pub tied-after : (w : Around) (c : Context) (t : Token) (q : Place) (a b : Draft) (check later : Checked) (left fewer : ℕ) → fewer + 1 ≤ left → IsTaken t → AreTied a.labels check left → Step w c t q a b
+pub tied-after : (w : Around) (c : Context) (t : Token) (q : Place) (a b : Draft) (check later : Checked) (left fewer : ℕ) → fewer + 1 ≤ left → TokenIsInRange t → AreTied a.labels check left → Step w c t q a b
     → step_checker check.context t check.checker ≡ Some later.checker → later.context ≡ check.context → AreTied b.labels later fewer
 tied-after w c t q a b check later left fewer less taken tied s e same =
     let low = low-after check later t left fewer max_body tied.unlabelled tied.functions taken less (record { small = tied.small; low = tied.low; most = tied.most }) e in

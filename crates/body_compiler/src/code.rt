@@ -1,16 +1,14 @@
-//! A body's code: its tokens are read one after the other, checked and compiled. Each opcode behind which one is read is compiled so
-//! far, so the test for that is made where reading stops alone.
+//! A body's code: its tokens are read one after the other, checked, and compiled.
 
 ghost use Rattle.std.specs.Prelude.{◌≡◌, ◌≢◌, ◌≤◌, ℕ, ◌+◌, List, [], length, OnOk};
 ghost use Rattle.wasm_defs.specs.Bodies.{Spelled as SpelledGiven};
 ghost use Rattle.wasm_defs.specs.Fields.{Cursor as CursorGiven, Got, byte};
 ghost use Rattle.wasm_defs.specs.Limits.{max_body};
 ghost use Rattle.wasm_defs.specs.Typing.{Context as ContextGiven};
-ghost use Rattle.wasm_defs.specs.Supported.{is_compiled_opcode};
 ghost use Rattle.frame_layout.specs.Slots.{link};
 ghost use Rattle.wasm_laws.specs.Sections.{AreBytes};
 ghost use Rattle.body_compiler.specs.Steps.{AreTied};
-ghost use Rattle.body_compiler.specs.Going.{IsCompiling, calling, Goes, Judges, fault_there, without_instruction, without_opcode};
+ghost use Rattle.body_compiler.specs.Going.{IsCompiling, calling, Goes, Judges, reading_stop};
 ghost use Rattle.control_emit.specs.Emits.{draft as drafted, IsHeld};
 
 use crate::draft::{Draft, take_step};
@@ -19,7 +17,7 @@ use body_validator::{Check, TokenStop};
 use leb_feed::{Fields, Stop};
 use std::alloc::Global;
 use thiserror::Error;
-use wasm_defs::{Kind, Refusal, earlier, is_compiled_opcode};
+use wasm_defs::{Kind, Refusal};
 
 /// Why a body isn't compiled.
 #[derive(Clone, Copy, Debug, PartialEq, Eq, Error)]
@@ -32,20 +30,6 @@ pub enum BodyStop {
     NoMemory,
 }
 
-/// A fault of an instruction whose opcode stands at an offset: what isn't compiled is unsupported there.
-fn fault_of(compiled: bool, at: u64, refusal: Refusal) -> Refusal
-    ensures { result ≡ fault_there compiled at refusal }
-{
-    if compiled {
-        return refusal;
-    }
-    let unsupported = Refusal {
-        offset: at,
-        kind: Kind::Unsupported,
-    };
-    earlier(refusal, unsupported)
-}
-
 fn malformed(offset: u64) -> Refusal
     ensures { result ≡ record { offset = offset; kind = Kind.Malformed } }
 {
@@ -55,15 +39,14 @@ fn malformed(offset: u64) -> Refusal
     }
 }
 
-/// Why an instruction isn't read, whose opcode stands at an offset, in a body whose last byte has the offset `last`.
+/// Why a body's reading stops.
 #[inline(never)]
-fn unread(stop: Stop, opcode: u8, at: u64, last: u64) -> BodyStop
-    ensures { result ≡ without_instruction (is_compiled_opcode opcode) at last stop }
+pub(crate) fn stop_of(stop: Stop, last: u64) -> BodyStop
+    ensures { result ≡ reading_stop last stop }
 {
-    let compiled = is_compiled_opcode(opcode);
     match stop {
-        Stop::Refused(refusal) => BodyStop::Refused(fault_of(compiled, at, refusal)),
-        Stop::Wants => BodyStop::Refused(fault_of(compiled, at, malformed(last))),
+        Stop::Refused(refusal) => BodyStop::Refused(refusal),
+        Stop::Wants => BodyStop::Refused(malformed(last)),
         Stop::NoMemory => BodyStop::NoMemory,
     }
 }
@@ -95,7 +78,7 @@ fn take_instruction(
 {
     let token = match instruction(fields, alloc, at, opcode) {
         Ok(token) => token,
-        Err(stop) => return Err(unread(stop, opcode, at, last)),
+        Err(stop) => return Err(stop_of(stop, last)),
     };
     let step = match check.token(at, &token) {
         Ok(step) => step,
@@ -105,17 +88,6 @@ fn take_instruction(
     match take_step(draft, check.context(), &step, &token) {
         Ok(()) => Ok(()),
         Err(_) => Err(BodyStop::NoMemory),
-    }
-}
-
-/// Why a body's reading stops where no opcode is read.
-pub(crate) fn stop_of(stop: Stop, last: u64) -> BodyStop
-    ensures { result ≡ without_opcode last stop }
-{
-    match stop {
-        Stop::Refused(refusal) => BodyStop::Refused(refusal),
-        Stop::Wants => BodyStop::Refused(malformed(last)),
-        Stop::NoMemory => BodyStop::NoMemory,
     }
 }
 

@@ -80,9 +80,9 @@ fn rows_of(context: &Context) -> u32
 
 /// Compiles the body of a function: its bytes are all there, and the first one has the offset.
 ///
-/// A body that is spelled rightly to its end (Core 5.4 and 5.5.13), valid in the context (Core 3.4.1) and made of what is compiled
-/// so far becomes the words of its function (`Functions` of `frame_layout`), whose calls have no distances yet, the places of these
-/// calls, and the number of slots that it needs.
+/// A body that is spelled rightly to its end (Core 5.4 and 5.5.13) and valid in the context (Core 3.4.1) becomes the words of its
+/// function (`Functions` of `frame_layout`), whose calls have no distances yet, the places of these calls, and the number of slots
+/// that it needs.
 /// Any other body is refused with its first fault. Where memory is wanting it is neither.
 pub fn compile(
     alloc: Global,

@@ -2,7 +2,6 @@ pub mod Rows
 pub mod SpeltTokens
 pub mod SpeltCodes
 pub mod OneCode
-pub mod Compiled
 pub mod SpelledModules
 pub mod WrongFields
 pub mod WrongTokens

@@ -8,12 +8,11 @@ use Rattle.wasm_defs.specs.declared.token.Token.{Token}
 use Rattle.wasm_defs.specs.Numbers.{Spells}
 use Rattle.wasm_defs.specs.Fields.{Cursor, Read, Got, Fault, Wants, then_go, room_of, window, first_of, byte}
 use Rattle.wasm_defs.specs.Items.{each_is, byte_is}
-use Rattle.wasm_defs.specs.Bodies.{Group, local_groups, Spelled, closed, after_opcode, after_token, goes_on, spelled_from, instruction, depth_after, body_cursor, last_of, read_code, body_read}
+use Rattle.wasm_defs.specs.Bodies.{Group, local_groups, Spelled, closed, after_token, goes_on, spelled_from, instruction, depth_after, body_cursor, last_of, read_code, body_read}
 use Rattle.wasm_defs.specs.Codes.{listed_vector_is, instruction_is, token_is, group_is}
 use Rattle.wasm_defs.specs.Faults.{tokens_of}
 use Rattle.wasm_laws.specs.Kept.{LocalsAreFew}
 use Rattle.wasm_laws.specs.Steadiness as steady
-use Rattle.wasm_laws.specs.Steadiness.{Stands, StandsIn}
 use Rattle.wasm_laws.proofs.Steady.{IfGot}
 use Rattle.wasm_laws.proofs.Spelt.{cursor, Ready, Found, later, bytes_behind}
 use Rattle.wasm_laws.proofs.SpeltFields.{byte_spelt}
@@ -130,7 +129,7 @@ module _ (n depth last : ℕ) (c : Cursor) (ready : Ready c) (few : length c.res
   behind_opcode b d eb found (Fault r) ey = none_begins c (suc depth) last r fits (subst (IfStops (IsWrongToken c.at c.rest last) last) ey (opcode_wrong last c b d ready (omega arith) found)) (λ t e g. let h = read_as b d (Fault r) eb ey in absurd cc)
   behind_opcode b d eb found Wants ey = none_begins c (suc depth) last (record { offset = last; kind = Malformed }) fits (subst (IfStops (IsWrongToken c.at c.rest last) last) ey (opcode_wrong last c b d ready (omega arith) found)) (λ t e g. let h = read_as b d Wants eb ey in absurd cc)
 
-  at_opcode : (x : Read (ℕ × ℕ)) → byte c ≡ x → Ends (goes_on last x (λ b d. after_opcode b (goes_on last (instruction b.0 b.1 d) (next b))))
+  at_opcode : (x : Read (ℕ × ℕ)) → byte c ≡ x → Ends (goes_on last x (λ b d. goes_on last (instruction b.0 b.1 d) (next b)))
   at_opcode (Got b d) e = behind_opcode b d e (subst (IfGot (λ b d. Found (byte_is b.0 b.1) (Unit {0}) c d)) e (byte_spelt.sound c ready)) (instruction b.0 b.1 d) refl
   at_opcode (Fault r) e = absurd (byte_refuses c r fits e)
   at_opcode Wants e = none_begins c (suc depth) last (record { offset = last; kind = Malformed }) fits (inl (none_left c fits e c.rest refl, refl)) (λ t f g. let h : steady.token c ≡ Wants = ap (λ (z : Read (ℕ × ℕ)). then_go z (λ b. instruction b.0 b.1)) e in absurd cc)

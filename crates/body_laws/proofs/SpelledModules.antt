@@ -4,13 +4,11 @@ use Rattle.std.proofs.lemmas.List.{append-nil}
 use Rattle.wasm_defs.specs.declared.item.Item.{Item}
 use Rattle.wasm_defs.specs.declared.token.Token.{Token}
 use Rattle.wasm_defs.specs.Bodies.{Group}
-use Rattle.wasm_defs.specs.Codes.{listed_vector_is, group_is, Code}
 use Rattle.wasm_defs.specs.Context.{context_of, import_count, body_context, type_of_function}
 use Rattle.wasm_defs.specs.Entries.{Seen}
-use Rattle.wasm_defs.specs.Faults.{ending_fault, first_outside, sections_of, tokens_of, read_of, context_at, items_of, bodies_of, IsValidCode, AreValid, Module, IsModule}
-use Rattle.wasm_defs.specs.Items.{Section, ◌then◌, each_is}
+use Rattle.wasm_defs.specs.Faults.{ending_fault, tokens_of, read_of, context_at, items_of, bodies_of, IsValidCode, AreValid, Module, IsModule}
+use Rattle.wasm_defs.specs.Items.{Section}
 use Rattle.wasm_defs.specs.Outside.{Body, Part, Section as Headed, Listed, Coded, Ending, Whole, Refused, Owed, Run, module_read}
-use Rattle.wasm_defs.specs.Supported.{is_compiled_section}
 use Rattle.wasm_defs.specs.Trees.{Seq, Tree}
 use Rattle.wasm_defs.specs.Typing.{Context, IsBody}
 use Rattle.wasm_laws.specs.Behind.{SayTheSame, StartsKeep, AreValidIn}
@@ -20,9 +18,8 @@ use Rattle.wasm_laws.proofs.Bytes.{each_byte, HaveBytes, bodies_have_bytes}
 use Rattle.wasm_laws.proofs.Described.{items_of_parts, bodies_of_parts, whole_is_described}
 use Rattle.wasm_laws.proofs.Locals.{locals_are_few}
 use Rattle.wasm_laws.proofs.WholeModules.{described_is_whole}
-use Rattle.body_laws.specs.Spelled.{compiled_token_is, IsSpelled, AreSpelled, IsSpelledModule}
-use Rattle.body_laws.proofs.SpeltCodes.{spelled_is_read}
-use Rattle.body_laws.proofs.Compiled.{each_plain, body_compiled, opcodes_compiled}
+use Rattle.body_laws.specs.Spelled.{IsSpelled, AreSpelled, IsSpelledModule}
+use Rattle.body_laws.proofs.SpeltCodes.{body_found, spelled_is_read}
 
 -- ---- a body
 
@@ -30,25 +27,20 @@ valid_is_spelled : (items : List Item) (k : ℕ) (b : Body) (tree : Seq) → Are
 valid_is_spelled items k b tree fits v = record {
   groups = (read_of b).groups;
   tokens = (read_of b).code.tokens;
-  spelled = body_compiled b.first b.bytes (each_byte b.bytes fits) v.whole v.compiled;
+  spelled = body_found b.first b.bytes (each_byte b.bytes fits) v.whole;
   few = locals_are_few b.first b.bytes;
   nests = v.tree_is;
   typed = v.typed;
 }
 
--- whether its opcodes are compiled or not
-any_code : (b : Body) (gs : List Group) (ts : List (ℕ × Token)) → (listed_vector_is group_is gs then each_is compiled_token_is ts) b.first b.bytes → Code gs ts b.first b.bytes
-any_code b gs ts j = record { front = j.front; back = j.back; parts = j.parts; first = j.first; second = each_plain ts (b.first + length j.front) j.back j.second }
-
 spelled_is_valid : (items : List Item) (k : ℕ) (b : Body) (tree : Seq) → IsSpelled items k b tree → IsValidCode (context_at items k b) (read_of b).code tree
 spelled_is_valid items k b tree s =
     let c = context_of items in
-    let is = spelled_is_read b.first b.bytes s.groups s.tokens tree s.nests (any_code b s.groups s.tokens s.spelled) s.few in
+    let is = spelled_is_read b.first b.bytes s.groups s.tokens tree s.nests s.spelled s.few in
     record {
       whole = is.whole;
       tree_is = subst (λ (ts : List (ℕ × Token)). Tree (tokens_of ts) tree) (sym is.code) s.nests;
       typed = subst (λ (gs : List Group). IsBody (body_context c (type_of_function c (import_count items + k)) gs) tree) (sym is.locals) s.typed;
-      compiled = opcodes_compiled b.first b.bytes s.groups s.tokens tree s.nests s.spelled s.few;
     }
 
 -- ---- bodies
@@ -116,7 +108,6 @@ module_is_spelled bytes m fits is =
         bodies = is.bodies ∙ ap bodies_of d.2 ∙ bodies_of_parts d.0;
         starts = subst (StartsKeep []) (sym is.items) (starts_keep [] 0 run.parts m.trees is.valid);
         spelled = valid;
-        compiled = subst (λ (l : List Part). first_outside is_compiled_section (sections_of l) ≡ None) d.2 is.compiled;
       },
     )
 
@@ -129,7 +120,6 @@ spelled_is_module bytes m sections s =
     let valid = spelled_are_valid m.items 0 m.bodies m.trees s.spelled in
     record {
       whole = ap (λ (r : Run). ending_fault (length bytes) r.ending) w.1;
-      compiled = ap (λ (l : List Part). first_outside is_compiled_section (sections_of l)) parts ∙ s.compiled;
       items = items;
       bodies = bodies;
       valid = valid_at_parts bytes [] [] 0 (module_read bytes).parts m.trees refl refl (subst (StartsKeep []) items s.starts)

@@ -12,7 +12,7 @@ use Rattle.wasm_defs.specs.Context.{declared_types}
 use Rattle.wasm_defs.specs.Entries.{value_type}
 use Rattle.wasm_defs.specs.Fields.{Cursor, Read, Got, Fault, Wants, then_go, byte, first_of, window, u32}
 use Rattle.wasm_defs.specs.Items.{Spelling, ◌then◌, exactly, each_is, listed_type_is, listed_index_is, byte_is}
-use Rattle.wasm_defs.specs.Bodies.{Group, group, groups, local_groups, Spelled, closed, after_opcode, after_token, goes_on, spelled_from, instruction, depth_after, body_cursor, last_of, BodyRead, read_code, body_read}
+use Rattle.wasm_defs.specs.Bodies.{Group, group, groups, local_groups, Spelled, closed, after_token, goes_on, spelled_from, instruction, depth_after, body_cursor, last_of, BodyRead, read_code, body_read}
 use Rattle.wasm_defs.specs.Codes.{listed_vector_is, plain_is, instruction_is, token_is, group_is, Code}
 use Rattle.wasm_defs.specs.Faults.{tokens_of}
 use Rattle.wasm_defs.specs.Trees.{Seq, Nothing, Simple, Block, Loop, If, IfElse, spelled, Tree}
@@ -43,7 +43,7 @@ spelled_closes (IfElse type body other rest) depth after h =
     spelled_closes body (suc depth) (token.Else ∷ spelled other (token.End ∷ spelled rest after))
     (spelled_closes other (suc depth) (token.End ∷ spelled rest after) (end_closes (suc depth) (spelled rest after) (spelled_closes rest depth after h)))
 
-pub tree_closes : (ts : List Token) (tree : Seq) → Tree ts tree → Closes 1 ts
+tree_closes : (ts : List Token) (tree : Seq) → Tree ts tree → Closes 1 ts
 tree_closes ts tree e = subst (Closes 1) (sym e) (spelled_closes tree 0 (token.End ∷ []) (end_closes 0 [] tt))
 
 -- ---- a token has a byte at least
@@ -87,7 +87,7 @@ token_some token.End at bytes s = one_byte s
 
 -- ---- tokens that are read whole are spelled
 
-pub goes_on_found : {A : Type 0} (last : ℕ) (x : Read A) (f : A → Cursor → Spelled) (P : A → Cursor → Type 0) (R : Spelled → Type 0) → IfGot P x → ((a : A) (d : Cursor) → P a d → (f a d).fault ≡ None → R (f a d)) → (goes_on last x f).fault ≡ None → R (goes_on last x f)
+goes_on_found : {A : Type 0} (last : ℕ) (x : Read A) (f : A → Cursor → Spelled) (P : A → Cursor → Type 0) (R : Spelled → Type 0) → IfGot P x → ((a : A) (d : Cursor) → P a d → (f a d).fault ≡ None → R (f a d)) → (goes_on last x f).fault ≡ None → R (goes_on last x f)
 goes_on_found last (Got a d) f P R p h e = h a d p e
 goes_on_found last (Fault r) f P R p h e = absurd cc
 goes_on_found last Wants f P R p h e = absurd cc
@@ -146,7 +146,7 @@ abbrev IsSpelledAs : List (ℕ × Token) → Spelled → Spelled → Type 0
 IsSpelledAs ts s rest = (s.tokens ≡ ts) × (s.fault ≡ rest.fault)
 
 token_goes_on : (last at : ℕ) (x : Read (ℕ × ℕ)) (k : Token → Cursor → Spelled) (t : Token) (e : Cursor) → IfGot (λ b d. b.0 ≡ at) x → then_go x (λ b. instruction b.0 b.1) ≡ Got t e
-    → IsSpelledAs ((at, t) ∷ (k t e).tokens) (goes_on last x (λ b d. after_opcode b (goes_on last (instruction b.0 b.1 d) (λ u f. after_token b.0 u (k u f))))) (k t e)
+    → IsSpelledAs ((at, t) ∷ (k t e).tokens) (goes_on last x (λ b d. goes_on last (instruction b.0 b.1 d) (λ u f. after_token b.0 u (k u f)))) (k t e)
 token_goes_on last at (Got b d) k t e is got =
     let f : Token → Cursor → Spelled = λ u g. after_token b.0 u (k u g) in
     let h : goes_on last (instruction b.0 b.1 d) f ≡ f t e = ap (λ (z : Read Token). goes_on last z f) got in

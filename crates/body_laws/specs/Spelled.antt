@@ -1,35 +1,24 @@
 -- Bodies of a module as the grammar spells them, with no reader (WebAssembly Core 1.0, 5.4, 5.5.13 and 3.4.1).
-use Rattle.std.specs.Prelude.{◌≡◌, ℕ, suc, ◌+◌, true, List, [], ◌∷◌, None}
+use Rattle.std.specs.Prelude.{◌≡◌, ℕ, suc, ◌+◌, List, [], ◌∷◌}
 use Rattle.wasm_defs.specs.declared.item.Item.{Item}
 use Rattle.wasm_defs.specs.declared.token.Token.{Token}
 use Rattle.wasm_defs.specs.Bodies.{Group}
-use Rattle.wasm_defs.specs.Codes.{listed_vector_is, token_is, group_is}
+use Rattle.wasm_defs.specs.Codes.{Code}
 use Rattle.wasm_defs.specs.Context.{context_of, import_count, body_context, type_of_function}
-use Rattle.wasm_defs.specs.Faults.{first_outside, sections_of, tokens_of, Module}
-use Rattle.wasm_defs.specs.Items.{Section, Spelling, ◌then◌, each_is, items_in, bodies_in}
+use Rattle.wasm_defs.specs.Faults.{tokens_of, Module}
+use Rattle.wasm_defs.specs.Items.{Section, items_in, bodies_in}
 use Rattle.wasm_defs.specs.Outside.{Body}
-use Rattle.wasm_defs.specs.Supported.{is_compiled_section, is_compiled_opcode}
 use Rattle.wasm_defs.specs.Trees.{Seq, Tree}
 use Rattle.wasm_defs.specs.Typing.{IsBody}
 use Rattle.wasm_laws.specs.Behind.{StartsKeep}
 use Rattle.wasm_laws.specs.Kept.{LocalsAreFew}
-use Rattle.wasm_laws.specs.Sections.{AreSectionsOf, parts_in}
+use Rattle.wasm_laws.specs.Sections.{AreSectionsOf}
 
--- the first byte is an opcode that is compiled
-abbrev pub BeginsCompiled : List ℕ → Type 0
-BeginsCompiled [] = ⊥
-BeginsCompiled (b ∷ bytes) = is_compiled_opcode b ≡ true
-
--- a token whose opcode is compiled
-abbrev pub compiled_token_is : ℕ × Token → Spelling
-compiled_token_is t = λ at bytes. token_is t at bytes × BeginsCompiled bytes
-
--- the k-th body of a module of these items: its bytes spell groups of locals and the tokens of a tree, which is typed; their
--- opcodes are compiled
+-- the k-th body of a module of these items: its bytes spell groups of locals and the tokens of a tree, which is typed
 pub record IsSpelled (items : List Item) (k : ℕ) (b : Body) (tree : Seq) : Type 0 where
   pub groups : List Group
   pub tokens : List (ℕ × Token)
-  pub spelled : (listed_vector_is group_is groups then each_is compiled_token_is tokens) b.first b.bytes
+  pub spelled : Code groups tokens b.first b.bytes
   pub few : LocalsAreFew groups
   pub nests : Tree (tokens_of tokens) tree
   pub typed : IsBody (body_context (context_of items) (type_of_function (context_of items) (import_count items + k)) groups) tree
@@ -41,12 +30,11 @@ AreSpelled items k [] (tree ∷ trees) = ⊥
 AreSpelled items k (b ∷ bodies) [] = ⊥
 AreSpelled items k (b ∷ bodies) (tree ∷ trees) = IsSpelled items k b tree × AreSpelled items (suc k) bodies trees
 
--- the bytes are a module of these sections, of which all are compiled; its start function is one of those before it, of the right
--- type; and its bodies are spelled
+-- the bytes are a module of these sections; its start function is one of those before it, of the right type; and its bodies are
+-- spelled
 pub record IsSpelledModule (bytes : List ℕ) (m : Module) (sections : List Section) : Type 0 where
   pub is : AreSectionsOf sections bytes
   pub items : m.items ≡ items_in sections
   pub bodies : m.bodies ≡ bodies_in sections
   pub starts : StartsKeep [] m.items
   pub spelled : AreSpelled m.items 0 m.bodies m.trees
-  pub compiled : first_outside is_compiled_section (sections_of (parts_in sections)) ≡ None

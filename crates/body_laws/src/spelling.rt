@@ -61,7 +61,7 @@ pub fn wrong_locals_are_told()
 {}
 
 /// A module is what is spelled, its bodies too: the sections keep the grammar and the rules, and the bytes of each body spell
-/// the tokens of its tree, which is typed. What isn't compiled so far doesn't stand in it.
+/// the tokens of its tree, which is typed.
 pub fn modules_have_spelled_bodies()
     ensures { (bytes : List ℕ) (m : Module) → AreBytes bytes →
         IsModule bytes m ↔ ((sections : List Section) × IsSpelledModule bytes m sections) }

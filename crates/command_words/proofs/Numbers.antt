@@ -1,5 +1,5 @@
 -- The number that is read of an option is the one that its text spells.
-use Rattle.std.proofs.Common.{◌≡◌, ◌∙◌, ◌^◌, ℕ, Bool, true, false, List, Option, Some, None, refl, ap, arith}
+use Rattle.std.proofs.Common.{◌≡◌, ◌∙◌, ◌^◌, ℕ, Bool, true, false, List, Option, Some, None, refl, sym, ap, arith}
 use Rattle.std.specs.Prelude.{◌&&◌, cond, nat_le, nat_lt, option_and_then, Result, Ok, Err}
 use Rattle.std.specs.Str.Parse.{ParsesUnsigned, digits_value, without_leading_plus}
 use Rattle.clap.specs.Matches.{ReadsOne, one_text}
@@ -9,7 +9,7 @@ use Rattle.clap.specs.declared.builder.value_parser.ValueParser.TheVariants as p
 use Rattle.clap.specs.declared.parser.matches.Found.{Found}
 use Rattle.clap.proofs.ValueTestLemmas.{Accepts-accepts, accepts-Accepts}
 use Rattle.clap.proofs.WalkLemmas.{both, one_text-rows}
-use Rattle.command_words.specs.Grammar.{in_range, number_in}
+use Rattle.command_words.specs.Grammar.{in_range, is_short, number_in, short_number}
 
 first_two : (a b c : Bool) → (a && (b && c)) ≡ true → (a ≡ true) × (b ≡ true)
 first_two a b c e =
@@ -41,3 +41,15 @@ module _ (E : Type 0) (Gives : List ℕ → Result ℕ E → Type 0) (parses : (
       go : (o : Option Text) → one_text f id ≡ o → option_and_then (in_range least most) r ≡ option_and_then (number_in least most) o
       go None e = ap (option_and_then (in_range least most)) (none e)
       go (Some t) e = of_text least most t r (some t e)
+
+-- what a text was parsed to
+abbrev pub parsed : {E : Type 0} → Result ℕ E → Option ℕ
+parsed (Ok n) = Some n
+parsed (Err e) = None
+
+pub of_parse : {E : Type 0} (least most : ℕ) (t : Text) (r : Result ℕ E) → ParsesUnsigned 64 10 t r → option_and_then (in_range least most) (parsed r) ≡ number_in least most t
+of_parse {E} least most t (Ok n) h = of_text E (λ bs r. ParsesUnsigned 64 10 bs r) (λ bs r g. g) least most t (Some n) h
+of_parse {E} least most t (Err e) h = of_text E (λ bs r. ParsesUnsigned 64 10 bs r) (λ bs r g. g) least most t None (e, h)
+
+pub short_is : (least most : ℕ) (t : Text) (r : Option ℕ) → is_short t ≡ true → r ≡ number_in least most t → r ≡ short_number least most t
+short_is least most t r short is = is ∙ ap (λ b. cond b (number_in least most t) None) (sym short)

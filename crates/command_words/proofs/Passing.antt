@@ -18,7 +18,7 @@ use Rattle.clap.specs.declared.builder.value_parser.ValueParser.{ValueParser}
 use Rattle.clap.specs.declared.builder.value_parser.ValueParser.TheVariants as parser
 use Rattle.clap.specs.declared.error.kind.ErrorKind.TheVariants.{MissingRequiredArgument}
 use Rattle.command_words.specs.Arguments.{arguments_in}
-use Rattle.command_words.specs.Grammar.{IsNoArgument, IsOutside, call_in, call_of, call_words, check, command_in, command_named, command_without, compile, drill, drill_in, drill_of, exec, found_words, number_in, options_in, options_of, program, run, run_in, run_of}
+use Rattle.command_words.specs.Grammar.{IsNoArgument, IsNoCall, IsOutside, call_in, call_of, call_words, check, command_in, command_named, command_without, compile, drill, drill_in, drill_of, exec, found_peek, found_words, number_in, options_in, options_of, peek_said, program, run, run_in, run_of}
 use Rattle.command_words.specs.declared.argument.Argument.{Argument}
 use Rattle.command_words.specs.declared.command.Call.{Call}
 use Rattle.command_words.specs.declared.command.Command.{Command}
@@ -26,6 +26,7 @@ use Rattle.command_words.specs.declared.command.Command.TheVariants as command
 use Rattle.command_words.specs.declared.command.Drill.{Drill}
 use Rattle.command_words.specs.declared.command.Options.{Options}
 use Rattle.command_words.specs.declared.command.Run.{Run}
+use Rattle.command_words.specs.declared.peek.Peek.{Peek}
 use Rattle.command_words.proofs.ArgumentWords.{other_word}
 use Rattle.command_words.proofs.Rows.{AllFit, AreGood, Fits, IsOne, gives_default, has_default, neither, some_fault, value_good}
 use Rattle.command_words.proofs.Walks.{HasNoShort, level_good}
@@ -74,40 +75,22 @@ compile_batch : AllFit (codes "batch") (parser.Unsigned 1 1048576) (leaf compile
 compile_batch = (other (codes "batch") _ _ refl refl, (own (codes "batch") _ _ refl (one_number 1 1048576 _ refl refl refl), tt))
 
 exec_export : AllFit (codes "export") parser.String (leaf exec).rules
-exec_export = (
-  own (codes "export") _ _ refl (record { range = refl; parser = refl; exact = refl; reading = refl }),
-  (inr (refl, refl), (other (codes "export") _ _ refl refl, tt)),
-)
+exec_export = (own (codes "export") _ _ refl (record { range = refl; parser = refl; exact = refl; reading = refl }), (inr (refl, refl), (other (codes "export") _ _ refl refl, (other (codes "export") _ _ refl refl, tt))))
 
 exec_steps : AllFit (codes "steps") (parser.Unsigned 0 1000000000000) (leaf exec).rules
-exec_steps = (
-  other (codes "steps") _ _ refl refl,
-  (inr (refl, refl), (own (codes "steps") _ _ refl (one_number 0 1000000000000 _ refl refl refl), tt)),
-)
+exec_steps = (other (codes "steps") _ _ refl refl, (inr (refl, refl), (own (codes "steps") _ _ refl (one_number 0 1000000000000 _ refl refl refl), (other (codes "steps") _ _ refl refl, tt))))
 
 run_export : AllFit (codes "export") parser.String (leaf run).rules
-run_export = (
-  own (codes "export") _ _ refl (record { range = refl; parser = refl; exact = refl; reading = refl }),
-  (inr (refl, refl), (other (codes "export") _ _ refl refl, (other (codes "export") _ _ refl refl, (other (codes "export") _ _ refl refl, tt)))),
-)
-
-run_workers : AllFit (codes "workers") (parser.Unsigned 0 64) (leaf run).rules
-run_workers = (
-  other (codes "workers") _ _ refl refl,
-  (inr (refl, refl), (own (codes "workers") _ _ refl (one_number 0 64 _ refl refl refl), (other (codes "workers") _ _ refl refl, (other (codes "workers") _ _ refl refl, tt)))),
-)
-
-run_batch : AllFit (codes "batch") (parser.Unsigned 1 1048576) (leaf run).rules
-run_batch = (
-  other (codes "batch") _ _ refl refl,
-  (inr (refl, refl), (other (codes "batch") _ _ refl refl, (own (codes "batch") _ _ refl (one_number 1 1048576 _ refl refl refl), (other (codes "batch") _ _ refl refl, tt)))),
-)
+run_export = (own (codes "export") _ _ refl (record { range = refl; parser = refl; exact = refl; reading = refl }), (inr (refl, refl), (other (codes "export") _ _ refl refl, (other (codes "export") _ _ refl refl, (other (codes "export") _ _ refl refl, (other (codes "export") _ _ refl refl, tt))))))
 
 run_steps : AllFit (codes "steps") (parser.Unsigned 0 1000000000000) (leaf run).rules
-run_steps = (
-  other (codes "steps") _ _ refl refl,
-  (inr (refl, refl), (other (codes "steps") _ _ refl refl, (other (codes "steps") _ _ refl refl, (own (codes "steps") _ _ refl (one_number 0 1000000000000 _ refl refl refl), tt)))),
-)
+run_steps = (other (codes "steps") _ _ refl refl, (inr (refl, refl), (own (codes "steps") _ _ refl (one_number 0 1000000000000 _ refl refl refl), (other (codes "steps") _ _ refl refl, (other (codes "steps") _ _ refl refl, (other (codes "steps") _ _ refl refl, tt))))))
+
+run_workers : AllFit (codes "workers") (parser.Unsigned 0 64) (leaf run).rules
+run_workers = (other (codes "workers") _ _ refl refl, (inr (refl, refl), (other (codes "workers") _ _ refl refl, (other (codes "workers") _ _ refl refl, (own (codes "workers") _ _ refl (one_number 0 64 _ refl refl refl), (other (codes "workers") _ _ refl refl, tt))))))
+
+run_batch : AllFit (codes "batch") (parser.Unsigned 1 1048576) (leaf run).rules
+run_batch = (other (codes "batch") _ _ refl refl, (inr (refl, refl), (other (codes "batch") _ _ refl refl, (other (codes "batch") _ _ refl refl, (other (codes "batch") _ _ refl refl, (own (codes "batch") _ _ refl (one_number 1 1048576 _ refl refl refl), tt))))))
 
 drill_count : AllFit (codes "n") (parser.Unsigned 1 50000) (leaf drill).rules
 drill_count = (
@@ -220,26 +203,31 @@ export_read s takes words e =
     let v = value_good (codes "export") parser.String rows has (level_good (codes "export") parser.String s takes.export takes.no_short words e) in
     (v.0, v.1)
 
--- a call is read, or a word of ARGS is no argument
-call_read : (s : Shape) → TakesCall s → (words : List Text) → Passes s words → ((c : Call) × (call_in (rows_of s words) ≡ Some c)) ⊎ Any IsNoArgument (found_words (rows_of s words))
-call_read s takes words e = go (arguments_in (found_words (rows_of s words))) refl
+-- a call is read, or the words are none
+abbrev IsNoCallIn : List Row → Type 0
+IsNoCallIn rows = Any IsNoArgument (found_words rows) ⊎ (peek_said (found_peek rows) ≡ None)
+
+call_read : (s : Shape) → TakesCall s → (words : List Text) → Passes s words → ((c : Call) × (call_in (rows_of s words) ≡ Some c)) ⊎ IsNoCallIn (rows_of s words)
+call_read s takes words e = go (arguments_in (found_words (rows_of s words))) (peek_said (found_peek (rows_of s words))) refl refl
   where
-    go : (l : Option (List Argument)) → arguments_in (found_words (rows_of s words)) ≡ l → ((c : Call) × (call_in (rows_of s words) ≡ Some c)) ⊎ Any IsNoArgument (found_words (rows_of s words))
-    go None is = inr (other_word (found_words (rows_of s words)) is)
-    go (Some l) is =
+    go : (l : Option (List Argument)) (p : Option (Option Peek)) → arguments_in (found_words (rows_of s words)) ≡ l → peek_said (found_peek (rows_of s words)) ≡ p
+        → ((c : Call) × (call_in (rows_of s words) ≡ Some c)) ⊎ IsNoCallIn (rows_of s words)
+    go None p is said = inr (inl (other_word (found_words (rows_of s words)) is))
+    go (Some l) None is said = inr (inr said)
+    go (Some l) (Some p) is said =
         let t = export_read s takes words e in
         let n = number_read (codes "steps") 0 1000000000000 s takes.steps takes.no_short takes.default words e in
-        inl (record { export = t.0; arguments = l; steps = n.0 }, rw (t.1, is, n.1) refl)
+        inl (record { export = t.0; arguments = l; steps = n.0; peek = p }, rw (t.1, is, n.1, said) refl)
 
--- the command, or a word of ARGS is no argument
+-- the command, or the words of a call are none
 abbrev IsEither : Option (Text × List Row) → Type 0
-IsEither named = ((c : Command) × (option_and_then command_named named ≡ Some c)) ⊎ Any IsNoArgument (call_words named)
+IsEither named = ((c : Command) × (option_and_then command_named named ≡ Some c)) ⊎ IsNoCall named
 
 run_read : (words : List Text) → Passes (leaf run) words → IsEither (Some (codes "run", rows_of (leaf run) words))
 run_read words e = go (call_read (leaf run) run_takes words e)
   where
-    go : ((c : Call) × (call_in (rows_of (leaf run) words) ≡ Some c)) ⊎ Any IsNoArgument (found_words (rows_of (leaf run) words)) → IsEither (Some (codes "run", rows_of (leaf run) words))
-    go (inr any) = inr any
+    go : ((c : Call) × (call_in (rows_of (leaf run) words) ≡ Some c)) ⊎ IsNoCallIn (rows_of (leaf run) words) → IsEither (Some (codes "run", rows_of (leaf run) words))
+    go (inr none) = inr none
     go (inl call) =
         let o = run_options words e in
         inl (command.Run (record { options = o.0; call = call.0 }), ap (option_map command.Run) (ap₂ run_of o.1 call.1))
@@ -247,8 +235,8 @@ run_read words e = go (call_read (leaf run) run_takes words e)
 exec_read : (words : List Text) → Passes (leaf exec) words → IsEither (Some (codes "exec", rows_of (leaf exec) words))
 exec_read words e = go (call_read (leaf exec) exec_takes words e)
   where
-    go : ((c : Call) × (call_in (rows_of (leaf exec) words) ≡ Some c)) ⊎ Any IsNoArgument (found_words (rows_of (leaf exec) words)) → IsEither (Some (codes "exec", rows_of (leaf exec) words))
-    go (inr any) = inr any
+    go : ((c : Call) × (call_in (rows_of (leaf exec) words) ≡ Some c)) ⊎ IsNoCallIn (rows_of (leaf exec) words) → IsEither (Some (codes "exec", rows_of (leaf exec) words))
+    go (inr none) = inr none
     go (inl call) = inl (command.Exec call.0, ap (option_map command.Exec) call.1)
 
 count_read : (words : List Text) → Passes (leaf drill) words → (n : ℕ) × (option_and_then (number_in 1 50000) (one_of (codes "n") (rows_of (leaf drill) words)) ≡ Some n)
@@ -303,18 +291,18 @@ named_read words e =
     let parts = last_check app.top (names_of app) given (is_some (entered app stop)) (entered_fault app stop) e in
     stop_read stop parts.0 (missing (is_some (entered app stop)) (finished app.top.rules end) parts.1)
 
--- where no fault is found, a command is read, or a word of ARGS is no argument
-pub all_read : (words : List Text) → fault_of program words ≡ [] → ((c : Command) × (command_in words ≡ Some c)) ⊎ Any IsNoArgument (call_words (subcommand_of program words))
+-- where no fault is found, a command is read, or the words of a call are none
+pub all_read : (words : List Text) → fault_of program words ≡ [] → ((c : Command) × (command_in words ≡ Some c)) ⊎ IsNoCall (subcommand_of program words)
 all_read words e = go (named_read words e)
   where
-    go : IsEither (subcommand_of program words) → ((c : Command) × (command_in words ≡ Some c)) ⊎ Any IsNoArgument (call_words (subcommand_of program words))
+    go : IsEither (subcommand_of program words) → ((c : Command) × (command_in words ≡ Some c)) ⊎ IsNoCall (subcommand_of program words)
     go (inl read) = inl (read.0, ap (λ ks. command_without ks (subcommand_of program words)) e ∙ read.1)
-    go (inr any) = inr any
+    go (inr none) = inr none
 
 pub read_or_outside : (words : List Text) (ks : Kinds) → fault_of program words ≡ ks → ((c : Command) × (command_in words ≡ Some c)) ⊎ IsOutside words
 read_or_outside words [] e = go (all_read words e)
   where
-    go : ((c : Command) × (command_in words ≡ Some c)) ⊎ Any IsNoArgument (call_words (subcommand_of program words)) → ((c : Command) × (command_in words ≡ Some c)) ⊎ IsOutside words
+    go : ((c : Command) × (command_in words ≡ Some c)) ⊎ IsNoCall (subcommand_of program words) → ((c : Command) × (command_in words ≡ Some c)) ⊎ IsOutside words
     go (inl read) = inl read
-    go (inr any) = inr (inr any)
+    go (inr none) = inr (inr none)
 read_or_outside words (k ∷ ks) e = inr (inl (λ none. some_fault k ks (sym e ∙ none)))

@@ -1,6 +1,7 @@
 -- What a reading of words says.
 use Rattle.std.proofs.Common.{◌≡◌, ◌∙◌, ◌⊎◌, ◌≤◌, ℕ, Bool, true, false, List, [], ◌∷◌, Option, Some, None, refl, ap, arith, inl, inr, slice_index, subst, sym, true≢false}
-use Rattle.std.specs.Prelude.{◌≢◌, ◌||◌, Any, codes, cond, option_and_then, option_map, unwrap_or}
+use Rattle.std.specs.Prelude.{◌≢◌, ◌||◌, ◌==◌, Any, codes, cond, option_and_then, option_map, unwrap_or}
+use Rattle.std.specs.List.{before_first, after_first}
 use Rattle.std.specs.Str.{bytes_eq}
 use Rattle.std.specs.Str.Parse.{digits_value, without_leading_plus}
 use Rattle.std.proofs.lemmas.Slice.Eq.{bytes_eq-Decides}
@@ -10,7 +11,7 @@ use Rattle.clap.specs.ValueTests.{is_unsigned_in}
 use Rattle.clap.specs.declared.builder.value_parser.ValueParser.TheVariants as parser
 use Rattle.clap.proofs.ValueTestLemmas.{accepts-Accepts}
 use Rattle.command_words.specs.Arguments.{AreArguments, arguments_in}
-use Rattle.command_words.specs.Grammar.{AreInRange, IsInRange, IsNoArgument, call_in, call_of, call_words, found_words, command_named, command_without, drill_in, drill_of, number_in, options_in, options_of, run_in, run_of}
+use Rattle.command_words.specs.Grammar.{AreInRange, IsCallInRange, IsInRange, IsNoArgument, IsNoCall, IsPeekInRange, call_in, call_of, call_words, found_words, command_named, command_without, drill_in, drill_of, found_peek, number_in, options_in, options_of, is_short, peek_in, peek_of, peek_said, run_in, run_of, short_number}
 use Rattle.command_words.specs.declared.argument.Argument.{Argument}
 use Rattle.command_words.specs.declared.command.Call.{Call}
 use Rattle.command_words.specs.declared.command.Command.{Command}
@@ -18,6 +19,7 @@ use Rattle.command_words.specs.declared.command.Command.TheVariants as command
 use Rattle.command_words.specs.declared.command.Drill.{Drill}
 use Rattle.command_words.specs.declared.command.Options.{Options}
 use Rattle.command_words.specs.declared.command.Run.{Run}
+use Rattle.command_words.specs.declared.peek.Peek.{Peek}
 use Rattle.command_words.proofs.ArgumentWords.{are_arguments, no_other}
 
 some≢none : {X : Type 0} (x : X) → ◌≡◌ {A = Option X} None (Some x) → ⊥
@@ -55,15 +57,26 @@ options_bounds rows o e =
     let b = found_bounds 1 1048576 (one_of (codes "batch") rows) o.batch parts.1 in
     (w.1, b.0, b.1)
 
-call_parts_of : (e : Option Text) (l : Option (List Argument)) (n : Option ℕ) (c : Call) → call_of e l n ≡ Some c → (l ≡ Some c.arguments) × (n ≡ Some c.steps)
-call_parts_of (Some e) (Some l) (Some n) c is = (ap (option_map (λ (x : Call). x.arguments)) is, ap (option_map (λ (x : Call). x.steps)) is)
-call_parts_of (Some e) (Some l) None c is = absurd (some≢none c is)
-call_parts_of (Some e) None n c is = absurd (some≢none c is)
-call_parts_of None l n c is = absurd (some≢none c is)
+-- what a call is read of
+record IsCallOf (l : Option (List Argument)) (n : Option ℕ) (p : Option (Option Peek)) (c : Call) : Type 0 where
+  pub arguments : l ≡ Some c.arguments
+  pub steps : n ≡ Some c.steps
+  pub peek : p ≡ Some c.peek
+
+call_parts_of : (e : Option Text) (l : Option (List Argument)) (n : Option ℕ) (p : Option (Option Peek)) (c : Call) → call_of e l n p ≡ Some c → IsCallOf l n p c
+call_parts_of (Some e) (Some l) (Some n) (Some p) c is = record {
+  arguments = ap (option_map (λ (x : Call). x.arguments)) is;
+  steps = ap (option_map (λ (x : Call). x.steps)) is;
+  peek = ap (option_map (λ (x : Call). x.peek)) is;
+}
+call_parts_of (Some e) (Some l) (Some n) None c is = absurd (some≢none c is)
+call_parts_of (Some e) (Some l) None p c is = absurd (some≢none c is)
+call_parts_of (Some e) None n p c is = absurd (some≢none c is)
+call_parts_of None l n p c is = absurd (some≢none c is)
 
 call_parts : (rows : List Row) (c : Call) → call_in rows ≡ Some c
-    → (arguments_in (found_words rows) ≡ Some c.arguments) × (option_and_then (number_in 0 1000000000000) (one_of (codes "steps") rows) ≡ Some c.steps)
-call_parts rows c is = call_parts_of (first_of (codes "export") rows) (arguments_in (found_words rows)) (option_and_then (number_in 0 1000000000000) (one_of (codes "steps") rows)) c is
+    → IsCallOf (arguments_in (found_words rows)) (option_and_then (number_in 0 1000000000000) (one_of (codes "steps") rows)) (peek_said (found_peek rows)) c
+call_parts rows c is = call_parts_of (first_of (codes "export") rows) (arguments_in (found_words rows)) (option_and_then (number_in 0 1000000000000) (one_of (codes "steps") rows)) (peek_said (found_peek rows)) c is
 
 run_parts_of : (o : Option Options) (c : Option Call) (r : Run) → run_of o c ≡ Some r → (o ≡ Some r.options) × (c ≡ Some r.call)
 run_parts_of (Some o) (Some c) r is = (ap (option_map (λ (x : Run). x.options)) is, ap (option_map (λ (x : Run). x.call)) is)
@@ -121,14 +134,43 @@ by_name_read false false false false false rows c e = absurd (some≢none c e)
 named_read : (p : Text × List Row) (c : Command) → command_named p ≡ Some c → IsRead p.1 c
 named_read p c e = by_name_read (bytes_eq p.0 (codes "check")) (bytes_eq p.0 (codes "compile")) (bytes_eq p.0 (codes "run")) (bytes_eq p.0 (codes "exec")) (bytes_eq p.0 (codes "drill")) p.1 c e
 
-steps_bounds : (rows : List Row) (c : Call) → call_in rows ≡ Some c → c.steps ≤ 1000000000000
-steps_bounds rows c is = (found_bounds 0 1000000000000 (one_of (codes "steps") rows) c.steps (call_parts rows c is).1).1
+short_bounds : (least most : ℕ) (t : Text) (n : ℕ) → short_number least most t ≡ Some n → (least ≤ n) × (n ≤ most)
+short_bounds least most t n is = go (is_short t) is
+  where
+    go : (b : Bool) → cond b (number_in least most t) None ≡ Some n → (least ≤ n) × (n ≤ most)
+    go true is = bounds least most t n is
+    go false is = absurd (some≢none n is)
+
+some_of : {X : Type 0} (o : Option X) (x : X) → option_map Some o ≡ Some (Some x) → o ≡ Some x
+some_of None x e = absurd (some≢none (Some x) e)
+some_of (Some y) x e = ap (λ o. unwrap_or o None) e
+
+peek_parts : (a n : Option ℕ) (p : Peek) → peek_of a n ≡ Some p → (a ≡ Some p.address) × (n ≡ Some p.count)
+peek_parts (Some a) (Some n) p is = (ap (option_map (λ (x : Peek). x.address)) is, ap (option_map (λ (x : Peek). x.count)) is)
+peek_parts (Some a) None p is = absurd (some≢none p is)
+peek_parts None n p is = absurd (some≢none p is)
+
+peek_bounds : (word : Option Text) (p : Option Peek) → peek_said word ≡ Some p → IsPeekInRange p
+peek_bounds word None e = tt
+peek_bounds None (Some p) e = absurd (some≢none p (ap (λ (o : Option (Option Peek)). unwrap_or o None) e))
+peek_bounds (Some word) (Some p) e =
+    let address = before_first (λ c. c == 58) word in
+    let count = after_first (λ c. c == 58) word in
+    let parts = peek_parts (short_number 0 4294967295 address) (short_number 1 4096 count) p (some_of (peek_in word) p e) in
+    let a = short_bounds 0 4294967295 address p.address parts.0 in
+    let n = short_bounds 1 4096 count p.count parts.1 in
+    (a.1, n.0, n.1)
+
+call_bounds : (rows : List Row) (c : Call) → call_in rows ≡ Some c → IsCallInRange c
+call_bounds rows c is =
+    let parts = call_parts rows c is in
+    ((found_bounds 0 1000000000000 (one_of (codes "steps") rows) c.steps parts.steps).1, peek_bounds (found_peek rows) c.peek parts.peek)
 
 read_bounds : (rows : List Row) (c : Command) → IsRead rows c → IsInRange c
 read_bounds rows (command.Check o) is = options_bounds rows o is
 read_bounds rows (command.Compile o) is = options_bounds rows o is
-read_bounds rows (command.Run r) is = let read = run_parts rows r is in (options_bounds rows r.options read.0, steps_bounds rows r.call read.1)
-read_bounds rows (command.Exec c) is = steps_bounds rows c is
+read_bounds rows (command.Run r) is = let read = run_parts rows r is in (options_bounds rows r.options read.0, call_bounds rows r.call read.1)
+read_bounds rows (command.Exec c) is = call_bounds rows c is
 read_bounds rows (command.Drill d) is = drill_bounds rows d is
 
 pub in_ranges : (ks : Kinds) (named : Option (Text × List Row)) (c : Command) → command_without ks named ≡ Some c → IsInRange c
@@ -151,17 +193,30 @@ apart_names name a b x y is_a is_b differ e f =
     let other : name ≡ b = (bytes_eq-Decides name b).0 f in
     differ (sym is_a ∙ ap second (sym first ∙ other) ∙ is_b)
 
+-- the words of a call are none, by whether the subcommand makes one
+abbrev IsNone : Bool → List Row → Type 0
+IsNone calls rows = Any IsNoArgument (cond calls (found_words rows) []) ⊎ (peek_said (cond calls (found_peek rows) None) ≡ None)
+
+none_of_no_call : (rows : List Row) → IsNone false rows → ⊥
+none_of_no_call rows (inl any) = no_word any
+none_of_no_call rows (inr none) = some≢none None (sym none)
+
+-- a call that is read has words that are one
+none_of_call : (rows : List Row) (c : Call) → call_in rows ≡ Some c → IsNone true rows → ⊥
+none_of_call rows c is (inl any) = no_other (found_words rows) c.arguments (call_parts rows c is).arguments any
+none_of_call rows c is (inr none) = not_both (peek_said (found_peek rows)) c.peek (call_parts rows c is).peek none
+
 no_call : (check compile run exec drill : Bool) (rows : List Row) (c : Command) → (check ≡ true → (run || exec) ≡ false) → (compile ≡ true → (run || exec) ≡ false)
-    → by_name check compile run exec drill rows ≡ Some c → Any IsNoArgument (cond (run || exec) (found_words rows) []) → ⊥
-no_call check compile false false drill rows c one two e any = no_word any
-no_call true compile true exec drill rows c one two e any = absurd (true≢false (one refl))
-no_call true compile false true drill rows c one two e any = absurd (true≢false (one refl))
-no_call false true true exec drill rows c one two e any = absurd (true≢false (two refl))
-no_call false true false true drill rows c one two e any = absurd (true≢false (two refl))
-no_call false false true exec drill rows c one two e any =
-    made_of command.Run (λ c. ⊥) (run_in rows) (run_in rows) c (λ r is. no_other (found_words rows) r.call.arguments (call_parts rows r.call (run_parts rows r is).1).0 any) refl e
-no_call false false false true drill rows c one two e any =
-    made_of command.Exec (λ c. ⊥) (call_in rows) (call_in rows) c (λ d is. no_other (found_words rows) d.arguments (call_parts rows d is).0 any) refl e
+    → by_name check compile run exec drill rows ≡ Some c → IsNone (run || exec) rows → ⊥
+no_call check compile false false drill rows c one two e none = none_of_no_call rows none
+no_call true compile true exec drill rows c one two e none = absurd (true≢false (one refl))
+no_call true compile false true drill rows c one two e none = absurd (true≢false (one refl))
+no_call false true true exec drill rows c one two e none = absurd (true≢false (two refl))
+no_call false true false true drill rows c one two e none = absurd (true≢false (two refl))
+no_call false false true exec drill rows c one two e none =
+    made_of command.Run (λ c. ⊥) (run_in rows) (run_in rows) c (λ r is. none_of_call rows r.call (run_parts rows r is).1 none) refl e
+no_call false false false true drill rows c one two e none =
+    made_of command.Exec (λ c. ⊥) (call_in rows) (call_in rows) c (λ d is. none_of_call rows d is none) refl e
 
 -- no name is that of two subcommands
 neither_name : (name a : Text) (x : ℕ) → second a ≡ x → (x ≡ 117 → ⊥) → (x ≡ 120 → ⊥) → bytes_eq name a ≡ true → (bytes_eq name (codes "run") || bytes_eq name (codes "exec")) ≡ false
@@ -172,23 +227,24 @@ neither_name name a x is not_run not_exec e = go (bytes_eq name (codes "run")) (
     go true exec f g = absurd (apart_names name a (codes "run") x 117 is refl not_run e f)
     go false true f g = absurd (apart_names name a (codes "exec") x 120 is refl not_exec e g)
 
-none_other : (p : Text × List Row) (c : Command) → command_named p ≡ Some c → Any IsNoArgument (call_words (Some p)) → ⊥
-none_other p c e any =
+none_other : (p : Text × List Row) (c : Command) → command_named p ≡ Some c → IsNoCall (Some p) → ⊥
+none_other p c e none =
     no_call (bytes_eq p.0 (codes "check")) (bytes_eq p.0 (codes "compile")) (bytes_eq p.0 (codes "run")) (bytes_eq p.0 (codes "exec")) (bytes_eq p.0 (codes "drill")) p.1 c
     (neither_name p.0 (codes "check") 104 refl (λ x. omega (arith, x)) (λ x. omega (arith, x)))
-    (neither_name p.0 (codes "compile") 111 refl (λ x. omega (arith, x)) (λ x. omega (arith, x))) e any
+    (neither_name p.0 (codes "compile") 111 refl (λ x. omega (arith, x)) (λ x. omega (arith, x))) e none
 
--- where a command is read, each word of ARGS is an argument
-no_other_word : (ks : Kinds) (named : Option (Text × List Row)) (c : Command) → command_without ks named ≡ Some c → Any IsNoArgument (call_words named) → ⊥
-no_other_word [] None c e any = no_word any
-no_other_word [] (Some p) c e any = none_other p c e any
-no_other_word (k ∷ ks) named c e any = absurd (some≢none c e)
+-- where a command is read, the words of a call are one
+no_other_word : (ks : Kinds) (named : Option (Text × List Row)) (c : Command) → command_without ks named ≡ Some c → IsNoCall named → ⊥
+no_other_word ks None c e (inl any) = no_word any
+no_other_word ks None c e (inr none) = some≢none None (sym none)
+no_other_word [] (Some p) c e none = none_other p c e none
+no_other_word (k ∷ ks) (Some p) c e none = absurd (some≢none c e)
 
 -- a command is read only of words that are not outside the grammar
-pub apart : (ks : Kinds) (named : Option (Text × List Row)) (c : Command) → command_without ks named ≡ Some c → (ks ≢ []) ⊎ Any IsNoArgument (call_words named) → ⊥
+pub apart : (ks : Kinds) (named : Option (Text × List Row)) (c : Command) → command_without ks named ≡ Some c → (ks ≢ []) ⊎ IsNoCall named → ⊥
 apart [] named c e (inl some) = some refl
 apart (k ∷ ks) named c e (inl some) = absurd (some≢none c e)
-apart ks named c e (inr any) = no_other_word ks named c e any
+apart ks named c e (inr none) = no_other_word ks named c e none
 
 -- the arguments of a call are those that the words of ARGS say
 abbrev HasArguments : List Text → Command → Type 0
@@ -202,9 +258,9 @@ by_name_arguments : (check compile run exec drill : Bool) (rows : List Row) (c :
 by_name_arguments true compile run exec drill rows c e = made_of command.Check (HasArguments _) (options_in rows) (options_in rows) c (λ v is. tt) refl e
 by_name_arguments false true run exec drill rows c e = made_of command.Compile (HasArguments _) (options_in rows) (options_in rows) c (λ v is. tt) refl e
 by_name_arguments false false true exec drill rows c e =
-    made_of command.Run (HasArguments (found_words rows)) (run_in rows) (run_in rows) c (λ r is. are_arguments (found_words rows) r.call.arguments (call_parts rows r.call (run_parts rows r is).1).0) refl e
+    made_of command.Run (HasArguments (found_words rows)) (run_in rows) (run_in rows) c (λ r is. are_arguments (found_words rows) r.call.arguments (call_parts rows r.call (run_parts rows r is).1).arguments) refl e
 by_name_arguments false false false true drill rows c e =
-    made_of command.Exec (HasArguments (found_words rows)) (call_in rows) (call_in rows) c (λ d is. are_arguments (found_words rows) d.arguments (call_parts rows d is).0) refl e
+    made_of command.Exec (HasArguments (found_words rows)) (call_in rows) (call_in rows) c (λ d is. are_arguments (found_words rows) d.arguments (call_parts rows d is).arguments) refl e
 by_name_arguments false false false false true rows c e = made_of command.Drill (HasArguments []) (drill_in rows) (drill_in rows) c (λ v is. tt) refl e
 by_name_arguments false false false false false rows c e = absurd (some≢none c e)
 

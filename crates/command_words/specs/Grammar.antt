@@ -1,6 +1,7 @@
 -- The grammar of the program's words, over clap's model of simple commands: what a parse makes of the words
 -- (`subcommand_of`), and the faults that it finds in them (`fault_of`).
-use Rattle.std.specs.Prelude.{◌≡◌, ◌≢◌, ◌⊎◌, ◌&&◌, ◌||◌, ◌≤◌, nat_le, ℕ, true, Any, List, [], ◌∷◌, Option, None, Some, Result, Ok, Err, codes, if◌then◌else◌, option_map, option_and_then, unwrap_or}
+use Rattle.std.specs.Prelude.{◌≡◌, ◌≢◌, ◌⊎◌, ◌&&◌, ◌||◌, ◌==◌, ◌≤◌, nat_le, not, length, slice_index, ℕ, Bool, true, Any, List, [], ◌∷◌, Option, None, Some, Result, Ok, Err, codes, if◌then◌else◌, option_map, option_and_then, unwrap_or}
+use Rattle.std.specs.List.{before_first, after_first}
 use Rattle.std.specs.Str.{bytes_eq}
 use Rattle.std.specs.Str.Parse.{digits_value, without_leading_plus}
 use Rattle.clap.specs.Walk.{Row, Rule, Text, all_of, first_of, one_of}
@@ -17,6 +18,7 @@ use Rattle.command_words.specs.declared.command.Command.{Command}
 use Rattle.command_words.specs.declared.command.Command.TheVariants as command
 use Rattle.command_words.specs.declared.command.Drill.{Drill}
 use Rattle.command_words.specs.declared.command.Options.{Options}
+use Rattle.command_words.specs.declared.peek.Peek.{Peek}
 use Rattle.command_words.specs.declared.command.Run.{Run}
 use Rattle.command_words.specs.declared.command.WordsStop.{WordsStop}
 use Rattle.command_words.specs.declared.command.WordsStop.TheVariants.{Outside, NoMemory}
@@ -40,6 +42,10 @@ batch = number_option (codes "batch") (codes "4096") 1 1048576
 abbrev pub steps : Rule
 steps = number_option (codes "steps") (codes "100000000") 0 1000000000000
 
+-- `--peek A:N`, once at most
+abbrev pub peek : Rule
+peek = record (new_rule (codes "peek")) { long = Some (codes "peek") }
+
 -- EXPORT: one word
 abbrev pub export : Rule
 export = record (new_rule (codes "export")) { required = true }
@@ -56,9 +62,9 @@ count = record (new_rule (codes "n")) { required = true; parser = Some (parser.U
 abbrev pub with_options : App → App
 with_options a = with_rule (with_rule a workers) batch
 
--- the words of a call
+-- the words of a call and its options
 abbrev pub with_words : App → App
-with_words a = with_rule (with_rule a export) arguments
+with_words a = with_rule (with_rule (with_rule (with_rule a export) arguments) steps) peek
 
 abbrev pub check : App
 check = with_options (new_app (codes "check"))
@@ -67,10 +73,10 @@ abbrev pub compile : App
 compile = with_options (new_app (codes "compile"))
 
 abbrev pub run : App
-run = with_rule (with_options (with_words (new_app (codes "run")))) steps
+run = with_options (with_words (new_app (codes "run")))
 
 abbrev pub exec : App
-exec = with_rule (with_words (new_app (codes "exec"))) steps
+exec = with_words (new_app (codes "exec"))
 
 abbrev pub drill : App
 drill = with_rule (with_options (with_rule (new_app (codes "drill")) count)) steps
@@ -112,12 +118,36 @@ options_in rows = options_of (option_and_then (number_in 0 64) (one_of (codes "w
 abbrev pub found_words : List Row → List Text
 found_words rows = unwrap_or (all_of (codes "arguments") rows) []
 
-abbrev pub call_of : Option Text → Option (List Argument) → Option ℕ → Option Call
-call_of (Some e) (Some l) (Some n) = Some (record { export = e; arguments = l; steps = n })
-call_of _ _ _ = None
+-- the text begins with no plus (43), and has at most 10 bytes
+abbrev pub is_short : Text → Bool
+is_short text = not (slice_index text 0 == 43) && nat_le (length text) 10
+
+-- the number in the range that from 1 to 10 decimal digits write
+abbrev pub short_number : (least most : ℕ) → Text → Option ℕ
+short_number least most text = if is_short text then number_in least most text else None
+
+abbrev pub peek_of : (address count : Option ℕ) → Option Peek
+peek_of (Some address) (Some count) = Some (record { address = address; count = count })
+peek_of _ _ = None
+
+-- the numbers in front of the first colon (58) and behind it
+abbrev pub peek_in : Text → Option Peek
+peek_in word = peek_of (short_number 0 4294967295 (before_first (λ c. c == 58) word)) (short_number 1 4096 (after_first (λ c. c == 58) word))
+
+-- what the word of `--peek` says, where there is one
+abbrev pub peek_said : Option Text → Option (Option Peek)
+peek_said None = Some None
+peek_said (Some word) = option_map Some (peek_in word)
+
+abbrev pub found_peek : List Row → Option Text
+found_peek rows = first_of (codes "peek") rows
+
+abbrev pub call_of : Option Text → Option (List Argument) → Option ℕ → Option (Option Peek) → Option Call
+call_of (Some e) (Some l) (Some n) (Some p) = Some (record { export = e; arguments = l; steps = n; peek = p })
+call_of _ _ _ _ = None
 
 abbrev pub call_in : List Row → Option Call
-call_in rows = call_of (first_of (codes "export") rows) (arguments_in (found_words rows)) (option_and_then (number_in 0 1000000000000) (one_of (codes "steps") rows))
+call_in rows = call_of (first_of (codes "export") rows) (arguments_in (found_words rows)) (option_and_then (number_in 0 1000000000000) (one_of (codes "steps") rows)) (peek_said (found_peek rows))
 
 abbrev pub run_of : Option Options → Option Call → Option Run
 run_of (Some o) (Some c) = Some (record { options = o; call = c })
@@ -159,12 +189,19 @@ IsCommand words c = command_in words ≡ Some c
 abbrev pub AreInRange : Options → Type 0
 AreInRange o = (o.workers ≤ 64) × (1 ≤ o.batch) × (o.batch ≤ 1048576)
 
+abbrev pub IsPeekInRange : Option Peek → Type 0
+IsPeekInRange None = Unit {0}
+IsPeekInRange (Some p) = (p.address ≤ 4294967295) × (1 ≤ p.count) × (p.count ≤ 4096)
+
+abbrev pub IsCallInRange : Call → Type 0
+IsCallInRange c = (c.steps ≤ 1000000000000) × IsPeekInRange c.peek
+
 -- the numbers of the command are in their ranges
 abbrev pub IsInRange : Command → Type 0
 IsInRange (command.Check o) = AreInRange o
 IsInRange (command.Compile o) = AreInRange o
-IsInRange (command.Run r) = AreInRange r.options × (r.call.steps ≤ 1000000000000)
-IsInRange (command.Exec c) = c.steps ≤ 1000000000000
+IsInRange (command.Run r) = AreInRange r.options × IsCallInRange r.call
+IsInRange (command.Exec c) = IsCallInRange c
 IsInRange (command.Drill d) = AreInRange d.options × (1 ≤ d.count) × (d.count ≤ 50000) × (d.steps ≤ 1000000000000)
 
 -- the words of ARGS, where the subcommand makes a call
@@ -172,12 +209,21 @@ abbrev pub call_words : Option (Text × List Row) → List Text
 call_words None = []
 call_words (Some p) = if bytes_eq p.0 (codes "run") || bytes_eq p.0 (codes "exec") then found_words p.1 else []
 
+-- the word of `--peek`, where the subcommand makes a call
+abbrev pub peek_word : Option (Text × List Row) → Option Text
+peek_word None = None
+peek_word (Some p) = if bytes_eq p.0 (codes "run") || bytes_eq p.0 (codes "exec") then found_peek p.1 else None
+
 abbrev pub IsNoArgument : Text → Type 0
 IsNoArgument word = (a : Argument) → IsArgument word a → ⊥
 
--- clap's model finds a fault, or a word of ARGS is no argument
+-- a word of ARGS is no argument, or that of `--peek` says nothing
+abbrev pub IsNoCall : Option (Text × List Row) → Type 0
+IsNoCall named = Any IsNoArgument (call_words named) ⊎ (peek_said (peek_word named) ≡ None)
+
+-- clap's model finds a fault, or the words of a call are none
 abbrev pub IsOutside : List Text → Type 0
-IsOutside words = (fault_of program words ≢ []) ⊎ Any IsNoArgument (call_words (subcommand_of program words))
+IsOutside words = (fault_of program words ≢ []) ⊎ IsNoCall (subcommand_of program words)
 
 -- the command, or why there is none; memory may run out at any words
 abbrev pub Reads : List Text → Result Command WordsStop → Type 0

@@ -4,6 +4,7 @@ ghost use Rattle.command_words.specs.declared.command.WordsStop.TheVariants.{NoM
 ghost use Rattle.std.specs.Prelude.{◌≡◌};
 
 use crate::lists::{Arguments, Export};
+use crate::peek::Peek;
 use std::alloc::{AllocError, AllocFailed};
 
 /// The options of each command on a module.
@@ -24,6 +25,8 @@ pub struct Call {
     pub arguments: Arguments,
     /// The most steps that the call may take, from 0 to 1,000,000,000,000: 100,000,000 where the words say none.
     pub steps: u64,
+    /// Which bytes of the memory are shown behind the call, if any.
+    pub peek: Option<Peek>,
 }
 
 /// What `run` does: how it compiles the module, and the call that it makes.

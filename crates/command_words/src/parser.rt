@@ -3,7 +3,7 @@
 ghost use Rattle.std.specs.Prelude.{◌≡◌, IfOk, false};
 ghost use Rattle.clap.specs.Words.{app_of, rule_of};
 ghost use Rattle.clap.specs.declared.builder.command.Command.TheViews.{out-Command};
-ghost use Rattle.command_words.specs.Grammar.{arguments, batch, check, compile, count, drill, exec, export, program, run, steps, with_calls, with_modules, with_options, with_words, workers};
+ghost use Rattle.command_words.specs.Grammar.{arguments, batch, check, compile, count, drill, exec, export, peek, program, run, steps, with_calls, with_modules, with_options, with_words, workers};
 
 use clap::{Arg, ArgAction, Command as Parser, value_parser};
 use std::alloc::{AllocError, Global};
@@ -39,6 +39,14 @@ fn steps<'a>(alloc: Global) -> Arg<'a>
         .long("steps")
         .value_parser(value_parser!(u64).range(0..=1_000_000_000_000))
         .default_value("100000000")
+}
+
+/// `--peek A:N`.
+fn peek<'a>(alloc: Global) -> Arg<'a>
+    ensures rule { rule_of result ≡ peek }
+    ensures local { result.global ≡ false }
+{
+    Arg::new(alloc, "peek").long("peek")
 }
 
 /// `EXPORT`.
@@ -91,12 +99,13 @@ fn compile<'a>(alloc: Global) -> Result<Parser<'a>, AllocError>
     with_options(alloc, Parser::new(alloc, "compile"))
 }
 
-/// The parser with the words of a call.
+/// The parser with the words of a call and its options.
 fn with_words<'a>(alloc: Global, parser: Parser<'a>) -> Result<Parser<'a>, AllocError>
     ensures app { IfOk result (λ p. app_of p ≡ with_words (app_of parser.entry)) }
     ensures local { (out-Command parser.entry).has_globals ≡ false → IfOk result (λ p. (out-Command p).has_globals ≡ false) }
 {
-    parser.arg(export(alloc))?.arg(arguments(alloc))
+    let words = parser.arg(export(alloc))?.arg(arguments(alloc))?;
+    words.arg(steps(alloc))?.arg(peek(alloc))
 }
 
 /// The subcommand `run`.
@@ -105,7 +114,7 @@ fn run<'a>(alloc: Global) -> Result<Parser<'a>, AllocError>
     ensures local { IfOk result (λ p. (out-Command p).has_globals ≡ false) }
 {
     let words = with_words(alloc, Parser::new(alloc, "run"))?;
-    with_options(alloc, words)?.arg(steps(alloc))
+    with_options(alloc, words)
 }
 
 /// The subcommand `exec`.
@@ -113,7 +122,7 @@ fn exec<'a>(alloc: Global) -> Result<Parser<'a>, AllocError>
     ensures app { IfOk result (λ p. app_of p ≡ exec) }
     ensures local { IfOk result (λ p. (out-Command p).has_globals ≡ false) }
 {
-    with_words(alloc, Parser::new(alloc, "exec"))?.arg(steps(alloc))
+    with_words(alloc, Parser::new(alloc, "exec"))
 }
 
 /// The subcommand `drill`.

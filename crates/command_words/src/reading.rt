@@ -3,18 +3,19 @@
 ghost use Rattle.std.specs.Prelude.{◌≡◌, codes, map, option_and_then, option_map, string_bytes};
 ghost use Rattle.clap.specs.Words.{first_of, found_of, one_of, rows_of, subcommand_rows_of};
 ghost use Rattle.command_words.specs.Arguments.{arguments_in};
-ghost use Rattle.command_words.specs.Grammar.{Gives, Reads, call_in, found_words, command_in, command_named, drill_in, in_range, number_in, options_in, run_in};
+ghost use Rattle.command_words.specs.Grammar.{Gives, Reads, call_in, found_words, command_in, command_named, drill_in, found_peek, in_range, number_in, options_in, peek_said, run_in};
 
 use crate::argument::argument_of;
 use crate::command::{Call, Command, Drill, Options, Run, WordsStop};
 use crate::lists::{Arguments, Export};
 use crate::parser::program;
+use crate::peek::{Peek, peek_of};
 use clap::ArgMatches;
 use clap::error::ErrorKind;
 use std::alloc::Global;
 
 /// The number, where it is in the range. Clap keeps to the range by itself; that it is tested here too says so of the options.
-fn in_range(number: Option<u64>, least: u64, most: u64) -> Option<u64>
+pub(crate) fn in_range(number: Option<u64>, least: u64, most: u64) -> Option<u64>
     ensures { result ≡ option_and_then (in_range least most) number }
 {
     match number {
@@ -74,16 +75,38 @@ fn export_in<'a>(matches: &ArgMatches<'a>) -> Option<&'a str>
     matches.get_str("export")
 }
 
+/// What was found for `--peek`.
+fn found_peek<'a>(matches: &ArgMatches<'a>) -> Option<&'a str>
+    ensures { option_map (λ s. s.now) result ≡ found_peek (rows_of (found_of matches.now)) }
+{
+    matches.get_str("peek")
+}
+
+/// What the word of `--peek` says: `Outside` where it says nothing.
+fn peek_in(matches: &ArgMatches<'_>) -> Result<Option<Peek>, WordsStop>
+    ensures { Gives (peek_said (found_peek (rows_of (found_of matches.now)))) result }
+{
+    let Some(word) = found_peek(matches) else {
+        return Ok(None);
+    };
+    match peek_of(word) {
+        Some(peek) => Ok(Some(peek)),
+        None => Err(WordsStop::Outside),
+    }
+}
+
 fn call_in(alloc: Global, matches: &ArgMatches<'_>) -> Result<Call, WordsStop>
     ensures { Gives (call_in (rows_of (found_of matches.now))) result }
 {
     let export = export_in(matches).ok_or(WordsStop::Outside)?;
     let arguments = arguments_in(alloc, matches)?;
     let steps = steps_in(matches).ok_or(WordsStop::Outside)?;
+    let peek = peek_in(matches)?;
     Ok(Call {
         export: Export::new(String::from_str(alloc, export)?),
         arguments,
         steps,
+        peek,
     })
 }
 
@@ -123,10 +146,10 @@ fn command_in(alloc: Global, matches: &ArgMatches<'_>) -> Result<Command, WordsS
 ///
 /// After it comes a subcommand: `check`, `compile`, `run EXPORT ARGS`, `exec EXPORT ARGS`, or `drill N`. EXPORT is one word of any
 /// text, and ARGS are any number of words, each `i32:N` or `i64:N` as `argument_of` reads them. `check`, `compile`, `run` and `drill`
-/// have the options `--workers N` and `--batch N`, and `run`, `exec` and `drill` have `--steps N`. An option may be written
-/// `--workers=N`, and comes once at most, before, between or behind the other words of its subcommand. N is decimal digits, before
-/// which a plus may stand. All words that follow a word `--` belong to EXPORT and ARGS, or are the N of `drill`. Words that ask for
-/// help are outside the grammar.
+/// have the options `--workers N` and `--batch N`; `run`, `exec` and `drill` have `--steps N`; and `run` and `exec` have `--peek A:N`,
+/// which `peek_of` reads. An option may be written `--workers=N`, and comes once at most, before, between or behind the other words of
+/// its subcommand. N is decimal digits, before which a plus may stand. All words that follow a word `--` belong to EXPORT and ARGS, or
+/// are the N of `drill`. Words that ask for help are outside the grammar.
 ///
 /// `Outside` says that the words are outside the grammar, and `NoMemory`, which may come at any words, that memory ran out.
 pub fn command_of(alloc: Global, words: &Vec<String>) -> Result<Command, WordsStop>

@@ -1,7 +1,8 @@
 //! Words and what they mean, worked out by hand.
 
 use crate::{
-    Argument, Arguments, Call, Command, Drill, Export, Options, WordsStop, argument_of, command_of,
+    Argument, Arguments, Call, Command, Drill, Export, Options, Peek, WordsStop, argument_of,
+    command_of, peek_of,
 };
 use std::alloc::Global;
 use std::test::Fail;
@@ -295,6 +296,98 @@ fn each_command_has_its_options(rt: HostRuntime) -> Result<(), Fail> {
 }
 
 #[test]
+fn a_call_shows_bytes(rt: HostRuntime) -> Result<(), Fail> {
+    let rows: [(&[&str], Option<Peek>); 7] = [
+        (&["wstream", "run", "f"], None),
+        (
+            &["wstream", "run", "f", "--peek", "16:4"],
+            Some(Peek {
+                address: 16,
+                count: 4,
+            }),
+        ),
+        (
+            &["wstream", "run", "--peek=0:1", "f"],
+            Some(Peek {
+                address: 0,
+                count: 1,
+            }),
+        ),
+        (&["wstream", "run", "f", "--", "i32:1"], None),
+        (&["wstream", "exec", "f"], None),
+        (
+            &["wstream", "exec", "f", "--peek", "4294967295:4096"],
+            Some(Peek {
+                address: 4_294_967_295,
+                count: 4096,
+            }),
+        ),
+        (
+            &["wstream", "exec", "--steps", "1", "--peek", "7:7", "f"],
+            Some(Peek {
+                address: 7,
+                count: 7,
+            }),
+        ),
+    ];
+    for (line, wanted) in rows {
+        let peek = match read(rt.alloc(), line)? {
+            Ok(Command::Run(run)) => run.call.peek,
+            Ok(Command::Exec(call)) => call.peek,
+            _ => return Err(Fail::from("no call")),
+        };
+        assert!(rt; peek == wanted);
+    }
+    Ok(())
+}
+
+#[test]
+fn a_peek_has_two_numbers(rt: HostRuntime) -> Result<(), Fail> {
+    assert!(rt;
+        peek_of("0000000016:0000000004")
+            == Some(Peek {
+                address: 16,
+                count: 4
+            })
+    );
+    assert!(rt;
+        peek_of("4294967295:1")
+            == Some(Peek {
+                address: 4_294_967_295,
+                count: 1
+            })
+    );
+    let others = [
+        "",
+        ":",
+        "0",
+        "0:",
+        ":1",
+        "0:0",
+        "0:4097",
+        "4294967296:1",
+        "00000000000:1",
+        "0:00000000001",
+        "+0:1",
+        "0:+1",
+        "-0:1",
+        "0:-1",
+        "0:1:",
+        "0:1:1",
+        "0::1",
+        "0: 1",
+        "a:1",
+        "0:x",
+        "0;1",
+        "0x0:1",
+    ];
+    for word in others {
+        assert!(rt; peek_of(word).is_none());
+    }
+    Ok(())
+}
+
+#[test]
 fn a_drill_has_its_numbers(rt: HostRuntime) -> Result<(), Fail> {
     let rows: [(&[&str], u64, u64, u64, u64); 7] = [
         (&["wstream", "drill", "1"], 1, 4, 4096, 100_000_000),
@@ -364,7 +457,7 @@ fn lists_give_back_what_they_hold(rt: HostRuntime) -> Result<(), Fail> {
 
 #[test]
 fn other_words_are_outside(rt: HostRuntime) -> Result<(), Fail> {
-    let rows: [&[&str]; 56] = [
+    let rows: [&[&str]; 63] = [
         &[],
         &["wstream"],
         &["check"],
@@ -421,6 +514,13 @@ fn other_words_are_outside(rt: HostRuntime) -> Result<(), Fail> {
         &["wstream", "run", "add", "--batch=0"],
         &["wstream", "run", "add", "--batch=1048577"],
         &["wstream", "run", "--workers=1", "--workers=1", "add"],
+        &["wstream", "check", "--peek", "0:1"],
+        &["wstream", "drill", "1", "--peek", "0:1"],
+        &["wstream", "run", "add", "--peek", "0:0"],
+        &["wstream", "exec", "add", "--peek", "0"],
+        &["wstream", "run", "add", "--peek"],
+        &["wstream", "run", "add", "--peek="],
+        &["wstream", "run", "--peek=0:1", "add", "--peek=0:1"],
     ];
     for line in rows {
         assert!(rt; matches!(read(rt.alloc(), line)?, Err(WordsStop::Outside)));

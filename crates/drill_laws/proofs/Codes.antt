@@ -7,30 +7,28 @@ use Rattle.wasm_defs.specs.declared.operation.Operation.TheVariants.{Binary}
 use Rattle.wasm_defs.specs.declared.token.Plain.TheVariants.{Call, Const, LocalGet, Operate}
 use Rattle.wasm_defs.specs.declared.token.Token.{Token}
 use Rattle.wasm_defs.specs.declared.token.Token.TheVariants as token
-use Rattle.wasm_defs.specs.Bodies.{Group}
-use Rattle.wasm_defs.specs.Codes.{group_is, instruction_is, listed_vector_is}
+use Rattle.wasm_defs.specs.Codes.{Code, instruction_is, token_is}
 use Rattle.wasm_defs.specs.Faults.{tokens_of}
-use Rattle.wasm_defs.specs.Items.{◌then◌, each_is}
+use Rattle.wasm_defs.specs.Items.{each_is}
 use Rattle.wasm_defs.specs.Trees.{Tree, spelled}
 use Rattle.module_gen.specs.Drill.{below, call}
 use Rattle.module_gen.specs.Numbers.{signed, unsigned}
-use Rattle.body_laws.specs.Spelled.{BeginsCompiled, compiled_token_is}
 use Rattle.drill_laws.specs.Functions.{adder_tree, calls_from, runner_tree}
 use Rattle.drill_laws.proofs.Spellings.{one_byte, signed_spells, unsigned_spells}
 
 -- a token at the front of others
-token_then : (at : ℕ) (t : Token) (ts : List (ℕ × Token)) (front back : List ℕ) → instruction_is t at front → BeginsCompiled front → each_is compiled_token_is ts (at + length front) back
-    → each_is compiled_token_is ((at, t) ∷ ts) at (front ++ back)
-token_then at t ts front back is compiled rest = record { front = front; back = back; parts = refl; first = ((refl, is), compiled); second = rest }
+token_then : (at : ℕ) (t : Token) (ts : List (ℕ × Token)) (front back : List ℕ) → instruction_is t at front → each_is token_is ts (at + length front) back
+    → each_is token_is ((at, t) ∷ ts) at (front ++ back)
+token_then at t ts front back is rest = record { front = front; back = back; parts = refl; first = (refl, is); second = rest }
 
-ends : (at : ℕ) → each_is compiled_token_is ((at, token.End) ∷ []) at (0x0B ∷ [])
-ends at = token_then at token.End [] (0x0B ∷ []) [] refl refl refl
+ends : (at : ℕ) → each_is token_is ((at, token.End) ∷ []) at (0x0B ∷ [])
+ends at = token_then at token.End [] (0x0B ∷ []) [] refl refl
 
 -- no groups of locals, and then tokens
 abbrev pub Spell : List (ℕ × Token) → ℕ → List ℕ → Type 0
-Spell ts = listed_vector_is {A = Group} group_is [] then each_is compiled_token_is ts
+Spell ts = Code [] ts
 
-no_locals : (at : ℕ) (ts : List (ℕ × Token)) (bytes : List ℕ) → each_is compiled_token_is ts (at + 1) bytes → Spell ts at (0x00 ∷ bytes)
+no_locals : (at : ℕ) (ts : List (ℕ × Token)) (bytes : List ℕ) → each_is token_is ts (at + 1) bytes → Spell ts at (0x00 ∷ bytes)
 no_locals at ts bytes rest = record {
   front = 0x00 ∷ [];
   back = bytes;
@@ -57,11 +55,11 @@ adder_spelled first i small =
     let last : List (ℕ × Token) = (sum + 1, token.End) ∷ [] in
     let adding : List (ℕ × Token) = (sum, token.Plain (Operate (Binary I32 Add))) ∷ last in
     let all : List (ℕ × Token) = (constant, token.Plain (Const I32 (pos i))) ∷ adding in
-    let adds = token_then sum (token.Plain (Operate (Binary I32 Add))) last (0x6A ∷ []) (0x0B ∷ []) refl refl (ends (sum + 1)) in
+    let adds = token_then sum (token.Plain (Operate (Binary I32 Add))) last (0x6A ∷ []) (0x0B ∷ []) refl (ends (sum + 1)) in
     let number = token_then constant (token.Plain (Const I32 (pos i))) adding (0x41 ∷ signed i) (0x6A ∷ 0x0B ∷ [])
-    (record { front = 0x41 ∷ []; back = signed i; parts = refl; first = refl; second = signed_spells i small }) refl adds in
+    (record { front = 0x41 ∷ []; back = signed i; parts = refl; first = refl; second = signed_spells i small }) adds in
     let gets = token_then (first + 1) (token.Plain (LocalGet 0)) all (0x20 ∷ 0x00 ∷ []) (0x41 ∷ (signed i ++ 0x6A ∷ 0x0B ∷ []))
-    (record { front = 0x20 ∷ []; back = 0x00 ∷ []; parts = refl; first = refl; second = one_byte 0 (omega arith) }) refl number in
+    (record { front = 0x20 ∷ []; back = 0x00 ∷ []; parts = refl; first = refl; second = one_byte 0 (omega arith) }) number in
     no_locals first (adder_tokens first i) (0x20 ∷ 0x00 ∷ 0x41 ∷ (signed i ++ 0x6A ∷ 0x0B ∷ [])) gets
 
 pub adder_nests : (first i : ℕ) → Tree (tokens_of (adder_tokens first i)) (adder_tree i)
@@ -76,17 +74,17 @@ abbrev pub call_tokens : (at first count : ℕ) → List (ℕ × Token)
 call_tokens at first zero = (at, token.End) ∷ []
 call_tokens at first (suc k) = (at, token.Plain (Call first)) ∷ call_tokens (at + length (call first)) (first + 1) k
 
-call_is : (at i : ℕ) → i < 2 ^ 32 → instruction_is (token.Plain (Call i)) at (call i) × BeginsCompiled (call i)
+call_is : (at i : ℕ) → i < 2 ^ 32 → instruction_is (token.Plain (Call i)) at (call i)
 unfolding call
-call_is at i small = (record { front = 0x10 ∷ []; back = unsigned i; parts = refl; first = refl; second = unsigned_spells i small }, refl)
+call_is at i small = record { front = 0x10 ∷ []; back = unsigned i; parts = refl; first = refl; second = unsigned_spells i small }
 
-calls_spelled : (at first count : ℕ) → first + count ≤ 2 ^ 32 → each_is compiled_token_is (call_tokens at first count) at (flat_map call (range_with_len first count) ++ 0x0B ∷ [])
+calls_spelled : (at first count : ℕ) → first + count ≤ 2 ^ 32 → each_is token_is (call_tokens at first count) at (flat_map call (range_with_len first count) ++ 0x0B ∷ [])
 calls_spelled at first zero small = ends at
 calls_spelled at first (suc k) small =
     let one = call_is at first (omega (arith, small)) in
     let rest = calls_spelled (at + length (call first)) (first + 1) k (omega (arith, small)) in
     rw (append_assoc (call first) (flat_map call (range_with_len (first + 1) k)) (0x0B ∷ []))
-    (token_then at (token.Plain (Call first)) (call_tokens (at + length (call first)) (first + 1) k) (call first) (flat_map call (range_with_len (first + 1) k) ++ 0x0B ∷ []) one.0 one.1 rest)
+    (token_then at (token.Plain (Call first)) (call_tokens (at + length (call first)) (first + 1) k) (call first) (flat_map call (range_with_len (first + 1) k) ++ 0x0B ∷ []) one rest)
 
 abbrev pub runner_tokens : (first n : ℕ) → List (ℕ × Token)
 runner_tokens first n = (first + 1, token.Plain (Const I32 (pos 0))) ∷ call_tokens (first + 1 + 2) 0 n
@@ -97,7 +95,7 @@ zero_spells at = record { front = 0x41 ∷ []; back = 0x00 ∷ []; parts = refl;
 pub runner_spelled : (first n : ℕ) → n ≤ 2 ^ 32 → Spell (runner_tokens first n) first (runner_content n)
 runner_spelled first n small =
     no_locals first (runner_tokens first n) (0x41 ∷ 0x00 ∷ (flat_map call (below n) ++ 0x0B ∷ []))
-    (token_then (first + 1) (token.Plain (Const I32 (pos 0))) (call_tokens (first + 1 + 2) 0 n) (0x41 ∷ 0x00 ∷ []) (flat_map call (below n) ++ 0x0B ∷ []) (zero_spells (first + 1)) refl
+    (token_then (first + 1) (token.Plain (Const I32 (pos 0))) (call_tokens (first + 1 + 2) 0 n) (0x41 ∷ 0x00 ∷ []) (flat_map call (below n) ++ 0x0B ∷ []) (zero_spells (first + 1))
     (calls_spelled (first + 1 + 2) 0 n (omega (arith, small))))
 
 calls_nest : (at first count : ℕ) → tokens_of (call_tokens at first count) ≡ spelled (calls_from first count) (token.End ∷ [])

@@ -7,7 +7,6 @@ use Rattle.wasm_defs.specs.declared.item.Item.TheVariants.{Function}
 use Rattle.wasm_defs.specs.declared.token.Token.{Token}
 use Rattle.wasm_defs.specs.declared.types.FuncType.{FuncType}
 use Rattle.wasm_defs.specs.Bodies.{Group}
-use Rattle.wasm_defs.specs.Codes.{Code}
 use Rattle.wasm_defs.specs.Configurations.{Declared, Func}
 use Rattle.wasm_defs.specs.Configurations.{Invocation, Step}
 use Rattle.wasm_defs.specs.Configurations as configured
@@ -24,7 +23,6 @@ use Rattle.wasm_defs.specs.Typing.{Context, IsBody, function_type}
 use Rattle.wasm_laws.specs.Behind.{StartsKeep}
 use Rattle.frame_layout.specs.Templates.{Around}
 use Rattle.body_laws.specs.Spelled.{AreSpelled, IsSpelled, IsSpelledModule}
-use Rattle.body_laws.proofs.Compiled.{each_plain}
 use Rattle.body_laws.proofs.SpeltCodes.{spelled_is_read}
 use Rattle.body_laws.proofs.SpelledModules.{spelled_is_module}
 use Rattle.module_gen.specs.Drill.{adder, drill_bytes}
@@ -35,7 +33,7 @@ use Rattle.drill_laws.specs.Words.{words_of}
 use Rattle.drill_laws.proofs.Words.{adder_words, runner_words}
 use Rattle.drill_laws.proofs.Codes.{Spell, adder_content, adder_nests, adder_spelled, adder_tokens, runner_content, runner_nests, runner_spelled, runner_tokens}
 use Rattle.drill_laws.proofs.Drilled.{all_bodies, all_declared, behind_functions, bodies_from, body_at, code_inside, context_is, drill_items, drill_module, drill_sections, function_items, functions_inside, none_imported, passed, trees_from}
-use Rattle.drill_laws.proofs.Rules.{all_compiled, are_sections}
+use Rattle.drill_laws.proofs.Rules.{are_sections}
 use Rattle.drill_laws.proofs.Typings.{adder_low, adder_typed, adders_have_types, drill_context, runner_has_type, runner_low, runner_typed}
 
 -- ---- a body, and the function that it is of
@@ -66,14 +64,7 @@ module _ (n : ℕ) (most : n ≤ 50000) (items : List Item) (says : context_of i
     made_function : (b : Body) (ts : List (ℕ × Token)) (tree : Seq) → Spell ts b.first b.bytes → Tree (tokens_of ts) tree → greatest (places_of (body_context (drill_context n) t []) tree) ≤ 2
         → IsFunction t tree (function_of items j b tree)
     made_function b ts tree spelled nests low =
-        let code : Code [] ts b.first b.bytes = record {
-          front = spelled.front;
-          back = spelled.back;
-          parts = spelled.parts;
-          first = spelled.first;
-          second = each_plain ts (b.first + length spelled.front) spelled.back spelled.second;
-        } in
-        let read = spelled_is_read b.first b.bytes [] ts tree nests code (omega arith) in
+        let read = spelled_is_read b.first b.bytes [] ts tree nests spelled (omega arith) in
         let same : context_at items j b ≡ body_context (drill_context n) t [] =
         ap (λ (gs : List Group). body_context (context_of items) (type_of_function (context_of items) (import_count items + j)) gs) read.locals ∙ context_here in
         record {
@@ -200,7 +191,6 @@ module _ (n : ℕ) where
     bodies = sym (append-nil (all_bodies n));
     starts = (tt, (tt, starts_kept _ functions_at n (behind_functions n) (λ front. (tt, (tt, tt)))));
     spelled = all_spelled n most (drill_items n) (context_is n) (none_imported n) bodies_at 0 n 0 refl (omega arith);
-    compiled = all_compiled n;
   }
 
   pub linkable : is_linkable (drill_module n) ≡ true

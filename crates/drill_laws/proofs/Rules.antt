@@ -1,24 +1,21 @@
 -- The bytes of a drill are its sections, which keep the rules.
-use Rattle.std.proofs.Common.{◌≡◌, ◌∙◌, ℕ, zero, suc, ◌+◌, ◌<◌, ◌≤◌, List, [], ◌∷◌, ◌++◌, length, None, refl, ap, sym, subst, arith}
+use Rattle.std.proofs.Common.{◌≡◌, ◌∙◌, ℕ, zero, suc, ◌+◌, ◌<◌, ◌≤◌, [], ◌∷◌, ◌++◌, length, refl, ap, sym, subst, arith}
 use Rattle.std.proofs.lemmas.List.{append-nil, length-append}
 use Rattle.std.proofs.lemmas.List.Elements.{All-cons, All-nil}
 use Rattle.std.specs.List.{All}
-use Rattle.wasm_defs.specs.declared.item.Item.{Item}
 use Rattle.std.specs.FinMap as maps
 use Rattle.std.specs.Cmp.Lexicographic.{slice_cmp}
 use Rattle.std.specs.Ordering.{nat_cmp}
-use Rattle.std.specs.Prelude.{is_some, map}
+use Rattle.std.specs.Prelude.{is_some}
 use Rattle.wasm_defs.specs.declared.item.Item.TheVariants.{Signature}
 use Rattle.drill_laws.specs.Functions.{adder_type, runner_type}
 use Rattle.wasm_defs.specs.Context.{declared_count}
 use Rattle.wasm_defs.specs.Entries.{Names, Seen, note, nothing}
-use Rattle.wasm_defs.specs.Faults.{first_outside, sections_of}
 use Rattle.wasm_defs.specs.Items.{bodies_in, items_in}
 use Rattle.wasm_defs.specs.Limits.{max_body, max_module}
-use Rattle.wasm_defs.specs.Outside.{Body, Coded, Listed, Part}
+use Rattle.wasm_defs.specs.Outside.{Body}
 use Rattle.wasm_defs.specs.Rules.{AllKeep, SectionsKeep, all_noted}
-use Rattle.wasm_defs.specs.Supported.{is_compiled_section}
-use Rattle.wasm_laws.specs.Sections.{AreSectionsOf, parts_in}
+use Rattle.wasm_laws.specs.Sections.{AreSectionsOf}
 use Rattle.module_gen.specs.Drill.{adder, code, drill_bytes, exports, functions, types}
 use Rattle.module_gen.specs.Numbers.{unsigned}
 use Rattle.drill_laws.proofs.Drilled.{all_bodies, all_declared, all_functions, bodies_count, bodies_from, body_at, code_content, code_inside, code_section, drill_sections, exports_content, exports_section, function_items, functions_content, functions_count, functions_inside, run_name}
@@ -103,18 +100,3 @@ module _ (n : ℕ) (most : n ≤ 50000) where
     spelled = record { spelled = drill_spelled n most; ordered = (omega arith, (omega arith, (omega arith, (omega arith, tt)))); matched = matched };
     kept = record { short = short; each = sections_keep };
   }
-
--- ---- all sections are compiled
-
-sections_listed : (xs : List Item) (parts : List Part) → sections_of (map Listed xs ++ parts) ≡ sections_of parts
-sections_listed [] parts = refl
-sections_listed (x ∷ xs) parts = sections_listed xs parts
-
-sections_coded : (bodies : List Body) (parts : List Part) → sections_of (map Coded bodies ++ parts) ≡ sections_of parts
-sections_coded [] parts = refl
-sections_coded (b ∷ bodies) parts = sections_coded bodies parts
-
-pub all_compiled : (n : ℕ) → first_outside is_compiled_section (sections_of (parts_in (drill_sections n))) ≡ None
-all_compiled n =
-    ap (first_outside is_compiled_section) (sections_listed (all_functions n) (parts_in (exports_section n ∷ code_section n ∷ [])))
-    ∙ ap (first_outside is_compiled_section) (sections_coded (all_bodies n) [])

@@ -25,7 +25,7 @@ pub record IsDrill (n : ℕ) (m : Module) : Type 0 where
   pub linkable : is_linkable m ≡ true
   pub words : HasFewWords n m
 
--- The bytes are such a module: they are read whole, all of it is compiled, and it is valid.
+-- The bytes are such a module: they are read whole, and it is valid.
 abbrev pub DrillsAreModules : Type 0
 DrillsAreModules = (n : ℕ) → n ≤ 50000 → (m : Module) × IsModule (drill_bytes n) m × IsDrill n m
 

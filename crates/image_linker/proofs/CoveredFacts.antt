@@ -1,6 +1,5 @@
 -- The modules that verdicts accept are of covered instructions.
-use Rattle.std.proofs.Common.{◌≡◌, ℕ, zero, suc, ◌+◌, ◌<◌, ◌≤◌, ◌&&◌, Option, true, List, [], ◌∷◌, length, None, Some, refl, sym, ap, subst, arith}
-use Rattle.std.proofs.lemmas.Bool.{and_parts, false≢true}
+use Rattle.std.proofs.Common.{◌≡◌, ℕ, zero, suc, ◌+◌, ◌<◌, ◌≤◌, Option, List, [], ◌∷◌, length, None, Some, refl, sym, ap, subst, arith}
 use Rattle.wasm_defs.specs.declared.item.Item.{Item}
 use Rattle.wasm_defs.specs.declared.types.ValType.TheVariants.{I32, I64}
 use Rattle.wasm_defs.specs.declared.token.Plain.{Plain}
@@ -14,7 +13,7 @@ use Rattle.wasm_defs.specs.Instances.{rows_of, elements_of, instance_of, exports
 use Rattle.wasm_laws.specs.Behind.{AreValidIn}
 use Rattle.wasm_laws.specs.Kept.{TypesAreSmall, BodyIsSmall, BodiesAreSmall, SpacesAreSmall, ConstantsFit, AreThere, TakesNothing}
 use Rattle.wasm_laws.specs.Sections.{AreBytes}
-use Rattle.wasm_laws.specs.Compiled.{is_compiled_plain, is_compiled_type, is_compiled, IsInRange, TreeIsInRange}
+use Rattle.wasm_laws.specs.Immediates.{IsSpelledType, IsInRange, TreeIsInRange}
 use Rattle.wasm_laws.proofs.Behind.{bodies_are_valid}
 use Rattle.wasm_laws.proofs.Bytes.{each_byte, HaveBytes, bodies_have_bytes}
 use Rattle.wasm_laws.proofs.Constants.{constants_fit}
@@ -27,7 +26,6 @@ use Rattle.wasm_laws.proofs.Locals.{bodies_are_small}
 use Rattle.wasm_laws.proofs.Ranges.{constant_fits, long_constant_fits, tree_is_in_range}
 use Rattle.wasm_laws.proofs.Spaces.{spaces_are_small}
 use Rattle.wasm_laws.proofs.Starts.{start_is_right}
-use Rattle.wasm_laws.proofs.Compiled.{tree_is_compiled}
 use Rattle.wasm_laws.proofs.Typed.{functions_of-counts}
 use Rattle.sim_frames.specs.Covered.{IsCoveredStep, IsCovered}
 use Rattle.wasm_defs.specs.Typing.{Types, Context, inside, function_type}
@@ -48,68 +46,58 @@ use Rattle.image_linker.proofs.ElementFacts.{elements_are_below, row_below}
 
 -- ---- bodies
 
-covered_step : (p : Plain) → is_compiled_plain p ≡ true → IsInRange p → IsCoveredStep p
-covered_step Unreachable e range = tt
-covered_step Nop e range = tt
-covered_step (Br l) e range = tt
-covered_step (BrIf l) e range = tt
-covered_step (BrTable ls l) e range = tt
-covered_step Return e range = tt
-covered_step (Call f) e range = tt
-covered_step (CallIndirect i) e range = tt
-covered_step Discard e range = tt
-covered_step Select e range = tt
-covered_step (LocalGet x) e range = tt
-covered_step (LocalSet x) e range = tt
-covered_step (LocalTee x) e range = tt
-covered_step (GlobalGet x) e range = tt
-covered_step (GlobalSet x) e range = tt
-covered_step (Load o m) e range = range.1
-covered_step (Store o m) e range = range.1
-covered_step MemorySize e range = tt
-covered_step MemoryGrow e range = tt
-covered_step (Const I32 n) e range = constant_fits n range
-covered_step (Const I64 n) e range = long_constant_fits n range
-covered_step (Operate op) e range = tt
+covered_step : (p : Plain) → IsInRange p → IsCoveredStep p
+covered_step Unreachable range = tt
+covered_step Nop range = tt
+covered_step (Br l) range = tt
+covered_step (BrIf l) range = tt
+covered_step (BrTable ls l) range = tt
+covered_step Return range = tt
+covered_step (Call f) range = tt
+covered_step (CallIndirect i) range = tt
+covered_step Discard range = tt
+covered_step Select range = tt
+covered_step (LocalGet x) range = tt
+covered_step (LocalSet x) range = tt
+covered_step (LocalTee x) range = tt
+covered_step (GlobalGet x) range = tt
+covered_step (GlobalSet x) range = tt
+covered_step (Load o m) range = range.1
+covered_step (Store o m) range = range.1
+covered_step MemorySize range = tt
+covered_step MemoryGrow range = tt
+covered_step (Const I32 n) range = constant_fits n range
+covered_step (Const I64 n) range = long_constant_fits n range
+covered_step (Operate op) range = tt
 
-takes_one : (c : Context) (type : BlockType) → is_compiled_type type ≡ true → TakesOne c type
-takes_one c Empty e = (omega arith, omega arith)
-takes_one c (Value t) e = (omega arith, omega arith)
-takes_one c (Index x) e = absurd (false≢true e)
+takes_one : (c : Context) (type : BlockType) → IsSpelledType type → TakesOne c type
+takes_one c Empty is = (omega arith, omega arith)
+takes_one c (Value t) is = (omega arith, omega arith)
+takes_one c (Index x) is = absurd is
 
-covered_tree : (c : Context) (tree : Seq) → is_compiled tree ≡ true → TreeIsInRange tree → IsCovered tree × IsFew c tree
-covered_tree c Nothing e range = (tt, tt)
-covered_tree c (Simple p rest) e range =
-    let parts = and_parts (is_compiled_plain p) (is_compiled rest) e in
-    let more = covered_tree c rest parts.1 range.1 in
-    let step = covered_step p parts.0 range.0 in
+covered_tree : (c : Context) (tree : Seq) → TreeIsInRange tree → IsCovered tree × IsFew c tree
+covered_tree c Nothing range = (tt, tt)
+covered_tree c (Simple p rest) range =
+    let step = covered_step p range.0 in
+    let more = covered_tree c rest range.1 in
     ((step, more.0), (step, more.1))
-covered_tree c (Block type body rest) e range =
-    let parts = and_parts (is_compiled_type type) (is_compiled body && is_compiled rest) e in
-    let both = and_parts (is_compiled body) (is_compiled rest) parts.1 in
-    let first = covered_tree c body both.0 range.0 in
-    let more = covered_tree c rest both.1 range.1 in
-    ((first.0, more.0), (takes_one c type parts.0, first.1, more.1))
-covered_tree c (Loop type body rest) e range =
-    let parts = and_parts (is_compiled_type type) (is_compiled body && is_compiled rest) e in
-    let both = and_parts (is_compiled body) (is_compiled rest) parts.1 in
-    let first = covered_tree c body both.0 range.0 in
-    let more = covered_tree c rest both.1 range.1 in
-    ((first.0, more.0), (takes_one c type parts.0, first.1, more.1))
-covered_tree c (If type body rest) e range =
-    let parts = and_parts (is_compiled_type type) (is_compiled body && is_compiled rest) e in
-    let both = and_parts (is_compiled body) (is_compiled rest) parts.1 in
-    let first = covered_tree c body both.0 range.0 in
-    let more = covered_tree c rest both.1 range.1 in
-    ((first.0, more.0), (takes_one c type parts.0, first.1, more.1))
-covered_tree c (IfElse type body other rest) e range =
-    let parts = and_parts (is_compiled_type type) (is_compiled body && (is_compiled other && is_compiled rest)) e in
-    let both = and_parts (is_compiled body) (is_compiled other && is_compiled rest) parts.1 in
-    let others = and_parts (is_compiled other) (is_compiled rest) both.1 in
-    let first = covered_tree c body both.0 range.0 in
-    let second = covered_tree c other others.0 range.1 in
-    let more = covered_tree c rest others.1 range.2 in
-    ((first.0, second.0, more.0), (takes_one c type parts.0, first.1, second.1, more.1))
+covered_tree c (Block type body rest) range =
+    let first = covered_tree c body range.1 in
+    let more = covered_tree c rest range.2 in
+    ((first.0, more.0), (takes_one c type range.0, first.1, more.1))
+covered_tree c (Loop type body rest) range =
+    let first = covered_tree c body range.1 in
+    let more = covered_tree c rest range.2 in
+    ((first.0, more.0), (takes_one c type range.0, first.1, more.1))
+covered_tree c (If type body rest) range =
+    let first = covered_tree c body range.1 in
+    let more = covered_tree c rest range.2 in
+    ((first.0, more.0), (takes_one c type range.0, first.1, more.1))
+covered_tree c (IfElse type body other rest) range =
+    let first = covered_tree c body range.1 in
+    let second = covered_tree c other range.2 in
+    let more = covered_tree c rest range.3 in
+    ((first.0, second.0, more.0), (takes_one c type range.0, first.1, second.1, more.1))
 
 small_at : (ts : List FuncType) → TypesAreSmall ts → (i : ℕ) (t : FuncType) → slice_get ts i ≡ Some t → length t.results ≤ 1
 small_at [] small i t e = absurd cc
@@ -143,10 +131,9 @@ module _ (items : List Item) (types : TypesAreSmall (context_of items).types) wh
   covered_body k b tree bytes small valid =
       let c = context_at items k b in
       let tokens = (read_of b).code.tokens in
-      let is = tree_is_compiled b.first b.bytes tree valid.compiled valid.tree_is in
       let range = tree_is_in_range b.first b.bytes tree (each_byte b.bytes bytes) valid.tree_is in
       let ty = function_is_small (context_of items) (import_count items + k) types in
-      let tree_is = covered_tree c tree is range in
+      let tree_is = covered_tree c tree range in
       let low = body_low c c tree refl (few_in c types refl (omega (arith, ty.results, length-reverse (type_of_function (context_of items) (import_count items + k)).results))) tree_is.1 in
       let count = ap length valid.tree_is in
       let spelt = tokens_spelled tree (token.End ∷ []) in

@@ -145,8 +145,8 @@ const FAULTS: [(&str, &str); 49] = [
 ];
 
 /// The same of tables, memories, globals and element segments, of calls, and of instructions that are left out.
-const FURTHER_FAULTS: [(&str, &str); 36] = [
-    // At a body's last byte an opcode is malformed, whether its instruction is whole or not.
+const FURTHER_FAULTS: [(&str, &str); 37] = [
+    // At a body's last byte an opcode is malformed, whether its instruction is whole or not; one that is left out is unsupported.
     (
         "01 04 01 60 00 00 03 02 01 00 0A 04 01 02 00 0F",
         "malformed at 23",
@@ -154,6 +154,10 @@ const FURTHER_FAULTS: [(&str, &str); 36] = [
     (
         "01 04 01 60 00 00 03 02 01 00 0A 04 01 02 00 02",
         "malformed at 23",
+    ),
+    (
+        "01 04 01 60 00 00 03 02 01 00 0A 04 01 02 00 43",
+        "unsupported at 23",
     ),
     // Value types that are none of the language.
     ("01 05 01 60 01 70 00", "malformed at 13"),

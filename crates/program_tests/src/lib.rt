@@ -21,6 +21,8 @@ mod hosts;
 #[cfg(test)]
 mod operations;
 #[cfg(test)]
+mod peeks;
+#[cfg(test)]
 mod starts;
 #[cfg(test)]
 mod tables;

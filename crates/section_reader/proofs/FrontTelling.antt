@@ -1,7 +1,5 @@
 -- What a push reader tells of the module, with each piece that it is fed.
 use Rattle.std.proofs.Common.{◌≡◌, ℕ, ◌-◌, ◌<◌, ◌≤◌, true, false, List, [], ◌∷◌, ◌++◌, length, drop, Option, Some, None, refl, sym, ap, ◌∙◌, arith, append_assoc, length-append}
-use Rattle.std.specs.Prelude.{is_some}
-use Rattle.std.proofs.lemmas.List.{nil_from_length}
 use Rattle.wasm_defs.specs.declared.fault.Refusal.{Refusal}
 use Rattle.wasm_defs.specs.declared.item.Item.{Item}
 use Rattle.wasm_defs.specs.Fields.{Cursor}
@@ -15,13 +13,13 @@ use Rattle.section_reader.specs.declared.steps.Steps.{Steps}
 use Rattle.section_reader.specs.declared.front.Front.{Front}
 use Rattle.section_reader.specs.Outline.{outline_row}
 use Rattle.section_reader.specs.Stages.{prepend, is_owing, is_at_bodies}
-use Rattle.section_reader.specs.Onward.{onward, after_parts, outside_of, first_begun, begun_section, next_part, is_owing_behind, is_stalled, IsStalled, IsOrdered}
+use Rattle.section_reader.specs.Onward.{onward, after_parts, begun_section, next_part, is_owing_behind, is_stalled, IsStalled, IsOrdered}
 use Rattle.section_reader.specs.Stepped.{Reached, RefusedOnward}
 use Rattle.section_reader.specs.FrontLeft.{from_there, cursor_of}
 use Rattle.section_reader.specs.Waits.{Passes, is_wanting}
-use Rattle.section_reader.specs.FrontOnward.{onward_left, IsBegun, FedOnward, ToldRefused}
+use Rattle.section_reader.specs.FrontOnward.{onward_left, FedOnward, ToldRefused}
 use Rattle.section_reader.proofs.Runs.{sections_are}
-use Rattle.section_reader.proofs.Telling.{first_begun_is, begun_is_section, front_halts, entry_halts}
+use Rattle.section_reader.proofs.Telling.{front_halts, entry_halts}
 use Rattle.section_reader.proofs.Reaching.{end_is, owed_there}
 use Rattle.section_reader.proofs.Keeping.{owing_is, wants_of, entry_wants}
 
@@ -75,61 +73,6 @@ wanting_stalls (Entries id n) seen c o h =
 pub kept_stalled : (old : Front) (bytes : List ℕ) → 0 < length old.kept.items → Passes old.wait (cursor_of old) bytes → IsStalled old.steps.stage old.steps.seen (record { at = old.at; rest = old.kept.items ++ bytes; end = old.end })
 kept_stalled old bytes some passes = λ more apart. wanting_stalls old.steps.stage old.steps.seen _ old.ordered (old.unread some bytes passes)
 
--- ---- the sections that have begun
-
-next_is : (seen : Seen) (c : Cursor) (b : ℕ) (bytes more : List ℕ) → c.rest ≡ b ∷ bytes → onward Between seen (with_more c more) ≡ after_part (Section c.at b) (section sections seen (with_more c more))
-next_is seen c b bytes more some = sections_are seen (with_more c more) ∙ ap (λ (l : List ℕ). or_section sections seen (with_more c more) (l ++ more)) some
-
--- what is read behind the id that comes next
-later_run : (stage : Stage) (seen : Seen) (c : Cursor) → (later : List ℕ → Run) × ((more : List ℕ) → onward stage seen (with_more c more) ≡ after_parts (begun_section stage c) (later more))
-later_run Preamble seen c = (λ more. onward Preamble seen (with_more c more), λ more. refl)
-later_run Between seen c = of_rest c.rest refl
-  where
-    of_rest : (rest : List ℕ) → c.rest ≡ rest → (later : List ℕ → Run) × ((more : List ℕ) → onward Between seen (with_more c more) ≡ after_parts (next_part c.at c.rest) (later more))
-    of_rest [] none = (λ more. sections seen (with_more c more), λ more. sym (ap (λ (l : List ℕ). after_parts (next_part c.at l) (sections seen (with_more c more))) none))
-    of_rest (b ∷ bytes) some = (
-      λ more. section sections seen (with_more c more),
-      λ more. next_is seen c b bytes more some ∙ sym (ap (λ (l : List ℕ). after_parts (next_part c.at l) (section sections seen (with_more c more))) some),
-    )
-later_run (Contents id) seen c = (λ more. onward (Contents id) seen (with_more c more), λ more. refl)
-later_run (Entries id n) seen c = (λ more. onward (Entries id n) seen (with_more c more), λ more. refl)
-
-begun_refused : (f : Front) (r : Refusal) → f.refusal ≡ Some r → IsBegun f
-begun_refused f r some = record { told = []; sections = tt; later = onward_left f; run = λ more. refl; first = rw some refl }
-
-begun_waiting : (f : Front) (x : Item) → f.waiting ≡ Some x → f.refusal ≡ None → IsBegun f
-begun_waiting f x some none =
-    let empty : f.kept.items ≡ [] = nil_from_length f.kept.items (f.alone (ap is_some some)) in
-    record { told = []; sections = tt; later = onward_left f; run = λ more. refl; first = rw (none, empty) (none_begun f.steps.stage) }
-  where
-    none_begun : (stage : Stage) → outside_of (first_begun stage f.steps.uncompiled f.at []) [] ≡ outside_of f.steps.uncompiled []
-    none_begun Preamble = refl
-    none_begun Between = refl
-    none_begun (Contents id) = refl
-    none_begun (Entries id n) = refl
-
-begun_next : (f : Front) → f.waiting ≡ None → f.refusal ≡ None → IsBegun f
-begun_next f waits none =
-    let later = later_run f.steps.stage f.steps.seen (cursor_of f) in
-    record {
-      told = begun_section f.steps.stage (cursor_of f);
-      sections = begun_is_section f.steps.stage (cursor_of f);
-      later = later.0;
-      run = λ more. rw (waits, none) (later.1 more);
-      first = rw none (first_begun_is f.steps.stage f.steps.uncompiled (cursor_of f));
-    }
-
-pub is_begun : (f : Front) → IsBegun f
-is_begun f = of_refusal f.refusal refl
-  where
-    of_waiting : (x : Option Item) → f.waiting ≡ x → f.refusal ≡ None → IsBegun f
-    of_waiting (Some x) e none = begun_waiting f x e none
-    of_waiting None e none = begun_next f e none
-
-    of_refusal : (x : Option Refusal) → f.refusal ≡ x → IsBegun f
-    of_refusal (Some r) e = begun_refused f r e
-    of_refusal None e = of_waiting f.waiting refl e
-
 -- ---- what was fed
 
 module _ (old : Front) (bytes all : List ℕ) (waiting : old.waiting ≡ None) (refusal : old.refusal ≡ None) (joined : all ≡ old.kept.items ++ bytes) where
@@ -159,7 +102,6 @@ module _ (old : Front) (bytes all : List ℕ) (waiting : old.waiting ≡ None) (
               ∙ ap (after_parts t.told) (
               ap (λ (l : List ℕ). prepend (Some x) (onward new.steps.stage new.steps.seen (record { at = d.at; rest = l ++ more; end = d.end }))) (sym (end_is old.kept.items bytes all reached.passed.taken d.rest joined reached.passed.parts few))
               ∙ sym (onward_new more));
-          first = t.first;
         };
     apart = λ apart h. absurd (let e = sym waits ∙ h in cc);
   })
@@ -167,15 +109,14 @@ module _ (old : Front) (bytes all : List ℕ) (waiting : old.waiting ≡ None) (
       onward_new : (more : List ℕ) → onward_left new (drop (length bytes - length d.rest) bytes ++ more) ≡ prepend (Some x) (onward new.steps.stage new.steps.seen (record { at = d.at; rest = drop (length bytes - length d.rest) bytes ++ more; end = d.end }))
       onward_new more = rw (waits, none, kept, same_at, same_end) refl
 
-  pub refused_told : (new : Front) (r : Refusal) (mid : Steps) (d : Cursor) → is_at_bodies old.steps.stage ≡ false → (IsOrdered old.steps.stage old.steps.seen → is_at_bodies old.steps.stage ≡ false → RefusedOnward old.steps there r mid d)
-      → new.steps.uncompiled ≡ first_begun mid.stage mid.uncompiled d.at d.rest → new.waiting ≡ None → new.refusal ≡ Some r
+  pub refused_told : (new : Front) (r : Refusal) → is_at_bodies old.steps.stage ≡ false → (IsOrdered old.steps.stage old.steps.seen → is_at_bodies old.steps.stage ≡ false → RefusedOnward old.steps there r)
+      → new.waiting ≡ None → new.refusal ≡ Some r
       → ToldRefused old bytes r new
-  refused_told new r mid d apart h first waits some =
+  refused_told new r apart h waits some =
       let t = h old.ordered apart in
       record {
         told = t.told;
         sections = t.sections;
         run = λ more. onward_joined more ∙ t.run more;
-        first = rw some (ap (λ (x : Option ℕ). outside_of x []) first ∙ t.first);
         stays = λ more. rw (waits, some) refl;
       }

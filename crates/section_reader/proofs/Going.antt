@@ -20,11 +20,11 @@ use Rattle.section_reader.specs.declared.steps.Steps.{Steps}
 use Rattle.section_reader.specs.Counts.{IsSound}
 use Rattle.section_reader.specs.Outline.{outline_row}
 use Rattle.section_reader.specs.Stages.{passes, is_at_bodies, Passed, Leads, Halts, weight, IsSameButLast}
-use Rattle.section_reader.specs.Onward.{outside_of, first_with, HaltsOnward, IsOrdered}
+use Rattle.section_reader.specs.Onward.{HaltsOnward, IsOrdered}
 use Rattle.section_reader.specs.Stepped.{Goes, GoesOnward, Stepped}
 use Rattle.section_reader.proofs.Sound.{Moved, sound_moved, sound_entered, sound_noted}
 use Rattle.section_reader.proofs.OutlineRuns.{outline_steady, passed_over, not_passed}
-use Rattle.section_reader.proofs.Telling.{first_with_is, ordered_between, preamble_run, header_run, header_id, header_ordered, front_run, front_ordered, front_apart, entry_run, entry_ordered, entry_behind, back_run, pass_run}
+use Rattle.section_reader.proofs.Telling.{ordered_between, preamble_run, header_run, header_ordered, front_run, front_ordered, front_apart, entry_run, entry_ordered, entry_behind, back_run, pass_run}
 use Rattle.section_reader.proofs.Leading.{preamble_leads, header_leads, front_leads, entry_leads, back_leads, pass_leads}
 
 -- outside the bodies
@@ -75,17 +75,17 @@ same_entered seen id =
 
 -- ---- steps
 
-abbrev pub standing : Stage → Seen → Option ℕ → Steps
-standing stage seen first = record { stage = stage; seen = seen; uncompiled = first }
+abbrev pub standing : Stage → Seen → Steps
+standing stage seen = record { stage = stage; seen = seen }
 
-module _ (stage : Stage) (seen : Seen) (first : Option ℕ) (c d : Cursor) (sound : IsSound seen c) where
-  tells_from : (there : Stage) (item : Option Item) (new : Steps) (e : Cursor) → stage ≡ there → (IsOrdered there seen → GoesOnward (standing there seen first) c item new e) → IsOrdered stage seen → GoesOnward (standing stage seen first) c item new e
-  tells_from there item new e is h = subst (λ (p : Stage). IsOrdered p seen → GoesOnward (standing p seen first) c item new e) (sym is) h
+module _ (stage : Stage) (seen : Seen) (c d : Cursor) (sound : IsSound seen c) where
+  tells_from : (there : Stage) (item : Option Item) (new : Steps) (e : Cursor) → stage ≡ there → (IsOrdered there seen → GoesOnward (standing there seen) c item new e) → IsOrdered stage seen → GoesOnward (standing stage seen) c item new e
+  tells_from there item new e is h = subst (λ (p : Stage). IsOrdered p seen → GoesOnward (standing p seen) c item new e) (sym is) h
 
   leads_from : (there next : Stage) (after : Seen) (e : Cursor) → stage ≡ there → Leads there seen c None next after e → Leads stage seen c None next after e
   leads_from there next after e is h = subst (λ (p : Stage). Leads p seen c None next after e) (sym is) h
 
-  pub preamble_goes : (v : ℕ) → stage ≡ Preamble → preamble c ≡ Got v d → Goes (standing stage seen first) c None (standing Between seen first) d
+  pub preamble_goes : (v : ℕ) → stage ≡ Preamble → preamble c ≡ Got v d → Goes (standing stage seen) c None (standing Between seen) d
   preamble_goes v is read =
       let p = passed_of c d (got_is (λ x e. Advance c e) (preamble c) v d read ((preamble_steady []).moves c)) in
       let fewer = fewer_left c d p in
@@ -95,15 +95,15 @@ module _ (stage : Stage) (seen : Seen) (first : Option ℕ) (c d : Cursor) (soun
         less = λ _. omega (arith, fewer, ap weight is);
         same = λ _. refl;
         passed = p;
-        tells = tells_from Preamble None (standing Between seen first) d is (λ o. record {
-          tells = λ _. record { told = []; sections = tt; run = preamble_run seen c d v read; first = refl };
+        tells = tells_from Preamble None (standing Between seen) d is (λ o. record {
+          tells = λ _. record { told = []; sections = tt; run = preamble_run seen c d v read };
           apart = λ _ _. refl;
           ordered = ordered_between Preamble seen o;
           behind = tt;
         });
       }
 
-  pub front_goes : (id n : ℕ) → stage ≡ Contents id → (outline_row id).front seen c ≡ Got n d → Goes (standing stage seen first) c None (standing (Entries id n) seen first) d
+  pub front_goes : (id n : ℕ) → stage ≡ Contents id → (outline_row id).front seen c ≡ Got n d → Goes (standing stage seen) c None (standing (Entries id n) seen) d
   front_goes id n is read =
       let p = passed_of c d (got_is (λ x e. Advance c e) ((outline_row id).front seen c) n d read (((outline_steady id).front seen).moves c)) in
       let fewer = fewer_left c d p in
@@ -113,15 +113,15 @@ module _ (stage : Stage) (seen : Seen) (first : Option ℕ) (c d : Cursor) (soun
         less = λ _. omega (arith, fewer, ap weight is);
         same = λ _. refl;
         passed = p;
-        tells = tells_from (Contents id) None (standing (Entries id n) seen first) d is (λ o. record {
-          tells = λ _. record { told = []; sections = tt; run = front_run seen c d id n read; first = refl };
+        tells = tells_from (Contents id) None (standing (Entries id n) seen) d is (λ o. record {
+          tells = λ _. record { told = []; sections = tt; run = front_run seen c d id n read };
           apart = λ _ _. front_apart seen c d id n read;
           ordered = front_ordered seen c d id n read o;
           behind = tt;
         });
       }
 
-  pub header_goes : (h : ℕ × ℕ) (b : ℕ) (bytes : List ℕ) → stage ≡ Between → c.rest ≡ b ∷ bytes → header seen c ≡ Got h d → Goes (standing stage seen first) c None (standing (Contents h.0) (entered seen h.0) (first_with first c.at h.0)) (inside d h.1)
+  pub header_goes : (h : ℕ × ℕ) (b : ℕ) (bytes : List ℕ) → stage ≡ Between → c.rest ≡ b ∷ bytes → header seen c ≡ Got h d → Goes (standing stage seen) c None (standing (Contents h.0) (entered seen h.0)) (inside d h.1)
   header_goes h b bytes is some read =
       let p = passed_of c d (got_is (λ x e. Advance c e) (header seen c) h d read ((header_steady [] seen).moves c)) in
       let fewer = got_is (λ x e. length e.rest < length c.rest) (header seen c) h d read ((header_takes seen).some c) in
@@ -131,12 +131,11 @@ module _ (stage : Stage) (seen : Seen) (first : Option ℕ) (c d : Cursor) (soun
         less = λ _. omega (arith, fewer, ap weight is);
         same = λ _. same_entered seen h.0;
         passed = record { taken = p.taken; parts = p.parts; at = p.at };
-        tells = tells_from Between None (standing (Contents h.0) (entered seen h.0) (first_with first c.at h.0)) (inside d h.1) is (λ o. record {
+        tells = tells_from Between None (standing (Contents h.0) (entered seen h.0)) (inside d h.1) is (λ o. record {
           tells = λ _. record {
             told = Section c.at b ∷ [];
             sections = tt;
             run = header_run seen c d h b bytes some read;
-            first = ap (λ (id : ℕ). outside_of (first_with first c.at id) []) (header_id seen c d h b bytes some read) ∙ first_with_is first c.at b;
           };
           apart = λ _ _. refl;
           ordered = header_ordered seen c d h read o;
@@ -144,7 +143,7 @@ module _ (stage : Stage) (seen : Seen) (first : Option ℕ) (c d : Cursor) (soun
         });
       }
 
-  pub entry_goes : (id n : ℕ) (x : Item) → stage ≡ Entries id n → 0 < n → (outline_row id).entry seen c ≡ Got (Listed x) d → Goes (standing stage seen first) c (Some x) (standing (Entries id (n - 1)) (note seen x) first) d
+  pub entry_goes : (id n : ℕ) (x : Item) → stage ≡ Entries id n → 0 < n → (outline_row id).entry seen c ≡ Got (Listed x) d → Goes (standing stage seen) c (Some x) (standing (Entries id (n - 1)) (note seen x)) d
   entry_goes id n x is some read =
       let p = passed_of c d (got_is (λ y e. Advance c e) ((outline_row id).entry seen c) (Listed x) d read (((outline_steady id).entry seen).moves c)) in
       let fewer = got_is (λ y e. length e.rest < length c.rest) ((outline_row id).entry seen c) (Listed x) d read (((outline_steady id).takes seen).some c) in
@@ -154,8 +153,8 @@ module _ (stage : Stage) (seen : Seen) (first : Option ℕ) (c d : Cursor) (soun
         less = λ h. absurd cc;
         same = λ h. absurd cc;
         passed = p;
-        tells = tells_from (Entries id n) (Some x) (standing (Entries id (n - 1)) (note seen x) first) d is (λ o. record {
-          tells = λ _. record { told = []; sections = tt; run = entry_run id n seen c d x some read o; first = refl };
+        tells = tells_from (Entries id n) (Some x) (standing (Entries id (n - 1)) (note seen x)) d is (λ o. record {
+          tells = λ _. record { told = []; sections = tt; run = entry_run id n seen c d x some read o };
           apart = λ _ h. absurd cc;
           ordered = entry_ordered id n seen c d x some read o;
           behind = entry_behind id n seen c d x some read o;
@@ -163,7 +162,7 @@ module _ (stage : Stage) (seen : Seen) (first : Option ℕ) (c d : Cursor) (soun
       }
 
   -- a section ends: the cursor is inside no section then
-  pub back_goes : (id : ℕ) (e : Cursor) → stage ≡ Entries id 0 → (outline_row id).back c ≡ Got tt d → section_end d ≡ Got tt e → Goes (standing stage seen first) c None (standing Between seen first) e
+  pub back_goes : (id : ℕ) (e : Cursor) → stage ≡ Entries id 0 → (outline_row id).back c ≡ Got tt d → section_end d ≡ Got tt e → Goes (standing stage seen) c None (standing Between seen) e
   back_goes id e is back over =
       let p = passed_of c d (got_is (λ x f. Advance c f) ((outline_row id).back c) tt d back ((outline_steady id).back.moves c)) in
       let q = left_passed e over in
@@ -175,8 +174,8 @@ module _ (stage : Stage) (seen : Seen) (first : Option ℕ) (c d : Cursor) (soun
         less = λ _. omega (arith, fewer, ap weight is);
         same = λ _. refl;
         passed = both;
-        tells = tells_from (Entries id 0) None (standing Between seen first) e is (λ o. record {
-          tells = λ apart. record { told = []; sections = tt; run = back_run id seen c d e apart back over; first = refl };
+        tells = tells_from (Entries id 0) None (standing Between seen) e is (λ o. record {
+          tells = λ apart. record { told = []; sections = tt; run = back_run id seen c d e apart back over };
           apart = λ _ _. refl;
           ordered = ordered_between (Entries id 0) seen o;
           behind = tt;
@@ -217,30 +216,30 @@ past_all c d bytes short e =
 abbrev all_past : Cursor → Cursor
 all_past c = record { at = c.at + length c.rest; rest = []; end = c.end }
 
-pass_goes : (stage : Stage) (seen : Seen) (first : Option ℕ) (c d : Cursor) (id : ℕ) (bytes : List ℕ) → IsSound seen c → stage ≡ Entries id 0 → passes id ≡ true → 0 < length c.rest → length c.rest < room_of c
-    → run (length c.rest) c ≡ Got bytes d → Goes (standing stage seen first) c None (standing stage seen first) d
-pass_goes stage seen first c d id bytes sound is passing some short e =
-    subst (λ (f : Cursor). Goes (standing stage seen first) c None (standing stage seen first) f) (sym (past_all c d bytes short e)) there
+pass_goes : (stage : Stage) (seen : Seen) (c d : Cursor) (id : ℕ) (bytes : List ℕ) → IsSound seen c → stage ≡ Entries id 0 → passes id ≡ true → 0 < length c.rest → length c.rest < room_of c
+    → run (length c.rest) c ≡ Got bytes d → Goes (standing stage seen) c None (standing stage seen) d
+pass_goes stage seen c d id bytes sound is passing some short e =
+    subst (λ (f : Cursor). Goes (standing stage seen) c None (standing stage seen) f) (sym (past_all c d bytes short e)) there
   where
-    there : Goes (standing stage seen first) c None (standing stage seen first) (all_past c)
+    there : Goes (standing stage seen) c None (standing stage seen) (all_past c)
     there = record {
       leads = subst (λ (q : Stage). Leads q seen c None q seen (all_past c)) (sym is) (pass_leads seen c.at c.end id c.rest passing (omega arith));
       sound = record { counts = (sound_moved {least = 0} seen c (all_past c) sound (record { more = omega arith; same = omega arith })).counts; fits = omega (arith, sound.fits) };
       less = λ _. omega (arith, some);
       same = λ _. refl;
       passed = record { taken = c.rest; parts = sym (append-nil c.rest); at = refl };
-      tells = subst (λ (q : Stage). IsOrdered q seen → GoesOnward (standing q seen first) c None (standing q seen first) (all_past c)) (sym is) (λ o. record {
-        tells = λ apart. record { told = []; sections = tt; run = pass_run seen c.at c.end id c.rest apart passing (omega arith); first = refl };
+      tells = subst (λ (q : Stage). IsOrdered q seen → GoesOnward (standing q seen) c None (standing q seen) (all_past c)) (sym is) (λ o. record {
+        tells = λ apart. record { told = []; sections = tt; run = pass_run seen c.at c.end id c.rest apart passing (omega arith) };
         apart = λ apart _. apart;
         ordered = o;
         behind = tt;
       });
     }
 
-pub pass_goes_at : (stage : Stage) (seen : Seen) (first : Option ℕ) (c d : Cursor) (id n : ℕ) (bytes : List ℕ) → IsSound seen c → stage ≡ Entries id 0 → passes id ≡ true → n ≡ length c.rest → 0 < n → n < room_of c
-    → run n c ≡ Got bytes d → Goes (standing stage seen first) c None (standing stage seen first) d
-pass_goes_at stage seen first c d id n bytes sound is passing e some short h =
-    pass_goes stage seen first c d id bytes sound is passing (omega arith) (omega arith) (subst (λ (k : ℕ). run k c ≡ Got bytes d) e h)
+pub pass_goes_at : (stage : Stage) (seen : Seen) (c d : Cursor) (id n : ℕ) (bytes : List ℕ) → IsSound seen c → stage ≡ Entries id 0 → passes id ≡ true → n ≡ length c.rest → 0 < n → n < room_of c
+    → run n c ≡ Got bytes d → Goes (standing stage seen) c None (standing stage seen) d
+pass_goes_at stage seen c d id n bytes sound is passing e some short h =
+    pass_goes stage seen c d id bytes sound is passing (omega arith) (omega arith) (subst (λ (k : ℕ). run k c ≡ Got bytes d) e h)
 
 -- ---- bytes that are there
 

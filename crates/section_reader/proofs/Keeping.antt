@@ -12,7 +12,7 @@ use Rattle.section_reader.specs.declared.steps.Steps.{Steps}
 use Rattle.section_reader.specs.declared.front.Front.{Front}
 use Rattle.section_reader.specs.Outline.{outline_row}
 use Rattle.section_reader.specs.Stages.{proceed, is_owing, IsOwed, is_at_bodies}
-use Rattle.section_reader.specs.Onward.{onward, outside_of}
+use Rattle.section_reader.specs.Onward.{onward}
 use Rattle.section_reader.specs.FrontLeft.{left, cursor_of, Fed}
 use Rattle.section_reader.specs.FrontOnward.{onward_left, FedOnward}
 use Rattle.section_reader.specs.Waits.{Passes, wants_more, is_wanting}
@@ -85,7 +85,6 @@ kept_told old new bytes waiting refusal same_steps same_at same_end kept waits n
         ∙ ap (λ (l : List ℕ). onward old.steps.stage old.steps.seen (record { at = old.at; rest = l; end = old.end })) (sym (append_assoc old.kept.items bytes more))
         ∙ sym (onward_new more)
         ∙ ap (λ (l : List ℕ). onward_left new (l ++ more)) (sym (drop-length bytes));
-    first = ap (λ (s : Steps). outside_of s.uncompiled []) same_steps;
   };
   apart = λ apart _. ap (λ (s : Steps). is_at_bodies s.stage) same_steps ∙ apart;
 }

@@ -1,4 +1,3 @@
-pub mod Loops
 pub mod NameMaps
 pub mod Sound
 pub mod OutlineRuns

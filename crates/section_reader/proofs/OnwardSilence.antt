@@ -1,20 +1,19 @@
 -- How a module ends where no byte is there, and how a push reader ends.
 use Rattle.std.proofs.Common.{◌≡◌, ℕ, zero, suc, ◌+◌, ◌-◌, ◌<◌, Bool, true, false, if◌then◌else◌, leb, eqb, inl, inr, List, [], length, drop, Some, None, refl, sym, ap, subst, ◌∙◌, arith, add-zero}
-use Rattle.std.specs.Prelude.{is_some}
 use Rattle.std.proofs.lemmas.Bool.{cases_Bool, cases_eq, cases_lt, ne_eqb}
 use Rattle.std.proofs.lemmas.List.{append-nil}
 use Rattle.wasm_defs.specs.declared.fault.Kind.TheVariants.{Ended}
 use Rattle.wasm_defs.specs.declared.fault.Refusal.{Refusal}
 use Rattle.wasm_defs.specs.Fields.{Cursor, Read, Got, cut, past, room_of}
 use Rattle.wasm_defs.specs.Entries.{Seen}
-use Rattle.wasm_defs.specs.Faults.{ending_fault, sections_of}
+use Rattle.wasm_defs.specs.Faults.{ending_fault}
 use Rattle.wasm_defs.specs.Outside.{Nothing, Refused, Owed, Run, Next, ends, after_part, runs_on, noted, preamble, entries, sections, or_section, section_end, no_end, owes_code, at_the_end}
 use Rattle.section_reader.specs.declared.stage.Stage.{Stage}
 use Rattle.section_reader.specs.declared.stage.Stage.TheVariants.{Preamble, Between, Contents, Entries}
 use Rattle.section_reader.specs.declared.front.Front.{Front}
 use Rattle.section_reader.specs.Outline.{outline_row, or_outline, outline_sections}
 use Rattle.section_reader.specs.Stages.{proceed, passes, silent, is_at_bodies}
-use Rattle.section_reader.specs.Onward.{onward, outside_of, first_begun, begun_section, IsOrdered}
+use Rattle.section_reader.specs.Onward.{onward, begun_section, IsOrdered}
 use Rattle.section_reader.specs.FrontLeft.{cursor_of, total}
 use Rattle.section_reader.specs.FrontOnward.{onward_left, EndsOnward}
 use Rattle.section_reader.proofs.Runs.{sections_are}
@@ -23,7 +22,7 @@ use Rattle.section_reader.proofs.Leading as leading
 use Rattle.section_reader.proofs.Leading.{at_bytes, rest_is, over_if}
 use Rattle.section_reader.proofs.Going.{nothing_back, rest_back}
 use Rattle.section_reader.proofs.Silence.{preamble_needs, row_needs, silent_is}
-use Rattle.section_reader.proofs.Telling.{first_begun_is, begun_is_section, apart_other, contents_are, entries_are, entry_is, front_run, front_ordered}
+use Rattle.section_reader.proofs.Telling.{begun_is_section, apart_other, contents_are, entries_are, entry_is, front_run, front_ordered}
 use Rattle.section_reader.proofs.FrontTelling.{stalled_is}
 
 -- it ends at once, as the outline does
@@ -130,14 +129,11 @@ module _ (seen : Seen) (at end : ℕ) where
 -- ---- the end of a push reader
 
 pub refused_ends : (f : Front) (r : Refusal) → f.waiting ≡ None → f.refusal ≡ Some r → EndsOnward f (Some r)
-refused_ends f r waits some = record { told = []; sections = tt; ending = Refused r; run = rw (waits, some) refl; fault = refl; first = rw some refl }
+refused_ends f r waits some = record { told = []; sections = tt; ending = Refused r; run = rw (waits, some) refl; fault = refl }
 
 module _ (f : Front) (waits : f.waiting ≡ None) (none : f.refusal ≡ None) (apart : is_at_bodies f.steps.stage ≡ false) where
   left_is : onward_left f [] ≡ onward f.steps.stage f.steps.seen (cursor_of f)
   left_is = rw (waits, none) (ap (λ (l : List ℕ). onward f.steps.stage f.steps.seen (at_bytes f.at f.end l)) (append-nil f.kept.items))
-
-  first_is : outside_of (if◌then◌else◌ (is_some f.refusal) f.steps.uncompiled (first_begun f.steps.stage f.steps.uncompiled f.at f.kept.items)) [] ≡ outside_of f.steps.uncompiled (sections_of (begun_section f.steps.stage (cursor_of f)))
-  first_is = rw none (first_begun_is f.steps.stage f.steps.uncompiled (cursor_of f))
 
   pub kept_ends : 0 < length f.kept.items → EndsOnward f (Some (record { offset = total f; kind = Ended }))
   kept_ends some = record {
@@ -146,7 +142,6 @@ module _ (f : Front) (waits : f.waiting ≡ None) (none : f.refusal ≡ None) (a
     ending = Owed;
     run = left_is ∙ stalled_is f.steps.stage f.steps.seen (cursor_of f) some (f.stalled some apart);
     fault = refl;
-    first = first_is;
   }
 
   pub silent_ends : f.kept.items ≡ [] → EndsOnward f (silent f.steps.stage f.steps.seen f.at f.end)
@@ -164,11 +159,4 @@ module _ (f : Front) (waits : f.waiting ≡ None) (none : f.refusal ≡ None) (a
             ap (λ (l : List ℕ). ending_fault (f.at + length l) run.ending) kept
             ∙ ap (λ (n : ℕ). ending_fault n run.ending) (add-zero f.at)
             ∙ silent_is f.steps.seen f.at f.end f.ahead f.steps.stage;
-        first = first_is ∙ ap (λ (l : List ℕ). outside_of f.steps.uncompiled (sections_of (begun_section f.steps.stage (at_bytes f.at f.end l)))) kept ∙ none_begun f.steps.stage;
       }
-    where
-      none_begun : (stage : Stage) → outside_of f.steps.uncompiled (sections_of (begun_section stage (at_bytes f.at f.end []))) ≡ outside_of f.steps.uncompiled []
-      none_begun Preamble = refl
-      none_begun Between = refl
-      none_begun (Contents id) = refl
-      none_begun (Entries id n) = refl

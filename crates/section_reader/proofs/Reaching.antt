@@ -6,7 +6,6 @@ use Rattle.wasm_defs.specs.declared.fault.Refusal.{Refusal}
 use Rattle.wasm_defs.specs.declared.item.Item.{Item}
 use Rattle.wasm_defs.specs.Fields.{Cursor}
 use Rattle.wasm_defs.specs.Entries.{Seen}
-use Rattle.wasm_defs.specs.Faults.{sections_of}
 use Rattle.wasm_defs.specs.Outside.{Refused, Owed, Run, ends}
 use Rattle.wasm_laws.specs.Steadiness.{with_more}
 use Rattle.leb_feed.specs.declared.stop.Stop.TheVariants as stop
@@ -18,10 +17,10 @@ use Rattle.section_reader.specs.declared.front.Front.{Front}
 use Rattle.section_reader.specs.declared.stage.Stage.TheVariants.{Preamble, Between, Contents, Entries}
 use Rattle.section_reader.specs.Counts.{IsWithin, IsSound}
 use Rattle.section_reader.specs.Stages.{proceed, prepend, between, unfinished, is_owing, is_at_bodies, IsOwed, Passed, Leads, IsSameButLast}
-use Rattle.section_reader.specs.Onward.{begun_section, first_begun, outside_of, after_parts, HaltsOnward, IsOrdered}
+use Rattle.section_reader.specs.Onward.{begun_section, after_parts, HaltsOnward, IsOrdered}
 use Rattle.section_reader.specs.Stepped.{Goes, GoesOnward, Stepped, Reached, Reaches, RefusedOnward, Tells}
 use Rattle.section_reader.specs.FrontLeft.{left, from_there, cursor_of, Fed, IsRefused}
-use Rattle.section_reader.proofs.Telling.{first_then, first_begun_is, sections_append, sections_of_append, after_append, begun_is_section}
+use Rattle.section_reader.proofs.Telling.{sections_append, after_append, begun_is_section}
 use Rattle.section_reader.proofs.Going.{passed_then}
 
 -- ---- steps in a row
@@ -37,7 +36,6 @@ told_then old mid new a c e x h k = record {
   told = h.told ++ k.told;
   sections = sections_append h.told k.told h.sections k.sections;
   run = λ more. h.run more ∙ ap (after_parts h.told) (k.run more) ∙ sym (after_append h.told k.told _);
-  first = first_then old.uncompiled mid.uncompiled new.uncompiled (sections_of h.told) (sections_of k.told) h.first k.first ∙ sym (ap (outside_of old.uncompiled) (sections_of_append h.told k.told));
 }
 
 tells_then : (old mid new : Steps) (a c e : Cursor) (x : Option Item) → GoesOnward old a None mid c → GoesOnward mid c x new e → GoesOnward old a x new e
@@ -62,7 +60,7 @@ begins old a sound = record {
   sound = sound;
   passed = record { taken = []; parts = refl; at = omega arith };
   same = refl;
-  tells = λ o. record { tells = λ _. record { told = []; sections = tt; run = λ more. refl; first = refl }; apart = λ apart _. apart; ordered = o; behind = tt };
+  tells = λ o. record { tells = λ _. record { told = []; sections = tt; run = λ more. refl }; apart = λ apart _. apart; ordered = o; behind = tt };
 }
 
 pub goes_on : (old mid new : Steps) (a c d : Cursor) → StillGoing old a mid c → Goes mid c None new d → StillGoing old a new d
@@ -88,7 +86,7 @@ reaches_item old mid new a c d x s g = record {
 -- refused where reading stands
 refused_onward : (old mid : Steps) (a c : Cursor) (r : Refusal) → StillGoing old a mid c
     → (IsOrdered mid.stage mid.seen → is_at_bodies mid.stage ≡ false → HaltsOnward mid.stage mid.seen c (stop.Refused r))
-    → IsOrdered old.stage old.seen → is_at_bodies old.stage ≡ false → RefusedOnward old a r mid c
+    → IsOrdered old.stage old.seen → is_at_bodies old.stage ≡ false → RefusedOnward old a r
 refused_onward old mid a c r s k o apart =
     let g = s.tells o in
     let t = g.tells apart in
@@ -97,9 +95,6 @@ refused_onward old mid a c r s k o apart =
       told = t.told ++ next;
       sections = sections_append t.told next t.sections (begun_is_section mid.stage c);
       run = λ more. t.run more ∙ ap (after_parts t.told) (k g.ordered (g.apart apart refl) more) ∙ sym (after_append t.told next _);
-      first =
-          first_then old.uncompiled mid.uncompiled (first_begun mid.stage mid.uncompiled c.at c.rest) (sections_of t.told) (sections_of next) t.first (first_begun_is mid.stage mid.uncompiled c)
-          ∙ sym (ap (outside_of old.uncompiled) (sections_of_append t.told next));
     }
 
 pub reaches_refusal : (old mid new : Steps) (a c d : Cursor) (r : Refusal) → StillGoing old a mid c → Stepped mid c (Err (stop.Refused r)) new d → Reaches old a (Err (front.Refused r)) new d
@@ -179,12 +174,12 @@ module _ (old : Front) (bytes all : List ℕ) (waiting : old.waiting ≡ None) (
 
 -- ---- as it was
 
-pub restored : (old new back : Steps) (mark : Mark) → mark ≡ record { stage = old.stage; last = old.seen.last; uncompiled = old.uncompiled } → IsSameButLast old.seen new.seen
-    → back ≡ record { stage = mark.stage; seen = record new.seen { last = mark.last }; uncompiled = mark.uncompiled } → back ≡ old
+pub restored : (old new back : Steps) (mark : Mark) → mark ≡ record { stage = old.stage; last = old.seen.last } → IsSameButLast old.seen new.seen
+    → back ≡ record { stage = mark.stage; seen = record new.seen { last = mark.last } } → back ≡ old
 restored old new back mark e h is =
     is
-    ∙ ap (λ (m : Mark). record { stage = m.stage; seen = record new.seen { last = m.last }; uncompiled = m.uncompiled }) e
-    ∙ ap (λ (s : Seen). record { stage = old.stage; seen = s; uncompiled = old.uncompiled }) h
+    ∙ ap (λ (m : Mark). record { stage = m.stage; seen = record new.seen { last = m.last } }) e
+    ∙ ap (λ (s : Seen). record { stage = old.stage; seen = s }) h
 
 pub left_same : (f : Front) (steps : Steps) → steps ≡ f.steps → (more : List ℕ) → prepend f.waiting (from_there f.refusal (proceed steps.stage steps.seen (with_more (cursor_of f) more))) ≡ left f more
 left_same f steps e more = ap (λ (s : Steps). prepend f.waiting (from_there f.refusal (proceed s.stage s.seen (with_more (cursor_of f) more)))) e

@@ -1,20 +1,13 @@
 -- What each step of reading tells of the module, and where it halts.
-use Rattle.std.proofs.Common.{◌≡◌, ◌≢◌, ℕ, zero, suc, ◌+◌, ◌-◌, if◌then◌else◌, ◌<◌, ◌≤◌, Bool, true, false, eqb, ltb, leb, List, [], ◌∷◌, ◌++◌, length, take, Option, Some, None, refl, sym, ap, subst, ◌∙◌, arith, inl, inr, ◌⊎◌}
+use Rattle.std.proofs.Common.{◌≡◌, ◌≢◌, ℕ, suc, ◌+◌, ◌-◌, if◌then◌else◌, ◌<◌, ◌≤◌, Bool, true, false, eqb, List, [], ◌∷◌, ◌++◌, length, refl, sym, ap, ◌∙◌, arith, inl, inr, ◌⊎◌}
 use Rattle.std.proofs.lemmas.Bool.{cases_Bool, cases_eq, eq-eqb, ne_eqb, lt-leb, eqb-true}
 use Rattle.wasm_defs.specs.declared.fault.Kind.TheVariants.{Malformed}
-use Rattle.wasm_defs.specs.declared.fault.Refusal.{Refusal}
 use Rattle.wasm_defs.specs.declared.item.Item.{Item}
 use Rattle.wasm_defs.specs.declared.item.Item.TheVariants as item
-use Rattle.wasm_defs.specs.Limits.{max_module}
-use Rattle.wasm_defs.specs.Fields.{Cursor, Read, Got, Fault, Wants, Reader, then_go, ◌>>=◌, done, refused, room_of, past, first_of, byte, u32, here, stop}
+use Rattle.wasm_defs.specs.Fields.{Cursor, Read, Got, Fault, Wants, Reader, then_go, ◌>>=◌, done, refused, room_of, past, u32, stop}
 use Rattle.wasm_defs.specs.Entries.{Seen, note, function, code}
-use Rattle.wasm_defs.specs.Faults.{first_outside, unsupported_at, sections_of}
-use Rattle.wasm_defs.specs.Supported.{is_compiled_section}
-use Rattle.wasm_defs.specs.Outside.{Part, Section, Listed, Coded, Nothing, listed, Row, row, is_misplaced, Run, ends, Refused, after_part, runs_on, preamble, header, entered, noted, inside, contents, entries, sections, or_section, section_end}
+use Rattle.wasm_defs.specs.Outside.{Part, Section, Listed, Coded, Nothing, listed, Row, row, Run, ends, Refused, after_part, runs_on, preamble, header, entered, noted, inside, contents, entries, sections, or_section, section_end}
 use Rattle.wasm_laws.specs.Steadiness.{with_more, IfGot}
-use Rattle.wasm_laws.proofs.Steady.{always}
-use Rattle.wasm_laws.proofs.Parts.{then_got}
-use Rattle.wasm_laws.proofs.Windows.{cut_got}
 use Rattle.wasm_laws.proofs.Headers.{Follows, header_tells, entered_as}
 use Rattle.wasm_laws.proofs.Sorts.{IsPlain, IsFunction, IsItem, listed_yields, function_yields, row_is_plain, notes, plain_keeps}
 use Rattle.wasm_laws.proofs.EntryLaws.{header_steady, preamble_steady}
@@ -26,52 +19,10 @@ use Rattle.section_reader.specs.declared.stage.Stage.{Stage}
 use Rattle.section_reader.specs.declared.stage.Stage.TheVariants.{Preamble, Between, Contents, Entries}
 use Rattle.section_reader.specs.Outline.{outline_row}
 use Rattle.section_reader.specs.Stages.{passes, between, is_at_bodies}
-use Rattle.section_reader.specs.Onward.{entries_owed, onward, after_parts, AreSections, outside_of, first_with, first_with_next, first_begun, begun_section, next_part, HaltsOnward, IsOrdered, IsBehind, is_count}
+use Rattle.section_reader.specs.Onward.{entries_owed, onward, after_parts, AreSections, begun_section, next_part, HaltsOnward, IsOrdered, IsBehind, is_count}
 use Rattle.section_reader.proofs.Runs.{sections_are}
 use Rattle.section_reader.proofs.OutlineRuns.{outline_steady, passed_over}
 use Rattle.section_reader.proofs.Leading.{more_got, more_refused, runs_refused, runs_owed, at_bytes, over_if, rest_is, passed_same}
-
--- ---- the first section that isn't compiled
-
-outside_none : (xs ys : List (ℕ × ℕ)) → first_outside is_compiled_section xs ≡ None → first_outside is_compiled_section (xs ++ ys) ≡ first_outside is_compiled_section ys
-outside_none [] ys e = refl
-outside_none (x ∷ xs) ys e =
-    elim (cases_Bool (is_compiled_section x.1)) [
-      | inl compiled ↦ let t : first_outside is_compiled_section xs ≡ None = rw compiled at e in rw compiled (outside_none xs ys t)
-      | inr other ↦ absurd (let t = rw other at e in cc)
-    ]
-
-outside_some : (xs ys : List (ℕ × ℕ)) (r : Refusal) → first_outside is_compiled_section xs ≡ Some r → first_outside is_compiled_section (xs ++ ys) ≡ Some r
-outside_some [] ys r e = absurd cc
-outside_some (x ∷ xs) ys r e =
-    elim (cases_Bool (is_compiled_section x.1)) [
-      | inl compiled ↦ let t : first_outside is_compiled_section xs ≡ Some r = rw compiled at e in rw compiled (outside_some xs ys r t)
-      | inr other ↦ let t : Some (unsupported_at x.0) ≡ Some r = rw other at e in rw other t
-    ]
-
-pub first_then : (a b c : Option ℕ) (xs ys : List (ℕ × ℕ)) → outside_of b [] ≡ outside_of a xs → outside_of c [] ≡ outside_of b ys → outside_of c [] ≡ outside_of a (xs ++ ys)
-first_then (Some at) (Some first) c xs ys h k = k ∙ h
-first_then (Some at) None c xs ys h k = absurd cc
-first_then None (Some first) c xs ys h k = k ∙ sym (outside_some xs ys (unsupported_at first) (sym h))
-first_then None None c xs ys h k = k ∙ sym (outside_none xs ys (sym h))
-
-pub first_with_is : (first : Option ℕ) (at id : ℕ) → outside_of (first_with first at id) [] ≡ outside_of first ((at, id) ∷ [])
-first_with_is (Some n) at id = refl
-first_with_is None at id =
-    elim (cases_Bool (is_compiled_section id)) [
-      | inl compiled ↦ rw compiled refl
-      | inr other ↦ rw other refl
-    ]
-
-first_next_is : (first : Option ℕ) (at : ℕ) (bytes : List ℕ) → outside_of (first_with_next first at bytes) [] ≡ outside_of first (sections_of (next_part at bytes))
-first_next_is first at [] = refl
-first_next_is first at (b ∷ bytes) = first_with_is first at b
-
-pub first_begun_is : (stage : Stage) (first : Option ℕ) (c : Cursor) → outside_of (first_begun stage first c.at c.rest) [] ≡ outside_of first (sections_of (begun_section stage c))
-first_begun_is Preamble first c = refl
-first_begun_is Between first c = first_next_is first c.at c.rest
-first_begun_is (Contents id) first c = refl
-first_begun_is (Entries id n) first c = refl
 
 -- ---- sections that are told
 
@@ -80,12 +31,6 @@ sections_append [] ys h k = k
 sections_append (Section at id ∷ xs) ys h k = sections_append xs ys h k
 sections_append (Listed x ∷ xs) ys h k = absurd h
 sections_append (Coded b ∷ xs) ys h k = absurd h
-
-pub sections_of_append : (xs ys : List Part) → sections_of (xs ++ ys) ≡ sections_of xs ++ sections_of ys
-sections_of_append [] ys = refl
-sections_of_append (Section at id ∷ xs) ys = ap (λ (l : List (ℕ × ℕ)). (at, id) ∷ l) (sections_of_append xs ys)
-sections_of_append (Listed x ∷ xs) ys = sections_of_append xs ys
-sections_of_append (Coded b ∷ xs) ys = sections_of_append xs ys
 
 pub after_append : (xs ys : List Part) (r : Run) → after_parts (xs ++ ys) r ≡ after_parts xs (after_parts ys r)
 after_append [] ys r = refl
@@ -107,36 +52,6 @@ got_is : {A : Type 0} (P : A → Cursor → Type 0) (r : Read A) (x : A) (d : Cu
 got_is P (Got y f) x d e h = let a : y ≡ x = cc in let b : f ≡ d = cc in rw (← a, ← b) h
 got_is P (Fault r) x d e h = absurd cc
 got_is P Wants x d e h = absurd cc
-
--- a header's id is the first byte
-byte_is : (c : Cursor) (b : ℕ) (bytes : List ℕ) → c.rest ≡ b ∷ bytes → IfGot (λ x d. x.1 ≡ b) (byte c)
-unfolding byte
-byte_is c b bytes some = subst (λ (l : List ℕ). IfGot (λ x d. x.1 ≡ b) (first_of c (take (room_of c) l))) (sym some) (of_room (room_of c))
-  where
-    of_room : (room : ℕ) → IfGot (λ x d. x.1 ≡ b) (first_of c (take room (b ∷ bytes)))
-    of_room zero = cut_got _ _ c
-    of_room (suc room) = refl
-
-id_is : (seen : Seen) (c : Cursor) (b : ℕ) (bytes : List ℕ) → c.rest ≡ b ∷ bytes → IfGot (λ h d. h.0 ≡ b) (header seen c)
-unfolding header here
-id_is seen c b bytes some =
-    then_got (λ x d. x.1 ≡ b) (λ h d. h.0 ≡ b) (byte c) _ (byte_is c b bytes some)
-    (λ x d same.
-    elim (cases_Bool (is_misplaced seen x.1)) [
-      | inl wrong ↦ rw wrong tt
-      | inr right ↦ rw right (elim (cases_Bool (eqb x.1 12)) [
-        | inl left_out ↦ rw left_out tt
-        | inr known ↦ rw known (elim (cases_Bool (leb max_module x.0)) [
-          | inl late ↦ rw late tt
-          | inr early ↦ rw early (then_got (λ n e. Unit {0}) (λ h d. h.0 ≡ b) (u32 d) _ (always (u32 d))
-              (λ n e t.
-              elim (cases_Bool (ltb max_module (e.at + n.1))) [
-                | inl over ↦ rw over tt
-                | inr fits ↦ rw fits same
-              ]))
-        ])
-      ])
-    ])
 
 -- the code section's count: it is that of the declared functions, and its item says where the section ends
 pub record CodeRead (seen : Seen) (x : Part) (d : Cursor) : Type 0 where
@@ -258,9 +173,6 @@ module _ (seen : Seen) (c d : Cursor) where
       sections_are seen (with_more c more)
       ∙ ap (λ (l : List ℕ). or_section sections seen (with_more c more) (l ++ more)) some
       ∙ ap (λ (r : Read (ℕ × ℕ)). after_part (Section c.at b) (runs_on r (λ k f. contents (row k.0) sections (entered seen k.0) (inside f k.1)))) (more_got (header seen) (header_steady [] seen).by c d h e more)
-
-  pub header_id : (h : ℕ × ℕ) (b : ℕ) (bytes : List ℕ) → c.rest ≡ b ∷ bytes → header seen c ≡ Got h d → h.0 ≡ b
-  header_id h b bytes some e = got_is (λ k f. k.0 ≡ b) (header seen c) h d e (id_is seen c b bytes some)
 
   pub header_ordered : (h : ℕ × ℕ) → header seen c ≡ Got h d → IsOrdered Between seen → IsOrdered (Contents h.0) (entered seen h.0)
   header_ordered h e o = ordered_entered seen h.0 (got_is (λ k f. Follows seen k.0) (header seen c) h d e (header_tells seen c)) o

@@ -1,34 +1,21 @@
 -- What a push reader has left to tell of the module, its sections and bodies too (WebAssembly Core 1.0, 5.5).
-use Rattle.std.specs.Prelude.{◌≡◌, ℕ, ◌+◌, ◌≤◌, true, false, List, [], ◌++◌, drop, is_some, Option, None, Result, Ok, Err, if◌then◌else◌}
+use Rattle.std.specs.Prelude.{◌≡◌, ℕ, ◌+◌, ◌≤◌, true, false, List, [], ◌++◌, drop, Option, None, Result, Ok, Err}
 use Rattle.wasm_defs.specs.declared.fault.Refusal.{Refusal}
 use Rattle.wasm_defs.specs.declared.item.Item.{Item}
 use Rattle.wasm_defs.specs.declared.item.Item.TheVariants.{Code}
-use Rattle.wasm_defs.specs.Faults.{ending_fault, sections_of}
+use Rattle.wasm_defs.specs.Faults.{ending_fault}
 use Rattle.wasm_defs.specs.Outside.{Part, Ending, Refused, Run, ends, row, entries, sections}
 use Rattle.wasm_laws.specs.Steadiness.{with_more}
 use Rattle.wasm_defs.specs.declared.front_stop.FrontStop.{FrontStop}
 use Rattle.wasm_defs.specs.declared.front_stop.FrontStop.TheVariants as stop
 use Rattle.section_reader.specs.declared.front.Front.{Front}
 use Rattle.section_reader.specs.Stages.{prepend, is_at_bodies}
-use Rattle.section_reader.specs.Onward.{onward, after_parts, AreSections, outside_of, first_begun}
+use Rattle.section_reader.specs.Onward.{onward, after_parts, AreSections}
 use Rattle.section_reader.specs.FrontLeft.{from_there, cursor_of, total, can_skip}
 
 -- what is left of the module, where these bytes come next: its sections and bodies too
 abbrev pub onward_left : Front → List ℕ → Run
 onward_left f more = prepend f.waiting (from_there f.refusal (onward f.steps.stage f.steps.seen (with_more (cursor_of f) more)))
-
--- the offset of the id of the first section that was begun and isn't compiled: where none was met whose header is read, that of the next
--- id, if it came. A refusal knows all ids before it
-abbrev pub begun : Front → Option ℕ
-begun f = if is_some f.refusal then f.steps.uncompiled else first_begun f.steps.stage f.steps.uncompiled f.at f.kept.items
-
--- whatever bytes come next, the sections are told that have begun
-pub record IsBegun (f : Front) : Type 0 where
-  pub told : List Part
-  pub sections : AreSections told
-  pub later : List ℕ → Run
-  pub run : (more : List ℕ) → onward_left f more ≡ after_parts told (later more)
-  pub first : outside_of (begun f) [] ≡ outside_of f.steps.uncompiled (sections_of told)
 
 -- ---- what was fed
 
@@ -37,7 +24,6 @@ pub record Told (old : Front) (bytes : List ℕ) (taken : ℕ) (new : Front) : T
   pub told : List Part
   pub sections : AreSections told
   pub run : (more : List ℕ) → onward_left old (bytes ++ more) ≡ after_parts told (onward_left new (drop taken bytes ++ more))
-  pub first : outside_of new.steps.uncompiled [] ≡ outside_of old.steps.uncompiled (sections_of told)
 
 -- so many bytes were taken; the bodies don't come next, unless an item waits that says so
 pub record FedOnward (old : Front) (bytes : List ℕ) (taken : ℕ) (new : Front) : Type 0 where
@@ -51,7 +37,6 @@ pub record ToldRefused (old : Front) (bytes : List ℕ) (r : Refusal) (new : Fro
   pub told : List Part
   pub sections : AreSections told
   pub run : (more : List ℕ) → onward_left old (bytes ++ more) ≡ after_parts told (ends (Refused r))
-  pub first : outside_of (begun new) [] ≡ outside_of old.steps.uncompiled (sections_of told)
   pub stays : (more : List ℕ) → onward_left new more ≡ ends (Refused r)
 
 -- what is left is as it was
@@ -59,7 +44,6 @@ pub record IsAsItWas (old new : Front) : Type 0 where
   pub run : (more : List ℕ) → onward_left new more ≡ onward_left old more
   pub steps : new.steps ≡ old.steps
   pub total : total new ≡ total old
-  pub begun : begun new ≡ begun old
   pub waiting : new.waiting ≡ old.waiting
 
 abbrev pub FeedsOnward : Front → List ℕ → Result ℕ FrontStop → Front → Type 0
@@ -91,4 +75,3 @@ pub record EndsOnward (f : Front) (answer : Option Refusal) : Type 0 where
   pub ending : Ending
   pub run : onward_left f [] ≡ after_parts told (ends ending)
   pub fault : ending_fault (total f) ending ≡ answer
-  pub first : outside_of (begun f) [] ≡ outside_of f.steps.uncompiled (sections_of told)

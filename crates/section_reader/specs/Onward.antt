@@ -1,13 +1,10 @@
 -- What is read of the module from a stage on, its sections and bodies too (WebAssembly Core 1.0, 5.5).
-use Rattle.std.specs.Prelude.{◌≡◌, ◌<◌, ◌≤◌, ℕ, ◌+◌, Bool, true, false, ◌==◌, List, [], ◌∷◌, length, Option, Some, None, if◌then◌else◌}
-use Rattle.wasm_defs.specs.declared.fault.Refusal.{Refusal}
+use Rattle.std.specs.Prelude.{◌≡◌, ◌<◌, ◌≤◌, ℕ, ◌+◌, Bool, true, false, ◌==◌, List, [], ◌∷◌, length, if◌then◌else◌}
 use Rattle.wasm_defs.specs.declared.item.Item.{Item}
 use Rattle.wasm_defs.specs.declared.item.Item.TheVariants.{Code}
 use Rattle.wasm_defs.specs.Fields.{Cursor}
 use Rattle.wasm_defs.specs.Entries.{Seen}
-use Rattle.wasm_defs.specs.Faults.{first_outside, unsupported_at}
 use Rattle.wasm_defs.specs.Outside.{Part, Section, Listed, Coded, Ending, Run, Refused, ends, Next, after_part, runs_on, preamble, row, entries, contents, sections}
-use Rattle.wasm_defs.specs.Supported.{is_compiled_section}
 use Rattle.wasm_laws.specs.Steadiness.{with_more}
 use Rattle.leb_feed.specs.declared.stop.Stop.{Stop}
 use Rattle.leb_feed.specs.declared.stop.Stop.TheVariants as stop
@@ -37,29 +34,6 @@ AreSections [] = Unit {0}
 AreSections (Section at id ∷ parts) = AreSections parts
 AreSections (Listed x ∷ parts) = ⊥
 AreSections (Coded b ∷ parts) = ⊥
-
--- ---- sections that aren't compiled
-
--- the first section that isn't compiled, by the offset of its id, among those that were met before and these
-abbrev pub outside_of : Option ℕ → List (ℕ × ℕ) → Option Refusal
-outside_of (Some at) later = Some (unsupported_at at)
-outside_of None later = first_outside is_compiled_section later
-
--- the first one, where one more section is met
-abbrev pub first_with : Option ℕ → (at id : ℕ) → Option ℕ
-first_with (Some first) at id = Some first
-first_with None at id = if is_compiled_section id then None else Some at
-
-abbrev pub first_with_next : Option ℕ → (at : ℕ) → List ℕ → Option ℕ
-first_with_next first at [] = first
-first_with_next first at (b ∷ bytes) = first_with first at b
-
--- the first one, where these bytes come next: with the section whose id is the first of them
-abbrev pub first_begun : Stage → Option ℕ → (at : ℕ) → List ℕ → Option ℕ
-first_begun Preamble first at bytes = first
-first_begun Between first at bytes = first_with_next first at bytes
-first_begun (Contents id) first at bytes = first
-first_begun (Entries id n) first at bytes = first
 
 -- ---- where reading stops
 

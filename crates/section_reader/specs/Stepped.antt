@@ -1,9 +1,8 @@
 -- What a step does, and what steps up to an item do.
-use Rattle.std.specs.Prelude.{◌≡◌, ◌<◌, ℕ, false, List, [], Option, None, IfSome, Result, Ok, Err}
+use Rattle.std.specs.Prelude.{◌≡◌, ◌<◌, ℕ, false, List, Option, None, IfSome, Result, Ok, Err}
 use Rattle.wasm_defs.specs.declared.fault.Refusal.{Refusal}
 use Rattle.wasm_defs.specs.declared.item.Item.{Item}
 use Rattle.wasm_defs.specs.Fields.{Cursor}
-use Rattle.wasm_defs.specs.Faults.{sections_of}
 use Rattle.wasm_defs.specs.Outside.{Part, Refused, ends}
 use Rattle.wasm_laws.specs.Steadiness.{with_more}
 use Rattle.leb_feed.specs.declared.stop.Stop.{Stop}
@@ -12,14 +11,13 @@ use Rattle.wasm_defs.specs.declared.front_stop.FrontStop.TheVariants as front
 use Rattle.section_reader.specs.declared.steps.Steps.{Steps}
 use Rattle.section_reader.specs.Counts.{IsSound}
 use Rattle.section_reader.specs.Stages.{proceed, prepend, unfinished, is_at_bodies, Passed, Leads, work_left, Halts, IsSameButLast}
-use Rattle.section_reader.specs.Onward.{onward, after_parts, AreSections, outside_of, first_begun, stalled, HaltsOnward, IsOrdered, IsBehind}
+use Rattle.section_reader.specs.Onward.{onward, after_parts, AreSections, stalled, HaltsOnward, IsOrdered, IsBehind}
 
 -- what a step tells of the module: some sections, and an item, if there is one
 pub record Tells (old : Steps) (c : Cursor) (item : Option Item) (new : Steps) (d : Cursor) : Type 0 where
   pub told : List Part
   pub sections : AreSections told
   pub run : (more : List ℕ) → onward old.stage old.seen (with_more c more) ≡ after_parts told (prepend item (onward new.stage new.seen (with_more d more)))
-  pub first : outside_of new.uncompiled [] ≡ outside_of old.uncompiled (sections_of told)
 
 -- outside the bodies it is told so; and the code section's count alone leads to the bodies
 pub record GoesOnward (old : Steps) (c : Cursor) (item : Option Item) (new : Steps) (d : Cursor) : Type 0 where
@@ -28,12 +26,11 @@ pub record GoesOnward (old : Steps) (c : Cursor) (item : Option Item) (new : Ste
   pub ordered : IsOrdered new.stage new.seen
   pub behind : IfSome item (λ x. IsBehind x new.stage new.seen d.end)
 
--- some sections are told, and then it is refused: the last one told is that whose id comes next, if it is there
-pub record RefusedOnward (old : Steps) (c : Cursor) (r : Refusal) (new : Steps) (d : Cursor) : Type 0 where
+-- some sections are told, and then it is refused
+pub record RefusedOnward (old : Steps) (c : Cursor) (r : Refusal) : Type 0 where
   pub told : List Part
   pub sections : AreSections told
   pub run : (more : List ℕ) → onward old.stage old.seen (with_more c more) ≡ after_parts told (ends (Refused r))
-  pub first : outside_of (first_begun new.stage new.uncompiled d.at d.rest) [] ≡ outside_of old.uncompiled (sections_of told)
 
 pub record Goes (old : Steps) (c : Cursor) (item : Option Item) (new : Steps) (d : Cursor) : Type 0 where
   pub leads : Leads old.stage old.seen c item new.stage new.seen d
@@ -60,5 +57,5 @@ pub record Reached (old : Steps) (c : Cursor) (item : Option Item) (new : Steps)
 
 abbrev pub Reaches : Steps → Cursor → Result (Option Item) FrontStop → Steps → Cursor → Type 0
 Reaches old c (Ok item) new d = Reached old c item new d
-Reaches old c (Err (front.Refused r)) new d = ((more : List ℕ) → proceed old.stage old.seen (with_more c more) ≡ ends (Refused r)) × IsSameButLast old.seen new.seen × (IsOrdered old.stage old.seen → is_at_bodies old.stage ≡ false → RefusedOnward old c r new d)
+Reaches old c (Err (front.Refused r)) new d = ((more : List ℕ) → proceed old.stage old.seen (with_more c more) ≡ ends (Refused r)) × IsSameButLast old.seen new.seen × (IsOrdered old.stage old.seen → is_at_bodies old.stage ≡ false → RefusedOnward old c r)
 Reaches old c (Err front.NoMemory) new d = IsSameButLast old.seen new.seen

@@ -53,7 +53,7 @@ pub struct Front {
 
 impl Front {
     ghost use Rattle.section_reader.specs.FrontLeft.{left, total, refusal_of, can_skip, Feeds};
-    ghost use Rattle.section_reader.specs.FrontOnward.{onward_left, begun, IsBegun, Follows, FeedsOnward, EndsOnward};
+    ghost use Rattle.section_reader.specs.FrontOnward.{onward_left, Follows, FeedsOnward, EndsOnward};
     ghost use Rattle.section_reader.specs.Keeps.{Keeps};
 
     /// Reads from a module's first byte on. Memory is taken from `alloc`.
@@ -63,14 +63,12 @@ impl Front {
         ensures onward { (more : List ℕ) → onward_left result more ≡ module_read more }
         ensures total { total result ≡ 0 }
         ensures apart { is_at_bodies result.steps.stage ≡ false }
-        ensures uncompiled { result.steps.uncompiled ≡ None }
     {
         Front {
             alloc,
             steps: Steps {
                 stage: Stage::Preamble,
                 seen: Seen::new(alloc),
-                uncompiled: None,
             },
             at: 0,
             end: u64::MAX,
@@ -97,21 +95,9 @@ impl Front {
         ensures follows { IfSome result (λ x. self.old.refusal ≡ None → Follows x self.new) }
         ensures steps { self.new.steps ≡ self.old.steps }
         ensures total { total self.new ≡ total self.old }
-        ensures begun { begun self.new ≡ begun self.old }
         ensures refusal { self.new.refusal ≡ self.old.refusal }
     {
         self.waiting.take()
-    }
-
-    /// The offset of the id of the first section that has begun and isn't compiled so far.
-    pub fn uncompiled(&self) -> Option<u64>
-        ensures value { result ≡ begun self.now }
-        ensures told { IsBegun self.now }
-    {
-        if self.refusal.is_some() {
-            return self.steps.uncompiled;
-        }
-        self.steps.begun(self.at, &self.kept)
     }
 
     /// Takes the next bytes: all of them, or those up to the end of an item that is waiting then, and none while one waits.
@@ -189,7 +175,7 @@ impl Front {
         ensures answer { refusal_of result ≡ ending_fault (total self.old) (left self.old []).ending }
         ensures onward { is_at_bodies self.old.steps.stage ≡ false → self.old.waiting ≡ None → EndsOnward self.old (refusal_of result) }
         ensures refusal { self.new.refusal ≡ refusal_of result }
-        ensures same { (total self.new ≡ total self.old) × (begun self.new ≡ begun self.old) × (self.new.waiting ≡ self.old.waiting) }
+        ensures same { (total self.new ≡ total self.old) × (self.new.waiting ≡ self.old.waiting) }
         ensures unchanged { OnOk result (self.new ≡ self.old) }
         ensures again { IfSome self.old.refusal (λ r. (result ≡ Err r) × (self.new ≡ self.old)) }
     {
@@ -198,7 +184,6 @@ impl Front {
         }
         match self.ending() {
             Some(refusal) => {
-                self.steps.uncompiled = self.uncompiled();
                 self.refusal = Some(refusal);
                 Err(refusal)
             }
@@ -240,7 +225,6 @@ impl Front {
         ensures same { (bytes more : List ℕ) → total self.old + length bytes ≡ end → left self.old (bytes ++ more) ≡ left self.new more }
         ensures onward { (more : List ℕ) → onward_left self.new more ≡ sections self.old.steps.seen (record { at = end; rest = more; end = no_end }) }
         ensures stage { self.new.steps.stage ≡ Stage.Between }
-        ensures uncompiled { self.new.steps.uncompiled ≡ self.old.steps.uncompiled }
         ensures total { total self.new ≡ end }
         ensures idle { self.new.waiting ≡ None }
     {
@@ -296,7 +280,7 @@ impl Front {
                 }
             },
             Err(FrontStop::Refused(refusal)) => {
-                self.steps.refuse(mark, &fields);
+                self.steps.return_to(mark);
                 self.refusal = Some(refusal);
                 Err(FrontStop::Refused(refusal))
             }

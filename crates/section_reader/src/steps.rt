@@ -4,7 +4,6 @@ ghost use Rattle.std.specs.Prelude.{◌≡◌, ◌<◌, ◌≤◌, ℕ, length, 
 ghost use Rattle.leb_feed.specs.Reads.{NeedsNoMemory};
 ghost use Rattle.section_reader.specs.Counts.{IsSound};
 ghost use Rattle.section_reader.specs.Near.{IsNear};
-ghost use Rattle.section_reader.specs.Onward.{first_with, first_with_next, first_begun};
 ghost use Rattle.section_reader.specs.Stages.{passes, cut_there, code_due, silent, is_at_bodies};
 ghost use Rattle.section_reader.specs.Stepped.{Stepped, Reaches};
 ghost use Rattle.section_reader.specs.Waits.{IsFree, IsPlaced};
@@ -18,24 +17,20 @@ use crate::stage::Stage;
 use crate::wait::Wait;
 use leb_feed::{Fields, Stop};
 use std::alloc::Global;
-use wasm_defs::{FrontStop, Item, Kind, Refusal, is_compiled_section};
+use wasm_defs::{FrontStop, Item, Kind, Refusal};
 
 /// How far reading came: where it stands, and what was seen.
 #[derive(Drop)]
 pub struct Steps {
     pub stage: Stage,
     pub seen: Seen,
-    /// The offset of the id of the first section that isn't compiled, among those whose header was read, and after a refusal
-    /// among those that have begun.
-    pub uncompiled: Option<u64>,
 }
 
-/// Where steps stood, the last section before, and the first one that isn't compiled.
+/// Where steps stood, and the last section before.
 #[derive(Clone, Copy, Debug, PartialEq, Eq)]
 pub struct Mark {
     stage: Stage,
     last: u8,
-    uncompiled: Option<u64>,
 }
 
 impl Steps {
@@ -64,22 +59,11 @@ impl Steps {
 
     /// Where it stands.
     pub fn mark(&self) -> Mark
-        ensures { result ≡ record { stage = self.now.stage; last = self.now.seen.last; uncompiled = self.now.uncompiled } }
+        ensures { result ≡ record { stage = self.now.stage; last = self.now.seen.last } }
     {
         Mark {
             stage: self.stage,
             last: self.seen.last,
-            uncompiled: self.uncompiled,
-        }
-    }
-
-    /// The offset of the id of the first section that has begun and isn't compiled, where these bytes come next.
-    pub fn begun(&self, at: u64, bytes: &[u8]) -> Option<u64>
-        ensures { result ≡ first_begun self.now.stage self.now.uncompiled at bytes.now }
-    {
-        match self.stage {
-            Stage::Between => with_next(self.uncompiled, at, bytes),
-            _ => self.uncompiled,
         }
     }
 
@@ -136,20 +120,10 @@ impl Steps {
 
     /// Stands again where it stood, with no items more.
     pub fn return_to(&mut self, mark: Mark)
-        ensures { self.new ≡ record { stage = mark.stage; seen = record self.old.seen { last = mark.last }; uncompiled = mark.uncompiled } }
+        ensures { self.new ≡ record { stage = mark.stage; seen = record self.old.seen { last = mark.last } } }
     {
         self.stage = mark.stage;
         self.seen.last = mark.last;
-        self.uncompiled = mark.uncompiled;
-    }
-
-    /// The same, where what comes next is refused: of the sections that aren't compiled the first one that has begun is kept.
-    pub fn refuse(&mut self, mark: Mark, fields: &Fields<'_>)
-        ensures { self.new ≡ record { stage = mark.stage; seen = record self.old.seen { last = mark.last }; uncompiled = first_begun self.old.stage self.old.uncompiled fields.now.at fields.now.rest } }
-    {
-        let uncompiled = self.begun(fields.offset(), fields.rest());
-        self.return_to(mark);
-        self.uncompiled = uncompiled;
     }
 
     /// Reads one item, or up to the next stage. Where reading stops, all is as it was.
@@ -210,12 +184,10 @@ impl Steps {
             return Err(Stop::Wants);
         }
         let mut next = fields.fork();
-        let at = fields.offset();
         let (id, end) = header(&mut next, &self.seen)?;
         next.enter(end);
         *fields = next;
         self.seen.enter(id);
-        self.uncompiled = first_with(self.uncompiled, at, id);
         self.stage = Stage::Contents(id);
         Ok(None)
     }
@@ -309,26 +281,6 @@ impl Steps {
         next.run(there)?;
         *fields = next;
         Ok(None)
-    }
-}
-
-/// The first section that isn't compiled, where one more is met.
-fn first_with(first: Option<u64>, at: u64, id: u8) -> Option<u64>
-    ensures { result ≡ first_with first at id }
-{
-    if first.is_some() || is_compiled_section(id) {
-        return first;
-    }
-    Some(at)
-}
-
-/// The same, where the next one's id is the first of these bytes.
-fn with_next(first: Option<u64>, at: u64, bytes: &[u8]) -> Option<u64>
-    ensures { result ≡ first_with_next first at bytes.now }
-{
-    match bytes {
-        [] => first,
-        [id, ..] => first_with(first, at, *id),
     }
 }
 

@@ -25,6 +25,7 @@ use Rattle.image_run.specs.declared.checks.NotRunnable.TheVariants.{UnknownImpor
 use Rattle.image_run.specs.Checks.{export_named, not_runnable, unfit, has_unknown_import}
 use Rattle.image_run.specs.Printing.{printing_run, replied}
 use Rattle.command_words.specs.declared.command.Call.{Call}
+use Rattle.command_words.specs.declared.peek.Peek.{Peek}
 use Rattle.stream_compile.specs.Texts.{Outcome, arguments_of, EndsAs, TellsImageRun, ChecksAndCalls, TellsEnd, TellsRun, ChecksAndRuns}
 use Rattle.stream_compile.specs.Running.{RunsAs}
 
@@ -130,22 +131,22 @@ same_run r calls end is =
     ap (λ (l : List HostCall). record r { calls = l }) one ∙ ap (λ (x : End). record { calls = calls; end = x }) three
 
 -- what an image's end tells of its module
-tells_end : (drill : Option ℕ) (runs : ℕ → module_runs.Run) (image : ℕ → ImageRun) (n : ℕ) (calls : List HostCall) (end : Ending) (o : Outcome) → SameRuns runs image → image n ≡ record { calls = calls; end = end } → EndsAs drill end o → TellsEnd drill calls end runs o
-tells_end drill runs image n calls (As (Returns values memory globals)) o alike is tells =
+tells_end : (drill : Option ℕ) (peek : Option Peek) (runs : ℕ → module_runs.Run) (image : ℕ → ImageRun) (n : ℕ) (calls : List HostCall) (end : Ending) (o : Outcome) → SameRuns runs image → image n ≡ record { calls = calls; end = end } → EndsAs drill peek end o → TellsEnd drill peek calls end runs o
+tells_end drill peek runs image n calls (As (Returns values memory globals)) o alike is tells =
     let k = alike.ends_only n (Returns values memory globals) (ap (λ (r : ImageRun). r.end) is) tt in
     (k.0, same_run (runs k.0) calls (Returns values memory globals) (sym k.1 ∙ is), tells)
-tells_end drill runs image n calls (As (Traps kind memory globals)) o alike is tells =
+tells_end drill peek runs image n calls (As (Traps kind memory globals)) o alike is tells =
     let k = alike.ends_only n (Traps kind memory globals) (ap (λ (r : ImageRun). r.end) is) tt in
     (k.0, same_run (runs k.0) calls (Traps kind memory globals) (sym k.1 ∙ is), tells)
-tells_end drill runs image n calls (As Stops) o alike is tells = tells
-tells_end drill runs image n calls (As Going) o alike is tells =
+tells_end drill peek runs image n calls (As Stops) o alike is tells = tells
+tells_end drill peek runs image n calls (As Going) o alike is tells =
     let k = alike.calls_lead n (ap (λ (r : ImageRun). r.end) is) in
     (k.0, subst (λ (l : List HostCall). BeginsWith (runs k.0).calls l) (ap (λ (r : ImageRun). r.calls) is) k.1, tells)
-tells_end drill runs image n calls (As Fails) o alike is tells = tells
-tells_end drill runs image n calls (Fault kind pc) o alike is tells = absurd (alike.never_faults n kind pc (ap (λ (r : ImageRun). r.end) is))
+tells_end drill peek runs image n calls (As Fails) o alike is tells = tells
+tells_end drill peek runs image n calls (Fault kind pc) o alike is tells = absurd (alike.never_faults n kind pc (ap (λ (r : ImageRun). r.end) is))
 
 tells_run : (drill : Option ℕ) (m : Module) (r : Call) (o : Outcome) → Same m (image_of m) → all_in_range (arguments_of r.arguments) ≡ true → not_runnable (image_of m) r.export (types_of_values (arguments_of r.arguments)) ≡ None
-    → ChecksAndCalls drill None (image_of m) r o → TellsRun drill m r.export (arguments_of r.arguments) r.steps o
+    → ChecksAndCalls drill None (image_of m) r o → TellsRun drill m r o
 tells_run drill m r o same ranges passes (e, is, tells) =
     let arguments = arguments_of r.arguments in
     let i = image_of m in
@@ -153,25 +154,25 @@ tells_run drill m r o same ranges passes (e, is, tells) =
     let replies = replicate r.steps replied in
     let alike = runs_alike m r.export arguments replies e found same (passed i r.export (types_of_values arguments) e passes is) ranges in
     let run = printing_run i (offset_of m found.function) (Results m found.function) arguments r.steps in
-    let here : TellsImageRun drill i.imports run o = subst (λ (x : ImageRun). TellsImageRun drill i.imports x o) (runs_there m r.export (exports_of m.items) e found arguments r.steps) tells in (
+    let here : TellsImageRun drill r.peek i.imports run o = subst (λ (x : ImageRun). TellsImageRun drill r.peek i.imports x o) (runs_there m r.export (exports_of m.items) e found arguments r.steps) tells in (
       found.function,
       found.named_is,
       (
         here.0,
-        tells_end drill (module_run m found.function arguments replies) (image_run i (offset_of m found.function) (Results m found.function) arguments replies) r.steps run.calls run.end here.0 alike
+        tells_end drill r.peek (module_run m found.function arguments replies) (image_run i (offset_of m found.function) (Results m found.function) arguments replies) r.steps run.calls run.end here.0 alike
             (sym (run_is i (offset_of m found.function) (Results m found.function) arguments r.steps)) here.1,
         here.2,
       ),
     )
 
 checked_done : (drill : Option ℕ) (m : Module) (r : Call) (o : Outcome) (why : Option NotRunnable) → Same m (image_of m) → all_in_range (arguments_of r.arguments) ≡ true → not_runnable (image_of m) r.export (types_of_values (arguments_of r.arguments)) ≡ why
-    → ChecksAndCalls drill why (image_of m) r o → ChecksAndRuns drill why m r.export (arguments_of r.arguments) r.steps o
+    → ChecksAndCalls drill why (image_of m) r o → ChecksAndRuns drill why m r o
 checked_done drill m r o (Some why) same ranges is h = h
 checked_done drill m r o None same ranges is h = tells_run drill m r o same ranges is h
 
 -- the line of the call of an image's function is the line of the call of the module's
 pub run_done : (drill : Option ℕ) (m : Module) (i : Image) (r : Call) (o : Outcome) → i ≡ image_of m → Same m (image_of m) → RunsAs drill i r o
-    → ChecksAndRuns drill (not_runnable (image_of m) r.export (types_of_values (arguments_of r.arguments))) m r.export (arguments_of r.arguments) r.steps o
+    → ChecksAndRuns drill (not_runnable (image_of m) r.export (types_of_values (arguments_of r.arguments))) m r o
 run_done drill m i r o is same h =
     let here : RunsAs drill (image_of m) r o = subst (λ (x : Image). RunsAs drill x r o) is h in
     checked_done drill m r o (not_runnable (image_of m) r.export (types_of_values (arguments_of r.arguments))) same here.0 refl here.1

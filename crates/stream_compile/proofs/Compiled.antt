@@ -1,5 +1,5 @@
 -- How far the compiling of a module came, and what follows from it.
-use Rattle.std.proofs.Common.{◌≡◌, ◌≤◌, ◌<◌, ◌⊎◌, inl, inr, ℕ, suc, ◌+◌, ◌*◌, List, [], ◌∷◌, ◌++◌, length, true, false, Some, None, refl, sym, ap, ◌∙◌, subst, arith, length-append}
+use Rattle.std.proofs.Common.{◌≡◌, ◌≤◌, ◌<◌, inl, inr, ℕ, suc, ◌+◌, ◌*◌, List, [], ◌∷◌, ◌++◌, length, Some, refl, sym, ap, ◌∙◌, subst, arith, length-append}
 use Rattle.std.proofs.lemmas.List.{append-nil}
 use Rattle.rv_isa.specs.declared.compiled.Code.{Code}
 use Rattle.wasm_defs.specs.declared.fault.Refusal.{Refusal}
@@ -8,15 +8,15 @@ use Rattle.wasm_defs.specs.Limits.{max_text}
 use Rattle.wasm_defs.specs.Trees.{Seq}
 use Rattle.wasm_defs.specs.Entries.{Seen}
 use Rattle.wasm_defs.specs.Outside.{Part, Section, Listed, Coded, Body, Run, Whole, after_part, ends, module_read}
-use Rattle.wasm_defs.specs.Supported.{is_compiled_section}
-use Rattle.wasm_defs.specs.Faults.{first_outside, ending_fault, sections_of, items_of, bodies_of, earlier, unsupported_at, read_of, context_at, started, StartsRight, IsStartFault, IsCodeFault, IsValidCode, IsFaultInside, Module, IsModule, Rejected}
+use Rattle.wasm_defs.specs.Faults.{ending_fault, items_of, bodies_of, read_of, context_at, started, StartsRight, IsStartFault, IsCodeFault, IsValidCode, IsOutsideFault, IsFaultInside, Module, IsModule, Rejected}
 use Rattle.wasm_defs.specs.Context.{context_of}
 use Rattle.wasm_laws.specs.Order.{AreOrdered, BodyStands, StartStands, behind_start, end_of, first_section}
 use Rattle.wasm_laws.proofs.Behind.{bodies_stand_behind}
-use Rattle.wasm_laws.proofs.Counted.{entries_in, entries_are_few}
-use Rattle.wasm_laws.proofs.Order.{around_body, around_item, around_section, parts_before_fault, parts_in_module}
+use Rattle.wasm_laws.proofs.Counted.{entries_are_few}
+use Rattle.wasm_laws.proofs.Order.{around_body, around_item, parts_before_fault, parts_in_module}
 use Rattle.wasm_laws.proofs.Verdicts.{valid_has_no_fault}
 use Rattle.index_spaces.specs.Spaces.{Spaces, spaces_of, context_in, with_item}
+use Rattle.section_reader.specs.Onward.{after_parts, AreSections}
 use Rattle.image_linker.specs.ImageOf.{size_of}
 use Rattle.image_linker.specs.Linking.{words_of}
 use Rattle.image_linker.specs.Codes.{IsCodeOf, AreCodesOf}
@@ -24,18 +24,18 @@ use Rattle.image_linker.specs.Judging.{text_bytes, limit_at, IsTextFault, IsFaul
 use Rattle.stream_compile.specs.Codes.{Coding, AreAll, with_code}
 use Rattle.stream_compile.specs.Progress.{IsJudging, body_of_spaces}
 use Rattle.wasm_laws.proofs.PartLists.{items_of-append, bodies_of-append}
-use Rattle.wasm_laws.proofs.PartOrder.{start_fault_stands, fault_after, section_after}
+use Rattle.wasm_laws.proofs.PartOrder.{start_fault_stands, fault_after}
 use Rattle.image_linker.proofs.ImportBounds.{imports_are_few}
 use Rattle.stream_compile.proofs.TextFaults.{text_after, tree_once}
 use Rattle.stream_compile.proofs.CodeWords.{all_more, codes_both, codes_of_module}
 use Rattle.stream_compile.proofs.Judging as judging
-use Rattle.stream_compile.proofs.Judging.{IsVerdictBesideText, context_is, inside_rest, outside_rest}
+use Rattle.stream_compile.proofs.Judging.{IsVerdictBesideText, context_is, inside_rest}
 
 -- ---- steps
 
 pub begins : (bytes : List ℕ) (left : Run) (spaces : Spaces) (codes : Coding) → left ≡ module_read bytes → spaces ≡ spaces_of [] → AreAll codes [] → IsJudging bytes left spaces codes
 begins bytes left spaces codes is none uncoded = rw (is, none) (record {
-  judged = record { front = []; parts = refl; ending = refl; spaces_are = refl; count = uncoded.count; compiled = refl; trees = []; valid = tt };
+  judged = record { front = []; parts = refl; ending = refl; spaces_are = refl; count = uncoded.count; trees = []; valid = tt };
   all = [];
   are_all = uncoded;
   coded = tt;
@@ -49,13 +49,13 @@ module _ (bytes : List ℕ) (left : Run) (codes : Coding) where
   moved : (items items' : List Item) (k k' : ℕ) (parts : List Part) (r : Refusal) → items ≡ items' → k ≡ k' → IsTextFault items k codes.words parts r → IsTextFault items' k' codes.words parts r
   moved items items' k k' parts r p q f = rw (p, q) at f
 
-  pub after_section : (spaces : Spaces) (at id : ℕ) → IsJudging bytes (after_part (Section at id) left) spaces codes → is_compiled_section id ≡ true → IsJudging bytes left spaces codes
-  after_section spaces at id j e =
+  after_section : (spaces : Spaces) (at id : ℕ) → IsJudging bytes (after_part (Section at id) left) spaces codes → IsJudging bytes left spaces codes
+  after_section spaces at id j =
       let front = j.judged.front in
       let items : items_of (front ++ Section at id ∷ []) ≡ items_of front = items_of-append front (Section at id ∷ []) ∙ append-nil (items_of front) in
       let bodies : length (bodies_of (front ++ Section at id ∷ [])) ≡ length (bodies_of front) = ap (λ (l : List Body). length l) (bodies_of-append front (Section at id ∷ []) ∙ append-nil (bodies_of front)) in
       record {
-        judged = judging.after_section bytes left spaces codes.count at id j.judged e;
+        judged = judging.after_section bytes left spaces codes.count at id j.judged;
         all = j.all;
         are_all = j.are_all;
         coded = rw (append-nil j.all) at (codes_both [] 0 front (Section at id ∷ []) j.judged.trees [] j.all [] j.coded tt);
@@ -78,6 +78,13 @@ module _ (bytes : List ℕ) (left : Run) (codes : Coding) where
         text_left = λ r f. moved (items_of front ++ x ∷ []) _ (length (bodies_of front)) _ left.parts r (sym items) (sym bodies) (j.text_left r f);
         text_whole = λ r f. j.text_whole r (moved _ (items_of front ++ x ∷ []) _ (length (bodies_of front)) left.parts r items bodies f);
       }
+
+-- sections were told
+pub sections_taken : (bytes : List ℕ) (spaces : Spaces) (codes : Coding) (told : List Part) (run : Run) → AreSections told → IsJudging bytes (after_parts told run) spaces codes → IsJudging bytes run spaces codes
+sections_taken bytes spaces codes [] run are j = j
+sections_taken bytes spaces codes (Section at id ∷ told) run are j = sections_taken bytes spaces codes told run are (after_section bytes (after_parts told run) codes spaces at id j)
+sections_taken bytes spaces codes (Listed x ∷ told) run are j = absurd are
+sections_taken bytes spaces codes (Coded b ∷ told) run are j = absurd are
 
 -- ---- verdicts
 
@@ -127,23 +134,6 @@ body_refused bytes left spaces codes b r j f =
     no_text : (s : Refusal) → IsTextFault (items_of j.judged.front) (length (bodies_of j.judged.front)) codes.words (Coded b ∷ left.parts) s → r.offset ≤ s.offset
     no_text s (tree, v, t) = absurd (valid_has_no_fault (context_at (items_of j.judged.front) (length (bodies_of j.judged.front)) b) (read_of b).code tree r v here)
 
-module _ (bytes : List ℕ) (left : Run) (spaces : Spaces) (codes : Coding) (at id total : ℕ) (j : IsJudging bytes (after_part (Section at id) left) spaces codes) (len : total ≡ length bytes) (out : is_compiled_section id ≡ false) where
-  text_later : (s : Refusal) → IsTextFault [] 0 0 (module_read bytes).parts s → at < s.offset
-  text_later s f =
-      let around = around_section first_section (length bytes) j.judged.front at id left.parts (rw j.judged.parts at (parts_in_module bytes)) in
-      let k = text_after (suc at) (length bytes) (items_of j.judged.front) (length (bodies_of j.judged.front)) codes.words left.parts s around.3 (j.text_left s f) in
-      omega arith
-
-  pub section_refused : (0 < length left.parts) ⊎ (ending_fault total left.ending ≡ None) → IsVerdictOf bytes (Rejected (unsupported_at at))
-  section_refused more =
-      lifted bytes (unsupported_at at) (judging.section_refused bytes left spaces codes.count at id total j.judged len out more)
-      (λ s f. let k = text_later s f in omega arith)
-
-  pub header_refused : (e : Refusal) → left.parts ≡ [] → ending_fault total left.ending ≡ Some e → IsVerdictOf bytes (Rejected (earlier e (unsupported_at at)))
-  header_refused e none fault =
-      lifted bytes (earlier e (unsupported_at at)) (judging.header_refused bytes left spaces codes.count at id total j.judged len out e none fault)
-      (λ s f. absurd (no_text_left (items_of j.judged.front) (length (bodies_of j.judged.front)) codes.words left.parts s none (j.text_left s f)))
-
 -- ---- a body's code
 
 module _ (bytes : List ℕ) (left : Run) (spaces : Spaces) (codes : Coding) (b : Body) (j : IsJudging bytes (after_part (Coded b) left) spaces codes) (tree : Seq) (code : Code)
@@ -168,15 +158,11 @@ module _ (bytes : List ℕ) (left : Run) (spaces : Spaces) (codes : Coding) (b :
       around : AreOrdered first_section b.size j.judged.front × BodyStands first_section (length bytes) b × AreOrdered (end_of b) (length bytes) left.parts
       around = around_body first_section (length bytes) j.judged.front b left.parts (rw j.judged.parts at (parts_in_module bytes))
 
-      of_outside : (s : Refusal) → (ending_fault (length bytes) (module_read bytes).ending ≡ Some s) ⊎ (first_outside is_compiled_section (sections_of (module_read bytes).parts) ≡ Some s) → b.size ≤ s.offset
-      of_outside s (inl e) =
+      of_outside : (s : Refusal) → IsOutsideFault bytes s → b.size ≤ s.offset
+      of_outside s e =
           let o = (parts_before_fault bytes s e).0 in
           let stands = (around_body first_section s.offset j.judged.front b left.parts (rw j.judged.parts at o)).1 in
           omega (arith, stands.sized, stands.before)
-      of_outside s (inr e) =
-          let stands = around.1 in
-          let later = section_after (end_of b) (length bytes) left.parts s around.2 (sym (outside_rest bytes (after_part (Coded b) left) spaces codes.count j.judged) ∙ e) in
-          omega (arith, stands.sized)
 
       of_inside : (s : Refusal) → IsFaultInside items k (Coded b ∷ left.parts) s → b.size ≤ s.offset
       of_inside s (inl g) = absurd (valid_has_no_fault (context_at items k b) (read_of b).code tree s here g)
@@ -193,7 +179,7 @@ module _ (bytes : List ℕ) (left : Run) (spaces : Spaces) (codes : Coding) (b :
           omega (arith, stands.sized)
 
       no_less : (s : Refusal) → IsFaultOf bytes s → b.size ≤ s.offset
-      no_less s (inl (inl g)) = of_outside s g.0
+      no_less s (inl (inl g)) = of_outside s g
       no_less s (inl (inr g)) = of_inside s (inside_rest bytes (after_part (Coded b) left) spaces codes.count s j.judged g)
       no_less s (inr g) = of_text s (j.text_left s g)
 

@@ -57,14 +57,14 @@ unrunnable_runs drill i call name values checked why o b some is e =
 -- what is told of a run that wasn't stopped, and what is written of one that was
 module _ (drill : Option ℕ) (i : Image) (call : Call) (name : List ℕ) (values : List Given) (checked : Option NotRunnable) (b : Begun call name values) (none : checked ≡ None) (is : checked ≡ not_runnable i name (map type_of values)) where
   pub runs_as : (e : Export) (line : Outcome) → export_named name i.exports ≡ Some e
-      → EndsAs drill (printing_run i e.offset e.signature.results (map value_of values) call.steps).end line
+      → EndsAs drill call.peek (printing_run i e.offset e.signature.results (map value_of values) call.steps).end line
       → RunsAs drill i call (behind (printed i.imports (printing_run i e.offset e.signature.results (map value_of values) call.steps).calls) line)
   runs_as e line found ends =
       let there : export_named call.export i.exports ≡ Some e = ap (λ (n : List ℕ). export_named n i.exports) (sym b.name_is) ∙ found in
       let run = printing_run i e.offset e.signature.results (map value_of values) call.steps in
       let told = behind (printed i.imports run.calls) line in
-      let tells : TellsImageRun drill i.imports run told = (line, ends, refl) in
-      let here = subst (λ (l : List Value). TellsImageRun drill i.imports (printing_run i e.offset e.signature.results l call.steps) told) (all_are call name values b) tells in
+      let tells : TellsImageRun drill call.peek i.imports run told = (line, ends, refl) in
+      let here = subst (λ (l : List Value). TellsImageRun drill call.peek i.imports (printing_run i e.offset e.signature.results l call.steps) told) (all_are call name values b) tells in
       (ranges_are call name values b, subst (λ (x : Option NotRunnable). ChecksAndCalls drill x i call told) (sym (checks_are i call name values checked b is ∙ none)) (e, there, here))
 
 pushed_on : (items : List Given) (v : Given) → all_in_range (map value_of items) ≡ true → in_range (value_of v) ≡ true → all_in_range (map value_of (items ++ v ∷ [])) ≡ true

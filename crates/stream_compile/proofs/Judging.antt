@@ -1,5 +1,5 @@
 -- How far the judging of a module came, and what follows from it.
-use Rattle.std.proofs.Common.{◌≡◌, ◌≤◌, ◌<◌, ◌⊎◌, inl, inr, ℕ, suc, ◌+◌, List, [], ◌∷◌, ◌++◌, length, true, false, Option, Some, None, refl, sym, ap, ◌∙◌, subst, append_assoc, arith, length-append}
+use Rattle.std.proofs.Common.{◌≡◌, ◌≤◌, ◌<◌, inl, inr, ℕ, suc, ◌+◌, List, [], ◌∷◌, ◌++◌, length, Option, Some, refl, sym, ap, ◌∙◌, subst, append_assoc, arith, length-append}
 use Rattle.std.specs.Prelude.{IsSome}
 use Rattle.std.proofs.lemmas.List.{append-nil}
 use Rattle.wasm_defs.specs.declared.fault.Refusal.{Refusal}
@@ -9,25 +9,23 @@ use Rattle.wasm_defs.specs.Trees.{Seq}
 use Rattle.wasm_defs.specs.Entries.{Seen}
 use Rattle.wasm_defs.specs.Context.{context_of, import_count, declared_count, functions_of}
 use Rattle.wasm_defs.specs.Outside.{Part, Section, Listed, Coded, Body, Run, Whole, after_part, ends, module_read}
-use Rattle.wasm_defs.specs.Supported.{is_compiled_section}
-use Rattle.wasm_defs.specs.Faults.{IsNoLater, first_outside, ending_fault, sections_of, items_of, bodies_of, earlier, unsupported_at, IsCodeFault, IsValidCode, read_of, context_at, started, StartsRight, IsStartFault, IsFaultInside, AreValid, IsOutsideFault, IsFault, Module, IsModule, Verdict, Accepted, Rejected}
+use Rattle.wasm_defs.specs.Faults.{ending_fault, items_of, bodies_of, IsCodeFault, IsValidCode, read_of, context_at, started, StartsRight, IsStartFault, IsFaultInside, AreValid, IsOutsideFault, IsFault, Module, IsModule, Verdict, Accepted, Rejected}
 use Rattle.wasm_laws.specs.Order.{AreOrdered, BodyStands, StartStands, behind_start, end_of, first_section}
 use Rattle.wasm_laws.specs.Typed.{AreTyped}
 use Rattle.wasm_laws.proofs.Typed.{functions_have_types}
-use Rattle.wasm_laws.proofs.Earlier.{equal_is_no_later, IsEarlier, earlier_is, no_later_offset}
-use Rattle.wasm_laws.proofs.Order.{around_body, around_item, around_section, start_goes_on, parts_before_fault, parts_in_module}
+use Rattle.wasm_laws.proofs.Order.{around_body, around_item, start_goes_on, parts_before_fault, parts_in_module}
 use Rattle.wasm_laws.proofs.Few.{parts_are_few}
-use Rattle.wasm_laws.proofs.Verdicts.{code_fault_inside}
+use Rattle.wasm_laws.proofs.Verdicts.{some_once, code_fault_once, code_fault_inside}
 use Rattle.index_spaces.specs.Spaces.{Spaces, spaces_of, with_item, context_in}
 use Rattle.stream_compile.specs.Progress.{IsJudged, body_of_spaces}
 use Rattle.index_spaces.proofs.SpaceLaws.{spaces_of-append, functions_of-counts}
-use Rattle.wasm_laws.proofs.PartLists.{items_of-append, bodies_of-append, sections_of-append, typed_behind, valid_both, fault_behind, fault_of_rest, none_outside, one_inside, one_outside, functions_are_few, bodies_are_few}
-use Rattle.wasm_laws.proofs.PartOrder.{start_fault_stands, start_once, fault_after, section_after, some_ordered}
+use Rattle.wasm_laws.proofs.PartLists.{items_of-append, bodies_of-append, typed_behind, valid_both, fault_behind, fault_of_rest, functions_are_few, bodies_are_few}
+use Rattle.wasm_laws.proofs.PartOrder.{start_fault_stands, start_once, fault_after}
 
 -- ---- how far judging came
 
 pub begins : (bytes : List ℕ) (left : Run) (spaces : Spaces) → left ≡ module_read bytes → spaces ≡ spaces_of [] → IsJudged bytes left spaces 0
-begins bytes left spaces is none = rw (is, none) (record { front = []; parts = refl; ending = refl; spaces_are = refl; count = refl; compiled = refl; trees = []; valid = tt })
+begins bytes left spaces is none = rw (is, none) (record { front = []; parts = refl; ending = refl; spaces_are = refl; count = refl; trees = []; valid = tt })
 
 pub regrouped : (bytes : List ℕ) (front rest : List Part) (x : Part) → (module_read bytes).parts ≡ front ++ x ∷ rest → (module_read bytes).parts ≡ (front ++ x ∷ []) ++ rest
 regrouped bytes front rest x e = e ∙ sym (append_assoc front (x ∷ []) rest)
@@ -35,14 +33,13 @@ regrouped bytes front rest x e = e ∙ sym (append_assoc front (x ∷ []) rest)
 pub valid_more : (front : List Part) (x : Part) (trees more : List Seq) → AreValid [] 0 front trees → AreValid (items_of front) (length (bodies_of front)) (x ∷ []) more → AreValid [] 0 (front ++ x ∷ []) (trees ++ more)
 valid_more front x trees more p q = let e : 0 + length (bodies_of front) ≡ length (bodies_of front) = omega arith in valid_both [] 0 front (x ∷ []) trees more p (rw e q)
 
-abbrev pub after_section : (bytes : List ℕ) (left : Run) (spaces : Spaces) (bodies at id : ℕ) → IsJudged bytes (after_part (Section at id) left) spaces bodies → is_compiled_section id ≡ true → IsJudged bytes left spaces bodies
-after_section bytes left spaces bodies at id j e = record {
+abbrev pub after_section : (bytes : List ℕ) (left : Run) (spaces : Spaces) (bodies at id : ℕ) → IsJudged bytes (after_part (Section at id) left) spaces bodies → IsJudged bytes left spaces bodies
+after_section bytes left spaces bodies at id j = record {
   front = j.front ++ Section at id ∷ [];
   parts = regrouped bytes j.front left.parts (Section at id) j.parts;
   ending = j.ending;
   spaces_are = j.spaces_are ∙ ap spaces_of (sym (items_of-append j.front (Section at id ∷ []) ∙ append-nil (items_of j.front)));
   count = j.count ∙ ap length (sym (bodies_of-append j.front (Section at id ∷ []) ∙ append-nil (bodies_of j.front)));
-  compiled = ap (first_outside is_compiled_section) (sections_of-append j.front (Section at id ∷ [])) ∙ none_outside (sections_of j.front) ((at, id) ∷ []) j.compiled ∙ one_inside at id e;
   trees = j.trees ++ [];
   valid = valid_more j.front (Section at id) j.trees [] j.valid tt;
 }
@@ -54,7 +51,6 @@ after_item bytes left spaces later bodies x j starts e = record {
   ending = j.ending;
   spaces_are = e ∙ ap (λ (s : Spaces). with_item s x) j.spaces_are ∙ sym (spaces_of-append (items_of j.front) x) ∙ ap spaces_of (sym (items_of-append j.front (Listed x ∷ [])));
   count = j.count ∙ ap length (sym (bodies_of-append j.front (Listed x ∷ []) ∙ append-nil (bodies_of j.front)));
-  compiled = ap (first_outside is_compiled_section) (sections_of-append j.front (Listed x ∷ []) ∙ append-nil (sections_of j.front)) ∙ j.compiled;
   trees = j.trees ++ [];
   valid = valid_more j.front (Listed x) j.trees [] j.valid (subst (λ (s : Spaces). StartsRight (context_in s) (started x)) j.spaces_are starts, tt);
 }
@@ -69,15 +65,11 @@ after_body bytes left spaces bodies b tree j v = record {
   ending = j.ending;
   spaces_are = j.spaces_are ∙ ap spaces_of (sym (items_of-append j.front (Coded b ∷ []) ∙ append-nil (items_of j.front)));
   count = omega (arith, j.count, ap length (bodies_of-append j.front (Coded b ∷ [])), length-append (bodies_of j.front) (b ∷ []));
-  compiled = ap (first_outside is_compiled_section) (sections_of-append j.front (Coded b ∷ []) ∙ append-nil (sections_of j.front)) ∙ j.compiled;
   trees = j.trees ++ tree ∷ [];
   valid = valid_more j.front (Coded b) j.trees (tree ∷ []) j.valid (rw (context_is bytes (after_part (Coded b) left) spaces bodies b j) at v, tt);
 }
 
 -- ---- verdicts
-
-pub none_is_some : (x : Option Refusal) (r : Refusal) → x ≡ None → x ≡ Some r → ⊥
-none_is_some x r p q = absurd cc
 
 pub nothing_left : (items : List Item) (k : ℕ) (parts : List Part) (s : Refusal) → parts ≡ [] → IsFaultInside items k parts s → ⊥
 nothing_left items k [] s e f = f
@@ -92,11 +84,6 @@ inside_rest bytes left spaces bodies r j f =
     let g = fault_behind [] 0 j.front left.parts j.trees r j.valid (rw j.parts at f) in
     rw zero_more at g
 
--- a fault outside bodies is the ending's, or at a section that is left
-pub outside_rest : (bytes : List ℕ) (left : Run) (spaces : Spaces) (bodies : ℕ) → IsJudged bytes left spaces bodies → first_outside is_compiled_section (sections_of (module_read bytes).parts) ≡ first_outside is_compiled_section (sections_of left.parts)
-outside_rest bytes left spaces bodies j =
-    ap (λ (l : List Part). first_outside is_compiled_section (sections_of l)) j.parts ∙ ap (first_outside is_compiled_section) (sections_of-append j.front left.parts) ∙ none_outside (sections_of j.front) (sections_of left.parts) j.compiled
-
 -- the module that the bytes are, or their fault of least offset, the limit on the text aside
 abbrev pub IsVerdictBesideText : List ℕ → Verdict → Type 0
 IsVerdictBesideText bytes (Accepted m) = IsModule bytes m
@@ -110,7 +97,6 @@ is_module bytes left spaces bodies seen functions j whole counted =
       m,
       record {
         whole = ap (ending_fault (length bytes)) (j.ending ∙ ap (λ (r : Run). r.ending) whole);
-        compiled = outside_rest bytes left spaces bodies j ∙ ap (λ (r : Run). first_outside is_compiled_section (sections_of r.parts)) whole;
         items = refl;
         bodies = refl;
         valid = rw all j.valid;
@@ -118,15 +104,17 @@ is_module bytes left spaces bodies seen functions j whole counted =
       counted ∙ ap (λ (s : Spaces). s.declared) j.spaces_are ∙ ap (λ (l : List Part). declared_count (items_of l)) (sym all),
     )
 
+-- a fault outside bodies is the only one
+only_outside : (x : Option Refusal) (r s : Refusal) → x ≡ Some r → x ≡ Some s → r.offset ≤ s.offset
+only_outside x r s e f = let same = ap (λ (t : Refusal). t.offset) (some_once x r s e f) in omega (arith, same)
+
 -- no part is left, and the module has this fault
 pub is_refused : (bytes : List ℕ) (left : Run) (spaces : Spaces) (bodies total : ℕ) (r : Refusal) → IsJudged bytes left spaces bodies → total ≡ length bytes → left.parts ≡ [] → ending_fault total left.ending ≡ Some r → IsVerdictBesideText bytes (Rejected r)
 is_refused bytes left spaces bodies total r j len none fault =
-    let ends : ending_fault (length bytes) (module_read bytes).ending ≡ Some r = ap (ending_fault (length bytes)) j.ending ∙ ap (λ (n : ℕ). ending_fault n left.ending) (sym len) ∙ fault in
-    let no_section : first_outside is_compiled_section (sections_of (module_read bytes).parts) ≡ None = outside_rest bytes left spaces bodies j ∙ ap (λ (l : List Part). first_outside is_compiled_section (sections_of l)) none in
-    let outside : IsOutsideFault bytes r = (inl ends, λ s p. elim p [ inl e ↦ equal_is_no_later r s (let k : Some r ≡ Some s = sym ends ∙ e in cc) | inr e ↦ absurd (none_is_some _ s no_section e) ]) in (
+    let outside : IsOutsideFault bytes r = ap (ending_fault (length bytes)) j.ending ∙ ap (λ (n : ℕ). ending_fault n left.ending) (sym len) ∙ fault in (
       inl outside,
       λ s f. elim f [
-        | inl o ↦ no_later_offset r s (outside.1 s o.0)
+        | inl o ↦ only_outside _ r s outside o
         | inr i ↦ absurd (nothing_left _ _ left.parts s none (inside_rest bytes left spaces bodies s j i))
       ],
     )
@@ -151,21 +139,18 @@ body_refused bytes left spaces bodies b r j f = (inr inside, λ s g. no_less s g
     before_end : r.offset < end_of b
     before_end = let stands = around.1 in (code_fault_inside (context_at (items_of j.front) (length (bodies_of j.front)) b) b r (omega (arith, stands.least)) here).1
 
-    of_outside : (s : Refusal) → (ending_fault (length bytes) (module_read bytes).ending ≡ Some s) ⊎ (first_outside is_compiled_section (sections_of (module_read bytes).parts) ≡ Some s) → r.offset ≤ s.offset
-    of_outside s (inl e) =
+    of_outside : (s : Refusal) → IsOutsideFault bytes s → r.offset ≤ s.offset
+    of_outside s e =
         let o = (parts_before_fault bytes s e).0 in
         let stands = (around_body first_section s.offset j.front b left.parts (rw j.parts at o)).1 in
         omega (arith, before_end, stands.before)
-    of_outside s (inr e) =
-        let k = section_after (end_of b) (length bytes) left.parts s around.2 (sym (outside_rest bytes (after_part (Coded b) left) spaces bodies j) ∙ e) in
-        omega (arith, before_end)
 
     of_inside : (s : Refusal) → IsFaultInside (items_of j.front) (length (bodies_of j.front)) (Coded b ∷ left.parts) s → r.offset ≤ s.offset
-    of_inside s (inl g) = no_later_offset r s (here.1 s g.0)
+    of_inside s (inl g) = let same = ap (λ (t : Refusal). t.offset) (code_fault_once (context_at (items_of j.front) (length (bodies_of j.front)) b) (read_of b).code r s here g) in omega (arith, same)
     of_inside s (inr g) = let k = fault_after (end_of b) (length bytes) (items_of j.front) (suc (length (bodies_of j.front))) left.parts s around.2 g in omega (arith, before_end)
 
     no_less : (s : Refusal) → IsFault bytes s → r.offset ≤ s.offset
-    no_less s (inl g) = of_outside s g.0
+    no_less s (inl g) = of_outside s g
     no_less s (inr g) = of_inside s (inside_rest bytes (after_part (Coded b) left) spaces bodies s j g)
 
 -- ---- the start function is at fault
@@ -185,81 +170,19 @@ start_refused bytes left spaces bodies x r j f = (inr inside, λ s g. no_less s 
     before : r.offset < behind_start around.0 (started x)
     before = (start_fault_stands around.0 (length bytes) (context_of (items_of j.front)) (started x) r around.1 here).1
 
-    of_outside : (s : Refusal) → (ending_fault (length bytes) (module_read bytes).ending ≡ Some s) ⊎ (first_outside is_compiled_section (sections_of (module_read bytes).parts) ≡ Some s) → r.offset ≤ s.offset
-    of_outside s (inl e) =
+    of_outside : (s : Refusal) → IsOutsideFault bytes s → r.offset ≤ s.offset
+    of_outside s e =
         let a = around_item first_section s.offset j.front x left.parts (rw j.parts at (parts_before_fault bytes s e).0) in
         let b = start_fault_stands a.0 s.offset (context_of (items_of j.front)) (started x) r a.1 here in
         omega (arith, b.1, (start_goes_on a.0 s.offset (started x) a.1).1)
-    of_outside s (inr e) =
-        let k = section_after (behind_start around.0 (started x)) (length bytes) left.parts s around.2 (sym (outside_rest bytes (after_part (Listed x) left) spaces bodies j) ∙ e) in
-        omega (arith, before)
 
     of_inside : (s : Refusal) → IsFaultInside (items_of j.front) (length (bodies_of j.front)) (Listed x ∷ left.parts) s → r.offset ≤ s.offset
     of_inside s (inl g) = omega (arith, ap (λ (t : Refusal). t.offset) (start_once (context_of (items_of j.front)) (started x) r s here g))
     of_inside s (inr g) = let k = fault_after (behind_start around.0 (started x)) (length bytes) (items_of j.front ++ x ∷ []) (length (bodies_of j.front)) left.parts s around.2 g in omega (arith, before)
 
     no_less : (s : Refusal) → IsFault bytes s → r.offset ≤ s.offset
-    no_less s (inl g) = of_outside s g.0
+    no_less s (inl g) = of_outside s g
     no_less s (inr g) = of_inside s (inside_rest bytes (after_part (Listed x) left) spaces bodies s j g)
-
--- ---- a section isn't compiled
-
-module _ (bytes : List ℕ) (left : Run) (spaces : Spaces) (bodies at id total : ℕ) (j : IsJudged bytes (after_part (Section at id) left) spaces bodies) (len : total ≡ length bytes) (out : is_compiled_section id ≡ false) where
-  own_section : first_outside is_compiled_section (sections_of (module_read bytes).parts) ≡ Some (unsupported_at at)
-  own_section = outside_rest bytes (after_part (Section at id) left) spaces bodies j ∙ one_outside at id (sections_of left.parts) out
-
-  ends_as : (e : Option Refusal) → ending_fault total left.ending ≡ e → ending_fault (length bytes) (module_read bytes).ending ≡ e
-  ends_as e h = ap (ending_fault (length bytes)) j.ending ∙ ap (λ (n : ℕ). ending_fault n left.ending) (sym len) ∙ h
-
-  inside_later : (s : Refusal) → IsFaultInside [] 0 (module_read bytes).parts s → at < s.offset
-  inside_later s f =
-      let around = around_section first_section (length bytes) j.front at id left.parts (rw j.parts at (parts_in_module bytes)) in
-      let k = fault_after (suc at) (length bytes) (items_of j.front) (length (bodies_of j.front)) left.parts s around.3 (inside_rest bytes (after_part (Section at id) left) spaces bodies s j f) in
-      omega arith
-
-  ending_later : (s : Refusal) → 0 < length left.parts → ending_fault (length bytes) (module_read bytes).ending ≡ Some s → at < s.offset
-  ending_later s some e =
-      let around = around_section first_section s.offset j.front at id left.parts (rw j.parts at (parts_before_fault bytes s e).0) in
-      let k = some_ordered (suc at) s.offset left.parts some around.3 in
-      omega arith
-
-  abbrev IsCandidate : Refusal → Type 0
-  IsCandidate s = (ending_fault (length bytes) (module_read bytes).ending ≡ Some s) ⊎ (first_outside is_compiled_section (sections_of (module_read bytes).parts) ≡ Some s)
-
-  -- more follows
-  pub section_refused : (0 < length left.parts) ⊎ (ending_fault total left.ending ≡ None) → IsVerdictBesideText bytes (Rejected (unsupported_at at))
-  section_refused more = (inl (inr own_section, λ s p. no_earlier s more p), λ s f. no_less s f)
-    where
-      no_earlier : (s : Refusal) → (0 < length left.parts) ⊎ (ending_fault total left.ending ≡ None) → IsCandidate s → IsNoLater (unsupported_at at) s
-      no_earlier s (inl some) (inl e) = inl (ending_later s some e)
-      no_earlier s (inr none) (inl e) = absurd (none_is_some _ s (ends_as None none) e)
-      no_earlier s more (inr e) = equal_is_no_later (unsupported_at at) s (let k : Some (unsupported_at at) ≡ Some s = sym own_section ∙ e in cc)
-
-      no_less : (s : Refusal) → IsFault bytes s → at ≤ s.offset
-      no_less s (inl f) = no_later_offset (unsupported_at at) s (no_earlier s more f.0)
-      no_less s (inr f) = let k = inside_later s f in omega arith
-
-  -- the header has a fault
-  pub header_refused : (e : Refusal) → left.parts ≡ [] → ending_fault total left.ending ≡ Some e → IsVerdictBesideText bytes (Rejected (earlier e (unsupported_at at)))
-  header_refused e none fault = (inl (is_candidate h.is, λ s p. no_earlier s p), λ s f. no_less s f)
-    where
-      h : IsEarlier e (unsupported_at at) (earlier e (unsupported_at at))
-      h = earlier_is e (unsupported_at at)
-
-      ends : ending_fault (length bytes) (module_read bytes).ending ≡ Some e
-      ends = ends_as (Some e) fault
-
-      is_candidate : (earlier e (unsupported_at at) ≡ e) ⊎ (earlier e (unsupported_at at) ≡ unsupported_at at) → IsCandidate (earlier e (unsupported_at at))
-      is_candidate (inl k) = inl (ends ∙ ap (λ (r : Refusal). Some r) (sym k))
-      is_candidate (inr k) = inr (own_section ∙ ap (λ (r : Refusal). Some r) (sym k))
-
-      no_earlier : (s : Refusal) → IsCandidate s → IsNoLater (earlier e (unsupported_at at)) s
-      no_earlier s (inl k) = let same : e ≡ s = (let t : Some e ≡ Some s = sym ends ∙ k in cc) in rw (← same) h.first
-      no_earlier s (inr k) = let same : unsupported_at at ≡ s = (let t : Some (unsupported_at at) ≡ Some s = sym own_section ∙ k in cc) in rw (← same) h.second
-
-      no_less : (s : Refusal) → IsFault bytes s → (earlier e (unsupported_at at)).offset ≤ s.offset
-      no_less s (inl f) = no_later_offset (earlier e (unsupported_at at)) s (no_earlier s f.0)
-      no_less s (inr f) = absurd (nothing_left (items_of j.front) (length (bodies_of j.front)) left.parts s none (inside_rest bytes (after_part (Section at id) left) spaces bodies s j f))
 
 -- ---- a body can be judged
 

@@ -7,7 +7,6 @@ pub mod Taking
 pub mod CutRuns
 pub mod Cutting
 pub mod CodeEnds
-pub mod Told
 pub mod Streaming
 pub mod Images
 pub mod Wholes
@@ -24,3 +23,4 @@ pub mod ForeignLaws
 pub mod DrillRuns
 pub mod DrillSums
 pub mod Drills
+pub mod ShownBytes

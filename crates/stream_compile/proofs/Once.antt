@@ -1,16 +1,14 @@
 -- Bytes have one verdict.
-use Rattle.std.proofs.Common.{◌≡◌, ◌≤◌, ◌<◌, ◌⊎◌, inl, inr, ℕ, suc, ◌+◌, ◌*◌, List, [], ◌∷◌, ◌++◌, length, Some, refl, sym, ap, ◌∙◌, append_assoc, arith}
-use Rattle.std.proofs.lemmas.Bool.{cases_Bool}
+use Rattle.std.proofs.Common.{◌≡◌, ◌≤◌, ◌<◌, inl, inr, ℕ, suc, ◌+◌, ◌*◌, List, [], ◌∷◌, ◌++◌, length, refl, sym, ap, ◌∙◌, append_assoc, arith}
 use Rattle.wasm_defs.specs.declared.fault.Refusal.{Refusal}
 use Rattle.wasm_defs.specs.declared.item.Item.{Item}
 use Rattle.wasm_defs.specs.Trees.{Seq}
 use Rattle.wasm_defs.specs.Outside.{Part, Section, Listed, Coded, Body, module_read}
-use Rattle.wasm_defs.specs.Supported.{is_compiled_section}
-use Rattle.wasm_defs.specs.Faults.{first_outside, ending_fault, sections_of, items_of, bodies_of, tokens_of, read_of, context_at, started, IsOutsideFault, IsFaultInside, IsFault, AreValid, Module, IsModule, Verdict, Accepted, Rejected}
+use Rattle.wasm_defs.specs.Faults.{items_of, bodies_of, tokens_of, read_of, context_at, started, IsOutsideFault, IsFaultInside, IsFault, AreValid, Module, IsModule, Verdict, Accepted, Rejected}
 use Rattle.wasm_defs.specs.Context.{context_of}
 use Rattle.wasm_laws.specs.Order.{AreOrdered, behind_start, end_of, first_section}
 use Rattle.wasm_laws.proofs.Order.{start_goes_on, parts_before_fault, parts_in_module}
-use Rattle.wasm_laws.proofs.Verdicts.{first_once, code_fault_inside, module_has_no_fault}
+use Rattle.wasm_laws.proofs.Verdicts.{some_once, code_fault_once, code_fault_inside, module_has_no_fault}
 use Rattle.body_validator.proofs.TreeLaws.{trees_one}
 use Rattle.std.proofs.lemmas.List.{append-nil}
 use Rattle.wasm_defs.specs.Limits.{max_text}
@@ -20,7 +18,7 @@ use Rattle.image_linker.specs.ImageOf.{size_of, stub_size, front_size}
 use Rattle.wasm_laws.proofs.PartLists.{items_of-append}
 use Rattle.stream_compile.proofs.CodeWords.{same_size}
 use Rattle.image_linker.specs.Judging.{sizes, text_bytes, IsTextFault, IsFaultOf, IsModuleOf, IsVerdictOf}
-use Rattle.wasm_laws.proofs.PartOrder.{start_fault_stands, start_once, fault_after, section_after}
+use Rattle.wasm_laws.proofs.PartOrder.{start_fault_stands, start_once, fault_after}
 use Rattle.stream_compile.proofs.TextFaults.{text_not_outside, text_not_inside, text_once, tree_once}
 
 -- ---- faults of bodies
@@ -38,7 +36,7 @@ inside_once low last items k (Listed x ∷ parts) r s o (inr f) (inl g) e =
     let later = fault_after (behind_start low (started x)) last (items ++ x ∷ []) k parts r o.1 f in
     absurd (omega (arith, here.1))
 inside_once low last items k (Listed x ∷ parts) r s o (inr f) (inr g) e = inside_once (behind_start low (started x)) last (items ++ x ∷ []) k parts r s o.1 f g e
-inside_once low last items k (Coded b ∷ parts) r s o (inl f) (inl g) e = first_once _ r s f g
+inside_once low last items k (Coded b ∷ parts) r s o (inl f) (inl g) e = code_fault_once (context_at items k b) (read_of b).code r s f g
 inside_once low last items k (Coded b ∷ parts) r s o (inl f) (inr g) e =
     let stands = o.0 in
     let here = code_fault_inside (context_at items k b) b r (omega (arith, stands.least)) f in
@@ -51,26 +49,7 @@ inside_once low last items k (Coded b ∷ parts) r s o (inr f) (inl g) e =
     absurd (omega (arith, here.1))
 inside_once low last items k (Coded b ∷ parts) r s o (inr f) (inr g) e = inside_once (end_of b) last items (suc k) parts r s o.1 f g e
 
--- none stands at a section's id, nor where the ending's fault stands
-no_section : (low last : ℕ) (items : List Item) (k : ℕ) (parts : List Part) (r s : Refusal) → AreOrdered low last parts → IsFaultInside items k parts r → first_outside is_compiled_section (sections_of parts) ≡ Some s → r.offset ≡ s.offset → ⊥
-no_section low last items k [] r s o f g e = f
-no_section low last items k (Section at id ∷ parts) r s o f g e =
-    elim (cases_Bool (is_compiled_section id)) [
-      | inl h ↦ let t : first_outside is_compiled_section (sections_of parts) ≡ Some s = rw h at g in no_section (suc at) last items k parts r s o.2 f t e
-      | inr h ↦ let t = rw h at g in let here : at ≡ s.offset = cc in let later = fault_after (suc at) last items k parts r o.2 f in omega (arith)
-    ]
-no_section low last items k (Listed x ∷ parts) r s o (inl f) g e =
-    let here = start_fault_stands low last (context_of items) (started x) r o.0 f in
-    let later = section_after (behind_start low (started x)) last parts s o.1 g in
-    omega (arith, here.1)
-no_section low last items k (Listed x ∷ parts) r s o (inr f) g e = no_section (behind_start low (started x)) last (items ++ x ∷ []) k parts r s o.1 f g e
-no_section low last items k (Coded b ∷ parts) r s o (inl f) g e =
-    let stands = o.0 in
-    let here = code_fault_inside (context_at items k b) b r (omega (arith, stands.least)) f in
-    let later = section_after (end_of b) last parts s o.1 g in
-    omega (arith, here.1)
-no_section low last items k (Coded b ∷ parts) r s o (inr f) g e = no_section (end_of b) last items (suc k) parts r s o.1 f g e
-
+-- all stand before the ending's fault
 pub before_last : (low last : ℕ) (items : List Item) (k : ℕ) (parts : List Part) (r : Refusal) → AreOrdered low last parts → IsFaultInside items k parts r → r.offset < last
 before_last low last items k [] r o f = absurd f
 before_last low last items k (Section at id ∷ parts) r o f = before_last (suc at) last items k parts r o.2 f
@@ -85,16 +64,12 @@ before_last low last items k (Coded b ∷ parts) r o (inl f) =
 before_last low last items k (Coded b ∷ parts) r o (inr f) = before_last (end_of b) last items (suc k) parts r o.1 f
 
 not_both : (bytes : List ℕ) (r s : Refusal) → IsOutsideFault bytes r → IsFaultInside [] 0 (module_read bytes).parts s → r.offset ≡ s.offset → ⊥
-not_both bytes r s f g e = of f.0
-  where
-    of : (ending_fault (length bytes) (module_read bytes).ending ≡ Some r) ⊎ (first_outside is_compiled_section (sections_of (module_read bytes).parts) ≡ Some r) → ⊥
-    of (inl h) = let k = before_last first_section r.offset [] 0 (module_read bytes).parts s (parts_before_fault bytes r h).0 g in omega arith
-    of (inr h) = no_section first_section (length bytes) [] 0 (module_read bytes).parts s r (parts_in_module bytes) g h (sym e)
+not_both bytes r s f g e = let k = before_last first_section r.offset [] 0 (module_read bytes).parts s (parts_before_fault bytes r f).0 g in omega arith
 
 -- ---- no two faults share an offset
 
 pub fault_once : (bytes : List ℕ) (r s : Refusal) → IsFault bytes r → IsFault bytes s → r.offset ≡ s.offset → r ≡ s
-fault_once bytes r s (inl f) (inl g) e = first_once _ r s f g
+fault_once bytes r s (inl f) (inl g) e = some_once _ r s f g
 fault_once bytes r s (inl f) (inr g) e = absurd (not_both bytes r s f g e)
 fault_once bytes r s (inr f) (inl g) e = absurd (not_both bytes s r g f (sym e))
 fault_once bytes r s (inr f) (inr g) e = inside_once first_section (length bytes) [] 0 (module_read bytes).parts r s (parts_in_module bytes) f g e
@@ -128,7 +103,7 @@ same_module bytes m n p q =
     ∙ ap (λ (x : List Seq). record { items = n.items; bodies = n.bodies; trees = x }) trees
 
 no_fault : (bytes : List ℕ) (m : Module) (r : Refusal) → IsModule bytes m → IsFault bytes r → ⊥
-no_fault bytes m r p f = module_has_no_fault bytes (module_read bytes).parts m.trees r p.whole p.compiled p.valid f
+no_fault bytes m r p f = module_has_no_fault bytes m.trees r p.whole p.valid f
 
 -- ---- a module's text keeps its limit
 

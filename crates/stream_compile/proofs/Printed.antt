@@ -24,26 +24,27 @@ use Rattle.image_run.proofs.PrintedRuns.{printing_ends}
 use Rattle.image_run.proofs.ReplyLaws.{IsUnstopped}
 use Rattle.image_run.proofs.SignatureLaws.{all_known}
 use Rattle.command_words.specs.declared.command.Call.{Call}
-use Rattle.stream_compile.specs.Texts.{Outcome, Told, behind, returned_by, trapped, steps_spent, machine_fault, EndsAs}
-use Rattle.stream_compile.specs.Running.{IsTold, RunsAs, line_of}
+use Rattle.command_words.specs.declared.peek.Peek.{Peek}
+use Rattle.stream_compile.specs.Texts.{Outcome, Told, behind, returned_by, showing, trapped, steps_spent, machine_fault, EndsAs}
+use Rattle.stream_compile.specs.Running.{IsTold, RunsAs, lines_of}
 use Rattle.stream_compile.proofs.ImageCalls.{Begun, runs_as}
 
 -- the line of an end
-some_line : (drill : Option ℕ) (end : Ending) → IsUnstopped end → (line : Outcome) × EndsAs drill end line
-some_line drill (As (Returns values memory globals)) h = (returned_by drill values, refl)
-some_line drill (As (Traps kind memory globals)) h = (trapped kind, refl)
-some_line drill (As Stops) h = absurd h
-some_line drill (As Going) h = (steps_spent, refl)
-some_line drill (As Fails) h = absurd h
-some_line drill (Fault kind pc) h = (machine_fault kind pc, refl)
+some_line : (drill : Option ℕ) (peek : Option Peek) (end : Ending) → IsUnstopped end → (line : Outcome) × EndsAs drill peek end line
+some_line drill peek (As (Returns values memory globals)) h = (showing peek memory (returned_by drill values), refl)
+some_line drill peek (As (Traps kind memory globals)) h = (showing peek memory (trapped kind), refl)
+some_line drill peek (As Stops) h = absurd h
+some_line drill peek (As Going) h = (steps_spent, refl)
+some_line drill peek (As Fails) h = absurd h
+some_line drill peek (Fault kind pc) h = (machine_fault kind pc, refl)
 
 -- the line of an outcome is that of its end
-line_ends : (drill : Option ℕ) (outcome : Ran) (memory : List ℕ) (end : Ending) → outcome ≢ ran.HostStopped → IsEnd outcome memory end → EndsAs drill end (line_of drill outcome)
-line_ends drill (ran.Returned v) memory end going h = subst (λ (e : Ending). EndsAs drill e (line_of drill (ran.Returned v))) (sym h.1) refl
-line_ends drill (ran.Trapped kind) memory end going h = subst (λ (e : Ending). EndsAs drill e (line_of drill (ran.Trapped kind))) (sym h.1) refl
-line_ends drill ran.StepsSpent memory end going h = subst (λ (e : Ending). EndsAs drill e steps_spent) (sym h) refl
-line_ends drill ran.HostStopped memory end going h = absurd (going refl)
-line_ends drill (ran.Fault kind pc) memory end going h = subst (λ (e : Ending). EndsAs drill e (line_of drill (ran.Fault kind pc))) (sym h) refl
+line_ends : (drill : Option ℕ) (peek : Option Peek) (outcome : Ran) (memory : List ℕ) (end : Ending) → outcome ≢ ran.HostStopped → IsEnd outcome memory end → EndsAs drill peek end (lines_of drill peek outcome memory)
+line_ends drill peek (ran.Returned v) memory end going h = subst (λ (e : Ending). EndsAs drill peek e (lines_of drill peek (ran.Returned v) memory)) (sym h.1) refl
+line_ends drill peek (ran.Trapped kind) memory end going h = subst (λ (e : Ending). EndsAs drill peek e (lines_of drill peek (ran.Trapped kind) memory)) (sym h.1) refl
+line_ends drill peek ran.StepsSpent memory end going h = subst (λ (e : Ending). EndsAs drill peek e steps_spent) (sym h) refl
+line_ends drill peek ran.HostStopped memory end going h = absurd (going refl)
+line_ends drill peek (ran.Fault kind pc) memory end going h = subst (λ (e : Ending). EndsAs drill peek e (lines_of drill peek (ran.Fault kind pc) memory)) (sym h) refl
 
 -- a front of a text is one of what begins with it
 front_of_more : (n : ℕ) (text more : List ℕ) → (k : ℕ) × (take n text ≡ take k (text ++ more))
@@ -64,7 +65,7 @@ module _ (drill : Option ℕ) (i : Image) (call : Call) (name : List ℕ) (value
   stopped_told e n found seven same front =
       let run = printing_run i e.offset e.signature.results (map value_of values) call.steps in
       let known : has_unknown_import i.imports ≡ false = all_known i name (map type_of values) (sym is ∙ none) in
-      let line = some_line drill run.end (printing_ends i e (map value_of values) call.steps known) in
+      let line = some_line drill call.peek run.end (printing_ends i e (map value_of values) call.steps known) in
       let k = front_of_more n (printed i.imports run.calls) line.0.text in (
         behind (printed i.imports run.calls) line.0,
         runs_as drill i call name values checked b none is e line.0 found line.1,
@@ -74,41 +75,44 @@ module _ (drill : Option ℕ) (i : Image) (call : Call) (name : List ℕ) (value
   -- the line was written, or a front of it
   line_told : (e : Export) (outcome : Ran) (memory : List ℕ) (failed : Bool) → export_named name i.exports ≡ Some e → outcome ≢ ran.HostStopped
       → IsEnd outcome memory (printing_run i e.offset e.signature.results (map value_of values) call.steps).end
-      → between ≡ append_known old (printed i.imports (printing_run i e.offset e.signature.results (map value_of values) call.steps).calls) → Told status (line_of drill outcome) failed between new → Written failed
+      → between ≡ append_known old (printed i.imports (printing_run i e.offset e.signature.results (map value_of values) call.steps).calls) → Told status (lines_of drill call.peek outcome memory) failed between new → Written failed
   line_told e outcome memory true found going end text told =
       let run = printing_run i e.offset e.signature.results (map value_of values) call.steps in
       let all = printed i.imports run.calls in
-      let line = line_of drill outcome in (
+      let line = lines_of drill call.peek outcome memory in (
         behind all line,
-        runs_as drill i call name values checked b none is e line found (line_ends drill outcome memory run.end going end),
+        runs_as drill i call name values checked b none is e line found (line_ends drill call.peek outcome memory run.end going end),
         (told.0, length all + told.1, told.2 ∙ ap (λ (k : Option (List ℕ)). append_known k (take told.1 line.text)) text ∙ append_more old all (take told.1 line.text) ∙ ap (append_known old) (sym (past all line.text told.1))),
       )
   line_told e outcome memory false found going end text told =
       let run = printing_run i e.offset e.signature.results (map value_of values) call.steps in
       let all = printed i.imports run.calls in
-      let line = line_of drill outcome in (
+      let line = lines_of drill call.peek outcome memory in (
         behind all line,
-        runs_as drill i call name values checked b none is e line found (line_ends drill outcome memory run.end going end),
+        runs_as drill i call name values checked b none is e line found (line_ends drill call.peek outcome memory run.end going end),
         (told.0, told.1 ∙ ap (λ (k : Option (List ℕ)). append_known k line.text) text ∙ append_more old all line.text),
       )
 
   by_sink : (e : Export) (outcome : Ran) (memory : List ℕ) (failed : Bool) → nat_lt before middle ≡ failed → export_named name i.exports ≡ Some e
       → PrintsRun failed i.imports (printing_run i e.offset e.signature.results (map value_of values) call.steps) outcome memory old between
-      → (failed ≡ false → middle ≡ before) → (outcome ≡ ran.HostStopped → (status ≡ 7) × (new ≡ between) × (now ≡ middle)) → (outcome ≢ ran.HostStopped → Told status (line_of drill outcome) (nat_lt middle now) between new)
+      → (failed ≡ false → middle ≡ before) → (outcome ≡ ran.HostStopped → (status ≡ 7) × (new ≡ between) × (now ≡ middle)) → (outcome ≢ ran.HostStopped → Told status (lines_of drill call.peek outcome memory) (nat_lt middle now) between new)
       → Written (nat_lt before now)
   by_sink e outcome memory true failed found p calm stopped told =
       let s = stopped p.0 in
       let here : nat_lt before now ≡ true = ap (nat_lt before) s.2 ∙ failed in
       rw here (stopped_told e p.1 found s.0 s.1 p.2)
   by_sink e outcome memory false failed found p calm stopped told =
-      let here : Told status (line_of drill outcome) (nat_lt before now) between new = subst (λ (k : ℕ). Told status (line_of drill outcome) (nat_lt k now) between new) (calm refl) (told p.0) in
+      let here : Told status (lines_of drill call.peek outcome memory) (nat_lt before now) between new = subst (λ (k : ℕ). Told status (lines_of drill call.peek outcome memory) (nat_lt k now) between new) (calm refl) (told p.0) in
       line_told e outcome memory (nat_lt before now) found p.0 p.1 p.2 here
 
-  pub run_told : (outcome : Ran) (memory : List ℕ)
+  -- the bytes that are shown are the memory behind the run
+  pub run_told : (outcome : Ran) (memory shown : List ℕ) → shown ≡ memory
       → (e : Export) × (export_named name i.exports ≡ Some e) × PrintsRun (nat_lt before middle) i.imports (printing_run i e.offset e.signature.results (map value_of values) call.steps) outcome memory old between
-      → (nat_lt before middle ≡ false → middle ≡ before) → (outcome ≡ ran.HostStopped → (status ≡ 7) × (new ≡ between) × (now ≡ middle)) → (outcome ≢ ran.HostStopped → Told status (line_of drill outcome) (nat_lt middle now) between new)
+      → (nat_lt before middle ≡ false → middle ≡ before) → (outcome ≡ ran.HostStopped → (status ≡ 7) × (new ≡ between) × (now ≡ middle)) → (outcome ≢ ran.HostStopped → Told status (lines_of drill call.peek outcome shown) (nat_lt middle now) between new)
       → Written (nat_lt before now)
-  run_told outcome memory (e, found, p) calm stopped told = by_sink e outcome memory (nat_lt before middle) refl found p calm stopped told
+  run_told outcome memory shown same (e, found, p) calm stopped told =
+      by_sink e outcome memory (nat_lt before middle) refl found p calm stopped
+      (subst (λ (bytes : List ℕ). outcome ≢ ran.HostStopped → Told status (lines_of drill call.peek outcome bytes) (nat_lt middle now) between new) same told)
 
 -- where the run wasn't stopped, the sink's count stands
 pub calm_count : (imports : List Import) (run : ImageRun) (outcome : Ran) (memory : List ℕ) (old new : Option (List ℕ)) (before now : ℕ) → PrintsRun (nat_lt before now) imports run outcome memory old new

@@ -1,10 +1,13 @@
 -- What a compilation took of a module's bytes is right so far.
-use Rattle.std.proofs.Common.{◌≡◌, ℕ, zero, suc, ◌-◌, Bool, true, false, cond, List, [], ◌∷◌, ◌++◌, length, drop, Option, Some, None, refl, sym, ap, ◌∙◌, arith}
+use Rattle.std.proofs.Common.{◌≡◌, ℕ, zero, suc, ◌+◌, ◌-◌, Bool, true, false, cond, List, [], ◌∷◌, ◌++◌, length, drop, Option, Some, None, refl, sym, ap, ◌∙◌, append_assoc, arith}
 use Rattle.std.proofs.lemmas.List.{append-nil}
 use Rattle.wasm_defs.specs.declared.fault.Kind.TheVariants.{Ended}
 use Rattle.wasm_defs.specs.declared.fault.Refusal.{Refusal}
+use Rattle.wasm_defs.specs.declared.item.Item.{Item}
 use Rattle.wasm_defs.specs.Entries.{Seen}
+use Rattle.wasm_defs.specs.Faults.{items_of, bodies_of, AreValid}
 use Rattle.wasm_defs.specs.Outside.{Part, Section, Listed, Coded, Run, Whole, Owed, ends, owes_code, no_end, sections_up_to, sections}
+use Rattle.wasm_laws.proofs.PartLists.{valid_both}
 use Rattle.section_reader.specs.declared.front.Front.{Front}
 use Rattle.section_reader.specs.Stages.{is_at_bodies}
 use Rattle.section_reader.specs.FrontLeft.{total}
@@ -25,12 +28,6 @@ use Rattle.stream_compile.specs.Streaming.{left_of, IsGoing, IsPlaced}
 parts_after : (told : List Part) (run : Run) → (after_parts told run).parts ≡ told ++ run.parts
 parts_after [] run = refl
 parts_after (x ∷ told) run = ap (λ (l : List Part). x ∷ l) (parts_after told run)
-
-two_sections : (xs ys : List Part) → AreSections xs → AreSections ys → AreSections (xs ++ ys)
-two_sections [] ys a b = b
-two_sections (Section at id ∷ xs) ys a b = two_sections xs ys a b
-two_sections (Listed x ∷ xs) ys a b = absurd a
-two_sections (Coded x ∷ xs) ys a b = absurd a
 
 -- ---- outside the bodies
 
@@ -74,35 +71,34 @@ bodies_cut f c =
 
 -- ---- what came
 
-module _ (came : List ℕ) (f : Front) (told : List Part) (are : AreSections told) where
-  right : (cutter : Option Cutting) {spaces : _} {bodies : ℕ} → IsPlaced f cutter told (length came) [] → IsJudged came (after_parts told (left_of f cutter [])) spaces bodies → IsRightSoFar came
-  right None p j =
-      let t = front_ends f p.idle p.outside in
-      let more = t.1.told in
-      let tail : (after_parts told (left_of f None [])).parts ≡ (told ++ more) ++ [] =
-      parts_after told (left_of f None [])
-      ∙ ap (λ (l : List Part). told ++ l) (ap (λ (r : Run). r.parts) t.1.run ∙ parts_after more (ends t.1.ending) ∙ append-nil more)
-      ∙ sym (append-nil (told ++ more)) in
-      record {
-        front = j.front;
-        begun = told ++ more;
-        bodies = [];
-        parts = j.parts ∙ ap (λ (l : List Part). j.front ++ l) tail;
-        compiled = j.compiled;
-        trees = j.trees;
-        valid = j.valid;
-        sections = two_sections told more are t.1.sections;
-      }
-  right (Some c) p j = record {
-    front = j.front;
-    begun = told;
-    bodies = bodies_in (left c []).queue;
-    parts = j.parts ∙ ap (λ (l : List Part). j.front ++ l) (parts_after told (left_of f (Some c) []) ∙ ap (λ (l : List Part). told ++ l) (bodies_cut f c));
-    compiled = j.compiled;
-    trees = j.trees;
-    valid = j.valid;
-    sections = are;
-  }
+-- sections are valid
+sections_valid : (items : List Item) (k : ℕ) (told : List Part) → AreSections told → AreValid items k told []
+sections_valid items k [] are = tt
+sections_valid items k (Section at id ∷ told) are = sections_valid items k told are
+sections_valid items k (Listed x ∷ told) are = absurd are
+sections_valid items k (Coded b ∷ told) are = absurd are
+
+right : (came : List ℕ) (f : Front) (cutter : Option Cutting) {spaces : _} {bodies : ℕ} → IsPlaced f cutter (length came) [] → IsJudged came (left_of f cutter []) spaces bodies → IsRightSoFar came
+right came f None p j =
+    let t = front_ends f p.idle p.outside in
+    let told = t.1.told in
+    record {
+      front = j.front ++ told;
+      bodies = [];
+      parts =
+          j.parts
+          ∙ ap (λ (l : List Part). j.front ++ l) (ap (λ (r : Run). r.parts) t.1.run ∙ parts_after told (ends t.1.ending))
+          ∙ sym (append_assoc j.front told []);
+      trees = j.trees ++ [];
+      valid = valid_both [] 0 j.front told j.trees [] j.valid (sections_valid (items_of j.front) (0 + length (bodies_of j.front)) told t.1.sections);
+    }
+right came f (Some c) p j = record {
+  front = j.front;
+  bodies = bodies_in (left c []).queue;
+  parts = j.parts ∙ ap (λ (l : List Part). j.front ++ l) (bodies_cut f c);
+  trees = j.trees;
+  valid = j.valid;
+}
 
 pub right_so_far : (came : List ℕ) (s : Compilation) → IsGoing came s [] → IsRightSoFar came
-right_so_far came s g = right came s.front g.told g.sections s.cutter g.place g.judging.judged
+right_so_far came s g = right came s.front s.cutter g.place g.judging.judged

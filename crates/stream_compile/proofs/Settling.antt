@@ -6,8 +6,7 @@ use Rattle.std.proofs.lemmas.Bool.{lt-ltb, le-ltb, cases_lt}
 use Rattle.std.proofs.lemmas.List.{append-nil, take-append-drop}
 use Rattle.wasm_defs.specs.declared.fault.Refusal.{Refusal}
 use Rattle.wasm_defs.specs.Outside.{Run, Ending, Refused, module_read}
-use Rattle.wasm_defs.specs.Supported.{is_compiled_section}
-use Rattle.wasm_defs.specs.Faults.{Module, Verdict, Accepted, Rejected, IsFirst, IsFaultInside, ending_fault, first_outside, sections_of}
+use Rattle.wasm_defs.specs.Faults.{Module, Verdict, Accepted, Rejected, IsFaultInside, ending_fault}
 use Rattle.wasm_laws.proofs.Bounded.{module_is_refused, module_stays}
 use Rattle.image_linker.specs.Judging.{IsTextFault, IsVerdictOf}
 use Rattle.io_edges.specs.Causes.{Rose}
@@ -24,11 +23,9 @@ none_left (Some l) end = sym end
 at_end : (read : List ℕ) (old new : Option (List ℕ)) → IsRead old new read → IsAtEnd new → Came old new false read
 at_end read old new is end = (read, [], is, none_left new end, sym (append-nil read))
 
--- a fault of a module with this run, of so many bytes, and its first
+-- a fault of a module with this run, of so many bytes, and that of least offset
 abbrev IsFaultIn : ℕ → Run → Refusal → Type 0
-IsFaultIn n run r =
-    (IsFirst (λ s. (ending_fault n run.ending ≡ Some s) ⊎ (first_outside is_compiled_section (sections_of run.parts) ≡ Some s)) r ⊎ IsFaultInside [] 0 run.parts r)
-    ⊎ IsTextFault [] 0 0 run.parts r
+IsFaultIn n run r = ((ending_fault n run.ending ≡ Some r) ⊎ IsFaultInside [] 0 run.parts r) ⊎ IsTextFault [] 0 0 run.parts r
 
 abbrev IsFirstIn : ℕ → Run → Refusal → Type 0
 IsFirstIn n run r = IsFaultIn n run r × ((s : Refusal) → IsFaultIn n run s → r.offset ≤ s.offset)

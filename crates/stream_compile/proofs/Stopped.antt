@@ -1,6 +1,5 @@
 -- What decides after a source's fault stays, whatever else would have come.
-use Rattle.std.proofs.Common.{◌≡◌, ◌≢◌, ◌≤◌, ◌<◌, ◌⊎◌, inl, inr, Bool, ℕ, suc, ◌+◌, List, [], ◌∷◌, ◌++◌, length, Option, Some, None, refl, sym, ap, ◌∙◌, subst, arith, length-append}
-use Rattle.std.proofs.lemmas.Bool.{cases_Bool, cases_lt}
+use Rattle.std.proofs.Common.{◌≡◌, ◌≢◌, ◌≤◌, ◌<◌, ◌⊎◌, inl, inr, ℕ, suc, ◌+◌, List, [], ◌∷◌, ◌++◌, length, Option, Some, None, refl, sym, ap, ◌∙◌, subst, arith, length-append}
 use Rattle.wasm_defs.specs.declared.fault.Kind.{Kind}
 use Rattle.wasm_defs.specs.declared.fault.Kind.TheVariants.{Malformed, Unsupported, Limit, Invalid, Ended}
 use Rattle.wasm_defs.specs.declared.fault.Refusal.{Refusal}
@@ -11,21 +10,17 @@ use Rattle.wasm_defs.specs.Typing.{Context}
 use Rattle.wasm_defs.specs.Context.{context_of}
 use Rattle.wasm_defs.specs.Viable.{IsFaulty}
 use Rattle.wasm_defs.specs.Outside.{Part, Section, Listed, Coded, Body, Ending, Whole, Refused, Owed, Run, module_read}
-use Rattle.wasm_defs.specs.Supported.{is_compiled_section}
-use Rattle.wasm_defs.specs.Faults.{rank, IsNoLater, IsFirst, unsupported_at, first_outside, ending_fault, sections_of, tokens_of, IsTokenFault, IsSpellingFault, IsCodeFault, started, IsStartFault, IsFaultInside, read_of, context_at, Verdict, Accepted, Rejected}
-use Rattle.wasm_defs.specs.Supported.{is_compiled_opcode}
+use Rattle.wasm_defs.specs.Faults.{rank, ending_fault, tokens_of, IsCodeFault, started, IsStartFault, IsFaultInside, read_of, context_at, Verdict, Accepted, Rejected}
 use Rattle.wasm_laws.specs.Runs.{Becomes}
 use Rattle.wasm_laws.specs.Order.{AreOrdered, behind_start, end_of, first_section}
 use Rattle.wasm_laws.proofs.Order.{start_goes_on, start_before, parts_before_fault, parts_in_module}
 use Rattle.wasm_laws.proofs.Runs.{module_goes_on}
 use Rattle.image_linker.specs.ImageOf.{size_of}
 use Rattle.image_linker.specs.Judging.{IsTextFault, IsFaultOf, IsVerdictOf, IsStoppedAt, lasting, lasting_fault}
-use Rattle.wasm_laws.proofs.PartLists.{sections_of-append}
-use Rattle.wasm_laws.proofs.PartOrder.{fault_after, section_after}
+use Rattle.wasm_laws.proofs.PartOrder.{fault_after}
 use Rattle.stream_compile.proofs.TextFaults.{text_after, text_before}
 use Rattle.stream_compile.proofs.Once.{before_last, fault_of_once, no_fault_of}
 use Rattle.wasm_laws.proofs.BodyKinds.{EndingLasts, body_fault_lasts, module_lasts}
-use Rattle.wasm_laws.proofs.Later.{AreBefore, Behind, Keeps, module_keeps}
 
 -- ---- kinds
 
@@ -39,15 +34,6 @@ kind_cases Ended = inl refl
 not_ended : (k : Kind) → rank k < 4 → k ≡ Ended → ⊥
 not_ended k h e = let n = ap rank e in omega arith
 
--- what isn't compiled is unsupported
-outside_is : (compiled : ℕ → Bool) (xs : List (ℕ × ℕ)) (r : Refusal) → first_outside compiled xs ≡ Some r → rank r.kind ≡ 1
-outside_is compiled [] r e = absurd cc
-outside_is compiled (x ∷ xs) r e =
-    elim (cases_Bool (compiled x.1)) [
-      | inl h ↦ let t : first_outside compiled xs ≡ Some r = rw h at e in outside_is compiled xs r t
-      | inr h ↦ let t = rw h at e in let same : unsupported_at x.0 ≡ r = cc in subst (λ (s : Refusal). rank s.kind ≡ 1) same refl
-    ]
-
 faulty_kind : (c : Context) (tokens : List Token) (k : Kind) → IsFaulty c tokens k → rank k < 4
 faulty_kind c tokens Malformed f = omega arith
 faulty_kind c tokens Unsupported f = omega arith
@@ -56,12 +42,8 @@ faulty_kind c tokens Invalid f = omega arith
 faulty_kind c tokens Ended f = absurd f
 
 code_kind : (c : Context) (b : Body) (r : Refusal) → IsCodeFault c (read_of b).code r → rank r.kind < 4
-code_kind c b r f = of f.0
-  where
-    of : IsTokenFault c (read_of b).code.tokens r ⊎ IsSpellingFault c (read_of b).code.tokens (read_of b).code.fault r ⊎ (first_outside is_compiled_opcode (read_of b).code.opcodes ≡ Some r) → rank r.kind < 4
-    of (inl t) = faulty_kind c (tokens_of t.before ++ t.token ∷ []) r.kind t.faulty
-    of (inr (inl s)) = body_fault_lasts b.first b.bytes r s.is
-    of (inr (inr u)) = omega (arith, outside_is is_compiled_opcode (read_of b).code.opcodes r u)
+code_kind c b r (inl t) = faulty_kind c (tokens_of t.before ++ t.token ∷ []) r.kind t.faulty
+code_kind c b r (inr s) = body_fault_lasts b.first b.bytes r s.is
 
 start_kind : (c : Context) (o : Option (ℕ × ℕ)) (r : Refusal) → IsStartFault c o r → rank r.kind < 4
 start_kind c None r f = absurd f
@@ -90,11 +72,7 @@ ending_kind n (Refused s) r lasts e k = let same : s ≡ r = cc in absurd (not_e
 ending_kind n Owed r lasts e k = let same : record { offset = n; kind = Ended } ≡ r = cc in (refl, sym (ap (λ (x : Refusal). x.offset) same))
 
 pub ended_is_owed : (bytes : List ℕ) (r : Refusal) → IsFaultOf bytes r → r.kind ≡ Ended → ((module_read bytes).ending ≡ Owed) × (r.offset ≡ length bytes)
-ended_is_owed bytes r (inl (inl f)) k = of f.0
-  where
-    of : (ending_fault (length bytes) (module_read bytes).ending ≡ Some r) ⊎ (first_outside is_compiled_section (sections_of (module_read bytes).parts) ≡ Some r) → ((module_read bytes).ending ≡ Owed) × (r.offset ≡ length bytes)
-    of (inl e) = ending_kind (length bytes) (module_read bytes).ending r (module_lasts bytes) e k
-    of (inr e) = absurd (not_ended r.kind (omega (arith, outside_is is_compiled_section (sections_of (module_read bytes).parts) r e)) k)
+ended_is_owed bytes r (inl (inl e)) k = ending_kind (length bytes) (module_read bytes).ending r (module_lasts bytes) e k
 ended_is_owed bytes r (inl (inr f)) k = absurd (not_ended r.kind (inside_kind [] 0 (module_read bytes).parts r f) k)
 ended_is_owed bytes r (inr f) k = absurd (not_ended r.kind (text_kind [] 0 0 (module_read bytes).parts r f) k)
 
@@ -118,33 +96,7 @@ split low last (Coded b ∷ front) back o =
     let stands = o.0 in
     (q.0, omega (arith, stands.from, stands.sized, q.1), (record { from = stands.from; sized = stands.sized; least = stands.least; most = stands.most; before = q.1 }, q.2), q.3)
 
-section_before : (low last : ℕ) (parts : List Part) (r : Refusal) → AreOrdered low last parts → first_outside is_compiled_section (sections_of parts) ≡ Some r → r.offset ≤ last
-section_before low last [] r o e = absurd cc
-section_before low last (Section at id ∷ parts) r o e =
-    elim (cases_Bool (is_compiled_section id)) [
-      | inl h ↦ let t : first_outside is_compiled_section (sections_of parts) ≡ Some r = rw h at e in section_before (suc at) last parts r o.2 t
-      | inr h ↦ let t = rw h at e in let same : unsupported_at at ≡ r = cc in omega (arith, o.1, ap (λ (s : Refusal). s.offset) same)
-    ]
-section_before low last (Listed x ∷ parts) r o e = section_before (behind_start low (started x)) last parts r o.1 e
-section_before low last (Coded b ∷ parts) r o e = section_before (end_of b) last parts r o.1 e
-
-outside_before : (n : ℕ) (xs : List (ℕ × ℕ)) (r : Refusal) → AreBefore n xs → first_outside is_compiled_section xs ≡ Some r → r.offset < n
-outside_before n [] r p e = absurd cc
-outside_before n (x ∷ xs) r p e =
-    elim (cases_Bool (is_compiled_section x.1)) [
-      | inl h ↦ let t : first_outside is_compiled_section xs ≡ Some r = rw h at e in outside_before n xs r p.1 t
-      | inr h ↦ let t = rw h at e in let same : unsupported_at x.0 ≡ r = cc in omega (arith, p.0, ap (λ (s : Refusal). s.offset) same)
-    ]
-
 -- ---- faults of the parts in front stay
-
-outside_stays : (xs ys : List (ℕ × ℕ)) (r : Refusal) → first_outside is_compiled_section xs ≡ Some r → first_outside is_compiled_section (xs ++ ys) ≡ Some r
-outside_stays [] ys r e = absurd cc
-outside_stays (x ∷ xs) ys r e =
-    elim (cases_Bool (is_compiled_section x.1)) [
-      | inl h ↦ let t : first_outside is_compiled_section xs ≡ Some r = rw h at e in rw h (outside_stays xs ys r t)
-      | inr h ↦ let t = rw h at e in rw h t
-    ]
 
 inside_stays : (items : List Item) (k : ℕ) (front back : List Part) (r : Refusal) → IsFaultInside items k front r → IsFaultInside items k (front ++ back) r
 inside_stays items k [] back r f = absurd f
@@ -162,14 +114,6 @@ text_stays items k words (Coded b ∷ front) back r (tree, v, inl f) = (tree, v,
 text_stays items k words (Coded b ∷ front) back r (tree, v, inr f) = (tree, v, inr (f.0, text_stays items (suc k) (words + size_of items k b tree) front back r f.1))
 
 -- ---- a fault is one of the parts in front, or of those behind
-
-outside_splits : (xs ys : List (ℕ × ℕ)) (r : Refusal) → first_outside is_compiled_section (xs ++ ys) ≡ Some r → (first_outside is_compiled_section xs ≡ Some r) ⊎ (first_outside is_compiled_section ys ≡ Some r)
-outside_splits [] ys r e = inr e
-outside_splits (x ∷ xs) ys r e =
-    elim (cases_Bool (is_compiled_section x.1)) [
-      | inl h ↦ let t : first_outside is_compiled_section (xs ++ ys) ≡ Some r = rw h at e in rw h (outside_splits xs ys r t)
-      | inr h ↦ let t = rw h at e in rw h (inl t)
-    ]
 
 inside_splits : (items : List Item) (k : ℕ) (front back : List Part) (r : Refusal) → IsFaultInside items k (front ++ back) r → IsFaultInside items k front r ⊎ ((xs : List Item) × (n : ℕ) × IsFaultInside xs n back r)
 inside_splits items k [] back r f = inr (items, k, f)
@@ -191,9 +135,7 @@ text_splits items k words (Coded b ∷ front) back r (tree, v, inr f) =
 
 -- a fault of a module with this run, of so many bytes
 abbrev IsFaultIn : ℕ → Run → Refusal → Type 0
-IsFaultIn n run r =
-    (IsFirst (λ s. (ending_fault n run.ending ≡ Some s) ⊎ (first_outside is_compiled_section (sections_of run.parts) ≡ Some s)) r ⊎ IsFaultInside [] 0 run.parts r)
-    ⊎ IsTextFault [] 0 0 run.parts r
+IsFaultIn n run r = ((ending_fault n run.ending ≡ Some r) ⊎ IsFaultInside [] 0 run.parts r) ⊎ IsTextFault [] 0 0 run.parts r
 
 abbrev run_of : List Part → Ending → Run
 run_of parts ending = record { parts = parts; ending = ending }
@@ -211,51 +153,23 @@ owed_open n s e = let same : record { offset = n; kind = Ended } ≡ s = cc in s
 never : (n : ℕ) (ending : Ending) (r : Refusal) → IsOpen n ending → r.kind ≢ Ended → ending_fault n ending ≡ Some r → ⊥
 never n ending r open_is other e = other (ap (λ (s : Refusal). s.kind) (open_is r e))
 
-same_first : (r s : Refusal) (x : Option Refusal) → x ≡ Some r → x ≡ Some s → IsNoLater r s
-same_first r s x e f = let same : r ≡ s = cc in subst (λ (t : Refusal). IsNoLater r t) same (inr (refl, omega arith))
-
-before_ended : (n : ℕ) (r s : Refusal) → rank r.kind ≡ 1 → r.offset ≤ n → s ≡ record { offset = n; kind = Ended } → IsNoLater r s
-before_ended n r s k le e =
-    let at : s.offset ≡ n = ap (λ (t : Refusal). t.offset) e in
-    let of : rank s.kind ≡ 4 = ap (λ (t : Refusal). rank t.kind) e in
-    elim (cases_lt r.offset n) [
-      | inl lt ↦ inl (omega arith)
-      | inr ge ↦ inr (omega arith, omega arith)
-    ]
-
-before_ending : (m : ℕ) (xs : List (ℕ × ℕ)) (later : Ending) (r s : Refusal) → first_outside is_compiled_section xs ≡ Some r → Behind xs later → r.offset ≤ m → ending_fault m later ≡ Some s → IsNoLater r s
-before_ending m xs (Whole seen) r s u h le e = absurd cc
-before_ending m xs (Refused t) r s u h le e =
-    let same : t ≡ s = cc in
-    let at : t.offset ≡ s.offset = ap (λ (x : Refusal). x.offset) same in
-    inl (omega (arith, outside_before t.offset xs r h u))
-before_ending m xs Owed r s u h le e = before_ended m r s (outside_is is_compiled_section xs r u) le (owed_open m s e)
-
 -- ---- what stays
 
 module _ (n m : ℕ) (parts : List Part) (ending : Ending) (later : Run) (tail : List Part) (le : n ≤ m) (grown : later.parts ≡ parts ++ tail) (open_is : IsOpen n ending) where
-  open_stays : (r : Refusal) → Behind (sections_of parts) later.ending → AreOrdered first_section n parts → IsFaultIn n (run_of parts ending) r → r.kind ≢ Ended → IsFaultIn m later r
-  open_stays r behind o (inl (inl f)) other = inl (inl (of f.0))
-    where
-      of : (ending_fault n ending ≡ Some r) ⊎ (first_outside is_compiled_section (sections_of parts) ≡ Some r) → IsFirst (λ s. (ending_fault m later.ending ≡ Some s) ⊎ (first_outside is_compiled_section (sections_of later.parts) ≡ Some s)) r
-      of (inl e) = absurd (never n ending r open_is other e)
-      of (inr e) =
-          let all : first_outside is_compiled_section (sections_of later.parts) ≡ Some r =
-          ap (λ (l : List Part). first_outside is_compiled_section (sections_of l)) grown ∙ ap (first_outside is_compiled_section) (sections_of-append parts tail) ∙ outside_stays (sections_of parts) (sections_of tail) r e in
-          let near = section_before first_section n parts r o e in
-          (inr all, λ s p. elim p [ inl f ↦ before_ending m (sections_of parts) later.ending r s e behind (omega (arith, le, near)) f | inr f ↦ same_first r s _ all f ])
-  open_stays r behind o (inl (inr f)) other = inl (inr (subst (λ (l : List Part). IsFaultInside [] 0 l r) (sym grown) (inside_stays [] 0 parts tail r f)))
-  open_stays r behind o (inr f) other = inr (subst (λ (l : List Part). IsTextFault [] 0 0 l r) (sym grown) (text_stays [] 0 0 parts tail r f))
+  open_stays : (r : Refusal) → IsFaultIn n (run_of parts ending) r → r.kind ≢ Ended → IsFaultIn m later r
+  open_stays r (inl (inl e)) other = absurd (never n ending r open_is other e)
+  open_stays r (inl (inr f)) other = inl (inr (subst (λ (l : List Part). IsFaultInside [] 0 l r) (sym grown) (inside_stays [] 0 parts tail r f)))
+  open_stays r (inr f) other = inr (subst (λ (l : List Part). IsTextFault [] 0 0 l r) (sym grown) (text_stays [] 0 0 parts tail r f))
 
   -- the faults that were there stand before that place, if the parts do
   front_before : (last : ℕ) (r : Refusal) → AreOrdered first_section last parts → IsFaultIn n (run_of parts ending) r → r.kind ≢ Ended → r.offset ≤ last
-  front_before last r o (inl (inl f)) other = elim f.0 [ inl e ↦ absurd (never n ending r open_is other e) | inr e ↦ section_before first_section last parts r o e ]
+  front_before last r o (inl (inl e)) other = absurd (never n ending r open_is other e)
   front_before last r o (inl (inr f)) other = let h = before_last first_section last [] 0 parts r o f in omega arith
   front_before last r o (inr f) other = let h = text_before first_section last [] 0 0 parts r o f in omega arith
 
-  open_later : (s : Refusal) → AreOrdered first_section n parts → AreOrdered first_section m later.parts → ((t : Refusal) → ending_fault m later.ending ≡ Some t → AreOrdered first_section t.offset later.parts) → IsFaultIn m later s
+  open_later : (s : Refusal) → AreOrdered first_section m later.parts → ((t : Refusal) → ending_fault m later.ending ≡ Some t → AreOrdered first_section t.offset later.parts) → IsFaultIn m later s
       → IsFaultIn n (run_of parts ending) s ⊎ ((r : Refusal) → IsFaultIn n (run_of parts ending) r → r.kind ≢ Ended → r.offset ≤ s.offset)
-  open_later s o all before f = of f
+  open_later s all before f = of f
     where
       q : (mid : ℕ) × (first_section ≤ mid) × AreOrdered first_section mid parts × AreOrdered mid m tail
       q = split first_section m parts tail (subst (λ (l : List Part). AreOrdered first_section m l) grown all)
@@ -263,18 +177,8 @@ module _ (n m : ℕ) (parts : List Part) (ending : Ending) (later : Run) (tail :
       behind : q.0 ≤ s.offset → (r : Refusal) → IsFaultIn n (run_of parts ending) r → r.kind ≢ Ended → r.offset ≤ s.offset
       behind le r f other = let h = front_before q.0 r q.2 f other in omega arith
 
-      of_outside : (ending_fault m later.ending ≡ Some s) ⊎ (first_outside is_compiled_section (sections_of later.parts) ≡ Some s) → IsFaultIn n (run_of parts ending) s ⊎ ((r : Refusal) → IsFaultIn n (run_of parts ending) r → r.kind ≢ Ended → r.offset ≤ s.offset)
-      of_outside (inl e) = inr (λ r f other. front_before s.offset r (front_ordered first_section s.offset parts tail (subst (λ (l : List Part). AreOrdered first_section s.offset l) grown (before s e))) f other)
-      of_outside (inr e) =
-          let here : first_outside is_compiled_section (sections_of parts ++ sections_of tail) ≡ Some s =
-          sym (ap (λ (l : List Part). first_outside is_compiled_section (sections_of l)) grown ∙ ap (first_outside is_compiled_section) (sections_of-append parts tail)) ∙ e in
-          elim (outside_splits (sections_of parts) (sections_of tail) s here) [
-            | inl g ↦ inl (inl (inl (inr g, λ t p. elim p [ inl h ↦ before_ended n s t (outside_is is_compiled_section (sections_of parts) s g) (section_before first_section n parts s o g) (open_is t h) | inr h ↦ same_first s t _ g h ])))
-            | inr g ↦ inr (behind (section_after q.0 m tail s q.3 g))
-          ]
-
       of : IsFaultIn m later s → IsFaultIn n (run_of parts ending) s ⊎ ((r : Refusal) → IsFaultIn n (run_of parts ending) r → r.kind ≢ Ended → r.offset ≤ s.offset)
-      of (inl (inl f)) = of_outside f.0
+      of (inl (inl e)) = inr (λ r f other. front_before s.offset r (front_ordered first_section s.offset parts tail (subst (λ (l : List Part). AreOrdered first_section s.offset l) grown (before s e))) f other)
       of (inl (inr f)) = elim (inside_splits [] 0 parts tail s (subst (λ (l : List Part). IsFaultInside [] 0 l s) grown f)) [
         | inl g ↦ inl (inl (inr g))
         | inr g ↦ inr (behind (fault_after q.0 m g.0 g.1 tail s q.3 g.2))
@@ -284,27 +188,27 @@ module _ (n m : ℕ) (parts : List Part) (ending : Ending) (later : Run) (tail :
         | inr g ↦ inr (behind (text_after q.0 m g.0 g.1 g.2 tail s q.3 g.3))
       ]
 
-stays : (n m : ℕ) (parts : List Part) (ending : Ending) (later : Run) (r : Refusal) → n ≤ m → Becomes parts ending later → Keeps ending (sections_of parts) later.ending → AreOrdered first_section n parts → IsFaultIn n (run_of parts ending) r → r.kind ≢ Ended → IsFaultIn m later r
-stays n m parts (Whole seen) later r le goes keeps o f other = open_stays n m parts (Whole seen) later goes.0 le goes.1 (whole_open n seen) r keeps o f other
-stays n m parts (Refused s) later r le goes keeps o f other = subst (λ (x : Run). IsFaultIn m x r) (sym goes) f
-stays n m parts Owed later r le goes keeps o f other = open_stays n m parts Owed later goes.0 le goes.1 (owed_open n) r keeps o f other
+stays : (n m : ℕ) (parts : List Part) (ending : Ending) (later : Run) (r : Refusal) → n ≤ m → Becomes parts ending later → IsFaultIn n (run_of parts ending) r → r.kind ≢ Ended → IsFaultIn m later r
+stays n m parts (Whole seen) later r le goes f other = open_stays n m parts (Whole seen) later goes.0 le goes.1 (whole_open n seen) r f other
+stays n m parts (Refused s) later r le goes f other = subst (λ (x : Run). IsFaultIn m x r) (sym goes) f
+stays n m parts Owed later r le goes f other = open_stays n m parts Owed later goes.0 le goes.1 (owed_open n) r f other
 
 -- a fault that comes later is none before those that are there
-comes : (n m : ℕ) (parts : List Part) (ending : Ending) (later : Run) (s : Refusal) → n ≤ m → Becomes parts ending later → AreOrdered first_section n parts → AreOrdered first_section m later.parts
+comes : (n m : ℕ) (parts : List Part) (ending : Ending) (later : Run) (s : Refusal) → n ≤ m → Becomes parts ending later → AreOrdered first_section m later.parts
     → ((t : Refusal) → ending_fault m later.ending ≡ Some t → AreOrdered first_section t.offset later.parts) → IsFaultIn m later s → IsFaultIn n (run_of parts ending) s ⊎ ((r : Refusal) → IsFaultIn n (run_of parts ending) r → r.kind ≢ Ended → r.offset ≤ s.offset)
-comes n m parts (Whole seen) later s le goes o all before f = open_later n m parts (Whole seen) later goes.0 le goes.1 (whole_open n seen) s o all before f
-comes n m parts (Refused t) later s le goes o all before f = inl (subst (λ (x : Run). IsFaultIn m x s) goes f)
-comes n m parts Owed later s le goes o all before f = open_later n m parts Owed later goes.0 le goes.1 (owed_open n) s o all before f
+comes n m parts (Whole seen) later s le goes all before f = open_later n m parts (Whole seen) later goes.0 le goes.1 (whole_open n seen) s all before f
+comes n m parts (Refused t) later s le goes all before f = inl (subst (λ (x : Run). IsFaultIn m x s) goes f)
+comes n m parts Owed later s le goes all before f = open_later n m parts Owed later goes.0 le goes.1 (owed_open n) s all before f
 
 -- ---- the laws
 
 pub fault_stays : (bytes more : List ℕ) (r : Refusal) → IsFaultOf bytes r → r.kind ≢ Ended → IsFaultOf (bytes ++ more) r
 fault_stays bytes more r f other =
     let run = module_read bytes in
-    stays (length bytes) (length (bytes ++ more)) run.parts run.ending (module_read (bytes ++ more)) r (omega (arith, length-append bytes more)) (module_goes_on bytes more) (module_keeps bytes more) (parts_in_module bytes) f other
+    stays (length bytes) (length (bytes ++ more)) run.parts run.ending (module_read (bytes ++ more)) r (omega (arith, length-append bytes more)) (module_goes_on bytes more) f other
 
 fault_within : (bytes : List ℕ) (r : Refusal) → IsFaultOf bytes r → r.offset ≤ length bytes
-fault_within bytes r (inl (inl f)) = elim f.0 [ inl e ↦ (parts_before_fault bytes r e).1 | inr e ↦ section_before first_section (length bytes) (module_read bytes).parts r (parts_in_module bytes) e ]
+fault_within bytes r (inl (inl e)) = (parts_before_fault bytes r e).1
 fault_within bytes r (inl (inr f)) = let h = before_last first_section (length bytes) [] 0 (module_read bytes).parts r (parts_in_module bytes) f in omega arith
 fault_within bytes r (inr f) = let h = text_before first_section (length bytes) [] 0 0 (module_read bytes).parts r (parts_in_module bytes) f in omega arith
 
@@ -316,7 +220,7 @@ least bytes more r s p f =
           omega (arith, ended.1, fault_within bytes r p.0, length-append bytes more)
       | inr k ↦
           let run = module_read bytes in
-          elim (comes (length bytes) (length (bytes ++ more)) run.parts run.ending (module_read (bytes ++ more)) s (omega (arith, length-append bytes more)) (module_goes_on bytes more) (parts_in_module bytes) (parts_in_module (bytes ++ more)) (λ t e. (parts_before_fault (bytes ++ more) t e).0) f) [
+          elim (comes (length bytes) (length (bytes ++ more)) run.parts run.ending (module_read (bytes ++ more)) s (omega (arith, length-append bytes more)) (module_goes_on bytes more) (parts_in_module (bytes ++ more)) (λ t e. (parts_before_fault (bytes ++ more) t e).0) f) [
             | inl g ↦ p.2 s g (not_ended s.kind k)
             | inr g ↦ g r p.0 p.1
           ]

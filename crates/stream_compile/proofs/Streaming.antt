@@ -1,22 +1,20 @@
 -- A module whose bytes come: what each step leaves.
-use Rattle.std.specs.Prelude.{◌⊎◌, IsSome, is_some}
-use Rattle.std.proofs.lemmas.List.{append-nil, nil_from_length}
+use Rattle.std.specs.Prelude.{◌⊎◌, IsSome}
+use Rattle.std.proofs.lemmas.List.{append-nil}
 use Rattle.std.proofs.Common.{◌≡◌, ℕ, ◌+◌, ◌^◌, ◌≤◌, ◌<◌, inl, inr, true, false, List, [], ◌∷◌, ◌++◌, length, drop, Option, Some, None, Err, refl, sym, ap, subst, ◌∙◌, arith, length-append, length-drop}
 use Rattle.wasm_defs.specs.declared.fault.Refusal.{Refusal}
 use Rattle.wasm_defs.specs.declared.item.Item.{Item}
 use Rattle.wasm_defs.specs.declared.item.Item.TheVariants as item
-use Rattle.wasm_defs.specs.Supported.{is_compiled_section}
-use Rattle.wasm_defs.specs.Faults.{first_outside, ending_fault, sections_of, unsupported_at, started, StartsRight, IsStartFault, Rejected}
-use Rattle.wasm_defs.specs.Outside.{Part, Listed, Run, Ending, Whole, Refused, Owed, after_part, ends, sections, no_end, module_read}
+use Rattle.wasm_defs.specs.Faults.{ending_fault, started, StartsRight, IsStartFault, Rejected}
+use Rattle.wasm_defs.specs.Outside.{Part, Run, Ending, Whole, Refused, Owed, ends, sections, no_end, module_read}
 use Rattle.index_spaces.specs.Spaces.{Spaces, spaces_of, context_in, with_item}
 use Rattle.section_reader.specs.declared.front.Front.{Front}
 use Rattle.section_reader.specs.declared.steps.Steps.{Steps}
-use Rattle.section_reader.specs.declared.stage.Stage.{Stage}
 use Rattle.section_reader.specs.declared.stage.Stage.TheVariants as stage
 use Rattle.section_reader.specs.Stages.{is_at_bodies, prepend}
-use Rattle.section_reader.specs.Onward.{after_parts, AreSections, outside_of, first_begun}
+use Rattle.section_reader.specs.Onward.{after_parts}
 use Rattle.section_reader.specs.FrontLeft.{total, can_skip}
-use Rattle.section_reader.specs.FrontOnward.{onward_left, begun, Told, FedOnward, ToldRefused, Follows, BodiesCome, EndsOnward}
+use Rattle.section_reader.specs.FrontOnward.{onward_left, Told, FedOnward, ToldRefused, FeedsOnward, Follows, BodiesCome, EndsOnward}
 use Rattle.wasm_defs.specs.Entries.{Seen}
 use Rattle.body_cutter.specs.Sections.{bodies_from}
 use Rattle.body_cutter.specs.Sections as cut
@@ -31,32 +29,23 @@ use Rattle.wasm_defs.specs.declared.front_stop.FrontStop.TheVariants as stop
 use Rattle.stream_compile.specs.Codes.{Coding, AreAll}
 use Rattle.stream_compile.specs.Progress.{IsJudging, TakesPart}
 use Rattle.stream_compile.specs.Done.{Decides}
-use Rattle.stream_compile.specs.Streaming.{mode_weight, work_left, left_of, IsOutside, IsInside, IsPlaced, IsGoing, IsTaking, IsWaiting, TakesItem, Advances, GoesOn, with_cutter, earliest}
-use Rattle.stream_compile.proofs.CutRuns.{after_append, entries_cut, handed_run}
+use Rattle.stream_compile.specs.Streaming.{mode_weight, work_left, left_of, IsOutside, IsInside, IsPlaced, IsGoing, IsTaking, IsWaiting, TakesItem, Advances, GoesOn, with_cutter}
+use Rattle.stream_compile.proofs.CutRuns.{entries_cut, handed_run}
 use Rattle.stream_compile.proofs.Cutting.{run_fed, count_fed, whole_run, whole_at, refused_run, ended_run, prompt_on, rest_run, split_rest, rest_is}
-use Rattle.stream_compile.proofs.Compiled.{begins, after_item, start_refused, is_refused}
+use Rattle.stream_compile.proofs.Compiled.{begins, after_item, sections_taken, start_refused, is_refused}
 use Rattle.stream_compile.proofs.Taking.{judging_on}
 use Rattle.stream_compile.proofs.Judging.{few_functions, few_imports}
 use Rattle.stream_compile.proofs.CodeEnds.{code_ends}
-use Rattle.stream_compile.proofs.Told.{sections_append, first_more, sections_taken, outside_decides, outside_ends, sections_end}
 
--- ---- what came is right but for the sections that were begun
-
--- and this is left
-pub record IsRight (bytes : List ℕ) (f : Front) (run : Run) (spaces : Spaces) (codes : Coding) : Type 0 where
-  pub few : length bytes ≤ 67108869
-  pub told : List Part
-  pub sections : AreSections told
-  pub first : outside_of f.steps.uncompiled [] ≡ first_outside is_compiled_section (sections_of told)
-  pub judging : IsJudging bytes (after_parts told run) spaces codes
+-- ---- what came is right
 
 pub record IsReading (bytes : List ℕ) (f : Front) (spaces : Spaces) (codes : Coding) (more : List ℕ) : Type 0 where
-  pub right : IsRight bytes f (onward_left f more) spaces codes
+  pub few : length bytes ≤ 67108869
+  pub judging : IsJudging bytes (onward_left f more) spaces codes
   pub place : IsOutside f (length bytes) more
 
 pub record IsCutting (bytes : List ℕ) (f : Front) (c : Cutting) (spaces : Spaces) (codes : Coding) (more : List ℕ) : Type 0 where
   pub few : length bytes ≤ 67108869
-  pub none : outside_of f.steps.uncompiled [] ≡ None
   pub judging : IsJudging bytes (cut_run (left c more) (sections_behind f.steps.seen c.place.at c.place.end more)) spaces codes
   pub skips : can_skip f c.place.end ≡ true
   pub count : c.place.at + length more ≡ length bytes
@@ -64,29 +53,25 @@ pub record IsCutting (bytes : List ℕ) (f : Front) (c : Cutting) (spaces : Spac
 module _ (bytes : List ℕ) (s : Compilation) (more : List ℕ) where
   pub reading_of : s.cutter ≡ None → IsGoing bytes s more → IsReading bytes s.front s.spaces s.codes more
   reading_of e g = record {
-    right = record { few = g.few; told = g.told; sections = g.sections; first = g.first; judging = subst (λ (o : Option Cutting). IsJudging bytes (after_parts g.told (left_of s.front o more)) s.spaces s.codes) e g.judging };
-    place = subst (λ (o : Option Cutting). IsPlaced s.front o g.told (length bytes) more) e g.place;
+    few = g.few;
+    judging = subst (λ (o : Option Cutting). IsJudging bytes (left_of s.front o more) s.spaces s.codes) e g.judging;
+    place = subst (λ (o : Option Cutting). IsPlaced s.front o (length bytes) more) e g.place;
   }
 
   pub going_reading : s.cutter ≡ None → IsReading bytes s.front s.spaces s.codes more → IsGoing bytes s more
   going_reading e r = record {
-    few = r.right.few;
-    told = r.right.told;
-    sections = r.right.sections;
-    first = r.right.first;
-    judging = subst (λ (o : Option Cutting). IsJudging bytes (after_parts r.right.told (left_of s.front o more)) s.spaces s.codes) (sym e) r.right.judging;
-    place = subst (λ (o : Option Cutting). IsPlaced s.front o r.right.told (length bytes) more) (sym e) r.place;
+    few = r.few;
+    judging = subst (λ (o : Option Cutting). IsJudging bytes (left_of s.front o more) s.spaces s.codes) (sym e) r.judging;
+    place = subst (λ (o : Option Cutting). IsPlaced s.front o (length bytes) more) (sym e) r.place;
   }
 
   module _ (c : Cutting) (e : s.cutter ≡ Some c) where
     pub cutting_of : IsGoing bytes s more → IsCutting bytes s.front c s.spaces s.codes more
     cutting_of g =
-        let place : IsInside s.front c g.told (length bytes) more = subst (λ (o : Option Cutting). IsPlaced s.front o g.told (length bytes) more) e g.place in
-        let judging : IsJudging bytes (after_parts g.told (left_of s.front (Some c) more)) s.spaces s.codes = subst (λ (o : Option Cutting). IsJudging bytes (after_parts g.told (left_of s.front o more)) s.spaces s.codes) e g.judging in
+        let place : IsInside s.front c (length bytes) more = subst (λ (o : Option Cutting). IsPlaced s.front o (length bytes) more) e g.place in
         record {
           few = g.few;
-          none = g.first ∙ ap (λ (l : List Part). first_outside is_compiled_section (sections_of l)) place.none;
-          judging = subst (λ (l : List Part). IsJudging bytes (after_parts l (left_of s.front (Some c) more)) s.spaces s.codes) place.none judging;
+          judging = subst (λ (o : Option Cutting). IsJudging bytes (left_of s.front o more) s.spaces s.codes) e g.judging;
           skips = place.skips;
           count = place.count;
         }
@@ -94,19 +79,17 @@ module _ (bytes : List ℕ) (s : Compilation) (more : List ℕ) where
     pub going_cutting : IsCutting bytes s.front c s.spaces s.codes more → IsGoing bytes s more
     going_cutting k = record {
       few = k.few;
-      told = [];
-      sections = tt;
-      first = k.none;
       judging = subst (λ (o : Option Cutting). IsJudging bytes (left_of s.front o more) s.spaces s.codes) (sym e) k.judging;
-      place = subst (λ (o : Option Cutting). IsPlaced s.front o [] (length bytes) more) (sym e) (record { none = refl; skips = k.skips; count = k.count });
+      place = subst (λ (o : Option Cutting). IsPlaced s.front o (length bytes) more) (sym e) (record { skips = k.skips; count = k.count });
     }
 
 -- ---- before the first byte
 
-pub reading_begins : (bytes : List ℕ) (f : Front) (spaces : Spaces) (codes : Coding) → length bytes ≤ 67108869 → onward_left f bytes ≡ module_read bytes → total f ≡ 0 → is_at_bodies f.steps.stage ≡ false → f.steps.uncompiled ≡ None → f.waiting ≡ None → spaces ≡ spaces_of [] → AreAll codes []
+pub reading_begins : (bytes : List ℕ) (f : Front) (spaces : Spaces) (codes : Coding) → length bytes ≤ 67108869 → onward_left f bytes ≡ module_read bytes → total f ≡ 0 → is_at_bodies f.steps.stage ≡ false → f.waiting ≡ None → spaces ≡ spaces_of [] → AreAll codes []
     → IsReading bytes f spaces codes bytes
-reading_begins bytes f spaces codes few is none apart first idle empty uncoded = record {
-  right = record { few = few; told = []; sections = tt; first = ap (λ (o : Option ℕ). outside_of o []) first; judging = begins bytes (onward_left f bytes) spaces codes is empty uncoded };
+reading_begins bytes f spaces codes few is none apart idle empty uncoded = record {
+  few = few;
+  judging = begins bytes (onward_left f bytes) spaces codes is empty uncoded;
   place = record { idle = idle; outside = apart; count = omega (arith, none) };
 }
 
@@ -116,22 +99,15 @@ length_left : (n : ℕ) (xs : List ℕ) → n ≤ length xs → n + length (drop
 length_left n xs h = omega (arith, length-drop n xs)
 
 module _ (bytes : List ℕ) (f g h : Front) (spaces : Spaces) (codes : Coding) (piece more : List ℕ) (taken : ℕ) (few : taken ≤ length piece) (fed : FedOnward f piece taken g) (item : Option Item)
-    (same : (later : List ℕ) → onward_left g later ≡ prepend item (onward_left h later)) (steps : h.steps ≡ g.steps) (count : total h ≡ total g) where
+    (same : (later : List ℕ) → onward_left g later ≡ prepend item (onward_left h later)) (count : total h ≡ total g) where
   abbrev pub later : List ℕ
   later = drop taken piece ++ more
 
-  pub right_fed : IsReading bytes f spaces codes (piece ++ more) → IsRight bytes h (prepend item (onward_left h later)) spaces codes
-  right_fed r =
+  pub judging_fed : IsReading bytes f spaces codes (piece ++ more) → IsJudging bytes (prepend item (onward_left h later)) spaces codes
+  judging_fed r =
       let t : Told f piece taken g = fed.told r.place.outside in
-      record {
-        few = r.right.few;
-        told = r.right.told ++ t.told;
-        sections = sections_append r.right.told t.told r.right.sections t.sections;
-        first = ap (λ (s : Steps). outside_of s.uncompiled []) steps ∙ first_more r.right.told t.told f.steps.uncompiled g.steps.uncompiled r.right.first t.first;
-        judging = judging_on bytes (after_parts r.right.told (onward_left f (piece ++ more))) (after_parts (r.right.told ++ t.told) (prepend item (onward_left h later))) spaces codes
-            (ap (after_parts r.right.told) (t.run more ∙ ap (after_parts t.told) (same later)) ∙ sym (after_append r.right.told t.told (prepend item (onward_left h later))))
-            r.right.judging;
-      }
+      sections_taken bytes spaces codes t.told (prepend item (onward_left h later)) t.sections
+      (judging_on bytes (onward_left f (piece ++ more)) (after_parts t.told (prepend item (onward_left h later))) spaces codes (t.run more ∙ ap (after_parts t.told) (same later)) r.judging)
 
   pub count_later : IsReading bytes f spaces codes (piece ++ more) → total h + length later ≡ length bytes
   count_later r = omega (arith, r.place.count, count, fed.count, few, length-append piece more, length-append (drop taken piece) more, length_left taken piece few)
@@ -141,42 +117,25 @@ pub reading_on : (bytes : List ℕ) (f g h : Front) (spaces : Spaces) (codes : C
     → ((later : List ℕ) → onward_left g later ≡ onward_left h later) → h.steps ≡ g.steps → total h ≡ total g → g.waiting ≡ None → h.waiting ≡ None
     → IsReading bytes f spaces codes (piece ++ more) → IsReading bytes h spaces codes (drop taken piece ++ more)
 reading_on bytes f g h spaces codes piece more taken few fed same steps count none idle r = record {
-  right = right_fed bytes f g h spaces codes piece more taken few fed None same steps count r;
+  few = r.few;
+  judging = judging_fed bytes f g h spaces codes piece more taken few fed None same count r;
   place = record {
     idle = idle;
     outside = ap (λ (s : Steps). is_at_bodies s.stage) steps ∙ fed.apart r.place.outside none;
-    count = count_later bytes f g h spaces codes piece more taken few fed None same steps count r;
+    count = count_later bytes f g h spaces codes piece more taken few fed None same count r;
   };
 }
 
--- where an item waits all ids that came are of sections whose headers were read
-known_at : (p : Stage) (first : Option ℕ) (at : ℕ) → first_begun p first at [] ≡ first
-known_at stage.Preamble first at = refl
-known_at stage.Between first at = refl
-known_at (stage.Contents id) first at = refl
-known_at (stage.Entries id n) first at = refl
-
-pub all_known : (f : Front) (x : Item) → f.waiting ≡ Some x → begun f ≡ f.steps.uncompiled
-all_known f x e =
-    of_refusal f.refusal refl (nil_from_length f.kept.items (f.alone (ap is_some e)))
-  where
-    of_refusal : (o : Option Refusal) → f.refusal ≡ o → f.kept.items ≡ [] → begun f ≡ f.steps.uncompiled
-    of_refusal (Some r) is kept = rw is refl
-    of_refusal None is kept = rw (is, kept) (known_at f.steps.stage f.steps.uncompiled f.at)
-
 -- ---- faults outside bodies
 
--- these sections were begun, and the module ends so
-module _ (bytes : List ℕ) (spaces : Spaces) (codes : Coding) (told : List Part) (ending : Ending) (are : AreSections told) where
-  pub ends_at : (first : Option ℕ) (e : Refusal) → outside_of first [] ≡ first_outside is_compiled_section (sections_of told) → ending_fault (length bytes) ending ≡ Some e → IsJudging bytes (after_parts told (ends ending)) spaces codes → IsVerdictOf bytes (Rejected (earliest first e))
-  ends_at None e first is j = sections_end bytes spaces codes told ending e are (sym first) is j
-  ends_at (Some at) e first is j = outside_ends bytes spaces codes told ending (Some e) (unsupported_at at) are (sym first) is j
+-- no part is left, and the module is refused so
+pub refused_at : (bytes : List ℕ) (spaces : Spaces) (codes : Coding) (ending : Ending) (r : Refusal) → ending_fault (length bytes) ending ≡ Some r → IsJudging bytes (ends ending) spaces codes → IsVerdictOf bytes (Rejected r)
+refused_at bytes spaces codes ending r is j = is_refused bytes (ends ending) spaces codes (length bytes) r j refl refl is
 
-pub refused_reading : (bytes : List ℕ) (f g : Front) (spaces : Spaces) (codes : Coding) (piece more : List ℕ) (r : Refusal) → ToldRefused f piece r g → IsReading bytes f spaces codes (piece ++ more) → IsVerdictOf bytes (Rejected (earliest (begun g) r))
+pub refused_reading : (bytes : List ℕ) (f g : Front) (spaces : Spaces) (codes : Coding) (piece more : List ℕ) (r : Refusal) → ToldRefused f piece r g → IsReading bytes f spaces codes (piece ++ more) → IsVerdictOf bytes (Rejected r)
 refused_reading bytes f g spaces codes piece more r t p =
-    let told = p.right.told ++ t.told in
-    ends_at bytes spaces codes told (Refused r) (sections_append p.right.told t.told p.right.sections t.sections) (begun g) r (first_more p.right.told t.told f.steps.uncompiled (begun g) p.right.first t.first) refl
-    (judging_on bytes (after_parts p.right.told (onward_left f (piece ++ more))) (after_parts told (ends (Refused r))) spaces codes (ap (after_parts p.right.told) (t.run more) ∙ sym (after_append p.right.told t.told (ends (Refused r)))) p.right.judging)
+    refused_at bytes spaces codes (Refused r) r refl
+    (sections_taken bytes spaces codes t.told (ends (Refused r)) t.sections (judging_on bytes (onward_left f (piece ++ more)) (after_parts t.told (ends (Refused r))) spaces codes (t.run more) p.judging))
 
 -- ---- the bytes end outside the bodies
 
@@ -186,17 +145,8 @@ whole_of len (Refused r) e = absurd cc
 whole_of len Owed e = absurd cc
 
 module _ (bytes : List ℕ) (f : Front) (spaces : Spaces) (codes : Coding) (fault : Option Refusal) (t : EndsOnward f fault) (p : IsReading bytes f spaces codes []) where
-  abbrev all_told : List Part
-  all_told = p.right.told ++ t.told
-
-  are_told : AreSections all_told
-  are_told = sections_append p.right.told t.told p.right.sections t.sections
-
-  first_told : outside_of (begun f) [] ≡ first_outside is_compiled_section (sections_of all_told)
-  first_told = first_more p.right.told t.told f.steps.uncompiled (begun f) p.right.first t.first
-
-  judging_told : IsJudging bytes (after_parts all_told (ends t.ending)) spaces codes
-  judging_told = judging_on bytes (after_parts p.right.told (onward_left f [])) (after_parts all_told (ends t.ending)) spaces codes (ap (after_parts p.right.told) t.run ∙ sym (after_append p.right.told t.told (ends t.ending))) p.right.judging
+  judging_end : IsJudging bytes (ends t.ending) spaces codes
+  judging_end = sections_taken bytes spaces codes t.told (ends t.ending) t.sections (judging_on bytes (onward_left f []) (after_parts t.told (ends t.ending)) spaces codes t.run p.judging)
 
   all_read : total f ≡ length bytes
   all_read = omega (arith, p.place.count)
@@ -204,59 +154,42 @@ module _ (bytes : List ℕ) (f : Front) (spaces : Spaces) (codes : Coding) (faul
   fault_is : ending_fault (length bytes) t.ending ≡ fault
   fault_is = ap (λ (n : ℕ). ending_fault n t.ending) (sym all_read) ∙ t.fault
 
-  pub end_refused : (e : Refusal) → fault ≡ Some e → IsVerdictOf bytes (Rejected (earliest (begun f) e))
-  end_refused e is = ends_at bytes spaces codes all_told t.ending are_told (begun f) e first_told (fault_is ∙ is) judging_told
+  pub end_refused : (e : Refusal) → fault ≡ Some e → IsVerdictOf bytes (Rejected e)
+  end_refused e is = refused_at bytes spaces codes t.ending e (fault_is ∙ is) judging_end
 
-  pub end_outside : (at : ℕ) → fault ≡ None → begun f ≡ Some at → IsVerdictOf bytes (Rejected (unsupported_at at))
-  end_outside at is e = outside_ends bytes spaces codes all_told t.ending None (unsupported_at at) are_told (sym first_told ∙ ap (λ (o : Option ℕ). outside_of o []) e) (fault_is ∙ is) judging_told
-
-  pub end_whole : fault ≡ None → begun f ≡ None → (seen : Seen) × IsJudging bytes (ends (Whole seen)) spaces codes
-  end_whole is e =
+  pub end_whole : fault ≡ None → (seen : Seen) × IsJudging bytes (ends (Whole seen)) spaces codes
+  end_whole is =
       let w = whole_of (length bytes) t.ending (fault_is ∙ is) in
-      let j = sections_taken bytes spaces codes all_told (ends t.ending) are_told (sym first_told ∙ ap (λ (o : Option ℕ). outside_of o []) e) judging_told in
-      (w.0, judging_on bytes (ends t.ending) (ends (Whole w.0)) spaces codes (ap ends w.1) j)
+      (w.0, judging_on bytes (ends t.ending) (ends (Whole w.0)) spaces codes (ap ends w.1) judging_end)
 
 -- ---- items
 
 module _ (bytes : List ℕ) (s : Compilation) (x : Item) (more : List ℕ) (t : IsTaking bytes s x more) where
-  first_item : (o : Option ℕ) → begun s.front ≡ o → outside_of o [] ≡ first_outside is_compiled_section (sections_of t.told)
-  first_item o e = ap (λ (p : Option ℕ). outside_of p []) (sym e ∙ t.known) ∙ t.first
+  -- the start function is at fault
+  pub item_refused : (r : Refusal) → IsStartFault (context_in s.spaces) (started x) r → IsVerdictOf bytes (Rejected r)
+  item_refused r f = start_refused bytes (onward_left s.front more) s.spaces s.codes x r t.judging f
 
-  pub item_outside : (at : ℕ) → begun s.front ≡ Some at → IsVerdictOf bytes (Rejected (unsupported_at at))
-  item_outside at e = outside_decides bytes s.spaces s.codes t.told (after_part (Listed x) (onward_left s.front more)) (unsupported_at at) t.sections (sym (first_item (Some at) e)) (omega arith) t.judging
+  pub item_judged : (later : Spaces) → StartsRight (context_in s.spaces) (started x) → later ≡ with_item s.spaces x → IsJudging bytes (onward_left s.front more) later s.codes
+  item_judged later starts is = after_item bytes (onward_left s.front more) s.codes s.spaces later x t.judging starts is
 
-  module _ (inside : begun s.front ≡ None) where
-    pub item_next : IsJudging bytes (after_part (Listed x) (onward_left s.front more)) s.spaces s.codes
-    item_next = sections_taken bytes s.spaces s.codes t.told (after_part (Listed x) (onward_left s.front more)) t.sections (sym (first_item None inside)) t.judging
+  -- no bodies come
+  pub item_reading : (later : Spaces) → StartsRight (context_in s.spaces) (started x) → later ≡ with_item s.spaces x → is_at_bodies s.front.steps.stage ≡ false → IsReading bytes s.front later s.codes more
+  item_reading later starts is apart = record {
+    few = t.few;
+    judging = item_judged later starts is;
+    place = record { idle = t.idle; outside = apart; count = t.count };
+  }
 
-    -- the start function is at fault
-    pub item_refused : (r : Refusal) → IsStartFault (context_in s.spaces) (started x) r → IsVerdictOf bytes (Rejected r)
-    item_refused r f = start_refused bytes (onward_left s.front more) s.spaces s.codes x r item_next f
-
-    pub item_judged : (later : Spaces) → StartsRight (context_in s.spaces) (started x) → later ≡ with_item s.spaces x → IsJudging bytes (onward_left s.front more) later s.codes
-    item_judged later starts is = after_item bytes (onward_left s.front more) s.codes s.spaces later x item_next starts is
-
-    none_met : outside_of s.front.steps.uncompiled [] ≡ None
-    none_met = ap (λ (o : Option ℕ). outside_of o []) (sym t.known ∙ inside)
-
-    -- no bodies come
-    pub item_reading : (later : Spaces) → StartsRight (context_in s.spaces) (started x) → later ≡ with_item s.spaces x → is_at_bodies s.front.steps.stage ≡ false → IsReading bytes s.front later s.codes more
-    item_reading later starts is apart = record {
-      right = record { few = t.few; told = []; sections = tt; first = none_met; judging = item_judged later starts is };
-      place = record { idle = t.idle; outside = apart; count = t.count };
-    }
-
-    -- the bodies come
-    pub item_cutting : (later : Spaces) (c : Cutting) (count end : ℕ) → StartsRight (context_in s.spaces) (started x) → later ≡ with_item s.spaces x → BodiesCome count end s.front
-        → ((rest : List ℕ) → onward_left s.front rest ≡ cut_run (left c rest) (sections_behind s.front.steps.seen c.place.at c.place.end rest)) → c.place.at ≡ total s.front → c.place.end ≡ end
-        → IsCutting bytes s.front c later s.codes more
-    item_cutting later c count end starts is come run at ends = record {
-      few = t.few;
-      none = none_met;
-      judging = judging_on bytes (onward_left s.front more) (cut_run (left c more) (sections_behind s.front.steps.seen c.place.at c.place.end more)) later s.codes (run more) (item_judged later starts is);
-      skips = subst (λ (n : ℕ). can_skip s.front n ≡ true) (sym ends) come.skip;
-      count = omega (arith, at, t.count);
-    }
+  -- the bodies come
+  pub item_cutting : (later : Spaces) (c : Cutting) (count end : ℕ) → StartsRight (context_in s.spaces) (started x) → later ≡ with_item s.spaces x → BodiesCome count end s.front
+      → ((rest : List ℕ) → onward_left s.front rest ≡ cut_run (left c rest) (sections_behind s.front.steps.seen c.place.at c.place.end rest)) → c.place.at ≡ total s.front → c.place.end ≡ end
+      → IsCutting bytes s.front c later s.codes more
+  item_cutting later c count end starts is come run at ends = record {
+    few = t.few;
+    judging = judging_on bytes (onward_left s.front more) (cut_run (left c more) (sections_behind s.front.steps.seen c.place.at c.place.end more)) later s.codes (run more) (item_judged later starts is);
+    skips = subst (λ (n : ℕ). can_skip s.front n ≡ true) (sym ends) come.skip;
+    count = omega (arith, at, t.count);
+  }
 
 -- the bodies, by the cutter
 pub bodies_cut : (f : Front) (c : Cutting) (index count end least : ℕ) → BodiesCome count end f
@@ -286,15 +219,14 @@ not_bodies (item.Element table place functions) f none h = h
 not_bodies (item.Segment memory place bytes) f none h = h
 
 -- the bodies may begin
-pub may_begin : (bytes : List ℕ) (s : Compilation) (count : ℕ × ℕ) (end : ℕ) (more : List ℕ) (t : IsTaking bytes s (item.Code count end) more) (inside : begun s.front ≡ None) (later : Spaces) → StartsRight (context_in s.spaces) (started (item.Code count end)) → later ≡ with_item s.spaces (item.Code count end)
+pub may_begin : (bytes : List ℕ) (s : Compilation) (count : ℕ × ℕ) (end : ℕ) (more : List ℕ) (t : IsTaking bytes s (item.Code count end) more) (later : Spaces) → StartsRight (context_in s.spaces) (started (item.Code count end)) → later ≡ with_item s.spaces (item.Code count end)
     → (length later.functions < 2 ^ 32) × (later.imported + count.1 < 2 ^ 32) × (total s.front ≤ end) × (end < 2 ^ 60)
-may_begin bytes s count end more t inside later starts is =
+may_begin bytes s count end more t later starts is =
     let run = onward_left s.front more in
-    let j = item_judged bytes s (item.Code count end) more t inside later starts is in
+    let j = item_judged bytes s (item.Code count end) more t later starts is in
     let functions = few_functions bytes run later s.codes.count j.judged in
     let imports = few_imports bytes run later s.codes.count j.judged in
-    let next = item_next bytes s (item.Code count end) more t inside in
-    let near = code_ends bytes next.judged.front run.parts count end next.judged.parts in
+    let near = code_ends bytes t.judging.judged.front run.parts count end t.judging.judged.parts in
     (omega (arith, t.few), omega (arith, t.few, t.follows.few, t.count), t.follows.ahead, omega arith)
 
 -- ---- each step lessens what is left
@@ -353,10 +285,6 @@ module _ (bytes : List ℕ) (f : Front) (old mid : Cutting) (spaces : Spaces) (c
       judging_on bytes (cut_run (left old (piece ++ more)) (sections_behind f.steps.seen old.place.at old.place.end (piece ++ more))) (after_parts (coded_all mid.queue.closed) (ends (Refused r))) spaces codes
       (refused_run old mid piece more r (sections_behind f.steps.seen old.place.at old.place.end (piece ++ more)) refused) k.judging
 
--- no part is left, and the module is refused so
-pub refused_at : (bytes : List ℕ) (spaces : Spaces) (codes : Coding) (ending : Ending) (r : Refusal) → ending_fault (length bytes) ending ≡ Some r → IsJudging bytes (ends ending) spaces codes → IsVerdictOf bytes (Rejected r)
-refused_at bytes spaces codes ending r is j = is_refused bytes (ends ending) spaces codes (length bytes) r j refl refl is
-
 -- the bodies that were closed are taken
 module _ (bytes : List ℕ) (f : Front) (old mid new : Cutting) (spaces : Spaces) (codes : Coding) (piece more : List ℕ) (taken : ℕ) (fed : IsFed old piece taken mid)
     (place : new.place ≡ mid.place) (closed : new.queue.closed ≡ []) (begun_same : new.queue.begun ≡ mid.queue.begun) where
@@ -372,11 +300,10 @@ module _ (bytes : List ℕ) (f : Front) (old mid new : Cutting) (spaces : Spaces
   end_same : new.place.end ≡ old.place.end
   end_same = ap (λ (p : Place). p.end) place ∙ fed.place.1
 
-  pub cutting_on : outside_of f.steps.uncompiled [] ≡ None → can_skip f old.place.end ≡ true → length bytes ≤ 67108869 → old.place.at + length (piece ++ more) ≡ length bytes → IsJudging bytes (rest_run f.steps.seen mid behind_piece) spaces codes
+  pub cutting_on : can_skip f old.place.end ≡ true → length bytes ≤ 67108869 → old.place.at + length (piece ++ more) ≡ length bytes → IsJudging bytes (rest_run f.steps.seen mid behind_piece) spaces codes
       → IsCutting bytes f new spaces codes behind_piece
-  cutting_on none skips few count j = record {
+  cutting_on skips few count j = record {
     few = few;
-    none = none;
     judging = judging_on bytes (rest_run f.steps.seen mid behind_piece) (cut_run (left new behind_piece) (sections_behind f.steps.seen new.place.at new.place.end behind_piece)) spaces codes (judged_run behind_piece) j;
     skips = subst (λ (n : ℕ). can_skip f n ≡ true) (sym end_same) skips;
     count = ap (λ (n : ℕ). n + length behind_piece) at_same ∙ count_fed old mid piece taken fed (length bytes) more count;
@@ -403,16 +330,11 @@ module _ (bytes : List ℕ) (f : Front) (old mid new : Cutting) (spaces : Spaces
     skipped_run : (later : List ℕ) → rest_run f.steps.seen mid later ≡ onward_left g later
     skipped_run later = judged_run later ∙ whole_run f.steps.seen new later whole (is later) closed ∙ sym (skipped later)
 
-    pub reading_behind : outside_of f.steps.uncompiled [] ≡ None → length bytes ≤ 67108869 → old.place.at + length (piece ++ more) ≡ length bytes → IsJudging bytes (rest_run f.steps.seen mid behind_piece) spaces codes
-        → g.steps.stage ≡ stage.Between → g.steps.uncompiled ≡ f.steps.uncompiled → total g ≡ new.place.end → g.waiting ≡ None → IsReading bytes g spaces codes behind_piece
-    reading_behind none few count j between same all idle = record {
-      right = record {
-        few = few;
-        told = [];
-        sections = tt;
-        first = ap (λ (o : Option ℕ). outside_of o []) same ∙ none;
-        judging = judging_on bytes (rest_run f.steps.seen mid behind_piece) (onward_left g behind_piece) spaces codes (skipped_run behind_piece) j;
-      };
+    pub reading_behind : length bytes ≤ 67108869 → old.place.at + length (piece ++ more) ≡ length bytes → IsJudging bytes (rest_run f.steps.seen mid behind_piece) spaces codes
+        → g.steps.stage ≡ stage.Between → total g ≡ new.place.end → g.waiting ≡ None → IsReading bytes g spaces codes behind_piece
+    reading_behind few count j between all idle = record {
+      few = few;
+      judging = judging_on bytes (rest_run f.steps.seen mid behind_piece) (onward_left g behind_piece) spaces codes (skipped_run behind_piece) j;
       place = record {
         idle = idle;
         outside = ap is_at_bodies between;
@@ -426,11 +348,15 @@ module _ (bytes : List ℕ) (f : Front) (old mid new : Cutting) (spaces : Spaces
   pub less_cut : length (cut_run (left new (drop taken piece)) (sections_behind f.steps.seen new.place.at new.place.end (drop taken piece))).parts ≤ length (cut_run (left old piece) (sections_behind f.steps.seen old.place.at old.place.end piece)).parts
   less_cut = omega (arith, cut_parts, ap (λ (r : Run). length r.parts) (judged_run (drop taken piece)))
 
--- ---- faults of bodies
+-- ---- faults
 
 pub fault_advances : (bytes piece : List ℕ) (s : FrontStop) (run : Run) (spaces : Spaces) (codes : Coding) (state : Compilation) (more : List ℕ) → TakesPart bytes (Err s) run spaces codes → Advances bytes piece (Err s) state more
 fault_advances bytes piece (stop.Refused r) run spaces codes state more h = h
 fault_advances bytes piece stop.NoMemory run spaces codes state more h = tt
+
+pub front_stops : (bytes : List ℕ) (f g : Front) (spaces : Spaces) (codes : Coding) (piece more : List ℕ) (s : FrontStop) (state : Compilation) → FeedsOnward f piece (Err s) g → IsReading bytes f spaces codes (piece ++ more) → Advances bytes piece (Err s) state more
+front_stops bytes f g spaces codes piece more (stop.Refused r) state fed p = refused_reading bytes f g spaces codes piece more r (fed p.place.outside) p
+front_stops bytes f g spaces codes piece more stop.NoMemory state fed p = tt
 
 pub fault_decides : (bytes : List ℕ) (s : FrontStop) (run : Run) (spaces : Spaces) (codes : Coding) (state : Compilation) → TakesPart bytes (Err s) run spaces codes → Decides bytes (Err s) state
 fault_decides bytes (stop.Refused r) run spaces codes state h = h
@@ -469,22 +395,18 @@ taken_out bytes s t c more e front spaces codes g =
 -- ---- an item that was read
 
 pub item_read : (bytes : List ℕ) (s t : Compilation) (g : Front) (x : Item) (piece more : List ℕ) (taken : ℕ) → taken ≤ length piece → FedOnward s.front piece taken g
-    → ((later : List ℕ) → onward_left g later ≡ prepend (Some x) (onward_left t.front later)) → t.front.steps ≡ g.steps → total t.front ≡ total g → begun t.front ≡ begun g → g.waiting ≡ Some x → t.front.waiting ≡ None → Follows x t.front
+    → ((later : List ℕ) → onward_left g later ≡ prepend (Some x) (onward_left t.front later)) → total t.front ≡ total g → t.front.waiting ≡ None → Follows x t.front
     → t.cutter ≡ None → t.spaces ≡ s.spaces → t.codes ≡ s.codes
     → IsReading bytes s.front s.spaces s.codes (piece ++ more) → IsTaking bytes t x (drop taken piece ++ more)
-item_read bytes s t g x piece more taken few fed same steps count begins_same waits idle follows none spaces codes r =
-    let k = right_fed bytes s.front g t.front s.spaces s.codes piece more taken few fed (Some x) same steps count r in
+item_read bytes s t g x piece more taken few fed same count idle follows none spaces codes r =
+    let k = judging_fed bytes s.front g t.front s.spaces s.codes piece more taken few fed (Some x) same count r in
     record {
-      few = k.few;
-      told = k.told;
-      sections = k.sections;
-      first = k.first;
-      known = begins_same ∙ all_known g x waits ∙ ap (λ (p : Steps). p.uncompiled) (sym steps);
-      judging = rw (spaces, codes) k.judging;
+      few = r.few;
+      judging = rw (spaces, codes) k;
       outside = none;
       idle = idle;
       follows = follows;
-      count = count_later bytes s.front g t.front s.spaces s.codes piece more taken few fed (Some x) same steps count r;
+      count = count_later bytes s.front g t.front s.spaces s.codes piece more taken few fed (Some x) same count r;
     }
 
 -- where no item waits, all bytes were taken

@@ -1,12 +1,10 @@
 -- Where the fault of a text stands, beside the others.
-use Rattle.std.proofs.Common.{◌≡◌, ◌≤◌, ◌<◌, ◌⊎◌, inl, inr, ℕ, suc, ◌+◌, List, [], ◌∷◌, ◌++◌, length, Some, sym, ap, ◌∙◌, subst, arith}
-use Rattle.std.proofs.lemmas.Bool.{cases_Bool}
+use Rattle.std.proofs.Common.{◌≡◌, ◌≤◌, ◌<◌, inl, inr, ℕ, suc, ◌+◌, List, [], ◌∷◌, ◌++◌, length, sym, ap, ◌∙◌, subst, arith}
 use Rattle.wasm_defs.specs.declared.fault.Refusal.{Refusal}
 use Rattle.wasm_defs.specs.declared.item.Item.{Item}
 use Rattle.wasm_defs.specs.Trees.{Seq}
 use Rattle.wasm_defs.specs.Outside.{Part, Section, Listed, Coded, Body, module_read}
-use Rattle.wasm_defs.specs.Supported.{is_compiled_section}
-use Rattle.wasm_defs.specs.Faults.{first_outside, ending_fault, sections_of, tokens_of, read_of, context_at, started, IsOutsideFault, IsFaultInside, IsValidCode}
+use Rattle.wasm_defs.specs.Faults.{tokens_of, read_of, context_at, started, IsOutsideFault, IsFaultInside, IsValidCode}
 use Rattle.wasm_defs.specs.Context.{context_of}
 use Rattle.wasm_laws.specs.Order.{AreOrdered, behind_start, end_of, first_section}
 use Rattle.wasm_laws.proofs.Order.{start_goes_on, parts_before_fault, parts_in_module}
@@ -14,7 +12,7 @@ use Rattle.wasm_laws.proofs.Verdicts.{valid_has_no_fault}
 use Rattle.body_validator.proofs.TreeLaws.{trees_one}
 use Rattle.image_linker.specs.ImageOf.{size_of}
 use Rattle.image_linker.specs.Judging.{text_bytes, IsTextFault}
-use Rattle.wasm_laws.proofs.PartOrder.{start_fault_stands, fault_after, section_after}
+use Rattle.wasm_laws.proofs.PartOrder.{start_fault_stands, fault_after}
 
 -- ---- it stands behind what came before, and before the end
 
@@ -63,27 +61,8 @@ text_apart low last items k words (Coded b ∷ parts) r s o (tree, v, inr f) (in
 
 -- ---- no fault outside bodies stands there
 
-no_section : (low last : ℕ) (items : List Item) (k words : ℕ) (parts : List Part) (r s : Refusal) → AreOrdered low last parts → IsTextFault items k words parts r → first_outside is_compiled_section (sections_of parts) ≡ Some s → r.offset ≡ s.offset → ⊥
-no_section low last items k words [] r s o f g e = f
-no_section low last items k words (Section at id ∷ parts) r s o f g e =
-    elim (cases_Bool (is_compiled_section id)) [
-      | inl h ↦ let t : first_outside is_compiled_section (sections_of parts) ≡ Some s = rw h at g in no_section (suc at) last items k words parts r s o.2 f t e
-      | inr h ↦ let t = rw h at g in let here : at ≡ s.offset = cc in let later = text_after (suc at) last items k words parts r o.2 f in omega (arith)
-    ]
-no_section low last items k words (Listed x ∷ parts) r s o f g e = no_section (behind_start low (started x)) last (items ++ x ∷ []) k words parts r s o.1 f g e
-no_section low last items k words (Coded b ∷ parts) r s o (tree, v, inl f) g e =
-    let stands = o.0 in
-    let at : r.offset ≡ b.size = ap (λ (s : Refusal). s.offset) f.1 in
-    let later = section_after (end_of b) last parts s o.1 g in
-    omega (arith, stands.sized)
-no_section low last items k words (Coded b ∷ parts) r s o (tree, v, inr f) g e = no_section (end_of b) last items (suc k) (words + size_of items k b tree) parts r s o.1 f.1 g e
-
 pub text_not_outside : (bytes : List ℕ) (r s : Refusal) → IsOutsideFault bytes r → IsTextFault [] 0 0 (module_read bytes).parts s → r.offset ≡ s.offset → ⊥
-text_not_outside bytes r s f g e = of f.0
-  where
-    of : (ending_fault (length bytes) (module_read bytes).ending ≡ Some r) ⊎ (first_outside is_compiled_section (sections_of (module_read bytes).parts) ≡ Some r) → ⊥
-    of (inl h) = let k = text_before first_section r.offset [] 0 0 (module_read bytes).parts s (parts_before_fault bytes r h).0 g in omega arith
-    of (inr h) = no_section first_section (length bytes) [] 0 0 (module_read bytes).parts s r (parts_in_module bytes) g h (sym e)
+text_not_outside bytes r s f g e = let k = text_before first_section r.offset [] 0 0 (module_read bytes).parts s (parts_before_fault bytes r f).0 g in omega arith
 
 pub text_not_inside : (bytes : List ℕ) (r s : Refusal) → IsFaultInside [] 0 (module_read bytes).parts r → IsTextFault [] 0 0 (module_read bytes).parts s → r.offset ≡ s.offset → ⊥
 text_not_inside bytes r s f g e = text_apart first_section (length bytes) [] 0 0 (module_read bytes).parts s r (parts_in_module bytes) g f (sym e)

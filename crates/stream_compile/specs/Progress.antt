@@ -1,5 +1,5 @@
 -- How far the compiling of a module came.
-use Rattle.std.specs.Prelude.{◌≡◌, ◌<◌, ◌≤◌, ◌⊎◌, ◌+◌, ◌*◌, ◌^◌, ℕ, suc, List, [], ◌∷◌, ◌++◌, length, None, IsSome, Result, Ok, Err}
+use Rattle.std.specs.Prelude.{◌≡◌, ◌<◌, ◌≤◌, ◌⊎◌, ◌+◌, ◌*◌, ◌^◌, ℕ, suc, List, [], ◌∷◌, ◌++◌, length, IsSome, Result, Ok, Err}
 use Rattle.rv_isa.specs.declared.compiled.Code.{Code}
 use Rattle.wasm_defs.specs.declared.fault.Refusal.{Refusal}
 use Rattle.wasm_defs.specs.declared.item.Item.{Item}
@@ -10,8 +10,7 @@ use Rattle.wasm_defs.specs.Trees.{Seq}
 use Rattle.wasm_defs.specs.Context.{body_context, type_of_function}
 use Rattle.wasm_defs.specs.Bodies.{body_read}
 use Rattle.wasm_defs.specs.Outside.{Part, Section, Listed, Coded, Body, Run, module_read}
-use Rattle.wasm_defs.specs.Supported.{is_compiled_section}
-use Rattle.wasm_defs.specs.Faults.{first_outside, sections_of, items_of, bodies_of, read_of, AreValid, Rejected}
+use Rattle.wasm_defs.specs.Faults.{items_of, bodies_of, read_of, AreValid, Rejected}
 use Rattle.index_spaces.specs.Spaces.{Spaces, spaces_of, context_in}
 use Rattle.section_reader.specs.Onward.{after_parts}
 use Rattle.body_cutter.specs.declared.body.Body.{Body as GivenBody}
@@ -43,7 +42,6 @@ pub record IsJudged (bytes : List ℕ) (left : Run) (spaces : Spaces) (bodies : 
   pub ending : (module_read bytes).ending ≡ left.ending
   pub spaces_are : spaces ≡ spaces_of (items_of front)
   pub count : bodies ≡ length (bodies_of front)
-  pub compiled : first_outside is_compiled_section (sections_of front) ≡ None
   pub trees : List Seq
   pub valid : AreValid [] 0 front trees
 

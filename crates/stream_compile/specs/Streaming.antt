@@ -1,17 +1,14 @@
 -- What is left of a module while its bytes come.
 use Rattle.std.specs.Prelude.{All, ◌≡◌, ◌≤◌, ◌<◌, ℕ, ◌+◌, ◌*◌, ◌^◌, List, [], ◌++◌, length, drop, true, false, Option, None, Some, Result, Ok, Err}
-use Rattle.wasm_defs.specs.declared.fault.Refusal.{Refusal}
 use Rattle.wasm_defs.specs.declared.front_stop.FrontStop.{FrontStop}
 use Rattle.wasm_defs.specs.declared.front_stop.FrontStop.TheVariants.{Refused, NoMemory}
-use Rattle.wasm_defs.specs.Supported.{is_compiled_section}
-use Rattle.wasm_defs.specs.Faults.{first_outside, sections_of, earlier, unsupported_at, Rejected}
+use Rattle.wasm_defs.specs.Faults.{Rejected}
 use Rattle.wasm_defs.specs.declared.item.Item.{Item}
-use Rattle.wasm_defs.specs.Outside.{Part, Listed, Run, after_part}
+use Rattle.wasm_defs.specs.Outside.{Listed, Run, after_part}
 use Rattle.section_reader.specs.declared.front.Front.{Front}
 use Rattle.section_reader.specs.Stages.{is_at_bodies}
-use Rattle.section_reader.specs.Onward.{after_parts, AreSections, outside_of}
 use Rattle.section_reader.specs.FrontLeft.{total, can_skip}
-use Rattle.section_reader.specs.FrontOnward.{onward_left, begun, Follows}
+use Rattle.section_reader.specs.FrontOnward.{onward_left, Follows}
 use Rattle.body_cutter.specs.Queues.{bodies_in}
 use Rattle.body_cutter.specs.Cuttings.{Cutting, left, is_whole}
 use Rattle.image_linker.specs.Judging.{IsVerdictOf}
@@ -33,24 +30,19 @@ pub record IsOutside (f : Front) (len : ℕ) (more : List ℕ) : Type 0 where
   pub count : total f + length more ≡ len
 
 -- among the bodies
-pub record IsInside (f : Front) (c : Cutting) (told : List Part) (len : ℕ) (more : List ℕ) : Type 0 where
-  pub none : told ≡ []
+pub record IsInside (f : Front) (c : Cutting) (len : ℕ) (more : List ℕ) : Type 0 where
   pub skips : can_skip f c.place.end ≡ true
   pub count : c.place.at + length more ≡ len
 
-abbrev pub IsPlaced : Front → Option Cutting → List Part → (len : ℕ) → List ℕ → Type 0
-IsPlaced f None told len more = IsOutside f len more
-IsPlaced f (Some c) told len more = IsInside f c told len more
+abbrev pub IsPlaced : Front → Option Cutting → (len : ℕ) → List ℕ → Type 0
+IsPlaced f None len more = IsOutside f len more
+IsPlaced f (Some c) len more = IsInside f c len more
 
--- Of these bytes those are still to come. What came is right so far, and its bodies are compiled, but for the sections that were
--- begun since the last item.
+-- of these bytes those are still to come: what came is right so far, and its bodies are compiled
 pub record IsGoing (bytes : List ℕ) (s : Compilation) (more : List ℕ) : Type 0 where
   pub few : length bytes ≤ 67108869
-  pub told : List Part
-  pub sections : AreSections told
-  pub first : outside_of s.front.steps.uncompiled [] ≡ first_outside is_compiled_section (sections_of told)
-  pub judging : IsJudging bytes (after_parts told (left_of s.front s.cutter more)) s.spaces s.codes
-  pub place : IsPlaced s.front s.cutter told (length bytes) more
+  pub judging : IsJudging bytes (left_of s.front s.cutter more) s.spaces s.codes
+  pub place : IsPlaced s.front s.cutter (length bytes) more
 
 -- nothing was read yet
 abbrev pub IsUnread : Compilation → Type 0
@@ -78,14 +70,10 @@ Advances bytes piece (Err NoMemory) s more = Unit {0}
 
 -- ---- items
 
--- An item was read and isn't taken yet. What came before it is right, but for the sections that were begun since the item before.
+-- an item was read and isn't taken yet; what came before it is right
 pub record IsTaking (bytes : List ℕ) (s : Compilation) (x : Item) (more : List ℕ) : Type 0 where
   pub few : length bytes ≤ 67108869
-  pub told : List Part
-  pub sections : AreSections told
-  pub first : outside_of s.front.steps.uncompiled [] ≡ first_outside is_compiled_section (sections_of told)
-  pub known : begun s.front ≡ s.front.steps.uncompiled
-  pub judging : IsJudging bytes (after_parts told (after_part (Listed x) (onward_left s.front more))) s.spaces s.codes
+  pub judging : IsJudging bytes (after_part (Listed x) (onward_left s.front more)) s.spaces s.codes
   pub outside : s.cutter ≡ None
   pub idle : s.front.waiting ≡ None
   pub follows : Follows x s.front
@@ -138,13 +126,6 @@ pub record KeepsRest (old new : Compilation) : Type 0 where
   pub cutter : new.cutter ≡ old.cutter
   pub spaces : new.spaces ≡ old.spaces
   pub codes : KeepsAlike old.codes new.codes
-
--- ---- faults outside bodies
-
--- the first of a fault and of the section that isn't compiled, if there is one
-abbrev pub earliest : Option ℕ → Refusal → Refusal
-earliest None r = r
-earliest (Some at) r = earlier r (unsupported_at at)
 
 -- ---- each step makes this less
 

@@ -1,6 +1,7 @@
 -- What the program answers and writes.
-use Rattle.std.specs.Prelude.{◌≡◌, ◌<◌, ◌⊎◌, ℕ, ◌+◌, ◌*◌, ℤ, pos, Bool, true, false, List, [], ◌∷◌, ◌++◌, length, take, replicate, Option, None, Some, codes, String, string_bytes, map, Result, Ok, Err}
+use Rattle.std.specs.Prelude.{◌≡◌, ◌<◌, ◌⊎◌, ◌+◌, ◌*◌, ◌/◌, ◌%◌, ℕ, ℤ, pos, Bool, true, false, if◌then◌else◌, nat_lt, nat_le, List, [], ◌∷◌, ◌++◌, length, take, drop, replicate, Option, None, Some, codes, String, string_bytes, map, Result, Ok, Err}
 use Rattle.std.specs.Fmt.{decimal, signed_decimal}
+use Rattle.std.specs.List.{flat_map}
 use Rattle.std.specs.Global.{Global}
 use Rattle.std.specs.Io.KnownBytes.{append_known}
 use Rattle.command_words.specs.declared.argument.Argument.{Argument}
@@ -8,6 +9,7 @@ use Rattle.command_words.specs.declared.argument.Argument.TheVariants as argumen
 use Rattle.command_words.specs.declared.command.Command.{Command}
 use Rattle.command_words.specs.declared.command.Command.TheVariants.{Check, Compile, Run, Exec, Drill}
 use Rattle.command_words.specs.declared.command.Call.{Call as Given}
+use Rattle.command_words.specs.declared.peek.Peek.{Peek}
 use Rattle.command_words.specs.declared.command.Drill.{Drill as Drilled}
 use Rattle.command_words.specs.Grammar.{command_in}
 use Rattle.wasm_defs.specs.declared.fault.Kind.{Kind}
@@ -142,62 +144,87 @@ abbrev pub returned_by : (drill : Option ℕ) → List Value → Outcome
 returned_by None values = returned values
 returned_by (Some functions) values = drilled functions values
 
--- the line of a run of an image that ended so, where the host stopped none
-abbrev pub EndsAs : (drill : Option ℕ) → Ending → Outcome → Type 0
-EndsAs drill (As (Returns values memory globals)) o = o ≡ returned_by drill values
-EndsAs drill (As (Traps kind memory globals)) o = o ≡ trapped kind
-EndsAs drill (As Going) o = o ≡ steps_spent
-EndsAs drill (As Stops) o = ⊥
-EndsAs drill (As Fails) o = ⊥
-EndsAs drill (Fault kind pc) o = o ≡ machine_fault kind pc
+-- the digit of a number below 16, in lower case
+abbrev pub hex_digit : ℕ → ℕ
+hex_digit n = if nat_lt n 10 then 48 + n else 87 + n
+
+-- the two digits of a byte
+abbrev pub hex_pair : ℕ → List ℕ
+hex_pair b = hex_digit (b / 16) ∷ hex_digit (b % 16) ∷ []
+
+abbrev pub hex_of : List ℕ → List ℕ
+hex_of bytes = flat_map hex_pair bytes
+
+-- the bytes of a memory that are to be shown, or that it hasn't all of them
+abbrev pub peeked : Peek → (memory : List ℕ) → List ℕ
+peeked p memory =
+    if nat_le (p.address + p.count) (length memory) then codes "peek " ++ (hex_of (take p.count (drop p.address memory)) ++ codes "\n") else codes "peek out of range\n"
+
+-- behind a text, where bytes are to be shown, stands their line
+abbrev pub with_peek : Option Peek → (memory text : List ℕ) → List ℕ
+with_peek None memory text = text
+with_peek (Some p) memory text = text ++ peeked p memory
+
+abbrev pub showing : Option Peek → (memory : List ℕ) → Outcome → Outcome
+showing peek memory line = record line { text = with_peek peek memory line.text }
+
+-- the lines of a run of an image that ended so, where the host stopped none
+abbrev pub EndsAs : (drill : Option ℕ) → Option Peek → Ending → Outcome → Type 0
+EndsAs drill peek (As (Returns values memory globals)) o = o ≡ showing peek memory (returned_by drill values)
+EndsAs drill peek (As (Traps kind memory globals)) o = o ≡ showing peek memory (trapped kind)
+EndsAs drill peek (As Going) o = o ≡ steps_spent
+EndsAs drill peek (As Stops) o = ⊥
+EndsAs drill peek (As Fails) o = ⊥
+EndsAs drill peek (Fault kind pc) o = o ≡ machine_fault kind pc
 
 -- behind what the calls of a run print stands its line
 abbrev pub behind : List ℕ → Outcome → Outcome
 behind text line = record line { text = text ++ line.text }
 
--- what is told of a run of an image: what its calls print, and its line
-abbrev pub TellsImageRun : (drill : Option ℕ) → List Import → ImageRun → Outcome → Type 0
-TellsImageRun drill imports r o = (line : Outcome) × EndsAs drill r.end line × (o ≡ behind (printed imports r.calls) line)
+-- what is told of a run of an image: what its calls print, and its lines
+abbrev pub TellsImageRun : (drill : Option ℕ) → Option Peek → List Import → ImageRun → Outcome → Type 0
+TellsImageRun drill peek imports r o = (line : Outcome) × EndsAs drill peek r.end line × (o ≡ behind (printed imports r.calls) line)
 
 -- of the function that the image exports under the name
 abbrev pub ChecksAndCalls : (drill : Option ℕ) → Option NotRunnable → Image → Given → Outcome → Type 0
 ChecksAndCalls drill (Some why) i c o = o ≡ unrunnable why
 ChecksAndCalls drill None i c o =
     (e : Export) × (export_named c.export i.exports ≡ Some e)
-    × TellsImageRun drill i.imports (printing_run i e.offset e.signature.results (arguments_of c.arguments) c.steps) o
+    × TellsImageRun drill c.peek i.imports (printing_run i e.offset e.signature.results (arguments_of c.arguments) c.steps) o
 
 abbrev pub TellsImageCall : (drill : Option ℕ) → Given → Image → Outcome → Type 0
 TellsImageCall drill c i o = ChecksAndCalls drill (not_runnable i c.export (types_of_values (arguments_of c.arguments))) i c o
 
--- The line of a run of a module whose image made these calls and ended so within its steps. The same calls and the same end are
+-- The lines of a run of a module whose image made these calls and ended so within its steps. The same calls and the same end are
 -- those of the module's run by the reduction rules, for some weight; or the image goes on after all its steps, and its calls are a
 -- front of the module's for some weight.
-abbrev pub TellsEnd : (drill : Option ℕ) → List HostCall → Ending → (ℕ → module_runs.Run) → Outcome → Type 0
-TellsEnd drill calls (As (Returns values memory globals)) runs o = (k : ℕ) × (runs k ≡ record { calls = calls; end = Returns values memory globals }) × (o ≡ returned_by drill values)
-TellsEnd drill calls (As (Traps kind memory globals)) runs o = (k : ℕ) × (runs k ≡ record { calls = calls; end = Traps kind memory globals }) × (o ≡ trapped kind)
-TellsEnd drill calls (As Going) runs o = (k : ℕ) × BeginsWith (runs k).calls calls × (o ≡ steps_spent)
-TellsEnd drill calls (As Stops) runs o = ⊥
-TellsEnd drill calls (As Fails) runs o = ⊥
-TellsEnd drill calls (Fault kind pc) runs o = ⊥
+abbrev pub TellsEnd : (drill : Option ℕ) → Option Peek → List HostCall → Ending → (ℕ → module_runs.Run) → Outcome → Type 0
+TellsEnd drill peek calls (As (Returns values memory globals)) runs o = (k : ℕ) × (runs k ≡ record { calls = calls; end = Returns values memory globals }) × (o ≡ showing peek memory (returned_by drill values))
+TellsEnd drill peek calls (As (Traps kind memory globals)) runs o = (k : ℕ) × (runs k ≡ record { calls = calls; end = Traps kind memory globals }) × (o ≡ showing peek memory (trapped kind))
+TellsEnd drill peek calls (As Going) runs o = (k : ℕ) × BeginsWith (runs k).calls calls × (o ≡ steps_spent)
+TellsEnd drill peek calls (As Stops) runs o = ⊥
+TellsEnd drill peek calls (As Fails) runs o = ⊥
+TellsEnd drill peek calls (Fault kind pc) runs o = ⊥
 
--- what its calls print, and its line
-abbrev pub TellsModuleRun : (drill : Option ℕ) → List Import → ImageRun → (ℕ → module_runs.Run) → Outcome → Type 0
-TellsModuleRun drill imports r runs o = (line : Outcome) × TellsEnd drill r.calls r.end runs line × (o ≡ behind (printed imports r.calls) line)
+-- what its calls print, and its lines
+abbrev pub TellsModuleRun : (drill : Option ℕ) → Option Peek → List Import → ImageRun → (ℕ → module_runs.Run) → Outcome → Type 0
+TellsModuleRun drill peek imports r runs o = (line : Outcome) × TellsEnd drill peek r.calls r.end runs line × (o ≡ behind (printed imports r.calls) line)
 
 -- the run of a module's function where the calls of its imports return, and change no memory
 abbrev pub printing_module_run : Module → (function : ℕ) → List Value → (steps weight : ℕ) → module_runs.Run
 printing_module_run m f arguments steps = module_run m f arguments (replicate steps replied)
 
 -- of the function that is exported under the name
-abbrev pub TellsRun : (drill : Option ℕ) → Module → (name : List ℕ) → List Value → (steps : ℕ) → Outcome → Type 0
-TellsRun drill m name arguments steps o =
-    (f : ℕ) × (named name (exports_of m.items) ≡ Some f)
-    × TellsModuleRun drill (image_of m).imports (printing_run (image_of m) (offset_of m f) (type_of_function (context_of m.items) f).results arguments steps)
-    (printing_module_run m f arguments steps) o
+abbrev pub TellsRun : (drill : Option ℕ) → Module → Given → Outcome → Type 0
+TellsRun drill m c o =
+    let arguments = arguments_of c.arguments in
+    (f : ℕ) × (named c.export (exports_of m.items) ≡ Some f)
+    × TellsModuleRun drill c.peek (image_of m).imports (printing_run (image_of m) (offset_of m f) (type_of_function (context_of m.items) f).results arguments c.steps)
+    (printing_module_run m f arguments c.steps) o
 
-abbrev pub ChecksAndRuns : (drill : Option ℕ) → Option NotRunnable → Module → (name : List ℕ) → List Value → (steps : ℕ) → Outcome → Type 0
-ChecksAndRuns drill (Some why) m name arguments steps o = o ≡ unrunnable why
-ChecksAndRuns drill None m name arguments steps o = TellsRun drill m name arguments steps o
+abbrev pub ChecksAndRuns : (drill : Option ℕ) → Option NotRunnable → Module → Given → Outcome → Type 0
+ChecksAndRuns drill (Some why) m c o = o ≡ unrunnable why
+ChecksAndRuns drill None m c o = TellsRun drill m c o
 
 -- what each command on a module of so many bytes comes to
 abbrev pub TellsCheck : (bytes : ℕ) → Module → Outcome → Type 0
@@ -207,13 +234,11 @@ abbrev pub TellsImage : Module → Outcome → Type 0
 TellsImage m o = o ≡ compiled (spelling (image_of m))
 
 abbrev pub TellsCall : (drill : Option ℕ) → Given → Module → Outcome → Type 0
-TellsCall drill c m o =
-    let arguments = arguments_of c.arguments in
-    ChecksAndRuns drill (not_runnable (image_of m) c.export (types_of_values arguments)) m c.export arguments c.steps o
+TellsCall drill c m o = ChecksAndRuns drill (not_runnable (image_of m) c.export (types_of_values (arguments_of c.arguments))) m c o
 
 -- a drill calls the module's last function, which is exported under this name
 abbrev pub drill_call : (steps : ℕ) → Given
-drill_call steps = record { export = codes "run"; arguments = []; steps = steps }
+drill_call steps = record { export = codes "run"; arguments = []; steps = steps; peek = None }
 
 abbrev pub TellsDrill : (steps : ℕ) → Module → Outcome → Type 0
 TellsDrill steps m o = TellsCall (Some (declared_count m.items)) (drill_call steps) m o

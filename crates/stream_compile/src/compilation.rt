@@ -2,10 +2,8 @@
 //! its end their codes are linked, where they were kept.
 
 ghost use Rattle.std.specs.Prelude.{◌≡◌, ◌<◌, ◌≤◌, ◌++◌, ℕ, List, [], All, length, None, Err, IsSome, OnOk, IfOk};
-ghost use Rattle.wasm_defs.specs.Faults.{unsupported_at};
 ghost use Rattle.wasm_defs.specs.Outside.{Run as RunGiven};
 ghost use Rattle.section_reader.specs.FrontLeft.{total};
-ghost use Rattle.section_reader.specs.FrontOnward.{begun};
 ghost use Rattle.section_reader.specs.Onward.{after_parts};
 ghost use Rattle.body_cutter.specs.Sections.{bodies_from};
 ghost use Rattle.body_cutter.specs.Cuttings.{left, handed, no_batch};
@@ -15,7 +13,7 @@ ghost use Rattle.stream_compile.specs.Progress.{IsJudging, CanTakeAll, TakesPart
 ghost use Rattle.stream_compile.specs.Done.{IsDone, Decides};
 ghost use Rattle.stream_compile.specs.Compiling.{IsBuilt};
 ghost use Rattle.stream_compile.specs.Reading.{checked_of};
-ghost use Rattle.stream_compile.specs.Streaming.{IsGoing, IsUnread, MayGo, MayEnd, GoesOn, Advances, Lessens, IsWaiting, AllWait, WaitsAfter, with_cutter, KeepsRest, IsTaking, MayTake, MayBegin, TakesItem, earliest};
+ghost use Rattle.stream_compile.specs.Streaming.{IsGoing, IsUnread, MayGo, MayEnd, GoesOn, Advances, Lessens, IsWaiting, AllWait, WaitsAfter, with_cutter, KeepsRest, IsTaking, MayTake, MayBegin, TakesItem};
 
 use crate::answer::{Built, Checked};
 use crate::bodies::take_batches;
@@ -25,7 +23,7 @@ use image_linker::link;
 use index_spaces::{AddStop, ContextBuilder};
 use section_reader::Front;
 use std::alloc::{AllocError, Global};
-use wasm_defs::{FrontStop, Item, Kind, Refusal, earlier};
+use wasm_defs::{FrontStop, Item};
 
 /// What came of a module, and how far it was compiled.
 #[derive(Drop)]
@@ -40,15 +38,6 @@ pub struct Compilation {
     spaces: ContextBuilder,
     /// The codes of the bodies that were judged.
     codes: Codes,
-}
-
-fn unsupported(offset: u64) -> Refusal
-    ensures { result ≡ unsupported_at offset }
-{
-    Refusal {
-        offset,
-        kind: Kind::Unsupported,
-    }
 }
 
 impl Compilation {
@@ -171,8 +160,7 @@ impl Compilation {
                 },
                 None => Ok(taken),
             },
-            Err(FrontStop::Refused(refusal)) => Err(FrontStop::Refused(self.earliest(refusal))),
-            Err(FrontStop::NoMemory) => Err(FrontStop::NoMemory),
+            Err(stop) => Err(stop),
         }
     }
 
@@ -182,9 +170,6 @@ impl Compilation {
         ensures takes { (bytes more : List ℕ) → IsTaking bytes self.old item.now more → TakesItem bytes self.old result self.new more }
         ensures kept { self.new.codes ≡ self.old.codes }
     {
-        if let Some(at) = self.front.uncompiled() {
-            return Err(FrontStop::Refused(unsupported(at)));
-        }
         match self.spaces.add(item) {
             Ok(()) => {}
             Err(AddStop::Refused(refusal)) => return Err(FrontStop::Refused(refusal)),
@@ -215,16 +200,6 @@ impl Compilation {
             end,
             self.batch,
         )
-    }
-
-    /// The first of a fault and of the section that isn't compiled, if one has begun.
-    fn earliest(&self, refusal: Refusal) -> Refusal
-        ensures { result ≡ earliest (begun self.now.front) refusal }
-    {
-        match self.front.uncompiled() {
-            Some(at) => earlier(refusal, unsupported(at)),
-            None => refusal,
-        }
     }
 
     /// The bytes have ended: they are a module, all of whose bodies are compiled, or this is what is at fault.
@@ -282,11 +257,8 @@ impl Compilation {
         ensures kept { self.new.codes ≡ self.old.codes }
     {
         match self.front.end() {
-            Ok(()) => match self.front.uncompiled() {
-                Some(at) => Err(FrontStop::Refused(unsupported(at))),
-                None => Ok(()),
-            },
-            Err(refusal) => Err(FrontStop::Refused(self.earliest(refusal))),
+            Ok(()) => Ok(()),
+            Err(refusal) => Err(FrontStop::Refused(refusal)),
         }
     }
 

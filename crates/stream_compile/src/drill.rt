@@ -24,6 +24,7 @@ fn call_of(alloc: Global, drill: &Drill) -> Result<Call, AllocError>
         export: Export::new(String::from_str(alloc, "run")?),
         arguments: Arguments::new(Vec::new(alloc)),
         steps: drill.steps,
+        peek: None,
     })
 }
 

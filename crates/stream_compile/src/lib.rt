@@ -13,6 +13,7 @@ mod laws;
 mod output;
 mod reading;
 mod running;
+mod shown;
 mod writing;
 
 pub use answer::{Answer, Built, CheckAnswer, Checked, Settings};

@@ -7,10 +7,12 @@ ghost use Rattle.io_edges.specs.Streams.{WritesText};
 ghost use Rattle.image_run.specs.Hosts.{values_of};
 ghost use Rattle.image_run.specs.declared.outcome.Outcome.TheVariants.{HostStopped};
 ghost use Rattle.stream_compile.specs.Reading.{view};
-ghost use Rattle.stream_compile.specs.Running.{line_of};
-ghost use Rattle.stream_compile.specs.Texts.{drill_line, drilled, fault_name, machine_fault, returned, returned_by, Told};
+ghost use Rattle.stream_compile.specs.Running.{line_of, lines_of, shown_behind};
+ghost use Rattle.stream_compile.specs.Texts.{drill_line, drilled, fault_name, machine_fault, peeked, returned, returned_by, Told};
 
 use crate::output::Output;
+use crate::shown::write_shown;
+use command_words::Peek;
 use image_run::Outcome;
 use io_edges::{Sink, write_all};
 use itoa::Buffer;
@@ -49,7 +51,8 @@ fn write_both<O: Sink>(out: &mut O, first: &[u8], second: &[u8]) -> bool
 /// Writes a text, a number and a newline.
 fn write_number<O: Sink>(out: &mut O, front: &[u8], number: &[u8]) -> bool
     requires { O.is_open out.old ≡ true }
-    ensures { WritesText result (front.now ++ (number.now ++ codes "\n")) (O.written out.old) (O.written out.new) (O.faults out.old) (O.faults out.new) }
+    ensures text { WritesText result (front.now ++ (number.now ++ codes "\n")) (O.written out.old) (O.written out.new) (O.faults out.old) (O.faults out.new) }
+    ensures open { result ≡ true → O.is_open out.new ≡ true }
 {
     if write_all(out, front) {
         write_both(out, number, b"\n")
@@ -61,7 +64,8 @@ fn write_number<O: Sink>(out: &mut O, front: &[u8], number: &[u8]) -> bool
 /// Writes the value that a function returned, as a signed number, or that there is none.
 fn write_returned<O: Sink>(out: &mut O, value: Option<Value>) -> bool
     requires { O.is_open out.old ≡ true }
-    ensures { WritesText result (returned (values_of value)).text (O.written out.old) (O.written out.new) (O.faults out.old) (O.faults out.new) }
+    ensures text { WritesText result (returned (values_of value)).text (O.written out.old) (O.written out.new) (O.faults out.old) (O.faults out.new) }
+    ensures open { result ≡ true → O.is_open out.new ≡ true }
 {
     let mut buffer = Buffer::new();
     match value {
@@ -74,7 +78,8 @@ fn write_returned<O: Sink>(out: &mut O, value: Option<Value>) -> bool
 /// Writes the line of a drill with so many functions.
 fn write_drill_line<O: Sink>(out: &mut O, functions: u64, value: i64) -> bool
     requires { O.is_open out.old ≡ true }
-    ensures { WritesText result (drill_line functions value).text (O.written out.old) (O.written out.new) (O.faults out.old) (O.faults out.new) }
+    ensures text { WritesText result (drill_line functions value).text (O.written out.old) (O.written out.new) (O.faults out.old) (O.faults out.new) }
+    ensures open { result ≡ true → O.is_open out.new ≡ true }
 {
     let mut count = Buffer::new();
     let mut number = Buffer::new();
@@ -88,7 +93,8 @@ fn write_drill_line<O: Sink>(out: &mut O, functions: u64, value: i64) -> bool
 /// Writes what the last of so many functions returned, as a signed number, or that it returned nothing.
 fn write_drilled<O: Sink>(out: &mut O, functions: u64, value: Option<Value>) -> bool
     requires { O.is_open out.old ≡ true }
-    ensures { WritesText result (drilled functions (values_of value)).text (O.written out.old) (O.written out.new) (O.faults out.old) (O.faults out.new) }
+    ensures text { WritesText result (drilled functions (values_of value)).text (O.written out.old) (O.written out.new) (O.faults out.old) (O.faults out.new) }
+    ensures open { result ≡ true → O.is_open out.new ≡ true }
 {
     match value {
         None => write_all(out, b"ok\n"),
@@ -100,7 +106,8 @@ fn write_drilled<O: Sink>(out: &mut O, functions: u64, value: Option<Value>) -> 
 /// Writes what was returned: of a drill with so many functions, or of another run.
 fn write_returned_by<O: Sink>(out: &mut O, drill: Option<u64>, value: Option<Value>) -> bool
     requires { O.is_open out.old ≡ true }
-    ensures { WritesText result (returned_by drill (values_of value)).text (O.written out.old) (O.written out.new) (O.faults out.old) (O.faults out.new) }
+    ensures text { WritesText result (returned_by drill (values_of value)).text (O.written out.old) (O.written out.new) (O.faults out.old) (O.faults out.new) }
+    ensures open { result ≡ true → O.is_open out.new ≡ true }
 {
     match drill {
         None => write_returned(out, value),
@@ -125,7 +132,8 @@ fn fault_name(kind: FaultKind) -> &'static str
 /// Writes a name and a place.
 fn write_place<O: Sink>(out: &mut O, name: &[u8], pc: u64) -> bool
     requires { O.is_open out.old ≡ true }
-    ensures { WritesText result (name.now ++ codes " at " ++ decimal pc ++ codes "\n") (O.written out.old) (O.written out.new) (O.faults out.old) (O.faults out.new) }
+    ensures text { WritesText result (name.now ++ codes " at " ++ decimal pc ++ codes "\n") (O.written out.old) (O.written out.new) (O.faults out.old) (O.faults out.new) }
+    ensures open { result ≡ true → O.is_open out.new ≡ true }
 {
     let mut buffer = Buffer::new();
     if write_all(out, name) {
@@ -138,7 +146,8 @@ fn write_place<O: Sink>(out: &mut O, name: &[u8], pc: u64) -> bool
 /// Writes that the machine has no step at a place.
 fn write_fault<O: Sink>(out: &mut O, kind: FaultKind, pc: u64) -> bool
     requires { O.is_open out.old ≡ true }
-    ensures { WritesText result (machine_fault kind pc).text (O.written out.old) (O.written out.new) (O.faults out.old) (O.faults out.new) }
+    ensures text { WritesText result (machine_fault kind pc).text (O.written out.old) (O.written out.new) (O.faults out.old) (O.faults out.new) }
+    ensures open { result ≡ true → O.is_open out.new ≡ true }
 {
     if write_all(out, b"machine fault ") {
         write_place(out, fault_name(kind).as_bytes(), pc)
@@ -151,7 +160,8 @@ fn write_fault<O: Sink>(out: &mut O, kind: FaultKind, pc: u64) -> bool
 fn write_line<O: Sink>(out: &mut O, drill: Option<u64>, outcome: Outcome) -> bool
     requires stopped { outcome ≢ HostStopped }
     requires open { O.is_open out.old ≡ true }
-    ensures { WritesText result (line_of drill outcome).text (O.written out.old) (O.written out.new) (O.faults out.old) (O.faults out.new) }
+    ensures text { WritesText result (line_of drill outcome).text (O.written out.old) (O.written out.new) (O.faults out.old) (O.faults out.new) }
+    ensures open { result ≡ true → O.is_open out.new ≡ true }
 {
     match outcome {
         Outcome::Returned(value) => write_returned_by(out, drill, value),
@@ -159,6 +169,53 @@ fn write_line<O: Sink>(out: &mut O, drill: Option<u64>, outcome: Outcome) -> boo
         Outcome::StepsSpent => write_all(out, b"steps spent\n"),
         Outcome::Fault(kind, pc) => write_fault(out, kind, pc),
         Outcome::HostStopped => unreachable!(),
+    }
+}
+
+/// Writes how a run ended that no host stopped, and behind it the bytes that are to be shown.
+fn write_line_and_bytes<O: Sink>(
+    out: &mut O,
+    drill: Option<u64>,
+    outcome: Outcome,
+    shown: Peek,
+    memory: &[u8],
+) -> bool
+    requires stopped { outcome ≢ HostStopped }
+    requires open { O.is_open out.old ≡ true }
+    ensures { WritesText result ((line_of drill outcome).text ++ peeked shown memory.now) (O.written out.old) (O.written out.new) (O.faults out.old) (O.faults out.new) }
+{
+    if write_line(out, drill, outcome) {
+        write_shown(out, shown, memory)
+    } else {
+        false
+    }
+}
+
+/// Which bytes are shown behind an outcome: those that were asked for, where the run returned or trapped.
+fn shown_behind(outcome: Outcome, peek: Option<Peek>) -> Option<Peek>
+    ensures { result ≡ shown_behind outcome peek }
+{
+    match outcome {
+        Outcome::Returned(_) | Outcome::Trapped(_) => peek,
+        Outcome::StepsSpent | Outcome::HostStopped | Outcome::Fault(_, _) => None,
+    }
+}
+
+/// Writes how a run ended that no host stopped, and the bytes that are shown behind it.
+fn write_lines<O: Sink>(
+    out: &mut O,
+    drill: Option<u64>,
+    peek: Option<Peek>,
+    outcome: Outcome,
+    memory: &[u8],
+) -> bool
+    requires stopped { outcome ≢ HostStopped }
+    requires open { O.is_open out.old ≡ true }
+    ensures { WritesText result (lines_of drill peek outcome memory.now).text (O.written out.old) (O.written out.new) (O.faults out.old) (O.faults out.new) }
+{
+    match shown_behind(outcome, peek) {
+        None => write_line(out, drill, outcome),
+        Some(shown) => write_line_and_bytes(out, drill, outcome, shown, memory),
     }
 }
 
@@ -175,17 +232,24 @@ fn status_of(outcome: Outcome) -> u8
     }
 }
 
-/// Writes how a run ended, and gives its status. Where the host stopped it, the sink has failed, and nothing more is written.
-pub fn write_end<O: Sink>(out: &mut O, drill: Option<u64>, outcome: Outcome) -> u8
+/// Writes how a run ended and the bytes that are shown behind it, and gives its status. Where the host stopped it, the sink has
+/// failed, and nothing more is written.
+pub fn write_end<O: Sink>(
+    out: &mut O,
+    drill: Option<u64>,
+    peek: Option<Peek>,
+    outcome: Outcome,
+    memory: &[u8],
+) -> u8
     requires count { outcome ≢ HostStopped → O.faults out.old < 2 ^ 64 - 1 }
     requires open { outcome ≢ HostStopped → O.is_open out.old ≡ true }
     ensures stopped { outcome ≡ HostStopped → (result ≡ 7) × (out.new ≡ out.old) }
-    ensures told { outcome ≢ HostStopped → Told result (line_of drill outcome) (nat_lt (O.faults out.old) (O.faults out.new)) (O.written out.old) (O.written out.new) }
+    ensures told { outcome ≢ HostStopped → Told result (lines_of drill peek outcome memory.now) (nat_lt (O.faults out.old) (O.faults out.new)) (O.written out.old) (O.written out.new) }
 {
     match outcome {
         Outcome::HostStopped => SINK_FAILED,
         _ => {
-            if write_line(out, drill, outcome) {
+            if write_lines(out, drill, peek, outcome, memory) {
                 status_of(outcome)
             } else {
                 SINK_FAILED

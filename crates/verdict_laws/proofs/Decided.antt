@@ -7,17 +7,15 @@ use Rattle.wasm_defs.specs.declared.item.Item.{Item}
 use Rattle.wasm_defs.specs.Items.{Section as Spelled}
 use Rattle.wasm_defs.specs.Limits.{max_text}
 use Rattle.wasm_defs.specs.Outside.{Part, Section, Listed, Coded, Body, module_read}
-use Rattle.wasm_defs.specs.Supported.{is_compiled_section}
 use Rattle.wasm_defs.specs.Trees.{Seq}
 use Rattle.wasm_defs.specs.Typing.{Context}
 use Rattle.wasm_defs.specs.Context.{context_of}
 use Rattle.wasm_defs.specs.declared.fault.Kind.TheVariants.{Invalid}
-use Rattle.wasm_defs.specs.Faults.{first_outside, ending_fault, sections_of, items_of, bodies_of, read_of, context_at, may_start, started, StartsRight, IsStartFault, IsCodeFault, IsValidCode, IsOutsideFault, IsFaultInside, IsFault, AreValid, Module, Verdict, Accepted, Rejected}
+use Rattle.wasm_defs.specs.Faults.{ending_fault, items_of, bodies_of, read_of, context_at, may_start, started, StartsRight, IsStartFault, IsCodeFault, IsValidCode, IsOutsideFault, IsFaultInside, IsFault, AreValid, Module, Verdict, Accepted, Rejected}
 use Rattle.wasm_laws.specs.Sections.{AreBytes}
 use Rattle.wasm_laws.proofs.Behind.{bodies_stand_behind}
-use Rattle.wasm_laws.proofs.Earlier.{no_later_offset}
 use Rattle.wasm_laws.proofs.Counted.{entries_are_few}
-use Rattle.wasm_laws.proofs.Verdicts.{valid_has_no_fault, starts_without_fault}
+use Rattle.wasm_laws.proofs.Verdicts.{code_fault_once, valid_has_no_fault, starts_without_fault}
 use Rattle.frame_layout.specs.Templates.{exit_stub}
 use Rattle.image_linker.specs.ImageOf.{size_of, stub_size, front_size}
 use Rattle.image_linker.specs.Judging.{sizes, text_bytes, limit_at, IsTextFault, IsFaultOf, IsModuleOf, IsVerdictOf}
@@ -28,14 +26,14 @@ use Rattle.wasm_laws.proofs.PartLists.{items_of-append}
 use Rattle.stream_compile.proofs.TextFaults.{tree_once, text_once}
 use Rattle.body_laws.specs.Spelled.{IsSpelledModule}
 use Rattle.body_laws.proofs.SpelledModules.{module_is_spelled, spelled_is_module}
-use Rattle.verdict_laws.proofs.Firsts.{HasFirst, only_of, none_of, first_of, HasLeast, least_first, least_either}
+use Rattle.verdict_laws.proofs.Leasts.{HasLeast, least_only, none_of, least_either}
 use Rattle.verdict_laws.proofs.Judged.{IsJudged, body_judged}
 
 -- ---- faults of bodies
 
 code_least : (c : Context) (b : Body) → IsJudged c (read_of b).code → HasLeast (IsCodeFault c (read_of b).code)
 code_least c b (inl v) = inr (λ s f. valid_has_no_fault c (read_of b).code v.0 s v.1 f)
-code_least c b (inr p) = inl (p.0, p.1, λ s g. no_later_offset p.0 s (p.1.1 s g.0))
+code_least c b (inr p) = inl (p.0, p.1, λ s g. omega (arith, ap (λ (r : Refusal). r.offset) (code_fault_once c (read_of b).code p.0 s p.1 g)))
 
 -- ---- and of the start function
 
@@ -135,36 +133,26 @@ text_keeps bytes front (Coded b ∷ parts) k words (tree ∷ trees) e v none le 
           omega (arith, rest, size)
     ]
 
--- ---- outside bodies
-
-outside_first : (bytes : List ℕ) → HasFirst (λ r. (ending_fault (length bytes) (module_read bytes).ending ≡ Some r) ⊎ (first_outside is_compiled_section (sections_of (module_read bytes).parts) ≡ Some r))
-outside_first bytes = first_of _ _ (only_of (ending_fault (length bytes) (module_read bytes).ending)) (only_of (first_outside is_compiled_section (sections_of (module_read bytes).parts)))
-
 -- ---- verdicts
 
 fault_least : (bytes : List ℕ) → HasLeast (IsFaultOf bytes)
 fault_least bytes =
     least_either (IsFault bytes) (IsTextFault [] 0 0 (module_read bytes).parts)
-    (least_either (IsOutsideFault bytes) (IsFaultInside [] 0 (module_read bytes).parts) (least_first _ (outside_first bytes)) (inside_least [] 0 (module_read bytes).parts))
+    (least_either (IsOutsideFault bytes) (IsFaultInside [] 0 (module_read bytes).parts) (least_only (ending_fault (length bytes) (module_read bytes).ending)) (inside_least [] 0 (module_read bytes).parts))
     (text_least [] 0 0 (module_read bytes).parts)
 
 pub module_of : (bytes : List ℕ) → ((r : Refusal) → IsFaultOf bytes r → ⊥) → (m : Module) × IsModuleOf bytes m
-module_of bytes none = of (outside_first bytes)
-  where
-    of : HasFirst (λ r. (ending_fault (length bytes) (module_read bytes).ending ≡ Some r) ⊎ (first_outside is_compiled_section (sections_of (module_read bytes).parts) ≡ Some r)) → (m : Module) × IsModuleOf bytes m
-    of (inl f) = absurd (none f.0 (inl (inl f.1)))
-    of (inr outside) =
-        let all = (module_read bytes).parts in
-        let valid = trees_of [] 0 all (λ s f. none s (inl (inr f))) in
-        let compiled : first_outside is_compiled_section (sections_of all) ≡ None = none_of _ (λ s e. outside s (inr e)) in
-        let m : Module = record { items = items_of all; bodies = bodies_of all; trees = valid.0 } in
-        let first : text_bytes (items_of all) 0 ≤ max_text = omega (arith, imports_are_few (items_of all), entries_are_few 2 (λ ten. absurd cc) bytes) in (
-          m,
-          record {
-            is = record { whole = none_of _ (λ s e. outside s (inl e)); compiled = compiled; items = refl; bodies = refl; valid = valid.1 };
-            fits = omega (arith, text_keeps bytes [] all 0 0 valid.0 refl valid.1 (λ s f. none s (inr f)) first);
-          },
-        )
+module_of bytes none =
+    let all = (module_read bytes).parts in
+    let valid = trees_of [] 0 all (λ s f. none s (inl (inr f))) in
+    let m : Module = record { items = items_of all; bodies = bodies_of all; trees = valid.0 } in
+    let first : text_bytes (items_of all) 0 ≤ max_text = omega (arith, imports_are_few (items_of all), entries_are_few 2 (λ ten. absurd cc) bytes) in (
+      m,
+      record {
+        is = record { whole = none_of _ (λ s e. none s (inl (inl e))); items = refl; bodies = refl; valid = valid.1 };
+        fits = omega (arith, text_keeps bytes [] all 0 0 valid.0 refl valid.1 (λ s f. none s (inr f)) first);
+      },
+    )
 
 pub has_verdict : (bytes : List ℕ) → (v : Verdict) × IsVerdictOf bytes v
 has_verdict bytes = of (fault_least bytes)

@@ -1,3 +1,3 @@
-pub mod Firsts
+pub mod Leasts
 pub mod Judged
 pub mod Decided

@@ -27,7 +27,7 @@ pub fn each_has_a_verdict()
 {}
 
 /// Bytes have no fault exactly where they are a module: where the grammar spells them, their bodies too, the rules are kept, the
-/// trees are typed, nothing stands in them that isn't compiled, and the text keeps its limit.
+/// trees are typed, and the text keeps its limit.
 pub fn no_fault_is_a_module()
     ensures read { (bytes : List ℕ) →
         ((r : Refusal) → IsFaultOf bytes r → ⊥) ↔ ((m : Module) × IsModuleOf bytes m) }

@@ -91,7 +91,7 @@ zero_byte kind = do
   b ← byte
   if b.1 == 0 then done tt else refused kind b.0
 
--- a table's index is a byte that has to be zero so far
+-- behind the type stands a byte that has to be zero
 unfoldable pub indirect : Reader Token
 indirect = do
   i ← u32
@@ -202,15 +202,14 @@ depth_after (token.If t) depth = suc depth
 depth_after token.Else depth = depth
 depth_after token.End depth = depth - 1
 
--- the opcodes that were read, each with its offset; the tokens that are whole, each with that of its opcode; and the first
--- fault of spelling: none where the last token closes the body, and nothing is left
+-- the tokens that are whole, each with the offset of its opcode; and the first fault of spelling: none where the last token closes
+-- the body, and nothing is left
 pub record Spelled : Type 0 where
-  pub opcodes : List (ℕ × ℕ)
   pub tokens : List (ℕ × Token)
   pub fault : Option Refusal
 
 abbrev pub stops : Option Refusal → Spelled
-stops fault = record { opcodes = []; tokens = []; fault = fault }
+stops fault = record { tokens = []; fault = fault }
 
 abbrev pub malformed_at : ℕ → Spelled
 malformed_at at = stops (Some (record { offset = at; kind = Malformed }))
@@ -219,9 +218,6 @@ malformed_at at = stops (Some (record { offset = at; kind = Malformed }))
 abbrev pub closed : ℕ → List ℕ → Spelled
 closed at [] = stops None
 closed at (b ∷ bytes) = malformed_at at
-
-abbrev pub after_opcode : ℕ × ℕ → Spelled → Spelled
-after_opcode opcode s = record s { opcodes = opcode ∷ s.opcodes }
 
 abbrev pub after_token : ℕ → Token → Spelled → Spelled
 after_token at t s = record s { tokens = (at, t) ∷ s.tokens }
@@ -237,8 +233,8 @@ unfoldable pub spelled_from : ℕ → ℕ → ℕ → Cursor → Spelled
 spelled_from zero depth last c = malformed_at last
 spelled_from (suc n) zero last c = closed c.at c.rest
 spelled_from (suc n) (suc depth) last c =
-    goes_on last (byte c) (λ b d. after_opcode b (
-    goes_on last (instruction b.0 b.1 d) (λ t e. after_token b.0 t (spelled_from n (depth_after t (suc depth)) last e))))
+    goes_on last (byte c) (λ b d.
+    goes_on last (instruction b.0 b.1 d) (λ t e. after_token b.0 t (spelled_from n (depth_after t (suc depth)) last e)))
 
 -- in a body a field is never cut off by an end that is near, but by the bytes alone
 abbrev pub body_cursor : ℕ → List ℕ → Cursor

@@ -1,5 +1,5 @@
 -- The faults of a module, but for that of its image's text.
-use Rattle.std.specs.Prelude.{◌≡◌, ◌<◌, ◌≤◌, ◌⊎◌, ℕ, suc, ◌+◌, List, [], ◌∷◌, ◌++◌, ◌==◌, ◌&&◌, length, Bool, true, false, Option, None, Some, nat_lt, nat_le, if◌then◌else◌}
+use Rattle.std.specs.Prelude.{◌≡◌, ◌⊎◌, ℕ, suc, ◌+◌, List, [], ◌∷◌, ◌++◌, ◌==◌, ◌&&◌, length, Bool, true, false, Option, None, Some}
 use Rattle.wasm_defs.specs.declared.fault.Kind.{Kind}
 use Rattle.wasm_defs.specs.declared.fault.Kind.TheVariants.{Malformed, Unsupported, Limit, Invalid, Ended}
 use Rattle.wasm_defs.specs.declared.fault.Refusal.{Refusal}
@@ -10,44 +10,17 @@ use Rattle.wasm_defs.specs.declared.types.FuncType.{FuncType}
 use Rattle.wasm_defs.specs.Outside.{Part, Section, Listed, Coded, Body, Ending, Whole, Refused, Owed, module_read}
 use Rattle.wasm_defs.specs.Bodies.{Spelled, BodyRead, body_read}
 use Rattle.wasm_defs.specs.Context.{context_of, import_count, body_context, type_of_function}
-use Rattle.wasm_defs.specs.Supported.{is_compiled_section, is_compiled_opcode}
 use Rattle.wasm_defs.specs.Trees.{Seq, Tree}
 use Rattle.wasm_defs.specs.Typing.{Context, IsBody, function_type}
 use Rattle.wasm_defs.specs.Viable.{IsViable, IsFaulty}
 
--- ---- the order of faults: by the place, and at one place by the kind
-
+-- the order of kinds: where a field fails in several ways, the kind of the least rank is meant
 abbrev pub rank : Kind → ℕ
 rank Malformed = 0
 rank Unsupported = 1
 rank Limit = 2
 rank Invalid = 3
 rank Ended = 4
-
-abbrev pub IsNoLater : Refusal → Refusal → Type 0
-IsNoLater r s = (r.offset < s.offset) ⊎ ((r.offset ≡ s.offset) × (rank r.kind ≤ rank s.kind))
-
--- the one of two that comes first
-abbrev pub earlier : Refusal → Refusal → Refusal
-earlier r s =
-    if nat_lt r.offset s.offset then r
-    else if nat_lt s.offset r.offset then s
-    else if nat_le (rank r.kind) (rank s.kind) then r
-    else s
-
--- what isn't compiled is unsupported at its byte
-abbrev pub unsupported_at : ℕ → Refusal
-unsupported_at at = record { offset = at; kind = Unsupported }
-
--- r is one of these, and none of them comes before it
-abbrev pub IsFirst : (Refusal → Type 0) → Refusal → Type 0
-IsFirst P r = P r × ((s : Refusal) → P s → IsNoLater r s)
-
--- the first of what isn't compiled
-abbrev pub first_outside : (ℕ → Bool) → List (ℕ × ℕ) → Option Refusal
-first_outside compiled [] = None
-first_outside compiled (x ∷ xs) =
-    if compiled x.1 then first_outside compiled xs else Some (unsupported_at x.0)
 
 -- ---- outside bodies
 
@@ -57,16 +30,9 @@ ending_fault len (Whole seen) = None
 ending_fault len (Refused r) = Some r
 ending_fault len Owed = Some (record { offset = len; kind = Ended })
 
-abbrev pub sections_of : List Part → List (ℕ × ℕ)
-sections_of [] = []
-sections_of (Section at id ∷ parts) = (at, id) ∷ sections_of parts
-sections_of (Listed x ∷ parts) = sections_of parts
-sections_of (Coded b ∷ parts) = sections_of parts
-
+-- the fault that ends their reading
 abbrev pub IsOutsideFault : List ℕ → Refusal → Type 0
-IsOutsideFault bytes =
-    let run = module_read bytes in
-    IsFirst (λ r. (ending_fault (length bytes) run.ending ≡ Some r) ⊎ (first_outside is_compiled_section (sections_of run.parts) ≡ Some r))
+IsOutsideFault bytes r = ending_fault (length bytes) (module_read bytes).ending ≡ Some r
 
 -- ---- of the start function
 
@@ -116,8 +82,7 @@ pub record IsSpellingFault (c : Context) (tokens : List (ℕ × Token)) (fault :
   pub is : fault ≡ Some r
 
 abbrev pub IsCodeFault : Context → Spelled → Refusal → Type 0
-IsCodeFault c code =
-    IsFirst (λ r. IsTokenFault c code.tokens r ⊎ IsSpellingFault c code.tokens code.fault r ⊎ (first_outside is_compiled_opcode code.opcodes ≡ Some r))
+IsCodeFault c code r = IsTokenFault c code.tokens r ⊎ IsSpellingFault c code.tokens code.fault r
 
 -- what is read of a body, and its context: it is the k-th of a module with these items before it
 abbrev pub read_of : Body → BodyRead
@@ -140,12 +105,11 @@ IsFaultInside items k (Coded b ∷ parts) r = IsCodeFault (context_at items k b)
 abbrev pub IsFault : List ℕ → Refusal → Type 0
 IsFault bytes r = IsOutsideFault bytes r ⊎ IsFaultInside [] 0 (module_read bytes).parts r
 
--- the code of a valid body, which is compiled
+-- the code of a valid body
 pub record IsValidCode (c : Context) (code : Spelled) (tree : Seq) : Type 0 where
   pub whole : code.fault ≡ None
   pub tree_is : Tree (tokens_of code.tokens) tree
   pub typed : IsBody c tree
-  pub compiled : first_outside is_compiled_opcode code.opcodes ≡ None
 
 -- the start function and the bodies are valid, the bodies with these trees
 abbrev pub AreValid : List Item → ℕ → List Part → List Seq → Type 0
@@ -176,7 +140,6 @@ pub record Module : Type 0 where
 
 pub record IsModule (bytes : List ℕ) (m : Module) : Type 0 where
   pub whole : ending_fault (length bytes) (module_read bytes).ending ≡ None
-  pub compiled : first_outside is_compiled_section (sections_of (module_read bytes).parts) ≡ None
   pub items : m.items ≡ items_of (module_read bytes).parts
   pub bodies : m.bodies ≡ bodies_of (module_read bytes).parts
   pub valid : AreValid [] 0 (module_read bytes).parts m.trees

@@ -5,7 +5,6 @@ pub mod Fields
 pub mod Entries
 pub mod Outside
 pub mod Opcodes
-pub mod Supported
 pub mod Trees
 pub mod Typing
 pub mod Places

@@ -10,14 +10,13 @@ mod laws;
 mod limits;
 mod lists;
 mod operation;
-mod supported;
 mod text;
 mod token;
 mod types;
 mod value;
 
 pub use context::GlobalType;
-pub use fault::{Kind, Refusal, earlier};
+pub use fault::{Kind, Refusal};
 pub use front_stop::FrontStop;
 pub use item::{Constant, Extern, Item, Limits};
 pub use laws::numbers_are_prefix_free;
@@ -27,7 +26,6 @@ pub use limits::{
 };
 pub use lists::{Bytes, Indices, Labels, Name, Sequence, ValTypes};
 pub use operation::{Access, BinaryOp, CompareOp, ConvertOp, LoadOp, Operation, StoreOp, UnaryOp};
-pub use supported::{is_compiled_opcode, is_compiled_section};
 pub use text::Inside;
 pub use token::{BlockType, MemArg, Plain, Token};
 pub use types::{FuncType, ValType};

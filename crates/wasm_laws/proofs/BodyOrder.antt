@@ -1,9 +1,9 @@
--- Opcodes, tokens and the fault of spelling stand in order in a body.
+-- Tokens and the fault of spelling stand in order in a body.
 use Rattle.std.proofs.Common.{◌≡◌, ℕ, zero, suc, ◌+◌, ◌≤◌, ◌<◌, List, [], ◌∷◌, Some, length, refl, arith}
 use Rattle.wasm_defs.specs.declared.fault.Refusal.{Refusal}
 use Rattle.wasm_defs.specs.declared.token.Token.{Token}
 use Rattle.wasm_defs.specs.Fields.{Cursor, Read, Got, Fault, Wants, room_of, byte}
-use Rattle.wasm_defs.specs.Bodies.{Group, local_groups, instruction, depth_after, Spelled, stops, malformed_at, closed, after_opcode, after_token, goes_on, spelled_from, body_cursor, last_of, read_code, body_read}
+use Rattle.wasm_defs.specs.Bodies.{Group, local_groups, instruction, depth_after, Spelled, stops, malformed_at, closed, after_token, goes_on, spelled_from, body_cursor, last_of, read_code, body_read}
 use Rattle.wasm_laws.specs.BodyOrder.{AreRising, stop_of, IsSpelledIn}
 use Rattle.wasm_laws.proofs.Steady.{IfGot, IsMarked, Advance, Advances, moves_of, StandsIn, here_in}
 use Rattle.wasm_laws.proofs.Windows.{byte_field}
@@ -13,9 +13,8 @@ rising_wider : {X : Type 0} (low low' last : ℕ) (xs : List (ℕ × X)) → low
 rising_wider low low' last [] le p = tt
 rising_wider low low' last (x ∷ xs) le p = (omega (arith, p.0), p.1, p.2)
 
--- what is spelled in a body: opcodes and tokens from low on, and its stop, at from or behind
+-- what is spelled in a body: tokens from low on, and its stop, at from or behind
 record IsSpelledFrom (low from last : ℕ) (s : Spelled) : Type 0 where
-  opcodes : AreRising low (stop_of last s.fault) s.opcodes
   tokens : AreRising low (stop_of last s.fault) s.tokens
   after : from ≤ stop_of last s.fault
   within : stop_of last s.fault ≤ last
@@ -30,30 +29,29 @@ body_on last c d p q = let m = moves_of c d q in record { sum = omega (arith, p.
 
 -- a fault alone
 fault_stands : (low from last : ℕ) (c : Cursor) (r : Refusal) → InBody last c → from ≤ low → StandsIn {A = Token} low c (Fault r) → IsSpelledFrom c.at from last (stops (Some r))
-fault_stands low from last c r p le q = record { opcodes = tt; tokens = tt; after = omega (arith, q.from); within = omega (arith, p.sum, q.at_a_byte p.far) }
+fault_stands low from last c r p le q = record { tokens = tt; after = omega (arith, q.from); within = omega (arith, p.sum, q.at_a_byte p.far) }
 
 missing_stands : (low from last : ℕ) → from ≤ last → IsSpelledFrom low from last (malformed_at last)
-missing_stands low from last le = record { opcodes = tt; tokens = tt; after = le; within = omega arith }
+missing_stands low from last le = record { tokens = tt; after = le; within = omega arith }
 
 closed_stands : (low from last at : ℕ) (rest : List ℕ) → from ≤ at → from ≤ last → at + length rest ≡ suc last → IsSpelledFrom low from last (closed at rest)
-closed_stands low from last at [] le le' e = record { opcodes = tt; tokens = tt; after = le'; within = omega arith }
-closed_stands low from last at (b ∷ rest) le le' e = record { opcodes = tt; tokens = tt; after = le; within = omega arith }
+closed_stands low from last at [] le le' e = record { tokens = tt; after = le'; within = omega arith }
+closed_stands low from last at (b ∷ rest) le le' e = record { tokens = tt; after = le; within = omega arith }
 
--- an opcode, and what follows it
-opcode_stands : (low from last : ℕ) (b : ℕ × ℕ) (d : Cursor) (x : Read Token) (f : Token → Cursor → Spelled) → low ≤ b.0 → from ≤ b.0 → b.0 < d.at → InBody last d → Advances d x → StandsIn b.0 d x → ((t : Token) (e : Cursor) → InBody last e → b.0 ≤ e.at → IsSpelledFrom e.at b.0 last (f t e)) → IsSpelledFrom low from last (after_opcode b (goes_on last x (λ t e. after_token b.0 t (f t e))))
-opcode_stands low from last b d (Got t e) f le le' lt p q s h =
+-- an instruction, and what follows it
+instruction_stands : (low from last : ℕ) (b : ℕ × ℕ) (d : Cursor) (x : Read Token) (f : Token → Cursor → Spelled) → low ≤ b.0 → from ≤ b.0 → b.0 < d.at → InBody last d → Advances d x → StandsIn b.0 d x → ((t : Token) (e : Cursor) → InBody last e → b.0 ≤ e.at → IsSpelledFrom e.at b.0 last (f t e)) → IsSpelledFrom low from last (goes_on last x (λ t e. after_token b.0 t (f t e)))
+instruction_stands low from last b d (Got t e) f le le' lt p q s h =
     let m = moves_of d e q in
     let r = h t e (body_on last d e p q) (omega (arith, m.at)) in
     let stop = stop_of last (f t e).fault in
     let behind : suc b.0 ≤ e.at = omega (arith, m.at) in
     record {
-      opcodes = (le, r.after, rising_wider e.at (suc b.0) stop (f t e).opcodes behind r.opcodes);
       tokens = (le, r.after, rising_wider e.at (suc b.0) stop (f t e).tokens behind r.tokens);
       after = omega (arith, r.after);
       within = r.within;
     }
-opcode_stands low from last b d (Fault r) f le le' lt p q s h = record { opcodes = (le, s.from, tt); tokens = tt; after = omega (arith, s.from); within = omega (arith, p.sum, s.at_a_byte p.far) }
-opcode_stands low from last b d Wants f le le' lt p q s h = record { opcodes = (le, omega (arith, p.sum), tt); tokens = tt; after = omega (arith, p.sum); within = omega arith }
+instruction_stands low from last b d (Fault r) f le le' lt p q s h = record { tokens = tt; after = omega (arith, s.from); within = omega (arith, p.sum, s.at_a_byte p.far) }
+instruction_stands low from last b d Wants f le le' lt p q s h = record { tokens = tt; after = omega (arith, p.sum); within = omega arith }
 
 byte_stands : (from last : ℕ) (c : Cursor) (x : Read (ℕ × ℕ)) (f : ℕ × ℕ → Cursor → Spelled) → InBody last c → from ≤ c.at → from ≤ last → Advances c x → IfGot (IsMarked c) x → StandsIn c.at c x → ((b : ℕ × ℕ) (d : Cursor) → Advance c d → IsMarked c b d → IsSpelledFrom c.at from last (f b d)) → IsSpelledFrom c.at from last (goes_on last x f)
 byte_stands from last c (Got b d) f p le le' q m s h = h b d q m
@@ -70,7 +68,7 @@ spelled_stands (suc n) (suc depth) from last c p le le' =
     (λ b d q m.
     let w = instruction_steady (b.0 ∷ []) b.0 b.1 here_in in
     let i = body_on last c d p q in
-    opcode_stands c.at from last b d (instruction b.0 b.1 d) (λ t e. spelled_from n (depth_after t (suc depth)) last e) m.0 (omega (arith, m.0)) m.1 i (w.moves d) (w.place b.0 d (omega (arith, m.1)) (omega arith, m.1, tt))
+    instruction_stands c.at from last b d (instruction b.0 b.1 d) (λ t e. spelled_from n (depth_after t (suc depth)) last e) m.0 (omega (arith, m.0)) m.1 i (w.moves d) (w.place b.0 d (omega (arith, m.1)) (omega arith, m.1, tt))
     (λ t e j le''. spelled_stands n (depth_after t (suc depth)) b.0 last e j le'' (omega (arith, i.sum, m.1))))
 
 groups_stand : (first last n : ℕ) (c : Cursor) (x : Read (List Group)) → c.at ≡ first → InBody last c → first ≤ last → Advances c x → StandsIn first c x → IsSpelledIn first last (read_code last x n).code
@@ -80,9 +78,9 @@ groups_stand first last n c (Got gs d) e p le q s =
     let r = spelled_stands n 1 first last d (body_on last c d p q) from le in
     let body = spelled_from n 1 last d in
     let stop = stop_of last body.fault in
-    record { opcodes = rising_wider d.at first stop body.opcodes from r.opcodes; tokens = rising_wider d.at first stop body.tokens from r.tokens; after = r.after; within = r.within }
-groups_stand first last n c (Fault r) e p le q s = record { opcodes = tt; tokens = tt; after = s.from; within = omega (arith, p.sum, s.at_a_byte p.far) }
-groups_stand first last n c Wants e p le q s = record { opcodes = tt; tokens = tt; after = le; within = omega arith }
+    record { tokens = rising_wider d.at first stop body.tokens from r.tokens; after = r.after; within = r.within }
+groups_stand first last n c (Fault r) e p le q s = record { tokens = tt; after = s.from; within = omega (arith, p.sum, s.at_a_byte p.far) }
+groups_stand first last n c Wants e p le q s = record { tokens = tt; after = le; within = omega arith }
 
 pub body_is_ordered : (first : ℕ) (bytes : List ℕ) → 0 < length bytes → IsSpelledIn first (last_of first bytes) (body_read first bytes).code
 body_is_ordered first bytes some =

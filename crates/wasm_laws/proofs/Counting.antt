@@ -1,7 +1,7 @@
 -- Each token takes a byte.
 use Rattle.std.proofs.Common.{ℕ, zero, suc, ◌+◌, ◌≤◌, List, [], ◌∷◌, length, arith}
 use Rattle.wasm_defs.specs.declared.token.Token.{Token}
-use Rattle.wasm_defs.specs.Bodies.{Group, local_groups, instruction, depth_after, Spelled, closed, after_opcode, after_token, goes_on, spelled_from, body_cursor, last_of, read_code, body_read}
+use Rattle.wasm_defs.specs.Bodies.{Group, local_groups, instruction, depth_after, Spelled, closed, after_token, goes_on, spelled_from, body_cursor, last_of, read_code, body_read}
 use Rattle.wasm_defs.specs.Fields.{Cursor, Read, Got, Fault, Wants, byte}
 use Rattle.wasm_laws.specs.Steadiness.{Advances, LeavesFewer}
 use Rattle.wasm_laws.proofs.Steady.{moves_of, here_in}
@@ -18,7 +18,7 @@ record Few (most : ℕ) (s : Spelled) : Type 0 where
 few_more : (n m : ℕ) (s : Spelled) → n ≤ m → Few n s → Few m s
 few_more n m s le h = record { tokens = omega (arith, h.tokens) }
 
-token_few : (last : ℕ) (b : ℕ × ℕ) (d : Cursor) (x : Read Token) (f : Token → Cursor → Spelled) → Advances d x → ((t : Token) (e : Cursor) → Few (length e.rest) (f t e)) → Few (suc (length d.rest)) (after_opcode b (goes_on last x (λ t e. after_token b.0 t (f t e))))
+token_few : (last : ℕ) (b : ℕ × ℕ) (d : Cursor) (x : Read Token) (f : Token → Cursor → Spelled) → Advances d x → ((t : Token) (e : Cursor) → Few (length e.rest) (f t e)) → Few (suc (length d.rest)) (goes_on last x (λ t e. after_token b.0 t (f t e)))
 token_few last b d (Got t e) f moves h = let m = moves_of d e moves in let r = h t e in record { tokens = omega (arith, r.tokens, m.rest) }
 token_few last b d (Fault r) f moves h = record { tokens = omega arith }
 token_few last b d Wants f moves h = record { tokens = omega arith }

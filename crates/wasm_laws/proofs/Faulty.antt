@@ -1,5 +1,6 @@
 -- Where the token at fault stands among tokens of which the first ones begin a valid body.
-use Rattle.std.proofs.Common.{◌≡◌, ℕ, ◌⊎◌, inl, inr, List, [], ◌∷◌, ◌++◌, refl, sym, ap, ◌∙◌, append_assoc}
+use Rattle.std.proofs.Common.{◌≡◌, ℕ, ◌⊎◌, inl, inr, List, [], ◌∷◌, ◌++◌, refl, sym, ap, subst, ◌∙◌, append_assoc}
+use Rattle.std.proofs.lemmas.List.{append-nil}
 use Rattle.wasm_defs.specs.declared.fault.Kind.{Kind}
 use Rattle.wasm_defs.specs.declared.fault.Kind.TheVariants.{Malformed, Unsupported, Limit, Invalid, Ended}
 use Rattle.wasm_defs.specs.declared.fault.Refusal.{Refusal}
@@ -90,3 +91,31 @@ token_later c toks rest r viable f =
             faulty = rw (← e) f.faulty;
           }
     ]
+
+-- ---- one token is at fault, and none where the tokens begin a valid body
+
+pub no_token_fault : (c : Context) (tokens : List (ℕ × Token)) (r : Refusal) → IsViable c (tokens_of tokens) → IsTokenFault c tokens r → ⊥
+no_token_fault c tokens r viable t =
+    let e : tokens_of tokens ≡ (tokens_of t.before ++ t.token ∷ []) ++ tokens_of t.after = ap tokens_of t.parts ∙ tokens_of-append t.before ((t.at, t.token) ∷ t.after) ∙ sym (append_assoc (tokens_of t.before) (t.token ∷ []) (tokens_of t.after)) in
+    faulty_front c (tokens_of t.before ++ t.token ∷ []) (tokens_of t.after) r.kind t.faulty (subst (IsViable c) e viable)
+
+same_refusal : (r s : Refusal) → r.offset ≡ s.offset → r.kind ≡ s.kind → r ≡ s
+same_refusal r s a b = ap (λ (n : ℕ). record { offset = n; kind = r.kind }) a ∙ ap (λ (k : Kind). record { offset = s.offset; kind = k }) b
+
+-- of two that stand behind the same tokens
+same_place : (c : Context) (before : List Token) (at : ℕ) (t : Token) (after : List (ℕ × Token)) (r s : Refusal) → r.offset ≡ at → IsFaulty c (before ++ t ∷ []) r.kind
+    → (between : List (ℕ × Token)) (u : Token) (rest : List (ℕ × Token)) → (at, t) ∷ after ≡ between ++ (s.offset, u) ∷ rest → IsViable c (before ++ tokens_of between) → IsFaulty c ((before ++ tokens_of between) ++ u ∷ []) s.kind → r ≡ s
+same_place c before at t after r s place faulty [] u rest e viable other =
+    let h : (at, t) ≡ (s.offset, u) = cc in
+    let first : IsFaulty c (before ++ u ∷ []) s.kind = subst (λ (l : List Token). IsFaulty c (l ++ u ∷ []) s.kind) (append-nil before) other in
+    let second : IsFaulty c (before ++ t ∷ []) s.kind = subst (λ (x : Token). IsFaulty c (before ++ x ∷ []) s.kind) (sym (ap (λ (z : ℕ × Token). z.1) h)) first in
+    same_refusal r s (place ∙ ap (λ (z : ℕ × Token). z.0) h) (faulty_once c (before ++ t ∷ []) r.kind s.kind faulty second)
+same_place c before at t after r s place faulty (x ∷ between) u rest e viable other =
+    let h : (at, t) ≡ x = cc in
+    let begun : before ++ x.1 ∷ tokens_of between ≡ (before ++ t ∷ []) ++ tokens_of between = ap (λ (z : ℕ × Token). before ++ z.1 ∷ tokens_of between) (sym h) ∙ sym (append_assoc before (t ∷ []) (tokens_of between)) in
+    absurd (faulty_front c (before ++ t ∷ []) (tokens_of between) r.kind faulty (subst (IsViable c) begun viable))
+
+pub token_fault_once : (c : Context) (tokens : List (ℕ × Token)) (r s : Refusal) → IsTokenFault c tokens r → IsTokenFault c tokens s → r ≡ s
+token_fault_once c tokens r s f g =
+    let later = token_later c f.before ((f.at, f.token) ∷ f.after) s f.viable (subst (λ (l : List (ℕ × Token)). IsTokenFault c l s) f.parts g) in
+    same_place c (tokens_of f.before) f.at f.token f.after r s f.place f.faulty later.between later.token later.after later.parts later.viable later.faulty

@@ -1,9 +1,9 @@
 -- The items of a module hold no more bytes than the module has.
-use Rattle.std.proofs.Common.{◌≡◌, ℕ, ◌+◌, ◌≤◌, List, [], ◌∷◌, ◌++◌, length, ap, sym, subst, arith, length-append}
+use Rattle.std.proofs.Common.{◌≡◌, ℕ, ◌+◌, ◌≤◌, List, [], ◌∷◌, ◌++◌, length, ap, arith, length-append}
 use Rattle.wasm_defs.specs.declared.item.Item.{Item}
 use Rattle.wasm_defs.specs.declared.item.Item.TheVariants.{Signature, Imported, Function, Table, Memory, Global, Exported, Start, Element, Code, Segment}
 use Rattle.wasm_defs.specs.Faults.{Module, IsModule}
-use Rattle.wasm_defs.specs.Items.{Joined, each_is, name_is, bytes_are, item_is, Section, Payload, Custom, Vector, Starting, Bodies, payload_is, payload_items, section_is, items_in}
+use Rattle.wasm_defs.specs.Items.{each_is, name_is, bytes_are, item_is, Section, Payload, Custom, Vector, Starting, Bodies, payload_is, payload_items, section_is, items_in}
 use Rattle.wasm_laws.specs.Held.{held_bytes, all_held}
 use Rattle.wasm_laws.specs.Sections.{AreBytes}
 use Rattle.wasm_laws.proofs.Bytes.{each_byte}

@@ -1,5 +1,5 @@
 -- Types, tables and memories keep to their limits, and the functions that exports name are there.
-use Rattle.std.proofs.Common.{◌≡◌, ℕ, zero, suc, ◌+◌, ◌≤◌, ◌<◌, Bool, true, false, cond, eqb, ltb, ◌||◌, List, [], ◌∷◌, length, is_some, Some, refl, subst, ap, arith, inl, inr}
+use Rattle.std.proofs.Common.{◌≡◌, ℕ, zero, suc, ◌+◌, ◌≤◌, ◌<◌, eqb, ltb, ◌||◌, List, [], ◌∷◌, length, is_some, Some, refl, subst, ap, arith, inl, inr}
 use Rattle.std.specs.FinMap as map
 use Rattle.std.proofs.lemmas.Bool.{cases_Bool, cases_lt, lt-ltb, le-ltb, ltb-false, or_parts}
 use Rattle.wasm_defs.specs.declared.item.Extern.{Extern}
@@ -7,17 +7,18 @@ use Rattle.wasm_defs.specs.declared.item.Extern.TheVariants as extern
 use Rattle.wasm_defs.specs.declared.item.Item.{Item}
 use Rattle.wasm_defs.specs.declared.item.Item.TheVariants.{Signature, Imported, Function, Table, Memory, Exported}
 use Rattle.wasm_defs.specs.declared.item.Limits.{Limits}
-use Rattle.wasm_defs.specs.Fields.{Cursor, Read, Got, Fault, Wants, Reader, repeated, byte, u32, count, vector, name}
-use Rattle.wasm_defs.specs.Entries.{Seen, nothing, note, space, index, listed_type, limits, results, signature, imported, function, table, memory, global, extern_kind, exported, start, element, code, segment}
+use Rattle.wasm_defs.specs.Fields.{Cursor, Reader, repeated, byte, u32, count, vector, name}
+use Rattle.wasm_defs.specs.Entries.{Seen, note, space, index, listed_type, limits, results, signature, imported, function, table, memory, global, extern_kind, exported, start, element, code, segment}
 use Rattle.wasm_defs.specs.Limits.{max_params, max_table, max_pages, top_rows, top_pages}
-use Rattle.wasm_defs.specs.Outside.{Part, Section, Listed, Coded, listed, body, entries_of, code_entry, Row, row, header, entered, noted, inside, section_end, Run, after_part, runs_on, Next, finish, entries, contents, section, owes_code, at_the_end, or_section, sections_up_to, preamble, beginning, module_read}
+use Rattle.wasm_defs.specs.Outside.{entered, module_read}
 use Rattle.wasm_defs.specs.Context.{functions_of}
 use Rattle.wasm_defs.specs.Faults.{items_of}
 use Rattle.wasm_laws.specs.Kept.{TypeIsSmall}
 use Rattle.wasm_laws.proofs.Steady.{IfGot, always}
-use Rattle.wasm_laws.proofs.Sorts.{IsItem, IsBody, Yields, yielding, listed_yields, body_yields}
-use Rattle.wasm_laws.proofs.Parts.{then_got, got_map, either_got}
+use Rattle.wasm_laws.proofs.Sorts.{Yields, yielding}
+use Rattle.wasm_laws.proofs.Parts.{then_got}
 use Rattle.wasm_laws.proofs.Headers.{entered_as}
+use Rattle.wasm_laws.proofs.Noted.{OfEntries, of_module}
 use Rattle.wasm_laws.proofs.Typed.{index_below}
 
 -- ---- items that keep
@@ -196,89 +197,7 @@ segment_keeps : Keeps segment
 unfolding segment
 segment_keeps seen = search yielding depth 40
 
--- ---- rows
-
-abbrev IsKeptPart : ℕ → Part → Type 0
-IsKeptPart functions (Section at id) = Unit {0}
-IsKeptPart functions (Listed x) = IsKept functions x
-IsKeptPart functions (Coded b) = Unit {0}
-
-item_is_kept : (functions : ℕ) (x : Part) → IsItem (IsKept functions) x → IsKeptPart functions x
-item_is_kept functions (Section at id) p = tt
-item_is_kept functions (Listed x) p = p
-item_is_kept functions (Coded b) p = tt
-
-body_is_kept : (functions : ℕ) (x : Part) → IsBody x → IsKeptPart functions x
-body_is_kept functions (Section at id) p = tt
-body_is_kept functions (Listed x) p = absurd p
-body_is_kept functions (Coded b) p = tt
-
-record KeptRow (r : Row) : Type 0 where
-  entry : (seen : Seen) (c : Cursor) → IfGot (λ x d. IsKeptPart seen.functions x) (r.entry seen c)
-
-listed_keeps : (entry : Seen → Reader Item) → Keeps entry → (seen : Seen) (c : Cursor) → IfGot (λ x d. IsKeptPart seen.functions x) (listed (entry seen) c)
-listed_keeps entry h seen c =
-    got_map (λ x d. IsItem (IsKept seen.functions) x) (λ x d. IsKeptPart seen.functions x) (listed (entry seen) c) (λ x d p. item_is_kept seen.functions x p) ((listed_yields (IsKept seen.functions) (entry seen) (h seen)).got c)
-
-code_entry_keeps : (seen : Seen) (c : Cursor) → IfGot (λ x d. IsKeptPart seen.functions x) (code_entry seen c)
-code_entry_keeps seen c =
-    either_got (λ x d. IsKeptPart seen.functions x) seen.counted body (listed (code seen)) c
-    (λ e. got_map (λ x d. IsBody x) (λ x d. IsKeptPart seen.functions x) (body c) (λ x d p. body_is_kept seen.functions x p) (body_yields.got c))
-    (λ e. listed_keeps code code_keeps seen c)
-
-kept_items : (front : Seen → Reader ℕ) (entry : Seen → Reader Item) → Keeps entry → KeptRow (entries_of front entry)
-kept_items front entry h = record { entry = listed_keeps entry h }
-
-either_row : (b : Bool) (p q : Row) → KeptRow p → KeptRow q → KeptRow (cond b p q)
-either_row true p q hp hq = hp
-either_row false p q hp hq = hq
-
-row_is_kept : (id : ℕ) → KeptRow (row id)
-row_is_kept id =
-    either_row (eqb id 1) _ _ (kept_items _ _ signature_keeps)
-    (either_row (eqb id 2) _ _ (kept_items _ _ imported_keeps)
-    (either_row (eqb id 3) _ _ (kept_items _ _ function_keeps)
-    (either_row (eqb id 4) _ _ (kept_items _ _ table_keeps)
-    (either_row (eqb id 5) _ _ (kept_items _ _ memory_keeps)
-    (either_row (eqb id 6) _ _ (kept_items _ _ global_keeps)
-    (either_row (eqb id 7) _ _ (kept_items _ _ exported_keeps)
-    (either_row (eqb id 8) _ _ (kept_items _ _ start_keeps)
-    (either_row (eqb id 9) _ _ (kept_items _ _ element_keeps)
-    (either_row (eqb id 10) _ _ (record { entry = code_entry_keeps })
-    (either_row (eqb id 11) _ _ (kept_items _ _ segment_keeps)
-    (record { entry = listed_keeps start start_keeps })))))))))))
-
--- ---- runs
-
-record Kept (functions : ℕ) (r : Run) : Type 0 where
-  items : AreKept functions (items_of r.parts)
-
-runs_kept : {A : Type 0} (P : A → Cursor → Type 0) (functions : ℕ) (x : Read A) (f : A → Cursor → Run) → IfGot P x → ((a : A) (d : Cursor) → P a d → Kept functions (f a d)) → Kept functions (runs_on x f)
-runs_kept P functions (Got a d) f p h = h a d p
-runs_kept P functions (Fault r) f p h = record { items = tt }
-runs_kept P functions Wants f p h = record { items = tt }
-
-abbrev Agrees : Next → Type 0
-Agrees next = (seen : Seen) (c : Cursor) → Kept seen.functions (next seen c)
-
-after_kept : (seen : Seen) (x : Part) (r : Run) → IsKeptPart seen.functions x → Kept (noted seen x).functions r → Kept seen.functions (after_part x r)
-after_kept seen (Section at id) r p h = record { items = h.items }
-after_kept seen (Listed x) r p h = record { items = (p, rw note_functions at h.items) }
-after_kept seen (Coded b) r p h = record { items = h.items }
-
-module _ (r : Row) (kept : KeptRow r) (next : Next) (rest : Agrees next) where
-  finish_agrees : Agrees (finish r next)
-  finish_agrees seen c =
-      runs_kept (λ x d. Unit {0}) seen.functions (r.back c) _ (always (r.back c)) (λ x d t. runs_kept (λ y e. Unit {0}) seen.functions (section_end d) _ (always (section_end d)) (λ y e t. rest seen e))
-
-  entries_agree : (n : ℕ) → Agrees (entries n r next)
-  entries_agree zero seen c = finish_agrees seen c
-  entries_agree (suc n) seen c =
-      runs_kept (λ x d. IsKeptPart seen.functions x) seen.functions (r.entry seen c) _ (kept.entry seen c)
-      (λ x d p. after_kept seen x (entries n r next (noted seen x) d) p (entries_agree n (noted seen x) d))
-
-  contents_agree : Agrees (contents r next)
-  contents_agree seen c = runs_kept (λ n d. Unit {0}) seen.functions (r.front seen c) _ (always (r.front seen c)) (λ n d t. entries_agree n seen d)
+-- ---- modules
 
 entered_functions : (seen : Seen) (id : ℕ) → (entered seen id).functions ≡ seen.functions
 entered_functions seen id =
@@ -287,24 +206,23 @@ entered_functions seen id =
       | inr some ↦ rw some.1 refl
     ]
 
-section_agrees : (next : Next) → Agrees next → Agrees (section next)
-section_agrees next rest seen c =
-    runs_kept (λ h d. Unit {0}) seen.functions (header seen c) _ (always (header seen c))
-    (λ h d t. subst (λ (n : ℕ). Kept n (contents (row h.0) next (entered seen h.0) (inside d h.1))) (entered_functions seen h.0) (contents_agree (row h.0) (row_is_kept h.0) next rest (entered seen h.0) (inside d h.1)))
+all_keep : OfEntries Keeps
+all_keep = record {
+  signatures = signature_keeps;
+  imports = imported_keeps;
+  functions = function_keeps;
+  tables = table_keeps;
+  memories = memory_keeps;
+  globals = global_keeps;
+  exports = exported_keeps;
+  starts = start_keeps;
+  elements = element_keeps;
+  codes = code_keeps;
+  segments = segment_keeps;
+}
 
-ends_agree : (seen : Seen) → Kept seen.functions (at_the_end seen)
-ends_agree seen = elim (cases_Bool (owes_code seen)) [ inl code ↦ rw code (record { items = tt }) | inr none ↦ rw none (record { items = tt }) ]
-
-or_agrees : (next : Next) → Agrees next → (seen : Seen) (c : Cursor) (rest : List ℕ) → Kept seen.functions (or_section next seen c rest)
-or_agrees next h seen c [] = ends_agree seen
-or_agrees next h seen c (b ∷ rest) = after_kept seen (Section c.at b) (section next seen c) tt (section_agrees next h seen c)
-
-up_to_agrees : (n : ℕ) → Agrees (sections_up_to n)
-unfolding sections_up_to
-up_to_agrees zero seen c = record { items = tt }
-up_to_agrees (suc n) seen c = or_agrees (sections_up_to n) (up_to_agrees n) seen c c.rest
+one_more : (seen : Seen) (x : Item) (xs : List Item) → IsKept seen.functions x → AreKept (note seen x).functions xs → AreKept seen.functions (x ∷ xs)
+one_more seen x xs p h = (p, subst (λ (n : ℕ). AreKept n xs) (note_functions seen x) h)
 
 pub items_are_kept : (bytes : List ℕ) → AreKept 0 (items_of (module_read bytes).parts)
-items_are_kept bytes =
-    (runs_kept (λ v c. Unit {0}) 0 (preamble (beginning bytes)) _ (always (preamble (beginning bytes)))
-    (λ v c t. up_to_agrees (length c.rest + 1) nothing c)).items
+items_are_kept bytes = of_module (λ s. s.functions) IsKept AreKept (λ functions. tt) one_more entered_functions all_keep bytes

@@ -20,6 +20,7 @@ pub mod Counts
 pub mod Cuts
 pub mod BodyOrder
 pub mod Few
+pub mod Noted
 pub mod Typed
 pub mod Spelt
 pub mod SpeltFields
@@ -36,10 +37,9 @@ pub mod Described
 pub mod Rereading
 pub mod WholeModules
 pub mod OneReading
-pub mod Earlier
 pub mod Sorted
 pub mod Behind
-pub mod Compiled
+pub mod Instructions
 pub mod Ranges
 pub mod Counting
 pub mod Bytes
@@ -52,7 +52,6 @@ pub mod Spaces
 pub mod BodyKinds
 pub mod Completing
 pub mod FieldKinds
-pub mod Later
 pub mod PartLists
 pub mod PartOrder
 pub mod Held

@@ -1,15 +1,13 @@
 -- Parts of a module, one after the other.
-use Rattle.std.proofs.Common.{◌≡◌, ◌≤◌, inl, inr, ℕ, suc, ◌+◌, List, [], ◌∷◌, ◌++◌, length, true, false, Some, None, refl, ap, append_assoc, arith}
+use Rattle.std.proofs.Common.{◌≡◌, ◌≤◌, inl, inr, ℕ, suc, ◌+◌, List, [], ◌∷◌, ◌++◌, length, refl, ap, append_assoc, arith}
 use Rattle.std.proofs.lemmas.List.{append-nil}
-use Rattle.std.proofs.lemmas.Bool.{cases_Bool}
 use Rattle.wasm_defs.specs.declared.fault.Refusal.{Refusal}
 use Rattle.wasm_defs.specs.declared.item.Item.{Item}
 use Rattle.wasm_defs.specs.declared.item.Item.TheVariants.{Signature, Imported, Function, Table, Memory, Global, Exported, Start, Element, Code, Segment}
 use Rattle.wasm_defs.specs.Trees.{Seq}
 use Rattle.wasm_defs.specs.Context.{context_of, functions_of}
 use Rattle.wasm_defs.specs.Outside.{Part, Section, Listed, Coded, Body}
-use Rattle.wasm_defs.specs.Supported.{is_compiled_section}
-use Rattle.wasm_defs.specs.Faults.{first_outside, sections_of, items_of, bodies_of, unsupported_at, started, IsFaultInside, AreValid}
+use Rattle.wasm_defs.specs.Faults.{items_of, bodies_of, started, IsFaultInside, AreValid}
 use Rattle.wasm_laws.specs.Typed.{AreTyped}
 use Rattle.wasm_laws.proofs.Verdicts.{starts_without_fault, valid_bodies}
 
@@ -24,12 +22,6 @@ bodies_of-append [] ys = refl
 bodies_of-append (Section at id ∷ xs) ys = bodies_of-append xs ys
 bodies_of-append (Listed x ∷ xs) ys = bodies_of-append xs ys
 bodies_of-append (Coded b ∷ xs) ys = ap (λ (l : List Body). b ∷ l) (bodies_of-append xs ys)
-
-pub sections_of-append : (xs ys : List Part) → sections_of (xs ++ ys) ≡ sections_of xs ++ sections_of ys
-sections_of-append [] ys = refl
-sections_of-append (Section at id ∷ xs) ys = ap (λ (l : List (ℕ × ℕ)). (at, id) ∷ l) (sections_of-append xs ys)
-sections_of-append (Listed x ∷ xs) ys = sections_of-append xs ys
-sections_of-append (Coded b ∷ xs) ys = sections_of-append xs ys
 
 pub typed_behind : (items : List Item) (k : ℕ) (front rest : List Part) → AreTyped items k (front ++ rest) → AreTyped (items ++ items_of front) (k + length (bodies_of front)) rest
 typed_behind items k [] rest p = let e : k + 0 ≡ k = omega arith in rw (append-nil, e) p
@@ -60,20 +52,6 @@ fault_of_rest items k [] rest r f = let e : k + 0 ≡ k = omega arith in rw (app
 fault_of_rest items k (Section at id ∷ front) rest r f = fault_of_rest items k front rest r f
 fault_of_rest items k (Listed x ∷ front) rest r f = inr (fault_of_rest (items ++ x ∷ []) k front rest r (rw (append_assoc items (x ∷ []) (items_of front)) f))
 fault_of_rest items k (Coded b ∷ front) rest r f = let e : suc k + length (bodies_of front) ≡ k + suc (length (bodies_of front)) = omega arith in inr (fault_of_rest items (suc k) front rest r (rw e f))
-
-pub none_outside : (xs ys : List (ℕ × ℕ)) → first_outside is_compiled_section xs ≡ None → first_outside is_compiled_section (xs ++ ys) ≡ first_outside is_compiled_section ys
-none_outside [] ys e = refl
-none_outside (x ∷ xs) ys e =
-    elim (cases_Bool (is_compiled_section x.1)) [
-      | inl h ↦ let t : first_outside is_compiled_section xs ≡ None = rw h at e in rw h (none_outside xs ys t)
-      | inr h ↦ let t = rw h at e in absurd cc
-    ]
-
-pub one_inside : (at id : ℕ) → is_compiled_section id ≡ true → first_outside is_compiled_section ((at, id) ∷ []) ≡ None
-one_inside at id e = rw e refl
-
-pub one_outside : (at id : ℕ) (rest : List (ℕ × ℕ)) → is_compiled_section id ≡ false → first_outside is_compiled_section ((at, id) ∷ rest) ≡ Some (unsupported_at at)
-one_outside at id rest e = rw e refl
 
 pub functions_are_few : (parts : List Part) → length (functions_of (items_of parts)) ≤ length parts
 functions_are_few [] = omega arith

@@ -1,13 +1,11 @@
 -- Where faults stand behind a place.
-use Rattle.std.proofs.Common.{◌≡◌, ◌≤◌, ◌<◌, inl, inr, ℕ, suc, List, [], ◌∷◌, ◌++◌, length, Option, None, Some, ap, sym, ◌∙◌, arith}
-use Rattle.std.proofs.lemmas.Bool.{cases_Bool}
+use Rattle.std.proofs.Common.{◌≡◌, ◌≤◌, ◌<◌, inl, inr, ℕ, suc, List, [], ◌∷◌, ◌++◌, Option, None, Some, ap, sym, ◌∙◌, arith}
 use Rattle.wasm_defs.specs.declared.fault.Refusal.{Refusal}
 use Rattle.wasm_defs.specs.declared.item.Item.{Item}
 use Rattle.wasm_defs.specs.Outside.{Part, Section, Listed, Coded}
-use Rattle.wasm_defs.specs.Supported.{is_compiled_section}
 use Rattle.wasm_defs.specs.Typing.{Context}
 use Rattle.wasm_defs.specs.Context.{context_of}
-use Rattle.wasm_defs.specs.Faults.{first_outside, sections_of, context_at, started, IsStartFault, IsFaultInside}
+use Rattle.wasm_defs.specs.Faults.{context_at, started, IsStartFault, IsFaultInside}
 use Rattle.wasm_laws.specs.Order.{StartStands, behind_start, AreOrdered, end_of}
 use Rattle.wasm_laws.proofs.Order.{start_goes_on}
 use Rattle.wasm_laws.proofs.Verdicts.{code_fault_inside}
@@ -37,24 +35,3 @@ fault_after low last items k (Coded b ∷ parts) r o (inr f) =
     let stands = o.0 in
     let h = fault_after (end_of b) last items (suc k) parts r o.1 f in
     omega (arith, stands.from, stands.sized)
-
-pub section_after : (low last : ℕ) (parts : List Part) (r : Refusal) → AreOrdered low last parts → first_outside is_compiled_section (sections_of parts) ≡ Some r → low ≤ r.offset
-section_after low last [] r o e = absurd cc
-section_after low last (Section at id ∷ parts) r o e =
-    elim (cases_Bool (is_compiled_section id)) [
-      | inl h ↦ let t : first_outside is_compiled_section (sections_of parts) ≡ Some r = rw h at e in let k = section_after (suc at) last parts r o.2 t in omega (arith, o.0)
-      | inr h ↦ let t = rw h at e in let k : at ≡ r.offset = cc in omega (arith, o.0)
-    ]
-section_after low last (Listed x ∷ parts) r o e =
-    let k = section_after (behind_start low (started x)) last parts r o.1 e in
-    omega (arith, k, (start_goes_on low last (started x) o.0).0)
-section_after low last (Coded b ∷ parts) r o e =
-    let stands = o.0 in
-    let k = section_after (end_of b) last parts r o.1 e in
-    omega (arith, stands.from, stands.sized)
-
-pub some_ordered : (low last : ℕ) (parts : List Part) → 0 < length parts → AreOrdered low last parts → low ≤ last
-some_ordered low last [] some o = absurd (omega arith)
-some_ordered low last (Section at id ∷ parts) some o = omega (arith, o.0, o.1)
-some_ordered low last (Listed x ∷ parts) some o = let h = start_goes_on low last (started x) o.0 in omega (arith, h.0, h.1)
-some_ordered low last (Coded b ∷ parts) some o = let stands = o.0 in omega (arith, stands.from, stands.sized, stands.before)

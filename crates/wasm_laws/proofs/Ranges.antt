@@ -1,14 +1,14 @@
--- The immediates of compiled code are in range.
-use Rattle.std.proofs.Common.{◌≡◌, ℕ, ◌+◌, ◌-◌, ◌*◌, ◌^◌, ◌<◌, ◌≤◌, inl, inr, true, false, List, [], None, ◌∷◌, sym, subst, ap, ◌∙◌, arith, ℤ, pos, zero, suc, refl}
-use Rattle.std.specs.Prelude.{negsuc, neg_ℤ, ◌≤ℤ◌, ◌<ℤ◌, FitsSigned}
+-- The immediates of code are in range.
+use Rattle.std.proofs.Common.{◌≡◌, ℕ, ◌+◌, ◌-◌, ◌*◌, ◌^◌, ◌<◌, ◌≤◌, ◌||◌, ◌==◌, eqb, nat_lt, nat_le, inl, inr, true, false, List, [], ◌∷◌, sym, subst, ap, ◌∙◌, arith, ℤ, pos, zero, suc}
+use Rattle.std.specs.Prelude.{negsuc, neg_ℤ, ◌≤ℤ◌, ◌<ℤ◌, FitsSigned, if◌then◌else◌}
 use Rattle.std.specs.Int.{w32, w64}
-use Rattle.std.proofs.lemmas.Bool.{cases_lt, lt-ltb, le-ltb}
+use Rattle.std.proofs.lemmas.Bool.{cases_Bool, cases_lt, lt-ltb, le-ltb}
 use Rattle.std.proofs.lemmas.Int.{ints}
 use Rattle.std.proofs.lemmas.Nat.{pow_pos, pow-add}
 use Rattle.wasm_defs.proofs.NumberLaws.{AreBytes, reading_small}
 use Rattle.wasm_defs.specs.Numbers.{Reading, Number, CutOff, Bad, last_byte, after_byte, number_at, IsSmall}
-use Rattle.wasm_defs.specs.Faults.{first_outside, tokens_of}
-use Rattle.wasm_defs.specs.Fields.{Cursor, nat_of, window, room_of, from_reading, number, u32, vector, repeated, Read, Got, Fault, Wants}
+use Rattle.wasm_defs.specs.Faults.{tokens_of}
+use Rattle.wasm_defs.specs.Fields.{Cursor, nat_of, window, room_of, from_reading, number, u32, vector, repeated, Read, Got, Fault, Wants, byte, done, refused}
 use Rattle.wasm_defs.specs.Bodies.{with_index, constant, instruction, body_read, block_type, with_type, branch_table, label, indirect, with_zero, with_mem_arg, mem_arg, zero_byte}
 use Rattle.wasm_defs.specs.Trees.{Seq, Nothing, Simple, Block, Loop, If, IfElse, spelled, Tree}
 use Rattle.wasm_defs.specs.declared.token.Plain.{Plain}
@@ -17,15 +17,16 @@ use Rattle.wasm_defs.specs.declared.token.Token.{Token}
 use Rattle.wasm_defs.specs.declared.types.ValType.TheVariants.{I32, I64}
 use Rattle.wasm_defs.specs.Values.{unsigned}
 use Rattle.wasm_defs.specs.declared.token.Token.TheVariants as token
-use Rattle.wasm_laws.specs.Compiled.{IsInRange, TokenIsInRange, TokensAreInRange, TreeIsInRange, AreIndices}
+use Rattle.wasm_laws.specs.Immediates.{IsSpelledType, IsInRange, TokenIsInRange, TokensAreInRange, TreeIsInRange, AreIndices}
 use Rattle.wasm_laws.proofs.Steady.{IfGot, always, Advances}
 use Rattle.wasm_laws.proofs.Windows.{cut_got}
 use Rattle.wasm_laws.proofs.Parts.{then_got, got_both}
 use Rattle.wasm_laws.proofs.Spelt.{bytes_behind}
 use Rattle.wasm_laws.proofs.SpeltFields.{front_bytes}
-use Rattle.wasm_laws.proofs.Compiled.{Spells, by_opcode, Each, each_token}
+use Rattle.wasm_laws.proofs.Instructions.{Spells, by_opcode, Each, each_token}
 use Rattle.wasm_defs.specs.declared.operation.Access.{Access}
 use Rattle.wasm_defs.specs.declared.token.BlockType.{BlockType}
+use Rattle.wasm_defs.specs.declared.token.BlockType.TheVariants.{Empty, Value}
 use Rattle.wasm_defs.specs.declared.fault.Kind.TheVariants.{Malformed, Unsupported}
 use Rattle.wasm_laws.proofs.FieldLaws.{u32_field}
 use Rattle.wasm_defs.specs.declared.operation.Access.TheVariants as access
@@ -175,9 +176,29 @@ table_in_range d fits =
     (λ n e h. then_got (λ ls f. AreIndices ls × HasBytes f) (λ ls f. AreIndices ls.1 × HasBytes f) (repeated n.1 label e) _ (labels_got n.1 e h.1) (λ ls f k. k)))
     (λ ls e h. then_got (λ l f. (l < 2 ^ 32) × HasBytes f) InRange (label e) _ (label_got e h.1) (λ l f k. (h.0, k.0)))
 
-type_in_range : (make : BlockType → Token) (d : Cursor) → ((t : BlockType) → TokenIsInRange (make t)) → IfGot InRange (with_type make d)
+type_got : (b : ℕ × ℕ) (d : Cursor) → IfGot (λ t e. IsSpelledType t) ((if b.1 == 0x40 then done Empty else if b.1 == 0x7F then done (Value I32) else if b.1 == 0x7E then done (Value I64) else if b.1 == 0x7D || b.1 == 0x7C || nat_lt b.1 0x40 || nat_le 0x80 b.1 then refused Unsupported b.0 else refused Malformed b.0) d)
+type_got b d =
+    elim (cases_Bool (eqb b.1 0x40)) [
+      | inl is ↦ rw is tt
+      | inr h ↦ rw h (elim (cases_Bool (eqb b.1 0x7F)) [
+        | inl is ↦ rw is tt
+        | inr h ↦ rw h (elim (cases_Bool (eqb b.1 0x7E)) [
+          | inl is ↦ rw is tt
+          | inr h ↦ rw h (elim (cases_Bool (b.1 == 0x7D || b.1 == 0x7C || nat_lt b.1 0x40 || nat_le 0x80 b.1)) [
+            | inl is ↦ rw is tt
+            | inr h ↦ rw h tt
+          ])
+        ])
+      ])
+    ]
+
+block_type_got : (d : Cursor) → IfGot (λ t e. IsSpelledType t) (block_type d)
+unfolding block_type
+block_type_got d = then_got (λ b e. Unit {0}) (λ t e. IsSpelledType t) (byte d) _ (always (byte d)) (λ b e u. type_got b e)
+
+type_in_range : (make : BlockType → Token) (d : Cursor) → ((t : BlockType) → IsSpelledType t → TokenIsInRange (make t)) → IfGot InRange (with_type make d)
 unfolding with_type
-type_in_range make d h = then_got (λ t e. Unit {0}) InRange (block_type d) _ (always (block_type d)) (λ t e u. h t)
+type_in_range make d h = then_got (λ t e. IsSpelledType t) InRange (block_type d) _ (block_type_got d) (λ t e is. h t is)
 
 zero_in_range : (p : Plain) (d : Cursor) → IsInRange p → IfGot InRange (with_zero p d)
 unfolding with_zero
@@ -200,41 +221,38 @@ unfolding with_mem_arg
 access_in_range (access.Load op) d fits = then_got (λ m e. (m.align < 2 ^ 32) × (m.offset < 2 ^ 32)) InRange (mem_arg d) _ (mem_arg_got d fits) (λ m e h. h)
 access_in_range (access.Store op) d fits = then_got (λ m e. (m.align < 2 ^ 32) × (m.offset < 2 ^ 32)) InRange (mem_arg d) _ (mem_arg_got d fits) (λ m e h. h)
 
-abbrev IsAny : ℕ → Type 0
-IsAny b = Unit {0}
-
-all_in_range : (d : Cursor) → HasBytes d → Spells InRange IsAny d
+all_in_range : (d : Cursor) → HasBytes d → Spells InRange d
 all_in_range d fits = record {
-  unreachables = λ c. tt;
-  nops = λ c. tt;
-  blocks = λ c. type_in_range token.Block d (λ t. tt);
-  loops = λ c. type_in_range token.Loop d (λ t. tt);
-  ifs = λ c. type_in_range token.If d (λ t. tt);
-  elses = λ c. tt;
-  ends = λ c. tt;
-  branches = λ c. index_in_range Br d fits (λ i lt. lt);
-  branches_if = λ c. index_in_range BrIf d fits (λ i lt. lt);
-  tables = λ c. table_in_range d fits;
-  returns = λ c. tt;
-  calls = λ c. index_in_range Call d fits (λ i lt. lt);
-  indirects = λ c. indirect_in_range d fits;
-  drops = λ c. tt;
-  selects = λ c. tt;
-  gets = λ c. index_in_range LocalGet d fits (λ i lt. lt);
-  sets = λ c. index_in_range LocalSet d fits (λ i lt. lt);
-  tees = λ c. index_in_range LocalTee d fits (λ i lt. lt);
-  global_gets = λ c. index_in_range GlobalGet d fits (λ i lt. lt);
-  global_sets = λ c. index_in_range GlobalSet d fits (λ i lt. lt);
-  accesses_at = λ b ge lt c op. access_in_range op d fits;
-  sizes = λ c. zero_in_range MemorySize d tt;
-  grows = λ c. zero_in_range MemoryGrow d tt;
-  narrow = λ c. narrow_in_range d fits;
-  wide = λ c. wide_in_range d fits;
+  unreachables = tt;
+  nops = tt;
+  blocks = type_in_range token.Block d (λ t is. is);
+  loops = type_in_range token.Loop d (λ t is. is);
+  ifs = type_in_range token.If d (λ t is. is);
+  elses = tt;
+  ends = tt;
+  branches = index_in_range Br d fits (λ i lt. lt);
+  branches_if = index_in_range BrIf d fits (λ i lt. lt);
+  tables = table_in_range d fits;
+  returns = tt;
+  calls = index_in_range Call d fits (λ i lt. lt);
+  indirects = indirect_in_range d fits;
+  drops = tt;
+  selects = tt;
+  gets = index_in_range LocalGet d fits (λ i lt. lt);
+  sets = index_in_range LocalSet d fits (λ i lt. lt);
+  tees = index_in_range LocalTee d fits (λ i lt. lt);
+  global_gets = index_in_range GlobalGet d fits (λ i lt. lt);
+  global_sets = index_in_range GlobalSet d fits (λ i lt. lt);
+  accesses_at = λ op. access_in_range op d fits;
+  sizes = zero_in_range MemorySize d tt;
+  grows = zero_in_range MemoryGrow d tt;
+  narrow = narrow_in_range d fits;
+  wide = wide_in_range d fits;
   computes = λ op. tt;
 }
 
 pub instruction_in_range : (at b : ℕ) (d : Cursor) → HasBytes d → IfGot InRange (instruction at b d)
-instruction_in_range at b d fits = by_opcode InRange IsAny at b d tt (all_in_range d fits)
+instruction_in_range at b d fits = by_opcode InRange at b d (all_in_range d fits)
 
 -- ---- bodies
 
@@ -242,14 +260,10 @@ tokens_in_range : (ts : List (ℕ × Token)) → Each TokenIsInRange ts → Toke
 tokens_in_range [] h = tt
 tokens_in_range (t ∷ ts) h = (h.0, tokens_in_range ts h.1)
 
-none_is_outside : (opcodes : List (ℕ × ℕ)) → first_outside (λ b. true) opcodes ≡ None
-none_is_outside [] = refl
-none_is_outside (b ∷ opcodes) = none_is_outside opcodes
-
 pub tokens_are_in_range : (first : ℕ) (bytes : List ℕ) → AreBytes bytes → TokensAreInRange (tokens_of (body_read first bytes).code.tokens)
 tokens_are_in_range first bytes fits =
     tokens_in_range (body_read first bytes).code.tokens
-    (each_token (λ b. true) HasBytes (λ c d p known. bytes_behind p.taken d.rest (subst AreBytes p.parts known)) TokenIsInRange (λ at b d known e. instruction_in_range at b d known) first bytes fits (none_is_outside (body_read first bytes).code.opcodes))
+    (each_token HasBytes (λ c d p known. bytes_behind p.taken d.rest (subst AreBytes p.parts known)) TokenIsInRange instruction_in_range first bytes fits)
 
 -- of the tokens that spell a sequence, and those behind
 both_in_range : (tree : Seq) (after : List Token) → TokensAreInRange (spelled tree after) → TreeIsInRange tree × TokensAreInRange after
@@ -258,20 +272,20 @@ both_in_range (Simple p rest) after h = let more = both_in_range rest after h.1 
 both_in_range (Block type body rest) after h =
     let first = both_in_range body (token.End ∷ spelled rest after) h.1 in
     let more = both_in_range rest after first.1.1 in
-    ((first.0, more.0), more.1)
+    ((h.0, first.0, more.0), more.1)
 both_in_range (Loop type body rest) after h =
     let first = both_in_range body (token.End ∷ spelled rest after) h.1 in
     let more = both_in_range rest after first.1.1 in
-    ((first.0, more.0), more.1)
+    ((h.0, first.0, more.0), more.1)
 both_in_range (If type body rest) after h =
     let first = both_in_range body (token.End ∷ spelled rest after) h.1 in
     let more = both_in_range rest after first.1.1 in
-    ((first.0, more.0), more.1)
+    ((h.0, first.0, more.0), more.1)
 both_in_range (IfElse type body other rest) after h =
     let first = both_in_range body (token.Else ∷ spelled other (token.End ∷ spelled rest after)) h.1 in
     let second = both_in_range other (token.End ∷ spelled rest after) first.1.1 in
     let more = both_in_range rest after second.1.1 in
-    ((first.0, second.0, more.0), more.1)
+    ((h.0, first.0, second.0, more.0), more.1)
 
 pub tree_is_in_range : (first : ℕ) (bytes : List ℕ) (tree : Seq) → AreBytes bytes → Tree (tokens_of (body_read first bytes).code.tokens) tree → TreeIsInRange tree
 tree_is_in_range first bytes tree fits e = (both_in_range tree (token.End ∷ []) (subst TokensAreInRange e (tokens_are_in_range first bytes fits))).0

@@ -1,4 +1,4 @@
--- The offsets of a body's opcodes and tokens, and of the fault that stops its reading.
+-- The offsets of a body's tokens, and of the fault that stops its reading.
 use Rattle.std.proofs.Common.{◌≡◌, ◌≤◌, ◌<◌, ℕ, zero, suc, ◌+◌, ◌⊎◌, inl, inr, List, [], ◌∷◌, length, None, Some, refl, ap, arith, leb}
 use Rattle.std.proofs.lemmas.Bool.{leb-true}
 use Rattle.std.proofs.lemmas.Bool.{cases_Bool}
@@ -6,7 +6,7 @@ use Rattle.wasm_defs.specs.declared.fault.Kind.TheVariants.{Malformed}
 use Rattle.wasm_defs.specs.declared.fault.Refusal.{Refusal}
 use Rattle.wasm_defs.specs.declared.token.Token.{Token}
 use Rattle.wasm_defs.specs.Fields.{Cursor, Read, Got, Fault, Wants, byte, first_of, window, room_of, past, cut}
-use Rattle.wasm_defs.specs.Bodies.{Spelled, stops, malformed_at, closed, after_opcode, after_token, goes_on, spelled_from, instruction, depth_after}
+use Rattle.wasm_defs.specs.Bodies.{Spelled, stops, malformed_at, closed, after_token, goes_on, spelled_from, instruction, depth_after}
 use Rattle.wasm_laws.specs.Steadiness.{Advance, Advances, StandsIn}
 use Rattle.wasm_laws.proofs.Steady.{moves_of, here_in}
 use Rattle.wasm_laws.proofs.Windows.{window_short, past_advance}
@@ -22,7 +22,6 @@ abbrev pub StandsWithin : ℕ → ℕ → ℕ → Refusal → Type 0
 StandsWithin low high last r = ((low ≤ r.offset) × (r.offset < high)) ⊎ (r.offset ≡ last)
 
 pub record Places (low high last : ℕ) (s : Spelled) : Type 0 where
-  pub opcodes : AllWithin low high s.opcodes
   pub tokens : AllWithin low high s.tokens
   pub fault : (r : Refusal) → s.fault ≡ Some r → StandsWithin low high last r
 
@@ -32,17 +31,15 @@ all_lower low from high (x ∷ xs) le h = (omega (arith, h.0), h.1, all_lower lo
 
 pub places_lower : (low from high last : ℕ) (s : Spelled) → low ≤ from → Places from high last s → Places low high last s
 places_lower low from high last s le p = record {
-  opcodes = all_lower low from high s.opcodes le p.opcodes;
   tokens = all_lower low from high s.tokens le p.tokens;
   fault = λ r e. elim (p.fault r e) [ inl h ↦ inl (omega (arith, h.0), h.1) | inr h ↦ inr h ];
 }
 
 stops_none : (low high last : ℕ) → Places low high last (stops None)
-stops_none low high last = record { opcodes = tt; tokens = tt; fault = λ r e. absurd cc }
+stops_none low high last = record { tokens = tt; fault = λ r e. absurd cc }
 
 pub stops_at : (low high last : ℕ) (f : Refusal) → StandsWithin low high last f → Places low high last (stops (Some f))
 stops_at low high last f h = record {
-  opcodes = tt;
   tokens = tt;
   fault = λ r e. let k : f ≡ r = cc in rw (← k) h;
 }
@@ -69,11 +66,8 @@ goes_on_places low high last c (Got x d) f o p q h = h x d p
 goes_on_places low high last c (Fault r) f o p q h = stops_at low high last r (inl (q.from, omega (arith, o.high_is, q.at_a_byte o.far)))
 goes_on_places low high last c Wants f o p q h = missing low high last
 
-with_opcode : (low high last b : ℕ) (s : Spelled) → low < high → Places low high last s → Places low high last (after_opcode (low, b) s)
-with_opcode low high last b s lt p = record { opcodes = (omega arith, lt, p.opcodes); tokens = p.tokens; fault = p.fault }
-
 with_token : (low high last : ℕ) (t : Token) (s : Spelled) → low < high → Places low high last s → Places low high last (after_token low t s)
-with_token low high last t s lt p = record { opcodes = p.opcodes; tokens = (omega arith, lt, p.tokens); fault = p.fault }
+with_token low high last t s lt p = record { tokens = (omega arith, lt, p.tokens); fault = p.fault }
 
 -- where no byte is there, one is owed
 cut_places : (high last : ℕ) (c : Cursor) (f : ℕ × ℕ → Cursor → Spelled) → IsOpen high c → Places c.at high last (goes_on last (cut {A = ℕ × ℕ} c) f)
@@ -84,7 +78,7 @@ cut_places high last c f o =
     ]
 
 opcode_places : (high last : ℕ) (c : Cursor) (w : List ℕ) (k : Token → Cursor → Spelled) → IsOpen high c → window c ≡ w → ((t : Token) (e : Cursor) → IsOpen high e → Places e.at high last (k t e))
-    → Places c.at high last (goes_on last (first_of c w) (λ b d. after_opcode b (goes_on last (instruction b.0 b.1 d) (λ t e. after_token b.0 t (k t e)))))
+    → Places c.at high last (goes_on last (first_of c w) (λ b d. goes_on last (instruction b.0 b.1 d) (λ t e. after_token b.0 t (k t e))))
 opcode_places high last c [] k o is h = cut_places high last c _ o
 opcode_places high last c (b ∷ w) k o is h =
     let d = past c 1 in
@@ -93,8 +87,8 @@ opcode_places high last c (b ∷ w) k o is h =
     let lt : c.at < high = omega (arith, o.high_is, short.0) in
     let here = open_later high c d (past_advance c 1 some) o in
     let s = instruction_steady (c.at ∷ []) c.at b here_in in
-    with_opcode c.at high last b _ lt (goes_on_places c.at high last d (instruction c.at b d) _ here (s.moves d) (s.place c.at d (omega arith) (omega arith, omega arith, tt))
-    (λ t e p. with_token c.at high last t _ lt (places_lower c.at e.at high last (k t e) (omega (arith, p.at)) (h t e (open_later high d e p here)))))
+    goes_on_places c.at high last d (instruction c.at b d) _ here (s.moves d) (s.place c.at d (omega arith) (omega arith, omega arith, tt))
+    (λ t e p. with_token c.at high last t _ lt (places_lower c.at e.at high last (k t e) (omega (arith, p.at)) (h t e (open_later high d e p here))))
 
 pub spelled_places : (n depth high last : ℕ) (c : Cursor) → IsOpen high c → Places c.at high last (spelled_from n depth last c)
 unfolding spelled_from byte

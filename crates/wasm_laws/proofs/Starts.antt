@@ -1,16 +1,15 @@
 -- A module's start function is one of its functions, and takes and gives nothing.
-use Rattle.std.proofs.Common.{◌≡◌, ℕ, zero, suc, ◌+◌, Bool, true, false, List, [], ◌∷◌, ◌++◌, length, Option, None, Some, refl, sym, ap, ◌∙◌, subst, append_assoc, arith}
+use Rattle.std.proofs.Common.{◌≡◌, ℕ, zero, suc, Bool, true, false, List, [], ◌∷◌, ◌++◌, length, Option, None, Some, refl, sym, ap, ◌∙◌, subst, append_assoc, arith}
 use Rattle.std.specs.Prelude.{slice_get, ◌==◌, ◌&&◌}
 use Rattle.std.proofs.lemmas.Bool.{eqb-true}
-use Rattle.std.proofs.lemmas.List.{append-nil}
 use Rattle.wasm_defs.specs.declared.item.Item.{Item}
 use Rattle.wasm_defs.specs.declared.item.Item.TheVariants.{Signature, Imported, Function, Table, Memory, Global, Exported, Start, Element, Code, Segment}
 use Rattle.wasm_defs.specs.declared.types.FuncType.{FuncType}
-use Rattle.wasm_defs.specs.Typing.{Context, function_type}
+use Rattle.wasm_defs.specs.Typing.{function_type}
 use Rattle.wasm_defs.specs.Context.{context_of, types_of, functions_of}
 use Rattle.wasm_defs.specs.Instances.{start_of}
 use Rattle.wasm_defs.specs.Outside.{module_read}
-use Rattle.wasm_defs.specs.Faults.{is_start_type, may_start, started, StartsRight, Module, IsModule}
+use Rattle.wasm_defs.specs.Faults.{is_start_type, started, StartsRight, Module, IsModule}
 use Rattle.wasm_laws.specs.Behind.{StartsKeep}
 use Rattle.wasm_laws.specs.Kept.{TakesNothing}
 use Rattle.wasm_laws.proofs.Behind.{starts_keep}

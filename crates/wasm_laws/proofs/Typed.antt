@@ -1,25 +1,26 @@
 -- The function of each body has a type: all type indices of functions are below the number of types before them.
-use Rattle.std.proofs.Common.{◌≡◌, ℕ, zero, suc, ◌+◌, ◌<◌, Bool, true, false, cond, eqb, List, [], ◌∷◌, ◌++◌, length, get_or, refl, subst, ap, ◌∙◌, arith, length-append, inl, inr}
+use Rattle.std.proofs.Common.{◌≡◌, ℕ, zero, suc, ◌+◌, ◌<◌, Bool, true, false, cond, List, [], ◌∷◌, ◌++◌, length, get_or, refl, subst, ap, ◌∙◌, arith, length-append, inl, inr}
 use Rattle.std.specs.Prelude.{slice_get, IsSome, All}
-use Rattle.std.proofs.lemmas.Bool.{cases_Bool, cases_lt, lt-ltb, le-ltb}
+use Rattle.std.proofs.lemmas.Bool.{cases_lt, lt-ltb, le-ltb}
 use Rattle.std.proofs.lemmas.Option.{slice_get-get_or}
 use Rattle.std.proofs.lemmas.List.Elements.{All-nil, All-cons, All-append, All-weaker, All-get_or}
 use Rattle.wasm_defs.specs.declared.fault.Kind.{Kind}
 use Rattle.wasm_defs.specs.declared.item.Item.{Item}
 use Rattle.wasm_defs.specs.declared.item.Item.TheVariants.{Signature, Imported, Function}
 use Rattle.wasm_defs.specs.declared.types.FuncType.{FuncType}
-use Rattle.wasm_defs.specs.Fields.{Cursor, Read, Got, Fault, Wants, Reader, ◌>>=◌, done, refused, u32}
-use Rattle.wasm_defs.specs.Entries.{Seen, nothing, note, index, signature, imported, function, table, memory, global, exported, start, element, code, segment}
-use Rattle.wasm_defs.specs.Outside.{Part, Section, Listed, Coded, listed, body, entries_of, code_entry, Row, row, header, entered, noted, inside, section_end, Run, after_part, runs_on, Next, finish, entries, contents, section, owes_code, at_the_end, or_section, sections_up_to, preamble, beginning, module_read}
+use Rattle.wasm_defs.specs.Fields.{Cursor, Reader, ◌>>=◌, done, refused, u32}
+use Rattle.wasm_defs.specs.Entries.{Seen, note, index, signature, imported, function, table, memory, global, exported, start, element, code, segment}
+use Rattle.wasm_defs.specs.Outside.{Part, Section, Listed, Coded, entered, module_read}
 use Rattle.wasm_defs.specs.Context.{types_of, functions_of, import_count, declared_count, context_of}
 use Rattle.wasm_defs.specs.Faults.{items_of}
 use Rattle.wasm_defs.specs.Typing.{Context, function_type}
 use Rattle.wasm_laws.specs.Counts.{AreDeclared}
 use Rattle.wasm_laws.specs.Typed.{AreTyped}
 use Rattle.wasm_laws.proofs.Steady.{IfGot, always}
-use Rattle.wasm_laws.proofs.Sorts.{IsItem, IsBody, Yields, listed_yields, body_yields}
-use Rattle.wasm_laws.proofs.Parts.{then_got, got_map, either_got}
+use Rattle.wasm_laws.proofs.Sorts.{Yields}
+use Rattle.wasm_laws.proofs.Parts.{then_got}
 use Rattle.wasm_laws.proofs.Headers.{entered_as}
+use Rattle.wasm_laws.proofs.Noted.{OfEntries, of_module}
 use Rattle.wasm_laws.proofs.Counts.{bodies_are_declared}
 
 -- ---- indices of types
@@ -116,89 +117,7 @@ segment_indexes : Indexes segment
 unfolding segment
 segment_indexes seen = search yielding depth 40
 
--- ---- rows
-
-abbrev IsIndexedPart : ℕ → Part → Type 0
-IsIndexedPart types (Section at id) = Unit {0}
-IsIndexedPart types (Listed x) = IsIndexed types x
-IsIndexedPart types (Coded b) = Unit {0}
-
-item_is_indexed : (types : ℕ) (x : Part) → IsItem (IsIndexed types) x → IsIndexedPart types x
-item_is_indexed types (Section at id) p = tt
-item_is_indexed types (Listed x) p = p
-item_is_indexed types (Coded b) p = tt
-
-body_is_indexed : (types : ℕ) (x : Part) → IsBody x → IsIndexedPart types x
-body_is_indexed types (Section at id) p = tt
-body_is_indexed types (Listed x) p = absurd p
-body_is_indexed types (Coded b) p = tt
-
-record IndexedRow (r : Row) : Type 0 where
-  entry : (seen : Seen) (c : Cursor) → IfGot (λ x d. IsIndexedPart seen.types x) (r.entry seen c)
-
-listed_indexes : (entry : Seen → Reader Item) → Indexes entry → (seen : Seen) (c : Cursor) → IfGot (λ x d. IsIndexedPart seen.types x) (listed (entry seen) c)
-listed_indexes entry h seen c =
-    got_map (λ x d. IsItem (IsIndexed seen.types) x) (λ x d. IsIndexedPart seen.types x) (listed (entry seen) c) (λ x d p. item_is_indexed seen.types x p) ((listed_yields (IsIndexed seen.types) (entry seen) (h seen)).got c)
-
-code_entry_indexes : (seen : Seen) (c : Cursor) → IfGot (λ x d. IsIndexedPart seen.types x) (code_entry seen c)
-code_entry_indexes seen c =
-    either_got (λ x d. IsIndexedPart seen.types x) seen.counted body (listed (code seen)) c
-    (λ e. got_map (λ x d. IsBody x) (λ x d. IsIndexedPart seen.types x) (body c) (λ x d p. body_is_indexed seen.types x p) (body_yields.got c))
-    (λ e. listed_indexes code code_indexes seen c)
-
-indexed_items : (front : Seen → Reader ℕ) (entry : Seen → Reader Item) → Indexes entry → IndexedRow (entries_of front entry)
-indexed_items front entry h = record { entry = listed_indexes entry h }
-
-either_row : (b : Bool) (p q : Row) → IndexedRow p → IndexedRow q → IndexedRow (cond b p q)
-either_row true p q hp hq = hp
-either_row false p q hp hq = hq
-
-row_is_indexed : (id : ℕ) → IndexedRow (row id)
-row_is_indexed id =
-    either_row (eqb id 1) _ _ (indexed_items _ _ signature_indexes)
-    (either_row (eqb id 2) _ _ (indexed_items _ _ imported_indexes)
-    (either_row (eqb id 3) _ _ (indexed_items _ _ function_indexes)
-    (either_row (eqb id 4) _ _ (indexed_items _ _ table_indexes)
-    (either_row (eqb id 5) _ _ (indexed_items _ _ memory_indexes)
-    (either_row (eqb id 6) _ _ (indexed_items _ _ global_indexes)
-    (either_row (eqb id 7) _ _ (indexed_items _ _ exported_indexes)
-    (either_row (eqb id 8) _ _ (indexed_items _ _ start_indexes)
-    (either_row (eqb id 9) _ _ (indexed_items _ _ element_indexes)
-    (either_row (eqb id 10) _ _ (record { entry = code_entry_indexes })
-    (either_row (eqb id 11) _ _ (indexed_items _ _ segment_indexes)
-    (record { entry = listed_indexes start start_indexes })))))))))))
-
--- ---- runs
-
-record Indexed (types : ℕ) (r : Run) : Type 0 where
-  items : AreIndexed types (items_of r.parts)
-
-runs_indexed : {A : Type 0} (P : A → Cursor → Type 0) (types : ℕ) (x : Read A) (f : A → Cursor → Run) → IfGot P x → ((a : A) (d : Cursor) → P a d → Indexed types (f a d)) → Indexed types (runs_on x f)
-runs_indexed P types (Got a d) f p h = h a d p
-runs_indexed P types (Fault r) f p h = record { items = tt }
-runs_indexed P types Wants f p h = record { items = tt }
-
-abbrev Agrees : Next → Type 0
-Agrees next = (seen : Seen) (c : Cursor) → Indexed seen.types (next seen c)
-
-after_indexed : (seen : Seen) (x : Part) (r : Run) → IsIndexedPart seen.types x → Indexed (noted seen x).types r → Indexed seen.types (after_part x r)
-after_indexed seen (Section at id) r p h = record { items = h.items }
-after_indexed seen (Listed x) r p h = record { items = (p, rw note_types at h.items) }
-after_indexed seen (Coded b) r p h = record { items = h.items }
-
-module _ (r : Row) (indexed : IndexedRow r) (next : Next) (rest : Agrees next) where
-  finish_agrees : Agrees (finish r next)
-  finish_agrees seen c =
-      runs_indexed (λ x d. Unit {0}) seen.types (r.back c) _ (always (r.back c)) (λ x d t. runs_indexed (λ y e. Unit {0}) seen.types (section_end d) _ (always (section_end d)) (λ y e t. rest seen e))
-
-  entries_agree : (n : ℕ) → Agrees (entries n r next)
-  entries_agree zero seen c = finish_agrees seen c
-  entries_agree (suc n) seen c =
-      runs_indexed (λ x d. IsIndexedPart seen.types x) seen.types (r.entry seen c) _ (indexed.entry seen c)
-      (λ x d p. after_indexed seen x (entries n r next (noted seen x) d) p (entries_agree n (noted seen x) d))
-
-  contents_agree : Agrees (contents r next)
-  contents_agree seen c = runs_indexed (λ n d. Unit {0}) seen.types (r.front seen c) _ (always (r.front seen c)) (λ n d t. entries_agree n seen d)
+-- ---- modules
 
 entered_types : (seen : Seen) (id : ℕ) → (entered seen id).types ≡ seen.types
 entered_types seen id =
@@ -207,27 +126,26 @@ entered_types seen id =
       | inr some ↦ rw some.1 refl
     ]
 
-section_agrees : (next : Next) → Agrees next → Agrees (section next)
-section_agrees next rest seen c =
-    runs_indexed (λ h d. Unit {0}) seen.types (header seen c) _ (always (header seen c))
-    (λ h d t. subst (λ (n : ℕ). Indexed n (contents (row h.0) next (entered seen h.0) (inside d h.1))) (entered_types seen h.0) (contents_agree (row h.0) (row_is_indexed h.0) next rest (entered seen h.0) (inside d h.1)))
+all_indexes : OfEntries Indexes
+all_indexes = record {
+  signatures = signature_indexes;
+  imports = imported_indexes;
+  functions = function_indexes;
+  tables = table_indexes;
+  memories = memory_indexes;
+  globals = global_indexes;
+  exports = exported_indexes;
+  starts = start_indexes;
+  elements = element_indexes;
+  codes = code_indexes;
+  segments = segment_indexes;
+}
 
-ends_agree : (seen : Seen) → Indexed seen.types (at_the_end seen)
-ends_agree seen = elim (cases_Bool (owes_code seen)) [ inl code ↦ rw code (record { items = tt }) | inr none ↦ rw none (record { items = tt }) ]
-
-or_agrees : (next : Next) → Agrees next → (seen : Seen) (c : Cursor) (rest : List ℕ) → Indexed seen.types (or_section next seen c rest)
-or_agrees next h seen c [] = ends_agree seen
-or_agrees next h seen c (b ∷ rest) = after_indexed seen (Section c.at b) (section next seen c) tt (section_agrees next h seen c)
-
-up_to_agrees : (n : ℕ) → Agrees (sections_up_to n)
-unfolding sections_up_to
-up_to_agrees zero seen c = record { items = tt }
-up_to_agrees (suc n) seen c = or_agrees (sections_up_to n) (up_to_agrees n) seen c c.rest
+one_more : (seen : Seen) (x : Item) (xs : List Item) → IsIndexed seen.types x → AreIndexed (note seen x).types xs → AreIndexed seen.types (x ∷ xs)
+one_more seen x xs p h = (p, subst (λ (n : ℕ). AreIndexed n xs) (note_types seen x) h)
 
 pub items_are_indexed : (bytes : List ℕ) → AreIndexed 0 (items_of (module_read bytes).parts)
-items_are_indexed bytes =
-    (runs_indexed (λ v c. Unit {0}) 0 (preamble (beginning bytes)) _ (always (preamble (beginning bytes)))
-    (λ v c t. up_to_agrees (length c.rest + 1) nothing c)).items
+items_are_indexed bytes = of_module (λ s. s.types) IsIndexed AreIndexed (λ types. tt) one_more entered_types all_indexes bytes
 
 -- ---- items that are added one by one
 

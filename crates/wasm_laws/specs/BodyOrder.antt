@@ -1,5 +1,5 @@
--- Where the fields of a body stand: its opcodes and tokens one behind the other, up to the fault of spelling, which stands
--- at a byte of the body (WebAssembly Core 1.0, 5.4 and 5.5.13).
+-- Where the fields of a body stand: its tokens one behind the other, up to the fault of spelling, which stands at a byte of the
+-- body (WebAssembly Core 1.0, 5.4 and 5.5.13).
 use Rattle.std.specs.Prelude.{◌≤◌, ℕ, suc, List, [], ◌∷◌, Option, Some, None}
 use Rattle.wasm_defs.specs.declared.fault.Refusal.{Refusal}
 use Rattle.wasm_defs.specs.Bodies.{Spelled}
@@ -14,10 +14,8 @@ abbrev pub stop_of : ℕ → Option Refusal → ℕ
 stop_of last None = last
 stop_of last (Some r) = r.offset
 
--- what is spelled from first on, in a body whose last byte stands at last: opcodes and tokens stand up to where spelling
--- stops
+-- what is spelled from first on, in a body whose last byte stands at last: tokens stand up to where spelling stops
 pub record IsSpelledIn (first last : ℕ) (s : Spelled) : Type 0 where
-  pub opcodes : AreRising first (stop_of last s.fault) s.opcodes
   pub tokens : AreRising first (stop_of last s.fault) s.tokens
   pub after : first ≤ stop_of last s.fault
   pub within : stop_of last s.fault ≤ last

@@ -6,7 +6,7 @@ pub mod BodyOrder
 pub mod Typed
 pub mod Sections
 pub mod Behind
-pub mod Compiled
+pub mod Immediates
 pub mod Kept
 pub mod Completing
 pub mod Held

@@ -1,15 +1,14 @@
 //! The laws of how a module's bytes are read.
 
-ghost use Rattle.std.specs.Prelude.{◌≡◌, ◌≤◌, ◌<◌, ◌*◌, ℕ, Bool, length, List, [], None, Some, suc, true, ◌∷◌, ◌++◌};
+ghost use Rattle.std.specs.Prelude.{◌≡◌, ◌≤◌, ◌<◌, ◌*◌, ℕ, Bool, length, List, [], Some, suc, ◌∷◌, ◌++◌};
 ghost use Rattle.wasm_defs.specs.Bodies.{body_read, instruction, last_of, local_groups};
 ghost use Rattle.wasm_defs.specs.Context.{context_of, declared_count, functions_of, types_of};
 ghost use Rattle.wasm_defs.specs.Entries.{Seen};
-ghost use Rattle.wasm_defs.specs.Faults.{bodies_of, ending_fault, first_outside, IsModule, items_of, Module, sections_of, tokens_of};
+ghost use Rattle.wasm_defs.specs.Faults.{bodies_of, ending_fault, IsModule, items_of, Module, tokens_of};
 ghost use Rattle.wasm_defs.specs.Fields.{Cursor, Wants, byte, fixed, name, number, room_of};
 ghost use Rattle.wasm_defs.specs.Instances.{exports_of, named, start_of};
 ghost use Rattle.wasm_defs.specs.Outside.{Body, Coded, header, module_read, Part, preamble, row, Section, section_end, Whole};
 ghost use Rattle.wasm_defs.specs.Places.{greatest, places_of};
-ghost use Rattle.wasm_defs.specs.Supported.{is_compiled_opcode, is_compiled_section};
 ghost use Rattle.wasm_defs.specs.Trees.{Seq, Tree};
 ghost use Rattle.wasm_defs.specs.Typing.{Context, function_type};
 ghost use Rattle.wasm_defs.specs.declared.types.FuncType.{FuncType};
@@ -25,7 +24,7 @@ ghost use Rattle.wasm_laws.specs.Order.{AreCutFrom, AreOrdered, BodyStands, end_
 ghost use Rattle.wasm_laws.specs.Runs.{deciding_length, GoesOn, IsRefused};
 ghost use Rattle.wasm_laws.specs.Sections.{AreBytes};
 ghost use Rattle.wasm_laws.specs.Steadiness.{Steady, SteadyEnd, SteadyRow, Takes, token};
-ghost use Rattle.wasm_laws.specs.Compiled.{are_compiled, is_compiled, TreeIsInRange};
+ghost use Rattle.wasm_laws.specs.Immediates.{TreeIsInRange};
 ghost use Rattle.wasm_laws.specs.Typed.{AreTyped};
 
 /// The fields outside bodies are steady (Core 5.5): the preamble, the header of each section, what each section holds, and
@@ -89,8 +88,8 @@ pub fn others_stand_around()
         AreOrdered low at front × (low ≤ at) × (at ≤ last) × AreOrdered (suc at) last back }
 {}
 
-/// A body's opcodes and tokens stand in order, each behind the one before, and no later than the fault of spelling, which
-/// stands at a byte of the body (Core 5.4).
+/// A body's tokens stand in order, each behind the one before, and no later than the fault of spelling, which stands at a byte
+/// of the body (Core 5.4).
 pub fn bodies_are_in_order()
     ensures { (first : ℕ) (bytes : List ℕ) → 0 < length bytes →
         IsSpelledIn first (last_of first bytes) (body_read first bytes).code }
@@ -122,17 +121,8 @@ pub fn bodies_stand_behind_items()
     ensures valid { (bytes : List ℕ) (m : Module) → IsModule bytes m → AreValidIn m.items 0 m.bodies m.trees }
 {}
 
-/// The code of a body whose opcodes are compiled so far is of compiled tokens, and so is the tree that they spell.
-pub fn compiled_code_is_compiled()
-    ensures tokens { (first : ℕ) (bytes : List ℕ) →
-        let code = (body_read first bytes).code in
-        first_outside is_compiled_opcode code.opcodes ≡ None → are_compiled (tokens_of code.tokens) ≡ true }
-    ensures tree { (first : ℕ) (bytes : List ℕ) (tree : Seq) →
-        let code = (body_read first bytes).code in
-        first_outside is_compiled_opcode code.opcodes ≡ None → Tree (tokens_of code.tokens) tree → is_compiled tree ≡ true }
-{}
-
-/// The immediates of a body's instructions have the bits that bytes spell, and each token has a byte.
+/// The immediates of a body's instructions have the bits that bytes spell, no block's type is one of the module's, and each token
+/// has a byte.
 pub fn immediates_are_in_range()
     ensures range { (first : ℕ) (bytes : List ℕ) (tree : Seq) → AreBytes bytes →
         let code = (body_read first bytes).code in

@@ -1,10 +1,9 @@
-use Rattle.std.proofs.Common.{◌+◌, ◌∙◌, true, length, refl, ap, arith}
+use Rattle.std.proofs.Common.{◌+◌, ◌∙◌, length, refl, ap, arith}
 use Rattle.wasm_defs.specs.Faults.{tokens_of}
-use Rattle.body_compiler.proofs.Going.{instruction_shrinks, refused_token, unread_goes}
-use Rattle.body_compiler.proofs.Opcodes.{read_is_compiled}
+use Rattle.body_compiler.proofs.Going.{instruction_shrinks, refused_token, stop_behind}
 use Rattle.body_validator.specs.Checking.{guarded}
 use Rattle.control_emit.specs.Emits.{draft}
-use Rattle.body_compiler.proofs.Spelled.{taken_token, bytes_later}
+use Rattle.body_compiler.proofs.Spelled.{token_in_range, bytes_later}
 use Rattle.wasm_defs.specs.Typing.{Context}
 use Rattle.index_spaces.specs.Spaces.{context_in}
 use Rattle.body_compiler.specs.Going.{calling}
@@ -13,8 +12,8 @@ use Rattle.body_compiler.proofs.Tying.{names, tied-after, some-labels}
 use Rattle.body_compiler.proofs.Walking.{any, unlinked, step-held, compiles_behind}
 use Rattle.body_compiler.proofs.code.take_instruction.Goals as goal
 
-pub take_step-requires-clause-taken : goal.take_step-requires-clause-taken
-take_step-requires-clause-taken c = taken_token c.args.at c.args.opcode c.args.fields.now c.instruction.new.fields c.in-Ok.token c.requires.bytes (read_is_compiled c.args.at c.args.opcode c.args.fields.now c.instruction.new.fields c.in-Ok.token c.in-Ok.ensures) c.in-Ok.ensures
+pub take_step-requires-clause-range : goal.take_step-requires-clause-range
+take_step-requires-clause-range c = token_in_range c.args.at c.args.opcode c.args.fields.now c.instruction.new.fields c.in-Ok.token c.requires.bytes c.in-Ok.ensures
 
 pub returns-in-Ok-take_step-clause-bytes : goal.returns-in-Ok-take_step-clause-bytes
 returns-in-Ok-take_step-clause-bytes c = bytes_later c.args.at c.args.opcode c.args.fields.now c.instruction.new.fields c.in-Ok.token c.in-Ok.ensures c.requires.bytes
@@ -50,7 +49,6 @@ take_step-requires-clause-row c =
 
 pub returns-in-Ok-take_step-clause-tied : goal.returns-in-Ok-take_step-clause-tied
 returns-in-Ok-take_step-clause-tied c =
-    let yes = read_is_compiled c.args.at c.args.opcode c.args.fields.now c.instruction.new.fields c.in-Ok.token c.in-Ok.ensures in
     let w = any c.args.draft.now.rows (context_in c.context.result.now).types c.args.draft.now.layout in
     let s = c.in-Ok-token.step in
     let steps = c.in-Ok-token.ensures.steps in
@@ -59,7 +57,7 @@ returns-in-Ok-take_step-clause-tied c =
     let shrinks = instruction_shrinks c.args.at c.args.opcode c.args.fields.now c.instruction.new.fields c.in-Ok.token c.in-Ok.ensures in
     tied-after w own c.in-Ok.token (guarded s.live s.height_before) (draft c.args.draft.now.labels c.args.draft.now.words) (draft c.take_step.new.draft.labels c.take_step.new.draft.words) c.args.check.now c.token.new.self
     (length c.args.fields.now.rest + 1) (length c.instruction.new.fields.rest) (omega arith)
-    (taken_token c.args.at c.args.opcode c.args.fields.now c.instruction.new.fields c.in-Ok.token c.requires.bytes yes c.in-Ok.ensures) c.requires.tied
+    (token_in_range c.args.at c.args.opcode c.args.fields.now c.instruction.new.fields c.in-Ok.token c.requires.bytes c.in-Ok.ensures) c.requires.tied
     (c.in-Ok-take_step.ensures.words w own refl (unlinked c.args.draft.now.rows (context_in c.context.result.now).types c.args.draft.now.layout) same) steps.0 steps.1
 
 pub returns-in-Ok-take_step-clause-shrinks : goal.returns-in-Ok-take_step-clause-shrinks
@@ -79,21 +77,18 @@ pub returns-in-Ok-take_step-clause-goes : goal.returns-in-Ok-take_step-clause-go
 returns-in-Ok-take_step-clause-goes c = λ c' code before front k h more.
     let steps = c.in-Ok-token.ensures.steps in
     let exact = c.in-Ok-token.ensures.exact (tokens_of k.going.tokens) k.going.reached in
-    let yes = read_is_compiled c.args.at c.args.opcode c.args.fields.now c.instruction.new.fields c.in-Ok.token c.in-Ok.ensures in
     let d = context_in c.context.result.now in
     let same = same_functions c.args.check.now.context d (c.context.ensures.types ∙ ap (λ (x : Context). x.types) steps.1) (c.context.ensures.functions ∙ ap (λ (x : Context). x.functions) steps.1) in
     compiles_behind c' d c.args.last c.args.at c.args.opcode before c.args.fields.now c.instruction.new.fields c.in-Ok.token c.in-Ok-token.step c.args.check.now c.token.new.self code c.args.draft.now.layout front
     (calling c.args.draft.now.labels c.args.draft.now.words c.args.draft.now.calls.items c.args.draft.now.rows) (calling c.take_step.new.draft.labels c.take_step.new.draft.words c.take_step.new.draft.calls.items c.take_step.new.draft.rows) k h more
-    yes c.in-Ok.ensures steps.0 steps.1 exact.0 exact.1 (c.in-Ok-token.ensures.places (tokens_of k.going.tokens) k.going.reached) same c.in-Ok-take_step.ensures.words c.in-Ok-take_step.ensures.calls c.in-Ok-take_step.ensures.rows
+    c.in-Ok.ensures steps.0 steps.1 exact.0 (c.in-Ok-token.ensures.places (tokens_of k.going.tokens) k.going.reached) same c.in-Ok-take_step.ensures.words c.in-Ok-take_step.ensures.calls c.in-Ok-take_step.ensures.rows
 
 pub returns-in-Err-Refused-clause-goes : goal.returns-in-Err-Refused-clause-goes
 returns-in-Err-Refused-clause-goes c = λ c' code before front k h more.
-    let g = k.going in
     let steps = rw c.in-Err-Refused.field-0-is at c.in-Err-Refused.ensures.steps in
-    let exact = rw c.in-Err-Refused.field-0-is at (c.in-Err-Refused.ensures.exact (tokens_of g.tokens) g.reached) in
-    refused_token c' c.args.last c.args.at c.args.opcode before c.args.fields.now c.instruction.new.fields c.in-Ok.token c.args.check.now code _ true g h more
-    (read_is_compiled c.args.at c.args.opcode c.args.fields.now c.instruction.new.fields c.in-Ok.token c.in-Ok.ensures) c.in-Ok.ensures (ap (λ r. r.offset) steps.1) exact
+    let exact = rw c.in-Err-Refused.field-0-is at (c.in-Err-Refused.ensures.exact (tokens_of k.going.tokens) k.going.reached) in
+    refused_token c' c.args.last c.args.at c.args.opcode before c.args.fields.now c.instruction.new.fields c.in-Ok.token c.args.check.now code _ k.going h more c.in-Ok.ensures (ap (λ r. r.offset) steps.1) exact
 
 pub returns-in-Err-clause-goes : goal.returns-in-Err-clause-goes
 returns-in-Err-clause-goes c = λ c' code before front k h more.
-    rw c.unread.ensures (unread_goes c' c.args.last c.args.at c.args.opcode before c.args.fields.now c.instruction.new.fields c.args.check.now c.args.check.now code c.args.draft.now.layout front (calling c.args.draft.now.labels c.args.draft.now.words c.args.draft.now.calls.items c.args.draft.now.rows) c.in-Err.stop k.going h more c.in-Err.ensures)
+    rw c.stop_of.ensures (stop_behind c' c.args.last c.args.at c.args.opcode before c.args.fields.now c.args.check.now code c.args.draft.now.layout front (calling c.args.draft.now.labels c.args.draft.now.words c.args.draft.now.calls.items c.args.draft.now.rows) c.instruction.new.fields c.args.check.now c.in-Err.stop k.going h more c.in-Err.ensures)

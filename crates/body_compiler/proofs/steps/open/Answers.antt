@@ -6,15 +6,15 @@ use Rattle.control_emit.specs.Begins.{Begins}
 use Rattle.control_emit.specs.Emits.{draft}
 use Rattle.control_emit.specs.Walks.{Step}
 use Rattle.control_emit.proofs.Calls.{on_ok}
-use Rattle.body_compiler.specs.Steps.{IsTaken}
+use Rattle.wasm_laws.specs.Immediates.{TokenIsInRange}
 use Rattle.body_compiler.proofs.Opening.{opens_block, opens_loop, opens_if}
 use Rattle.body_compiler.proofs.steps.open.Goals as goal
 
 pub results_of-results-requires : goal.results_of-results-requires
-results_of-results-requires c = subst IsTaken c.in-Block.is c.requires.taken
+results_of-results-requires c = subst TokenIsInRange c.in-Block.is c.requires.range
 
 pub results_of-results-requires-in-If : goal.results_of-results-requires-in-If
-results_of-results-requires-in-If c = subst IsTaken c.in-If.is c.requires.taken
+results_of-results-requires-in-If c = subst TokenIsInRange c.in-If.is c.requires.range
 
 pub returns-in-Block : goal.returns-in-Block
 returns-in-Block c = λ w c' l.
@@ -30,7 +30,7 @@ returns-in-Loop c = λ w c' l.
     let b = draft c.begin-in-Loop.new.self c.begin-in-Loop.new.buffer in
     let begins = subst (λ (t : Token). OnOk c.begin-in-Loop.result (Begins w t c.args.live c.args.height c.args.height 0 a b)) c.in-Loop.is (c.begin-in-Loop.ensures.ok w l) in
     subst (λ (t : Token). OnOk c.begin-in-Loop.result (Step w c' t (guarded c.args.live c.args.height) a b)) (sym c.in-Loop.is)
-    (on_ok c.begin-in-Loop.result (opens_loop w c' c.in-Loop.field-0 c.args.live c.args.height a b (subst IsTaken c.in-Loop.is c.requires.taken)) begins)
+    (on_ok c.begin-in-Loop.result (opens_loop w c' c.in-Loop.field-0 c.args.live c.args.height a b (subst TokenIsInRange c.in-Loop.is c.requires.range)) begins)
 
 pub returns-in-If : goal.returns-in-If
 returns-in-If c = λ w c' l.

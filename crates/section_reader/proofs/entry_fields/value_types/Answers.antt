@@ -1,6 +1,6 @@
 use Rattle.wasm_defs.specs.Fields.{repeated}
 use Rattle.wasm_defs.specs.Entries.{listed_type}
-use Rattle.section_reader.proofs.Loops.{goes_on}
+use Rattle.leb_feed.proofs.Loops.{goes_on}
 use Rattle.section_reader.proofs.entry_fields.value_types.Goals as goal
 
 pub loop-preserved : goal.loop-preserved

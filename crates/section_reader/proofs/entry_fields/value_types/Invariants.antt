@@ -1,7 +1,7 @@
 use Rattle.std.proofs.Common.{◌≡◌, ◌-◌}
 use Rattle.wasm_defs.specs.Fields.{repeated}
 use Rattle.wasm_defs.specs.Entries.{listed_type}
-use Rattle.section_reader.proofs.Loops.{with_front}
+use Rattle.leb_feed.proofs.Loops.{with_front}
 use Rattle.section_reader.proofs.entry_fields.value_types.Given as goal
 
 abbrev pub invariant-loop : goal.invariant-loop

@@ -6,17 +6,17 @@ use Rattle.image_run.specs.Hosts.{values_of}
 use Rattle.stream_compile.specs.Texts.{Outcome, drill_line, drilled}
 use Rattle.stream_compile.proofs.writing.write_drilled.Goals as goal
 
-pub returns-in-Some-I32 : goal.returns-in-Some-I32
-returns-in-Some-I32 g c =
+pub returns-in-Some-I32-clause-text : goal.returns-in-Some-I32-clause-text
+returns-in-Some-I32-clause-text g c =
     let same : drilled c.args.functions (values_of c.args.value) ≡ drill_line c.args.functions c.from.result = search rules in
     let fits : SFits w64 c.from.result = search rules in
     let line = ap (drill_line c.args.functions) (to_z-of_z w64 c.from.result fits) ∙ sym same in
-    subst (λ (o : Outcome). WritesText c.write_drill_line.result o.text (g.O.Sink.written c.args.out.now) (g.O.Sink.written c.write_drill_line.new.out) (g.O.Sink.faults c.args.out.now) (g.O.Sink.faults c.write_drill_line.new.out)) line c.write_drill_line.ensures
+    subst (λ (o : Outcome). WritesText c.write_drill_line.result o.text (g.O.Sink.written c.args.out.now) (g.O.Sink.written c.write_drill_line.new.out) (g.O.Sink.faults c.args.out.now) (g.O.Sink.faults c.write_drill_line.new.out)) line c.write_drill_line.ensures.text
 
-pub returns-in-Some-I64 : goal.returns-in-Some-I64
-returns-in-Some-I64 g c =
+pub returns-in-Some-I64-clause-text : goal.returns-in-Some-I64-clause-text
+returns-in-Some-I64-clause-text g c =
     let same : drilled c.args.functions (values_of c.args.value) ≡ drill_line c.args.functions c.in-Some-I64.number = search rules in
     let fits : SFits w64 c.in-Some-I64.number = search rules in
     let line = ap (drill_line c.args.functions) (to_z-of_z w64 c.in-Some-I64.number fits) ∙ sym same in
     subst (λ (o : Outcome). WritesText c.write_drill_line-in-Some-I64.result o.text (g.O.Sink.written c.args.out.now) (g.O.Sink.written c.write_drill_line-in-Some-I64.new.out) (g.O.Sink.faults c.args.out.now) (g.O.Sink.faults c.write_drill_line-in-Some-I64.new.out))
-    line c.write_drill_line-in-Some-I64.ensures
+    line c.write_drill_line-in-Some-I64.ensures.text

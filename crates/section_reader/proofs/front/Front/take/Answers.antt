@@ -1,8 +1,7 @@
-use Rattle.std.proofs.Common.{refl, ap, subst, ◌∙◌, ◌≤◌, length, Option, Err}
+use Rattle.std.proofs.Common.{refl, subst, ◌∙◌, ◌≤◌, length, Option, Err}
 use Rattle.std.specs.Prelude.{IfSome}
 use Rattle.wasm_defs.specs.declared.item.Item.{Item}
 use Rattle.wasm_defs.specs.declared.front_stop.FrontStop.{FrontStop}
-use Rattle.section_reader.specs.declared.steps.Steps.{Steps}
 use Rattle.section_reader.specs.Stepped.{Reached, Reaches}
 use Rattle.section_reader.proofs.Reaching.{item_fed, all_fed, refused_there, restored, left_same, sound_at, owed_of, owed_at}
 use Rattle.section_reader.proofs.Awaiting.{free_at, placed_at}
@@ -81,8 +80,5 @@ pub returns-in-Err-Refused-clause-onward : goal.returns-in-Err-Refused-clause-on
 returns-in-Err-Refused-clause-onward c =
     let o = c.args.self.now in
     let reaches = subst (λ (x : FrontStop). Reaches o.steps c.in-Some.fields (Err x) c.until_item.new.self c.until_item.new.fields) c.in-Err-Refused.field-0-is c.in-Err-Refused.ensures.reaches in
-    let d = c.until_item.new.fields in
-    let m = c.until_item.new.self in
-    let first = ap (λ (s : Steps). s.uncompiled) c.refuse.ensures in
     λ apart.
-    rw c.in-Err-Refused.refusal-is (refused_told o c.args.bytes.now c.args.all.now c.requires.waiting c.requires.refusal c.requires.joined _ c.in-Err-Refused.refusal m d apart (rw c.in-Some.ensures.there at reaches.2) first c.requires.waiting refl)
+    rw c.in-Err-Refused.refusal-is (refused_told o c.args.bytes.now c.args.all.now c.requires.waiting c.requires.refusal c.requires.joined _ c.in-Err-Refused.refusal apart (rw c.in-Some.ensures.there at reaches.2) c.requires.waiting refl)

@@ -20,7 +20,7 @@ returns-in_err-preamble-clause-stepped c =
 pub returns-clause-stepped : goal.returns-clause-stepped
 returns-clause-stepped c =
     let o = c.args.self.now in
-    preamble_goes o.stage o.seen o.uncompiled c.args.fields.now c.preamble.new.fields c.requires.sound _ c.requires.stage (rw c.fork-next.ensures at c.in_ok-preamble.ensures.read)
+    preamble_goes o.stage o.seen c.args.fields.now c.preamble.new.fields c.requires.sound _ c.requires.stage (rw c.fork-next.ensures at c.in_ok-preamble.ensures.read)
 
 pub returns-clause-on : goal.returns-clause-on
 returns-clause-on c = λ most near.

@@ -20,7 +20,7 @@ returns-in_err-n-clause-stepped c =
 pub returns-clause-stepped : goal.returns-clause-stepped
 returns-clause-stepped c =
     let o = c.args.self.now in
-    front_goes o.stage o.seen o.uncompiled c.args.fields.now c.entry_count.new.fields c.requires.sound c.args.id c.in_ok-n.n c.requires.stage (rw c.fork-next.ensures at c.in_ok-n.ensures)
+    front_goes o.stage o.seen c.args.fields.now c.entry_count.new.fields c.requires.sound c.args.id c.in_ok-n.n c.requires.stage (rw c.fork-next.ensures at c.in_ok-n.ensures)
 
 pub returns-clause-on : goal.returns-clause-on
 returns-clause-on c = λ most near.

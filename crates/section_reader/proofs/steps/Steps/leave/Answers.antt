@@ -22,7 +22,7 @@ returns-in_err-section_end-clause-stepped c =
 pub returns-clause-stepped : goal.returns-clause-stepped
 returns-clause-stepped c =
     let o = c.args.self.now in
-    back_goes o.stage o.seen o.uncompiled c.args.fields.now c.args.fields.now c.requires.sound c.args.id c.section_end.new.fields c.requires.stage (nothing_back c.args.id c.args.fields.now c.requires.listing) (rw c.fork-next.ensures at c.in_ok-section_end.ensures.read)
+    back_goes o.stage o.seen c.args.fields.now c.args.fields.now c.requires.sound c.args.id c.section_end.new.fields c.requires.stage (nothing_back c.args.id c.args.fields.now c.requires.listing) (rw c.fork-next.ensures at c.in_ok-section_end.ensures.read)
 
 pub returns-clause-on : goal.returns-clause-on
 returns-clause-on c = λ most near.

@@ -32,7 +32,7 @@ returns-clause-stepped c =
     let f = c.args.fields.now in
     let some = some_of c.rest.result.now f.rest c.rest.ensures (sym c.is_empty.ensures ∙ c.if-is_empty.false) in
     let h = rw c.fork-next.ensures at c.in_ok-id.ensures.read in
-    rw (c.enter.ensures, c.enter-2.ensures, c.first_with-self.ensures, c.offset-at.ensures) (header_goes o.stage o.seen o.uncompiled f c.header.new.fields c.requires.sound (c.in_ok-id.id, c.in_ok-id.end) some.0 some.1 c.requires.stage some.2 h)
+    rw (c.enter.ensures, c.enter-2.ensures) (header_goes o.stage o.seen f c.header.new.fields c.requires.sound (c.in_ok-id.id, c.in_ok-id.end) some.0 some.1 c.requires.stage some.2 h)
 
 pub returns-clause-on : goal.returns-clause-on
 returns-clause-on c = λ most near.

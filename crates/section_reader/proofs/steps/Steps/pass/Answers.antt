@@ -34,7 +34,7 @@ returns-in_err-section_end-clause-stepped c =
 pub returns-then-room-there-clause-stepped : goal.returns-then-room-there-clause-stepped
 returns-then-room-there-clause-stepped c =
     let o = c.args.self.now in
-    back_goes o.stage o.seen o.uncompiled c.args.fields.now c.rest_of_section.new.fields c.requires.sound c.args.id c.section_end.new.fields c.requires.stage (rest_back c.args.id c.args.fields.now c.requires.passing ∙ (rw c.fork-next.ensures at c.in_ok-rest_of_section.ensures.read)) c.in_ok-section_end.ensures.read
+    back_goes o.stage o.seen c.args.fields.now c.rest_of_section.new.fields c.requires.sound c.args.id c.section_end.new.fields c.requires.stage (rest_back c.args.id c.args.fields.now c.requires.passing ∙ (rw c.fork-next.ensures at c.in_ok-rest_of_section.ensures.read)) c.in_ok-section_end.ensures.read
 
 pub returns-then-there-eq0-clause-stepped : goal.returns-then-there-eq0-clause-stepped
 returns-then-there-eq0-clause-stepped c =
@@ -53,7 +53,7 @@ returns-in_err-run-clause-stepped c =
 pub returns-clause-stepped : goal.returns-clause-stepped
 returns-clause-stepped c =
     let o = c.args.self.now in
-    pass_goes_at o.stage o.seen o.uncompiled c.args.fields.now c.run.new.self c.args.id _ _ c.requires.sound c.requires.stage c.requires.passing (ap length c.rest.ensures) (omega arith) (omega arith) (rw c.fork-next-2.ensures at c.in_ok-run.ensures.read)
+    pass_goes_at o.stage o.seen c.args.fields.now c.run.new.self c.args.id _ _ c.requires.sound c.requires.stage c.requires.passing (ap length c.rest.ensures) (omega arith) (omega arith) (rw c.fork-next-2.ensures at c.in_ok-run.ensures.read)
 
 pub returns-then-room-there-clause-on : goal.returns-then-room-there-clause-on
 returns-then-room-there-clause-on c = λ most near.

@@ -22,7 +22,7 @@ returns-in_err-item-clause-stepped c =
 pub returns-clause-stepped : goal.returns-clause-stepped
 returns-clause-stepped c =
     let o = c.args.self.now in
-    rw c.in_ok-note_item.ensures.ok (entry_goes o.stage o.seen o.uncompiled c.args.fields.now c.next_item.new.fields c.requires.sound c.args.id c.args.n c.in_ok-item.item c.requires.stage c.requires.some (rw c.fork-next.ensures at c.in_ok-item.ensures))
+    rw c.in_ok-note_item.ensures.ok (entry_goes o.stage o.seen c.args.fields.now c.next_item.new.fields c.requires.sound c.args.id c.args.n c.in_ok-item.item c.requires.stage c.requires.some (rw c.fork-next.ensures at c.in_ok-item.ensures))
 
 pub returns-clause-near : goal.returns-clause-near
 returns-clause-near c =

@@ -37,7 +37,7 @@ returns-then-is_whole-clause-goes c = λ bytes more g.
     let skipped : (later : List ℕ) → _ = λ later. c.skip_to.ensures.onward later ∙ ap (λ (n : ℕ). sections t.front.steps.seen (record { at = n; rest = later; end = no_end })) c.section_end.ensures in
     going_reading bytes _ (drop taken piece ++ more) refl
     (reading_behind bytes t.front old mid new t.spaces t.codes piece more taken c.in-Ok.ensures e.place e.queue.0 e.queue.1 c.skip_to.new.self (sym c.is_whole.ensures.is ∙ c.if-is_whole.true) (c.is_whole.ensures.whole c.if-is_whole.true) skipped
-    kt.none kt.few kt.count j c.skip_to.ensures.stage c.skip_to.ensures.uncompiled (c.skip_to.ensures.total ∙ c.section_end.ensures) c.skip_to.ensures.idle)
+    kt.few kt.count j c.skip_to.ensures.stage (c.skip_to.ensures.total ∙ c.section_end.ensures) c.skip_to.ensures.idle)
 
 pub returns-then-is_whole-clause-less : goal.returns-then-is_whole-clause-less
 returns-then-is_whole-clause-less c =
@@ -69,7 +69,7 @@ returns-else-is_whole-clause-goes c = λ bytes more g.
     let kt = subst (λ (f : Front). IsCutting bytes f old s.spaces s.codes (piece ++ more)) (sym e.rest.front) k in
     let j = e.takes bytes (rest_run t.front.steps.seen mid (drop taken piece ++ more)) k.few (fed_judging bytes t.front old mid s.spaces s.codes piece more kt taken c.in-Ok.ensures) in
     going_cutting bytes _ (drop taken piece ++ more) new refl
-    (cutting_on bytes t.front old mid new t.spaces t.codes piece more taken c.in-Ok.ensures e.place e.queue.0 e.queue.1 kt.none kt.skips kt.few kt.count j)
+    (cutting_on bytes t.front old mid new t.spaces t.codes piece more taken c.in-Ok.ensures e.place e.queue.0 e.queue.1 kt.skips kt.few kt.count j)
 
 pub returns-else-is_whole-clause-less : goal.returns-else-is_whole-clause-less
 returns-else-is_whole-clause-less c =

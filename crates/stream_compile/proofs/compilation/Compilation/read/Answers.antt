@@ -1,12 +1,8 @@
-use Rattle.std.proofs.Common.{◌≡◌, ℕ, List, ◌++◌, length, drop, Option, Some, Err, refl, sym, ap, subst, ◌∙◌}
-use Rattle.wasm_defs.specs.declared.fault.Refusal.{Refusal}
-use Rattle.wasm_defs.specs.declared.front_stop.FrontStop.{FrontStop}
+use Rattle.std.proofs.Common.{◌≡◌, ℕ, List, ◌++◌, length, drop, Option, Some, refl, sym, ap, ◌∙◌}
 use Rattle.wasm_defs.specs.declared.item.Item.{Item}
-use Rattle.wasm_defs.specs.Faults.{Rejected}
 use Rattle.section_reader.specs.Stages.{prepend}
-use Rattle.section_reader.specs.FrontOnward.{onward_left, FeedsOnward}
-use Rattle.image_linker.specs.Judging.{IsVerdictOf}
-use Rattle.stream_compile.proofs.Streaming.{reading_of, going_reading, reading_on, item_read, refused_reading, none_waits, less_item, less_none, item_advances}
+use Rattle.section_reader.specs.FrontOnward.{onward_left}
+use Rattle.stream_compile.proofs.Streaming.{reading_of, going_reading, reading_on, item_read, front_stops, none_waits, less_item, less_none, item_advances}
 use Rattle.stream_compile.proofs.compilation.Compilation.read.Goals as goal
 
 pub take_item-requires-in-Some : goal.take_item-requires-in-Some
@@ -19,8 +15,8 @@ take_item-requires-in-Some c =
       bytes,
       drop c.in-Ok.taken piece ++ more,
       item_read bytes s _ c.feed.new.self c.in-Some.item piece more c.in-Ok.taken (c.in-Ok.ensures.fed).some c.in-Ok.ensures.onward
-          (λ later. c.take_item.ensures.onward later ∙ ap (λ (x : Option Item). prepend x (onward_left c.take_item.new.self later)) c.in-Some.is) c.take_item.ensures.steps c.take_item.ensures.total c.take_item.ensures.begun
-          (sym c.take_item.ensures.item ∙ c.in-Some.is) c.take_item.ensures.taken (c.in-Some.ensures.follows (c.in-Ok.ensures.onward.going r.place.idle)) c.requires.none refl refl r,
+          (λ later. c.take_item.ensures.onward later ∙ ap (λ (x : Option Item). prepend x (onward_left c.take_item.new.self later)) c.in-Some.is) c.take_item.ensures.total
+          c.take_item.ensures.taken (c.in-Some.ensures.follows (c.in-Ok.ensures.onward.going r.place.idle)) c.requires.none refl refl r,
     )
 
 pub returns-in-Ok-take_item-clause-goes : goal.returns-in-Ok-take_item-clause-goes
@@ -30,8 +26,8 @@ returns-in-Ok-take_item-clause-goes c = λ bytes more g.
     let r = reading_of bytes s (piece ++ more) c.requires.none g in
     (c.in-Ok-take_item.ensures.takes bytes (drop c.in-Ok.taken piece ++ more)
     (item_read bytes s _ c.feed.new.self c.in-Some.item piece more c.in-Ok.taken (c.in-Ok.ensures.fed).some c.in-Ok.ensures.onward
-    (λ later. c.take_item.ensures.onward later ∙ ap (λ (x : Option Item). prepend x (onward_left c.take_item.new.self later)) c.in-Some.is) c.take_item.ensures.steps c.take_item.ensures.total c.take_item.ensures.begun
-    (sym c.take_item.ensures.item ∙ c.in-Some.is) c.take_item.ensures.taken (c.in-Some.ensures.follows (c.in-Ok.ensures.onward.going r.place.idle)) c.requires.none refl refl r)).going
+    (λ later. c.take_item.ensures.onward later ∙ ap (λ (x : Option Item). prepend x (onward_left c.take_item.new.self later)) c.in-Some.is) c.take_item.ensures.total
+    c.take_item.ensures.taken (c.in-Some.ensures.follows (c.in-Ok.ensures.onward.going r.place.idle)) c.requires.none refl refl r)).going
 
 pub returns-in-Ok-take_item-clause-less : goal.returns-in-Ok-take_item-clause-less
 returns-in-Ok-take_item-clause-less c =
@@ -43,8 +39,8 @@ returns-in-Ok-take_item-clause-less c =
     let r = reading_of bytes s (piece ++ more) c.requires.none c.requires.goes.2 in
     let same : (later : List ℕ) → onward_left c.feed.new.self later ≡ prepend (Some c.in-Some.item) (onward_left c.take_item.new.self later) = λ later. c.take_item.ensures.onward later ∙ ap (λ (x : Option Item). prepend x (onward_left c.take_item.new.self later)) c.in-Some.is in
     let took = c.in-Ok-take_item.ensures.takes bytes (drop c.in-Ok.taken piece ++ more)
-    (item_read bytes s _ c.feed.new.self c.in-Some.item piece more c.in-Ok.taken few c.in-Ok.ensures.onward same c.take_item.ensures.steps c.take_item.ensures.total c.take_item.ensures.begun
-    (sym c.take_item.ensures.item ∙ c.in-Some.is) c.take_item.ensures.taken (c.in-Some.ensures.follows (c.in-Ok.ensures.onward.going r.place.idle)) c.requires.none refl refl r) in
+    (item_read bytes s _ c.feed.new.self c.in-Some.item piece more c.in-Ok.taken few c.in-Ok.ensures.onward same c.take_item.ensures.total
+    c.take_item.ensures.taken (c.in-Some.ensures.follows (c.in-Ok.ensures.onward.going r.place.idle)) c.requires.none refl refl r) in
     (few, λ some. less_item s c.take_item-in-Some.new.self c.feed.new.self c.take_item.new.self c.in-Some.item piece c.in-Ok.taken c.requires.none few ((c.in-Ok.ensures.onward).told r.place.outside) same took.same)
 
 pub returns-in-Some-clause-goes : goal.returns-in-Some-clause-goes
@@ -52,11 +48,11 @@ returns-in-Some-clause-goes c = λ bytes more g.
     let s = c.args.self.now in
     let piece = c.args.piece.now in
     let r = reading_of bytes s (piece ++ more) c.requires.none g in
-    item_advances bytes piece c.in-Err.stop (record s { front = c.take_item.new.self }) c.take_item-in-Some.new.self c.take_item-in-Some.new.self (drop c.in-Ok.taken piece ++ more) more
-    (c.in-Err.ensures.takes bytes (drop c.in-Ok.taken piece ++ more)
+    item_advances bytes piece c.in-Err-take_item.stop (record s { front = c.take_item.new.self }) c.take_item-in-Some.new.self c.take_item-in-Some.new.self (drop c.in-Ok.taken piece ++ more) more
+    (c.in-Err-take_item.ensures.takes bytes (drop c.in-Ok.taken piece ++ more)
     (item_read bytes s _ c.feed.new.self c.in-Some.item piece more c.in-Ok.taken (c.in-Ok.ensures.fed).some c.in-Ok.ensures.onward
-    (λ later. c.take_item.ensures.onward later ∙ ap (λ (x : Option Item). prepend x (onward_left c.take_item.new.self later)) c.in-Some.is) c.take_item.ensures.steps c.take_item.ensures.total c.take_item.ensures.begun
-    (sym c.take_item.ensures.item ∙ c.in-Some.is) c.take_item.ensures.taken (c.in-Some.ensures.follows (c.in-Ok.ensures.onward.going r.place.idle)) c.requires.none refl refl r))
+    (λ later. c.take_item.ensures.onward later ∙ ap (λ (x : Option Item). prepend x (onward_left c.take_item.new.self later)) c.in-Some.is) c.take_item.ensures.total
+    c.take_item.ensures.taken (c.in-Some.ensures.follows (c.in-Ok.ensures.onward.going r.place.idle)) c.requires.none refl refl r))
 
 pub returns-in-Ok-clause-goes : goal.returns-in-Ok-clause-goes
 returns-in-Ok-clause-goes c = λ bytes more g.
@@ -83,10 +79,8 @@ returns-in-Ok-clause-less c =
           (λ later. c.take_item.ensures.onward later ∙ ap (λ (x : Option Item). prepend x (onward_left c.take_item.new.self later)) c.in-None.is),
     )
 
-pub returns-in-Err-Refused-clause-goes : goal.returns-in-Err-Refused-clause-goes
-returns-in-Err-Refused-clause-goes c = λ bytes more g.
+pub returns-clause-goes : goal.returns-clause-goes
+returns-clause-goes c = λ bytes more g.
     let s = c.args.self.now in
     let piece = c.args.piece.now in
-    let r = reading_of bytes s (piece ++ more) c.requires.none g in
-    let told = subst (λ (x : FrontStop). FeedsOnward s.front piece (Err x) c.feed.new.self) c.in-Err-Refused.field-0-is c.in-Err-Refused.ensures.onward in
-    subst (λ (x : Refusal). IsVerdictOf bytes (Rejected x)) (sym c.earliest.ensures) (refused_reading bytes s.front c.feed.new.self s.spaces s.codes piece more c.in-Err-Refused.refusal (told r.place.outside) r)
+    front_stops bytes s.front c.feed.new.self s.spaces s.codes piece more c.in-Err.stop _ c.in-Err.ensures.onward (reading_of bytes s (piece ++ more) c.requires.none g)

@@ -1,27 +1,19 @@
-use Rattle.std.proofs.Common.{◌≡◌, None, refl, sym, subst, ◌∙◌}
-use Rattle.wasm_defs.specs.declared.fault.Refusal.{Refusal}
+use Rattle.std.proofs.Common.{refl, subst}
 use Rattle.wasm_defs.specs.declared.item.Item.{Item}
-use Rattle.wasm_defs.specs.Faults.{Rejected}
-use Rattle.section_reader.specs.FrontOnward.{begun}
-use Rattle.image_linker.specs.Judging.{IsVerdictOf}
 use Rattle.stream_compile.specs.Streaming.{IsTaking}
-use Rattle.stream_compile.proofs.Streaming.{going_reading, going_cutting, item_outside, item_refused, item_reading, item_cutting, bodies_cut, not_bodies, may_begin}
+use Rattle.stream_compile.proofs.Streaming.{going_reading, going_cutting, item_refused, item_reading, item_cutting, bodies_cut, not_bodies, may_begin}
 use Rattle.stream_compile.proofs.compilation.Compilation.take_item.Goals as goal
-
-pub returns-in-Some-clause-takes : goal.returns-in-Some-clause-takes
-returns-in-Some-clause-takes c = λ bytes more t.
-    subst (λ (r : Refusal). IsVerdictOf bytes (Rejected r)) (sym c.unsupported.ensures) (item_outside bytes c.args.self.now c.args.item.now more t c.in-Some.at (sym c.uncompiled.ensures.value ∙ c.in-Some.is))
 
 pub returns-in-Err-Refused-clause-takes : goal.returns-in-Err-Refused-clause-takes
 returns-in-Err-Refused-clause-takes c = λ bytes more t.
-    item_refused bytes c.args.self.now c.args.item.now more t (sym c.uncompiled.ensures.value ∙ c.in_default.is) c.in-Err-Refused.refusal (c.add.ensures.refused c.in-Err-Refused.refusal (let a = c.in-Err-Refused.is in let b = c.in-Err-Refused.field-0-is in cc))
+    item_refused bytes c.args.self.now c.args.item.now more t c.in-Err-Refused.refusal (c.add.ensures.refused c.in-Err-Refused.refusal (let a = c.in-Err-Refused.is in let b = c.in-Err-Refused.field-0-is in cc))
 
 pub begun_bodies-requires : goal.begun_bodies-requires
 begun_bodies-requires c =
     let bytes = c.requires.0 in
     let more = c.requires.1 in
     let t = subst (λ (x : Item). IsTaking bytes c.args.self.now x more) c.in-Code.is c.requires.2 in
-    let b = may_begin bytes c.args.self.now _ _ more t (sym c.uncompiled.ensures.value ∙ c.in_default.is) c.add.new.self tt (rw c.in-Code.is at c.in-Ok.ensures.ok) in
+    let b = may_begin bytes c.args.self.now _ _ more t c.add.new.self tt (rw c.in-Code.is at c.in-Ok.ensures.ok) in
     record { functions = b.0; indices = b.1; ahead = b.2; near = b.3 }
 
 pub returns-in-Code-clause-takes : goal.returns-in-Code-clause-takes
@@ -29,19 +21,17 @@ returns-in-Code-clause-takes c = λ bytes more t.
     let f = c.args.self.now.front in
     let k = c.begun_bodies.result in
     let u = subst (λ (x : Item). IsTaking bytes c.args.self.now x more) c.in-Code.is t in
-    let inside : begun f ≡ None = sym c.uncompiled.ensures.value ∙ c.in_default.is in
     let run = bodies_cut f k _ _ _ _ u.follows c.begun_bodies.ensures.left c.begun_bodies.ensures.at c.begun_bodies.ensures.end in
     record {
-      going = going_cutting bytes _ more k refl (item_cutting bytes c.args.self.now _ more u inside c.add.new.self k _ _ tt (rw c.in-Code.is at c.in-Ok.ensures.ok) u.follows run c.begun_bodies.ensures.at c.begun_bodies.ensures.end);
+      going = going_cutting bytes _ more k refl (item_cutting bytes c.args.self.now _ more u c.add.new.self k _ _ tt (rw c.in-Code.is at c.in-Ok.ensures.ok) u.follows run c.begun_bodies.ensures.at c.begun_bodies.ensures.end);
       same = run;
     }
 
-pub returns-in_default-item-clause-takes : goal.returns-in_default-item-clause-takes
-returns-in_default-item-clause-takes c = λ bytes more t.
+pub returns-in_default-clause-takes : goal.returns-in_default-clause-takes
+returns-in_default-clause-takes c = λ bytes more t.
     let f = c.args.self.now.front in
-    let inside : begun f ≡ None = sym c.uncompiled.ensures.value ∙ c.in_default.is in
-    let apart = not_bodies c.args.item.now f (λ count end e. c.in_default-item.not-Code _ _ e) t.follows in
+    let apart = not_bodies c.args.item.now f (λ count end e. c.in_default.not-Code _ _ e) t.follows in
     record {
-      going = going_reading bytes _ more t.outside (item_reading bytes c.args.self.now c.args.item.now more t inside c.add.new.self c.in-Ok.ensures.starts c.in-Ok.ensures.ok apart);
+      going = going_reading bytes _ more t.outside (item_reading bytes c.args.self.now c.args.item.now more t c.add.new.self c.in-Ok.ensures.starts c.in-Ok.ensures.ok apart);
       same = λ later. rw t.outside refl;
     }
