@@ -23,18 +23,20 @@ pub struct Fields<'a> {
     bytes: &'a [u8],
     base: u64,
     place: usize,
+    /// The place behind the bytes of the section that are there.
+    limit: usize,
     end: u64,
 }
 
 impl<'a> Model for Fields<'a> {
-    ghost use Rattle.std.specs.Prelude.{◌≤◌, ◌<◌, ◌+◌, ◌^◌, length, drop};
+    ghost use Rattle.std.specs.Prelude.{◌≡◌, ◌≤◌, ◌<◌, ◌+◌, ◌-◌, ◌^◌, length, drop, take};
     ghost use Rattle.wasm_defs.specs.Fields.{Cursor};
 
     ghost Value = { Cursor };
 
     ghost view = { λ f. record { at = f.base + f.place; rest = drop f.place f.bytes.now; end = f.end } };
 
-    ghost invariant = { λ f. (f.place ≤ length f.bytes.now) × (f.base + length f.bytes.now < 2 ^ 64) × (f.base + f.place ≤ f.end) };
+    ghost invariant = { λ f. (f.place ≤ length f.bytes.now) × (f.base + length f.bytes.now < 2 ^ 64) × (f.base + f.place ≤ f.end) × (f.limit ≡ length (take (f.end - f.base) f.bytes.now)) };
 }
 
 impl<'a> Fields<'a> {
@@ -48,6 +50,7 @@ impl<'a> Fields<'a> {
             bytes,
             base,
             place: 0,
+            limit: limit_of(bytes, end - base),
             end,
         }
     }
@@ -60,6 +63,7 @@ impl<'a> Fields<'a> {
             bytes: self.bytes,
             base: self.base,
             place: self.place,
+            limit: self.limit,
             end: self.end,
         }
     }
@@ -84,6 +88,7 @@ impl<'a> Fields<'a> {
     pub fn leave(&mut self)
         ensures { self.new ≡ inside self.old no_end }
     {
+        self.limit = self.bytes.len();
         self.end = u64::MAX;
     }
 
@@ -92,6 +97,7 @@ impl<'a> Fields<'a> {
         requires { self.old.at ≤ end }
         ensures { self.new ≡ inside self.old end }
     {
+        self.limit = limit_of(self.bytes, end - self.base);
         self.end = end;
     }
 
@@ -116,12 +122,7 @@ impl<'a> Fields<'a> {
     fn window(&self) -> &'a [u8]
         ensures { result.now ≡ window self.now }
     {
-        let room = self.room();
-        let rest = self.rest();
-        if (rest.len() as u64) < room {
-            return rest;
-        }
-        &rest[..room as usize]
+        &self.bytes[self.place..self.limit]
     }
 
     #[inline(always)]
@@ -358,6 +359,16 @@ impl<'a> Fields<'a> {
         self.advance(bytes.len());
         Ok(at)
     }
+}
+
+/// How many of the first bytes there are, if that many are looked for.
+fn limit_of(bytes: &[u8], most: u64) -> usize
+    ensures { result ≡ length (take most bytes.now) }
+{
+    if (bytes.len() as u64) < most {
+        return bytes.len();
+    }
+    most as usize
 }
 
 fn first_of(bytes: &[u8], most: usize) -> &[u8]
