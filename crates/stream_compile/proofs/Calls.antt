@@ -1,5 +1,5 @@
 -- A call of an image's function is the call of the module's.
-use Rattle.std.proofs.Common.{◌≡◌, ◌≢◌, ℕ, Bool, true, false, List, [], ◌∷◌, map, length, replicate, Option, Some, None, refl, sym, ap, ◌∙◌, subst, inl, inr}
+use Rattle.std.proofs.Common.{◌≡◌, ◌≢◌, ℕ, ◌+◌, ◌*◌, ◌≤◌, arith, Bool, true, false, List, [], ◌∷◌, map, length, replicate, Option, Some, None, refl, sym, ap, ◌∙◌, subst, inl, inr}
 use Rattle.std.specs.Prelude.{not}
 use Rattle.std.specs.Str.{bytes_eq}
 use Rattle.std.proofs.lemmas.Bool.{cases_Bool}
@@ -19,15 +19,16 @@ use Rattle.image_format.specs.declared.image.Export.{Export}
 use Rattle.image_format.specs.ImageRun.{Ending, As, Fault, ImageRun, image_run}
 use Rattle.image_linker.specs.ImageOf.{image_of, export_of, offset_of}
 use Rattle.image_linker.specs.Same.{Same}
-use Rattle.simulation.specs.SameRuns.{SameRuns, BeginsWith, as_image}
+use Rattle.simulation.specs.SameRuns.{SameRuns, BeginsWith, IsOver, as_image}
 use Rattle.image_run.specs.declared.checks.NotRunnable.{NotRunnable}
 use Rattle.image_run.specs.declared.checks.NotRunnable.TheVariants.{UnknownImport, NoSuchExport, WrongArguments, Unlinkable}
 use Rattle.image_run.specs.Checks.{export_named, not_runnable, unfit, has_unknown_import}
 use Rattle.image_run.specs.Printing.{printing_run, replied}
 use Rattle.command_words.specs.declared.command.Call.{Call}
 use Rattle.command_words.specs.declared.peek.Peek.{Peek}
-use Rattle.stream_compile.specs.Texts.{Outcome, arguments_of, EndsAs, TellsImageRun, ChecksAndCalls, TellsEnd, TellsRun, ChecksAndRuns}
+use Rattle.stream_compile.specs.Texts.{Outcome, arguments_of, EndsAs, TellsImageRun, ChecksAndCalls, GoesOn, TellsEnd, TellsRun, ChecksAndRuns}
 use Rattle.stream_compile.specs.Running.{RunsAs}
+use Rattle.stream_compile.proofs.Lasting.{Lasts, image_stays}
 
 -- ---- exports
 
@@ -130,20 +131,41 @@ same_run r calls end is =
     let three : r.end ≡ end = cc in
     ap (λ (l : List HostCall). record r { calls = l }) one ∙ ap (λ (x : End). record { calls = calls; end = x }) three
 
+-- where an image goes on after its steps, so does the module at each weight that these were enough for
+module _ (runs : ℕ → module_runs.Run) (image : ℕ → ImageRun) (n : ℕ) (alike : SameRuns runs image) (stays : Lasts image) (going : (image n).end ≡ As Going) where
+  not_over : (k : ℕ) → 128 * k + 64 ≤ n → IsOver (runs k).end → ⊥
+  not_over k enough over =
+      let (j, short, same) = alike.ends k over in
+      let later : (image n).end ≡ As (runs k).end = stays j n (runs k).end (omega (arith, short, enough)) over (ap (λ (r : ImageRun). r.end) same) in
+      let both : As (runs k).end ≡ As Going = sym later ∙ going in
+      let is : (runs k).end ≡ Going = cc in
+      subst IsOver is over
+
+  goes_on : GoesOn n runs
+  goes_on k enough = by_end (runs k).end refl
+    where
+      by_end : (end : End) → (runs k).end ≡ end → (runs k).end ≡ Going
+      by_end (Returns values memory globals) is = absurd (not_over k enough (subst IsOver (sym is) tt))
+      by_end (Traps kind memory globals) is = absurd (not_over k enough (subst IsOver (sym is) tt))
+      by_end Stops is = absurd (not_over k enough (subst IsOver (sym is) tt))
+      by_end Going is = is
+      by_end Fails is = absurd (alike.never_fails k is)
+
 -- what an image's end tells of its module
-tells_end : (drill : Option ℕ) (peek : Option Peek) (runs : ℕ → module_runs.Run) (image : ℕ → ImageRun) (n : ℕ) (calls : List HostCall) (end : Ending) (o : Outcome) → SameRuns runs image → image n ≡ record { calls = calls; end = end } → EndsAs drill peek end o → TellsEnd drill peek calls end runs o
-tells_end drill peek runs image n calls (As (Returns values memory globals)) o alike is tells =
+tells_end : (drill : Option ℕ) (peek : Option Peek) (runs : ℕ → module_runs.Run) (image : ℕ → ImageRun) (n : ℕ) (calls : List HostCall) (end : Ending) (o : Outcome) → SameRuns runs image → Lasts image → image n ≡ record { calls = calls; end = end } → EndsAs drill peek end o → TellsEnd drill peek n calls end runs o
+tells_end drill peek runs image n calls (As (Returns values memory globals)) o alike stays is tells =
     let k = alike.ends_only n (Returns values memory globals) (ap (λ (r : ImageRun). r.end) is) tt in
     (k.0, same_run (runs k.0) calls (Returns values memory globals) (sym k.1 ∙ is), tells)
-tells_end drill peek runs image n calls (As (Traps kind memory globals)) o alike is tells =
+tells_end drill peek runs image n calls (As (Traps kind memory globals)) o alike stays is tells =
     let k = alike.ends_only n (Traps kind memory globals) (ap (λ (r : ImageRun). r.end) is) tt in
     (k.0, same_run (runs k.0) calls (Traps kind memory globals) (sym k.1 ∙ is), tells)
-tells_end drill peek runs image n calls (As Stops) o alike is tells = tells
-tells_end drill peek runs image n calls (As Going) o alike is tells =
-    let k = alike.calls_lead n (ap (λ (r : ImageRun). r.end) is) in
-    (k.0, subst (λ (l : List HostCall). BeginsWith (runs k.0).calls l) (ap (λ (r : ImageRun). r.calls) is) k.1, tells)
-tells_end drill peek runs image n calls (As Fails) o alike is tells = tells
-tells_end drill peek runs image n calls (Fault kind pc) o alike is tells = absurd (alike.never_faults n kind pc (ap (λ (r : ImageRun). r.end) is))
+tells_end drill peek runs image n calls (As Stops) o alike stays is tells = tells
+tells_end drill peek runs image n calls (As Going) o alike stays is tells =
+    let going = ap (λ (r : ImageRun). r.end) is in
+    let k = alike.calls_lead n going in
+    (k.0, subst (λ (l : List HostCall). BeginsWith (runs k.0).calls l) (ap (λ (r : ImageRun). r.calls) is) k.1, goes_on runs image n alike stays going, tells)
+tells_end drill peek runs image n calls (As Fails) o alike stays is tells = tells
+tells_end drill peek runs image n calls (Fault kind pc) o alike stays is tells = absurd (alike.never_faults n kind pc (ap (λ (r : ImageRun). r.end) is))
 
 tells_run : (drill : Option ℕ) (m : Module) (r : Call) (o : Outcome) → Same m (image_of m) → all_in_range (arguments_of r.arguments) ≡ true → not_runnable (image_of m) r.export (types_of_values (arguments_of r.arguments)) ≡ None
     → ChecksAndCalls drill None (image_of m) r o → TellsRun drill m r o
@@ -160,6 +182,7 @@ tells_run drill m r o same ranges passes (e, is, tells) =
       (
         here.0,
         tells_end drill r.peek (module_run m found.function arguments replies) (image_run i (offset_of m found.function) (Results m found.function) arguments replies) r.steps run.calls run.end here.0 alike
+            (image_stays i (offset_of m found.function) (Results m found.function) arguments replies)
             (sym (run_is i (offset_of m found.function) (Results m found.function) arguments r.steps)) here.1,
         here.2,
       ),

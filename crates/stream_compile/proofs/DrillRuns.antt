@@ -33,6 +33,7 @@ use Rattle.drill_laws.specs.Functions.{runner_type, sum_below}
 use Rattle.drill_laws.specs.Modules.{IsDrill}
 use Rattle.drill_laws.specs.Words.{words_of}
 use Rattle.drill_laws.proofs.Modules.{drills_are_modules, drills_run}
+use Rattle.stream_compile.proofs.Lasting.{image_stays}
 
 -- ---- the text keeps its limit
 
@@ -74,23 +75,6 @@ drill_type n m drill = ap type_or_empty drill.exported
 pub drill_runnable : (n : ℕ) (m : Module) → IsDrill n m → not_runnable (image_of m) (codes "run") [] ≡ None
 drill_runnable n m drill =
     rw (none_imported (context_of m.items) m.items drill.imported, drill.exports, drill.exported, drill.linkable) refl
-
--- ---- a run of an image that is over stays over
-
-on_more : (x : Stepping) (go more : Running → Stepping) (e : End) → IsOver e → ((t : Running) → (run_of (go t)).end ≡ As e → (run_of (more t)).end ≡ As e) → (run_of (on x go)).end ≡ As e → (run_of (on x more)).end ≡ As e
-on_more (To t) go more e over then h = then t h
-on_more (Ended r end) go more e over then h = h
-on_more (Faulted r kind pc) go more e over then h = h
-on_more (Waiting r) go more e over then h = h
-
-steps_stay : (i : Image) (few many : ℕ) (r : Running) (e : End) → few ≤ many → IsOver e → (run_of (steps i few r)).end ≡ As e → (run_of (steps i many r)).end ≡ As e
-steps_stay i zero many r e le over h = let same : Going ≡ e = cc in absurd (subst IsOver (sym same) over)
-steps_stay i (suc few) zero r e le over h = absurd (omega (arith, le))
-steps_stay i (suc few) (suc many) r e le over h = on_more (next i r) (steps i few) (steps i many) e over (λ t g. steps_stay i few many t e (omega (arith, le)) over g) h
-
-module _ (i : Image) (offset : ℕ) (results : List ValType) (arguments : List Value) (replies : List Reply) where
-  image_stays : (few many : ℕ) (e : End) → few ≤ many → IsOver e → (image_run i offset results arguments replies few).end ≡ As e → (image_run i offset results arguments replies many).end ≡ As e
-  image_stays few many e le over h = steps_stay i few many _ e le over h
 
 -- ---- the sum is returned, or the steps are spent, which so many aren't
 

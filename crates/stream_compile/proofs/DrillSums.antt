@@ -57,13 +57,13 @@ sum_line n functions most counted =
     let sum : signed I32 (sum_below n) ≡ pos (sum_below n) = to_z_pos w32 (sum_below n) (sum_small n most) in
     rw (sum, counted) refl
 
-line_told : (d : Drill) (functions : ℕ) (calls : List HostCall) (end : Ending) (runs : ℕ → module_runs.Run) (o : Outcome) → d.count ≤ 50000 → functions ≡ d.count + 1 → DrillEnds d.count d.steps end → TellsEnd (Some functions) None calls end runs o → TellsSum d o
+line_told : (d : Drill) (functions : ℕ) (calls : List HostCall) (end : Ending) (runs : ℕ → module_runs.Run) (o : Outcome) → d.count ≤ 50000 → functions ≡ d.count + 1 → DrillEnds d.count d.steps end → TellsEnd (Some functions) None d.steps calls end runs o → TellsSum d o
 line_told d functions calls end runs o most counted (inl (memory, globals, is)) tells =
-    let told : TellsEnd (Some functions) None calls (As (Returns (value I32 (sum_below d.count) ∷ []) memory globals)) runs o = subst (λ (e : Ending). TellsEnd (Some functions) None calls e runs o) is tells in
+    let told : TellsEnd (Some functions) None d.steps calls (As (Returns (value I32 (sum_below d.count) ∷ []) memory globals)) runs o = subst (λ (e : Ending). TellsEnd (Some functions) None d.steps calls e runs o) is tells in
     inl (told.2 ∙ sum_line d.count functions most counted)
 line_told d functions calls end runs o most counted (inr (few, is)) tells =
-    let told : TellsEnd (Some functions) None calls (As Going) runs o = subst (λ (e : Ending). TellsEnd (Some functions) None calls e runs o) is tells in
-    inr (few, told.2)
+    let told : TellsEnd (Some functions) None d.steps calls (As Going) runs o = subst (λ (e : Ending). TellsEnd (Some functions) None d.steps calls e runs o) is tells in
+    inr (few, told.3)
 
 -- no imports print nothing
 nothing_printed : (calls : List HostCall) → printed [] calls ≡ []
@@ -86,7 +86,7 @@ sum_told d m o most is same tells =
     let steps = d.steps in
     let functions = declared_count m.items in
     let drill = is_drill n m most is in
-    let Runs : ℕ → Type 0 = λ f. TellsModuleRun (Some functions) None i.imports (printing_run i (offset_of m f) (Results m f) [] steps) (printing_module_run m f [] steps) o in
+    let Runs : ℕ → Type 0 = λ f. TellsModuleRun (Some functions) None steps i.imports (printing_run i (offset_of m f) (Results m f) [] steps) (printing_module_run m f [] steps) o in
     let (f, found, ran) = subst (λ (w : Option NotRunnable). ChecksAndRuns (Some functions) w m (drill_call steps) o) (drill_runnable n m drill) tells in
     let there : named (codes "run") (exports_of m.items) ≡ Some n = ap (named (codes "run")) drill.exports in
     let told : Runs n = subst Runs (some_one f n (sym found ∙ there)) ran in

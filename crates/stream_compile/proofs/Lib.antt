@@ -15,6 +15,7 @@ pub mod Settling
 pub mod Pumping
 pub mod Once
 pub mod Answering
+pub mod Lasting
 pub mod Calls
 pub mod ImageCalls
 pub mod Printed

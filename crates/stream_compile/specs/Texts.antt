@@ -1,5 +1,5 @@
 -- What the program answers and writes.
-use Rattle.std.specs.Prelude.{◌≡◌, ◌<◌, ◌⊎◌, ◌+◌, ◌*◌, ◌/◌, ◌%◌, ℕ, ℤ, pos, Bool, true, false, if◌then◌else◌, nat_lt, nat_le, List, [], ◌∷◌, ◌++◌, length, take, drop, replicate, Option, None, Some, codes, String, string_bytes, map, Result, Ok, Err}
+use Rattle.std.specs.Prelude.{◌≡◌, ◌<◌, ◌≤◌, ◌⊎◌, ◌+◌, ◌*◌, ◌/◌, ◌%◌, ℕ, ℤ, pos, Bool, true, false, if◌then◌else◌, nat_lt, nat_le, List, [], ◌∷◌, ◌++◌, length, take, drop, replicate, Option, None, Some, codes, String, string_bytes, map, Result, Ok, Err}
 use Rattle.std.specs.Fmt.{decimal, signed_decimal}
 use Rattle.std.specs.List.{flat_map}
 use Rattle.std.specs.Global.{Global}
@@ -195,20 +195,24 @@ ChecksAndCalls drill None i c o =
 abbrev pub TellsImageCall : (drill : Option ℕ) → Given → Image → Outcome → Type 0
 TellsImageCall drill c i o = ChecksAndCalls drill (not_runnable i c.export (types_of_values (arguments_of c.arguments))) i c o
 
--- The lines of a run of a module whose image made these calls and ended so within its steps. The same calls and the same end are
--- those of the module's run by the reduction rules, for some weight; or the image goes on after all its steps, and its calls are a
--- front of the module's for some weight.
-abbrev pub TellsEnd : (drill : Option ℕ) → Option Peek → List HostCall → Ending → (ℕ → module_runs.Run) → Outcome → Type 0
-TellsEnd drill peek calls (As (Returns values memory globals)) runs o = (k : ℕ) × (runs k ≡ record { calls = calls; end = Returns values memory globals }) × (o ≡ showing peek memory (returned_by drill values))
-TellsEnd drill peek calls (As (Traps kind memory globals)) runs o = (k : ℕ) × (runs k ≡ record { calls = calls; end = Traps kind memory globals }) × (o ≡ showing peek memory (trapped kind))
-TellsEnd drill peek calls (As Going) runs o = (k : ℕ) × BeginsWith (runs k).calls calls × (o ≡ steps_spent)
-TellsEnd drill peek calls (As Stops) runs o = ⊥
-TellsEnd drill peek calls (As Fails) runs o = ⊥
-TellsEnd drill peek calls (Fault kind pc) runs o = ⊥
+-- A module's run goes on at each weight that so many steps are enough for: 128 for each unit of weight, and 64 more.
+abbrev pub GoesOn : (steps : ℕ) → (ℕ → module_runs.Run) → Type 0
+GoesOn steps runs = (k : ℕ) → 128 * k + 64 ≤ steps → (runs k).end ≡ Going
+
+-- The lines of a run of a module whose image made these calls and ended so within these steps. The same calls and the same end are
+-- those of the module's run by the reduction rules, for some weight; or the image goes on after all its steps, its calls are a front
+-- of the module's for some weight, and the module's run goes on at each weight that the steps were enough for.
+abbrev pub TellsEnd : (drill : Option ℕ) → Option Peek → (steps : ℕ) → List HostCall → Ending → (ℕ → module_runs.Run) → Outcome → Type 0
+TellsEnd drill peek steps calls (As (Returns values memory globals)) runs o = (k : ℕ) × (runs k ≡ record { calls = calls; end = Returns values memory globals }) × (o ≡ showing peek memory (returned_by drill values))
+TellsEnd drill peek steps calls (As (Traps kind memory globals)) runs o = (k : ℕ) × (runs k ≡ record { calls = calls; end = Traps kind memory globals }) × (o ≡ showing peek memory (trapped kind))
+TellsEnd drill peek steps calls (As Going) runs o = (k : ℕ) × BeginsWith (runs k).calls calls × GoesOn steps runs × (o ≡ steps_spent)
+TellsEnd drill peek steps calls (As Stops) runs o = ⊥
+TellsEnd drill peek steps calls (As Fails) runs o = ⊥
+TellsEnd drill peek steps calls (Fault kind pc) runs o = ⊥
 
 -- what its calls print, and its lines
-abbrev pub TellsModuleRun : (drill : Option ℕ) → Option Peek → List Import → ImageRun → (ℕ → module_runs.Run) → Outcome → Type 0
-TellsModuleRun drill peek imports r runs o = (line : Outcome) × TellsEnd drill peek r.calls r.end runs line × (o ≡ behind (printed imports r.calls) line)
+abbrev pub TellsModuleRun : (drill : Option ℕ) → Option Peek → (steps : ℕ) → List Import → ImageRun → (ℕ → module_runs.Run) → Outcome → Type 0
+TellsModuleRun drill peek steps imports r runs o = (line : Outcome) × TellsEnd drill peek steps r.calls r.end runs line × (o ≡ behind (printed imports r.calls) line)
 
 -- the run of a module's function where the calls of its imports return, and change no memory
 abbrev pub printing_module_run : Module → (function : ℕ) → List Value → (steps weight : ℕ) → module_runs.Run
@@ -219,7 +223,7 @@ abbrev pub TellsRun : (drill : Option ℕ) → Module → Given → Outcome → 
 TellsRun drill m c o =
     let arguments = arguments_of c.arguments in
     (f : ℕ) × (named c.export (exports_of m.items) ≡ Some f)
-    × TellsModuleRun drill c.peek (image_of m).imports (printing_run (image_of m) (offset_of m f) (type_of_function (context_of m.items) f).results arguments c.steps)
+    × TellsModuleRun drill c.peek c.steps (image_of m).imports (printing_run (image_of m) (offset_of m f) (type_of_function (context_of m.items) f).results arguments c.steps)
     (printing_module_run m f arguments c.steps) o
 
 abbrev pub ChecksAndRuns : (drill : Option ℕ) → Option NotRunnable → Module → Given → Outcome → Type 0
