@@ -1,7 +1,6 @@
 //! What is done with one ticket.
 ghost use Rattle.std.specs.Prelude.{true, ℕ, ◌≡◌, ◌<◌, ◌^◌, ◌↔◌, ◌++◌, ◌∷◌, [], All, IsTrue, IfOk, IfSome, OnOk, OnErr, length};
 ghost use Rattle.std.specs.Arc.{arc_value};
-ghost use Rattle.wasm_laws.specs.Kept.{TypesAreSmall};
 ghost use Rattle.cancel_drain.specs.Views.{times};
 ghost use Rattle.batch_pool.specs.Low.{IsLow};
 ghost use Rattle.batch_pool.specs.Working.{IsRowOf, FitsBody, Fits, Grows, IsServed};
@@ -98,7 +97,6 @@ fn run(
 ) -> Result<Row, AllocError>
     requires table { seat.old.table ≡ board.now.table }
     requires fits { All (FitsBody context.now (length cells.now)) (arc_value batch).bodies }
-    requires types { TypesAreSmall context.now.types }
     requires low { IsLow (arc_value batch) }
     requires running { 0 < times (arc_value batch).number (arc_value batch).start seat.old.view.running }
     ensures table { seat.new.table ≡ seat.old.table }
@@ -128,7 +126,6 @@ pub fn serve<G: Gate>(
     ticket: Ticket,
 ) -> Result<(), AllocError>
     requires table { seat.old.table ≡ board.now.table }
-    requires types { TypesAreSmall context.now.types }
     ensures table { seat.new.table ≡ seat.old.table }
     ensures grows { Grows context.now cells.now seat.old.view seat.new.view rows.old.items rows.new.items }
     ensures running { OnOk result (seat.new.view.running ≡ seat.old.view.running) }

@@ -1,6 +1,5 @@
 //! Workers that serve the tickets of a pool.
 ghost use Rattle.std.specs.Prelude.{◌≡◌, IfOk};
-ghost use Rattle.wasm_laws.specs.Kept.{TypesAreSmall};
 
 use crate::{Feeder, Pool, Ticket, Worked, work};
 use body_cutter::{Batch, Bodies, Body, BodyBytes};
@@ -52,9 +51,7 @@ fn put(feeder: &mut Feeder, batch: Arc<Batch, Global>) -> bool {
 }
 
 // A module of two functions, which give a number of 32 bits.
-fn two_functions(alloc: Global) -> Result<Context, AddStop>
-    ensures { IfOk result (λ c. TypesAreSmall c.types) }
-{
+fn two_functions(alloc: Global) -> Result<Context, AddStop> {
     let mut builder = ContextBuilder::new(alloc);
     builder.add(&Item::Signature {
         form: 11,
@@ -159,13 +156,11 @@ fn batches_run_beside_each_other(rt: HostRuntime) -> Result<(), Fail> {
         r,
         move || -> Worked
             requires table { seat.table ≡ b.now.table }
-            requires types { TypesAreSmall x.now.types }
             ensures table { result.seat.table ≡ seat.table }
             ensures parts { result.seat.view.parts ≡ seat.view.parts }
         { work(r, alloc, &mut one, b, seat, c, x, g) },
         move || -> Worked
             requires table { other.table ≡ b.now.table }
-            requires types { TypesAreSmall x.now.types }
             ensures table { result.seat.table ≡ other.table }
             ensures parts { result.seat.view.parts ≡ other.view.parts }
         { work(r, alloc, &mut two, b, other, c, x, g) },

@@ -7,7 +7,7 @@ ghost use Rattle.wasm_defs.specs.Instances.{first_minimum};
 ghost use Rattle.wasm_defs.specs.Limits.{max_body, max_locals};
 ghost use Rattle.wasm_defs.specs.Typing.{Context as ContextGiven, function_type};
 ghost use Rattle.index_spaces.specs.Spaces.{context_in};
-ghost use Rattle.wasm_laws.specs.Kept.{TypeIsSmall, TypesAreSmall};
+ghost use Rattle.wasm_laws.specs.Kept.{TypeIsSmall};
 ghost use Rattle.wasm_laws.specs.Sections.{AreBytes};
 ghost use Rattle.body_validator.specs.Checking.{start_checker};
 ghost use Rattle.body_compiler.specs.Compiling.{Compiles};
@@ -92,11 +92,11 @@ pub fn compile(
     offset: u64,
 ) -> Result<Code, BodyStop>
     requires function { IsSome (function_type (context_in context.now) index) }
-    requires types { TypesAreSmall (context_in context.now).types }
     requires most { length bytes.now ≤ max_body }
     requires fits { offset + length bytes.now < 2 ^ 63 }
     ensures { Compiles (first_minimum context.now.tables) (context_in context.now) index (body_read offset bytes.now) result }
 {
+    context.keeps_limits();
     let len = bytes.len() as u64;
     let last = offset + len.saturating_sub(1);
     let mut fields = Fields::new(bytes, offset, offset + len + 1);

@@ -1,4 +1,4 @@
-ghost use Rattle.std.specs.Prelude.{◌≡◌, pos};
+ghost use Rattle.std.specs.Prelude.{◌≡◌, ◌≤◌, length, pos};
 
 use crate::{Check, Shape, TokenStop};
 use index_spaces::{AddStop, Context, ContextBuilder};
@@ -61,7 +61,10 @@ fn add_function(
     index: u32,
     params: &[ValType],
     results: &[ValType],
-) -> Result<(), AddStop> {
+) -> Result<(), AddStop>
+    requires params { length params.now ≤ 2 }
+    requires results { length results.now ≤ 1 }
+{
     let ty = FuncType {
         params: ValTypes::new(Vec::from_slice(alloc, params)?),
         results: ValTypes::new(Vec::from_slice(alloc, results)?),

@@ -3,3 +3,4 @@ pub mod EntriesOfItems
 pub mod LikeLaws
 pub mod TypeSpaces
 pub mod Lookups
+pub mod SmallTypes

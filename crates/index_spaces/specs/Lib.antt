@@ -1,4 +1,5 @@
 pub mod Entries
 pub mod EntryLaws
+pub mod ItemLimits
 pub mod Likes
 pub mod Spaces

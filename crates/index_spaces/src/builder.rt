@@ -4,6 +4,7 @@ ghost use Rattle.std.specs.Prelude.{◌≡◌, [], true, OnOk, OnErr, IfOk, Some
 ghost use Rattle.std.specs.Option.{option_or};
 ghost use Rattle.wasm_defs.specs.Faults.{may_start, started, StartsRight, IsStartFault};
 ghost use Rattle.wasm_defs.specs.Instances.{i32_value};
+ghost use Rattle.index_spaces.specs.ItemLimits.{HasSmallType};
 ghost use Rattle.index_spaces.specs.Spaces.{context_in, spaces_of, with_item};
 ghost use Rattle.wasm_defs.specs.declared.fault.Refusal.{Refusal as Refused};
 
@@ -152,11 +153,13 @@ impl ContextBuilder {
         }
     }
 
-    /// Adds an item, which stands behind those that were added before. The code section's count changes nothing.
+    /// Adds an item, which stands behind those that were added before. The code section's count changes nothing. A type has at most
+    /// 1,000 parameters and at most one result, as those of the items that were read of a module do.
     ///
     /// `Refused` comes exactly where the item names a start function that isn't among the functions so far, or has parameters or
     /// results. Behind an `Err` the context is as before.
     pub fn add(&mut self, item: &Item) -> Result<(), AddStop>
+        requires { HasSmallType item.now }
         ensures ok { OnOk result (self.new ≡ with_item self.old item.now) }
         ensures starts { OnOk result (StartsRight (context_in self.old) (started item.now)) }
         ensures refused { (r : Refused) → result ≡ Err (AddStop.Refused r) → IsStartFault (context_in self.old) (started item.now) r }

@@ -3,6 +3,7 @@
 ghost use Rattle.std.specs.Prelude.{◌≡◌, ◌^◌, ◌<◌, ◌↔◌, [], length, IsTrue, IsSome, is_some, Some, OnOk, OnErr, slice_get};
 ghost use Rattle.wasm_defs.specs.Typing.{function_type};
 ghost use Rattle.wasm_defs.specs.Context.{like};
+ghost use Rattle.wasm_laws.specs.Kept.{TypeIsSmall, TypesAreSmall};
 ghost use Rattle.index_spaces.specs.Spaces.{context_in, spaces_of, with_type, with_import, with_function, with_table, with_memory, with_global, with_export, with_elements, with_segment, with_start};
 
 use crate::entries::{DataRow, ElementRow, Export, Import};
@@ -13,7 +14,8 @@ use wasm_defs::{FuncType, GlobalType, Limits};
 
 /// A module's index spaces: its types, and what its functions may name of functions, tables, memories and globals, imported
 /// ones first (Core 3.1). An index is the place in its space, from 0 on. And what the module imports and exports, what its
-/// globals, its table and its memory begin with, and its start function (Core 2.5).
+/// globals, its table and its memory begin with, and its start function (Core 2.5). Each type has at most 1,000 parameters and at
+/// most one result (Core 3.2.2).
 #[derive(Drop)]
 pub struct Context {
     types: TypeSpace,
@@ -31,6 +33,7 @@ pub struct Context {
 
 impl Model for Context {
     ghost use Rattle.std.specs.Prelude.{◌≡◌, ◌-◌, ◌≤◌, length};
+    ghost use Rattle.wasm_laws.specs.Kept.{TypesAreSmall};
     ghost use Rattle.index_spaces.specs.Spaces.{Spaces};
 
     ghost Value = { Spaces };
@@ -51,7 +54,7 @@ impl Model for Context {
       start = c.start;
     } };
 
-    ghost invariant = { λ c. (length c.imports.items ≤ length c.functions.items) × (length c.initials.items ≡ length c.globals.items) };
+    ghost invariant = { λ c. (length c.imports.items ≤ length c.functions.items) × (length c.initials.items ≡ length c.globals.items) × TypesAreSmall c.types };
 }
 
 impl Context {
@@ -75,6 +78,7 @@ impl Context {
     }
 
     pub(crate) fn add_type(&mut self, ty: FuncType) -> Result<(), AllocError>
+        requires { TypeIsSmall ty }
         ensures ok { OnOk result (self.new ≡ with_type self.old ty) }
         ensures err { OnErr result (self.new ≡ self.old) }
     {
@@ -157,6 +161,13 @@ impl Context {
         ensures { self.new ≡ with_start self.old index }
     {
         self.start = self.start.or(Some(index));
+    }
+
+    /// Each type has at most 1,000 parameters and at most one result (Core 3.2.2).
+    pub fn keeps_limits(&self)
+        ensures { TypesAreSmall self.now.types }
+    {
+        let _types = &self.types;
     }
 
     /// The types by their indices (Core 2.5.2).

@@ -1,3 +1,6 @@
+ghost use Rattle.std.specs.Prelude.{◌≤◌, IfOk, length};
+ghost use Rattle.index_spaces.specs.ItemLimits.{HasSmallType};
+
 use crate::{AddStop, Context, ContextBuilder};
 use std::alloc::{AllocError, Global};
 use std::test::Fail;
@@ -14,7 +17,11 @@ fn name(alloc: Global, text: &str) -> Result<Name, AllocError> {
     Ok(Name::new(Vec::from_slice(alloc, text.as_bytes())?))
 }
 
-fn signature(alloc: Global, params: &[ValType], results: &[ValType]) -> Result<Item, AllocError> {
+fn signature(alloc: Global, params: &[ValType], results: &[ValType]) -> Result<Item, AllocError>
+    requires params { length params.now ≤ 1 }
+    requires results { length results.now ≤ 1 }
+    ensures { IfOk result HasSmallType }
+{
     let params = types(alloc, params)?;
     let results = types(alloc, results)?;
     Ok(Item::Signature {
@@ -33,7 +40,9 @@ fn constant(value: i64) -> Constant {
     }
 }
 
-fn element(alloc: Global, place: i64, functions: &[u32]) -> Result<Item, AllocError> {
+fn element(alloc: Global, place: i64, functions: &[u32]) -> Result<Item, AllocError>
+    ensures { IfOk result HasSmallType }
+{
     Ok(Item::Element {
         table: (70, 0),
         place: constant(place),
@@ -41,7 +50,9 @@ fn element(alloc: Global, place: i64, functions: &[u32]) -> Result<Item, AllocEr
     })
 }
 
-fn segment(alloc: Global, place: i64, bytes: &[u8]) -> Result<Item, AllocError> {
+fn segment(alloc: Global, place: i64, bytes: &[u8]) -> Result<Item, AllocError>
+    ensures { IfOk result HasSmallType }
+{
     Ok(Item::Segment {
         memory: (90, 0),
         place: constant(place),
@@ -49,7 +60,9 @@ fn segment(alloc: Global, place: i64, bytes: &[u8]) -> Result<Item, AllocError> 
     })
 }
 
-fn exported(alloc: Global, text: &str, kind: Extern, index: u32) -> Result<Item, AllocError> {
+fn exported(alloc: Global, text: &str, kind: Extern, index: u32) -> Result<Item, AllocError>
+    ensures { IfOk result HasSmallType }
+{
     Ok(Item::Exported {
         name: (80, name(alloc, text)?),
         kind: (83, kind),

@@ -1,6 +1,5 @@
 //! Starts workers, feeds them, and gathers what they made.
 ghost use Rattle.std.specs.Prelude.{◌≡◌, ◌<◌, ◌+◌, ◌-◌, ◌^◌, [], All, length, vec_len, IfSome};
-ghost use Rattle.wasm_laws.specs.Kept.{TypesAreSmall};
 ghost use Rattle.cancel_drain.specs.Handles.{Sitter};
 ghost use Rattle.pool_scope.specs.Gathering.{Gathers, IsWorked, IsFresh, AreOf};
 
@@ -93,7 +92,6 @@ pub fn run_all<R: Threads + Wait + Sync, G: Gate>(
     tickets: Vec<Ticket>,
 ) -> Option<Worked>
     requires table { seat.table ≡ board.now.table }
-    requires types { TypesAreSmall context.now.types }
     requires parts { length hands.items < seat.view.parts }
     ensures table { IfSome result (λ w. w.seat.table ≡ seat.table) }
     ensures parts { IfSome result (λ w. w.seat.view.parts ≡ seat.view.parts) }
@@ -107,7 +105,6 @@ pub fn run_all<R: Threads + Wait + Sync, G: Gate>(
         rt,
         |scope| -> Option<Worked>
             requires table { seat.table ≡ board.now.table }
-            requires types { TypesAreSmall context.now.types }
             requires parts { (length hands.items < seat.view.parts) × (seat.view.parts < 2 ^ 64) }
             ensures table { IfSome result (λ w. w.seat.table ≡ seat.table) }
             ensures parts { IfSome result (λ w. w.seat.view.parts ≡ seat.view.parts) }
@@ -128,7 +125,7 @@ pub fn run_all<R: Threads + Wait + Sync, G: Gate>(
                 match scope.spawn_with(
                     promise,
                     move || -> Worked
-                        requires { (part.table ≡ board.now.table) × TypesAreSmall context.now.types }
+                        requires { part.table ≡ board.now.table }
                         ensures { IsWorked context.entry.now cells.entry.now part result }
                     {
                         labour_at(

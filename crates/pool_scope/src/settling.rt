@@ -1,6 +1,5 @@
 //! The end: the thread that fed the workers tries each batch itself, and closes the board.
 ghost use Rattle.std.specs.Prelude.{◌≡◌, ◌<◌, ℕ, [], true, length, IfSome, OnOk, OnErr};
-ghost use Rattle.wasm_laws.specs.Kept.{TypesAreSmall};
 ghost use Rattle.batch_pool.specs.Working.{Grows, Fits};
 ghost use Rattle.cancel_drain.specs.Views.{publishes, IsAbove};
 ghost use Rattle.cancel_drain.specs.Closing.{IsTried, IsClosed, IsSettled};
@@ -53,7 +52,6 @@ fn try_all<G: Gate>(
     kept: Vec<Ticket>,
 ) -> Option<()>
     requires table { seat.old.table ≡ board.now.table }
-    requires types { TypesAreSmall context.now.types }
     requires feeder { seat.old.view.feeder ≡ true }
     requires kept { AreKept context.now board.now.functions (length cells.now) seat.old.view.published kept.items }
     ensures table { seat.new.table ≡ seat.old.table }
@@ -83,7 +81,6 @@ pub fn settle<G: Gate>(
     kept: Vec<Ticket>,
 ) -> Option<Closed>
     requires table { seat.table ≡ board.table }
-    requires types { TypesAreSmall context.now.types }
     requires seat { (seat.view.feeder ≡ true) × (seat.view.running ≡ []) × (seat.view.parts ≡ board.seats) }
     requires kept { AreKept context.now board.functions (length cells.now) seat.view.published kept.items }
     ensures { IfSome result (λ closed. (w : View) × Grows context.now cells.now seat.view w rows.old.items rows.new.items

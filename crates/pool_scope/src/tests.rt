@@ -1,7 +1,6 @@
 //! Workers in threads, and the caller behind them.
 ghost use Rattle.std.specs.Prelude.{◌≡◌, ◌+◌, ◌<◌, true, [], length, IfOk, OnOk};
 ghost use Rattle.cancel_drain.specs.Views.{first_view};
-ghost use Rattle.wasm_laws.specs.Kept.{TypesAreSmall};
 ghost use Rattle.pool_scope.specs.Settling.{AreKept};
 
 use crate::{keep, run_all, settle};
@@ -44,9 +43,7 @@ fn ticket(alloc: Global, number: u32) -> Result<Ticket, AllocError> {
 }
 
 // A module of a function that gives a number of 32 bits.
-fn one_function(alloc: Global) -> Result<Context, AddStop>
-    ensures { IfOk result (λ c. TypesAreSmall c.types) }
-{
+fn one_function(alloc: Global) -> Result<Context, AddStop> {
     let mut builder = ContextBuilder::new(alloc);
     builder.add(&Item::Signature {
         form: 11,

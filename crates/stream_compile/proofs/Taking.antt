@@ -1,21 +1,22 @@
 -- What taking a part comes to.
-use Rattle.std.proofs.Common.{◌≡◌, ◌≤◌, ◌+◌, inl, inr, ℕ, List, map, length, Result, Ok, Err, refl, sym, ap, ◌∙◌, subst, arith}
+use Rattle.std.proofs.Common.{◌≡◌, ◌≤◌, ◌+◌, inl, inr, ℕ, List, [], ◌∷◌, ◌++◌, map, length, Result, Ok, Err, refl, sym, ap, ◌∙◌, subst, arith}
 use Rattle.std.proofs.lemmas.List.{length-map}
 use Rattle.rv_isa.specs.Words.{word_of}
 use Rattle.rv_isa.specs.declared.compiled.Code.{Code}
 use Rattle.wasm_defs.specs.declared.item.Item.{Item}
-use Rattle.wasm_defs.specs.Typing.{Context}
-use Rattle.wasm_laws.specs.Kept.{TypeIsSmall, TypesAreSmall}
-use Rattle.wasm_laws.proofs.Behind.{bodies_stand_behind}
-use Rattle.wasm_laws.proofs.Exports.{types_are_small, function_is_small}
+use Rattle.wasm_defs.specs.declared.item.Item.TheVariants.{Signature}
+use Rattle.wasm_laws.specs.Kept.{TypesAreSmall}
+use Rattle.wasm_laws.proofs.Exports.{types_are_small}
+use Rattle.wasm_laws.proofs.PartLists.{items_of-append}
 use Rattle.wasm_defs.specs.Trees.{Seq}
 use Rattle.wasm_defs.specs.Bodies.{BodyRead, body_read}
-use Rattle.wasm_defs.specs.Context.{context_of, type_of_function}
+use Rattle.wasm_defs.specs.Context.{context_of, type_of_function, types_of}
 use Rattle.wasm_defs.specs.Outside.{Body, Run, Part, after_part}
 use Rattle.wasm_defs.specs.Outside as outside
 use Rattle.wasm_defs.specs.Faults.{IsValidCode, read_of, context_at, items_of, bodies_of}
 use Rattle.frame_layout.specs.Templates.{Around}
 use Rattle.frame_layout.specs.Functions.{no_distance, function_code}
+use Rattle.index_spaces.specs.ItemLimits.{HasSmallType}
 use Rattle.index_spaces.specs.Spaces.{Spaces, spaces_of, context_in}
 use Rattle.body_compiler.specs.declared.code.BodyStop.{BodyStop}
 use Rattle.body_compiler.specs.declared.code.BodyStop.TheVariants as body
@@ -97,12 +98,17 @@ module _ (bytes : List ℕ) (left : Run) (spaces : Spaces) (codes : Coding) (b :
 
 -- ---- a part can be taken
 
--- the types are small
-small_types : (bytes : List ℕ) (left : Run) (spaces : Spaces) (bodies : ℕ) (b : GivenBody) → IsJudged bytes (after_part (outside.Coded (given_body b)) left) spaces bodies → TypesAreSmall (context_in spaces).types
-small_types bytes left spaces bodies b j =
-    let behind = bodies_stand_behind bytes j.front (given_body b) left.parts j.parts in
-    let front : TypesAreSmall (context_of (items_of j.front)).types = subst (λ (c : Context). TypesAreSmall c.types) behind.same.context (types_are_small bytes) in
-    subst (λ (s : Spaces). TypesAreSmall (context_in s).types) (sym j.spaces_are) front
+-- a type that an item lists is small
+one_is_small : (front : List Item) (x : Item) (back : List Item) → TypesAreSmall (types_of (front ++ x ∷ back)) → HasSmallType x
+one_is_small [] (Signature form params results ty) back h = h.0
+one_is_small [] _ back h = tt
+one_is_small (Signature form params results ty ∷ front) x back h = one_is_small front x back h.1
+one_is_small (_ ∷ front) x back h = one_is_small front x back h
+
+pub item_is_small : (bytes : List ℕ) (left : Run) (spaces : Spaces) (bodies : ℕ) (x : Item) → IsJudged bytes (after_part (outside.Listed x) left) spaces bodies → HasSmallType x
+item_is_small bytes left spaces bodies x j =
+    let e = ap items_of j.parts ∙ items_of-append j.front (outside.Listed x ∷ left.parts) in
+    one_is_small (items_of j.front) x (items_of left.parts) (subst (λ (items : List Item). TypesAreSmall (types_of items)) e (types_are_small bytes))
 
 pub can_take : (bytes : List ℕ) (left : Run) (spaces : Spaces) (codes : Coding) (b : GivenBody) → length bytes ≤ 67108869
     → IsJudging bytes (after_part (outside.Coded (given_body b)) left) spaces codes → CanTakeNext spaces codes b
@@ -112,7 +118,7 @@ can_take bytes left spaces codes b few j =
     let k = few_bodies bytes next spaces codes.count j.judged in
     let i = few_imports bytes next spaces codes.count j.judged in
     let stands = (around_body first_section (length bytes) j.judged.front (given_body b) left.parts (rw j.judged.parts at (parts_in_module bytes))).1 in
-    (record { typed = typed_there bytes left spaces codes.count (given_body b) j.judged; few = omega arith; index = omega arith; types = small_types bytes left spaces codes.count b j.judged; most = stands.most; offset = omega (arith, stands.before) }, omega arith, omega (arith, j.fits))
+    (record { typed = typed_there bytes left spaces codes.count (given_body b) j.judged; few = omega arith; index = omega arith; most = stands.most; offset = omega (arith, stands.before) }, omega arith, omega (arith, j.fits))
 
 -- ---- the whole
 

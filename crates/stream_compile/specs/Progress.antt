@@ -4,7 +4,6 @@ use Rattle.rv_isa.specs.declared.compiled.Code.{Code}
 use Rattle.wasm_defs.specs.declared.fault.Refusal.{Refusal}
 use Rattle.wasm_defs.specs.declared.item.Item.{Item}
 use Rattle.wasm_defs.specs.Limits.{max_body, max_text}
-use Rattle.wasm_laws.specs.Kept.{TypesAreSmall}
 use Rattle.wasm_defs.specs.Typing.{Context, function_type}
 use Rattle.wasm_defs.specs.Trees.{Seq}
 use Rattle.wasm_defs.specs.Context.{body_context, type_of_function}
@@ -63,13 +62,12 @@ body_of_spaces s k b =
     let c = context_in s in
     body_context c (type_of_function c (s.imported + k)) (read_of b).groups
 
--- the function of a body, before which so many bodies stand, is there with its type, and types and offsets are small
+-- the function of a body, before which so many bodies stand, is there with its type, and offsets are small
 pub record CanTake (spaces : Spaces) (bodies : ℕ) (b : GivenBody) : Type 0 where
   pub typed : IsSome (function_type (context_in spaces) (spaces.imported + bodies))
   pub few : length spaces.functions < 2 ^ 32
   pub index : spaces.imported + bodies < 2 ^ 32
   pub offset : b.first + length b.bytes < 2 ^ 63
-  pub types : TypesAreSmall (context_in spaces).types
   pub most : length b.bytes ≤ max_body
 
 -- the next one can be taken, and its code can be added

@@ -1,8 +1,13 @@
 use Rattle.std.proofs.Common.{refl, subst}
 use Rattle.wasm_defs.specs.declared.item.Item.{Item}
+use Rattle.section_reader.specs.FrontOnward.{onward_left}
 use Rattle.stream_compile.specs.Streaming.{IsTaking}
 use Rattle.stream_compile.proofs.Streaming.{going_reading, going_cutting, item_refused, item_reading, item_cutting, bodies_cut, not_bodies, may_begin}
+use Rattle.stream_compile.proofs.Taking.{item_is_small}
 use Rattle.stream_compile.proofs.compilation.Compilation.take_item.Goals as goal
+
+pub add-requires : goal.add-requires
+add-requires c = item_is_small c.requires.0 (onward_left c.args.self.now.front c.requires.1) c.args.self.now.spaces c.args.self.now.codes.count c.args.item.now c.requires.2.judging.judged
 
 pub returns-in-Err-Refused-clause-takes : goal.returns-in-Err-Refused-clause-takes
 returns-in-Err-Refused-clause-takes c = λ bytes more t.
