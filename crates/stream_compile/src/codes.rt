@@ -4,6 +4,7 @@ ghost use Rattle.std.specs.Prelude.{◌≡◌, ◌<◌, ◌-◌, ◌+◌, ◌^�
 ghost use Rattle.image_linker.specs.Bodies.{codes_of};
 ghost use Rattle.stream_compile.specs.Codes.{no_code, with_code};
 
+use body_compiler::fitted;
 use image_linker::BodyCode;
 use rv_isa::Code;
 use std::alloc::{AllocError, Global};
@@ -61,7 +62,7 @@ impl Codes {
     {
         let words = code.words.as_slice().len() as u64;
         if let Some(codes) = &mut self.kept {
-            let code = Arc::new(alloc, code)?;
+            let code = Arc::new(alloc, fitted(code))?;
             codes.push(BodyCode { size_offset, code })?;
         }
         self.count += 1;

@@ -1,0 +1,26 @@
+//! The room that a code takes.
+
+ghost use Rattle.std.specs.Prelude.{◌≡◌};
+
+use rv_isa::{Code, Relocations, Words};
+
+/// The same code, in no more room than its words and its relocations need: for a code that is kept. What can't be moved, for want of
+/// memory, stays where it is.
+pub fn fitted(code: Code) -> Code
+    ensures { result ≡ code }
+{
+    let Code {
+        words,
+        relocations,
+        need,
+    } = code;
+    let mut words = words.into_vec();
+    words.shrink_to_fit();
+    let mut relocations = relocations.into_vec();
+    relocations.shrink_to_fit();
+    Code {
+        words: Words::from_vec(words),
+        relocations: Relocations::from_vec(relocations),
+        need,
+    }
+}
