@@ -10,7 +10,7 @@ use Rattle.wasm_laws.proofs.Exports.{types_are_small}
 use Rattle.wasm_laws.proofs.PartLists.{items_of-append}
 use Rattle.wasm_defs.specs.Trees.{Seq}
 use Rattle.wasm_defs.specs.Bodies.{BodyRead, body_read}
-use Rattle.wasm_defs.specs.Context.{context_of, type_of_function, types_of}
+use Rattle.wasm_defs.specs.Context.{context_of, types_of}
 use Rattle.wasm_defs.specs.Outside.{Body, Run, Part, after_part}
 use Rattle.wasm_defs.specs.Outside as outside
 use Rattle.wasm_defs.specs.Faults.{IsValidCode, read_of, context_at, items_of, bodies_of}
