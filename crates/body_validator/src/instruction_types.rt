@@ -87,7 +87,8 @@ pub fn plainly(types: &[ValType]) -> Taken<'_>
 }
 
 /// With an i32 on top: a condition, or an index.
-fn conditionally(types: &[ValType]) -> Taken<'_>
+#[inline(always)]
+pub fn conditionally(types: &[ValType]) -> Taken<'_>
     ensures { taken_types result ≡ ValType.I32 ∷ reverse types.now }
 {
     Taken {

@@ -1,16 +1,17 @@
 //! One token's step of the open frames.
 
-ghost use Rattle.std.specs.Prelude.{◌≡◌};
+ghost use Rattle.std.specs.Prelude.{◌≡◌, [], ◌∷◌};
 ghost use Rattle.body_validator.specs.Checking.{applied, labels, step, fault_kind};
-ghost use Rattle.wasm_defs.specs.Typing.{rule_of};
+ghost use Rattle.wasm_defs.specs.Typing.{Fixed, only_if, rule_of};
 ghost use Rattle.body_validator.specs.Exchange.{Steps};
 ghost use Rattle.body_validator.specs.Scopes.{rule_meant, unlabelled, with_labels, begun};
 
-use crate::instruction_types::{Rule, block_types, plainly, rule_for};
+use crate::accesses::{load_alignment, load_type, store_alignment, store_type};
+use crate::instruction_types::{Rule, block_types, conditionally, plainly, rule_for};
 use crate::operands::{Stop, Taken};
 use crate::scope::Scope;
 use crate::stack::{Opening, Stack};
-use wasm_defs::{BlockType, Kind, Operation, Plain, Token, ValType};
+use wasm_defs::{BlockType, GlobalType, Kind, Operation, Plain, Token, ValType};
 
 fn apply<'a>(stack: &mut Stack<'a>, rule: Option<Rule<'a>>) -> Result<(), Stop>
     ensures { Steps (applied (rule_meant rule.entry) stack.old) result stack.old stack.new }
@@ -22,6 +23,16 @@ fn apply<'a>(stack: &mut Stack<'a>, rule: Option<Rule<'a>>) -> Result<(), Stop>
         Some(Rule::Selects) => stack.select(),
         None => Err(Stop::Refused),
     }
+}
+
+/// Takes the operand that a global of that type is set to, where it may be set.
+fn set_global(stack: &mut Stack<'_>, global: GlobalType) -> Result<(), Stop>
+    ensures { Steps (applied (only_if global.mutable (Fixed (global.ty ∷ []) [])) stack.old) result stack.old stack.new }
+{
+    if !global.mutable {
+        return Err(Stop::Refused);
+    }
+    stack.exchange(plainly(&[global.ty]), &[])
 }
 
 /// Takes one more plain instruction. The commonest have their rules' types here, so that nothing goes over their lists.
@@ -46,6 +57,31 @@ fn take_plain<'a>(scope: &Scope<'a>, stack: &mut Stack<'a>, plain: &Plain) -> Re
         Plain::Operate(Operation::Compare(t, _)) => {
             stack.exchange(plainly(&[*t, *t]), &[ValType::I32])
         }
+        Plain::Operate(Operation::Test(t)) => stack.exchange(plainly(&[*t]), &[ValType::I32]),
+        Plain::GlobalGet(x) => match scope.global(*x) {
+            Some(global) => stack.exchange(plainly(&[]), &[global.ty]),
+            None => Err(Stop::Refused),
+        },
+        Plain::GlobalSet(x) => match scope.global(*x) {
+            Some(global) => set_global(stack, global),
+            None => Err(Stop::Refused),
+        },
+        Plain::Load(op, place) => {
+            if !scope.can_access(*place, load_alignment(*op)) {
+                return Err(Stop::Refused);
+            }
+            stack.exchange(plainly(&[ValType::I32]), &[load_type(*op)])
+        }
+        Plain::Store(op, place) => {
+            if !scope.can_access(*place, store_alignment(*op)) {
+                return Err(Stop::Refused);
+            }
+            stack.exchange(plainly(&[ValType::I32, store_type(*op)]), &[])
+        }
+        Plain::BrIf(label) => match stack.label(*label) {
+            Some(types) => stack.exchange(conditionally(types), types),
+            None => Err(Stop::Refused),
+        },
         _ => {
             let rule = rule_for(scope, stack, plain);
             apply(stack, rule)
