@@ -1,6 +1,6 @@
 //! Calls of functions by their indices (WebAssembly Core 1.0, 4.4.5.10), with answers that were worked out by hand.
 
-use crate::answers::{HEADER, answer_to_line, bytes_of};
+use crate::program::{HEADER, answer_to_line, bytes_of, difference_in_rows};
 use std::alloc::{AllocError, Global};
 use std::sync::Wait;
 use std::test::Fail;
@@ -66,13 +66,8 @@ const ROWS: [(&str, &str, &str); 18] = [
 
 #[test]
 fn functions_call_each_other(rt: HostRuntime) -> Result<(), Fail> {
-    let alloc = rt.alloc();
-    for (module, words, want) in ROWS {
-        let bytes = bytes_of(alloc, &[HEADER, module])?;
-        let line = format!(in alloc; "wstream run {words}")?;
-        let told = answer_to_line(&rt, alloc, line.as_str(), &bytes)?;
-        assert_eq!(rt; told.as_str(), want, "{words} of {module}");
-    }
+    let difference = difference_in_rows(&rt, rt.alloc(), "wstream run", &ROWS)?;
+    assert_eq!(rt; difference.as_str(), "");
     Ok(())
 }
 

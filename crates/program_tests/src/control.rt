@@ -5,7 +5,7 @@ mod generator;
 mod interpreter;
 mod tokens;
 
-use crate::answers::{HEADER, answer_to_line};
+use crate::program::{HEADER, answer_to_line};
 use generator::body_of;
 use interpreter::{End, run_of};
 use std::alloc::{AllocError, Global};
@@ -38,7 +38,7 @@ fn module_of(alloc: Global, tokens: &[Token]) -> Result<Vec<u8>, Fail> {
     for token in tokens {
         push_token(&mut code, *token)?;
     }
-    let mut module = crate::answers::bytes_of(
+    let mut module = crate::program::bytes_of(
         alloc,
         &[
             HEADER,

@@ -1,10 +1,13 @@
 //! Faults of modules, each with its kind and its byte, as they were worked out by hand.
 
-use crate::answers::{ADD, HEADER, OK, answer, answer_bytewise, answer_in_two, bytes_of};
+use crate::program::{HEADER, answer_bytewise, answer_in_two, answer_to_line, bytes_of};
 use std::alloc::Global;
 use std::sync::Wait;
 use std::test::Fail;
 use std::thread::Threads;
+
+/// The words of all rows.
+const LINE: &str = "wstream check";
 
 /// What follows the header of a faulty module, and its fault. Offsets count from the header's first byte.
 const FAULTS: [(&str, &str); 49] = [
@@ -324,16 +327,6 @@ fn padded(alloc: Global, front: &str, len: usize, back: &str) -> Result<Vec<u8>,
     Ok(bytes)
 }
 
-/// The answer to the module with so many bytes, cut from the one that exports `add`.
-fn answer_to_cut(alloc: Global, len: usize) -> Result<String, Fail> {
-    // After the header, after the types, and after the last body the module is whole.
-    Ok(match len {
-        8 | 17 => format!(in alloc; "0 ok 0 functions {len} bytes\n")?,
-        41 => String::from_str(alloc, OK)?,
-        _ => format!(in alloc; "2 refused ended at {len}\n")?,
-    })
-}
-
 /// The first answer to a module of these bytes that isn't the wanted one, whole and a byte at a time; else nothing.
 fn difference<R: Threads + Wait + Sync>(
     rt: &R,
@@ -341,11 +334,11 @@ fn difference<R: Threads + Wait + Sync>(
     bytes: &[u8],
     want: &str,
 ) -> Result<String, Fail> {
-    let told = answer(rt, alloc, &["wstream", "check"], bytes)?;
+    let told = answer_to_line(rt, alloc, LINE, bytes)?;
     if told.as_str() != want {
         return Ok(told);
     }
-    let told = answer_bytewise(rt, alloc, bytes, None)?;
+    let told = answer_bytewise(rt, alloc, LINE, bytes, None)?;
     if told.as_str() != want {
         return Ok(told);
     }
@@ -360,7 +353,7 @@ fn difference_in_two<R: Threads + Wait + Sync>(
     want: &str,
 ) -> Result<String, Fail> {
     for place in 0..=bytes.len() {
-        let told = answer_in_two(rt, alloc, bytes, place)?;
+        let told = answer_in_two(rt, alloc, LINE, bytes, place)?;
         if told.as_str() != want {
             return Ok(told);
         }
@@ -368,41 +361,18 @@ fn difference_in_two<R: Threads + Wait + Sync>(
     Ok(String::new(alloc))
 }
 
-/// The first difference among the modules that are cut from the one that exports `add`.
-fn difference_of_cuts<R: Threads + Wait + Sync>(rt: &R, alloc: Global) -> Result<String, Fail> {
-    let add = bytes_of(alloc, &[HEADER, ADD])?;
-    for len in 0..=add.len() {
-        let want = answer_to_cut(alloc, len)?;
-        let told = difference(rt, alloc, &add[..len], want.as_str())?;
-        if !told.is_empty() {
-            return Ok(format!(in alloc; "{len} bytes: {told}")?);
-        }
-    }
-    Ok(String::new(alloc))
-}
-
-fn difference_of_faults<R: Threads + Wait + Sync>(rt: &R, alloc: Global) -> Result<String, Fail> {
-    for (text, fault) in FAULTS {
-        let bytes = bytes_of(alloc, &[HEADER, text])?;
-        let want = format!(in alloc; "2 refused {fault}\n")?;
-        let told = difference(rt, alloc, &bytes, want.as_str())?;
-        if !told.is_empty() {
-            return Ok(format!(in alloc; "{text}: {told}")?);
-        }
-    }
-    Ok(String::new(alloc))
-}
-
-fn difference_of_further_faults<R: Threads + Wait + Sync>(
+/// The first difference among modules of which each has a fault; else nothing.
+fn difference_of_faults<R: Threads + Wait + Sync>(
     rt: &R,
     alloc: Global,
+    rows: &[(&str, &str)],
 ) -> Result<String, Fail> {
-    for (text, fault) in FURTHER_FAULTS {
-        let bytes = bytes_of(alloc, &[HEADER, text])?;
-        let want = format!(in alloc; "2 refused {fault}\n")?;
+    for row in rows {
+        let bytes = bytes_of(alloc, &[HEADER, row.0])?;
+        let want = format!(in alloc; "2 refused {}\n", row.1)?;
         let told = difference(rt, alloc, &bytes, want.as_str())?;
         if !told.is_empty() {
-            return Ok(format!(in alloc; "{text}: {told}")?);
+            return Ok(format!(in alloc; "{}: {told}", row.0)?);
         }
     }
     Ok(String::new(alloc))
@@ -415,7 +385,7 @@ fn difference_of_long_faults<R: Threads + Wait + Sync>(
     for (front, len, back, fault) in LONG_FAULTS {
         let bytes = padded(alloc, front, len, back)?;
         let want = format!(in alloc; "2 refused {fault}\n")?;
-        let told = answer(rt, alloc, &["wstream", "check"], &bytes)?;
+        let told = answer_to_line(rt, alloc, LINE, &bytes)?;
         if told != want {
             return Ok(format!(in alloc; "{front} {len} {back}: {told}")?);
         }
@@ -426,9 +396,11 @@ fn difference_of_long_faults<R: Threads + Wait + Sync>(
 #[test]
 fn each_fault_is_told_with_its_kind_and_its_byte(rt: HostRuntime) -> Result<(), Fail> {
     let alloc = rt.alloc();
-    assert_eq!(rt; difference_of_cuts(&rt, alloc)?.as_str(), "");
-    assert_eq!(rt; difference_of_faults(&rt, alloc)?.as_str(), "");
-    assert_eq!(rt; difference_of_further_faults(&rt, alloc)?.as_str(), "");
+    assert_eq!(rt; difference_of_faults(&rt, alloc, &FAULTS)?.as_str(), "");
+    assert_eq!(rt;
+        difference_of_faults(&rt, alloc, &FURTHER_FAULTS)?.as_str(),
+        ""
+    );
     assert_eq!(rt; difference_of_long_faults(&rt, alloc)?.as_str(), "");
     Ok(())
 }

@@ -1,6 +1,6 @@
 //! Sources that hold bytes back: a fault is told before another byte comes, where none can mend it.
 
-use crate::answers::{HEADER, bytes_of};
+use crate::program::{HEADER, bytes_of};
 use io_edges::{Got, OpenGate, Pieces, Source};
 use std::test::Fail;
 use stream_compile::{CheckAnswer, Settings, stream_check};

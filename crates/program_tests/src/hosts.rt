@@ -1,9 +1,9 @@
 //! Imports (WebAssembly Core 1.0, 2.5.11) and the host functions of `run` and `exec`, with answers that were worked out by hand.
 
-use crate::answers::{HEADER, answer_to_line, bytes_of, image_of, words_of};
-use io_edges::{Flat, OpenGate, Page};
+use crate::program::{
+    HEADER, bytes_of, difference_in_images, difference_in_rows, difference_in_sinks,
+};
 use std::test::Fail;
-use stream_compile::top;
 
 /// `m` hands -5 to `host.num`, which is numbered before it.
 const NUMBER: &str = "01 08 02 60 01 7E 00 60 00 00 02 0C 01 04 68 6F 73 74 03 6E 75 6D 00 00 \
@@ -58,16 +58,11 @@ const ROWS: [(&str, &str, &str); 14] = [
 #[test]
 fn calls_of_host_functions_print(rt: HostRuntime) -> Result<(), Fail> {
     let alloc = rt.alloc();
-    for (module, words, want) in ROWS {
-        let bytes = bytes_of(alloc, &[HEADER, module])?;
-        let line = format!(in alloc; "wstream run {words}")?;
-        let told = answer_to_line(&rt, alloc, line.as_str(), &bytes)?;
-        assert_eq!(rt; told.as_str(), want, "{words} of {module}");
-        let image = image_of(&rt, alloc, &[], &bytes)?;
-        let line = format!(in alloc; "wstream exec {words}")?;
-        let told = answer_to_line(&rt, alloc, line.as_str(), &image)?;
-        assert_eq!(rt; told.as_str(), want, "{words} of the image of {module}");
-    }
+    assert_eq!(rt;
+        difference_in_rows(&rt, alloc, "wstream run", &ROWS)?.as_str(),
+        ""
+    );
+    assert_eq!(rt; difference_in_images(&rt, alloc, &ROWS)?.as_str(), "");
     Ok(())
 }
 
@@ -75,14 +70,8 @@ fn calls_of_host_functions_print(rt: HostRuntime) -> Result<(), Fail> {
 fn a_front_is_written_where_the_sink_is_full(rt: HostRuntime) -> Result<(), Fail> {
     let alloc = rt.alloc();
     let bytes = bytes_of(alloc, &[HEADER, PRINTING])?;
-    let words = words_of(alloc, &["wstream", "run", "m"])?;
     let text = "7\nA-5\nok\n".as_bytes();
-    for room in 0..text.len() {
-        let mut page = Page::new(alloc, room)?;
-        let source = &mut Flat::new(&bytes);
-        let status = top(&rt, alloc, &words, source, &mut page, &OpenGate);
-        assert_eq!(rt; status, 7);
-        assert_eq!(rt; page.bytes(), &text[..room], "after {room} bytes");
-    }
+    let difference = difference_in_sinks(&rt, alloc, "wstream run m", &bytes, 0, text)?;
+    assert_eq!(rt; difference.as_str(), "");
     Ok(())
 }

@@ -17,11 +17,15 @@ mod faults;
 #[cfg(test)]
 mod held_back;
 #[cfg(test)]
+mod hostile;
+#[cfg(test)]
 mod hosts;
 #[cfg(test)]
 mod operations;
 #[cfg(test)]
 mod peeks;
+#[cfg(test)]
+mod program;
 #[cfg(test)]
 mod starts;
 #[cfg(test)]

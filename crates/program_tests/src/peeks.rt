@@ -1,9 +1,10 @@
 //! The bytes of a memory that `run` and `exec` show behind a call, with answers that were worked out by hand.
 
-use crate::answers::{ADD, HEADER, answer_to_line, bytes_of, image_of, words_of};
-use io_edges::{Flat, OpenGate, Page};
+use crate::program::{
+    ADD, HEADER, answer_to_line, bytes_of, difference_in_images, difference_in_rows,
+    difference_in_sinks,
+};
 use std::test::Fail;
-use stream_compile::top;
 
 /// `f` stores 258 at 16, as four bytes, in a memory of one page.
 const STORE: &str = "01 04 01 60 00 00 03 02 01 00 05 03 01 00 01 07 05 01 01 66 00 00 \
@@ -86,16 +87,11 @@ const ROWS: [(&str, &str, &str); 21] = [
 #[test]
 fn bytes_are_shown_behind_a_call(rt: HostRuntime) -> Result<(), Fail> {
     let alloc = rt.alloc();
-    for (module, words, want) in ROWS {
-        let bytes = bytes_of(alloc, &[HEADER, module])?;
-        let line = format!(in alloc; "wstream run {words}")?;
-        let told = answer_to_line(&rt, alloc, line.as_str(), &bytes)?;
-        assert_eq!(rt; told.as_str(), want, "{words} of {module}");
-        let image = image_of(&rt, alloc, &[], &bytes)?;
-        let line = format!(in alloc; "wstream exec {words}")?;
-        let told = answer_to_line(&rt, alloc, line.as_str(), &image)?;
-        assert_eq!(rt; told.as_str(), want, "{words} of the image of {module}");
-    }
+    assert_eq!(rt;
+        difference_in_rows(&rt, alloc, "wstream run", &ROWS)?.as_str(),
+        ""
+    );
+    assert_eq!(rt; difference_in_images(&rt, alloc, &ROWS)?.as_str(), "");
     Ok(())
 }
 
@@ -103,20 +99,10 @@ fn bytes_are_shown_behind_a_call(rt: HostRuntime) -> Result<(), Fail> {
 fn as_many_bytes_are_shown_as_may_be(rt: HostRuntime) -> Result<(), Fail> {
     let alloc = rt.alloc();
     let bytes = bytes_of(alloc, &[HEADER, DATA])?;
-    let words = words_of(alloc, &["wstream", "run", "f", "--peek", "0:4096"])?;
-    let mut page = Page::new(alloc, 10_000)?;
-    let status = top(
-        &rt,
-        alloc,
-        &words,
-        &mut Flat::new(&bytes),
-        &mut page,
-        &OpenGate,
-    );
-    assert_eq!(rt; status, 0);
-    let text = str::from_utf8(page.bytes())?;
-    assert_eq!(rt; text.len(), 3 + 5 + 8192 + 1);
-    assert!(rt; text.starts_with("ok\npeek 00090a0f109fa0ff00"));
+    let told = answer_to_line(&rt, alloc, "wstream run f --peek 0:4096", &bytes)?;
+    let text = told.as_str();
+    assert_eq!(rt; text.len(), 2 + 3 + 5 + 8192 + 1);
+    assert!(rt; text.starts_with("0 ok\npeek 00090a0f109fa0ff00"));
     assert!(rt; text.ends_with("00\n"));
     Ok(())
 }
@@ -125,14 +111,9 @@ fn as_many_bytes_are_shown_as_may_be(rt: HostRuntime) -> Result<(), Fail> {
 fn a_front_is_written_where_the_sink_is_full(rt: HostRuntime) -> Result<(), Fail> {
     let alloc = rt.alloc();
     let bytes = bytes_of(alloc, &[HEADER, TRAPPING])?;
-    let words = words_of(alloc, &["wstream", "run", "f", "--peek", "16:4"])?;
+    let line = "wstream run f --peek 16:4";
     let text = "trap unreachable\npeek 02010000\n".as_bytes();
-    for room in 0..text.len() {
-        let mut page = Page::new(alloc, room)?;
-        let source = &mut Flat::new(&bytes);
-        let status = top(&rt, alloc, &words, source, &mut page, &OpenGate);
-        assert_eq!(rt; status, 7);
-        assert_eq!(rt; page.bytes(), &text[..room], "after {room} bytes");
-    }
+    let difference = difference_in_sinks(&rt, alloc, line, &bytes, 4, text)?;
+    assert_eq!(rt; difference.as_str(), "");
     Ok(())
 }

@@ -1,6 +1,6 @@
 //! Start functions (WebAssembly Core 1.0, 2.5.9, 4.5.4), with answers that were worked out by hand.
 
-use crate::answers::{HEADER, answer_to_line, bytes_of};
+use crate::program::difference_in_rows;
 use std::test::Fail;
 
 /// What follows the header of a module: `f` gives a global, which begins with 5, and which the start function sets to 7.
@@ -58,12 +58,7 @@ const ROWS: [(&str, &str, &str); 14] = [
 
 #[test]
 fn start_functions_run_first(rt: HostRuntime) -> Result<(), Fail> {
-    let alloc = rt.alloc();
-    for (module, words, want) in ROWS {
-        let bytes = bytes_of(alloc, &[HEADER, module])?;
-        let line = format!(in alloc; "wstream {words}")?;
-        let told = answer_to_line(&rt, alloc, line.as_str(), &bytes)?;
-        assert_eq!(rt; told.as_str(), want, "{words} of {module}");
-    }
+    let difference = difference_in_rows(&rt, rt.alloc(), "wstream", &ROWS)?;
+    assert_eq!(rt; difference.as_str(), "");
     Ok(())
 }

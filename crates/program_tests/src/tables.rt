@@ -1,6 +1,6 @@
 //! Calls by the table and element segments (WebAssembly Core 1.0, 4.4.5.11 and 4.5.4), with answers that were worked out by hand.
 
-use crate::answers::{HEADER, answer_to_line, bytes_of};
+use crate::program::{HEADER, answer_to_line, bytes_of, difference_in_rows};
 use image_format::{Image, Row};
 use image_run::{Instance, Outcome, SinkHost, call_checks};
 use io_edges::{Flat, OpenGate, Page};
@@ -103,13 +103,8 @@ const ROWS: [(&str, &str, &str); 17] = [
 
 #[test]
 fn functions_are_called_by_rows(rt: HostRuntime) -> Result<(), Fail> {
-    let alloc = rt.alloc();
-    for (module, words, want) in ROWS {
-        let bytes = bytes_of(alloc, &[HEADER, module])?;
-        let line = format!(in alloc; "wstream run {words}")?;
-        let told = answer_to_line(&rt, alloc, line.as_str(), &bytes)?;
-        assert_eq!(rt; told.as_str(), want, "{words} of {module}");
-    }
+    let difference = difference_in_rows(&rt, rt.alloc(), "wstream run", &ROWS)?;
+    assert_eq!(rt; difference.as_str(), "");
     Ok(())
 }
 
