@@ -313,8 +313,8 @@ abbrev pub Told : ℕ → Outcome → Bool → Option (List ℕ) → Option (Lis
 Told status o true old new = (status ≡ 7) × (n : ℕ) × (new ≡ append_known old (take n o.text))
 Told status o false old new = (status ≡ o.status) × (new ≡ append_known old o.text)
 
--- what a call answered and wrote: want of memory, and nothing; else what the words and the bytes come to
-abbrev pub AnswersAndWrites : Option Command → Bool → (left rest : Option (List ℕ)) → ℕ → Bool → Option (List ℕ) → Option (List ℕ) → Type 0
-AnswersAndWrites command source_failed left rest status sink_failed old new =
-    ((status ≡ 8) × (sink_failed ≡ false) × (new ≡ old))
+-- what a call answered and wrote: want of memory, and the sink is untouched; else what the words and the bytes come to
+abbrev pub AnswersAndWrites : (untouched : Type 0) → Option Command → Bool → (left rest : Option (List ℕ)) → ℕ → Bool → Option (List ℕ) → Option (List ℕ) → Type 0
+AnswersAndWrites untouched command source_failed left rest status sink_failed old new =
+    ((status ≡ 8) × untouched × (sink_failed ≡ false) × (new ≡ old))
     ⊎ ((o : Outcome) × ComesTo command source_failed left rest o × Told status o sink_failed old new)

@@ -180,7 +180,7 @@ pub fn top<R: Threads + Wait + Sync, S: Source, O: Sink, G: Gate>(
     requires source_open { S.is_open source.old ≡ true }
     requires sink_count { O.faults out.old < 2 ^ 64 - 1 }
     requires sink_open { O.is_open out.old ≡ true }
-    ensures answer { AnswersAndWrites (command_said words.now.items) (nat_lt (S.faults source.old) (S.faults source.new)) (S.left source.old) (S.left source.new) result
+    ensures answer { AnswersAndWrites (out.new ≡ out.old) (command_said words.now.items) (nat_lt (S.faults source.old) (S.faults source.new)) (S.left source.old) (S.left source.new) result
         (nat_lt (O.faults out.old) (O.faults out.new)) (O.written out.old) (O.written out.new) }
     ensures untouched { ReadsNothing (command_said words.now.items) → source.new ≡ source.old }
 {
