@@ -61,7 +61,7 @@ fn difference_in_image_fronts<R: Threads + Wait + Sync>(
 }
 
 #[test]
-fn what_is_cut_off_is_told(rt: HostRuntime) -> Result<(), Fail> {
+fn fronts_of_modules_and_images_are_told(rt: HostRuntime) -> Result<(), Fail> {
     let alloc = rt.alloc();
     assert_eq!(rt; difference_in_fronts(&rt, alloc)?.as_str(), "");
     assert_eq!(rt; difference_in_image_fronts(&rt, alloc)?.as_str(), "");
