@@ -26,4 +26,3 @@ steps_stay i (suc few) (suc many) r e le over h = on_more (next i r) (steps i fe
 module _ (i : Image) (offset : ℕ) (results : List ValType) (arguments : List Value) (replies : List Reply) where
   pub image_stays : Lasts (image_run i offset results arguments replies)
   image_stays few many e le over h = steps_stay i few many _ e le over h
-
