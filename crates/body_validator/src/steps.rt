@@ -1,8 +1,8 @@
 //! One token's step of the open frames.
 
-ghost use Rattle.std.specs.Prelude.{◌≡◌, [], ◌∷◌};
+ghost use Rattle.std.specs.Prelude.{◌≡◌};
 ghost use Rattle.body_validator.specs.Checking.{applied, labels, step, fault_kind};
-ghost use Rattle.wasm_defs.specs.Typing.{Fixed, only_if, rule_of};
+ghost use Rattle.wasm_defs.specs.Typing.{rule_of};
 ghost use Rattle.body_validator.specs.Exchange.{Steps};
 ghost use Rattle.body_validator.specs.Scopes.{rule_meant, unlabelled, with_labels, begun};
 
@@ -11,7 +11,9 @@ use crate::instruction_types::{Rule, block_types, conditionally, plainly, rule_f
 use crate::operands::{Stop, Taken};
 use crate::scope::Scope;
 use crate::stack::{Opening, Stack};
-use wasm_defs::{BlockType, GlobalType, Kind, Operation, Plain, Token, ValType};
+use wasm_defs::{
+    BlockType, GlobalType, Kind, LoadOp, MemArg, Operation, Plain, StoreOp, Token, ValType,
+};
 
 fn apply<'a>(stack: &mut Stack<'a>, rule: Option<Rule<'a>>) -> Result<(), Stop>
     ensures { Steps (applied (rule_meant rule.entry) stack.old) result stack.old stack.new }
@@ -25,14 +27,47 @@ fn apply<'a>(stack: &mut Stack<'a>, rule: Option<Rule<'a>>) -> Result<(), Stop>
     }
 }
 
-/// Takes the operand that a global of that type is set to, where it may be set.
-fn set_global(stack: &mut Stack<'_>, global: GlobalType) -> Result<(), Stop>
-    ensures { Steps (applied (only_if global.mutable (Fixed (global.ty ∷ []) [])) stack.old) result stack.old stack.new }
+/// Takes a `global.set`, where there is such a global and it may be set.
+#[inline(always)]
+fn set_global<'a>(scope: &Scope<'a>, stack: &mut Stack<'a>, index: u32) -> Result<(), Stop>
+    ensures { Steps (applied (rule_of (with_labels scope.now (labels stack.old)) (Plain.GlobalSet index)) stack.old) result stack.old stack.new }
 {
-    if !global.mutable {
+    match scope.global(index) {
+        Some(global) if global.mutable => stack.exchange(plainly(&[global.ty]), &[]),
+        _ => Err(Stop::Refused),
+    }
+}
+
+/// Takes a load, where the module has a memory and the access is aligned no further than its bytes.
+#[inline(always)]
+fn take_load<'a>(
+    scope: &Scope<'a>,
+    stack: &mut Stack<'a>,
+    op: LoadOp,
+    place: MemArg,
+) -> Result<(), Stop>
+    ensures { Steps (applied (rule_of (with_labels scope.now (labels stack.old)) (Plain.Load op place)) stack.old) result stack.old stack.new }
+{
+    if !scope.can_access(place, load_alignment(op)) {
         return Err(Stop::Refused);
     }
-    stack.exchange(plainly(&[global.ty]), &[])
+    stack.exchange(plainly(&[ValType::I32]), &[load_type(op)])
+}
+
+/// Takes a store, where the module has a memory and the access is aligned no further than its bytes.
+#[inline(always)]
+fn take_store<'a>(
+    scope: &Scope<'a>,
+    stack: &mut Stack<'a>,
+    op: StoreOp,
+    place: MemArg,
+) -> Result<(), Stop>
+    ensures { Steps (applied (rule_of (with_labels scope.now (labels stack.old)) (Plain.Store op place)) stack.old) result stack.old stack.new }
+{
+    if !scope.can_access(place, store_alignment(op)) {
+        return Err(Stop::Refused);
+    }
+    stack.exchange(plainly(&[ValType::I32, store_type(op)]), &[])
 }
 
 /// Takes one more plain instruction. The commonest have their rules' types here, so that nothing goes over their lists.
@@ -62,22 +97,9 @@ fn take_plain<'a>(scope: &Scope<'a>, stack: &mut Stack<'a>, plain: &Plain) -> Re
             Some(global) => stack.exchange(plainly(&[]), &[global.ty]),
             None => Err(Stop::Refused),
         },
-        Plain::GlobalSet(x) => match scope.global(*x) {
-            Some(global) => set_global(stack, global),
-            None => Err(Stop::Refused),
-        },
-        Plain::Load(op, place) => {
-            if !scope.can_access(*place, load_alignment(*op)) {
-                return Err(Stop::Refused);
-            }
-            stack.exchange(plainly(&[ValType::I32]), &[load_type(*op)])
-        }
-        Plain::Store(op, place) => {
-            if !scope.can_access(*place, store_alignment(*op)) {
-                return Err(Stop::Refused);
-            }
-            stack.exchange(plainly(&[ValType::I32, store_type(*op)]), &[])
-        }
+        Plain::GlobalSet(x) => set_global(scope, stack, *x),
+        Plain::Load(op, place) => take_load(scope, stack, *op, *place),
+        Plain::Store(op, place) => take_store(scope, stack, *op, *place),
         Plain::BrIf(label) => match stack.label(*label) {
             Some(types) => stack.exchange(conditionally(types), types),
             None => Err(Stop::Refused),
