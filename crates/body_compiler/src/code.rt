@@ -40,7 +40,7 @@ fn malformed(offset: u64) -> Refusal
 }
 
 /// Why a body's reading stops.
-#[inline(never)]
+#[inline(always)]
 pub(crate) fn stop_of(stop: Stop, last: u64) -> BodyStop
     ensures { result ≡ reading_stop last stop }
 {

@@ -100,3 +100,8 @@ runs_declared params rs more r count old is e ends =
     ∙ ap (λ (x : Types). params ++ x) (runs_pushed n rs r ∙ ap (λ m. run_types n rs ++ replicate m r.ty) so_many)
     ∙ sym (append_assoc params (run_types n rs) (replicate count r.ty))
     ∙ ap (λ (x : Types). x ++ replicate count r.ty) is
+
+-- a local before the first run's end is of its type
+pub first_found : (start : ℕ) (rs : List Run) (r : Run) (index : ℕ) → AreRising start rs → slice_get rs zero ≡ Some r
+    → start ≤ index → index < r.end → Some r.ty ≡ slice_get (run_types start rs) (index - start)
+first_found start rs r index up e low high = sym (runs_found start rs zero r (index - start) up e (omega (arith, low)) (omega (arith, low, high)))

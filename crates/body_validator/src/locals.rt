@@ -64,6 +64,23 @@ fn type_in_runs(runs: &[Run], index: usize) -> Option<ValType>
     }
 }
 
+/// The type of a declared local. Mostly the first run has it.
+#[inline(always)]
+fn declared_type(runs: &[Run], index: usize) -> Option<ValType>
+    ensures { (start : ℕ) → AreRising start runs.now → start ≤ index
+        → result ≡ slice_get (run_types start runs.now) (index - start) }
+{
+    match runs.get(0) {
+        Some(run) => {
+            if index < run.end {
+                return Some(run.ty);
+            }
+            type_in_runs(runs, index)
+        }
+        None => None,
+    }
+}
+
 impl<'a> Locals<'a> {
     /// Those of a function of these parameters that declares none.
     pub fn new(alloc: Global, params: &'a [ValType]) -> Self
@@ -90,7 +107,7 @@ impl<'a> Locals<'a> {
         if index < self.params.len() {
             return Some(self.params[index]);
         }
-        type_in_runs(&self.runs, index)
+        declared_type(&self.runs, index)
     }
 
     /// Declares so many more of one type.

@@ -11,9 +11,7 @@ use crate::instruction_types::{Rule, block_types, conditionally, plainly, rule_f
 use crate::operands::{Stop, Taken};
 use crate::scope::Scope;
 use crate::stack::{Opening, Stack};
-use wasm_defs::{
-    BlockType, GlobalType, Kind, LoadOp, MemArg, Operation, Plain, StoreOp, Token, ValType,
-};
+use wasm_defs::{BlockType, Kind, LoadOp, MemArg, Operation, Plain, StoreOp, Token, ValType};
 
 fn apply<'a>(stack: &mut Stack<'a>, rule: Option<Rule<'a>>) -> Result<(), Stop>
     ensures { Steps (applied (rule_meant rule.entry) stack.old) result stack.old stack.new }
