@@ -24,7 +24,7 @@ mod worker;
 pub use feeder::Feeder;
 pub use hand::Hand;
 pub use pool::Pool;
-pub use row::{Row, RowCode, RowCodes, Rows, Worked};
+pub use row::{Row, RowCode, RowCodes, Rows, Stored, Worked};
 pub use serving::{fits, serve};
 pub use ticket::Ticket;
 pub use worker::work;

@@ -23,19 +23,19 @@ use wasm_defs::Refusal;
 /// A batch runs after so many turns, whatever the gate answers.
 const LAST_TURN: u32 = 1_048_576;
 
-/// Whether the function of a body is in the context, and has a cell.
-fn fits_body(cells: &Cells, context: &Context, body: &Body) -> bool
-    ensures { IsTrue result ↔ FitsBody context.now (length cells.now) body.now }
+/// Whether the function of a body is in the context.
+fn fits_body(context: &Context, body: &Body) -> bool
+    ensures { IsTrue result ↔ FitsBody context.now body.now }
 {
-    context.has_type_of_function(body.index) && body.index < cells.count()
+    context.has_type_of_function(body.index)
 }
 
 /// Whether all bodies fit.
-fn fit_all(cells: &Cells, context: &Context, bodies: &LinkedList<Body>) -> bool
-    ensures { IsTrue result ↔ All (FitsBody context.now (length cells.now)) bodies.now }
+fn fit_all(context: &Context, bodies: &LinkedList<Body>) -> bool
+    ensures { IsTrue result ↔ All (FitsBody context.now) bodies.now }
 {
     for body in bodies.iter() {
-        if !fits_body(cells, context, body) {
+        if !fits_body(context, body) {
             return false;
         }
     }
@@ -43,10 +43,10 @@ fn fit_all(cells: &Cells, context: &Context, bodies: &LinkedList<Body>) -> bool
 }
 
 /// Whether the board has a place for a batch, and its bodies fit.
-pub fn fits(board: &Board, cells: &Cells, context: &Context, ticket: &Ticket) -> bool
-    ensures { IsTrue result ↔ Fits context.now board.now.functions (length cells.now) ticket.now }
+pub fn fits(board: &Board, context: &Context, ticket: &Ticket) -> bool
+    ensures { IsTrue result ↔ Fits context.now board.now.functions ticket.now }
 {
-    ticket.number < board.functions() && fit_all(cells, context, ticket.batch.bodies.as_list())
+    ticket.number < board.functions() && fit_all(context, ticket.batch.bodies.as_list())
 }
 
 /// Asks the gate until the batch may run.
@@ -96,7 +96,7 @@ fn run(
     batch: Arc<Batch, Global>,
 ) -> Result<Row, AllocError>
     requires table { seat.old.table ≡ board.now.table }
-    requires fits { All (FitsBody context.now (length cells.now)) (arc_value batch).bodies }
+    requires fits { All (FitsBody context.now) (arc_value batch).bodies }
     requires low { IsLow (arc_value batch) }
     requires running { 0 < times (arc_value batch).number (arc_value batch).start seat.old.view.running }
     ensures table { seat.new.table ≡ seat.old.table }
@@ -129,9 +129,9 @@ pub fn serve<G: Gate>(
     ensures table { seat.new.table ≡ seat.old.table }
     ensures grows { Grows context.now cells.now seat.old.view seat.new.view rows.old.items rows.new.items }
     ensures running { OnOk result (seat.new.view.running ≡ seat.old.view.running) }
-    ensures served { OnOk result (Fits context.now board.now.functions (length cells.now) ticket → IsServed seat.new.view ticket) }
+    ensures served { OnOk result (Fits context.now board.now.functions ticket → IsServed seat.new.view ticket) }
 {
-    if !fits(board, cells, context, &ticket) {
+    if !fits(board, context, &ticket) {
         return Ok(());
     }
     rows.reserve(1)?;

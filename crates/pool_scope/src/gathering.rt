@@ -26,7 +26,7 @@ fn feed(mut feeder: Feeder, tickets: Vec<Ticket>) {
 }
 
 /// Takes in what a worker gave back. Nothing where memory ran out.
-fn take_in(
+pub fn take_in(
     board: &Board,
     context: &Context,
     cells: &Cells,
@@ -56,7 +56,7 @@ fn take_in(
 }
 
 /// Joins all threads, and takes in what they give back. None where memory ran out.
-fn join_all<'a, R: Threads>(
+pub fn join_all<'a, R: Threads>(
     rt: &R,
     board: &Board,
     context: &Context,

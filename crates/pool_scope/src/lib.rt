@@ -1,11 +1,18 @@
 //! Workers in threads of their own, beside the thread that feeds them.
 #![tactic(auto)]
 
+mod beside;
+mod desk;
 mod gathering;
 mod labour;
+mod numbered;
 mod settling;
 #[cfg(test)]
 mod tests;
 
-pub use gathering::run_all;
+pub use beside::{Joined, Reading, run_beside};
+pub use desk::Desk;
+pub use gathering::{join_all, run_all, take_in};
+pub use labour::{Labour, labour_at};
+pub use numbered::by_number;
 pub use settling::{keep, settle};

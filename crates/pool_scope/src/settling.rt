@@ -17,7 +17,6 @@ use std::alloc::{AllocError, Global};
 pub fn keep(
     board: &Board,
     seat: &mut BoardSeat,
-    cells: &Cells,
     context: &Context,
     kept: &mut Vec<Ticket>,
     ticket: Ticket,
@@ -26,13 +25,12 @@ pub fn keep(
     requires feeder { seat.old.view.feeder ≡ true }
     requires number { ticket.number ≡ length seat.old.view.published }
     requires start { IsAbove seat.old.view.published ticket.start }
-    requires fits { Fits context.now board.now.functions (length cells.now) ticket }
-    requires kept { AreKept context.now board.now.functions (length cells.now) seat.old.view.published kept.old.items }
+    requires fits { Fits context.now board.now.functions ticket }
+    requires kept { AreKept context.now board.now.functions seat.old.view.published kept.old.items }
     ensures view { OnOk result (seat.new ≡ record seat.old { view = publishes seat.old.view ticket.start }) }
-    ensures kept { OnOk result (AreKept context.now board.now.functions (length cells.now) seat.new.view.published kept.new.items) }
+    ensures kept { OnOk result (AreKept context.now board.now.functions seat.new.view.published kept.new.items) }
     ensures err { OnErr result ((seat.new ≡ seat.old) × (kept.new.items ≡ kept.old.items)) }
 {
-    let _ = cells;
     let _ = context;
     kept.reserve(1)?;
     board.publish(seat, ticket.number, ticket.start);
@@ -53,7 +51,7 @@ fn try_all<G: Gate>(
 ) -> Option<()>
     requires table { seat.old.table ≡ board.now.table }
     requires feeder { seat.old.view.feeder ≡ true }
-    requires kept { AreKept context.now board.now.functions (length cells.now) seat.old.view.published kept.items }
+    requires kept { AreKept context.now board.now.functions seat.old.view.published kept.items }
     ensures table { seat.new.table ≡ seat.old.table }
     ensures grows { Grows context.now cells.now seat.old.view seat.new.view rows.old.items rows.new.items }
     ensures running { IfSome result (λ _. seat.new.view.running ≡ seat.old.view.running) }
@@ -82,7 +80,7 @@ pub fn settle<G: Gate>(
 ) -> Option<Closed>
     requires table { seat.table ≡ board.table }
     requires seat { (seat.view.feeder ≡ true) × (seat.view.running ≡ []) × (seat.view.parts ≡ board.seats) }
-    requires kept { AreKept context.now board.functions (length cells.now) seat.view.published kept.items }
+    requires kept { AreKept context.now board.functions seat.view.published kept.items }
     ensures { IfSome result (λ closed. (w : View) × Grows context.now cells.now seat.view w rows.old.items rows.new.items
         × IsClosed board.functions w closed.least closed.states × ((b : ℕ) → b < length w.published → IsSettled w closed.least b)) }
 {

@@ -74,18 +74,18 @@ fn keep_all(
     ensures feeder { OnOk result (seat.new.view.feeder ≡ true) }
     ensures running { OnOk result (seat.new.view.running ≡ []) }
     ensures parts { OnOk result (seat.new.view.parts ≡ seat.old.view.parts) }
-    ensures kept { IfOk result (λ v. AreKept context.now board.now.functions (length cells.now) seat.new.view.published v.items) }
+    ensures kept { IfOk result (λ v. AreKept context.now board.now.functions seat.new.view.published v.items) }
 {
     let mut kept = Vec::new(alloc);
     for number in 0..BATCHES {
         let one = ticket(alloc, number)?;
         if one.number != number
             || one.start != 100 + 10 * u64::from(number)
-            || !fits(board, cells, context, &one)
+            || !fits(board, context, &one)
         {
             return Err(AllocError);
         }
-        keep(board, seat, cells, context, &mut kept, one)?;
+        keep(board, seat, context, &mut kept, one)?;
     }
     Ok(kept)
 }

@@ -11,5 +11,5 @@ invariant-loop-number l = record {
   parts : l.seat.view.parts ≡ l.initial.seat.view.parts;
   count : l.number ≡ length l.seat.view.published;
   above : IsAbove l.seat.view.published (100 + 10 * l.number);
-  kept : AreKept l.context l.board.functions (length l.cells) l.seat.view.published l.kept.items;
+  kept : AreKept l.context l.board.functions l.seat.view.published l.kept.items;
 }

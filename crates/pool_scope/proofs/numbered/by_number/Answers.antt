@@ -1,0 +1,27 @@
+use Rattle.std.proofs.Common.{All, Some}
+use Rattle.std.specs.Vec.Iter.{into_iter_items}
+use Rattle.std.proofs.lemmas.List.Elements.{All-set}
+use Rattle.batch_pool.specs.Working.{IsRowOf}
+use Rattle.pool_scope.specs.Gathering.{IsRowIf}
+use Rattle.pool_scope.proofs.Gathered.{all_head, all_tail}
+use Rattle.pool_scope.proofs.numbered.by_number.Goals as goal
+
+pub loop-row-preserved-then-number-len : goal.loop-row-preserved-then-number-len
+loop-row-preserved-then-number-len c = (
+  all_tail (IsRowOf c.args.context.now c.args.cells.now) c.in-Some.row (into_iter_items c.loop-row.row-iterator) (into_iter_items c.next.new.self) c.in-Some.ensures.steps.0 c.loop-row.invariant.0,
+  All-set (IsRowIf c.args.context.now c.args.cells.now) c.loop-row.places.items _ (Some c.in-Some.row)
+      (all_head (IsRowOf c.args.context.now c.args.cells.now) c.in-Some.row (into_iter_items c.loop-row.row-iterator) (into_iter_items c.next.new.self) c.in-Some.ensures.steps.0 c.loop-row.invariant.0) c.loop-row.invariant.1,
+)
+
+pub loop-row-preserved-then-number-len-2 : goal.loop-row-preserved-then-number-len-2
+loop-row-preserved-then-number-len-2 c = (
+  all_tail (IsRowOf c.args.context.now c.args.cells.now) c.in-Some.row (into_iter_items c.loop-row.row-iterator) (into_iter_items c.next.new.self) c.in-Some.ensures.steps.0 c.loop-row.invariant.0,
+  All-set (IsRowIf c.args.context.now c.args.cells.now) c.loop-row.places.items _ (Some c.in-Some.row)
+      (all_head (IsRowOf c.args.context.now c.args.cells.now) c.in-Some.row (into_iter_items c.loop-row.row-iterator) (into_iter_items c.next.new.self) c.in-Some.ensures.steps.0 c.loop-row.invariant.0) c.loop-row.invariant.1,
+)
+
+pub loop-row-preserved : goal.loop-row-preserved
+loop-row-preserved c = (
+  all_tail (IsRowOf c.args.context.now c.args.cells.now) c.in-Some.row (into_iter_items c.loop-row.row-iterator) (into_iter_items c.next.new.self) c.in-Some.ensures.steps.0 c.loop-row.invariant.0,
+  c.loop-row.invariant.1,
+)

@@ -1,0 +1,49 @@
+//! Rows by the numbers of their batches.
+ghost use Rattle.std.specs.Prelude.{All, IfOk};
+ghost use Rattle.batch_pool.specs.Working.{IsRowOf};
+ghost use Rattle.pool_scope.specs.Gathering.{IsRowIf};
+
+use batch_pool::Row;
+use index_spaces::Context;
+use result_cells::Cells;
+use std::alloc::{AllocError, Global};
+
+/// So many places, none of which has a row.
+fn places(
+    alloc: Global,
+    context: &Context,
+    cells: &Cells,
+    count: usize,
+) -> Result<Vec<Option<Row>>, AllocError>
+    ensures { IfOk result (λ v. All (IsRowIf context.now cells.now) v.items) }
+{
+    let _ = context;
+    let _ = cells;
+    let mut places = Vec::new(alloc);
+    for _ in 0..count {
+        places.push(None)?;
+    }
+    Ok(places)
+}
+
+/// The rows of so many batches, each at the place that its batch's number names. A batch has one row at most, so none is lost but that of a
+/// number past the last.
+pub fn by_number(
+    alloc: Global,
+    context: &Context,
+    cells: &Cells,
+    rows: Vec<Row>,
+    count: usize,
+) -> Result<Vec<Option<Row>>, AllocError>
+    requires { All (IsRowOf context.now cells.now) rows.items }
+    ensures { IfOk result (λ v. All (IsRowIf context.now cells.now) v.items) }
+{
+    let mut places = places(alloc, context, cells, count)?;
+    for row in rows {
+        let number = row.batch.number as usize;
+        if number < places.len() {
+            places[number] = Some(row);
+        }
+    }
+    Ok(places)
+}
