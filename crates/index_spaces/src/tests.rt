@@ -1,4 +1,4 @@
-ghost use Rattle.std.specs.Prelude.{◌≤◌, IfOk, length};
+ghost use Rattle.std.specs.Prelude.{◌≡◌, ◌≤◌, IfOk, length};
 ghost use Rattle.index_spaces.specs.ItemLimits.{HasSmallType};
 
 use crate::{AddStop, Context, ContextBuilder};
@@ -9,7 +9,9 @@ use wasm_defs::{
     ValType, ValTypes,
 };
 
-fn types(alloc: Global, types: &[ValType]) -> Result<ValTypes, AllocError> {
+fn types(alloc: Global, types: &[ValType]) -> Result<ValTypes, AllocError>
+    ensures { IfOk result (λ list. list ≡ types.now) }
+{
     Ok(ValTypes::new(Vec::from_slice(alloc, types)?))
 }
 
