@@ -25,6 +25,13 @@ ReadsOn (got.Bytes n) open_now = open_now ≡ true
 ReadsOn got.End open_now = Unit {0}
 ReadsOn got.Failed open_now = Unit {0}
 
+-- Over some reads, or none: what was left before and after, and the count of faults before and now. A front of the bytes came, and the count
+-- never fell.
+pub record TookFront (old : Option (List ℕ)) (before : ℕ) (new : Option (List ℕ)) (now : ℕ) : Type 0 where
+  pub came : List ℕ
+  pub took : old ≡ prepend_known came new
+  pub counts : before ≤ now
+
 -- What a write added to the bytes written, where they are told: the answer, the piece, the bytes written before and after.
 abbrev pub Writes : Put → List ℕ → Option (List ℕ) → Option (List ℕ) → Type 0
 Writes (put.Took n) piece old new = (0 < n) × (n ≤ length piece) × (new ≡ append_known old (take n piece))

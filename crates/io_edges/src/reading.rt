@@ -1,6 +1,7 @@
 ghost use Rattle.std.specs.Prelude.{◌≡◌, ◌≤◌, ◌↔◌, true, length, IfOk, OnErr, vec_len};
 ghost use Rattle.std.specs.Io.KnownBytes.{prepend_known};
 ghost use Rattle.io_edges.specs.Stops.{StopsFor};
+ghost use Rattle.io_edges.specs.Streams.{TookFront};
 
 use crate::source::{Got, Source};
 use std::alloc::{AllocError, Global};
@@ -32,7 +33,7 @@ const CHUNK: usize = 65_536;
 ///
 /// It asks for no byte beyond the limit, so at `Full` the source may be at its end. It doesn't read on after the end or a fault.
 ///
-/// After an `Err` the bytes that came are lost, and the count of faults hasn't changed.
+/// After an `Err` the bytes that came are lost, the count of faults hasn't changed, and the source may be read on.
 #[tactic(auto, using(crate::proofs::Known::prepend_more, crate::proofs::Known::prepend_nothing))]
 pub fn read_all<S: Source>(alloc: Global, source: &mut S, limit: usize) -> Result<Input, AllocError>
     requires { S.is_open source.old ≡ true }
@@ -43,7 +44,8 @@ pub fn read_all<S: Source>(alloc: Global, source: &mut S, limit: usize) -> Resul
         (S.faults source.old) (S.faults source.new) (length input.bytes.items) limit) }
     ensures full { IfOk result (λ input.
         (input.stop ≡ Stop.Full) ↔ (length input.bytes.items ≡ limit)) }
-    ensures err { OnErr result (S.faults source.new ≡ S.faults source.old) }
+    ensures err { OnErr result ((S.faults source.new ≡ S.faults source.old) × (S.is_open source.new ≡ true)) }
+    ensures front { TookFront (S.left source.old) (S.faults source.old) (S.left source.new) (S.faults source.new) }
 {
     let mut bytes = Vec::new(alloc);
     let mut chunk = buffer_of(alloc, CHUNK)?;
