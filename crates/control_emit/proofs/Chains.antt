@@ -54,12 +54,12 @@ pub chain-end : (js : List Jump) (n : ℕ) → chain js n None ≡ []
 chain-end js zero = refl
 chain-end js (suc n) = chain-end js n
 
--- ---- one jump more
+-- ---- more jumps
 
-pub chain-kept : (js : List Jump) (j : Jump) (last : Option ℕ) → IsBefore (length js) last → chain (js ++ j ∷ []) (length (js ++ j ∷ [])) last ≡ chain js (length js) last
-chain-kept js j last b =
-    let len = length-append js (j ∷ []) in
-    chain-up (js ++ j ∷ []) (length js) (length (js ++ j ∷ [])) last b (omega arith) ∙ chain-front js (j ∷ []) (length js) last (omega arith)
+pub chain-kept : (js ms : List Jump) (last : Option ℕ) → IsBefore (length js) last → chain (js ++ ms) (length (js ++ ms)) last ≡ chain js (length js) last
+chain-kept js ms last b =
+    let len = length-append js ms in
+    chain-up (js ++ ms) (length js) (length (js ++ ms)) last b (omega arith) ∙ chain-front js ms (length js) last (omega arith)
 
 pub chain-new : (js : List Jump) (j : Jump) → IsBefore (length js) j.before → chain (js ++ j ∷ []) (length (js ++ j ∷ [])) (Some (length js)) ≡ j.place ∷ chain js (length js) j.before
 chain-new js j b =
@@ -85,3 +85,21 @@ linked-push js j linked b = λ k.
     one : (k m : ℕ) → length js ≤ k → IsBefore k (get_or (j ∷ []) m no_jump).before
     one k zero le = before-later (length js) k j.before le b
     one k (suc m) le = tt
+
+-- ---- fewer jumps
+
+none-behind : (js : List Jump) (k : ℕ) → length js ≤ k → jump_at js k ≡ no_jump
+none-behind [] k le = refl
+none-behind (j ∷ js) zero le = absurd (omega arith)
+none-behind (j ∷ js) (suc k) le = none-behind js k (omega arith)
+
+pub linked-front : (js ms : List Jump) → AreLinked (js ++ ms) → AreLinked js
+linked-front js ms linked = λ k.
+    elim (cases_Bool (nat_le (length js) k)) [
+      | inl h ↦
+          let behind : length js ≤ k = grind (arith, nat_tests, h) in
+          subst (λ (x : Jump). IsBefore k x.before) (sym (none-behind js k behind)) tt
+      | inr h ↦
+          let front : k < length js = grind (arith, nat_tests, h) in
+          subst (λ (x : Jump). IsBefore k x.before) (get_or_append_left js ms no_jump k front) (linked k)
+    ]

@@ -26,3 +26,16 @@ settles P r s mid new e same p = subst (λ (t : Result _ _). OnOk t (P new)) (sy
     here : {A B : Type 0} (t : Result A B) → OnOk t (new ≡ mid) → OnOk t (P mid) → OnOk t (P new)
     here (Ok x) f q = subst P (sym f) q
     here (Err x) f q = tt
+
+-- words are taken back where memory was wanting, and so the front stays
+pub settled-front : {A B : Type 0} (r : Result A B) (old mid new : List ℕ) → IsFront old mid → OnOk r (new ≡ mid) → OnErr r (new ≡ old) → IsFront old new
+settled-front (Ok x) old mid new front same back = subst (IsFront old) (sym same) front
+settled-front (Err x) old mid new front same back = front-same old new back
+
+pub on_err : {A B : Type 0} {P Q : Type 0} (r : Result A B) → (P → Q) → OnErr r P → OnErr r Q
+on_err (Ok x) f h = tt
+on_err (Err x) f h = f h
+
+pub always_err : {A B : Type 0} {P : Type 0} (r : Result A B) → P → OnErr r P
+always_err (Ok x) h = tt
+always_err (Err x) h = h

@@ -8,3 +8,4 @@ pub mod Chains
 pub mod Views
 pub mod Calls
 pub mod Fronts
+pub mod Undoing

@@ -4,7 +4,7 @@ use Rattle.std.proofs.Math.Seq.{drop-cons}
 use Rattle.std.proofs.lemmas.List.{reverse-append, length-reverse, length-map, map-append, set_split, take-append-drop, length-drop}
 use Rattle.control_emit.specs.declared.labels.Jump.{Jump}
 use Rattle.control_emit.specs.declared.labels.Open.{Open}
-use Rattle.control_emit.specs.Pending.{Pending, pending_of, pending_in, Shape, shape_of, shapes, with_jump, jumping, chain, IsKept, AreKept}
+use Rattle.control_emit.specs.Pending.{Pending, pending_of, pending_in, Shape, shape_of, shapes, with_jump, jumping, fewer, unjumped, chain, IsKept, AreKept}
 use Rattle.control_emit.proofs.Chains.{chain-kept, chain-new, chain-end}
 
 pub pending-split : (js : List Jump) (xs : List Open) (l : Open) (bs : List Open) → pending_in js (xs ++ l ∷ bs) ≡ pending_in js bs ++ pending_of js l ∷ pending_in js xs
@@ -33,6 +33,10 @@ parted xs i d lt = sym (take-append-drop i xs) ∙ ap (λ (x : List Open). take 
 jumping-at : (n : ℕ) (ps : List Pending) (l : Pending) (bs : List Pending) → jumping n (length ps) (ps ++ l ∷ bs) ≡ ps ++ with_jump n l ∷ bs
 jumping-at n [] l bs = refl
 jumping-at n (a ∷ ps) l bs = ap (λ (x : List Pending). a ∷ x) (jumping-at n ps l bs)
+
+unjumped-at : (ps : List Pending) (l : Pending) (bs : List Pending) → unjumped (length ps) (ps ++ l ∷ bs) ≡ ps ++ record l { jumps = fewer l.start l.jumps } ∷ bs
+unjumped-at [] l bs = refl
+unjumped-at (a ∷ ps) l bs = ap (λ (x : List Pending). a ∷ x) (unjumped-at ps l bs)
 
 shape-at : (ps : List Pending) (l : Pending) (bs : List Pending) (d : Shape) → get_or (shapes (ps ++ l ∷ bs)) (length ps) d ≡ shape_of l
 shape-at [] l bs d = refl
@@ -78,14 +82,14 @@ module _ (js : List Jump) where
 
   -- ---- one jump more
 
-  kept-map : (j : Jump) (ls : List Open) → AreKept (length js) ls → map (pending_of (js ++ j ∷ [])) ls ≡ map (pending_of js) ls
-  kept-map j [] h = refl
-  kept-map j (l ∷ ls) h =
-      ap (λ (x : List ℕ). record (pending_of js l) { jumps = x } ∷ map (pending_of (js ++ j ∷ [])) ls) (chain-kept js j l.last_jump h.0.1)
-      ∙ ap (λ (x : List Pending). pending_of js l ∷ x) (kept-map j ls h.1)
+  kept-map : (ms : List Jump) (ls : List Open) → AreKept (length js) ls → map (pending_of (js ++ ms)) ls ≡ map (pending_of js) ls
+  kept-map ms [] h = refl
+  kept-map ms (l ∷ ls) h =
+      ap (λ (x : List ℕ). record (pending_of js l) { jumps = x } ∷ map (pending_of (js ++ ms)) ls) (chain-kept js ms l.last_jump h.0.1)
+      ∙ ap (λ (x : List Pending). pending_of js l ∷ x) (kept-map ms ls h.1)
 
-  kept-pending : (j : Jump) (ls : List Open) → AreKept (length js) ls → pending_in (js ++ j ∷ []) ls ≡ pending_in js ls
-  kept-pending j ls h = ap reverse (kept-map j ls h)
+  pub kept-pending : (ms : List Jump) (ls : List Open) → AreKept (length js) ls → pending_in (js ++ ms) ls ≡ pending_in js ls
+  kept-pending ms ls h = ap reverse (kept-map ms ls h)
 
   kept-parts : (n : ℕ) (xs : List Open) (l : Open) (bs : List Open) → AreKept n (xs ++ l ∷ bs) → AreKept n xs × IsKept n l × AreKept n bs
   kept-parts n [] l bs h = (tt, h.0, h.1)
@@ -105,9 +109,27 @@ module _ (js : List Jump) where
       let same : pending_of more new ≡ with_jump n (pending_of js l) = ap (λ (x : List ℕ). record (pending_of js l) { jumps = x }) (chain-new js j parts.1.1) in
       ap (pending_in more) (set_split xs i new lt)
       ∙ pending-split more front new back
-      ∙ ap (λ (x : List Pending). x ++ pending_of more new ∷ pending_in more front) (kept-pending j back parts.2)
-      ∙ ap (λ (x : List Pending). pending_in js back ++ pending_of more new ∷ x) (kept-pending j front parts.0)
+      ∙ ap (λ (x : List Pending). x ++ pending_of more new ∷ pending_in more front) (kept-pending (j ∷ []) back parts.2)
+      ∙ ap (λ (x : List Pending). pending_in js back ++ pending_of more new ∷ x) (kept-pending (j ∷ []) front parts.0)
       ∙ ap (λ (p : Pending). pending_in js back ++ p ∷ pending_in js front) same
       ∙ sym (jumping-at n (pending_in js back) (pending_of js l) (pending_in js front))
       ∙ ap (λ (m : ℕ). jumping n m (pending_in js back ++ pending_of js l ∷ pending_in js front)) (behind_it xs i k e)
       ∙ ap (jumping n k) (sym (ap (pending_in js) whole ∙ pending-split js front l back))
+
+  -- ---- one jump fewer
+
+  pub unjumping : (xs : List Open) (i k : ℕ) (l : Open) (last : Option ℕ) → i + k + 1 ≡ length xs → l ≡ get_or xs i l → chain js (length js) last ≡ fewer l.start (chain js (length js) l.last_jump)
+      → pending_in js (set xs i (record l { last_jump = last })) ≡ unjumped k (pending_in js xs)
+  unjumping xs i k l last e is less =
+      let lt : i < length xs = omega arith in
+      let front = take i xs in
+      let back = drop (suc i) xs in
+      let whole : xs ≡ front ++ l ∷ back = parted xs i l lt ∙ ap (λ (x : Open). front ++ x ∷ back) (sym is) in
+      let new : Open = record l { last_jump = last } in
+      let same : pending_of js new ≡ record (pending_of js l) { jumps = fewer l.start (chain js (length js) l.last_jump) } = ap (λ (x : List ℕ). record (pending_of js l) { jumps = x }) less in
+      ap (pending_in js) (set_split xs i new lt)
+      ∙ pending-split js front new back
+      ∙ ap (λ (p : Pending). pending_in js back ++ p ∷ pending_in js front) same
+      ∙ sym (unjumped-at (pending_in js back) (pending_of js l) (pending_in js front))
+      ∙ ap (λ (m : ℕ). unjumped m (pending_in js back ++ pending_of js l ∷ pending_in js front)) (behind_it xs i k e)
+      ∙ ap (unjumped k) (sym (ap (pending_in js) whole ∙ pending-split js front l back))

@@ -150,6 +150,21 @@ jumping n k [] = []
 jumping n zero (l ∷ ls) = with_jump n l ∷ ls
 jumping n (suc k) (l ∷ ls) = l ∷ jumping n k ls
 
+-- one jump fewer: the last one is dropped, unless the label's place is known, so that no jump to it waits
+abbrev pub fewer : (start : Option ℕ) → List ℕ → List ℕ
+fewer None [] = []
+fewer None (p ∷ ps) = ps
+fewer (Some n) ps = ps
+
+abbrev pub unjumped : (label : ℕ) → List Pending → List Pending
+unjumped k [] = []
+unjumped zero (l ∷ ls) = record l { jumps = fewer l.start l.jumps } ∷ ls
+unjumped (suc k) (l ∷ ls) = l ∷ unjumped k ls
+
+abbrev pub all_unjumped : (labels : List ℕ) → List Pending → List Pending
+all_unjumped [] ls = ls
+all_unjumped (k ∷ ks) ls = all_unjumped ks (unjumped k ls)
+
 -- the innermost label's `if` has had its `else`
 abbrev pub TakesTest : Option ℕ → List Pending → List Pending → Type 0
 TakesTest test [] new = ⊥

@@ -6,7 +6,7 @@ ghost use Rattle.frame_layout.specs.Slots.{link};
 ghost use Rattle.wasm_defs.specs.Places.{Place};
 ghost use Rattle.frame_layout.specs.Templates.{Around, label_at, jump_words, jump_if_words, jumps, jump_table_words};
 ghost use Rattle.frame_layout.specs.Functions.{over, test_words};
-ghost use Rattle.control_emit.specs.Pending.{shapes, named, patched, all_patched, test_patched, AreWithin, IsTestWithin, AreBelow, TakesTest, jumping, end_at, chain, IsBefore, AreLinked};
+ghost use Rattle.control_emit.specs.Pending.{shapes, named, patched, all_patched, test_patched, AreWithin, IsTestWithin, AreBelow, TakesTest, jumping, fewer, unjumped, all_unjumped, end_at, chain, IsBefore, AreLinked, AreKept};
 ghost use Rattle.frame_layout.specs.Macros.{distance, far};
 ghost use Rattle.control_emit.specs.Emits.{draft, IsFront, IsHeld, Emits, Opens, Turns, Closes};
 ghost use Rattle.control_emit.specs.Begins.{IsOpening, Begins};
@@ -57,8 +57,7 @@ struct Goal {
 /// The labels of a function that are open, over the words so far, which all calls of one value take. Where the jumps stand whose
 /// place isn't known yet is kept in one list: there are no more of them than jumps to blocks' ends.
 ///
-/// Where a call answers that memory is wanting, the words are as they were. Nothing more is promised of the labels then: a jump may
-/// be noted that isn't there.
+/// Where a call answers that memory is wanting, the words and the labels are as they were.
 #[derive(Drop)]
 pub struct Labels {
     labels: Vec<Open>,
@@ -123,6 +122,45 @@ fn patch_test(words: &mut WordBuffer, test: Option<u32>, there: usize)
     }
 }
 
+/// The jump before a label's last one to its block's end. No jump to a loop's label is noted.
+fn jump_before(jumps: &[Jump], start: Option<u32>, last: Option<u32>) -> Option<u32>
+    requires linked { AreLinked jumps.now }
+    requires last { IsBefore (length jumps.now) last }
+    ensures chain { chain jumps.now (length jumps.now) result ≡ fewer start (chain jumps.now (length jumps.now) last) }
+    ensures last { IsBefore (length jumps.now) result }
+{
+    if start.is_some() {
+        return last;
+    }
+    match last {
+        Some(number) => jumps[number as usize].before,
+        None => None,
+    }
+}
+
+/// So many jumps, or all up to the one that is named, if those are more.
+fn count_with(count: usize, last: Option<u32>) -> usize
+    ensures more { count ≤ result }
+    ensures named { IsBefore result last }
+    ensures fewest { (n : ℕ) → count ≤ n → IsBefore n last → result ≤ n }
+{
+    match last {
+        Some(number) => count.max(number as usize + 1),
+        None => count,
+    }
+}
+
+/// How many jumps there are up to the last one that a label names.
+fn count_named(labels: &[Open]) -> usize
+    ensures { (n : ℕ) → AreKept n labels.now → (result ≤ n) × AreKept result labels.now }
+{
+    let mut count = 0;
+    for open in labels {
+        count = count_with(count, open.last_jump);
+    }
+    count
+}
+
 /// Appends a jump to a place that is known.
 fn lead_back(buffer: &mut WordBuffer, place: usize) -> Result<(), AllocError>
     ensures ok { OnOk result (buffer.new ≡ buffer.old ++ map word_of (far (distance (length buffer.old) place))) }
@@ -180,7 +218,8 @@ impl Labels {
     fn open_block(&mut self, buffer: &WordBuffer, base: u32, values: u32) -> Result<(), AllocError>
         requires held { IsHeld (draft self.old buffer.now) }
         requires low { base + values < 0x8000_0000 }
-        ensures { OnOk result (Opens (draft self.old buffer.now) (draft self.new buffer.now) (end_shape base values) (λ e. [])) }
+        ensures ok { OnOk result (Opens (draft self.old buffer.now) (draft self.new buffer.now) (end_shape base values) (λ e. [])) }
+        ensures kept { OnErr result (self.new ≡ self.old) }
     {
         let _ = buffer.place();
         self.labels.push(Open {
@@ -197,7 +236,8 @@ impl Labels {
     fn open_loop(&mut self, buffer: &WordBuffer, base: u32, values: u32) -> Result<(), AllocError>
         requires held { IsHeld (draft self.old buffer.now) }
         requires low { base + values < 0x8000_0000 }
-        ensures { OnOk result (Opens (draft self.old buffer.now) (draft self.new buffer.now) (start_shape base values (length buffer.now)) (λ e. [])) }
+        ensures ok { OnOk result (Opens (draft self.old buffer.now) (draft self.new buffer.now) (start_shape base values (length buffer.now)) (λ e. [])) }
+        ensures kept { OnErr result (self.new ≡ self.old) }
     {
         let here = short(buffer.place())?;
         self.labels.push(Open {
@@ -225,21 +265,24 @@ impl Labels {
         requires slots { link layout.now < 0x7FFF_FFFF }
         ensures ok { (w : Around) → w.layout ≡ layout.now → OnOk result (Opens (draft self.old buffer.old) (draft self.new buffer.new) (end_shape base values) (λ e. test_words w height (length buffer.old) e.other)) }
         ensures err { OnErr result (buffer.new ≡ buffer.old) }
+        ensures kept { OnErr result (self.new ≡ self.old) }
     {
         let test = short(place_in(buffer) + 4)?;
-        self.labels.push(Open {
+        self.labels.reserve(1)?;
+        append_test(buffer, layout, height)?;
+        self.labels.push_reserved(Open {
             base,
             takes: values,
             start: None,
             test: Some(test),
             last_jump: None,
-        })?;
-        append_test(buffer, layout, height)
+        });
+        Ok(())
     }
 
     /// Opens the block, loop or `if` of a token, where so many operands lie. Its label's base is the height below its
     /// parameters, and a branch to it takes so many values along. The words of an `if` are appended where it is live. Where memory
-    /// is wanting the words are as they were.
+    /// is wanting the words and the labels are as they were.
     pub fn begin(
         &mut self,
         buffer: &mut WordBuffer,
@@ -257,6 +300,7 @@ impl Labels {
         requires slots { link layout.now < 0x7FFF_FFFF }
         ensures ok { (w : Around) → w.layout ≡ layout.now → OnOk result (Begins w token.now live height base values (draft self.old buffer.old) (draft self.new buffer.new)) }
         ensures err { OnErr result (buffer.new ≡ buffer.old) }
+        ensures kept { OnErr result (self.new ≡ self.old) }
     {
         match token {
             Token::Block(_) => self.open_block(buffer, base, values),
@@ -290,7 +334,8 @@ impl Labels {
     /// Notes where a jump to the end of a label's block stands.
     fn wait(&mut self, label: u32, place: usize) -> Result<(), AllocError>
         requires { label < length self.old }
-        ensures { OnOk result (self.new ≡ jumping place label self.old) }
+        ensures ok { OnOk result (self.new ≡ jumping place label self.old) }
+        ensures err { OnErr result (self.new ≡ self.old) }
     {
         let place = short(place)?;
         let number = short(self.jumps.len())?;
@@ -305,6 +350,36 @@ impl Labels {
             ..open
         };
         Ok(())
+    }
+
+    /// Takes back the last jump that was noted to the end of a label's block. A loop's label has none.
+    fn forget(&mut self, label: u32)
+        requires { label < length self.old }
+        ensures { self.new ≡ unjumped label self.old }
+    {
+        let index = self.labels.len() - 1 - label as usize;
+        let open = self.labels[index];
+        let last_jump = jump_before(self.jumps.as_slice(), open.start, open.last_jump);
+        self.labels[index] = Open { last_jump, ..open };
+    }
+
+    /// Lets go of the jumps behind the last one that a label names.
+    fn trim(&mut self)
+        ensures { self.new ≡ self.old }
+    {
+        let count = count_named(self.labels.as_slice());
+        self.jumps.truncate(count);
+    }
+
+    /// Takes back a jump for each of these labels.
+    fn forget_all(&mut self, labels: &[u32])
+        requires { AreBelow (length self.old) labels.now }
+        ensures { self.new ≡ all_unjumped labels.now self.old }
+    {
+        for label in labels {
+            self.forget(*label);
+        }
+        self.trim();
     }
 
     /// Takes the place where the jump of the innermost `if` stands, if it had no `else` yet.
@@ -323,12 +398,15 @@ impl Labels {
         requires held { IsHeld (draft self.old buffer.old) }
         requires label { label < length self.old }
         ensures ok { OnOk result (Emits (draft self.old buffer.old) (draft self.new buffer.new) (λ ends. far (distance (length buffer.old) (end_at label ends)))) }
+        ensures noted { OnOk result (self.new ≡ jumping (length buffer.old) label self.old) }
         ensures front { IsFront buffer.old buffer.new }
         ensures err { OnErr result (buffer.new ≡ buffer.old) }
+        ensures kept { OnErr result (self.new ≡ self.old) }
     {
         let here = buffer.place();
-        self.wait(label, here)?;
-        lead_back(buffer, here)
+        lead_back(buffer, here)?;
+        let outcome = self.wait(label, here);
+        settled(buffer, here, outcome)
     }
 
     /// Appends a jump to a label, or for want of memory some of its words.
@@ -345,6 +423,8 @@ impl Labels {
         requires slots { link layout.now < 0x7FFF_FFFF }
         ensures ok { (w : Around) → w.layout ≡ layout.now → OnOk result (Emits (draft self.old buffer.old) (draft self.new buffer.new) (λ ends. jump_words w height (length buffer.old) (label_at w (named (shapes self.old) ends) label))) }
         ensures front { IsFront buffer.old buffer.new }
+        ensures noted { OnOk result (unjumped label self.new ≡ self.old) }
+        ensures kept { OnErr result (self.new ≡ self.old) }
     {
         let goal = self.goal(label);
         let from = height.saturating_sub(goal.takes);
@@ -356,7 +436,7 @@ impl Labels {
     }
 
     /// Appends a jump to a label, 0 being the innermost, where so many operands lie: `br`. Its values are the topmost ones. Where
-    /// memory is wanting the words are as they were.
+    /// memory is wanting the words and the labels are as they were.
     pub fn jump(
         &mut self,
         buffer: &mut WordBuffer,
@@ -370,6 +450,7 @@ impl Labels {
         requires slots { link layout.now < 0x7FFF_FFFF }
         ensures ok { (w : Around) → w.layout ≡ layout.now → OnOk result (Emits (draft self.old buffer.old) (draft self.new buffer.new) (λ ends. jump_words w height (length buffer.old) (label_at w (named (shapes self.old) ends) label))) }
         ensures err { OnErr result (buffer.new ≡ buffer.old) }
+        ensures kept { OnErr result (self.new ≡ self.old) }
     {
         let start = buffer.place();
         let outcome = self.append_jump(buffer, layout, height, label);
@@ -390,6 +471,7 @@ impl Labels {
         requires slots { link layout.now < 0x7FFF_FFFF }
         ensures ok { (w : Around) → w.layout ≡ layout.now → OnOk result (Emits (draft self.old buffer.old) (draft self.new buffer.new) (λ ends. jump_if_words w height (length buffer.old) (label_at w (named (shapes self.old) ends) label))) }
         ensures front { IsFront buffer.old buffer.new }
+        ensures kept { OnErr result (self.new ≡ self.old) }
     {
         let takes = self.goal(label).takes;
         append_topmost(buffer, layout, height)?;
@@ -397,8 +479,8 @@ impl Labels {
         self.append_jump(buffer, layout, height.saturating_sub(1), label)
     }
 
-    /// Appends a jump that is made where the topmost operand isn't zero: `br_if`. Where memory is wanting the words are as they
-    /// were.
+    /// Appends a jump that is made where the topmost operand isn't zero: `br_if`. Where memory is wanting the words and the
+    /// labels are as they were.
     pub fn jump_if(
         &mut self,
         buffer: &mut WordBuffer,
@@ -412,10 +494,40 @@ impl Labels {
         requires slots { link layout.now < 0x7FFF_FFFF }
         ensures ok { (w : Around) → w.layout ≡ layout.now → OnOk result (Emits (draft self.old buffer.old) (draft self.new buffer.new) (λ ends. jump_if_words w height (length buffer.old) (label_at w (named (shapes self.old) ends) label))) }
         ensures err { OnErr result (buffer.new ≡ buffer.old) }
+        ensures kept { OnErr result (self.new ≡ self.old) }
     {
         let start = buffer.place();
         let outcome = self.append_jump_if(buffer, layout, height, label);
         settled(buffer, start, outcome)
+    }
+
+    /// Appends a jump to a label behind those to others, or for want of memory some of its words. The jumps to the others are taken
+    /// back then.
+    fn append_next(
+        &mut self,
+        buffer: &mut WordBuffer,
+        layout: &Layout,
+        height: u32,
+        others: &[u32],
+        label: u32,
+    ) -> Result<(), AllocError>
+        requires held { IsHeld (draft self.old buffer.old) }
+        requires others { AreBelow (length self.old) others.now }
+        requires label { label < length self.old }
+        requires high { height < 0x8000_0000 }
+        requires slots { link layout.now < 0x7FFF_FFFF }
+        ensures ok { (w : Around) → w.layout ≡ layout.now → OnOk result (Emits (draft self.old buffer.old) (draft self.new buffer.new) (λ ends. jump_words w height (length buffer.old) (label_at w (named (shapes self.old) ends) label))) }
+        ensures front { IsFront buffer.old buffer.new }
+        ensures noted { OnOk result (unjumped label self.new ≡ self.old) }
+        ensures err { OnErr result (self.new ≡ all_unjumped others.now self.old) }
+    {
+        match self.append_jump(buffer, layout, height, label) {
+            Ok(()) => Ok(()),
+            Err(wanting) => {
+                self.forget_all(others);
+                Err(wanting)
+            }
+        }
     }
 
     /// Appends jumps to labels, one behind the other, or for want of memory some of their words.
@@ -432,9 +544,11 @@ impl Labels {
         requires slots { link layout.now < 0x7FFF_FFFF }
         ensures ok { (w : Around) → w.layout ≡ layout.now → OnOk result (Emits (draft self.old buffer.old) (draft self.new buffer.new) (λ ends. jumps w height (length buffer.old) (map (label_at w (named (shapes self.old) ends)) labels.now))) }
         ensures front { IsFront buffer.old buffer.new }
+        ensures noted { OnOk result (all_unjumped labels.now self.new ≡ self.old) }
+        ensures kept { OnErr result (self.new ≡ self.old) }
     {
-        for label in labels {
-            self.append_jump(buffer, layout, height, *label)?;
+        for (count, label) in labels.iter().enumerate() {
+            self.append_next(buffer, layout, height, &labels[..count], *label)?;
         }
         Ok(())
     }
@@ -455,15 +569,17 @@ impl Labels {
         requires slots { link layout.now < 0x7FFF_FFFF }
         ensures ok { (w : Around) → w.layout ≡ layout.now → OnOk result (Emits (draft self.old buffer.old) (draft self.new buffer.new) (λ ends. jump_table_words w height (length buffer.old) (map (label_at w (named (shapes self.old) ends)) labels.now) (label_at w (named (shapes self.old) ends) last))) }
         ensures front { IsFront buffer.old buffer.new }
+        ensures kept { OnErr result (self.new ≡ self.old) }
     {
         let takes = self.goal(last).takes;
         append_front(buffer, layout, height, labels.len(), takes)?;
         let below = height.saturating_sub(1);
         self.append_jumps(buffer, layout, below, labels)?;
-        self.append_jump(buffer, layout, below, last)
+        self.append_next(buffer, layout, below, labels, last)
     }
 
-    /// Appends jumps to labels by an index, the topmost operand: `br_table`. Where memory is wanting the words are as they were.
+    /// Appends jumps to labels by an index, the topmost operand: `br_table`. Where memory is wanting the words and the
+    /// labels are as they were.
     pub fn jump_table(
         &mut self,
         buffer: &mut WordBuffer,
@@ -479,6 +595,7 @@ impl Labels {
         requires slots { link layout.now < 0x7FFF_FFFF }
         ensures ok { (w : Around) → w.layout ≡ layout.now → OnOk result (Emits (draft self.old buffer.old) (draft self.new buffer.new) (λ ends. jump_table_words w height (length buffer.old) (map (label_at w (named (shapes self.old) ends)) labels.now) (label_at w (named (shapes self.old) ends) last))) }
         ensures err { OnErr result (buffer.new ≡ buffer.old) }
+        ensures kept { OnErr result (self.new ≡ self.old) }
     {
         let start = buffer.place();
         let outcome = self.append_jump_table(buffer, layout, height, labels, last);
@@ -491,6 +608,7 @@ impl Labels {
         requires some { 0 < length self.old }
         ensures ok { (place : Place) → IsLive live place → OnOk result (Emits (draft self.old buffer.old) (draft self.new buffer.new) (λ ends. over place (length buffer.old) (end_at 0 ends))) }
         ensures err { OnErr result (buffer.new ≡ buffer.old) }
+        ensures kept { OnErr result (self.new ≡ self.old) }
     {
         if live {
             return self.lead_behind(buffer, 0);
@@ -499,12 +617,13 @@ impl Labels {
     }
 
     /// Goes over to the `else` of the innermost `if`. Where the end of its first branch is live, a jump to the block's end is appended.
-    /// Where memory is wanting the words are as they were.
+    /// Where memory is wanting the words and the labels are as they were.
     pub fn otherwise(&mut self, buffer: &mut WordBuffer, live: bool) -> Result<(), AllocError>
         requires held { IsHeld (draft self.old buffer.old) }
         requires some { 0 < length self.old }
         ensures ok { (place : Place) → IsLive live place → OnOk result (Turns (draft self.old buffer.old) (draft self.new buffer.new) (λ end. over place (length buffer.old) end)) }
         ensures err { OnErr result (buffer.new ≡ buffer.old) }
+        ensures kept { OnErr result (self.new ≡ self.old) }
     {
         self.pass_over(buffer, live)?;
         let there = buffer.place();

@@ -2,11 +2,12 @@ use Rattle.std.proofs.Common.{◌≡◌, ◌-◌, ◌++◌, ℕ, Option, List, m
 use Rattle.rv_isa.specs.Words.{word_of}
 use Rattle.frame_layout.specs.Macros.{distance, far}
 use Rattle.frame_layout.specs.Templates.{Around, move_words}
-use Rattle.control_emit.specs.Pending.{Pending, Shape, Within, place_or, end_at}
+use Rattle.control_emit.specs.Pending.{Pending, Shape, Within, place_or, end_at, unjumped}
 use Rattle.control_emit.specs.Emits.{draft, Emits}
 use Rattle.control_emit.specs.Walks.{end_shape}
 use Rattle.control_emit.proofs.Calls.{on_ok, framed, emits-plain, emits-lead}
 use Rattle.control_emit.proofs.Fronts.{front-of, front-either, front-later}
+use Rattle.control_emit.proofs.Undoing.{unjumps, unjumped-none}
 use Rattle.control_emit.proofs.labels.Labels.append_jump.Goals as goal
 
 -- the values are moved
@@ -64,3 +65,18 @@ returns-in-None-clause-front c =
     let old = c.args.buffer.now in
     let mid = c.append_moves.new.buffer in
     front-later old mid c.lead_behind.new.buffer (front-of old mid _ (c.in_ok-append_moves.ensures.ok (framed c.args.layout.now) refl)) c.lead_behind.ensures.front
+
+pub returns-in-Some-clause-noted : goal.returns-in-Some-clause-noted
+returns-in-Some-clause-noted c =
+    let g = c.goal-goal.result in
+    let s : Shape = record { base = g.base; takes = g.takes; start = g.start } in
+    on_ok c.lead_back.result (λ is. unjumped-none c.in-Some.place c.args.label c.args.self.now (end_shape 0 0) s c.goal-goal.ensures.is c.in-Some.is c.requires.label) c.lead_back.ensures.ok
+
+pub returns-in-None-clause-noted : goal.returns-in-None-clause-noted
+returns-in-None-clause-noted c =
+    let g = c.goal-goal.result in
+    let s : Shape = record { base = g.base; takes = g.takes; start = g.start } in
+    let n = length c.append_moves.new.buffer in
+    on_ok c.lead_behind.result
+    (λ is. ap (unjumped c.args.label) is ∙ unjumps n c.args.label c.args.self.now (end_shape 0 0) s c.goal-goal.ensures.is c.in-None.is c.requires.label)
+    c.lead_behind.ensures.noted

@@ -10,8 +10,8 @@ use Rattle.control_emit.proofs.labels.Labels.open_loop.Goals as goal
 pub invariant_of-self-2 : goal.invariant_of-self-2
 invariant_of-self-2 c = rw c.in_ok-push.ensures.items (kept-push _ _ _ c.self.invariant.0 (c.requires.low, tt), c.self.invariant.1)
 
-pub returns : goal.returns
-returns c =
+pub returns-clause-ok : goal.returns-clause-ok
+returns-clause-ok c =
     let js = c.self.inside.jumps.items in
     let here : c.in_ok-here.here ≡ length c.args.buffer.now = c.in_ok-here.ensures ∙ c.place.ensures in
     let after = pending_in js c.push.new.self.items in

@@ -25,8 +25,8 @@ invariant_of-self-2 c =
     kept-set (length (js ++ j ∷ [])) items i new (kept-later (length js) (length (js ++ j ∷ [])) items (omega arith) c.self.invariant.0) (kept.0, omega arith) in
     rw c.in_ok-push.ensures.items (all, linked-push js j c.self.invariant.1 kept.1)
 
-pub returns : goal.returns
-returns c =
+pub returns-clause-ok : goal.returns-clause-ok
+returns-clause-ok c =
     let js = c.self.inside.jumps.items in
     let items = c.self.inside.labels.items in
     let l = c.index-open.result.now in
