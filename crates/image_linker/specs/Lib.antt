@@ -5,3 +5,4 @@ pub mod Laws
 pub mod Codes
 pub mod Linking
 pub mod Bodies
+pub mod Signatures

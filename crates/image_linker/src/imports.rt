@@ -7,13 +7,14 @@ ghost use Rattle.frame_layout.specs.Templates.{exit_stub};
 ghost use Rattle.image_format.specs.Bounds.{AreImports};
 ghost use Rattle.image_linker.specs.ImageOf.{front_of, stub_places};
 ghost use Rattle.image_linker.specs.Linking.{front_words, linked_import};
+ghost use Rattle.image_linker.specs.Signatures.{AreOf};
 
-use image_format::Import;
-use index_spaces::{Context, copy_of_name, copy_of_type};
+use crate::signatures::signature_at;
+use image_format::{Import, SharedType};
+use index_spaces::{Context, copy_of_name};
 use rv_isa::{Imm12, ImmOp, Op, Register, WordBuffer, encode};
 use std::alloc::{AllocError, Global};
 use table_calls::emit_import_stub;
-use wasm_defs::{FuncType, ValTypes};
 
 /// Words of the exit stub.
 const EXIT_WORDS: u32 = 2;
@@ -85,22 +86,13 @@ pub(crate) fn front(alloc: Global, context: &Context) -> Result<Vec<u32>, AllocE
     Ok(text)
 }
 
-/// A copy of the type of an index, or of the empty type where the context has none.
-fn signature_at(alloc: Global, context: &Context, type_index: u32) -> Result<FuncType, AllocError>
-    ensures { IfOk result (λ f. f ≡ type_or_empty (slice_get context.now.types type_index)) }
-{
-    if context.has_type(type_index) {
-        copy_of_type(alloc, context.type_at(type_index))
-    } else {
-        Ok(FuncType {
-            params: ValTypes::new(Vec::new(alloc)),
-            results: ValTypes::new(Vec::new(alloc)),
-        })
-    }
-}
-
-/// The imports of the image: the names and the types of the imported functions.
-pub(crate) fn imports_of(alloc: Global, context: &Context) -> Result<Vec<Import>, AllocError>
+/// The imports of the image: the names and the types of the imported functions. Those of one type share it.
+pub(crate) fn imports_of(
+    alloc: Global,
+    context: &Context,
+    copies: &mut [Option<SharedType>],
+) -> Result<Vec<Import>, AllocError>
+    requires { AreOf context.now.types copies.old }
     ensures { IfOk result (λ imports. imports.items ≡ map (linked_import context.now.types) context.now.imports) }
 {
     let mut imports = Vec::with_capacity(alloc, context.imports().len())?;
@@ -108,7 +100,7 @@ pub(crate) fn imports_of(alloc: Global, context: &Context) -> Result<Vec<Import>
         imports.push(Import {
             module: copy_of_name(alloc, &import.module)?,
             name: copy_of_name(alloc, &import.name)?,
-            signature: signature_at(alloc, context, import.type_index)?,
+            signature: signature_at(alloc, context.types(), copies, import.type_index)?,
         })?;
     }
     Ok(imports)

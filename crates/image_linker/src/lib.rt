@@ -8,6 +8,7 @@ mod imports;
 pub mod laws;
 mod linking;
 mod segments;
+mod signatures;
 mod spaces;
 mod tables;
 

@@ -1,27 +1,29 @@
 //! Links the codes of a module's functions.
 
 ghost use Rattle.std.specs.Prelude.{◌≡◌, ◌≤◌, ◌<◌, ◌+◌, ◌*◌, ◌++◌, ◌^◌, ℕ, length, map, take, drop, slice_index, slice_set, IfOk};
-ghost use Rattle.wasm_defs.specs.Context.{type_of_function};
 ghost use Rattle.frame_layout.specs.Functions.{with_distance, with_distances};
 ghost use Rattle.image_format.specs.Bounds.{AreImports};
 ghost use Rattle.image_format.specs.Contents.{IsImage};
-ghost use Rattle.index_spaces.specs.Spaces.{context_in};
 ghost use Rattle.index_spaces.specs.Entries.{function_exports};
 ghost use Rattle.image_linker.specs.Bodies.{codes_of};
 ghost use Rattle.image_linker.specs.ImageOf.{front_of, distances};
+ghost use Rattle.image_linker.specs.Signatures.{AreOf};
 ghost use Rattle.image_linker.specs.Linking.{NumbersFit, words_of, words_from, starts_behind, front_words, has_room, with_segments, linked, linked_export, linked_import, linked_start};
 
 use crate::codes::BodyCode;
 use crate::imports::{front, front_of, imports_of, stub_places};
 use crate::segments::{have_room, placed_segments};
+use crate::signatures::{no_copies, signature_of};
 use crate::spaces::{first_cap, first_minimum, global_words};
 use crate::tables::{have_rows, rows_of};
 use frame_layout::macros::{call, distance};
-use image_format::{Export, Exports, Globals, Image, Imports, Segments, Table, Text, Version};
-use index_spaces::{Context, DataRow, copy_of_name, copy_of_type};
+use image_format::{
+    Export, Exports, Globals, Image, Imports, Segments, SharedType, Table, Text, Version,
+};
+use index_spaces::{Context, DataRow, copy_of_name};
 use rv_isa::{Relocation, encode};
 use std::alloc::{AllocError, Global};
-use wasm_defs::{Extern, FuncType, ValTypes};
+use wasm_defs::Extern;
 
 /// The place of a function, or 0 where it has none.
 pub(crate) fn start_at(starts: &[u32], function: u32) -> u32
@@ -110,31 +112,24 @@ fn starts_of(alloc: Global, imported: usize, codes: &[BodyCode]) -> Result<Vec<u
     Ok(starts)
 }
 
-/// A copy of the type of a function, or of the empty type where the context has none.
-fn signature_of(alloc: Global, context: &Context, function: u32) -> Result<FuncType, AllocError>
-    ensures { IfOk result (λ f. f ≡ type_of_function (context_in context.now) function) }
-{
-    if context.has_type_of_function(function) {
-        copy_of_type(alloc, context.type_of_function(function))
-    } else {
-        Ok(FuncType {
-            params: ValTypes::new(Vec::new(alloc)),
-            results: ValTypes::new(Vec::new(alloc)),
-        })
-    }
-}
-
-/// The exported functions, which have the places of their codes.
-fn exports_of(alloc: Global, context: &Context, starts: &[u32]) -> Result<Vec<Export>, AllocError>
-    requires { (i : ℕ) → slice_index starts.now i < 2 ^ 27 }
-    ensures { IfOk result (λ exports. exports.items ≡ map (linked_export context.now starts.now) (function_exports context.now.exports)) }
+/// The exported functions, which have the places of their codes. Those of one type share it.
+fn exports_of(
+    alloc: Global,
+    context: &Context,
+    starts: &[u32],
+    copies: &mut [Option<SharedType>],
+) -> Result<Vec<Export>, AllocError>
+    requires places { (i : ℕ) → slice_index starts.now i < 2 ^ 27 }
+    requires copies { AreOf context.now.types copies.old }
+    ensures exports { IfOk result (λ exports. exports.items ≡ map (linked_export context.now starts.now) (function_exports context.now.exports)) }
+    ensures copies { AreOf context.now.types copies.new }
 {
     let mut exports = Vec::new(alloc);
     for export in context.exports() {
         if export.kind == Extern::Function {
             exports.push(Export {
                 name: copy_of_name(alloc, &export.name)?,
-                signature: signature_of(alloc, context, export.index)?,
+                signature: signature_of(alloc, context, copies, export.index)?,
                 offset: 4 * start_at(starts, export.index),
             })?;
         }
@@ -179,7 +174,9 @@ pub fn link(
 {
     let starts = starts_of(alloc, context.imports().len(), codes)?;
     let text = text_of(alloc, context, codes, &starts)?;
-    let exports = exports_of(alloc, context, &starts)?;
+    let mut copies = no_copies(alloc, context.types())?;
+    let exports = exports_of(alloc, context, &starts, &mut copies)?;
+    let imports = imports_of(alloc, context, &mut copies)?;
     let globals = global_words(alloc, context)?;
     let pages = first_minimum(context.memories());
     let linkable = is_linkable(context, segments);
@@ -193,7 +190,7 @@ pub fn link(
         pages,
         cap: first_cap(context.memories()),
         segments: Segments::new(placed),
-        imports: Imports::new(imports_of(alloc, context)?),
+        imports: Imports::new(imports),
         exports: Exports::new(exports),
         start: start_of(&starts, context.start()),
         unlinkable: !linkable,

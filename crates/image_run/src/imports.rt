@@ -196,7 +196,7 @@ pub(crate) fn call_import<H: Host>(
     let Some(import) = import_at(image, number) else {
         return unknown;
     };
-    let signature = &import.signature;
+    let signature: &FuncType = &import.signature;
     let Some(at) = slots_at(machine.register(S0), signature.params.as_slice().len()) else {
         return unknown;
     };

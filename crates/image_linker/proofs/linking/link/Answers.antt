@@ -20,8 +20,8 @@ starts_of-requires c =
 pub text_of-requires : goal.text_of-requires
 text_of-requires c = c.requires.bounded.imports
 
-pub exports_of-requires : goal.exports_of-requires
-exports_of-requires c =
+pub exports_of-requires-clause-places : goal.exports_of-requires-clause-places
+exports_of-requires-clause-places c =
     starts_small (with_segments c.args.context.now c.args.segments.now) (codes_of c.args.codes.now) c.deref-2.result.now c.requires.bounded
     (c.deref-2.ensures.value ∙ c.in_ok-starts.ensures ∙ ap (λ imports. starts_behind (length imports) (codes_of c.args.codes.now)) c.imports.ensures)
 
@@ -52,11 +52,11 @@ invariant_of-result c =
     let places : starts ≡ starts_of s codes = c.in_ok-starts.ensures ∙ ap (λ imports. starts_behind (length imports) codes) c.imports.ensures in
     let text = c.new.ensures.list ∙ c.in_ok-text.ensures ∙ ap (λ (l : List ℕ). front_words s ++ words_from l (front_of (length s.imports)) codes) c.deref.ensures.value in
     let table = c.new-3.ensures ∙ c.in_ok-table.ensures ∙ ap (λ (l : List ℕ). linked_rows s l room) c.deref-3.ensures.value in
-    let exports = c.new-6.ensures ∙ c.in_ok-exports.ensures ∙ ap (λ (l : List ℕ). map (linked_export s l) (function_exports s.exports)) c.deref-2.ensures.value in
+    let exports = c.new-6.ensures ∙ c.in_ok-exports.ensures.exports ∙ ap (λ (l : List ℕ). map (linked_export s l) (function_exports s.exports)) c.deref-2.ensures.value in
     let start = c.start_of.ensures ∙ ap (λ (l : List ℕ). linked_start l c.start.result) c.deref-4.ensures.value ∙ ap (linked_start starts) c.start.ensures in
     subst IsImage (sym (
     linked_fields s codes starts room places c.is_linkable-linkable.ensures _ _ _ _ _ _ _ _ _ text (c.new-2.ensures.list ∙ c.in_ok-globals.ensures) table (c.first_minimum-pages.ensures ∙ ap first_minimum c.memories.ensures)
-    (c.first_cap.ensures ∙ ap first_cap c.memories-2.ensures) (c.new-4.ensures ∙ c.in_ok-placed.ensures) (c.new-5.ensures ∙ c.in_ok-imports_of.ensures) exports start)) c.requires.bounded
+    (c.first_cap.ensures ∙ ap first_cap c.memories-2.ensures) (c.new-4.ensures ∙ c.in_ok-placed.ensures) (c.new-5.ensures ∙ c.in_ok-imports.ensures) exports start)) c.requires.bounded
 
 pub returns : goal.returns
 returns c =
@@ -67,7 +67,7 @@ returns c =
     let places : starts ≡ starts_of s codes = c.in_ok-starts.ensures ∙ ap (λ imports. starts_behind (length imports) codes) c.imports.ensures in
     let text = c.new.ensures.list ∙ c.in_ok-text.ensures ∙ ap (λ (l : List ℕ). front_words s ++ words_from l (front_of (length s.imports)) codes) c.deref.ensures.value in
     let table = c.new-3.ensures ∙ c.in_ok-table.ensures ∙ ap (λ (l : List ℕ). linked_rows s l room) c.deref-3.ensures.value in
-    let exports = c.new-6.ensures ∙ c.in_ok-exports.ensures ∙ ap (λ (l : List ℕ). map (linked_export s l) (function_exports s.exports)) c.deref-2.ensures.value in
+    let exports = c.new-6.ensures ∙ c.in_ok-exports.ensures.exports ∙ ap (λ (l : List ℕ). map (linked_export s l) (function_exports s.exports)) c.deref-2.ensures.value in
     let start = c.start_of.ensures ∙ ap (λ (l : List ℕ). linked_start l c.start.result) c.deref-4.ensures.value ∙ ap (linked_start starts) c.start.ensures in
     linked_fields s codes starts room places c.is_linkable-linkable.ensures _ _ _ _ _ _ _ _ _ text (c.new-2.ensures.list ∙ c.in_ok-globals.ensures) table (c.first_minimum-pages.ensures ∙ ap first_minimum c.memories.ensures)
-    (c.first_cap.ensures ∙ ap first_cap c.memories-2.ensures) (c.new-4.ensures ∙ c.in_ok-placed.ensures) (c.new-5.ensures ∙ c.in_ok-imports_of.ensures) exports start
+    (c.first_cap.ensures ∙ ap first_cap c.memories-2.ensures) (c.new-4.ensures ∙ c.in_ok-placed.ensures) (c.new-5.ensures ∙ c.in_ok-imports.ensures) exports start

@@ -1,5 +1,6 @@
-use Rattle.std.proofs.Common.{◌≡◌, ℕ, List, None, map, sym, ap, ◌∙◌, subst, arith}
+use Rattle.std.proofs.Common.{◌≡◌, ◌≤◌, ℕ, List, None, map, length, sym, ap, ◌∙◌, subst, arith}
 use Rattle.rv64im_machine.specs.Contents.{state_of}
+use Rattle.wasm_defs.specs.declared.types.FuncType.{FuncType}
 use Rattle.wasm_defs.specs.declared.types.ValType.{ValType}
 use Rattle.wasm_defs.specs.Values.{type_of, value_of}
 use Rattle.image_format.specs.ImageRun.{results_at}
@@ -44,7 +45,7 @@ returns-in-Some-run_function-clause-run g c =
 pub returned-requires-clause-results : goal.returned-requires-clause-results
 returned-requires-clause-results g c =
     let i = c.self.inside.image.now in
-    rw c.as_slice-results.ensures (one_result i c.args.export.now c.in-Some.export.now c.self.invariant.bounds (sym c.in-Some.ensures))
+    rw c.as_slice-results.ensures (subst (λ (t : FuncType). length t.results ≤ 1) (sym c.deref.ensures) (one_result i c.args.export.now c.in-Some.export.now c.self.invariant.bounds (sym c.in-Some.ensures)))
 
 pub returns-clause-run : goal.returns-clause-run
 returns-clause-run g c =
@@ -52,7 +53,7 @@ returns-clause-run g c =
     let e = c.in-Some.export.now in
     let arguments = map value_of c.args.arguments.now in
     let stack = c.run_function.new.machine.bytes.stack in
-    let are = c.returned.ensures ∙ ap (λ (bytes : List ℕ). results_at bytes 0 c.as_slice-results.result.now) c.bytes.ensures.value ∙ ap (λ (types : List ValType). results_at stack 0 types) c.as_slice-results.ensures in
+    let are = c.returned.ensures ∙ ap (λ (bytes : List ℕ). results_at bytes 0 c.as_slice-results.result.now) c.bytes.ensures.value ∙ ap (λ (types : List ValType). results_at stack 0 types) (c.as_slice-results.ensures ∙ ap (λ (t : FuncType). t.results) c.deref.ensures) in
     rw (← c.self.view_is) (
       e,
       sym c.in-Some.ensures,
