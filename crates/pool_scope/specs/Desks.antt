@@ -1,10 +1,16 @@
 -- What is known of the thread that reads, while it hands batches over.
-use Rattle.std.specs.Prelude.{◌≡◌, ℕ, ◌-◌, ◌<◌, true, List, [], length, slice_index, All}
+use Rattle.std.specs.Prelude.{◌≡◌, ◌⊎◌, ℕ, ◌-◌, ◌<◌, ◌≤◌, true, List, [], ◌∷◌, ◌++◌, length, slice_index, All}
+use Rattle.std.specs.Arc.{arc_value}
 use Rattle.index_spaces.specs.Spaces.{Spaces}
+use Rattle.body_cutter.specs.declared.batch.Batch.{Batch}
 use Rattle.batch_pool.specs.declared.row.Row.{Row}
 use Rattle.batch_pool.specs.declared.ticket.Ticket.{Ticket}
-use Rattle.batch_pool.specs.Working.{IsRowOf}
+use Rattle.batch_pool.specs.Hands.{Feeding}
+use Rattle.batch_pool.specs.Low.{IsLow}
+use Rattle.batch_pool.specs.Queues.{puts}
+use Rattle.batch_pool.specs.Working.{IsRowOf, FitsBody}
 use Rattle.cancel_drain.specs.Handles.{Site, Sitter}
+use Rattle.cancel_drain.specs.Views.{publishes, IsAbove}
 use Rattle.pool_scope.specs.declared.desk.Desk.{Desk}
 use Rattle.pool_scope.specs.Settling.{AreKept}
 
@@ -15,6 +21,35 @@ pub record IsDesk (c : Spaces) (board : Site) (d : Desk) : Type 0 where
   pub running : d.seat.view.running ≡ []
   pub kept : AreKept c board.functions d.seat.view.published d.kept.items
   pub last : 0 < length d.seat.view.published → slice_index d.seat.view.published (length d.seat.view.published - 1) ≡ d.last
+
+-- A batch may be published next: it has a ticket, its number is the next one, its start is above the last one's, the board has a place
+-- for it, and each of its bodies has its function in the context
+pub record IsNext (c : Spaces) (functions : ℕ) (d : Desk) (b : Batch) : Type 0 where
+  pub low : IsLow b
+  pub number : b.number ≡ length d.seat.view.published
+  pub start : IsAbove d.seat.view.published b.start
+  pub place : b.number < functions
+  pub bodies : All (FitsBody c) b.bodies
+
+-- a ticket of the batch was put into the queue; or nothing was, since as many as it was made for were put before
+abbrev pub PutsIn : Feeding → Batch → Feeding → Type 0
+PutsIn f b f' = ((t : Ticket) × (arc_value t.batch ≡ b) × (f' ≡ record f { view = puts f.view (t ∷ []) })) ⊎ ((f' ≡ f) × (f.room ≤ length f.view.put))
+
+-- the batch was published behind the others, its ticket was kept behind theirs, and one was put into the queue where it has room
+pub record Hands (d : Desk) (b : Batch) (d' : Desk) : Type 0 where
+  pub seat : d'.seat ≡ record d.seat { view = publishes d.seat.view b.start }
+  pub ticket : Ticket
+  pub batch : arc_value ticket.batch ≡ b
+  pub kept : d'.kept.items ≡ d.kept.items ++ ticket ∷ []
+  pub last : d'.last ≡ b.start
+  pub feeder : PutsIn d.feeder b d'.feeder
+
+-- nothing of the desk has changed
+pub record IsAsBefore (d d' : Desk) : Type 0 where
+  pub seat : d'.seat ≡ d.seat
+  pub feeder : d'.feeder ≡ d.feeder
+  pub kept : d'.kept.items ≡ d.kept.items
+  pub last : d'.last ≡ d.last
 
 -- The last seat has what all others knew and as many parts as at first, the tickets are those of the batches that were published, and the
 -- rows are right

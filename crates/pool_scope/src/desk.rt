@@ -1,6 +1,9 @@
 //! Where the thread that reads hands batches over.
-ghost use Rattle.std.specs.Prelude.{◌≡◌, true, []};
-ghost use Rattle.pool_scope.specs.Desks.{IsDesk};
+ghost use Rattle.std.specs.Prelude.{◌≡◌, ◌↔◌, ◌⊎◌, ◌<◌, ◌-◌, ◌^◌, true, [], IsTrue, OnOk, OnErr};
+ghost use Rattle.std.specs.Arc.{arc_value};
+ghost use Rattle.cancel_drain.specs.Plays.{IsFresh};
+ghost use Rattle.cancel_drain.specs.Views.{looks};
+ghost use Rattle.pool_scope.specs.Desks.{IsDesk, IsNext, Hands, IsAsBefore};
 
 use crate::settling::keep;
 use batch_pool::{Feeder, Ticket, fits};
@@ -47,8 +50,8 @@ impl Desk {
         }
     }
 
-    /// Publishes a batch, and puts its ticket into the queue. One that doesn't fit, and one that the queue has no room for, is left
-    /// to whoever settles. Where memory runs out, it may be published all the same.
+    /// Publishes a batch that comes next and fits, keeps its ticket, and puts another one into the queue; where the queue has no room
+    /// for it, the batch is left to whoever settles. With any other batch, and where memory runs out, nothing has changed.
     pub fn hand_over(
         &mut self,
         board: &Board,
@@ -58,6 +61,9 @@ impl Desk {
         requires desk { IsDesk context.now board.now self.old }
         ensures desk { IsDesk context.now board.now self.new }
         ensures parts { self.new.seat.view.parts ≡ self.old.seat.view.parts }
+        ensures handed { OnOk result ((IsNext context.now board.now.functions self.old (arc_value batch.now) × Hands self.old (arc_value batch.now) self.new)
+            ⊎ ((¬ IsNext context.now board.now.functions self.old (arc_value batch.now)) × IsAsBefore self.old self.new)) }
+        ensures err { OnErr result (IsAsBefore self.old self.new) }
     {
         let Some(ticket) = Ticket::of(Arc::try_clone(batch)?) else {
             return Ok(());
@@ -77,11 +83,14 @@ impl Desk {
         Ok(())
     }
 
-    /// Whether a fault was reported so far.
+    /// Looks at the board: whether its least key is a fault's, so that one was reported. Nothing but what the seat has seen changes.
     pub fn sees_fault(&mut self, board: &Board, context: &Context) -> bool
         requires desk { IsDesk context.now board.now self.old }
         ensures desk { IsDesk context.now board.now self.new }
         ensures parts { self.new.seat.view.parts ≡ self.old.seat.view.parts }
+        ensures seen { IsTrue result ↔ (self.new.seat.view.seen < 2 ^ 64 - 1) }
+        ensures looked { self.new ≡ record self.old { seat = record self.old.seat { view = looks self.old.seat.view self.new.seat.view.seen } } }
+        ensures fresh { IsFresh self.old.seat.view self.new.seat.view.seen }
     {
         let _ = context;
         board.look(&mut self.seat) != u64::MAX

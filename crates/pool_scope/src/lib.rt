@@ -12,7 +12,7 @@ mod tests;
 
 pub use beside::{Joined, Reading, run_beside};
 pub use desk::Desk;
-pub use gathering::{join_all, run_all, take_in};
+pub use gathering::{join_all, take_in};
 pub use labour::{Labour, labour_at};
 pub use numbered::by_number;
-pub use settling::{keep, settle};
+pub use settling::{Settled, keep, settle};

@@ -1,7 +1,8 @@
 //! Rows by the numbers of their batches.
-ghost use Rattle.std.specs.Prelude.{All, IfOk};
+ghost use Rattle.std.specs.Prelude.{◌≡◌, ◌<◌, ℕ, Some, None, All, IfOk, length, slice_get};
 ghost use Rattle.batch_pool.specs.Working.{IsRowOf};
 ghost use Rattle.pool_scope.specs.Gathering.{IsRowIf};
+ghost use Rattle.pool_scope.specs.Numbered.{row_numbered};
 
 use batch_pool::Row;
 use index_spaces::Context;
@@ -15,7 +16,9 @@ fn places(
     cells: &Cells,
     count: usize,
 ) -> Result<Vec<Option<Row>>, AllocError>
-    ensures { IfOk result (λ v. All (IsRowIf context.now cells.now) v.items) }
+    ensures rows { IfOk result (λ v. All (IsRowIf context.now cells.now) v.items) }
+    ensures count { IfOk result (λ v. length v.items ≡ count) }
+    ensures empty { IfOk result (λ v. All (λ p. p ≡ None) v.items) }
 {
     let _ = context;
     let _ = cells;
@@ -26,8 +29,8 @@ fn places(
     Ok(places)
 }
 
-/// The rows of so many batches, each at the place that its batch's number names. A batch has one row at most, so none is lost but that of a
-/// number past the last.
+/// The rows of so many batches, each at the place that its batch's number names: the last one of several of a number, and none where
+/// there is none. Those of numbers past the last place are left out.
 pub fn by_number(
     alloc: Global,
     context: &Context,
@@ -36,7 +39,9 @@ pub fn by_number(
     count: usize,
 ) -> Result<Vec<Option<Row>>, AllocError>
     requires { All (IsRowOf context.now cells.now) rows.items }
-    ensures { IfOk result (λ v. All (IsRowIf context.now cells.now) v.items) }
+    ensures rows { IfOk result (λ v. All (IsRowIf context.now cells.now) v.items) }
+    ensures count { IfOk result (λ v. length v.items ≡ count) }
+    ensures places { IfOk result (λ v. (i : ℕ) → i < count → slice_get v.items i ≡ Some (row_numbered i rows.items)) }
 {
     let mut places = places(alloc, context, cells, count)?;
     for row in rows {

@@ -1,5 +1,5 @@
 //! The end: the thread that fed the workers tries each batch itself, and closes the board.
-ghost use Rattle.std.specs.Prelude.{◌≡◌, ◌<◌, ℕ, [], true, length, IfSome, OnOk, OnErr};
+ghost use Rattle.std.specs.Prelude.{◌≡◌, ◌<◌, ℕ, [], ◌∷◌, ◌++◌, true, length, IfSome, OnOk, OnErr};
 ghost use Rattle.batch_pool.specs.Working.{Grows, Fits};
 ghost use Rattle.cancel_drain.specs.Views.{publishes, IsAbove};
 ghost use Rattle.cancel_drain.specs.Closing.{IsTried, IsClosed, IsSettled};
@@ -28,6 +28,7 @@ pub fn keep(
     requires fits { Fits context.now board.now.functions ticket }
     requires kept { AreKept context.now board.now.functions seat.old.view.published kept.old.items }
     ensures view { OnOk result (seat.new ≡ record seat.old { view = publishes seat.old.view ticket.start }) }
+    ensures pushed { OnOk result (kept.new.items ≡ kept.old.items ++ ticket ∷ []) }
     ensures kept { OnOk result (AreKept context.now board.now.functions seat.new.view.published kept.new.items) }
     ensures err { OnErr result ((seat.new ≡ seat.old) × (kept.new.items ≡ kept.old.items)) }
 {
@@ -66,6 +67,15 @@ fn try_all<G: Gate>(
     Some(())
 }
 
+/// What a board shows once all was settled, and all rows.
+#[derive(Drop)]
+pub struct Settled {
+    /// The least fault that was reported, and the word of each batch.
+    pub closed: Closed,
+    /// The rows that were given, with those of the batches that settling ran behind them.
+    pub rows: Vec<Row>,
+}
+
 /// Serves each kept batch on the last seat, which fed the others, and closes the board: each batch that was published is done
 /// once, or drained behind a reported fault. None where memory ran out.
 pub fn settle<G: Gate>(
@@ -75,16 +85,20 @@ pub fn settle<G: Gate>(
     cells: &Cells,
     context: &Context,
     gate: &G,
-    rows: &mut Vec<Row>,
+    rows: Vec<Row>,
     kept: Vec<Ticket>,
-) -> Option<Closed>
+) -> Option<Settled>
     requires table { seat.table ≡ board.table }
     requires seat { (seat.view.feeder ≡ true) × (seat.view.running ≡ []) × (seat.view.parts ≡ board.seats) }
     requires kept { AreKept context.now board.functions seat.view.published kept.items }
-    ensures { IfSome result (λ closed. (w : View) × Grows context.now cells.now seat.view w rows.old.items rows.new.items
-        × IsClosed board.functions w closed.least closed.states × ((b : ℕ) → b < length w.published → IsSettled w closed.least b)) }
+    ensures { IfSome result (λ s. (w : View) × Grows context.now cells.now seat.view w rows.items s.rows.items
+        × IsClosed board.functions w s.closed.least s.closed.states × ((b : ℕ) → b < length w.published → IsSettled w s.closed.least b)) }
 {
     let mut seat = seat;
-    try_all(alloc, &board, &mut seat, cells, context, gate, rows, kept)?;
-    Some(board.close(seat))
+    let mut rows = rows;
+    try_all(
+        alloc, &board, &mut seat, cells, context, gate, &mut rows, kept,
+    )?;
+    let closed = board.close(seat);
+    Some(Settled { closed, rows })
 }

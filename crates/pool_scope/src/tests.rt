@@ -1,12 +1,11 @@
-//! Workers in threads, and the caller behind them.
-ghost use Rattle.std.specs.Prelude.{◌≡◌, ◌+◌, ◌<◌, true, [], length, IfOk, OnOk};
-ghost use Rattle.cancel_drain.specs.Views.{first_view};
-ghost use Rattle.pool_scope.specs.Settling.{AreKept};
+//! Workers in threads, and the caller that hands batches over and settles.
+ghost use Rattle.std.specs.Prelude.{◌≡◌, ⊤, length, IfOk};
+ghost use Rattle.pool_scope.specs.Desks.{IsDesk};
 
-use crate::{keep, run_all, settle};
-use batch_pool::{Pool, Ticket, fits};
+use crate::{Desk, Reading, by_number, run_beside, settle};
+use batch_pool::{Pool, Row};
 use body_cutter::{Batch, Bodies, Body, BodyBytes};
-use cancel_drain::{Board, BoardSeat, Closed};
+use cancel_drain::{Board, Closed};
 use index_spaces::{AddStop, Context, ContextBuilder};
 use io_edges::OpenGate;
 use result_cells::Cells;
@@ -19,8 +18,8 @@ use wasm_defs::{FuncType, Item, Kind, Refusal, ValType, ValTypes};
 
 const BATCHES: u32 = 200;
 
-// The ticket of a batch of one body, of function 0. Each fiftieth body from the fortieth on is faulty.
-fn ticket(alloc: Global, number: u32) -> Result<Ticket, AllocError> {
+// A batch of one body, of function 0. Each fiftieth body from the fortieth on is faulty.
+fn batch(alloc: Global, number: u32) -> Result<Batch, AllocError> {
     let start = 100 + 10 * u64::from(number);
     let bytes: &[u8] = if number % 50 == 40 {
         &[0x00, 0x6A, 0x0B]
@@ -34,12 +33,11 @@ fn ticket(alloc: Global, number: u32) -> Result<Ticket, AllocError> {
         first: start + 1,
         bytes: BodyBytes::new(Vec::from_slice(alloc, bytes)?),
     })?;
-    let batch = Batch {
+    Ok(Batch {
         number,
         start,
         bodies: Bodies::new(bodies),
-    };
-    Ticket::of(Arc::new(alloc, batch)?).ok_or(AllocError)
+    })
 }
 
 // A module of a function that gives a number of 32 bits.
@@ -60,100 +58,121 @@ fn one_function(alloc: Global) -> Result<Context, AddStop> {
     Ok(builder.finish())
 }
 
-// Publishes all batches, and gives their tickets.
-fn keep_all(
+// Hands all batches over, and says whether a fault was seen then.
+fn hand_all(
     alloc: Global,
     board: &Board,
-    seat: &mut BoardSeat,
-    cells: &Cells,
     context: &Context,
-) -> Result<Vec<Ticket>, AllocError>
-    requires table { seat.old.table ≡ board.now.table }
-    requires first { seat.old.view ≡ first_view board.now.seats }
-    ensures table { seat.new.table ≡ seat.old.table }
-    ensures feeder { OnOk result (seat.new.view.feeder ≡ true) }
-    ensures running { OnOk result (seat.new.view.running ≡ []) }
-    ensures parts { OnOk result (seat.new.view.parts ≡ seat.old.view.parts) }
-    ensures kept { IfOk result (λ v. AreKept context.now board.now.functions seat.new.view.published v.items) }
+    desk: &mut Desk,
+) -> Result<bool, AllocError>
+    requires desk { IsDesk context.now board.now desk.old }
+    ensures desk { IsDesk context.now board.now desk.new }
+    ensures parts { desk.new.seat.view.parts ≡ desk.old.seat.view.parts }
 {
-    let mut kept = Vec::new(alloc);
     for number in 0..BATCHES {
-        let one = ticket(alloc, number)?;
-        if one.number != number
-            || one.start != 100 + 10 * u64::from(number)
-            || !fits(board, context, &one)
-        {
-            return Err(AllocError);
-        }
-        keep(board, seat, context, &mut kept, one)?;
+        let batch = Arc::new(alloc, batch(alloc, number)?)?;
+        desk.hand_over(board, context, &batch)?;
     }
-    Ok(kept)
+    Ok(desk.sees_fault(board, context))
 }
 
-fn tickets(alloc: Global) -> Result<Vec<Ticket>, AllocError> {
-    let mut tickets = Vec::new(alloc);
-    for number in 0..BATCHES {
-        tickets.push(ticket(alloc, number)?)?;
-    }
-    Ok(tickets)
+#[derive(Drop)]
+struct HandsAll {
+    alloc: Global,
+    // Whether a fault was seen once all batches were handed over.
+    saw: Result<bool, AllocError>,
 }
 
-// What the board shows after so many workers, and how many rows there are.
+impl Reading for HandsAll {
+    ghost can_read = { λ _. ⊤ };
+
+    ghost reads = { λ _ _. ⊤ };
+
+    fn read(&mut self, board: &Board, context: &Context, desk: &mut Desk) {
+        self.saw = hand_all(self.alloc, board, context, desk);
+    }
+}
+
+// What there is behind a run.
+#[derive(Drop)]
+struct Outcome {
+    closed: Closed,
+    // The rows by the numbers of their batches.
+    rows: Vec<Option<Row>>,
+    // How many batches were handed over.
+    kept: usize,
+    // Whether a fault was seen once all were.
+    saw: bool,
+}
+
+// What so many workers make of all batches, with the thread that settles behind them.
 fn run<R: Threads + Wait + Sync>(
     rt: &R,
     alloc: Global,
+    context: &Context,
     workers: u32,
-) -> Result<(Closed, usize), AllocError>
-    ensures { IfOk result (λ r. length r.0.states ≡ 200) }
+) -> Result<Outcome, AllocError>
+    ensures states { IfOk result (λ o. length o.closed.states ≡ 200) }
+    ensures rows { IfOk result (λ o. length o.rows.items ≡ 200) }
 {
-    let Ok(context) = one_function(alloc) else {
+    let cells = Cells::new(alloc, 1)?;
+    let (board, seat) = Board::new(alloc, BATCHES, u64::from(workers) + 1)?;
+    let (feeder, hands) = Pool::new(alloc, workers)?;
+    let reading = HandsAll {
+        alloc,
+        saw: Ok(false),
+    };
+    let Some(joined) = run_beside(
+        rt, alloc, &board, seat, &cells, context, &OpenGate, hands, feeder, reading,
+    ) else {
         return Err(AllocError);
     };
-    let cells = Cells::new(alloc, 1)?;
-    let (board, mut seat) = Board::new(alloc, BATCHES, u64::from(workers) + 1)?;
-    let (feeder, hands) = Pool::new(alloc, workers)?;
-    let kept = keep_all(alloc, &board, &mut seat, &cells, &context)?;
-    let worked = run_all(
-        rt,
-        alloc,
-        &board,
-        seat,
-        &cells,
-        &context,
-        &OpenGate,
-        hands,
-        feeder,
-        tickets(alloc)?,
-    )
-    .ok_or(AllocError)?;
-    let mut rows = worked.rows.into_vec();
-    let closed = settle(
+    let kept = joined.kept.len();
+    let saw = joined.reader.saw?;
+    let Some(settled) = settle(
         alloc,
         board,
-        worked.seat,
+        joined.seat,
         &cells,
-        &context,
+        context,
         &OpenGate,
-        &mut rows,
+        joined.rows,
+        joined.kept,
+    ) else {
+        return Err(AllocError);
+    };
+    let rows = by_number(alloc, context, &cells, settled.rows, BATCHES as usize)?;
+    Ok(Outcome {
+        closed: settled.closed,
+        rows,
         kept,
-    )
-    .ok_or(AllocError)?;
-    Ok((closed, rows.len()))
+        saw,
+    })
 }
 
 #[test]
 fn the_least_fault_is_found_by_any_number_of_workers(rt: HostRuntime) -> Result<(), Fail> {
+    let alloc = rt.alloc();
+    let Ok(context) = one_function(alloc) else {
+        return Err(AllocError.into());
+    };
+    let least = Some(Refusal {
+        offset: 502,
+        kind: Kind::Invalid,
+    });
     for workers in [0u32, 1, 4, 16] {
-        let (closed, rows) = run(&rt, rt.alloc(), workers)?;
-        assert!(rt;
-            closed.least
-                == Some(Refusal {
-                    offset: 502,
-                    kind: Kind::Invalid
-                })
-        );
-        assert!(rt; closed.states.word(40) == 8 * 500 + 3);
-        assert!(rt; rows >= 41);
+        let outcome = run(&rt, alloc, &context, workers)?;
+        assert!(rt; outcome.kept == 200);
+        assert!(rt; 0 < workers || !outcome.saw);
+        assert!(rt; outcome.closed.least == least);
+        assert!(rt; outcome.closed.states.word(40) == 8 * 500 + 3);
+        let Some(row) = &outcome.rows[40] else {
+            return Err(Fail::from("the faulty batch has no row"));
+        };
+        assert!(rt; row.batch.number == 40 && row.fault == least);
+        for place in 0..40 {
+            assert!(rt; outcome.rows[place].is_some());
+        }
     }
     Ok(())
 }

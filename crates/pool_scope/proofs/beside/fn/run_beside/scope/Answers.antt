@@ -1,4 +1,4 @@
-use Rattle.std.proofs.Common.{◌≡◌, rules, refl, sym, ap, ◌∙◌, arith, All, []}
+use Rattle.std.proofs.Common.{◌≡◌, rules, refl, ap, ◌∙◌, arith, []}
 use Rattle.cancel_drain.specs.Handles.{Sitter}
 use Rattle.pool_scope.specs.Gathering.{AreOf}
 use Rattle.pool_scope.proofs.Gathered.{gathers_split, gathers_trans, gathers_at, all_pushed, all_same, are_of}
