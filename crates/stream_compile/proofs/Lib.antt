@@ -13,6 +13,10 @@ pub mod Wholes
 pub mod RightSoFar
 pub mod Settling
 pub mod Pumping
+pub mod Chunking
+pub mod Arriving
+pub mod Sharing
+pub mod Keeping
 pub mod Once
 pub mod Answering
 pub mod Lasting

@@ -9,3 +9,7 @@ pub mod Came
 pub mod Texts
 pub mod Reading
 pub mod Compiling
+pub mod Chunks
+pub mod Kept
+pub mod Keeping
+pub mod Arriving

@@ -103,3 +103,9 @@ TakesCode spaces codes b (Err (Refused r)) new =
     TakesBody spaces codes.count b (Err (Refused r))
     ⊎ ((code : Code) × TakesBody spaces codes.count b (Ok code) × (max_text < 4 * (front_of spaces.imported + (codes.words + length code.words))) × (r ≡ limit_at b.size))
 TakesCode spaces codes b (Err NoMemory) new = Unit {0}
+
+-- with so many words more the text keeps its limit; or it passes it at this body
+abbrev pub KeepsLimit : Spaces → Coding → GivenBody → ℕ → Result (Unit {0}) FrontStop → Type 0
+KeepsLimit spaces codes b more (Ok done) = 4 * (front_of spaces.imported + (codes.words + more)) ≤ max_text
+KeepsLimit spaces codes b more (Err (Refused r)) = (max_text < 4 * (front_of spaces.imported + (codes.words + more))) × (r ≡ limit_at b.size)
+KeepsLimit spaces codes b more (Err NoMemory) = ⊥

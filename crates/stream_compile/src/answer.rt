@@ -3,7 +3,7 @@
 use image_format::Image;
 use wasm_defs::Refusal;
 
-/// How a module is compiled. Neither setting has an effect on the answer, and so far the number of workers has none at all.
+/// How a module is compiled. Neither setting has an effect on the answer.
 #[derive(Clone, Copy, Debug, PartialEq, Eq)]
 pub struct Settings {
     /// The worker threads, from 0 to 64.

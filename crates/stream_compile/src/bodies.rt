@@ -1,13 +1,15 @@
 //! Compiles bodies: each is judged, and its words are counted.
 
-ghost use Rattle.std.specs.Prelude.{◌≡◌, ◌≤◌, ◌<◌, ◌+◌, ◌*◌, ◌^◌, OnOk, ℕ, List, [], length, nat_lt};
+ghost use Rattle.std.specs.Prelude.{◌≡◌, ◌≤◌, ◌<◌, ◌+◌, ◌*◌, ◌^◌, OnOk, Ok, None, ℕ, List, [], length, nat_lt};
+ghost use Rattle.std.specs.Arc.{arc_value};
+ghost use Rattle.rv_isa.specs.declared.compiled.Code.{Code as GivenCode};
 ghost use Rattle.wasm_defs.specs.Limits.{max_text};
 ghost use Rattle.wasm_defs.specs.Outside.{Run as RunGiven};
 ghost use Rattle.section_reader.specs.Onward.{after_parts};
 ghost use Rattle.image_linker.specs.ImageOf.{front_of};
 ghost use Rattle.stream_compile.specs.Codes.{KeepsAlike};
 ghost use Rattle.stream_compile.specs.CutBodies.{coded_all};
-ghost use Rattle.stream_compile.specs.Progress.{IsJudging, CanTake, CanTakeNext, CanTakeAll, front_stop, TakesBody, TakesCode, TakesPart};
+ghost use Rattle.stream_compile.specs.Progress.{IsJudging, CanTake, CanTakeNext, CanTakeAll, front_stop, TakesBody, TakesCode, TakesPart, KeepsLimit};
 
 use crate::codes::Codes;
 use body_compiler::{BodyStop, compile};
@@ -15,6 +17,7 @@ use body_cutter::{Batch, Body, Cutter};
 use index_spaces::ContextBuilder;
 use rv_isa::Code;
 use std::alloc::Global;
+use std::sync::Arc;
 use wasm_defs::{FrontStop, Kind, MAX_TEXT, Refusal};
 
 fn front_stop(stop: BodyStop) -> FrontStop
@@ -46,15 +49,101 @@ fn take_body(
 
 /// Whether a text with so many words of functions passes the limit. In front of them stand the exit stub, of two words, and the
 /// stubs of the imported functions, of eighteen each.
-fn passes_limit(imported: u32, words: u64) -> bool
-    requires { words < 2 ^ 63 }
+fn passes_limit(imported: u32, words: u128) -> bool
+    requires { words < 2 ^ 65 }
     ensures { result ≡ nat_lt max_text (4 * (front_of imported + words)) }
 {
-    u64::from(MAX_TEXT) / 4 < 2 + 18 * u64::from(imported) + words
+    u128::from(MAX_TEXT) / 4 < 2 + 18 * u128::from(imported) + words
+}
+
+/// Whether a code of so many words can stand behind these codes.
+fn keep_limit(
+    spaces: &ContextBuilder,
+    codes: &Codes,
+    body: &Body,
+    more: u64,
+) -> Result<(), FrontStop>
+    requires few { length spaces.now.functions < 2 ^ 32 }
+    ensures { KeepsLimit spaces.now codes.now body.now more result }
+{
+    let words = u128::from(codes.words()) + u128::from(more);
+    if passes_limit(spaces.context().imported(), words) {
+        return Err(FrontStop::Refused(Refusal {
+            offset: body.size,
+            kind: Kind::Limit,
+        }));
+    }
+    Ok(())
+}
+
+/// Takes the next body, whose code this is.
+pub fn add_code(
+    alloc: Global,
+    spaces: &ContextBuilder,
+    codes: &mut Codes,
+    body: &Body,
+    code: Code,
+) -> Result<(), FrontStop>
+    requires can { CanTakeNext spaces.now codes.old body.now }
+    requires code { TakesBody spaces.now codes.old.count body.now (Ok code) }
+    ensures takes { TakesCode spaces.now codes.old body.now result codes.new }
+    ensures kept { KeepsAlike codes.old codes.new }
+{
+    match keep_limit(spaces, codes, body, code.words.as_slice().len() as u64) {
+        Ok(()) => {}
+        Err(stop) => return Err(stop),
+    }
+    match codes.add(alloc, body.size, code) {
+        Ok(()) => Ok(()),
+        Err(_) => Err(FrontStop::NoMemory),
+    }
+}
+
+/// Takes the next body, whose code this is, which a worker made.
+pub fn share_code(
+    spaces: &ContextBuilder,
+    codes: &mut Codes,
+    body: &Body,
+    code: Arc<Code, Global>,
+) -> Result<(), FrontStop>
+    requires can { CanTakeNext spaces.now codes.old body.now }
+    requires code { TakesBody spaces.now codes.old.count body.now (Ok (arc_value code)) }
+    ensures takes { TakesCode spaces.now codes.old body.now result codes.new }
+    ensures kept { KeepsAlike codes.old codes.new }
+{
+    match keep_limit(spaces, codes, body, code.words.as_slice().len() as u64) {
+        Ok(()) => {}
+        Err(stop) => return Err(stop),
+    }
+    match codes.share(body.size, code) {
+        Ok(()) => Ok(()),
+        Err(_) => Err(FrontStop::NoMemory),
+    }
+}
+
+/// Takes the next body, whose code has so many words. No code is kept.
+pub fn count_code(
+    spaces: &ContextBuilder,
+    codes: &mut Codes,
+    body: &Body,
+    words: u64,
+) -> Result<(), FrontStop>
+    requires can { CanTakeNext spaces.now codes.old body.now }
+    requires none { codes.old.kept ≡ None }
+    requires code { (code : GivenCode) × (words ≡ length code.words) × TakesBody spaces.now codes.old.count body.now (Ok code) }
+    ensures takes { TakesCode spaces.now codes.old body.now result codes.new }
+    ensures kept { KeepsAlike codes.old codes.new }
+{
+    match keep_limit(spaces, codes, body, words) {
+        Ok(()) => {}
+        Err(stop) => return Err(stop),
+    }
+    codes.count_words(words);
+    Ok(())
 }
 
 /// Takes the next body, behind those that have these codes.
-fn take_code(
+pub fn take_code(
     alloc: Global,
     spaces: &ContextBuilder,
     codes: &mut Codes,
@@ -64,20 +153,9 @@ fn take_code(
     ensures takes { TakesCode spaces.now codes.old body.now result codes.new }
     ensures kept { KeepsAlike codes.old codes.new }
 {
-    let code = match take_body(alloc, spaces, codes.count(), body) {
-        Ok(code) => code,
-        Err(stop) => return Err(stop),
-    };
-    let words = codes.words() + code.words.as_slice().len() as u64;
-    if passes_limit(spaces.context().imported(), words) {
-        return Err(FrontStop::Refused(Refusal {
-            offset: body.size,
-            kind: Kind::Limit,
-        }));
-    }
-    match codes.add(alloc, body.size, code) {
-        Ok(()) => Ok(()),
-        Err(_) => Err(FrontStop::NoMemory),
+    match take_body(alloc, spaces, codes.count(), body) {
+        Ok(code) => add_code(alloc, spaces, codes, body, code),
+        Err(stop) => Err(stop),
     }
 }
 

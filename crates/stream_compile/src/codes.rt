@@ -1,6 +1,7 @@
 //! The codes of bodies, which are kept to be linked or are only counted.
 
-ghost use Rattle.std.specs.Prelude.{◌≡◌, ◌<◌, ◌-◌, ◌+◌, ◌^◌, [], length, Some, None, IsSome, OnOk, OnErr};
+ghost use Rattle.std.specs.Prelude.{◌≡◌, ◌<◌, ◌-◌, ◌+◌, ◌^◌, [], length, Some, None, IsSome, is_some, OnOk, OnErr};
+ghost use Rattle.std.specs.Arc.{arc_value};
 ghost use Rattle.image_linker.specs.Bodies.{codes_of};
 ghost use Rattle.stream_compile.specs.Codes.{no_code, with_code};
 
@@ -68,6 +69,40 @@ impl Codes {
         self.count += 1;
         self.words += words;
         Ok(())
+    }
+
+    /// One code more, which others have too, of the body whose size has this offset. It is let go where codes aren't kept.
+    pub fn share(&mut self, size_offset: u64, code: Arc<Code, Global>) -> Result<(), AllocError>
+        requires count { self.old.count < 2 ^ 32 - 1 }
+        requires words { self.old.words + length (arc_value code).words < 2 ^ 64 }
+        ensures ok { OnOk result (self.new ≡ with_code self.old (arc_value code)) }
+        ensures err { OnErr result (self.new ≡ self.old) }
+    {
+        let words = code.words.as_slice().len() as u64;
+        if let Some(codes) = &mut self.kept {
+            codes.push(BodyCode { size_offset, code })?;
+        }
+        self.count += 1;
+        self.words += words;
+        Ok(())
+    }
+
+    /// One code more of so many words. Codes are only counted.
+    pub fn count_words(&mut self, words: u64)
+        requires none { self.old.kept ≡ None }
+        requires count { self.old.count < 2 ^ 32 - 1 }
+        requires words { self.old.words + words < 2 ^ 64 }
+        ensures { self.new ≡ record { count = self.old.count + 1; words = self.old.words + words; kept = None } }
+    {
+        self.count += 1;
+        self.words += words;
+    }
+
+    /// Whether they are kept.
+    pub fn are_kept(&self) -> bool
+        ensures { result ≡ is_some self.now.kept }
+    {
+        self.kept.is_some()
     }
 
     /// How many there are.

@@ -1,7 +1,7 @@
 //! A module that is compiled while its bytes come: its items are kept, its bodies are judged and compiled batch by batch, and at
 //! its end their codes are linked, where they were kept.
 
-ghost use Rattle.std.specs.Prelude.{◌≡◌, ◌<◌, ◌≤◌, ◌++◌, ℕ, List, [], All, length, None, Err, IsSome, OnOk, IfOk};
+ghost use Rattle.std.specs.Prelude.{◌≡◌, ◌<◌, ◌≤◌, ◌++◌, ◌&&◌, ℕ, List, [], All, length, false, None, Err, IsSome, is_some, OnOk, IfOk};
 ghost use Rattle.wasm_defs.specs.Outside.{Run as RunGiven};
 ghost use Rattle.section_reader.specs.FrontLeft.{total};
 ghost use Rattle.section_reader.specs.Onward.{after_parts};
@@ -9,6 +9,8 @@ ghost use Rattle.body_cutter.specs.Sections.{bodies_from};
 ghost use Rattle.body_cutter.specs.Cuttings.{left, handed, no_batch};
 ghost use Rattle.stream_compile.specs.Codes.{AreAll, KeepsAlike};
 ghost use Rattle.stream_compile.specs.CutBodies.{coded_all};
+ghost use Rattle.pool_scope.specs.Gathering.{IsRowIf};
+ghost use Rattle.stream_compile.specs.Kept.{kept_bodies};
 ghost use Rattle.stream_compile.specs.Progress.{IsJudging, CanTakeAll, TakesPart};
 ghost use Rattle.stream_compile.specs.Done.{IsDone, Decides};
 ghost use Rattle.stream_compile.specs.Compiling.{IsBuilt};
@@ -18,11 +20,15 @@ ghost use Rattle.stream_compile.specs.Streaming.{IsGoing, IsUnread, MayGo, MayEn
 use crate::answer::{Built, Checked};
 use crate::bodies::take_batches;
 use crate::codes::Codes;
-use body_cutter::Cutter;
+use crate::shared::take_kept;
+use batch_pool::Row;
+use body_cutter::{Batch, Cutter};
 use image_linker::link;
-use index_spaces::{AddStop, ContextBuilder};
+use index_spaces::{AddStop, Context, ContextBuilder};
+use result_cells::Cells;
 use section_reader::Front;
 use std::alloc::{AllocError, Global};
+use std::sync::Arc;
 use wasm_defs::{FrontStop, Item};
 
 /// What came of a module, and how far it was compiled.
@@ -58,22 +64,37 @@ impl Compilation {
         }
     }
 
-    /// Takes the next bytes, however they are cut, up to the module's first fault. A fault outside the bodies' bytes is told as
-    /// soon as no further byte can mend it.
-    pub fn feed(&mut self, piece: &[u8]) -> Result<(), FrontStop>
+    /// Takes the next bytes, however they are cut, up to the module's first fault, and says how many: all of them, or, if
+    /// `up_to_bodies`, those in front of the first body. A fault outside the bodies' bytes is told as soon as no further byte can
+    /// mend it.
+    pub fn feed(&mut self, piece: &[u8], up_to_bodies: bool) -> Result<usize, FrontStop>
         requires { MayGo self.old piece.now }
-        ensures goes { (bytes more : List ℕ) → IsGoing bytes self.old (piece.now ++ more) → GoesOn bytes result self.new more }
-        ensures bytes { All (λ b. b < 256) piece.now }
+        ensures goes { (bytes more : List ℕ) → IsGoing bytes self.old (piece.now ++ more) → Advances bytes piece.now result self.new more }
+        ensures few { IfOk result (λ taken. taken ≤ length piece.now) }
+        ensures all { IfOk result (λ taken. (up_to_bodies ≡ false → taken ≡ length piece.now) × (self.new.cutter ≡ None → taken ≡ length piece.now)) }
         ensures kept { KeepsAlike self.old.codes self.new.codes }
     {
-        let mut rest = piece;
-        while !rest.is_empty() {
-            match self.advance(rest) {
-                Ok(taken) => rest = &rest[taken..],
+        let mut taken = 0;
+        while taken < piece.len() {
+            if self.stops(up_to_bodies) {
+                return Ok(taken);
+            }
+            match self.advance(&piece[taken..]) {
+                Ok(more) => taken += more,
                 Err(stop) => return Err(stop),
             }
         }
-        self.tell()
+        match self.tell() {
+            Ok(()) => Ok(taken),
+            Err(stop) => Err(stop),
+        }
+    }
+
+    /// Whether bodies come next, where the reading is to stop.
+    pub fn stops(&self, up_to_bodies: bool) -> bool
+        ensures { result ≡ (up_to_bodies && is_some self.now.cutter) }
+    {
+        up_to_bodies && self.cutter.is_some()
     }
 
     /// Tells a fault that stands there before another byte comes: where a section ends with entries owed, or behind the code
@@ -142,6 +163,52 @@ impl Compilation {
             → TakesPart bytes result left self.new.spaces self.new.codes }
     {
         take_batches(self.alloc, &self.spaces, &mut self.codes, cutter)
+    }
+
+    /// Takes the cutter out, where bodies come next.
+    pub fn take_cutter(&mut self) -> Option<Cutter>
+        ensures cutter { result ≡ self.old.cutter }
+        ensures rest { self.new ≡ record self.old { cutter = None } }
+    {
+        self.cutter.take()
+    }
+
+    /// Puts the cutter back.
+    pub fn put_cutter(&mut self, cutter: Cutter)
+        ensures { self.new ≡ with_cutter self.old cutter }
+    {
+        self.cutter = Some(cutter);
+    }
+
+    /// The index spaces of what stands in front of the bodies.
+    pub fn context(&self) -> &Context
+        ensures { result.now ≡ self.now.spaces }
+    {
+        self.spaces.context()
+    }
+
+    /// Whether codes are kept.
+    pub fn keeps_codes(&self) -> bool
+        ensures { result ≡ is_some self.now.codes.kept }
+    {
+        self.codes.are_kept()
+    }
+
+    /// Judges bodies that were kept, with what workers made of them: the rows in the order of the batches, where they are at hand.
+    pub fn judge_kept(
+        &mut self,
+        cells: &Cells,
+        kept: Vec<Arc<Batch, Global>>,
+        rows: Vec<Option<Row>>,
+    ) -> Result<(), FrontStop>
+        requires can { CanTakeAll self.old.spaces self.old.codes (kept_bodies kept.items) }
+        requires rows { All (IsRowIf self.old.spaces cells.now) rows.items }
+        ensures rest { KeepsRest self.old self.new }
+        ensures takes { (bytes : List ℕ) (left : RunGiven) → length bytes ≤ 67108869
+            → IsJudging bytes (after_parts (coded_all (kept_bodies kept.items)) left) self.old.spaces self.old.codes
+            → TakesPart bytes result left self.new.spaces self.new.codes }
+    {
+        take_kept(self.alloc, &self.spaces, &mut self.codes, cells, kept, rows)
     }
 
     /// Outside the bodies: takes the bytes up to the end of an item.

@@ -29,10 +29,8 @@ pub fn stream_compile<R: Threads + Wait + Sync, S: Source, G: Gate>(
     requires open { S.is_open source.old ≡ true }
     ensures { CompilesSource (nat_lt (S.faults source.old) (S.faults source.new)) (S.left source.old) (S.left source.new) result }
 {
-    let _ = rt;
-    let _ = gate;
     let mut compilation = Compilation::new(alloc, settings.batch, Codes::kept(alloc));
-    match judge_source(alloc, source, &mut compilation) {
+    match judge_source(rt, alloc, source, gate, settings.workers, &mut compilation) {
         CheckAnswer::Valid(_) => match compilation.build() {
             Ok(built) => Answer::Image(built),
             Err(_) => Answer::NoMemory,
@@ -60,8 +58,6 @@ pub fn stream_check<R: Threads + Wait + Sync, S: Source, G: Gate>(
     requires open { S.is_open source.old ≡ true }
     ensures { ChecksSource (nat_lt (S.faults source.old) (S.faults source.new)) (S.left source.old) (S.left source.new) result }
 {
-    let _ = rt;
-    let _ = gate;
     let mut compilation = Compilation::new(alloc, settings.batch, Codes::counted());
-    judge_source(alloc, source, &mut compilation)
+    judge_source(rt, alloc, source, gate, settings.workers, &mut compilation)
 }

@@ -2,17 +2,21 @@
 #![tactic(auto)]
 
 mod answer;
+mod beside;
 mod bodies;
+mod chunk;
 mod codes;
 mod command;
 mod compilation;
 mod compiling;
 mod drill;
 mod foreign;
+mod intake;
 mod laws;
 mod output;
 mod reading;
 mod running;
+mod shared;
 mod shown;
 mod writing;
 

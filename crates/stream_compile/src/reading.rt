@@ -1,83 +1,130 @@
 //! Reads a source, and judges and compiles the module that it gives while its bytes come.
 
-ghost use Rattle.std.specs.Prelude.{◌≡◌, ◌<◌, ◌^◌, ◌-◌, true, nat_lt, IfOk, length};
+ghost use Rattle.std.specs.Prelude.{◌≡◌, ◌<◌, ◌^◌, ◌-◌, ℕ, Bool, true, false, List, [], Option, None, IsSome, OnOk, nat_lt};
+ghost use Rattle.stream_compile.specs.Arriving.{IsArriving, Arrives, ReadsOn};
 ghost use Rattle.stream_compile.specs.Codes.{KeepsAlike};
 ghost use Rattle.stream_compile.specs.Reading.{Settled, Judged, answer_of, stopped_answer};
 ghost use Rattle.stream_compile.specs.Streaming.{IsUnread};
 
 use crate::answer::{CheckAnswer, Checked};
+use crate::beside::read_beside;
+use crate::chunk::{Came, Chunk};
 use crate::compilation::Compilation;
-use io_edges::{Got, Source};
-use std::alloc::{AllocError, Global};
+use io_edges::{Gate, Source};
+use std::alloc::Global;
+use std::sync::Wait;
+use std::thread::Threads;
 use wasm_defs::{FrontStop, Kind};
-
-/// The most bytes that are read: a section's size that begins at the limit on a module's bytes has at most five.
-const MOST_READ: usize = 67_108_869;
-
-/// How many bytes are asked for at a time.
-const CHUNK: usize = 65_536;
 
 /// What the bytes of a source came to.
 #[derive(Drop)]
-struct Ending {
+pub struct Ending {
     /// They are a module, or this is what is at fault.
-    judged: Result<(), FrontStop>,
+    pub judged: Result<(), FrontStop>,
     /// The source failed behind them.
-    failed: bool,
+    pub failed: bool,
 }
 
-fn buffer_of(alloc: Global, len: usize) -> Result<Vec<u8>, AllocError>
-    ensures { IfOk result (λ buffer. length buffer.items ≡ len) }
+/// Judges the bytes of a chunk that are still to be taken; where bodies begin, up to there alone if `up_to_bodies`.
+fn take_pending(
+    compilation: &mut Compilation,
+    chunk: &mut Chunk,
+    up_to_bodies: bool,
+) -> Result<(), FrontStop>
+    requires { (first : Option (List ℕ)) × (before : ℕ) × (left : Option (List ℕ)) × (now : ℕ) × (may_read : Bool) × IsArriving first before left now may_read compilation.old chunk.old }
+    ensures arrives { (first : Option (List ℕ)) (before : ℕ) (left : Option (List ℕ)) (now : ℕ) (may_read : Bool) → IsArriving first before left now may_read compilation.old chunk.old
+        → Arrives result first before left now may_read compilation.new chunk.new }
+    ensures all { OnOk result ((up_to_bodies ≡ false → chunk.new.pending ≡ []) × (compilation.new.cutter ≡ None → chunk.new.pending ≡ [])) }
+    ensures chunk { (chunk.new.count ≡ chunk.old.count) × (chunk.new.came ≡ chunk.old.came) }
+    ensures kept { KeepsAlike compilation.old.codes compilation.new.codes }
 {
-    vec![in alloc; 0; len]
+    match compilation.feed(chunk.pending(), up_to_bodies) {
+        Ok(taken) => {
+            chunk.skip(taken);
+            Ok(())
+        }
+        Err(stop) => Err(stop),
+    }
 }
 
-/// Judges and compiles the bytes of a source as they come, up to their end or to the first fault. No byte is asked for behind the
-/// answer of the source or of the compilation that ends the reading.
-fn read_source<S: Source>(alloc: Global, source: &mut S, compilation: &mut Compilation) -> Ending
+/// Judges and compiles the bytes of a source as they come, up to their end or to the first fault; or to the bodies' beginning, if
+/// `up_to_bodies`, and then it gives none. No byte is asked for behind the answer of the source or of the compilation that ends the
+/// reading.
+fn read_on<S: Source>(
+    source: &mut S,
+    chunk: &mut Chunk,
+    compilation: &mut Compilation,
+    up_to_bodies: bool,
+) -> Option<Ending>
+    requires { (first : Option (List ℕ)) × (before : ℕ) × IsArriving first before (S.left source.old) (S.faults source.old) (S.is_open source.old) compilation.old chunk.old }
+    ensures reads { (first : Option (List ℕ)) (before : ℕ) → IsArriving first before (S.left source.old) (S.faults source.old) (S.is_open source.old) compilation.old chunk.old
+        → ReadsOn result first before (S.left source.new) (S.faults source.new) (S.is_open source.new) compilation.new chunk.new }
+    ensures some { up_to_bodies ≡ false → IsSome result }
+    ensures kept { KeepsAlike compilation.old.codes compilation.new.codes }
+{
+    loop {
+        match take_pending(compilation, chunk, up_to_bodies) {
+            Ok(()) => {}
+            Err(stop) => {
+                return Some(Ending {
+                    judged: Err(stop),
+                    failed: chunk.has_failed(),
+                });
+            }
+        }
+        if compilation.stops(up_to_bodies) {
+            return None;
+        }
+        let came = chunk.read(source);
+        if came != Came::Bytes {
+            return Some(Ending {
+                judged: compilation.finish(),
+                failed: chunk.has_failed(),
+            });
+        }
+    }
+}
+
+/// Judges and compiles the bytes of a source as they come, up to their end or to the first fault; its bodies beside so many workers.
+fn read_source<R: Threads + Wait + Sync, S: Source, G: Gate>(
+    rt: &R,
+    alloc: Global,
+    source: &mut S,
+    gate: &G,
+    workers: u32,
+    compilation: &mut Compilation,
+) -> Ending
     requires faults { S.faults source.old < 2 ^ 64 - 1 }
     requires open { S.is_open source.old ≡ true }
     requires unread { IsUnread compilation.old }
     ensures settled { Settled result.failed result.judged compilation.new (S.left source.old) (S.left source.new) (S.faults source.old) (S.faults source.new) }
     ensures kept { KeepsAlike compilation.old.codes compilation.new.codes }
 {
-    let Ok(mut chunk) = buffer_of(alloc, CHUNK) else {
+    let Ok(mut chunk) = Chunk::new(alloc) else {
         return Ending {
             judged: Err(FrontStop::NoMemory),
             failed: false,
         };
     };
-    let buf = chunk.as_mut_slice();
-    let mut count = 0;
-    while count < MOST_READ {
-        let room = (MOST_READ - count).min(buf.len());
-        match source.read(&mut buf[..room]) {
-            Got::Bytes(n) => match compilation.feed(&buf[..n]) {
-                Ok(()) => count += n,
-                Err(stop) => {
-                    return Ending {
-                        judged: Err(stop),
-                        failed: false,
-                    };
-                }
-            },
-            Got::End => {
-                return Ending {
-                    judged: compilation.finish(),
-                    failed: false,
-                };
-            }
-            Got::Failed => {
-                return Ending {
-                    judged: compilation.finish(),
-                    failed: true,
-                };
-            }
-        }
+    if let Some(ending) = read_on(source, &mut chunk, compilation, 0 < workers) {
+        return ending;
     }
-    Ending {
-        judged: compilation.finish(),
-        failed: false,
+    match read_beside(rt, alloc, source, gate, workers, chunk, compilation) {
+        Ok(chunk) => read_to_end(source, chunk, compilation),
+        Err(ending) => ending,
+    }
+}
+
+/// Judges and compiles the bytes of a source as they come, up to their end or to the first fault.
+fn read_to_end<S: Source>(source: &mut S, mut chunk: Chunk, compilation: &mut Compilation) -> Ending
+    requires { (first : Option (List ℕ)) × (before : ℕ) × IsArriving first before (S.left source.old) (S.faults source.old) (S.is_open source.old) compilation.old chunk }
+    ensures settled { (first : Option (List ℕ)) (before : ℕ) → before < 2 ^ 64 - 1 → IsArriving first before (S.left source.old) (S.faults source.old) (S.is_open source.old) compilation.old chunk
+        → Settled result.failed result.judged compilation.new first (S.left source.new) before (S.faults source.new) }
+    ensures kept { KeepsAlike compilation.old.codes compilation.new.codes }
+{
+    match read_on(source, &mut chunk, compilation, false) {
+        Some(ending) => ending,
+        None => unreachable!(),
     }
 }
 
@@ -108,10 +155,13 @@ fn stopped(judged: Result<(), FrontStop>) -> CheckAnswer
     }
 }
 
-/// Judges and compiles what a source gives. Where that is a module, its compilation is done.
-pub fn judge_source<S: Source>(
+/// Judges and compiles what a source gives, its bodies beside so many workers. Where that is a module, its compilation is done.
+pub fn judge_source<R: Threads + Wait + Sync, S: Source, G: Gate>(
+    rt: &R,
     alloc: Global,
     source: &mut S,
+    gate: &G,
+    workers: u32,
     compilation: &mut Compilation,
 ) -> CheckAnswer
     requires faults { S.faults source.old < 2 ^ 64 - 1 }
@@ -120,7 +170,7 @@ pub fn judge_source<S: Source>(
     ensures judged { Judged (nat_lt (S.faults source.old) (S.faults source.new)) (S.left source.old) (S.left source.new) result compilation.new }
     ensures kept { KeepsAlike compilation.old.codes compilation.new.codes }
 {
-    let ending = read_source(alloc, source, compilation);
+    let ending = read_source(rt, alloc, source, gate, workers, compilation);
     if ending.failed {
         stopped(ending.judged)
     } else {

@@ -1,0 +1,193 @@
+-- Bytes that arrive, chunk by chunk, and what they settle.
+use Rattle.std.proofs.Common.{◌≡◌, ◌≤◌, ◌<◌, ◌+◌, ◌-◌, ◌^◌, ℕ, Bool, true, false, List, [], ◌++◌, length, take, drop, Option, Some, None, Result, Ok, Err, All, refl, sym, ap, subst, ◌∙◌, arith, append_assoc, length-append, true≢false}
+use Rattle.std.specs.Prelude.{◌&&◌, is_some}
+use Rattle.std.specs.Io.KnownBytes.{prepend_known, IsAtEnd}
+use Rattle.std.proofs.lemmas.List.{append-nil, length-take, length-drop, take_all, take-take}
+use Rattle.std.proofs.lemmas.List.Elements.{All-append, All-take}
+use Rattle.wasm_defs.specs.declared.front_stop.FrontStop.{FrontStop}
+use Rattle.wasm_defs.specs.declared.front_stop.FrontStop.TheVariants.{Refused, NoMemory}
+use Rattle.io_edges.specs.Causes.{Rose}
+use Rattle.stream_compile.specs.declared.chunk.Came.{Came}
+use Rattle.stream_compile.specs.declared.chunk.Came.TheVariants.{Bytes, Full, End, Failed}
+use Rattle.stream_compile.specs.declared.compilation.Compilation.{Compilation}
+use Rattle.stream_compile.specs.Arriving.{StandsAt, IsArriving, has_failed}
+use Rattle.stream_compile.specs.Came.{IsRead}
+use Rattle.stream_compile.specs.Chunks.{Chunked}
+use Rattle.stream_compile.specs.Done.{Decides}
+use Rattle.stream_compile.specs.Reading.{Settled}
+use Rattle.stream_compile.specs.Streaming.{IsGoing, IsUnread, GoesOn, MayGo, MayEnd, Advances}
+use Rattle.stream_compile.proofs.Pumping.{came_more, going_piece, going_all, early, at_end, at_fault, at_limit}
+use Rattle.stream_compile.proofs.RightSoFar.{right_so_far}
+use Rattle.stream_compile.proofs.Streaming.{going_decides}
+
+none_prepended : (o : Option (List ℕ)) → o ≡ prepend_known [] o
+none_prepended None = refl
+none_prepended (Some l) = refl
+
+-- ---- stops
+
+pub advances_goes : (bytes piece : List ℕ) (stop : FrontStop) (s t : Compilation) (more next : List ℕ) → Advances bytes piece (Err stop) s more → GoesOn bytes (Err stop) t next
+advances_goes bytes piece (Refused r) s t more next h = h
+advances_goes bytes piece NoMemory s t more next h = tt
+
+pub goes_advances : (bytes piece : List ℕ) (stop : FrontStop) (s t : Compilation) (more next : List ℕ) → GoesOn bytes (Err stop) s more → Advances bytes piece (Err stop) t next
+goes_advances bytes piece (Refused r) s t more next h = h
+goes_advances bytes piece NoMemory s t more next h = tt
+
+pub advances_behind : (bytes piece rest : List ℕ) (stop : FrontStop) (s t : Compilation) (more next : List ℕ) → Advances bytes rest (Err stop) s more → Advances bytes piece (Err stop) t next
+advances_behind bytes piece rest (Refused r) s t more next h = h
+advances_behind bytes piece rest NoMemory s t more next h = tt
+
+-- what is left of a piece of which so many bytes were taken
+pub rest_is : (taken : ℕ) (piece : List ℕ) → take (length piece - taken) (drop taken piece) ≡ drop taken piece
+rest_is taken piece = take_all (length piece - taken) (drop taken piece) (omega (arith, length-drop taken piece))
+
+-- none is pending, unless the reading was to stop where bodies begin
+pub none_left : {X : Type 0} (up : Bool) (o : Option X) (pending : List ℕ) → (up ≡ false → pending ≡ []) → (o ≡ None → pending ≡ []) → (up && is_some o) ≡ false → pending ≡ []
+none_left false o pending f g e = f refl
+none_left true None pending f g e = g refl
+none_left true (Some x) pending f g e = absurd (true≢false e)
+
+pub not_up : {X : Type 0} (up : Bool) (o : Option X) → (up && is_some o) ≡ true → up ≡ false → ⊥
+not_up false o e f = true≢false (sym e)
+not_up true o e f = true≢false f
+
+pub not_outside : {X : Type 0} (up : Bool) (o : Option X) → (up && is_some o) ≡ true → o ≡ None → ⊥
+not_outside false o e f = true≢false (sym e)
+not_outside true None e f = true≢false (sym e)
+not_outside true (Some x) e f = absurd (cc)
+
+-- before the first read
+pub arriving_begins : (left : Option (List ℕ)) (before : ℕ) (may_read : Bool) (s : Compilation) (c : Chunked) → c ≡ record { pending = []; count = 0; came = Bytes } → may_read ≡ true → IsUnread s → IsArriving left before left before may_read s c
+arriving_begins left before may_read s c is may unread =
+    subst (λ (x : Chunked). IsArriving left before left before may_read s x) (sym is) (record {
+      came = [];
+      piece = [];
+      count = refl;
+      few = omega arith;
+      bytes = λ k d in'. absurd (omega arith);
+      taken = none_prepended left;
+      stands = (refl, may);
+      short = omega arith;
+      right = right_so_far [] s (unread [] (omega arith));
+      going = λ more few. unread more few;
+    })
+
+module _ (first : Option (List ℕ)) (before : ℕ) where
+  module _ (left : Option (List ℕ)) (now : ℕ) (may_read : Bool) (s : Compilation) (c : Chunked) (a : IsArriving first before left now may_read s c) where
+    abbrev all : List ℕ
+    all = a.came ++ a.piece
+
+    pub few_all : length all ≤ 67108869
+    few_all = let few = a.few in let count = a.count in omega arith
+
+    pub is_read : IsRead first left all
+    is_read = record { taken = a.taken; few = few_all; before = a.came; piece = a.piece; pieces = refl; short = a.short; right = a.right }
+
+    pub may_go : MayGo s c.pending
+    may_go = (all ++ [], [], a.going [] (let few = few_all in let n = append-nil all in omega (arith, few, ap length n)))
+
+    -- where none is pending
+    going_none : c.pending ≡ [] → (more : List ℕ) → length (all ++ more) ≤ 67108869 → IsGoing (all ++ more) s more
+    going_none none more few = subst (λ (l : List ℕ). IsGoing (all ++ more) s (l ++ more)) none (a.going more few)
+
+    pub going_here : c.pending ≡ [] → IsGoing all s []
+    going_here none = going_all s all [] (going_none none) few_all
+
+    pub may_end : c.pending ≡ [] → MayEnd s
+    may_end none = (all, a.bytes, going_here none)
+
+    -- what is left is what was left
+    pub goes_on : (t : Compilation) (d : Chunked) → d.count ≡ c.count → d.came ≡ c.came → ((bytes more : List ℕ) → IsGoing bytes s (c.pending ++ more) → IsGoing bytes t (d.pending ++ more)) → IsArriving first before left now may_read t d
+    goes_on t d count same goes = record {
+      came = a.came;
+      piece = a.piece;
+      count = a.count ∙ sym count;
+      few = let few = a.few in omega arith;
+      bytes = a.bytes;
+      taken = a.taken;
+      stands = subst (λ (z : Came × ℕ). StandsAt z.0 left before now z.1 may_read) (λ i. (sym same i, sym count i)) a.stands;
+      short = a.short;
+      right = a.right;
+      going = λ more few. goes (all ++ more) more (a.going more few);
+    }
+
+    -- pending bytes were taken
+    pub pending_taken : (t : Compilation) (d : Chunked) (taken : ℕ) → d ≡ record c { pending = drop taken c.pending } → ((bytes more : List ℕ) → IsGoing bytes s (c.pending ++ more) → IsGoing bytes t (drop taken c.pending ++ more)) → IsArriving first before left now may_read t d
+    pending_taken t d taken is goes =
+        goes_on t d (ap (λ (x : Chunked). x.count) is) (ap (λ (x : Chunked). x.came) is) (λ bytes more g. subst (λ (x : Chunked). IsGoing bytes t (x.pending ++ more)) (sym is) (goes bytes more g))
+
+    -- the compilation found what the bytes come to
+    pub stops_there : (stop : FrontStop) (t : Compilation) → ((more : List ℕ) → length (all ++ more) ≤ 67108869 → GoesOn (all ++ more) (Err stop) t more) → before < 2 ^ 64 - 1 → Settled (has_failed c.came) (Err stop) t first left before now
+    stops_there stop t goes low = of c.came a.stands
+      where
+        of : (x : Came) → StandsAt x left before now c.count may_read → Settled (has_failed x) (Err stop) t first left before now
+        of Bytes h = early all first left before now is_read stop t h.0 goes
+        of Full h = early all first left before now is_read stop t h.0 goes
+        of End h = early all first left before now is_read stop t h.0 goes
+        of Failed h = at_fault all first left before now is_read (Err stop) t low h
+            (going_decides all stop t t [] (subst (λ (l : List ℕ). GoesOn l (Err stop) t []) (append-nil all) (goes [] (let few = few_all in omega (arith, few, ap length (append-nil all))))))
+
+    -- no more bytes come
+    pub ends_there : (r : Result (Unit {0}) FrontStop) (t : Compilation) → (c.came ≡ Bytes → ⊥) → Decides all r t → before < 2 ^ 64 - 1 → Settled (has_failed c.came) r t first left before now
+    ends_there r t over d low = of c.came refl a.stands
+      where
+        of : (x : Came) → c.came ≡ x → StandsAt x left before now c.count may_read → Settled (has_failed x) r t first left before now
+        of Bytes e h = absurd (over e)
+        of Full e h = at_limit all first left before now is_read r t (let n = a.count in let m = h.1 in omega arith) h.0 d
+        of End e h = at_end all first left before now is_read r t h.1 h.0 d
+        of Failed e h = at_fault all first left before now is_read r t low h d
+
+    -- the source stands otherwise
+    pub stands_so : (left' : Option (List ℕ)) (now' : ℕ) (may_read' : Bool) (x : Came) (d : Chunked) → d ≡ record c { came = x } → left' ≡ left → StandsAt x left' before now' c.count may_read' → IsArriving first before left' now' may_read' s d
+    stands_so left' now' may_read' x d is same stands = subst (λ (y : Chunked). IsArriving first before left' now' may_read' s y) (sym is) (record {
+      came = a.came;
+      piece = a.piece;
+      count = a.count;
+      few = a.few;
+      bytes = a.bytes;
+      taken = a.taken ∙ ap (prepend_known all) (sym same);
+      stands = stands;
+      short = a.short;
+      right = a.right;
+      going = a.going;
+    })
+
+    at_bytes : c.came ≡ Bytes → (now ≡ before) × (may_read ≡ true)
+    at_bytes is = subst (λ (x : Came). StandsAt x left before now c.count may_read) is a.stands
+
+    pub may_be_read : c.came ≡ Bytes → may_read ≡ true
+    may_be_read is = (at_bytes is).1
+
+    pub read_full : (d : Chunked) → c.came ≡ Bytes → d ≡ record c { came = Full } → 67108869 ≤ c.count → IsArriving first before left now may_read s d
+    read_full d is e le = stands_so left now may_read Full d e refl ((at_bytes is).0, le)
+
+    pub read_end : (left' : Option (List ℕ)) (now' : ℕ) (may_read' : Bool) (d : Chunked) → c.came ≡ Bytes → d ≡ record c { came = End } → IsAtEnd left → left' ≡ left → now' ≡ now → IsArriving first before left' now' may_read' s d
+    read_end left' now' may_read' d is e over same calm = stands_so left' now' may_read' End d e same (calm ∙ (at_bytes is).0, subst IsAtEnd (sym same) over)
+
+    pub read_failed : (left' : Option (List ℕ)) (now' : ℕ) (may_read' : Bool) (d : Chunked) → c.came ≡ Bytes → d ≡ record c { came = Failed } → left' ≡ left → Rose now now' → IsArriving first before left' now' may_read' s d
+    read_failed left' now' may_read' d is e same rose = stands_so left' now' may_read' Failed d e same (subst (λ (n : ℕ). Rose n now') (at_bytes is).0 rose)
+
+    pub read_more : (left' : Option (List ℕ)) (now' : ℕ) (may_read' : Bool) (piece : List ℕ) (d : Chunked) → c.came ≡ Bytes → c.pending ≡ [] → d ≡ record { pending = piece; count = c.count + length piece; came = Bytes }
+        → All (λ b. b < 256) piece → length piece ≤ 65536 → c.count + length piece ≤ 67108869 → left ≡ prepend_known piece left' → now' ≡ now → may_read' ≡ true → IsArriving first before left' now' may_read' s d
+    read_more left' now' may_read' piece d is none e are short few took calm may =
+        subst (λ (y : Chunked). IsArriving first before left' now' may_read' s y) (sym e) (record {
+          came = all;
+          piece = piece;
+          count = let n = a.count in omega (arith, n, length-append all piece);
+          few = few;
+          bytes = All-append (λ b. b < 256) all piece a.bytes are;
+          taken = a.taken ∙ came_more all piece left left' took;
+          stands = (calm ∙ (at_bytes is).0, may);
+          short = short;
+          right = right_so_far all s (going_here none);
+          going = λ more fits. going_piece s all piece (going_none none) more fits;
+        })
+
+    pub read_bytes : (left' : Option (List ℕ)) (now' : ℕ) (may_read' : Bool) (n room : ℕ) (xs : List ℕ) (d : Chunked) → c.came ≡ Bytes → c.pending ≡ [] → d ≡ record { pending = take n xs; count = c.count + n; came = Bytes }
+        → All (λ b. b < 256) xs → n ≤ length (take room xs) → room ≤ 65536 → c.count + room ≤ 67108869 → left ≡ prepend_known (take n (take room xs)) left' → now' ≡ now → may_read' ≡ true → IsArriving first before left' now' may_read' s d
+    read_bytes left' now' may_read' n room xs d is none e are fits short few took calm may =
+        let len : length (take n xs) ≡ n = omega (arith, length-take n xs, length-take room xs) in
+        let within : n ≤ room = omega (arith, length-take room xs) in
+        read_more left' now' may_read' (take n xs) d is none (e ∙ (λ i. record { pending = take n xs; count = c.count + sym len i; came = Bytes })) (All-take (λ b. b < 256) n xs are) (omega arith) (omega arith)
+        (took ∙ ap (λ (l : List ℕ). prepend_known l left') (take-take n room xs within)) calm may

@@ -1,0 +1,16 @@
+use Rattle.std.proofs.Common.{sym, subst}
+use Rattle.stream_compile.specs.declared.intake.Intake.{Intake}
+use Rattle.stream_compile.specs.Arriving.{IsArriving}
+use Rattle.stream_compile.specs.Keeping.{keeping}
+use Rattle.stream_compile.proofs.beside.read_in_scope.Goals as goal
+
+pub run_beside-requires-clause-can : goal.run_beside-requires-clause-can
+run_beside-requires-clause-can g c κs within =
+    let r = c.requires.arrives in
+    let new = c.new-reader.result.source.now in (
+      r.0,
+      r.1,
+      r.2,
+      subst (λ (i : Intake). IsArriving r.0 r.1 (g.S.Source.left new) (g.S.Source.faults new) (g.S.Source.is_open new) (keeping r.2 i) i.chunk) (sym c.new-reader.ensures.intake)
+          (subst (λ (s : g.row.S.Denot). IsArriving r.0 r.1 (g.S.Source.left s) (g.S.Source.faults s) (g.S.Source.is_open s) (keeping r.2 c.args.intake) c.args.intake.chunk) (sym c.new-reader.ensures.source) r.3),
+    )

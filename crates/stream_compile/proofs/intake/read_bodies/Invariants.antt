@@ -1,0 +1,18 @@
+use Rattle.std.proofs.Common.{◌≡◌, ◌≤◌, ◌-◌, ℕ, List, Option}
+use Rattle.pool_scope.specs.Desks.{IsDesk}
+use Rattle.stream_compile.specs.declared.compilation.Compilation.{Compilation}
+use Rattle.stream_compile.specs.Arriving.{IsArriving}
+use Rattle.stream_compile.specs.Keeping.{keeping}
+use Rattle.stream_compile.proofs.intake.read_bodies.Given as goal
+
+abbrev pub invariant-loop-stop : goal.invariant-loop-stop
+invariant-loop-stop g l = record {
+  desk : IsDesk l.context l.board l.desk;
+  parts : l.desk.seat.view.parts ≡ l.initial.desk.seat.view.parts;
+  few : l.intake.chunk.count ≤ 67108869;
+  arrives : (first : Option (List ℕ)) (before : ℕ) (s : Compilation) → IsArriving first before (g.S.Source.left l.initial.source) (g.S.Source.faults l.initial.source) (g.S.Source.is_open l.initial.source) (keeping s l.initial.intake) l.initial.intake.chunk
+      → IsArriving first before (g.S.Source.left l.source) (g.S.Source.faults l.source) (g.S.Source.is_open l.source) (keeping s l.intake) l.intake.chunk;
+}
+
+abbrev pub decreases-loop-stop : goal.decreases-loop-stop
+decreases-loop-stop g l = 67108869 - l.intake.chunk.count

@@ -1,0 +1,15 @@
+use Rattle.std.proofs.Common.{◌-◌, ◌≤◌, ℕ, List, Option}
+use Rattle.stream_compile.specs.Codes.{KeepsAlike}
+use Rattle.stream_compile.specs.Arriving.{IsArriving}
+use Rattle.stream_compile.proofs.reading.read_on.Given as goal
+
+abbrev pub invariant-loop-stop : goal.invariant-loop-stop
+invariant-loop-stop g l = record {
+  arrives : (first : Option (List ℕ)) (before : ℕ) → IsArriving first before (g.S.Source.left l.initial.source) (g.S.Source.faults l.initial.source) (g.S.Source.is_open l.initial.source) l.initial.compilation l.initial.chunk
+      → IsArriving first before (g.S.Source.left l.source) (g.S.Source.faults l.source) (g.S.Source.is_open l.source) l.compilation l.chunk;
+  few : l.chunk.count ≤ 67108869;
+  kept : KeepsAlike l.initial.compilation.codes l.compilation.codes;
+}
+
+abbrev pub decreases-loop-stop : goal.decreases-loop-stop
+decreases-loop-stop g l = 67108869 - l.chunk.count

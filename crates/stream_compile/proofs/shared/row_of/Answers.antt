@@ -1,0 +1,14 @@
+use Rattle.std.proofs.Common.{List, Option, None, All, set, sym, subst, ◌∙◌, rules}
+use Rattle.std.proofs.lemmas.List.Elements.{All-set}
+use Rattle.batch_pool.specs.declared.row.Row.{Row}
+use Rattle.pool_scope.specs.Gathering.{IsRowIf}
+use Rattle.stream_compile.proofs.shared.row_of.Goals as goal
+
+pub returns-then-number-len-clause-row : goal.returns-then-number-len-clause-row
+returns-then-number-len-clause-row c =
+    subst (IsRowIf c.args.spaces.now c.args.cells.now) (sym (c.take.ensures.value ∙ c.index_mut.ensures.value)) (c.requires _ c.index_mut.result.now (search rules))
+
+pub returns-then-number-len-clause-rows : goal.returns-then-number-len-clause-rows
+returns-then-number-len-clause-rows c =
+    let P = IsRowIf c.args.spaces.now c.args.cells.now in
+    subst (λ (o : Option Row). All P (set c.args.rows.now.items c.args.number o)) (sym c.take.ensures.after) (All-set P c.args.rows.now.items c.args.number None tt c.requires)

@@ -1,0 +1,54 @@
+-- Bodies that are read and kept while workers compile them.
+use Rattle.std.specs.Prelude.{◌≡◌, ◌≤◌, ◌<◌, ◌-◌, ◌^◌, ℕ, Bool, true, List, [], ◌++◌, length, All, Option, Result, Ok, Err}
+use Rattle.wasm_defs.specs.Outside.{ends}
+use Rattle.wasm_defs.specs.Outside as outside
+use Rattle.wasm_defs.specs.declared.front_stop.FrontStop.{FrontStop}
+use Rattle.wasm_defs.specs.declared.front_stop.FrontStop.TheVariants.{Refused, NoMemory}
+use Rattle.wasm_defs.specs.declared.fault.Refusal.{Refusal}
+use Rattle.index_spaces.specs.Spaces.{Spaces}
+use Rattle.section_reader.specs.Onward.{after_parts}
+use Rattle.body_cutter.specs.declared.body.Body.{Body}
+use Rattle.body_cutter.specs.Cuttings.{Cutting}
+use Rattle.pool_scope.specs.Gathering.{IsRowIf}
+use Rattle.stream_compile.specs.declared.beside.Met.{Met}
+use Rattle.stream_compile.specs.declared.compilation.Compilation.{Compilation}
+use Rattle.stream_compile.specs.declared.intake.Intake.{Intake}
+use Rattle.stream_compile.specs.declared.reading.Ending.{Ending}
+use Rattle.stream_compile.specs.Arriving.{IsArriving}
+use Rattle.stream_compile.specs.Chunks.{Chunked}
+use Rattle.stream_compile.specs.CutBodies.{coded_all}
+use Rattle.stream_compile.specs.Kept.{kept_bodies}
+use Rattle.stream_compile.specs.Progress.{IsJudging}
+use Rattle.stream_compile.specs.Reading.{Settled}
+use Rattle.stream_compile.specs.Streaming.{with_cutter}
+
+-- a cutter as if it still had these bodies
+abbrev pub with_kept : List Body → Cutting → Cutting
+with_kept kept c = record { place = c.place; queue = record { least = c.queue.least; number = c.queue.number; closed = kept ++ c.queue.closed; begun = c.queue.begun } }
+
+-- a compilation that has the cutter back, with the bodies that were kept
+abbrev pub keeping : Compilation → Intake → Compilation
+keeping s i = with_cutter s (with_kept (kept_bodies i.kept.items) i.cutter)
+
+-- behind the bodies that were kept their section has this fault, whatever bytes follow
+pub record IsFaulty (first : Option (List ℕ)) (before : ℕ) (left : Option (List ℕ)) (now : ℕ) (may_read : Bool) (s : Compilation) (i : Intake) (r : Refusal) : Type 0 where
+  pub was : Compilation
+  pub chunk : Chunked
+  pub arrived : IsArriving first before left now may_read was chunk
+  pub same : chunk.came ≡ i.chunk.came
+  pub judging : (more : List ℕ) → length ((arrived.came ++ arrived.piece) ++ more) ≤ 67108869 → IsJudging ((arrived.came ++ arrived.piece) ++ more) (after_parts (coded_all (kept_bodies i.kept.items)) (ends (outside.Refused r))) s.spaces s.codes
+
+-- bodies were read and kept, and none is judged; or the fault of their section is found
+abbrev pub Keeps : Result (Unit {0}) FrontStop → (first : Option (List ℕ)) → (before : ℕ) → (left : Option (List ℕ)) → (now : ℕ) → (may_read : Bool) → Compilation → Intake → Type 0
+Keeps (Ok done) first before left now may_read s i = IsArriving first before left now may_read (keeping s i) i.chunk
+Keeps (Err (Refused r)) first before left now may_read s i = IsFaulty first before left now may_read s i r
+Keeps (Err NoMemory) first before left now may_read s i = Unit {0}
+
+-- bodies were read beside workers, and judged; or this is what the bytes come to
+abbrev pub Resumes : Result Chunked Ending → (first : Option (List ℕ)) → (before : ℕ) → (left : Option (List ℕ)) → (now : ℕ) → (may_read : Bool) → Compilation → Type 0
+Resumes (Ok chunk) first before left now may_read s = IsArriving first before left now may_read s chunk
+Resumes (Err e) first before left now may_read s = before < 2 ^ 64 - 1 → Settled e.failed e.judged s first left before now
+
+-- the rows that are at hand are right
+abbrev pub IsMet : Spaces → Met → Type 0
+IsMet c m = All (IsRowIf c m.cells) m.rows.items

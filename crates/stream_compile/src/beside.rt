@@ -1,0 +1,263 @@
+//! Reads bodies while workers compile them.
+
+ghost use Rattle.std.specs.Prelude.{◌≡◌, ◌<◌, ◌^◌, ℕ, Bool, true, [], List, Option, IfSome, IfOk, length};
+ghost use Rattle.pool_scope.specs.Desks.{HasRead};
+ghost use Rattle.stream_compile.specs.declared.compilation.Compilation.{Compilation as Given};
+ghost use Rattle.stream_compile.specs.Arriving.{IsArriving};
+ghost use Rattle.stream_compile.specs.Codes.{KeepsAlike};
+ghost use Rattle.stream_compile.specs.Keeping.{keeping, Keeps, IsMet, Resumes};
+
+use crate::chunk::Chunk;
+use crate::compilation::Compilation;
+use crate::intake::{Intake, read_bodies};
+use crate::reading::Ending;
+use batch_pool::{Feeder, Hand, Pool, Row, Ticket};
+use cancel_drain::{Board, BoardSeat};
+use index_spaces::Context;
+use io_edges::{Gate, Source};
+use pool_scope::{Desk, Reading, by_number, run_beside, settle};
+use result_cells::Cells;
+use std::alloc::{AllocError, Global};
+use std::sync::Wait;
+use std::thread::Threads;
+use wasm_defs::FrontStop;
+
+/// Reads the bodies of a source.
+#[derive(Drop)]
+struct BodyReader<'a, S> {
+    alloc: Global,
+    source: &'a mut S,
+    intake: Intake,
+    /// Whether the reading met a fault.
+    read: Result<(), FrontStop>,
+}
+
+impl<'a, S: Source> BodyReader<'a, S> {
+    /// Before the first read.
+    fn new(alloc: Global, source: &'a mut S, intake: Intake) -> Self
+        ensures same_reference { result.source.ghost_name ≡ source.entry.ghost_name }
+        ensures source { result.source.now ≡ source.old }
+        ensures intake { result.intake ≡ intake }
+    {
+        BodyReader {
+            alloc,
+            source,
+            intake,
+            read: Ok(()),
+        }
+    }
+}
+
+impl<'a, S: Source> Reading for BodyReader<'a, S> {
+    ghost can_read = { λ r. (first : Option (List ℕ)) × (before : ℕ) × (s : Given) × IsArriving first before (S.left r.source.now) (S.faults r.source.now) (S.is_open r.source.now) (keeping s r.intake) r.intake.chunk };
+
+    ghost reads = { λ r t. (t.source.ghost_name ≡ r.source.ghost_name)
+        × ((first : Option (List ℕ)) (before : ℕ) (s : Given) → IsArriving first before (S.left r.source.now) (S.faults r.source.now) (S.is_open r.source.now) (keeping s r.intake) r.intake.chunk
+        → Keeps t.read first before (S.left t.source.now) (S.faults t.source.now) (S.is_open t.source.now) s t.intake) };
+
+    fn read(&mut self, board: &Board, context: &Context, desk: &mut Desk) {
+        self.read = read_bodies(
+            self.alloc,
+            self.source,
+            board,
+            context,
+            desk,
+            &mut self.intake,
+        );
+    }
+}
+
+/// What was read, and what is to be settled.
+#[derive(Drop)]
+struct Gathered {
+    intake: Intake,
+    /// Whether the reading met a fault.
+    read: Result<(), FrontStop>,
+    /// The last seat at the board.
+    seat: BoardSeat,
+    /// The tickets of all batches that were handed over.
+    tickets: Vec<Ticket>,
+    /// What the workers made.
+    rows: Vec<Row>,
+}
+
+/// What was read, and what workers made of it.
+#[derive(Drop)]
+pub struct Met {
+    pub intake: Intake,
+    /// Whether the reading met a fault.
+    pub read: Result<(), FrontStop>,
+    /// The cells of the functions, where codes are kept.
+    pub cells: Cells,
+    /// The rows in the order of the batches that were kept, where they are at hand.
+    pub rows: Vec<Option<Row>>,
+}
+
+/// Reads bodies while a worker for each hand, as far as threads can be started, compiles those that were handed over. None where
+/// memory ran out.
+fn read_in_scope<R: Threads + Wait + Sync, S: Source, G: Gate>(
+    rt: &R,
+    alloc: Global,
+    source: &mut S,
+    gate: &G,
+    board: &Board,
+    seat: BoardSeat,
+    cells: &Cells,
+    context: &Context,
+    hands: Vec<Hand>,
+    feeder: Feeder,
+    intake: Intake,
+) -> Option<Gathered>
+    requires table { seat.table ≡ board.now.table }
+    requires first { (seat.view.feeder ≡ true) × (seat.view.running ≡ []) × (seat.view.published ≡ []) }
+    requires parts { length hands.items < seat.view.parts }
+    requires arrives { (first : Option (List ℕ)) × (before : ℕ) × (s : Given) × IsArriving first before (S.left source.old) (S.faults source.old) (S.is_open source.old) (keeping s intake) intake.chunk }
+    ensures read { IfSome result (λ j. HasRead context.now cells.now board.now seat.view.parts j.seat j.tickets.items j.rows.items) }
+    ensures keeps { IfSome result (λ j. (first : Option (List ℕ)) (before : ℕ) (s : Given) → IsArriving first before (S.left source.old) (S.faults source.old) (S.is_open source.old) (keeping s intake) intake.chunk
+        → Keeps j.read first before (S.left source.new) (S.faults source.new) (S.is_open source.new) s j.intake) }
+{
+    let reader = BodyReader::new(alloc, source, intake);
+    let joined = run_beside(
+        rt, alloc, board, seat, cells, context, gate, hands, feeder, reader,
+    )?;
+    let seat = joined.seat;
+    let tickets = joined.kept;
+    let rows = joined.rows;
+    let reader = joined.reader;
+    let intake = reader.intake;
+    let read = reader.read;
+    let _source = reader.source;
+    Some(Gathered {
+        intake,
+        read,
+        seat,
+        tickets,
+        rows,
+    })
+}
+
+/// Reads bodies beside so many workers, and does what these left over.
+fn read_with_workers<R: Threads + Wait + Sync, S: Source, G: Gate>(
+    rt: &R,
+    alloc: Global,
+    source: &mut S,
+    gate: &G,
+    workers: u32,
+    compilation: &Compilation,
+    intake: Intake,
+) -> Result<Met, AllocError>
+    requires arrives { (first : Option (List ℕ)) × (before : ℕ) × (s : Given) × IsArriving first before (S.left source.old) (S.faults source.old) (S.is_open source.old) (keeping s intake) intake.chunk }
+    ensures met { IfOk result (IsMet compilation.now.spaces) }
+    ensures keeps { IfOk result (λ m. (first : Option (List ℕ)) (before : ℕ) (s : Given) → IsArriving first before (S.left source.old) (S.faults source.old) (S.is_open source.old) (keeping s intake) intake.chunk
+        → Keeps m.read first before (S.left source.new) (S.faults source.new) (S.is_open source.new) s m.intake) }
+{
+    let context = compilation.context();
+    let functions = context.type_indices().len().min(u32::MAX as usize) as u32;
+    let stored = if compilation.keeps_codes() {
+        functions
+    } else {
+        0
+    };
+    let cells = Cells::new(alloc, stored)?;
+    let (board, seat) = Board::new(alloc, functions, u64::from(workers) + 1)?;
+    let (feeder, hands) = Pool::new(alloc, workers)?;
+    let Some(gathered) = read_in_scope(
+        rt, alloc, source, gate, &board, seat, &cells, context, hands, feeder, intake,
+    ) else {
+        return Err(AllocError);
+    };
+    let Gathered {
+        intake,
+        read,
+        seat,
+        tickets,
+        rows,
+    } = gathered;
+    let Some(settled) = settle(alloc, board, seat, &cells, context, gate, rows, tickets) else {
+        return Err(AllocError);
+    };
+    let rows = by_number(alloc, context, &cells, settled.rows, intake.kept.len())?;
+    Ok(Met {
+        intake,
+        read,
+        cells,
+        rows,
+    })
+}
+
+/// Where bodies come next, reads them beside so many workers, and judges them, so that the compilation can go on behind them; or
+/// says what the bytes come to.
+pub fn read_beside<R: Threads + Wait + Sync, S: Source, G: Gate>(
+    rt: &R,
+    alloc: Global,
+    source: &mut S,
+    gate: &G,
+    workers: u32,
+    chunk: Chunk,
+    compilation: &mut Compilation,
+) -> Result<Chunk, Ending>
+    requires arrives { (first : Option (List ℕ)) × (before : ℕ) × IsArriving first before (S.left source.old) (S.faults source.old) (S.is_open source.old) compilation.old chunk }
+    ensures resumes { (first : Option (List ℕ)) (before : ℕ) → IsArriving first before (S.left source.old) (S.faults source.old) (S.is_open source.old) compilation.old chunk
+        → Resumes result first before (S.left source.new) (S.faults source.new) (S.is_open source.new) compilation.new }
+    ensures kept { KeepsAlike compilation.old.codes compilation.new.codes }
+{
+    let Some(cutter) = compilation.take_cutter() else {
+        return Ok(chunk);
+    };
+    let intake = Intake::new(alloc, cutter, chunk);
+    let Ok(met) = read_with_workers(rt, alloc, source, gate, workers, compilation, intake) else {
+        return Err(Ending {
+            judged: Err(FrontStop::NoMemory),
+            failed: false,
+        });
+    };
+    judge_met(compilation, met)
+}
+
+/// Judges what was read beside workers.
+fn judge_met(compilation: &mut Compilation, met: Met) -> Result<Chunk, Ending>
+    requires met { IsMet compilation.old.spaces met }
+    requires keeps { (first : Option (List ℕ)) × (before : ℕ) × (left : Option (List ℕ)) × (now : ℕ) × (may_read : Bool) × Keeps met.read first before left now may_read compilation.old met.intake }
+    ensures resumes { (first : Option (List ℕ)) (before : ℕ) (left : Option (List ℕ)) (now : ℕ) (may_read : Bool) → Keeps met.read first before left now may_read compilation.old met.intake
+        → Resumes result first before left now may_read compilation.new }
+    ensures kept { KeepsAlike compilation.old.codes compilation.new.codes }
+{
+    let Met {
+        intake,
+        read,
+        cells,
+        rows,
+    } = met;
+    let Intake {
+        cutter,
+        kept,
+        chunk,
+    } = intake;
+    let failed = chunk.has_failed();
+    match read {
+        Ok(()) => match compilation.judge_kept(&cells, kept, rows) {
+            Ok(()) => {
+                compilation.put_cutter(cutter);
+                Ok(chunk)
+            }
+            Err(stop) => Err(Ending {
+                judged: Err(stop),
+                failed,
+            }),
+        },
+        Err(FrontStop::Refused(refusal)) => match compilation.judge_kept(&cells, kept, rows) {
+            Ok(()) => Err(Ending {
+                judged: Err(FrontStop::Refused(refusal)),
+                failed,
+            }),
+            Err(stop) => Err(Ending {
+                judged: Err(stop),
+                failed,
+            }),
+        },
+        Err(FrontStop::NoMemory) => Err(Ending {
+            judged: Err(FrontStop::NoMemory),
+            failed,
+        }),
+    }
+}

@@ -1,0 +1,138 @@
+//! Reads bodies and keeps them, while workers compile them.
+
+ghost use Rattle.std.specs.Prelude.{◌≡◌, ◌<◌, ◌++◌, ℕ, Bool, [], List, Option, None, OnOk};
+ghost use Rattle.pool_scope.specs.Desks.{IsDesk};
+ghost use Rattle.stream_compile.specs.declared.compilation.Compilation.{Compilation};
+ghost use Rattle.stream_compile.specs.Arriving.{IsArriving};
+ghost use Rattle.stream_compile.specs.Kept.{kept_bodies};
+ghost use Rattle.stream_compile.specs.Keeping.{keeping, Keeps};
+
+use crate::chunk::{Came, Chunk};
+use body_cutter::{Batch, Cutter};
+use cancel_drain::Board;
+use index_spaces::Context;
+use io_edges::Source;
+use pool_scope::Desk;
+use std::alloc::{AllocError, Global};
+use std::sync::Arc;
+use wasm_defs::FrontStop;
+
+/// The bodies that were read, none of which is judged so far.
+#[derive(Drop)]
+pub struct Intake {
+    /// Cuts the bodies.
+    pub cutter: Cutter,
+    /// The batches that were closed, in order.
+    pub kept: Vec<Arc<Batch, Global>>,
+    /// The bytes that were read last.
+    pub chunk: Chunk,
+}
+
+impl Intake {
+    /// Before the first body.
+    pub fn new(alloc: Global, cutter: Cutter, chunk: Chunk) -> Intake
+        ensures cutter { result.cutter ≡ cutter }
+        ensures kept { result.kept.items ≡ [] }
+        ensures chunk { result.chunk ≡ chunk }
+    {
+        Intake {
+            cutter,
+            kept: Vec::new(alloc),
+            chunk,
+        }
+    }
+}
+
+/// Hands over the batches that are closed, and keeps them.
+fn hand_over(
+    alloc: Global,
+    board: &Board,
+    context: &Context,
+    desk: &mut Desk,
+    intake: &mut Intake,
+) -> Result<(), AllocError>
+    requires desk { IsDesk context.now board.now desk.old }
+    ensures desk { IsDesk context.now board.now desk.new }
+    ensures parts { desk.new.seat.view.parts ≡ desk.old.seat.view.parts }
+    ensures chunk { intake.new.chunk ≡ intake.old.chunk }
+    ensures place { intake.new.cutter.place ≡ intake.old.cutter.place }
+    ensures closed { OnOk result (intake.new.cutter.queue.closed ≡ []) }
+    ensures begun { OnOk result (intake.new.cutter.queue.begun ≡ intake.old.cutter.queue.begun) }
+    ensures kept { OnOk result (kept_bodies intake.new.kept.items ≡ kept_bodies intake.old.kept.items ++ intake.old.cutter.queue.closed) }
+{
+    while let Some(batch) = intake.cutter.take_batch() {
+        let batch = Arc::new(alloc, batch)?;
+        desk.hand_over(board, context, &batch)?;
+        intake.kept.push(batch)?;
+    }
+    Ok(())
+}
+
+/// Cuts the bytes of the chunk that are still to be taken, as far as they lie in the bodies' section, and hands over what closes.
+fn take_piece(
+    alloc: Global,
+    board: &Board,
+    context: &Context,
+    desk: &mut Desk,
+    intake: &mut Intake,
+) -> Result<(), FrontStop>
+    requires desk { IsDesk context.now board.now desk.old }
+    ensures desk { IsDesk context.now board.now desk.new }
+    ensures parts { desk.new.seat.view.parts ≡ desk.old.seat.view.parts }
+    ensures all { OnOk result (intake.new.cutter.place.at < intake.new.cutter.place.end → intake.new.chunk.pending ≡ []) }
+    ensures going { OnOk result (intake.new.cutter.place.stop ≡ None) }
+    ensures chunk { (intake.new.chunk.count ≡ intake.old.chunk.count) × (intake.new.chunk.came ≡ intake.old.chunk.came) }
+    ensures keeps { (first : Option (List ℕ)) (before : ℕ) (left : Option (List ℕ)) (now : ℕ) (may_read : Bool) (s : Compilation)
+        → IsArriving first before left now may_read (keeping s intake.old) intake.old.chunk → Keeps result first before left now may_read s intake.new }
+{
+    match intake.cutter.feed(intake.chunk.pending()) {
+        Ok(taken) => {
+            intake.chunk.skip(taken);
+            match hand_over(alloc, board, context, desk, intake) {
+                Ok(()) => Ok(()),
+                Err(_) => Err(FrontStop::NoMemory),
+            }
+        }
+        Err(FrontStop::Refused(refusal)) => {
+            match hand_over(alloc, board, context, desk, intake) {
+                Ok(()) => Err(FrontStop::Refused(refusal)),
+                Err(_) => Err(FrontStop::NoMemory),
+            }
+        }
+        Err(FrontStop::NoMemory) => Err(FrontStop::NoMemory),
+    }
+}
+
+/// Reads bodies, and hands their batches over, until their section is whole, a fault was reported, or no more bytes come.
+pub fn read_bodies<S: Source>(
+    alloc: Global,
+    source: &mut S,
+    board: &Board,
+    context: &Context,
+    desk: &mut Desk,
+    intake: &mut Intake,
+) -> Result<(), FrontStop>
+    requires desk { IsDesk context.now board.now desk.old }
+    requires arrives { (first : Option (List ℕ)) × (before : ℕ) × (s : Compilation) × IsArriving first before (S.left source.old) (S.faults source.old) (S.is_open source.old) (keeping s intake.old) intake.old.chunk }
+    ensures desk { IsDesk context.now board.now desk.new }
+    ensures parts { desk.new.seat.view.parts ≡ desk.old.seat.view.parts }
+    ensures keeps { (first : Option (List ℕ)) (before : ℕ) (s : Compilation) → IsArriving first before (S.left source.old) (S.faults source.old) (S.is_open source.old) (keeping s intake.old) intake.old.chunk
+        → Keeps result first before (S.left source.new) (S.faults source.new) (S.is_open source.new) s intake.new }
+{
+    loop {
+        match take_piece(alloc, board, context, desk, intake) {
+            Ok(()) => {}
+            Err(stop) => return Err(stop),
+        }
+        if intake.cutter.is_whole() {
+            return Ok(());
+        }
+        if desk.sees_fault(board, context) {
+            return Ok(());
+        }
+        let came = intake.chunk.read(source);
+        if came != Came::Bytes {
+            return Ok(());
+        }
+    }
+}
