@@ -1,5 +1,5 @@
 //! Workers in threads of their own, beside a caller that reads.
-ghost use Rattle.std.specs.Prelude.{◌≡◌, ◌<◌, ◌^◌, true, [], length, IfSome};
+ghost use Rattle.std.specs.Prelude.{◌≡◌, ◌<◌, ◌^◌, ◌⊎◌, true, [], length, IfOk, IfErr};
 ghost use Rattle.pool_scope.specs.Desks.{IsDesk, HasRead};
 ghost use Rattle.pool_scope.specs.Gathering.{IsWorked};
 
@@ -49,7 +49,8 @@ pub struct Joined<T> {
     pub rows: Vec<Row>,
 }
 
-/// Reads while a worker for each hand, as far as threads can be started, works off what is handed over. None where memory ran out.
+/// Reads while a worker for each hand, as far as threads can be started, works off what is handed over. Err where memory ran out, with
+/// the reader behind its reading, or as it was.
 pub fn run_beside<R: Threads + Wait + Sync, G: Gate, T: Reading + Drop>(
     rt: &R,
     alloc: Global,
@@ -61,13 +62,14 @@ pub fn run_beside<R: Threads + Wait + Sync, G: Gate, T: Reading + Drop>(
     hands: Vec<Hand>,
     feeder: Feeder,
     reading: T,
-) -> Option<Joined<T>>
+) -> Result<Joined<T>, T>
     requires table { seat.table ≡ board.now.table }
     requires first { (seat.view.feeder ≡ true) × (seat.view.running ≡ []) × (seat.view.published ≡ []) }
     requires parts { length hands.items < seat.view.parts }
     requires can { T.can_read reading }
-    ensures read { IfSome result (λ j. HasRead context.now cells.now board.now seat.view.parts j.seat j.kept.items j.rows.items) }
-    ensures made { IfSome result (λ j. T.reads reading j.reader) }
+    ensures read { IfOk result (λ j. HasRead context.now cells.now board.now seat.view.parts j.seat j.kept.items j.rows.items) }
+    ensures made { IfOk result (λ j. T.reads reading j.reader) }
+    ensures back { IfErr result (λ r. T.reads reading r ⊎ (r ≡ reading)) }
 {
     let refused = AtomicU64::new(u64::MAX);
     let told = &refused;
@@ -75,13 +77,14 @@ pub fn run_beside<R: Threads + Wait + Sync, G: Gate, T: Reading + Drop>(
     thread::scope(
         thread::scope_env(),
         rt,
-        |scope| -> Option<Joined<T>>
+        |scope| -> Result<Joined<T>, T>
             requires table { seat.table ≡ board.now.table }
             requires first { (seat.view.feeder ≡ true) × (seat.view.running ≡ []) × (seat.view.published ≡ []) }
             requires parts { (length hands.items < seat.view.parts) × (seat.view.parts < 2 ^ 64) }
             requires can { T.can_read reading }
-            ensures read { IfSome result (λ j. HasRead context.entry.now cells.entry.now board.entry.now seat.view.parts j.seat j.kept.items j.rows.items) }
-            ensures made { IfSome result (λ j. T.reads reading j.reader) }
+            ensures read { IfOk result (λ j. HasRead context.entry.now cells.entry.now board.entry.now seat.view.parts j.seat j.kept.items j.rows.items) }
+            ensures made { IfOk result (λ j. T.reads reading j.reader) }
+            ensures back { IfErr result (λ r. T.reads reading r ⊎ (r ≡ reading)) }
         {
             let mut seat = seat;
             let mut rows: Vec<Row> = Vec::new(alloc);
@@ -106,11 +109,18 @@ pub fn run_beside<R: Threads + Wait + Sync, G: Gate, T: Reading + Drop>(
                         )
                     },
                 ) {
-                    Ok(handle) => handles.push(handle).ok()?,
+                    Ok(handle) => {
+                        let Ok(()) = handles.push(handle) else {
+                            return Err(reading);
+                        };
+                    }
                     Err(refusal) => {
                         told.store(mine, SeqCst);
                         let worked = (refusal.value)();
-                        take_in(board, context, cells, &mut seat, &mut rows, worked)?;
+                        let Some(()) = take_in(board, context, cells, &mut seat, &mut rows, worked)
+                        else {
+                            return Err(reading);
+                        };
                     }
                 }
                 number = number.wrapping_add(1);
@@ -125,8 +135,10 @@ pub fn run_beside<R: Threads + Wait + Sync, G: Gate, T: Reading + Drop>(
                 last: _,
             } = desk;
             feeder.close();
-            join_all(rt, board, context, cells, &mut seat, &mut rows, handles)?;
-            Some(Joined {
+            let Some(()) = join_all(rt, board, context, cells, &mut seat, &mut rows, handles) else {
+                return Err(reader);
+            };
+            Ok(Joined {
                 reader,
                 seat,
                 kept,

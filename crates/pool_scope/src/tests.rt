@@ -122,7 +122,7 @@ fn run<R: Threads + Wait + Sync>(
         alloc,
         saw: Ok(false),
     };
-    let Some(joined) = run_beside(
+    let Ok(joined) = run_beside(
         rt, alloc, &board, seat, &cells, context, &OpenGate, hands, feeder, reading,
     ) else {
         return Err(AllocError);

@@ -14,6 +14,7 @@ pub mod RightSoFar
 pub mod Settling
 pub mod Pumping
 pub mod Chunking
+pub mod Fronts
 pub mod Arriving
 pub mod Sharing
 pub mod Keeping

@@ -1,6 +1,7 @@
 //! Reads bodies while workers compile them.
 
 ghost use Rattle.std.specs.Prelude.{◌≡◌, ◌<◌, ◌^◌, ℕ, Bool, true, [], List, Option, IfSome, IfOk, length};
+ghost use Rattle.io_edges.specs.Streams.{TookFront};
 ghost use Rattle.pool_scope.specs.Desks.{HasRead};
 ghost use Rattle.stream_compile.specs.declared.compilation.Compilation.{Compilation as Given};
 ghost use Rattle.stream_compile.specs.Arriving.{IsArriving};
@@ -52,6 +53,7 @@ impl<'a, S: Source> Reading for BodyReader<'a, S> {
     ghost can_read = { λ r. (first : Option (List ℕ)) × (before : ℕ) × (s : Given) × IsArriving first before (S.left r.source.now) (S.faults r.source.now) (S.is_open r.source.now) (keeping s r.intake) r.intake.chunk };
 
     ghost reads = { λ r t. (t.source.ghost_name ≡ r.source.ghost_name)
+        × TookFront (S.left r.source.now) (S.faults r.source.now) (S.left t.source.now) (S.faults t.source.now)
         × ((first : Option (List ℕ)) (before : ℕ) (s : Given) → IsArriving first before (S.left r.source.now) (S.faults r.source.now) (S.is_open r.source.now) (keeping s r.intake) r.intake.chunk
         → Keeps t.read first before (S.left t.source.now) (S.faults t.source.now) (S.is_open t.source.now) s t.intake) };
 
@@ -115,28 +117,39 @@ fn read_in_scope<R: Threads + Wait + Sync, S: Source, G: Gate>(
     ensures read { IfSome result (λ j. HasRead context.now cells.now board.now seat.view.parts j.seat j.tickets.items j.rows.items) }
     ensures keeps { IfSome result (λ j. (first : Option (List ℕ)) (before : ℕ) (s : Given) → IsArriving first before (S.left source.old) (S.faults source.old) (S.is_open source.old) (keeping s intake) intake.chunk
         → Keeps j.read first before (S.left source.new) (S.faults source.new) (S.is_open source.new) s j.intake) }
+    ensures front { TookFront (S.left source.old) (S.faults source.old) (S.left source.new) (S.faults source.new) }
 {
     let reader = BodyReader::new(alloc, source, intake);
-    let joined = run_beside(
+    match run_beside(
         rt, alloc, board, seat, cells, context, gate, hands, feeder, reader,
-    )?;
-    let seat = joined.seat;
-    let tickets = joined.kept;
-    let rows = joined.rows;
-    let reader = joined.reader;
-    let intake = reader.intake;
-    let read = reader.read;
-    let _source = reader.source;
-    Some(Gathered {
-        intake,
-        read,
-        seat,
-        tickets,
-        rows,
-    })
+    ) {
+        Ok(joined) => {
+            let seat = joined.seat;
+            let tickets = joined.kept;
+            let rows = joined.rows;
+            let reader = joined.reader;
+            let intake = reader.intake;
+            let read = reader.read;
+            let _source = reader.source;
+            Some(Gathered {
+                intake,
+                read,
+                seat,
+                tickets,
+                rows,
+            })
+        }
+        Err(reader) => {
+            let _intake = reader.intake;
+            let _read = reader.read;
+            let _source = reader.source;
+            None
+        }
+    }
 }
 
 /// Reads bodies beside so many workers, and does what these left over.
+#[tactic(auto, using(crate::proofs::Fronts::took_nothing))]
 fn read_with_workers<R: Threads + Wait + Sync, S: Source, G: Gate>(
     rt: &R,
     alloc: Global,
@@ -150,6 +163,7 @@ fn read_with_workers<R: Threads + Wait + Sync, S: Source, G: Gate>(
     ensures met { IfOk result (IsMet compilation.now.spaces) }
     ensures keeps { IfOk result (λ m. (first : Option (List ℕ)) (before : ℕ) (s : Given) → IsArriving first before (S.left source.old) (S.faults source.old) (S.is_open source.old) (keeping s intake) intake.chunk
         → Keeps m.read first before (S.left source.new) (S.faults source.new) (S.is_open source.new) s m.intake) }
+    ensures front { TookFront (S.left source.old) (S.faults source.old) (S.left source.new) (S.faults source.new) }
 {
     let context = compilation.context();
     let functions = context.type_indices().len().min(u32::MAX as usize) as u32;
@@ -187,6 +201,7 @@ fn read_with_workers<R: Threads + Wait + Sync, S: Source, G: Gate>(
 
 /// Where bodies come next, reads them beside so many workers, and judges them, so that the compilation can go on behind them; or
 /// says what the bytes come to.
+#[tactic(auto, using(crate::proofs::Fronts::took_nothing))]
 pub fn read_beside<R: Threads + Wait + Sync, S: Source, G: Gate>(
     rt: &R,
     alloc: Global,
@@ -200,6 +215,7 @@ pub fn read_beside<R: Threads + Wait + Sync, S: Source, G: Gate>(
     ensures resumes { (first : Option (List ℕ)) (before : ℕ) → IsArriving first before (S.left source.old) (S.faults source.old) (S.is_open source.old) compilation.old chunk
         → Resumes result first before (S.left source.new) (S.faults source.new) (S.is_open source.new) compilation.new }
     ensures kept { KeepsAlike compilation.old.codes compilation.new.codes }
+    ensures front { TookFront (S.left source.old) (S.faults source.old) (S.left source.new) (S.faults source.new) }
 {
     let Some(cutter) = compilation.take_cutter() else {
         return Ok(chunk);

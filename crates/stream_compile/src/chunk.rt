@@ -1,7 +1,7 @@
 //! Bytes of a source, chunk by chunk.
 
 ghost use Rattle.std.specs.Prelude.{◌≡◌, ◌≢◌, ◌<◌, ◌≤◌, ℕ, true, [], List, Option, All, IfOk, length, take, drop};
-ghost use Rattle.io_edges.specs.Streams.{Reads, ReadCounts, ReadsOn};
+ghost use Rattle.io_edges.specs.Streams.{Reads, ReadCounts, ReadsOn, TookFront};
 ghost use Rattle.stream_compile.specs.declared.compilation.Compilation.{Compilation};
 ghost use Rattle.stream_compile.specs.Arriving.{IsArriving, has_failed};
 
@@ -57,6 +57,7 @@ fn zeros(alloc: Global, len: usize) -> Result<Vec<u8>, AllocError>
 }
 
 /// Reads some bytes, so many at most, to the front of a buffer. All its bytes are below 256, as bytes are.
+#[tactic(auto, using(crate::proofs::Fronts::took_read))]
 fn fill<S: Source>(source: &mut S, bytes: &mut [u8], most: usize) -> Got
     requires some { 0 < most }
     requires room { most ≤ length bytes.old }
@@ -66,6 +67,7 @@ fn fill<S: Source>(source: &mut S, bytes: &mut [u8], most: usize) -> Got
     ensures fit { All (λ b. b < 256) bytes.new }
     ensures cause { ReadCounts result (S.faults source.old) (S.faults source.new) }
     ensures on { ReadsOn result (S.is_open source.new) }
+    ensures front { TookFront (S.left source.old) (S.faults source.old) (S.left source.new) (S.faults source.new) }
 {
     source.read(&mut bytes[..most])
 }
@@ -110,6 +112,7 @@ impl Chunk {
     }
 
     /// Reads the next bytes. Behind the end of the source, its failure and the most bytes that are read, nothing more is asked of it.
+    #[tactic(auto, using(crate::proofs::Fronts::took_nothing))]
     pub fn read<S: Source>(&mut self, source: &mut S) -> Came
         requires none { self.old.pending ≡ [] }
         requires few { self.old.count ≤ 67108869 }
@@ -120,6 +123,7 @@ impl Chunk {
         ensures few { self.new.count ≤ 67108869 }
         ensures arrives { (first : Option (List ℕ)) (before : ℕ) (s : Compilation) → IsArriving first before (S.left source.old) (S.faults source.old) (S.is_open source.old) s self.old
             → IsArriving first before (S.left source.new) (S.faults source.new) (S.is_open source.new) s self.new }
+        ensures front { TookFront (S.left source.old) (S.faults source.old) (S.left source.new) (S.faults source.new) }
     {
         if self.came != Came::Bytes {
             return self.came;

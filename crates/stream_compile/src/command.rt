@@ -1,6 +1,7 @@
 //! The commands of the program.
 
 ghost use Rattle.std.specs.Prelude.{◌≡◌, ◌<◌, ◌^◌, ◌-◌, true, None, Some, min, nat_lt, IfOk, IfSome, OnErr};
+ghost use Rattle.io_edges.specs.Streams.{TookFront};
 ghost use Rattle.command_words.specs.Grammar.{IsInRange};
 ghost use Rattle.command_words.specs.declared.command.Command.TheVariants.{Check, Compile, Exec, Run as RunCommand};
 ghost use Rattle.stream_compile.specs.Reading.{view};
@@ -51,7 +52,8 @@ fn check<R: Threads + Wait + Sync, S: Source, G: Gate>(
 ) -> Result<Output, AllocError>
     requires faults { S.faults source.old < 2 ^ 64 - 1 }
     requires open { S.is_open source.old ≡ true }
-    ensures { IfOk result (λ o. ComesTo (Some (Check options.now)) (nat_lt (S.faults source.old) (S.faults source.new)) (S.left source.old) (S.left source.new) (view o)) }
+    ensures answer { IfOk result (λ o. ComesTo (Some (Check options.now)) (nat_lt (S.faults source.old) (S.faults source.new)) (S.left source.old) (S.left source.new) (view o)) }
+    ensures front { TookFront (S.left source.old) (S.faults source.old) (S.left source.new) (S.faults source.new) }
 {
     match stream_check(rt, alloc, source, gate, settings_of(options)) {
         CheckAnswer::Valid(checked) => accepted(alloc, checked.functions, checked.bytes),
@@ -71,7 +73,8 @@ fn compile<R: Threads + Wait + Sync, S: Source, G: Gate>(
 ) -> Result<Output, AllocError>
     requires faults { S.faults source.old < 2 ^ 64 - 1 }
     requires open { S.is_open source.old ≡ true }
-    ensures { IfOk result (λ o. ComesTo (Some (Compile options.now)) (nat_lt (S.faults source.old) (S.faults source.new)) (S.left source.old) (S.left source.new) (view o)) }
+    ensures answer { IfOk result (λ o. ComesTo (Some (Compile options.now)) (nat_lt (S.faults source.old) (S.faults source.new)) (S.left source.old) (S.left source.new) (view o)) }
+    ensures front { TookFront (S.left source.old) (S.faults source.old) (S.left source.new) (S.faults source.new) }
 {
     match stream_compile(rt, alloc, source, gate, settings_of(options)) {
         Answer::Image(built) => compiled(alloc, &built.image),
@@ -96,6 +99,7 @@ fn run<R: Threads + Wait + Sync, S: Source, O: Sink, G: Gate>(
     requires sink_open { O.is_open out.old ≡ true }
     ensures told { IfOk result (λ status. IsTold (ComesTo (Some (RunCommand call.now)) (nat_lt (S.faults source.old) (S.faults source.new)) (S.left source.old) (S.left source.new)) status (nat_lt (O.faults out.old) (O.faults out.new)) (O.written out.old) (O.written out.new)) }
     ensures kept { OnErr result (out.new ≡ out.old) }
+    ensures front { TookFront (S.left source.old) (S.faults source.old) (S.left source.new) (S.faults source.new) }
 {
     match stream_compile(rt, alloc, source, gate, settings_of(&call.options)) {
         Answer::Image(built) => run_image(alloc, &built.image, &call.call, None, out),
@@ -118,6 +122,7 @@ fn exec<S: Source, O: Sink>(
     requires sink_open { O.is_open out.old ≡ true }
     ensures told { IfOk result (λ status. IsTold (ComesTo (Some (Exec call.now)) (nat_lt (S.faults source.old) (S.faults source.new)) (S.left source.old) (S.left source.new)) status (nat_lt (O.faults out.old) (O.faults out.new)) (O.written out.old) (O.written out.new)) }
     ensures kept { OnErr result (out.new ≡ out.old) }
+    ensures front { TookFront (S.left source.old) (S.faults source.old) (S.left source.new) (S.faults source.new) }
 {
     let given = read_foreign(alloc, source)?;
     match given {
@@ -129,6 +134,7 @@ fn exec<S: Source, O: Sink>(
 
 /// Writes what the source comes to, and gives the status: where there is no command, the words ask for nothing. There, and where
 /// the command is `drill`, the source stays as it is.
+#[tactic(auto, using(crate::proofs::Fronts::took_nothing))]
 fn answer_to<R: Threads + Wait + Sync, S: Source, O: Sink, G: Gate>(
     rt: &R,
     alloc: Global,
@@ -145,6 +151,7 @@ fn answer_to<R: Threads + Wait + Sync, S: Source, O: Sink, G: Gate>(
     ensures answer { IfOk result (λ status. IsTold (ComesTo command.now (nat_lt (S.faults source.old) (S.faults source.new)) (S.left source.old) (S.left source.new)) status (nat_lt (O.faults out.old) (O.faults out.new)) (O.written out.old) (O.written out.new)) }
     ensures kept { OnErr result (out.new ≡ out.old) }
     ensures untouched { ReadsNothing command.now → source.new ≡ source.old }
+    ensures front { TookFront (S.left source.old) (S.faults source.old) (S.left source.new) (S.faults source.new) }
 {
     match command {
         None => Ok(write(out, &usage(alloc)?)),
@@ -168,6 +175,7 @@ fn answer_to<R: Threads + Wait + Sync, S: Source, O: Sink, G: Gate>(
 /// came have no fault that more bytes don't mend, 7 where the sink failed, 8 where memory ran out, after which nothing is
 /// written, 9 where the machine had no step, and 10 where the bytes are no image; the last two come of `exec` alone. For words
 /// outside the command grammar, and for `drill`, the source isn't read.
+#[tactic(auto, using(crate::proofs::Fronts::took_nothing))]
 pub fn top<R: Threads + Wait + Sync, S: Source, O: Sink, G: Gate>(
     rt: &R,
     alloc: Global,
@@ -183,6 +191,7 @@ pub fn top<R: Threads + Wait + Sync, S: Source, O: Sink, G: Gate>(
     ensures answer { AnswersAndWrites (out.new ≡ out.old) (command_said words.now.items) (nat_lt (S.faults source.old) (S.faults source.new)) (S.left source.old) (S.left source.new) result
         (nat_lt (O.faults out.old) (O.faults out.new)) (O.written out.old) (O.written out.new) }
     ensures untouched { ReadsNothing (command_said words.now.items) → source.new ≡ source.old }
+    ensures front { TookFront (S.left source.old) (S.faults source.old) (S.left source.new) (S.faults source.new) }
 {
     let Ok(command) = command_in(alloc, words) else {
         return 8;

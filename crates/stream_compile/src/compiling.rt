@@ -1,6 +1,7 @@
 //! Judges or compiles the module that a source gives, while its bytes come.
 
 ghost use Rattle.std.specs.Prelude.{◌≡◌, ◌<◌, ◌^◌, ◌-◌, true, nat_lt};
+ghost use Rattle.io_edges.specs.Streams.{TookFront};
 ghost use Rattle.stream_compile.specs.Compiling.{CompilesSource, ChecksSource};
 
 use crate::answer::{Answer, CheckAnswer, Settings};
@@ -27,7 +28,8 @@ pub fn stream_compile<R: Threads + Wait + Sync, S: Source, G: Gate>(
 ) -> Answer
     requires faults { S.faults source.old < 2 ^ 64 - 1 }
     requires open { S.is_open source.old ≡ true }
-    ensures { CompilesSource (nat_lt (S.faults source.old) (S.faults source.new)) (S.left source.old) (S.left source.new) result }
+    ensures answer { CompilesSource (nat_lt (S.faults source.old) (S.faults source.new)) (S.left source.old) (S.left source.new) result }
+    ensures front { TookFront (S.left source.old) (S.faults source.old) (S.left source.new) (S.faults source.new) }
 {
     let mut compilation = Compilation::new(alloc, settings.batch, Codes::kept(alloc));
     match judge_source(rt, alloc, source, gate, settings.workers, &mut compilation) {
@@ -56,7 +58,8 @@ pub fn stream_check<R: Threads + Wait + Sync, S: Source, G: Gate>(
 ) -> CheckAnswer
     requires faults { S.faults source.old < 2 ^ 64 - 1 }
     requires open { S.is_open source.old ≡ true }
-    ensures { ChecksSource (nat_lt (S.faults source.old) (S.faults source.new)) (S.left source.old) (S.left source.new) result }
+    ensures answer { ChecksSource (nat_lt (S.faults source.old) (S.faults source.new)) (S.left source.old) (S.left source.new) result }
+    ensures front { TookFront (S.left source.old) (S.faults source.old) (S.left source.new) (S.faults source.new) }
 {
     let mut compilation = Compilation::new(alloc, settings.batch, Codes::counted());
     judge_source(rt, alloc, source, gate, settings.workers, &mut compilation)

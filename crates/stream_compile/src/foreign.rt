@@ -1,6 +1,7 @@
 //! Images that a source gives.
 
 ghost use Rattle.std.specs.Prelude.{◌≡◌, ◌<◌, ◌^◌, ◌-◌, true, nat_lt, IfOk};
+ghost use Rattle.io_edges.specs.Streams.{TookFront};
 ghost use Rattle.stream_compile.specs.Running.{IsForeign};
 
 use image_format::{Image, ImageStop, read_image};
@@ -25,7 +26,8 @@ pub enum Foreign {
 pub fn read_foreign<S: Source>(alloc: Global, source: &mut S) -> Result<Foreign, AllocError>
     requires faults { S.faults source.old < 2 ^ 64 - 1 }
     requires open { S.is_open source.old ≡ true }
-    ensures { IfOk result (IsForeign (nat_lt (S.faults source.old) (S.faults source.new)) (S.left source.old) (S.left source.new)) }
+    ensures answer { IfOk result (IsForeign (nat_lt (S.faults source.old) (S.faults source.new)) (S.left source.old) (S.left source.new)) }
+    ensures front { TookFront (S.left source.old) (S.faults source.old) (S.left source.new) (S.faults source.new) }
 {
     let input = read_all(alloc, source, IMAGE_INPUT)?;
     match input.stop {

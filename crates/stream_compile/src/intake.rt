@@ -1,6 +1,7 @@
 //! Reads bodies and keeps them, while workers compile them.
 
 ghost use Rattle.std.specs.Prelude.{◌≡◌, ◌<◌, ◌++◌, ℕ, Bool, [], List, Option, None, OnOk};
+ghost use Rattle.io_edges.specs.Streams.{TookFront};
 ghost use Rattle.pool_scope.specs.Desks.{IsDesk};
 ghost use Rattle.stream_compile.specs.declared.compilation.Compilation.{Compilation};
 ghost use Rattle.stream_compile.specs.Arriving.{IsArriving};
@@ -104,6 +105,7 @@ fn take_piece(
 }
 
 /// Reads bodies, and hands their batches over, until their section is whole, a fault was reported, or no more bytes come.
+#[tactic(auto, using(crate::proofs::Fronts::took_nothing))]
 pub fn read_bodies<S: Source>(
     alloc: Global,
     source: &mut S,
@@ -118,6 +120,7 @@ pub fn read_bodies<S: Source>(
     ensures parts { desk.new.seat.view.parts ≡ desk.old.seat.view.parts }
     ensures keeps { (first : Option (List ℕ)) (before : ℕ) (s : Compilation) → IsArriving first before (S.left source.old) (S.faults source.old) (S.is_open source.old) (keeping s intake.old) intake.old.chunk
         → Keeps result first before (S.left source.new) (S.faults source.new) (S.is_open source.new) s intake.new }
+    ensures front { TookFront (S.left source.old) (S.faults source.old) (S.left source.new) (S.faults source.new) }
 {
     loop {
         match take_piece(alloc, board, context, desk, intake) {

@@ -1,6 +1,7 @@
 //! Reads a source, and judges and compiles the module that it gives while its bytes come.
 
 ghost use Rattle.std.specs.Prelude.{◌≡◌, ◌<◌, ◌^◌, ◌-◌, ℕ, Bool, true, false, List, [], Option, None, IsSome, OnOk, nat_lt};
+ghost use Rattle.io_edges.specs.Streams.{TookFront};
 ghost use Rattle.stream_compile.specs.Arriving.{IsArriving, Arrives, ReadsOn};
 ghost use Rattle.stream_compile.specs.Codes.{KeepsAlike};
 ghost use Rattle.stream_compile.specs.Reading.{Settled, Judged, answer_of, stopped_answer};
@@ -50,6 +51,7 @@ fn take_pending(
 /// Judges and compiles the bytes of a source as they come, up to their end or to the first fault; or to the bodies' beginning, if
 /// `up_to_bodies`, and then it gives none. No byte is asked for behind the answer of the source or of the compilation that ends the
 /// reading.
+#[tactic(auto, using(crate::proofs::Fronts::took_nothing))]
 fn read_on<S: Source>(
     source: &mut S,
     chunk: &mut Chunk,
@@ -61,6 +63,7 @@ fn read_on<S: Source>(
         → ReadsOn result first before (S.left source.new) (S.faults source.new) (S.is_open source.new) compilation.new chunk.new }
     ensures some { up_to_bodies ≡ false → IsSome result }
     ensures kept { KeepsAlike compilation.old.codes compilation.new.codes }
+    ensures front { TookFront (S.left source.old) (S.faults source.old) (S.left source.new) (S.faults source.new) }
 {
     loop {
         match take_pending(compilation, chunk, up_to_bodies) {
@@ -86,6 +89,7 @@ fn read_on<S: Source>(
 }
 
 /// Judges and compiles the bytes of a source as they come, up to their end or to the first fault; its bodies beside so many workers.
+#[tactic(auto, using(crate::proofs::Fronts::took_nothing))]
 fn read_source<R: Threads + Wait + Sync, S: Source, G: Gate>(
     rt: &R,
     alloc: Global,
@@ -99,6 +103,7 @@ fn read_source<R: Threads + Wait + Sync, S: Source, G: Gate>(
     requires unread { IsUnread compilation.old }
     ensures settled { Settled result.failed result.judged compilation.new (S.left source.old) (S.left source.new) (S.faults source.old) (S.faults source.new) }
     ensures kept { KeepsAlike compilation.old.codes compilation.new.codes }
+    ensures front { TookFront (S.left source.old) (S.faults source.old) (S.left source.new) (S.faults source.new) }
 {
     let Ok(mut chunk) = Chunk::new(alloc) else {
         return Ending {
@@ -121,6 +126,7 @@ fn read_to_end<S: Source>(source: &mut S, mut chunk: Chunk, compilation: &mut Co
     ensures settled { (first : Option (List ℕ)) (before : ℕ) → before < 2 ^ 64 - 1 → IsArriving first before (S.left source.old) (S.faults source.old) (S.is_open source.old) compilation.old chunk
         → Settled result.failed result.judged compilation.new first (S.left source.new) before (S.faults source.new) }
     ensures kept { KeepsAlike compilation.old.codes compilation.new.codes }
+    ensures front { TookFront (S.left source.old) (S.faults source.old) (S.left source.new) (S.faults source.new) }
 {
     match read_on(source, &mut chunk, compilation, false) {
         Some(ending) => ending,
@@ -169,6 +175,7 @@ pub fn judge_source<R: Threads + Wait + Sync, S: Source, G: Gate>(
     requires unread { IsUnread compilation.old }
     ensures judged { Judged (nat_lt (S.faults source.old) (S.faults source.new)) (S.left source.old) (S.left source.new) result compilation.new }
     ensures kept { KeepsAlike compilation.old.codes compilation.new.codes }
+    ensures front { TookFront (S.left source.old) (S.faults source.old) (S.left source.new) (S.faults source.new) }
 {
     let ending = read_source(rt, alloc, source, gate, workers, compilation);
     if ending.failed {

@@ -13,10 +13,10 @@ returns-in-Image-clause-told g c =
     let left = g.S.Source.left c.args.source.now in
     let rest = g.S.Source.left c.stream_compile.new.source in
     told_as (RunsAs None c.in-Image.built.image c.args.call.now.call) (ComesTo (Some (Run c.args.call.now)) failed left rest) c.run_image.result (nat_lt (g.O.Sink.faults c.args.out.now) (g.O.Sink.faults c.run_image.new.out))
-    (g.O.Sink.written c.args.out.now) (g.O.Sink.written c.run_image.new.out) (image_comes c.args.call.now failed left rest c.in-Image.built c.in-Image.ensures) c.run_image.ensures.told
+    (g.O.Sink.written c.args.out.now) (g.O.Sink.written c.run_image.new.out) (image_comes c.args.call.now failed left rest c.in-Image.built c.in-Image.ensures.answer) c.run_image.ensures.told
 
 pub returns-in_ok-rejected-in-Refused-clause-told : goal.returns-in_ok-rejected-in-Refused-clause-told
 returns-in_ok-rejected-in-Refused-clause-told g c =
     let failed = nat_lt (g.S.Source.faults c.args.source.now) (g.S.Source.faults c.stream_compile.new.source) in
     let output = c.in_ok-rejected-in-Refused.field-0 in
-    (view output, rejected_comes (λ bytes m. TellsCall None c.args.call.now.call m) (Ok output) failed (g.S.Source.left c.args.source.now) (g.S.Source.left c.stream_compile.new.source) c.in-Refused.refusal c.in-Refused.ensures c.in_ok-rejected-in-Refused.ensures, c.write.ensures)
+    (view output, rejected_comes (λ bytes m. TellsCall None c.args.call.now.call m) (Ok output) failed (g.S.Source.left c.args.source.now) (g.S.Source.left c.stream_compile.new.source) c.in-Refused.refusal c.in-Refused.ensures.answer c.in_ok-rejected-in-Refused.ensures, c.write.ensures)

@@ -1,6 +1,7 @@
 use Rattle.std.proofs.Common.{◌∙◌}
 use Rattle.stream_compile.specs.Keeping.{keeping}
 use Rattle.stream_compile.proofs.Arriving.{may_be_read}
+use Rattle.stream_compile.proofs.Fronts.{took_more}
 use Rattle.stream_compile.proofs.intake.read_bodies.Goals as goal
 
 pub returns-in-Err-clause-keeps : goal.returns-in-Err-clause-keeps
@@ -41,8 +42,14 @@ loop-stop-preserved g c =
     record {
       desk = c.sees_fault.ensures.desk;
       parts = c.sees_fault.ensures.parts ∙ c.in-Ok.ensures.parts ∙ l.invariant.parts;
+      front = took_more (g.S.Source.left c.args.source.now) (g.S.Source.left l.source) (g.S.Source.left c.read-came.new.source) (g.S.Source.faults c.args.source.now) (g.S.Source.faults l.source) (g.S.Source.faults c.read-came.new.source) l.invariant.front c.read-came.ensures.front;
       few = c.read-came.ensures.few;
       arrives = λ first before s a.
           c.read-came.ensures.arrives first before (keeping s c.take_piece.new.intake)
           (c.in-Ok.ensures.keeps first before (g.S.Source.left l.source) (g.S.Source.faults l.source) (g.S.Source.is_open l.source) s (l.invariant.arrives first before s a));
     }
+
+pub returns-then-ne-clause-front : goal.returns-then-ne-clause-front
+returns-then-ne-clause-front g c =
+    let l = c.loop-stop in
+    took_more (g.S.Source.left c.args.source.now) (g.S.Source.left l.source) (g.S.Source.left c.read-came.new.source) (g.S.Source.faults c.args.source.now) (g.S.Source.faults l.source) (g.S.Source.faults c.read-came.new.source) l.invariant.front c.read-came.ensures.front

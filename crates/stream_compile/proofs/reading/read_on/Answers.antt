@@ -1,6 +1,7 @@
-use Rattle.std.proofs.Common.{◌≡◌, ◌++◌, Bool, Err, rules, sym, subst, ◌∙◌}
+use Rattle.std.proofs.Common.{◌++◌, Bool, Err, rules, sym, subst, ◌∙◌}
 use Rattle.stream_compile.specs.Reading.{Settled}
 use Rattle.stream_compile.proofs.Arriving.{none_left, may_be_read, may_end, going_here, ends_there}
+use Rattle.stream_compile.proofs.Fronts.{took_more}
 use Rattle.stream_compile.proofs.reading.read_on.Goals as goal
 
 pub take_pending-requires : goal.take_pending-requires
@@ -55,5 +56,11 @@ loop-stop-preserved g c =
           c.read-came.ensures.arrives first before c.take_pending.new.compilation
           (c.in-Ok.ensures.arrives first before (g.S.Source.left l.source) (g.S.Source.faults l.source) (g.S.Source.is_open l.source) (l.invariant.arrives first before a));
       few = c.read-came.ensures.few;
+      front = took_more (g.S.Source.left c.args.source.now) (g.S.Source.left l.source) (g.S.Source.left c.read-came.new.source) (g.S.Source.faults c.args.source.now) (g.S.Source.faults l.source) (g.S.Source.faults c.read-came.new.source) l.invariant.front c.read-came.ensures.front;
       kept = c.in-Ok.ensures.kept ∙ l.invariant.kept;
     }
+
+pub returns-then-ne-clause-front : goal.returns-then-ne-clause-front
+returns-then-ne-clause-front g c =
+    let l = c.loop-stop in
+    took_more (g.S.Source.left c.args.source.now) (g.S.Source.left l.source) (g.S.Source.left c.read-came.new.source) (g.S.Source.faults c.args.source.now) (g.S.Source.faults l.source) (g.S.Source.faults c.read-came.new.source) l.invariant.front c.read-came.ensures.front

@@ -1,4 +1,5 @@
 use Rattle.std.proofs.Common.{◌-◌, ◌≤◌, ℕ, List, Option}
+use Rattle.io_edges.specs.Streams.{TookFront}
 use Rattle.stream_compile.specs.Codes.{KeepsAlike}
 use Rattle.stream_compile.specs.Arriving.{IsArriving}
 use Rattle.stream_compile.proofs.reading.read_on.Given as goal
@@ -8,6 +9,7 @@ invariant-loop-stop g l = record {
   arrives : (first : Option (List ℕ)) (before : ℕ) → IsArriving first before (g.S.Source.left l.initial.source) (g.S.Source.faults l.initial.source) (g.S.Source.is_open l.initial.source) l.initial.compilation l.initial.chunk
       → IsArriving first before (g.S.Source.left l.source) (g.S.Source.faults l.source) (g.S.Source.is_open l.source) l.compilation l.chunk;
   few : l.chunk.count ≤ 67108869;
+  front : TookFront (g.S.Source.left l.initial.source) (g.S.Source.faults l.initial.source) (g.S.Source.left l.source) (g.S.Source.faults l.source);
   kept : KeepsAlike l.initial.compilation.codes l.compilation.codes;
 }
 

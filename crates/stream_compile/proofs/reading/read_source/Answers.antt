@@ -1,4 +1,5 @@
 use Rattle.stream_compile.proofs.Arriving.{arriving_begins}
+use Rattle.stream_compile.proofs.Fronts.{took_more}
 use Rattle.stream_compile.proofs.reading.read_source.Goals as goal
 
 pub read_on-requires : goal.read_on-requires
@@ -41,3 +42,20 @@ returns-in-Err-clause-settled g c =
     let before = g.S.Source.faults c.args.source.now in
     let a = arriving_begins left before (g.S.Source.is_open c.args.source.now) c.args.compilation.now c.in-Ok.chunk c.in-Ok.ensures c.requires.open c.requires.unread in
     c.in-Err.ensures.resumes left before (c.in_default-read_on.ensures.reads left before a) c.requires.faults
+
+pub returns-in-Ok-read_beside-clause-front : goal.returns-in-Ok-read_beside-clause-front
+returns-in-Ok-read_beside-clause-front g c =
+    let first = c.args.source.now in
+    let front = c.read_on.new.source in
+    let bodies = c.read_beside.new.source in
+    let end = c.read_to_end.new.source in
+    took_more (g.S.Source.left first) (g.S.Source.left bodies) (g.S.Source.left end) (g.S.Source.faults first) (g.S.Source.faults bodies) (g.S.Source.faults end)
+    (took_more (g.S.Source.left first) (g.S.Source.left front) (g.S.Source.left bodies) (g.S.Source.faults first) (g.S.Source.faults front) (g.S.Source.faults bodies) c.read_on.ensures.front c.in-Ok-read_beside.ensures.front)
+    c.read_to_end.ensures.front
+
+pub returns-in-Err-clause-front : goal.returns-in-Err-clause-front
+returns-in-Err-clause-front g c =
+    let first = c.args.source.now in
+    let front = c.read_on.new.source in
+    let bodies = c.read_beside.new.source in
+    took_more (g.S.Source.left first) (g.S.Source.left front) (g.S.Source.left bodies) (g.S.Source.faults first) (g.S.Source.faults front) (g.S.Source.faults bodies) c.read_on.ensures.front c.in-Err.ensures.front
