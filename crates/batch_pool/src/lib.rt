@@ -25,6 +25,6 @@ pub use feeder::Feeder;
 pub use hand::Hand;
 pub use pool::Pool;
 pub use row::{Row, RowCode, RowCodes, Rows, Stored, Worked};
-pub use serving::{fits, serve};
+pub use serving::{fits, serve, serve_fitting};
 pub use ticket::Ticket;
 pub use worker::work;

@@ -113,8 +113,42 @@ fn run(
     Ok(row)
 }
 
-/// Takes a ticket out of the work: its batch is drained where a fault before it was reported, or else run, unless another seat was
-/// first. A ticket that doesn't fit is passed over.
+/// Takes a ticket that fits out of the work: its batch is drained where a fault before it was reported, or else run, unless another
+/// seat was first.
+pub fn serve_fitting<G: Gate>(
+    alloc: Global,
+    board: &Board,
+    seat: &mut BoardSeat,
+    cells: &Cells,
+    context: &Context,
+    gate: &G,
+    rows: &mut Vec<Row>,
+    ticket: Ticket,
+) -> Result<(), AllocError>
+    requires table { seat.old.table ≡ board.now.table }
+    requires fits { Fits context.now board.now.functions ticket }
+    ensures table { seat.new.table ≡ seat.old.table }
+    ensures grows { Grows context.now cells.now seat.old.view seat.new.view rows.old.items rows.new.items }
+    ensures running { OnOk result (seat.new.view.running ≡ seat.old.view.running) }
+    ensures served { OnOk result (IsServed seat.new.view ticket) }
+{
+    rows.reserve(1)?;
+    let Ticket {
+        number,
+        start,
+        batch,
+    } = ticket;
+    if !try_claim(board, seat, number, start) {
+        return Ok(());
+    }
+    enter(gate, number);
+    let row = run(alloc, board, seat, cells, context, batch)?;
+    rows.push_reserved(row);
+    gate.finished(number);
+    Ok(())
+}
+
+/// Serves a ticket where it fits, and else passes it over.
 pub fn serve<G: Gate>(
     alloc: Global,
     board: &Board,
@@ -134,18 +168,5 @@ pub fn serve<G: Gate>(
     if !fits(board, context, &ticket) {
         return Ok(());
     }
-    rows.reserve(1)?;
-    let Ticket {
-        number,
-        start,
-        batch,
-    } = ticket;
-    if !try_claim(board, seat, number, start) {
-        return Ok(());
-    }
-    enter(gate, number);
-    let row = run(alloc, board, seat, cells, context, batch)?;
-    rows.push_reserved(row);
-    gate.finished(number);
-    Ok(())
+    serve_fitting(alloc, board, seat, cells, context, gate, rows, ticket)
 }
