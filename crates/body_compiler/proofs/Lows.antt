@@ -3,7 +3,7 @@ use Rattle.std.proofs.Common.{◌≡◌, ◌≤◌, ℕ, zero, suc, ◌+◌, ◌
 use Rattle.std.specs.Prelude.{slice_get, nat_lt}
 use Rattle.std.proofs.lemmas.List.{length-reverse}
 use Rattle.wasm_defs.specs.declared.operation.Operation.{Operation}
-use Rattle.wasm_defs.specs.declared.operation.Operation.TheVariants.{Unary, Test, Binary, Compare, Convert}
+use Rattle.wasm_defs.specs.declared.operation.Operation.TheVariants.{Unary, Test, Binary, Compare, Convert, Extend}
 use Rattle.wasm_defs.specs.declared.operation.ConvertOp.TheVariants.{Wrap, ExtendS, ExtendU}
 use Rattle.wasm_defs.specs.declared.token.BlockType.{BlockType}
 use Rattle.wasm_defs.specs.declared.token.BlockType.TheVariants.{Empty, Value, Index}
@@ -110,6 +110,7 @@ operation_low (Compare t op) = omega arith
 operation_low (Convert Wrap) = omega arith
 operation_low (Convert ExtendS) = omega arith
 operation_low (Convert ExtendU) = omega arith
+operation_low (Extend op) = omega arith
 
 called_low : (on_top : Types) (t : Option FuncType) → ((f : FuncType) → t ≡ Some f → length f.results ≤ 1) → IsLow (with_type t (called on_top))
 called_low on_top None h = tt

@@ -7,8 +7,9 @@ use Rattle.wasm_defs.specs.declared.operation.UnaryOp.TheVariants.{Clz, Ctz, Pop
 use Rattle.wasm_defs.specs.declared.operation.BinaryOp.TheVariants.{Add, Sub, Mul, DivS, DivU, RemS, RemU, And, Or, Xor, Shl, ShrS, ShrU, Rotl, Rotr}
 use Rattle.wasm_defs.specs.declared.operation.CompareOp.TheVariants.{Eq, Ne, LtS, LtU, GtS, GtU, LeS, LeU, GeS, GeU}
 use Rattle.wasm_defs.specs.declared.operation.ConvertOp.TheVariants.{Wrap, ExtendS, ExtendU}
+use Rattle.wasm_defs.specs.declared.operation.ExtendOp.TheVariants.{I32Extend8S, I32Extend16S, I64Extend8S, I64Extend16S, I64Extend32S}
 use Rattle.wasm_defs.specs.declared.operation.Operation.{Operation}
-use Rattle.wasm_defs.specs.declared.operation.Operation.TheVariants.{Unary, Test, Binary, Compare, Convert}
+use Rattle.wasm_defs.specs.declared.operation.Operation.TheVariants.{Unary, Test, Binary, Compare, Convert, Extend}
 use Rattle.wasm_defs.specs.declared.operation.LoadOp.{LoadOp}
 use Rattle.wasm_defs.specs.declared.operation.LoadOp.TheVariants.{I32Load, I64Load, I32Load8S, I32Load8U, I32Load16S, I32Load16U, I64Load8S, I64Load8U, I64Load16S, I64Load16U, I64Load32S, I64Load32U}
 use Rattle.wasm_defs.specs.declared.operation.StoreOp.{StoreOp}
@@ -101,6 +102,11 @@ operation_row (Binary I64 Rotr) = refl
 operation_row (Convert Wrap) = refl
 operation_row (Convert ExtendS) = refl
 operation_row (Convert ExtendU) = refl
+operation_row (Extend I32Extend8S) = refl
+operation_row (Extend I32Extend16S) = refl
+operation_row (Extend I64Extend8S) = refl
+operation_row (Extend I64Extend16S) = refl
+operation_row (Extend I64Extend32S) = refl
 
 operations_are_rows : are_rows operation_code 0x45 operations ≡ true
 operations_are_rows = refl

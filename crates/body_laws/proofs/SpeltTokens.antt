@@ -11,8 +11,9 @@ use Rattle.wasm_defs.specs.declared.operation.UnaryOp.TheVariants.{Clz, Ctz, Pop
 use Rattle.wasm_defs.specs.declared.operation.BinaryOp.TheVariants.{Add, Sub, Mul, DivS, DivU, RemS, RemU, And, Or, Xor, Shl, ShrS, ShrU, Rotl, Rotr}
 use Rattle.wasm_defs.specs.declared.operation.CompareOp.TheVariants.{Eq, Ne, LtS, LtU, GtS, GtU, LeS, LeU, GeS, GeU}
 use Rattle.wasm_defs.specs.declared.operation.ConvertOp.TheVariants.{Wrap, ExtendS, ExtendU}
+use Rattle.wasm_defs.specs.declared.operation.ExtendOp.TheVariants.{I32Extend8S, I32Extend16S, I64Extend8S, I64Extend16S, I64Extend32S}
 use Rattle.wasm_defs.specs.declared.operation.Operation.{Operation}
-use Rattle.wasm_defs.specs.declared.operation.Operation.TheVariants.{Unary, Test, Binary, Compare, Convert}
+use Rattle.wasm_defs.specs.declared.operation.Operation.TheVariants.{Unary, Test, Binary, Compare, Convert, Extend}
 use Rattle.wasm_defs.specs.declared.operation.LoadOp.{LoadOp}
 use Rattle.wasm_defs.specs.declared.operation.LoadOp.TheVariants.{I32Load, I64Load, I32Load8S, I32Load8U, I32Load16S, I32Load16U, I64Load8S, I64Load8U, I64Load16S, I64Load16U, I64Load32S, I64Load32U}
 use Rattle.wasm_defs.specs.declared.operation.StoreOp.{StoreOp}
@@ -27,7 +28,7 @@ use Rattle.wasm_defs.specs.declared.token.Plain.TheVariants.{Unreachable, Nop, B
 use Rattle.wasm_defs.specs.declared.token.Token.{Token}
 use Rattle.wasm_defs.specs.declared.token.Token.TheVariants as token
 use Rattle.wasm_defs.specs.Opcodes.{operations, accesses}
-use Rattle.wasm_defs.specs.Entries.{const_opcode, bits_of, within}
+use Rattle.wasm_defs.specs.Entries.{const_opcode, bits_of}
 use Rattle.wasm_defs.specs.Fields.{Cursor, Got, Reader, ◌>>=◌, byte, number, u32, vector}
 use Rattle.wasm_defs.specs.Items.{Spelling, ◌then◌, exactly, byte_is, vector_is, listed_index_is}
 use Rattle.wasm_defs.specs.Bodies.{plain, with_index, block_type, with_type, label, branch_table, zero_byte, indirect, with_zero, mem_arg, accessed, with_mem_arg, constant, control, variable, accessed_at, memory, operated_at, numeric, instruction}
@@ -245,7 +246,7 @@ module _ (o b : ℕ) (c d : Cursor) (found : Found (byte_is o b) (Unit {0}) c d)
       in_table (ltb-false b 0x45 ge) (slice_get operations (b - 0x45)) refl)))
     where
       in_table : 0x45 ≤ b → (row : Option (Option Operation)) → slice_get operations (b - 0x45) ≡ row → IfGot Q (operated_at o b row d)
-      in_table ge None e = either_got Q (within 0xC0 0xC4 b || eqb b 0xFC) _ _ d (λ y. tt) (λ n. tt)
+      in_table ge None e = either_got Q (eqb b 0xFC) _ _ d (λ y. tt) (λ n. tt)
       in_table ge (Some None) e = tt
       in_table ge (Some (Some op)) e = bare (operation_code op) (token.Plain (Operate op)) (sym (operation_at b op ge e)) (λ at bytes s. s)
 
@@ -385,6 +386,11 @@ operates (Binary I64 Rotr) o = refl
 operates (Convert Wrap) o = refl
 operates (Convert ExtendS) o = refl
 operates (Convert ExtendU) o = refl
+operates (Extend I32Extend8S) o = refl
+operates (Extend I32Extend16S) o = refl
+operates (Extend I64Extend8S) o = refl
+operates (Extend I64Extend16S) o = refl
+operates (Extend I64Extend32S) o = refl
 
 as_reads : (p q : Reader Token) (t : Token) (s : Spelling) → p ≡ q → Reads q t s → Reads p t s
 as_reads p q t s e h = subst (λ (r : Reader Token). Reads r t s) (sym e) h

@@ -1,7 +1,7 @@
 //! The types of instructions: what each takes from the operands, and what it leaves in their place.
 
 ghost use Rattle.std.specs.Prelude.{◌≡◌, [], ◌∷◌, reverse, None, slice_get, MatchOption};
-ghost use Rattle.wasm_defs.specs.Typing.{Fixed, Stops, with_type, are_labels, only_if, called, converted, operated, rule_of, block_type};
+ghost use Rattle.wasm_defs.specs.Typing.{Fixed, Stops, with_type, are_labels, only_if, called, converted, extend_type, operated, rule_of, block_type};
 ghost use Rattle.body_validator.specs.Checking.{labels};
 ghost use Rattle.body_validator.specs.Exchange.{taken_types};
 ghost use Rattle.body_validator.specs.Scopes.{with_labels, rule_meant, IsBlockType};
@@ -12,7 +12,8 @@ use crate::scope::Scope;
 use crate::stack::Stack;
 use wasm_defs::ValType::{I32, I64};
 use wasm_defs::{
-    BlockType, ConvertOp, FuncType, GlobalType, LoadOp, MemArg, Operation, Plain, StoreOp, ValType,
+    BlockType, ConvertOp, ExtendOp, FuncType, GlobalType, LoadOp, MemArg, Operation, Plain,
+    StoreOp, ValType,
 };
 
 /// What a plain instruction takes from the operands, and what it leaves in their place.
@@ -113,6 +114,19 @@ fn conversion<'a>(op: ConvertOp) -> Option<Rule<'a>>
     }
 }
 
+/// Sign extensions (Core 2.0, 3.3.1).
+fn extension<'a>(op: ExtendOp) -> Option<Rule<'a>>
+    ensures { rule_meant result ≡ Fixed (extend_type op ∷ []) (extend_type op ∷ []) }
+{
+    match op {
+        ExtendOp::I32Extend8S => fixed(one(I32), one(I32)),
+        ExtendOp::I32Extend16S => fixed(one(I32), one(I32)),
+        ExtendOp::I64Extend8S => fixed(one(I64), one(I64)),
+        ExtendOp::I64Extend16S => fixed(one(I64), one(I64)),
+        ExtendOp::I64Extend32S => fixed(one(I64), one(I64)),
+    }
+}
+
 /// Numeric instructions (Core 3.3.1).
 fn operation<'a>(op: Operation) -> Option<Rule<'a>>
     ensures { rule_meant result ≡ Fixed (operated op).params (operated op).results }
@@ -123,6 +137,7 @@ fn operation<'a>(op: Operation) -> Option<Rule<'a>>
         Operation::Binary(t, _) => fixed(two(t), one(t)),
         Operation::Compare(t, _) => fixed(two(t), one(I32)),
         Operation::Convert(op) => conversion(op),
+        Operation::Extend(op) => extension(op),
     }
 }
 

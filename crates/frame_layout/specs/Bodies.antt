@@ -1,9 +1,9 @@
--- The words of integer operations (WebAssembly Core 1.0, 4.3.2 and 4.3.4) on registers: the first operand is in t0, the second in
+-- The words of integer operations (WebAssembly Core 1.0, 4.3.2 and 4.3.4; sign extension: Core 2.0, 4.3.2) on registers: the first operand is in t0, the second in
 -- t1, and the result comes into t0. An i32 stands extended by its sign.
 use Rattle.std.specs.Prelude.{ℕ, List, [], ◌∷◌, ◌++◌}
 use Rattle.rv_isa.specs.declared.operations.BranchOp.TheVariants.{Bne}
 use Rattle.rv_isa.specs.declared.operations.ImmOp.TheVariants.{Addi, Sltiu, Xori}
-use Rattle.rv_isa.specs.declared.operations.ShiftOp.TheVariants.{Slli, Srli}
+use Rattle.rv_isa.specs.declared.operations.ShiftOp.TheVariants.{Slli, Srli, Srai}
 use Rattle.rv_isa.specs.declared.operations.RegOp.{RegOp}
 use Rattle.rv_isa.specs.declared.operations.RegOp.TheVariants as reg
 use Rattle.rv_isa.specs.declared.operations.RegOpW.{RegOpW}
@@ -20,6 +20,8 @@ use Rattle.wasm_defs.specs.declared.operation.CompareOp.{CompareOp}
 use Rattle.wasm_defs.specs.declared.operation.CompareOp.TheVariants as compare
 use Rattle.wasm_defs.specs.declared.operation.ConvertOp.{ConvertOp}
 use Rattle.wasm_defs.specs.declared.operation.ConvertOp.TheVariants.{Wrap, ExtendS, ExtendU}
+use Rattle.wasm_defs.specs.declared.operation.ExtendOp.{ExtendOp}
+use Rattle.wasm_defs.specs.declared.operation.ExtendOp.TheVariants.{I32Extend8S, I32Extend16S, I64Extend8S, I64Extend16S, I64Extend32S}
 use Rattle.frame_layout.specs.Macros.{x0, t0, t1, t2, forward, minus_one, const_64, trap, zero_extend}
 
 -- an operation of a width: on the low 32 bits, or on all
@@ -122,3 +124,15 @@ abbrev pub convert_body : ConvertOp → List Op
 convert_body Wrap = Addiw t0 t0 0 ∷ []
 convert_body ExtendS = []
 convert_body ExtendU = zero_extend t0
+
+-- ---- sign extension: the bits above go out upward, and the sign comes in
+
+abbrev pub shifts : (amount : ℕ) → List Op
+shifts amount = Shift Slli t0 t0 amount ∷ Shift Srai t0 t0 amount ∷ []
+
+abbrev pub extend_body : ExtendOp → List Op
+extend_body I32Extend8S = shifts 56
+extend_body I32Extend16S = shifts 48
+extend_body I64Extend8S = shifts 56
+extend_body I64Extend16S = shifts 48
+extend_body I64Extend32S = Addiw t0 t0 0 ∷ []

@@ -1,14 +1,16 @@
 -- The tokens of integer operations, by their sorts (WebAssembly Core 1.0, 2.4.1), and their words.
 use Rattle.std.specs.Prelude.{ℕ, List, []}
 use Rattle.rv_isa.specs.declared.operations.Op.{Op}
-use Rattle.wasm_defs.specs.declared.operation.Operation.TheVariants.{Unary, Test, Binary, Compare, Convert}
+use Rattle.wasm_defs.specs.declared.operation.Operation.TheVariants.{Unary, Test, Binary, Compare, Convert, Extend}
 use Rattle.wasm_defs.specs.declared.token.Plain.TheVariants.{Operate}
 use Rattle.wasm_defs.specs.declared.token.Token.{Token}
 use Rattle.wasm_defs.specs.declared.token.Token.TheVariants.{Plain}
 use Rattle.frame_layout.specs.Templates.{Around, operate_words}
 
+-- a count of bits, or a sign extension
 abbrev pub IsUnary : Token → Type 0
 IsUnary (Plain (Operate (Unary t o))) = Unit {0}
+IsUnary (Plain (Operate (Extend o))) = Unit {0}
 IsUnary _ = ⊥
 
 abbrev pub IsBinary : Token → Type 0

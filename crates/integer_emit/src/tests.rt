@@ -5,7 +5,9 @@ use frame_layout::Layout;
 use rv_isa::WordBuffer;
 use std::alloc::AllocError;
 use std::test::Fail;
-use wasm_defs::{BinaryOp, CompareOp, ConvertOp, Operation, Plain, Token, UnaryOp, ValType, Value};
+use wasm_defs::{
+    BinaryOp, CompareOp, ConvertOp, ExtendOp, Operation, Plain, Token, UnaryOp, ValType, Value,
+};
 
 /// Operand j has the slot 3 + j.
 const LAYOUT: Layout = Layout {
@@ -42,6 +44,13 @@ fn convert(buffer: &mut WordBuffer, op: ConvertOp) -> Result<usize, AllocError> 
     Ok(buffer.place().saturating_sub(before))
 }
 
+fn extend(buffer: &mut WordBuffer, op: ExtendOp) -> Result<usize, AllocError> {
+    let before = buffer.place();
+    let token = Token::Plain(Plain::Operate(Operation::Extend(op)));
+    emit_unary(buffer, &LAYOUT, 1, &token)?;
+    Ok(buffer.place().saturating_sub(before))
+}
+
 #[test]
 fn words_are_appended(rt: HostRuntime) -> Result<(), Fail> {
     let mut buffer = WordBuffer::new(rt.alloc())?;
@@ -50,6 +59,7 @@ fn words_are_appended(rt: HostRuntime) -> Result<(), Fail> {
     binary(&mut buffer, ValType::I64, BinaryOp::Rotr)?;
     compare(&mut buffer, CompareOp::GtS)?;
     convert(&mut buffer, ConvertOp::ExtendU)?;
+    extend(&mut buffer, ExtendOp::I32Extend8S)?;
     let want = [
         // addi t0, zero, -1; slli t0, t0, 11; ori t0, t0, 2047; ..; sd t0, 24(t3)
         0xFFF0_0293,
@@ -105,6 +115,15 @@ fn words_are_appended(rt: HostRuntime) -> Result<(), Fail> {
         0x0000_0E37,
         0x008E_0E33,
         0x005E_3C23,
+        // .. slli t0, t0, 56; srai t0, t0, 56 ..
+        0x0000_02B7,
+        0x0082_82B3,
+        0x0182_B283,
+        0x0382_9293,
+        0x4382_D293,
+        0x0000_0E37,
+        0x008E_0E33,
+        0x005E_3C23,
     ];
     assert_eq!(rt; buffer.as_slice(), want.as_slice());
     Ok(())
@@ -128,5 +147,7 @@ fn words_are_counted(rt: HostRuntime) -> Result<(), Fail> {
     assert_eq!(rt; compare(buffer, CompareOp::GeU)?, 11);
     assert_eq!(rt; convert(buffer, ConvertOp::Wrap)?, 7);
     assert_eq!(rt; convert(buffer, ConvertOp::ExtendS)?, 0);
+    assert_eq!(rt; extend(buffer, ExtendOp::I64Extend16S)?, 8);
+    assert_eq!(rt; extend(buffer, ExtendOp::I64Extend32S)?, 7);
     Ok(())
 }

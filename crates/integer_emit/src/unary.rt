@@ -13,6 +13,7 @@ ghost use Rattle.frame_layout.specs.Bodies.{population, cut, smear, last_smear, 
 ghost use Rattle.frame_layout.specs.Templates.{Around, load_operand, store_operand, on_one};
 ghost use Rattle.integer_emit.specs.Sorts.{IsUnary, operation_words};
 
+use crate::extension::extend;
 use frame_layout::Layout;
 use frame_layout::macros::{const_64, imm, reg, shift, slot_load, slot_store, zero_extend};
 use rv_isa::{ImmOp, Op, RegOp, Register, ShiftOp, WordBuffer};
@@ -181,7 +182,7 @@ fn count(
     }
 }
 
-/// Appends the words of a count of bits, or none for want of memory.
+/// Appends the words of a count of bits or of a sign extension, or none for want of memory.
 pub fn emit_unary(
     buffer: &mut WordBuffer,
     layout: &Layout,
@@ -197,6 +198,9 @@ pub fn emit_unary(
     match token {
         Token::Plain(Plain::Operate(Operation::Unary(ty, op))) => {
             count(buffer, layout, height, *op, *ty)
+        }
+        Token::Plain(Plain::Operate(Operation::Extend(op))) => {
+            extend(buffer, layout, height, *op)
         }
         _ => unreachable!(),
     }

@@ -148,7 +148,7 @@ const FAULTS: [(&str, &str); 49] = [
 ];
 
 /// The same of tables, memories, globals and element segments, of calls, and of instructions that are left out.
-const FURTHER_FAULTS: [(&str, &str); 37] = [
+const FURTHER_FAULTS: [(&str, &str); 39] = [
     // At a body's last byte an opcode is malformed, whether its instruction is whole or not; one that is left out is unsupported.
     (
         "01 04 01 60 00 00 03 02 01 00 0A 04 01 02 00 0F",
@@ -175,12 +175,14 @@ const FURTHER_FAULTS: [(&str, &str); 37] = [
     ("05 04 01 00 81 08", "limit at 12"),
     ("05 06 01 01 00 81 80 04", "invalid at 13"),
     ("05 05 02 00 00 00 00", "invalid at 10"),
-    // Globals: another mutability; a constant of another type, of floats, no constant, no opcode, and one constant too many.
+    // Globals: another mutability; a constant of another type, of floats, no constant, no opcode, a sign extension, and one constant too
+    // many.
     ("06 06 01 7F 02 41 00 0B", "malformed at 12"),
     ("06 06 01 7F 00 42 00 0B", "invalid at 13"),
     ("06 09 01 7F 00 43 00 00 00 00 0B", "unsupported at 13"),
     ("06 06 01 7F 00 05 00 0B", "invalid at 13"),
     ("06 06 01 7F 00 D0 00 0B", "malformed at 13"),
+    ("06 06 01 7F 00 C4 00 0B", "invalid at 13"),
     ("06 08 01 7F 00 41 00 41 00 0B", "invalid at 15"),
     // Element segments: of a table that isn't there, and with a function that isn't.
     ("09 06 01 00 41 00 0B 00", "invalid at 11"),
@@ -239,6 +241,10 @@ const FURTHER_FAULTS: [(&str, &str); 37] = [
     ),
     (
         "01 04 01 60 00 00 03 02 01 00 0A 05 01 03 00 25 0B",
+        "malformed at 23",
+    ),
+    (
+        "01 04 01 60 00 00 03 02 01 00 0A 05 01 03 00 C5 0B",
         "malformed at 23",
     ),
     (

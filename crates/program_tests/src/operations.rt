@@ -1,5 +1,5 @@
 //! Every numeric operation on edge values and on scattered ones, against Rust's own integers. The rules are those of WebAssembly
-//! Core 1.0, 4.3.2 and 4.3.4.
+//! Core 1.0, 4.3.2 and 4.3.4, and of Core 2.0, 4.3.2, for sign extension.
 
 use crate::program::{HEADER, answer_to_line, bytes_of};
 use std::alloc::{AllocError, Global};
@@ -27,7 +27,7 @@ enum Wanted {
 /// An operation: its name, its opcode, how many operands it takes, of which type, and the result's type.
 type Row = (&'static str, u8, Shape, ValType, ValType);
 
-const ROWS: [Row; 61] = [
+const ROWS: [Row; 66] = [
     ("i32.eqz", 0x45, Shape::One, ValType::I32, ValType::I32),
     ("i32.eq", 0x46, Shape::Two, ValType::I32, ValType::I32),
     ("i32.ne", 0x47, Shape::Two, ValType::I32, ValType::I32),
@@ -101,6 +101,41 @@ const ROWS: [Row; 61] = [
         ValType::I32,
         ValType::I64,
     ),
+    (
+        "i32.extend8_s",
+        0xC0,
+        Shape::One,
+        ValType::I32,
+        ValType::I32,
+    ),
+    (
+        "i32.extend16_s",
+        0xC1,
+        Shape::One,
+        ValType::I32,
+        ValType::I32,
+    ),
+    (
+        "i64.extend8_s",
+        0xC2,
+        Shape::One,
+        ValType::I64,
+        ValType::I64,
+    ),
+    (
+        "i64.extend16_s",
+        0xC3,
+        Shape::One,
+        ValType::I64,
+        ValType::I64,
+    ),
+    (
+        "i64.extend32_s",
+        0xC4,
+        Shape::One,
+        ValType::I64,
+        ValType::I64,
+    ),
 ];
 
 /// Numbers at the edges of the type, around its width and with alternating bits.
@@ -136,6 +171,19 @@ const EDGES_64: [i64; 15] = [
     0x5555_5555_5555_5555,
     -0x5555_5555_5555_5556,
 ];
+
+/// Numbers at the edges of 8 and 16 bits, for operations on one operand.
+const LOW_EDGES: [i64; 8] = [0x7F, 0x80, 0xFF, 0x100, 0x7FFF, 0x8000, 0xFFFF, 0x1_0000];
+
+/// The number that the low 8 bits mean.
+fn low_8(n: i64) -> i8 {
+    ((n.cast_unsigned() % 0x100) as u8).cast_signed()
+}
+
+/// The number that the low 16 bits mean.
+fn low_16(n: i64) -> i16 {
+    ((n.cast_unsigned() % 0x1_0000) as u16).cast_signed()
+}
 
 /// The number that the low 32 bits mean.
 fn low_32(n: i64) -> i32 {
@@ -256,6 +304,8 @@ fn wanted_32(opcode: u8, a: i32, b: i32) -> Wanted {
         0x6D..=0x70 => divided_32(opcode, a, b),
         0xAC => Wanted::I64(i64::from(a)),
         0xAD => Wanted::I64(i64::from(a.cast_unsigned())),
+        0xC0 => Wanted::I32(i32::from(low_8(i64::from(a)))),
+        0xC1 => Wanted::I32(i32::from(low_16(i64::from(a)))),
         _ => Wanted::I32(number_32(opcode, a, b)),
     }
 }
@@ -265,6 +315,9 @@ fn wanted_64(opcode: u8, a: i64, b: i64) -> Wanted {
         0x50..=0x5A => Wanted::I32(i32::from(holds_64(opcode, a, b))),
         0x7F..=0x82 => divided_64(opcode, a, b),
         0xA7 => Wanted::I32(low_32(a)),
+        0xC2 => Wanted::I64(i64::from(low_8(a))),
+        0xC3 => Wanted::I64(i64::from(low_16(a))),
+        0xC4 => Wanted::I64(i64::from(low_32(a))),
         _ => Wanted::I64(number_64(opcode, a, b)),
     }
 }
@@ -302,13 +355,22 @@ fn pairs(alloc: Global, firsts: &[i64], seconds: &[i64]) -> Result<Vec<(i64, i64
     Ok(pairs)
 }
 
+/// The numbers and those at the edges of bytes, each beside a zero that isn't used, and scattered ones.
+fn singles(alloc: Global, numbers: &[i64]) -> Result<Vec<(i64, i64)>, AllocError> {
+    let mut singles = pairs(alloc, numbers, &[0])?;
+    for a in &LOW_EDGES {
+        singles.push((*a, 0))?;
+    }
+    Ok(singles)
+}
+
 fn pairs_of(alloc: Global, shape: Shape, ty: ValType) -> Result<Vec<(i64, i64)>, AllocError> {
     let edges: &[i64] = match ty {
         ValType::I32 => &EDGES_32,
         ValType::I64 => &EDGES_64,
     };
     match shape {
-        Shape::One => pairs(alloc, edges, &[0]),
+        Shape::One => singles(alloc, edges),
         Shape::Two => pairs(alloc, edges, edges),
     }
 }

@@ -8,7 +8,7 @@ use Rattle.rv_isa.specs.declared.operations.Op.TheVariants.{Auipc, Jalr}
 use Rattle.rv_isa.specs.Runs.{hi, lo}
 use Rattle.rv_isa.specs.Words.{word_of}
 use Rattle.wasm_defs.specs.declared.operation.Operation.{Operation}
-use Rattle.wasm_defs.specs.declared.operation.Operation.TheVariants.{Unary, Test, Binary, Compare, Convert}
+use Rattle.wasm_defs.specs.declared.operation.Operation.TheVariants.{Unary, Test, Binary, Compare, Convert, Extend}
 use Rattle.wasm_defs.specs.declared.operation.ConvertOp.TheVariants.{Wrap, ExtendS, ExtendU}
 use Rattle.wasm_defs.specs.declared.token.Plain.{Plain}
 use Rattle.wasm_defs.specs.declared.token.Plain.TheVariants.{Br, BrIf, BrTable, Return, Call, Operate}
@@ -101,6 +101,7 @@ module _ (w : Around) where
   operate_near h (Convert Wrap) = refl
   operate_near h (Convert ExtendS) = refl
   operate_near h (Convert ExtendU) = refl
+  operate_near h (Extend op) = refl
 
   -- a call's words
   call_fills : (h here function arguments : ℕ) → Fills w.distance_to here (record { place = here + 6; function = function } ∷ []) (call_words (near w) h here function arguments) (call_words w h here function arguments)

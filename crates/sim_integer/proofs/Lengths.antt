@@ -5,7 +5,8 @@ use Rattle.wasm_defs.specs.declared.operation.UnaryOp.TheVariants.{Clz, Ctz, Pop
 use Rattle.wasm_defs.specs.declared.operation.BinaryOp.TheVariants.{Add, Sub, Mul, DivS, DivU, RemS, RemU, And, Or, Xor, Shl, ShrS, ShrU, Rotl, Rotr}
 use Rattle.wasm_defs.specs.declared.operation.CompareOp.TheVariants.{Eq, Ne, LtS, LtU, GtS, GtU, LeS, LeU, GeS, GeU}
 use Rattle.wasm_defs.specs.declared.operation.ConvertOp.TheVariants.{Wrap, ExtendS, ExtendU}
-use Rattle.wasm_defs.specs.declared.operation.Operation.TheVariants.{Unary, Test, Binary, Compare, Convert}
+use Rattle.wasm_defs.specs.declared.operation.ExtendOp.TheVariants.{I32Extend8S, I32Extend16S, I64Extend8S, I64Extend16S, I64Extend32S}
+use Rattle.wasm_defs.specs.declared.operation.Operation.TheVariants.{Unary, Test, Binary, Compare, Convert, Extend}
 use Rattle.sim_integer.specs.Laws.{LengthLaw}
 
 pub lengths_are_bounded : LengthLaw
@@ -45,3 +46,8 @@ lengths_are_bounded w h (Compare t GeU) = lit≤ tt
 lengths_are_bounded w h (Convert Wrap) = lit≤ tt
 lengths_are_bounded w h (Convert ExtendS) = lit≤ tt
 lengths_are_bounded w h (Convert ExtendU) = lit≤ tt
+lengths_are_bounded w h (Extend I32Extend8S) = lit≤ tt
+lengths_are_bounded w h (Extend I32Extend16S) = lit≤ tt
+lengths_are_bounded w h (Extend I64Extend8S) = lit≤ tt
+lengths_are_bounded w h (Extend I64Extend16S) = lit≤ tt
+lengths_are_bounded w h (Extend I64Extend32S) = lit≤ tt

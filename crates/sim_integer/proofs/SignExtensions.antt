@@ -1,14 +1,24 @@
 -- Low bits extended by their sign.
-use Rattle.std.proofs.Common.{◌≡◌, ℕ, suc, ◌-◌, ◌*◌, ◌%◌, ◌^◌, ◌<◌, pos, negsuc, inl, inr, refl, sym, ap, ◌∙◌, arith}
+use Rattle.std.proofs.Common.{◌≡◌, ℕ, suc, ◌+◌, ◌-◌, ◌*◌, ◌%◌, ◌^◌, ◌<◌, ◌≤◌, pos, negsuc, inl, inr, List, length, Option, refl, sym, ap, ◌∙◌, arith}
 use Rattle.std.specs.Int.{w8, w16, w32, cast_signed}
 use Rattle.std.proofs.lemmas.Bool.{cases_lt, lt-ltb, le-ltb}
 use Rattle.rv_isa.specs.declared.operations.RegOp.TheVariants.{Sll, Sra}
 use Rattle.rv_isa.specs.declared.operations.RegOpW.TheVariants.{Addw}
+use Rattle.rv_isa.specs.declared.operations.Op.{Op}
 use Rattle.rv_isa.specs.Values.{extended, computed, computed_w}
+use Rattle.rv_isa.specs.Steps.{State}
+use Rattle.rv_isa.specs.Runs.{place, HasAt}
 use Rattle.wasm_defs.specs.declared.types.ValType.{ValType}
 use Rattle.wasm_defs.specs.declared.types.ValType.TheVariants.{I32, I64}
+use Rattle.wasm_defs.specs.declared.operation.ExtendOp.TheVariants.{I32Extend8S, I32Extend16S, I64Extend8S, I64Extend16S, I64Extend32S}
 use Rattle.wasm_defs.specs.Values.{modulus, unsigned, word}
-use Rattle.sim_integer.specs.SignExtensions.{extend_8, extend_16, extend_32, shifts, extend_word, Extends, ExtendI32Law, ExtendI64Law, ExtendRangeLaw}
+use Rattle.wasm_defs.specs.Integers.{extend_8, extend_16, extend_32}
+use Rattle.wasm_defs.specs.Configurations.{max_slots}
+use Rattle.frame_layout.specs.Slots.{operand}
+use Rattle.frame_layout.specs.Bodies.{shifts, extend_body}
+use Rattle.frame_layout.specs.Templates.{Around, on_one}
+use Rattle.frame_layout.specs.Laws.{slot_at, with_slot, IsFrame, Does}
+use Rattle.sim_integer.specs.Laws.{ExtendLaw, ExtendRangeLaw}
 use Rattle.sim_integer.proofs.Extensions.{low_word, word_small, word_large}
 use Rattle.sim_integer.proofs.Conversions.{wrapped, extended_is}
 use Rattle.sim_integer.proofs.Runs.{one_does}
@@ -67,6 +77,13 @@ low_16 I64 a h = refl
 
 -- ---- the words
 
+-- a body on one operand gives a function of its number
+abbrev Extends : ValType → List Op → (ℕ → ℕ) → Type 0
+Extends t body result =
+    (w : Around) (code : List (Option Op)) (s : State) (i base h a : ℕ) → HasAt code i (on_one w h body) → s.pc ≡ place i
+    → IsFrame base s → 1 ≤ h → base + operand w.layout (h - 1) < max_slots → a < modulus t → slot_at s.bytes (base + operand w.layout (h - 1)) ≡ word t a
+    → Does code (length (on_one w h body)) (length (on_one w h body)) s (with_slot s.bytes (base + operand w.layout (h - 1)) (word t (result a)))
+
 does_8 : (t : ValType) → Extends t (shifts 56) (extend_8 t)
 does_8 t w code s i base h a has at frame one inside ha a_is =
     one_does w code s i base h (shifts 56) at frame inside has (word t a) (word t (extend_8 t a)) a_is refl
@@ -77,16 +94,17 @@ does_16 t w code s i base h a has at frame one inside ha a_is =
     one_does w code s i base h (shifts 48) at frame inside has (word t a) (word t (extend_16 t a)) a_is refl
     (λ r x. ap (λ (y : ℕ). computed Sra (computed Sll y 48) 48) x ∙ shifted_16 (word t a) ∙ ap (extended 16) (low_16 t a ha) ∙ extended_16 t (a % 2 ^ 16) (omega arith))
 
-does_32 : Extends I64 extend_word (extend_32 I64)
+does_32 : Extends I64 (extend_body I64Extend32S) (extend_32 I64)
 does_32 w code s i base h a has at frame one inside ha a_is =
-    one_does w code s i base h extend_word at frame inside has a (extend_32 I64 a) a_is refl
+    one_does w code s i base h (extend_body I64Extend32S) at frame inside has a (extend_32 I64 a) a_is refl
     (λ r x. ap (λ (y : ℕ). computed_w Addw y 0) x ∙ wrapped a ∙ sym (extended_is (a % 2 ^ 32) (omega arith)))
 
-pub extend_i32_does : ExtendI32Law
-extend_i32_does = (does_8 I32, does_16 I32)
-
-pub extend_i64_does : ExtendI64Law
-extend_i64_does = (does_8 I64, does_16 I64, does_32)
+pub extend_does : ExtendLaw
+extend_does w code s i base h I32Extend8S a = does_8 I32 w code s i base h a
+extend_does w code s i base h I32Extend16S a = does_16 I32 w code s i base h a
+extend_does w code s i base h I64Extend8S a = does_8 I64 w code s i base h a
+extend_does w code s i base h I64Extend16S a = does_16 I64 w code s i base h a
+extend_does w code s i base h I64Extend32S a = does_32 w code s i base h a
 
 -- ---- ranges
 
@@ -98,9 +116,12 @@ below_16 : (t : ValType) (n : ℕ) → n < 2 ^ 16 → unsigned t (cast_signed w1
 below_16 I32 n small = elim (cases_lt n (2 ^ 15)) [ inl h ↦ rw (lt-ltb n (2 ^ 15) h) (omega arith) | inr h ↦ rw (le-ltb n (2 ^ 15) h) (omega arith) ]
 below_16 I64 n small = elim (cases_lt n (2 ^ 15)) [ inl h ↦ rw (lt-ltb n (2 ^ 15) h) (omega arith) | inr h ↦ rw (le-ltb n (2 ^ 15) h) (omega arith) ]
 
-below_32 : (t : ValType) (n : ℕ) → n < 2 ^ 32 → unsigned t (cast_signed w32 n) < modulus t
-below_32 I32 n small = elim (cases_lt n (2 ^ 31)) [ inl h ↦ rw (lt-ltb n (2 ^ 31) h) (omega arith) | inr h ↦ rw (le-ltb n (2 ^ 31) h) (omega arith) ]
-below_32 I64 n small = elim (cases_lt n (2 ^ 31)) [ inl h ↦ rw (lt-ltb n (2 ^ 31) h) (omega arith) | inr h ↦ rw (le-ltb n (2 ^ 31) h) (omega arith) ]
+below_32 : (n : ℕ) → n < 2 ^ 32 → unsigned I64 (cast_signed w32 n) < 2 ^ 64
+below_32 n small = elim (cases_lt n (2 ^ 31)) [ inl h ↦ rw (lt-ltb n (2 ^ 31) h) (omega arith) | inr h ↦ rw (le-ltb n (2 ^ 31) h) (omega arith) ]
 
-pub extend_range : ExtendRangeLaw
-extend_range t a = (below_8 t (a % 2 ^ 8) (omega arith), below_16 t (a % 2 ^ 16) (omega arith), below_32 t (a % 2 ^ 32) (omega arith))
+pub extend_is_below : ExtendRangeLaw
+extend_is_below I32Extend8S a = below_8 I32 (a % 2 ^ 8) (omega arith)
+extend_is_below I32Extend16S a = below_16 I32 (a % 2 ^ 16) (omega arith)
+extend_is_below I64Extend8S a = below_8 I64 (a % 2 ^ 8) (omega arith)
+extend_is_below I64Extend16S a = below_16 I64 (a % 2 ^ 16) (omega arith)
+extend_is_below I64Extend32S a = below_32 (a % 2 ^ 32) (omega arith)

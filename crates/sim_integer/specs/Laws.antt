@@ -1,4 +1,4 @@
--- What the words of numeric instructions do (WebAssembly Core 1.0, 4.3.2 and 4.3.4): the operands stand in the uppermost slots of
+-- What the words of numeric instructions do (WebAssembly Core 1.0, 4.3.2 and 4.3.4; sign extension: Core 2.0, 4.3.2): the operands stand in the uppermost slots of
 -- the frame, as words of their types, and the result comes into the lowest of them.
 use Rattle.std.specs.Prelude.{◌≡◌, ℕ, ◌+◌, ◌-◌, ◌^◌, ◌<◌, ◌≤◌, List, length, Option}
 use Rattle.rv_isa.specs.declared.operations.Op.{Op}
@@ -11,10 +11,12 @@ use Rattle.wasm_defs.specs.declared.operation.BinaryOp.{BinaryOp}
 use Rattle.wasm_defs.specs.declared.operation.CompareOp.{CompareOp}
 use Rattle.wasm_defs.specs.declared.operation.ConvertOp.{ConvertOp}
 use Rattle.wasm_defs.specs.declared.operation.ConvertOp.TheVariants.{Wrap, ExtendS, ExtendU}
+use Rattle.wasm_defs.specs.declared.operation.ExtendOp.{ExtendOp}
 use Rattle.wasm_defs.specs.declared.operation.Operation.{Operation}
-use Rattle.wasm_defs.specs.declared.operation.Operation.TheVariants.{Unary, Test, Binary, Compare, Convert}
+use Rattle.wasm_defs.specs.declared.operation.Operation.TheVariants.{Unary, Test, Binary, Compare, Convert, Extend}
+use Rattle.wasm_defs.specs.Typing.{extend_type}
 use Rattle.wasm_defs.specs.Values.{modulus, word}
-use Rattle.wasm_defs.specs.Integers.{Computed, Number, DividesByZero, Overflows, binary, unary, compare, ieqz, converted, converted_type}
+use Rattle.wasm_defs.specs.Integers.{Computed, Number, DividesByZero, Overflows, binary, unary, compare, ieqz, converted, converted_type, sign_extended}
 use Rattle.wasm_defs.specs.Configurations.{max_slots}
 use Rattle.frame_layout.specs.Slots.{operand}
 use Rattle.frame_layout.specs.Templates.{Around, operate_words}
@@ -90,6 +92,16 @@ Converts op =
 abbrev pub ConvertLaw : Type 0
 ConvertLaw = Converts Wrap × Converts ExtendU × ((a : ℕ) → a < 2 ^ 32 → word I64 (converted ExtendS a) ≡ word I32 a)
 
+-- ---- sign extension
+
+abbrev pub ExtendLaw : Type 0
+ExtendLaw =
+    (w : Around) (code : List (Option Op)) (s : State) (i base h : ℕ) (op : ExtendOp) (a : ℕ)
+    → HasAt code i (operate_words w h (Extend op)) → s.pc ≡ place i → IsFrame base s → 1 ≤ h → base + operand w.layout (h - 1) < max_slots
+    → a < modulus (extend_type op) → slot_at s.bytes (base + operand w.layout (h - 1)) ≡ word (extend_type op) a
+    → Does code (length (operate_words w h (Extend op))) (length (operate_words w h (Extend op))) s
+    (with_slot s.bytes (base + operand w.layout (h - 1)) (word (extend_type op) (sign_extended op a)))
+
 -- ---- results lie below the modulus of their type
 
 abbrev pub BinaryRangeLaw : Type 0
@@ -106,6 +118,9 @@ TestRangeLaw = (a : ℕ) → ieqz a < 2 ^ 32
 
 abbrev pub ConvertRangeLaw : Type 0
 ConvertRangeLaw = (op : ConvertOp) (a : ℕ) → a < modulus (converted_from op) → converted op a < modulus (converted_type op)
+
+abbrev pub ExtendRangeLaw : Type 0
+ExtendRangeLaw = (op : ExtendOp) (a : ℕ) → sign_extended op a < modulus (extend_type op)
 
 -- ---- lengths
 

@@ -18,7 +18,7 @@ use Rattle.wasm_defs.specs.declared.token.Token.TheVariants as token
 use Rattle.wasm_defs.specs.Limits.{max_locals}
 use Rattle.wasm_defs.specs.Opcodes.{operations, accesses}
 use Rattle.wasm_defs.specs.Fields.{Cursor, Read, Got, Fault, Wants, Reader, ◌>>=◌, done, refused, byte, number, u32, vector}
-use Rattle.wasm_defs.specs.Entries.{value_type, within, bits_of}
+use Rattle.wasm_defs.specs.Entries.{value_type, bits_of}
 use Rattle.wasm_defs.specs.Outside.{Nothing}
 
 -- ---- locals (5.5.13)
@@ -167,9 +167,9 @@ memory at b =
     else if b == 0x40 then with_zero MemoryGrow
     else accessed_at at (slice_get accesses (b - 0x28))
 
--- behind the table of operations: sign extensions and the prefix FC are left out, and nothing else is an opcode
+-- behind the table of operations: the prefix FC is left out, and nothing else is an opcode
 abbrev pub past_table : ℕ → ℕ → Reader Token
-past_table at b = if within 0xC0 0xC4 b || b == 0xFC then refused Unsupported at else refused Malformed at
+past_table at b = if b == 0xFC then refused Unsupported at else refused Malformed at
 
 abbrev pub operated_at : ℕ → ℕ → Option (Option Operation) → Reader Token
 operated_at at b None = past_table at b

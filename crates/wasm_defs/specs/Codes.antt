@@ -7,8 +7,9 @@ use Rattle.wasm_defs.specs.declared.operation.UnaryOp.TheVariants.{Clz, Ctz, Pop
 use Rattle.wasm_defs.specs.declared.operation.BinaryOp.TheVariants.{Add, Sub, Mul, DivS, DivU, RemS, RemU, And, Or, Xor, Shl, ShrS, ShrU, Rotl, Rotr}
 use Rattle.wasm_defs.specs.declared.operation.CompareOp.TheVariants.{Eq, Ne, LtS, LtU, GtS, GtU, LeS, LeU, GeS, GeU}
 use Rattle.wasm_defs.specs.declared.operation.ConvertOp.TheVariants.{Wrap, ExtendS, ExtendU}
+use Rattle.wasm_defs.specs.declared.operation.ExtendOp.TheVariants.{I32Extend8S, I32Extend16S, I64Extend8S, I64Extend16S, I64Extend32S}
 use Rattle.wasm_defs.specs.declared.operation.Operation.{Operation}
-use Rattle.wasm_defs.specs.declared.operation.Operation.TheVariants.{Unary, Test, Binary, Compare, Convert}
+use Rattle.wasm_defs.specs.declared.operation.Operation.TheVariants.{Unary, Test, Binary, Compare, Convert, Extend}
 use Rattle.wasm_defs.specs.declared.operation.LoadOp.{LoadOp}
 use Rattle.wasm_defs.specs.declared.operation.LoadOp.TheVariants.{I32Load, I64Load, I32Load8S, I32Load8U, I32Load16S, I32Load16U, I64Load8S, I64Load8U, I64Load16S, I64Load16U, I64Load32S, I64Load32U}
 use Rattle.wasm_defs.specs.declared.operation.StoreOp.{StoreOp}
@@ -112,6 +113,11 @@ operation_code (Binary I64 Rotr) = 0x8A
 operation_code (Convert Wrap) = 0xA7
 operation_code (Convert ExtendS) = 0xAC
 operation_code (Convert ExtendU) = 0xAD
+operation_code (Extend I32Extend8S) = 0xC0
+operation_code (Extend I32Extend16S) = 0xC1
+operation_code (Extend I64Extend8S) = 0xC2
+operation_code (Extend I64Extend16S) = 0xC3
+operation_code (Extend I64Extend32S) = 0xC4
 
 -- ---- immediates, whose offsets their places tell
 

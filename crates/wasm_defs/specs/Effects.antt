@@ -5,13 +5,13 @@ use Rattle.wasm_defs.specs.declared.types.ValType.TheVariants.{I32}
 use Rattle.wasm_defs.specs.declared.value.TrapKind.{TrapKind}
 use Rattle.wasm_defs.specs.declared.value.TrapKind.TheVariants.{DivideByZero, Overflow, MemoryBounds}
 use Rattle.wasm_defs.specs.declared.operation.Operation.{Operation}
-use Rattle.wasm_defs.specs.declared.operation.Operation.TheVariants.{Unary, Test, Binary, Compare, Convert}
+use Rattle.wasm_defs.specs.declared.operation.Operation.TheVariants.{Unary, Test, Binary, Compare, Convert, Extend}
 use Rattle.wasm_defs.specs.declared.operation.LoadOp.{LoadOp}
 use Rattle.wasm_defs.specs.declared.token.Plain.{Plain}
 use Rattle.wasm_defs.specs.declared.token.Plain.TheVariants.{Nop, Discard, Select, LocalGet, LocalSet, LocalTee, GlobalGet, GlobalSet, Load, Store, MemorySize, MemoryGrow, Const, Operate}
-use Rattle.wasm_defs.specs.Typing.{load_type}
+use Rattle.wasm_defs.specs.Typing.{load_type, extend_type}
 use Rattle.wasm_defs.specs.Values.{Value, unsigned}
-use Rattle.wasm_defs.specs.Integers.{Computed, Number, DividesByZero, Overflows, binary, unary, ieqz, compare, converted, converted_type}
+use Rattle.wasm_defs.specs.Integers.{Computed, Number, DividesByZero, Overflows, binary, unary, ieqz, compare, converted, converted_type, sign_extended}
 use Rattle.wasm_defs.specs.Memory.{pages_of, number_of, bytes_of, bytes_at, written_at, load_count, store_count, extended, grown}
 use Rattle.wasm_defs.specs.Configurations as run
 
@@ -38,6 +38,7 @@ module _ (store : run.Store) (locals : List Value) where
   operated (Binary t op) (y ∷ x ∷ below) = computed t below (binary op t x.number y.number)
   operated (Compare t op) (y ∷ x ∷ below) = Gives store locals (value I32 (compare op t x.number y.number) ∷ below)
   operated (Convert op) (x ∷ below) = Gives store locals (value (converted_type op) (converted op x.number) ∷ below)
+  operated (Extend op) (x ∷ below) = Gives store locals (value (extend_type op) (sign_extended op x.number) ∷ below)
   operated op operands = Fails
 
   -- ---- variable instructions (4.4.3)

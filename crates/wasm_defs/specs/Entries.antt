@@ -89,13 +89,13 @@ limits most top = do
 abbrev pub within : ℕ → ℕ → ℕ → Bool
 within low high n = nat_le low n && nat_le n high
 
--- the opcodes of 1.0 (5.4)
+-- the opcodes of 1.0 (5.4), and those of sign extension
 abbrev pub is_opcode : ℕ → Bool
-is_opcode b = within 0x00 0x05 b || within 0x0B 0x11 b || within 0x1A 0x1B b || within 0x20 0x24 b || within 0x28 0xBF b
+is_opcode b = within 0x00 0x05 b || within 0x0B 0x11 b || within 0x1A 0x1B b || within 0x20 0x24 b || within 0x28 0xC4 b
 
--- opcodes that are left out: constants of float types, sign extension, and the prefix FC
+-- opcodes that are left out: constants of float types, and the prefix FC
 abbrev pub is_left_out : ℕ → Bool
-is_left_out b = within 0x43 0x44 b || within 0xC0 0xC4 b || b == 0xFC
+is_left_out b = within 0x43 0x44 b || b == 0xFC
 
 -- an opcode that stands in a constant expression in place of the right one
 abbrev pub wrong_opcode : ℕ → Kind

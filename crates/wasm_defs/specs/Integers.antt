@@ -1,7 +1,7 @@
--- Integer operations (WebAssembly Core 1.0, 4.3.2 and 4.3.4), on numbers below 2 ^ N.
+-- Integer operations (WebAssembly Core 1.0, 4.3.2 and 4.3.4; sign extension: Core 2.0, 4.3.2), on numbers below 2 ^ N.
 use Rattle.std.specs.Prelude.{ℕ, ◌+◌, ◌-◌, ◌*◌, ◌/◌, ◌%◌, ◌^◌, pos, Bool, not, nat_lt, nat_le, ◌==◌, if◌then◌else◌, bit_and, bit_or, bit_xor, count_ones, int_lt, int_le, int_div, int_rem}
 use Rattle.std.specs.Ordering.{int_eq}
-use Rattle.std.specs.Int.{int_shr}
+use Rattle.std.specs.Int.{int_shr, w8, w16, w32, cast_signed}
 use Rattle.std.specs.Int.Count.{count_leading_zeros, count_trailing_zeros}
 use Rattle.wasm_defs.specs.declared.types.ValType.{ValType}
 use Rattle.wasm_defs.specs.declared.types.ValType.TheVariants.{I32, I64}
@@ -13,6 +13,8 @@ use Rattle.wasm_defs.specs.declared.operation.CompareOp.{CompareOp}
 use Rattle.wasm_defs.specs.declared.operation.CompareOp.TheVariants.{Eq, Ne, LtS, LtU, GtS, GtU, LeS, LeU, GeS, GeU}
 use Rattle.wasm_defs.specs.declared.operation.ConvertOp.{ConvertOp}
 use Rattle.wasm_defs.specs.declared.operation.ConvertOp.TheVariants.{Wrap, ExtendS, ExtendU}
+use Rattle.wasm_defs.specs.declared.operation.ExtendOp.{ExtendOp}
+use Rattle.wasm_defs.specs.declared.operation.ExtendOp.TheVariants.{I32Extend8S, I32Extend16S, I64Extend8S, I64Extend16S, I64Extend32S}
 use Rattle.wasm_defs.specs.Values.{modulus, signed, unsigned}
 
 -- N
@@ -118,3 +120,21 @@ abbrev pub converted_type : ConvertOp → ValType
 converted_type Wrap = I32
 converted_type ExtendS = I64
 converted_type ExtendU = I64
+
+-- ---- sign extension: the low 8, 16 or 32 bits as a signed number (iextendM_s)
+
+abbrev pub extend_8 : ValType → ℕ → ℕ
+extend_8 t a = unsigned t (cast_signed w8 (a % 2 ^ 8))
+
+abbrev pub extend_16 : ValType → ℕ → ℕ
+extend_16 t a = unsigned t (cast_signed w16 (a % 2 ^ 16))
+
+abbrev pub extend_32 : ValType → ℕ → ℕ
+extend_32 t a = unsigned t (cast_signed w32 (a % 2 ^ 32))
+
+abbrev pub sign_extended : ExtendOp → ℕ → ℕ
+sign_extended I32Extend8S a = extend_8 I32 a
+sign_extended I32Extend16S a = extend_16 I32 a
+sign_extended I64Extend8S a = extend_8 I64 a
+sign_extended I64Extend16S a = extend_16 I64 a
+sign_extended I64Extend32S a = extend_32 I64 a

@@ -8,8 +8,10 @@ use Rattle.wasm_defs.specs.declared.token.BlockType.{BlockType}
 use Rattle.wasm_defs.specs.declared.token.BlockType.TheVariants.{Empty, Value, Index}
 use Rattle.wasm_defs.specs.declared.operation.ConvertOp.{ConvertOp}
 use Rattle.wasm_defs.specs.declared.operation.ConvertOp.TheVariants.{Wrap, ExtendS, ExtendU}
+use Rattle.wasm_defs.specs.declared.operation.ExtendOp.{ExtendOp}
+use Rattle.wasm_defs.specs.declared.operation.ExtendOp.TheVariants.{I32Extend8S, I32Extend16S, I64Extend8S, I64Extend16S, I64Extend32S}
 use Rattle.wasm_defs.specs.declared.operation.Operation.{Operation}
-use Rattle.wasm_defs.specs.declared.operation.Operation.TheVariants.{Unary, Test, Binary, Compare, Convert}
+use Rattle.wasm_defs.specs.declared.operation.Operation.TheVariants.{Unary, Test, Binary, Compare, Convert, Extend}
 use Rattle.wasm_defs.specs.declared.operation.LoadOp.{LoadOp}
 use Rattle.wasm_defs.specs.declared.operation.LoadOp.TheVariants.{I32Load, I64Load, I32Load8S, I32Load8U, I32Load16S, I32Load16U, I64Load8S, I64Load8U, I64Load16S, I64Load16U, I64Load32S, I64Load32U}
 use Rattle.wasm_defs.specs.declared.operation.StoreOp.{StoreOp}
@@ -99,12 +101,21 @@ converted Wrap = record { params = I64 ∷ []; results = I32 ∷ [] }
 converted ExtendS = record { params = I32 ∷ []; results = I64 ∷ [] }
 converted ExtendU = record { params = I32 ∷ []; results = I64 ∷ [] }
 
+-- the type of the operand of a sign extension, and of what it gives
+abbrev pub extend_type : ExtendOp → ValType
+extend_type I32Extend8S = I32
+extend_type I32Extend16S = I32
+extend_type I64Extend8S = I64
+extend_type I64Extend16S = I64
+extend_type I64Extend32S = I64
+
 abbrev pub operated : Operation → Signature
 operated (Unary t op) = record { params = t ∷ []; results = t ∷ [] }
 operated (Test t) = record { params = t ∷ []; results = I32 ∷ [] }
 operated (Binary t op) = record { params = t ∷ t ∷ []; results = t ∷ [] }
 operated (Compare t op) = record { params = t ∷ t ∷ []; results = I32 ∷ [] }
 operated (Convert op) = converted op
+operated (Extend op) = record { params = extend_type op ∷ []; results = extend_type op ∷ [] }
 
 -- ---- memory instructions (Core 3.3.4)
 

@@ -25,7 +25,9 @@ pub use limits::{
     MAX_TEXT, TOP_PAGES,
 };
 pub use lists::{Bytes, Indices, Labels, Name, Sequence, ValTypes};
-pub use operation::{Access, BinaryOp, CompareOp, ConvertOp, LoadOp, Operation, StoreOp, UnaryOp};
+pub use operation::{
+    Access, BinaryOp, CompareOp, ConvertOp, ExtendOp, LoadOp, Operation, StoreOp, UnaryOp,
+};
 pub use text::Inside;
 pub use token::{BlockType, MemArg, Plain, Token};
 pub use types::{FuncType, ValType};

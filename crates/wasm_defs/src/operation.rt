@@ -57,6 +57,16 @@ pub enum ConvertOp {
     ExtendU,
 }
 
+/// Sign extensions: the low bits of an operand, as a signed number of its type (Core 2.0, 2.4.1).
+#[derive(Clone, Copy, Debug, PartialEq, Eq)]
+pub enum ExtendOp {
+    I32Extend8S,
+    I32Extend16S,
+    I64Extend8S,
+    I64Extend16S,
+    I64Extend32S,
+}
+
 /// A numeric instruction without an immediate, by its sort (Core 2.4.1): on operands of one type, or a conversion.
 #[derive(Clone, Copy, Debug, PartialEq, Eq)]
 pub enum Operation {
@@ -66,6 +76,7 @@ pub enum Operation {
     Binary(ValType, BinaryOp),
     Compare(ValType, CompareOp),
     Convert(ConvertOp),
+    Extend(ExtendOp),
 }
 
 /// Loads (Core 2.4.4), by what is loaded and how it is extended.
@@ -104,8 +115,8 @@ pub enum Access {
     Store(StoreOp),
 }
 
-/// The operations by their opcodes, from 0x45 to 0xBF (Core 5.4.5). Those on floats are left out.
-pub(crate) const OPERATIONS: [Option<Operation>; 123] = [
+/// The operations by their opcodes, from 0x45 to 0xC4 (Core 2.0, 5.4.7). Those on floats are left out.
+pub(crate) const OPERATIONS: [Option<Operation>; 128] = [
     Some(Operation::Test(ValType::I32)),
     Some(Operation::Compare(ValType::I32, CompareOp::Eq)),
     Some(Operation::Compare(ValType::I32, CompareOp::Ne)),
@@ -229,6 +240,11 @@ pub(crate) const OPERATIONS: [Option<Operation>; 123] = [
     None,
     None,
     None,
+    Some(Operation::Extend(ExtendOp::I32Extend8S)),
+    Some(Operation::Extend(ExtendOp::I32Extend16S)),
+    Some(Operation::Extend(ExtendOp::I64Extend8S)),
+    Some(Operation::Extend(ExtendOp::I64Extend16S)),
+    Some(Operation::Extend(ExtendOp::I64Extend32S)),
 ];
 
 /// The loads and stores by their opcodes, from 0x28 to 0x3E (Core 5.4.4). Those of floats are left out.

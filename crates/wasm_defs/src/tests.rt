@@ -1,6 +1,8 @@
 //! Opcodes of WebAssembly Core 1.0, 5.4.
 
-use crate::{Access, BinaryOp, CompareOp, ConvertOp, LoadOp, Operation, StoreOp, UnaryOp, ValType};
+use crate::{
+    Access, BinaryOp, CompareOp, ConvertOp, ExtendOp, LoadOp, Operation, StoreOp, UnaryOp, ValType,
+};
 use std::test::Fail;
 
 #[test]
@@ -20,6 +22,8 @@ fn operations_have_their_opcodes(rt: HostRuntime) -> Result<(), Fail> {
         (0xA7, Operation::Convert(ConvertOp::Wrap)),
         (0xAC, Operation::Convert(ConvertOp::ExtendS)),
         (0xAD, Operation::Convert(ConvertOp::ExtendU)),
+        (0xC0, Operation::Extend(ExtendOp::I32Extend8S)),
+        (0xC4, Operation::Extend(ExtendOp::I64Extend32S)),
     ];
     for (opcode, operation) in rows {
         if opcode >= 0x45 {
@@ -32,7 +36,7 @@ fn operations_have_their_opcodes(rt: HostRuntime) -> Result<(), Fail> {
     }
     assert_eq!(rt; Operation::of_opcode(0x5B), Some(None));
     assert_eq!(rt; Operation::of_opcode(0xBF), Some(None));
-    assert_eq!(rt; Operation::of_opcode(0xC0), None);
+    assert_eq!(rt; Operation::of_opcode(0xC5), None);
     Ok(())
 }
 

@@ -10,7 +10,6 @@ use Rattle.wasm_defs.specs.declared.token.Token.{Token}
 use Rattle.wasm_defs.specs.declared.token.Token.TheVariants as token
 use Rattle.wasm_defs.specs.declared.types.ValType.TheVariants.{I32, I64}
 use Rattle.wasm_defs.specs.Opcodes.{operations, accesses}
-use Rattle.wasm_defs.specs.Entries.{within}
 use Rattle.wasm_defs.specs.Fields.{Cursor, Read, Got, Fault, Wants, byte, Reader, refused}
 use Rattle.wasm_defs.specs.Bodies.{Group, local_groups, with_index, constant, control, variable, past_table, operated_at, numeric, instruction, depth_after, Spelled, closed, after_token, goes_on, spelled_from, body_cursor, last_of, read_code, body_read, with_type, branch_table, indirect, with_zero, with_mem_arg, memory, accessed_at}
 use Rattle.wasm_laws.proofs.Steady.{IfGot, Advance, Advances, here_in}
@@ -79,7 +78,7 @@ module _ (P : Token → Cursor → Type 0) (at b : ℕ) (d : Cursor) (s : Spells
 
   past_numbers : IfGot P (past_table at b d)
   past_numbers =
-      elim (cases_Bool (within 0xC0 0xC4 b || eqb b 0xFC)) [
+      elim (cases_Bool (eqb b 0xFC)) [
         | inl left_out ↦ rw left_out tt
         | inr none ↦ rw none tt
       ]

@@ -7,17 +7,18 @@ use Rattle.wasm_defs.specs.declared.types.ValType.{ValType}
 use Rattle.wasm_defs.specs.declared.types.ValType.TheVariants.{I32, I64}
 use Rattle.wasm_defs.specs.declared.value.TrapKind.TheVariants.{DivideByZero, Overflow}
 use Rattle.wasm_defs.specs.declared.operation.Operation.{Operation}
-use Rattle.wasm_defs.specs.declared.operation.Operation.TheVariants.{Unary, Test, Binary, Compare, Convert}
+use Rattle.wasm_defs.specs.declared.operation.Operation.TheVariants.{Unary, Test, Binary, Compare, Convert, Extend}
 use Rattle.wasm_defs.specs.declared.operation.UnaryOp.{UnaryOp}
 use Rattle.wasm_defs.specs.declared.operation.BinaryOp.{BinaryOp}
 use Rattle.wasm_defs.specs.declared.operation.CompareOp.{CompareOp}
 use Rattle.wasm_defs.specs.declared.operation.ConvertOp.{ConvertOp}
 use Rattle.wasm_defs.specs.declared.operation.ConvertOp.TheVariants.{Wrap, ExtendS, ExtendU}
+use Rattle.wasm_defs.specs.declared.operation.ExtendOp.{ExtendOp}
 use Rattle.wasm_defs.specs.declared.token.Plain.TheVariants.{Operate}
-use Rattle.wasm_defs.specs.Typing.{Types, Context, operated}
+use Rattle.wasm_defs.specs.Typing.{Types, Context, operated, extend_type}
 use Rattle.wasm_defs.specs.Configurations.{Store, max_slots}
 use Rattle.wasm_defs.specs.Values.{Value, modulus, word, types_of_values}
-use Rattle.wasm_defs.specs.Integers.{Computed, Number, DividesByZero, Overflows, binary, compare, unary, ieqz, converted, converted_type}
+use Rattle.wasm_defs.specs.Integers.{Computed, Number, DividesByZero, Overflows, binary, compare, unary, ieqz, converted, converted_type, sign_extended}
 use Rattle.wasm_defs.specs.Effects.{Gives, computed, effect, value}
 use Rattle.frame_layout.specs.Slots.{operand}
 use Rattle.frame_layout.specs.Templates.{Label, Around, operate_words}
@@ -28,6 +29,7 @@ use Rattle.sim_integer.proofs.Binary.{binary_does}
 use Rattle.sim_integer.proofs.Comparisons.{compare_does, test_does}
 use Rattle.sim_integer.proofs.Unary.{unary_does}
 use Rattle.sim_integer.proofs.Conversions.{convert_does}
+use Rattle.sim_integer.proofs.SignExtensions.{extend_does, extend_is_below}
 use Rattle.sim_integer.proofs.Ranges.{binary_is_below, compare_is_below, unary_is_below, test_is_below, convert_is_below}
 use Rattle.sim_integer.proofs.Lengths.{lengths_are_bounded}
 use Rattle.sim_frames.proofs.Values.{Holds, Matches}
@@ -166,6 +168,13 @@ module _ (code : List (Option Op)) (c : Context) (labels : List Label) (w : Arou
       kept_follows code c labels w base there b store cap locals here s (Operate (Convert ExtendS)) (x ∷ below) (value I64 n ∷ below) mid 0 refl is (omega arith) (does_nothing code s)
       (other_operands code w.layout base there b locals (x ∷ below) s 0 0 m (value I64 n ∷ below) (hold, m.live.1))
 
+  extend_goes : (op : ExtendOp) (x : Value) (below : List Value) (mid : Types) → x.ty ≡ extend_type op → suc (length below) ≤ w.layout.greatest → extend_type op ∷ types_of_values below ≡ mid
+      → HasAt code i (operate_words w (suc (length below)) (Extend op)) → Holding (x ∷ below) → Goes (x ∷ below) (Extend op) mid
+  extend_goes op x below mid x_ty high is has m =
+      let t = extend_type op in
+      result_goes x below t x_ty high m (Extend op) mid t (sign_extended op x.number) refl is (extend_is_below op x.number)
+      (extend_does w code s i base (suc (length below)) op x.number has at m.frame (omega arith) (near_one x below t x_ty high m) (top_small x below t x_ty high m) (top_word x below t x_ty high m))
+
   -- ---- all of them
 
   binary_operates : (t : ValType) (op : BinaryOp) (operands : List Value) (mid : Types) → MovesFixed (t ∷ t ∷ []) (t ∷ []) (types_of_values operands) mid → length operands ≤ w.layout.greatest
@@ -217,6 +226,15 @@ module _ (code : List (Option Op)) (c : Context) (labels : List Label) (w : Arou
       let rest : types_of_values below ≡ f.below = cc in
       convert_goes op x below mid x_ty high (ap (λ (ts : Types). converted_type op ∷ ts) rest ∙ sym f.after) has m
 
+  extend_operates : (op : ExtendOp) (operands : List Value) (mid : Types) → MovesFixed (extend_type op ∷ []) (extend_type op ∷ []) (types_of_values operands) mid → length operands ≤ w.layout.greatest
+      → HasAt code i (operate_words w (length operands) (Extend op)) → Holding operands → Goes operands (Extend op) mid
+  extend_operates op [] mid f high has m = let e = f.before in absurd cc
+  extend_operates op (x ∷ below) mid f high has m =
+      let e = f.before in
+      let x_ty : x.ty ≡ extend_type op = cc in
+      let rest : types_of_values below ≡ f.below = cc in
+      extend_goes op x below mid x_ty high (ap (λ (ts : Types). extend_type op ∷ ts) rest ∙ sym f.after) has m
+
   pub operates : (op : Operation) (operands : List Value) (mid : Types) → MovesFixed (operated op).params (operated op).results (types_of_values operands) mid → length operands ≤ w.layout.greatest
       → length code ≤ 2 ^ 26 → HasAt code i (operate_words w (length operands) op) → Holding operands → ComesTo operands op mid
   operates (Unary t op) operands mid f high near has m = inl (unary_operates t op operands mid f high has m)
@@ -226,3 +244,4 @@ module _ (code : List (Option Op)) (c : Context) (labels : List Label) (w : Arou
   operates (Convert Wrap) operands mid f high near has m = inl (convert_operates Wrap operands mid f high has m)
   operates (Convert ExtendS) operands mid f high near has m = inl (convert_operates ExtendS operands mid f high has m)
   operates (Convert ExtendU) operands mid f high near has m = inl (convert_operates ExtendU operands mid f high has m)
+  operates (Extend op) operands mid f high near has m = inl (extend_operates op operands mid f high has m)
