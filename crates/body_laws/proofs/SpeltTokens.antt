@@ -3,8 +3,6 @@ use Rattle.std.proofs.Common.{◌≡◌, ◌≤◌, ℕ, ◌-◌, ℤ, true, eqb
 use Rattle.std.specs.Prelude.{slice_get}
 use Rattle.std.specs.List.{All}
 use Rattle.std.proofs.lemmas.Bool.{eqb-true, ltb-false}
-use Rattle.wasm_defs.specs.declared.fault.Kind.{Kind}
-use Rattle.wasm_defs.specs.declared.fault.Kind.TheVariants.{Malformed, Unsupported}
 use Rattle.wasm_defs.specs.declared.types.ValType.{ValType}
 use Rattle.wasm_defs.specs.declared.types.ValType.TheVariants.{I32, I64}
 use Rattle.wasm_defs.specs.declared.operation.UnaryOp.TheVariants.{Clz, Ctz, Popcnt}
@@ -104,15 +102,15 @@ block_type_read (Index i) = record { by = λ at end front back fits k. absurd k 
 pub block_type_spelt : Spelt block_type_is Always block_type
 block_type_spelt = record { sound = block_type_found; complete = λ t k. block_type_read t }
 
-zero_found : (kind : Kind) (c : Cursor) → Ready c → IfGot (λ x d. Found (exactly (0x00 ∷ [])) (Unit {0}) c d) (zero_byte kind c)
+zero_found : (c : Cursor) → Ready c → IfGot (λ x d. Found (exactly (0x00 ∷ [])) (Unit {0}) c d) (zero_byte c)
 unfolding zero_byte
-zero_found kind c ready =
+zero_found c ready =
     read _ _ byte _ _ c byte_spelt ready (λ b d found ready.
     either_got _ (eqb b.1 0) _ _ d (λ e. found_as (exactly (0x00 ∷ [])) _ c d found (λ at bytes s. s.1 ∙ ap (λ (n : ℕ). n ∷ []) (eqb-true b.1 0 e)) tt) (λ no. tt))
 
-pub zero_spelt : (kind : Kind) → Spelt (λ x. exactly (0x00 ∷ [])) Always (zero_byte kind)
+pub zero_spelt : Spelt (λ x. exactly (0x00 ∷ [])) Always zero_byte
 unfolding zero_byte
-zero_spelt kind = record { sound = zero_found kind; complete = λ x k. reads_only byte _ 0 tt (exactly (0x00 ∷ [])) (byte_reads 0) (λ o c. refl) }
+zero_spelt = record { sound = zero_found; complete = λ x k. reads_only byte _ 0 tt (exactly (0x00 ∷ [])) (byte_reads 0) (λ o c. refl) }
 
 mem_arg_spelt : Spelt mem_arg_is Always mem_arg
 unfolding mem_arg
@@ -171,14 +169,15 @@ module _ (o b : ℕ) (c d : Cursor) (found : Found (byte_is o b) (Unit {0}) c d)
   unfolding indirect
   calls_indirect e =
       read _ _ u32 _ _ d u32_spelt ready (λ i f index ready.
-      read _ _ (zero_byte Unsupported) _ _ f (zero_spelt Unsupported) ready (λ x g zero ready.
-      followed 0x11 (token.Plain (CallIndirect i.1)) g (is 0x11 e)
-      (found_then (Unit {0}) d f g (found_as (listed_index_is i.1) (Unit {0}) d f index (λ at bytes s. s.1) tt) zero tt)
+      read _ _ u32 _ _ f u32_spelt ready (λ table g table_found ready.
+      followed 0x11 (token.Plain (CallIndirect i.1 table.1)) g (is 0x11 e)
+      (found_then (Unit {0}) d f g (found_as (listed_index_is i.1) (Unit {0}) d f index (λ at bytes s. s.1) tt)
+      (found_as (listed_index_is table.1) (Unit {0}) f g table_found (λ at bytes s. s.1) tt) tt)
       (λ at bytes s. s)))
 
   zeroed : (n : ℕ) (p : Plain) → eqb b n ≡ true → ((at : ℕ) (bytes : List ℕ) → (exactly (n ∷ []) then exactly (0x00 ∷ [])) at bytes → plain_is p at bytes) → IfGot Q (with_zero p d)
   unfolding with_zero
-  zeroed n p e f = read _ _ (zero_byte Malformed) _ _ d (zero_spelt Malformed) ready (λ x g zero ready. followed n (token.Plain p) g (is n e) zero f)
+  zeroed n p e f = read _ _ zero_byte _ _ d zero_spelt ready (λ x g zero ready. followed n (token.Plain p) g (is n e) zero f)
 
   accesses_memory : (op : Access) → access_code op ≡ b → IfGot Q (with_mem_arg op d)
   unfolding with_mem_arg
@@ -280,15 +279,15 @@ branches_read labels last =
     (λ o. reads_as (vector u32 label) (o, labels) (vector_is listed_index_is o labels) _ (listed_as_vector listed_index_is o labels) (labels_spelt.complete (o, labels) tt))
     (λ o. reads_on label _ last _ (listed_index_is last) (label_spelt.complete last tt) (λ c. refl))
 
-indirect_read : (i : ℕ) → Reads indirect (token.Plain (CallIndirect i)) (listed_index_is i then exactly (0x00 ∷ []))
+indirect_read : (i table : ℕ) → Reads indirect (token.Plain (CallIndirect i table)) (listed_index_is i then listed_index_is table)
 unfolding indirect
-indirect_read i =
-    reads_past u32 _ i _ (listed_index_is i) (exactly (0x00 ∷ [])) (index_reads i)
-    (λ o. reads_on (zero_byte Unsupported) _ tt _ (exactly (0x00 ∷ [])) ((zero_spelt Unsupported).complete tt tt) (λ c. refl))
+indirect_read i table =
+    reads_past u32 _ i _ (listed_index_is i) (listed_index_is table) (index_reads i)
+    (λ o. reads_only u32 _ table _ (listed_index_is table) (index_reads table) (λ o c. refl))
 
 zero_read : (p : Plain) → Reads (with_zero p) (token.Plain p) (exactly (0x00 ∷ []))
 unfolding with_zero
-zero_read p = reads_on (zero_byte Malformed) _ tt _ (exactly (0x00 ∷ [])) ((zero_spelt Malformed).complete tt tt) (λ c. refl)
+zero_read p = reads_on zero_byte _ tt _ (exactly (0x00 ∷ [])) (zero_spelt.complete tt tt) (λ c. refl)
 
 mem_arg_read : (op : Access) (m : MemArg) → Reads (with_mem_arg op) (token.Plain (accessed op m)) (mem_arg_is m)
 unfolding with_mem_arg
@@ -404,7 +403,7 @@ plain_read (BrIf l) = before 0x0D _ (listed_index_is l) (λ o. index_read BrIf l
 plain_read (BrTable labels last) = before 0x0E _ (listed_vector_is listed_index_is labels then listed_index_is last) (λ o. branches_read labels last)
 plain_read Return = alone 0x0F _ (λ o c. refl)
 plain_read (Call x) = before 0x10 _ (listed_index_is x) (λ o. index_read Call x)
-plain_read (CallIndirect i) = before 0x11 _ (listed_index_is i then exactly (0x00 ∷ [])) (λ o. indirect_read i)
+plain_read (CallIndirect i table) = before 0x11 _ (listed_index_is i then listed_index_is table) (λ o. indirect_read i table)
 plain_read Discard = alone 0x1A _ (λ o c. refl)
 plain_read Select = alone 0x1B _ (λ o c. refl)
 plain_read (LocalGet x) = before 0x20 _ (listed_index_is x) (λ o. index_read LocalGet x)

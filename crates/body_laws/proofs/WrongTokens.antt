@@ -109,28 +109,28 @@ block_field = record {
 abbrev passed : Reader (Unit {0})
 passed = done tt
 
-abbrev not_zero : Kind → ℕ → Reader (Unit {0})
-not_zero kind at = refused kind at
+abbrev not_zero : ℕ → Reader (Unit {0})
+not_zero at = refused Malformed at
 
-zero_tested : (kind : Kind) (at : ℕ) (d : Cursor) (r : Refusal) (test : Bool) → cond test passed (not_zero kind at) d ≡ Fault r → r.offset ≡ at
-zero_tested kind at d r true e = absurd cc
-zero_tested kind at d r false e = fault_at at (record { offset = at; kind = kind }) r refl e
+zero_tested : (at : ℕ) (d : Cursor) (r : Refusal) (test : Bool) → cond test passed (not_zero at) d ≡ Fault r → r.offset ≡ at
+zero_tested at d r true e = absurd cc
+zero_tested at d r false e = fault_at at (record { offset = at; kind = Malformed }) r refl e
 
-zero_place : (kind : Kind) (c : Cursor) (r : Refusal) → zero_byte kind c ≡ Fault r → r.offset ≡ c.at
+zero_place : (c : Cursor) (r : Refusal) → zero_byte c ≡ Fault r → r.offset ≡ c.at
 unfolding zero_byte byte
-zero_place kind c r e = of (window c) e
+zero_place c r e = of (window c) e
   where
     test : ℕ × ℕ → Reader (Unit {0})
-    test b = cond (eqb b.1 0) passed (not_zero kind b.0)
+    test b = cond (eqb b.1 0) passed (not_zero b.0)
 
     of : (w : List ℕ) → then_go (first_of c w) test ≡ Fault r → r.offset ≡ c.at
     of [] e = cut_place (nat_le (room_of c) (length c.rest)) c test r e
-    of (b ∷ w) e = zero_tested kind c.at (past c 1) r (eqb b 0) e
+    of (b ∷ w) e = zero_tested c.at (past c 1) r (eqb b 0) e
 
-zero_field : (kind : Kind) → FieldIs Zero (zero_byte kind)
-zero_field kind = record {
-  found = λ c ready. (zero_spelt kind).sound c ready;
-  wrong = λ last c fits. read_wrong (λ (u : Unit {0}). field_is Zero) (zero_byte kind) last c (λ u front back e s. (tt, cursor (c.at + length front) back c.end, got_of (zero_byte kind) tt (exactly (0x00 ∷ [])) c fits ((zero_spelt kind).complete tt tt) front back e s)) (zero_place kind c);
+zero_field : FieldIs Zero zero_byte
+zero_field = record {
+  found = λ c ready. zero_spelt.sound c ready;
+  wrong = λ last c fits. read_wrong (λ (u : Unit {0}). field_is Zero) zero_byte last c (λ u front back e s. (tt, cursor (c.at + length front) back c.end, got_of zero_byte tt (exactly (0x00 ∷ [])) c fits (zero_spelt.complete tt tt) front back e s)) (zero_place c);
 }
 
 signed_field : (ty : ValType) → FieldIs (Signed ty) (number true (bits_of ty))
@@ -243,11 +243,11 @@ typed at make = inr (Fields (Typed ∷ []), as_fields (Typed ∷ []) (with_type 
 
 called : (at : ℕ) → Known at indirect
 unfolding indirect
-called at = inr (Fields (Index ∷ Zero ∷ []), as_fields (Index ∷ Zero ∷ []) indirect (then_field Index (Zero ∷ []) u32 _ index_field (λ i. last_field Zero (zero_byte Unsupported) (λ x. token.Plain (plains.CallIndirect i.1)) (zero_field Unsupported))))
+called at = inr (Fields (Index ∷ Index ∷ []), as_fields (Index ∷ Index ∷ []) indirect (then_field Index (Index ∷ []) u32 _ index_field (λ i. last_field Index u32 (λ table. token.Plain (plains.CallIndirect i.1 table.1)) index_field)))
 
 zeroed : (at : ℕ) (p : Plain) → Known at (with_zero p)
 unfolding with_zero
-zeroed at p = inr (Fields (Zero ∷ []), as_fields (Zero ∷ []) (with_zero p) (last_field Zero (zero_byte Malformed) (λ x. token.Plain p) (zero_field Malformed)))
+zeroed at p = inr (Fields (Zero ∷ []), as_fields (Zero ∷ []) (with_zero p) (last_field Zero zero_byte (λ x. token.Plain p) zero_field))
 
 arguments : FieldsAre (Index ∷ Index ∷ []) mem_arg
 unfolding mem_arg

@@ -171,10 +171,10 @@ fn call<'a>(callee: &'a FuncType) -> Option<Rule<'a>>
     fixed(callee.params.as_slice(), callee.results.as_slice())
 }
 
-fn call_indirect<'a>(scope: &Scope<'a>, index: u32) -> Option<Rule<'a>>
-    ensures { rule_meant result ≡ rule_of scope.now (Plain.CallIndirect index) }
+fn call_indirect<'a>(scope: &Scope<'a>, index: u32, table: u32) -> Option<Rule<'a>>
+    ensures { rule_meant result ≡ rule_of scope.now (Plain.CallIndirect index table) }
 {
-    if !scope.has_table() {
+    if !scope.has_table(table) {
         return None;
     }
     let callee = scope.type_at(index)?;
@@ -224,7 +224,7 @@ pub fn rule_for<'a>(scope: &Scope<'a>, stack: &Stack<'a>, plain: &Plain) -> Opti
         Plain::BrTable(ls, l) => branch_table(stack, ls.as_slice(), *l),
         Plain::Return => Some(Rule::Stops(plainly(scope.results))),
         Plain::Call(f) => call(scope.type_of_function(*f)?),
-        Plain::CallIndirect(i) => call_indirect(scope, *i),
+        Plain::CallIndirect(i, table) => call_indirect(scope, *i, *table),
         Plain::Discard => Some(Rule::Discards),
         Plain::Select => Some(Rule::Selects),
         Plain::LocalGet(x) => fixed(none(), one(scope.local(*x)?)),

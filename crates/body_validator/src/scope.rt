@@ -80,11 +80,11 @@ impl<'a> Scope<'a> {
         self.type_at(*type_index)
     }
 
-    /// Whether there is a table.
-    pub fn has_table(&self) -> bool
-        ensures { result ≡ nat_lt 0 self.now.tables }
+    /// Whether there is a table of that index.
+    pub fn has_table(&self, index: u32) -> bool
+        ensures { result ≡ nat_lt index self.now.tables }
     {
-        self.context.has_table()
+        (index as usize) < self.context.tables().len()
     }
 
     /// Whether there is a memory.

@@ -283,14 +283,24 @@ fn functions_are_called(rt: HostRuntime) -> Result<(), Fail> {
         plain(Plain::Call(1)),
         first_local(),
         first_local(),
-        plain(Plain::CallIndirect(0)),
+        plain(Plain::CallIndirect(0, 0)),
         Token::End,
     ];
     holds(&rt, rt.alloc(), &m, &calls, 2)?;
-    let short = [first_local(), plain(Plain::CallIndirect(0))];
+    let short = [first_local(), plain(Plain::CallIndirect(0, 0))];
     fails(&rt, rt.alloc(), &m, &short, Kind::Invalid)?;
+    let other = [
+        first_local(),
+        first_local(),
+        plain(Plain::CallIndirect(0, 1)),
+    ];
+    fails(&rt, rt.alloc(), &m, &other, Kind::Invalid)?;
     let none = small_module(rt.alloc())?;
-    let indirect = [first_local(), first_local(), plain(Plain::CallIndirect(0))];
+    let indirect = [
+        first_local(),
+        first_local(),
+        plain(Plain::CallIndirect(0, 0)),
+    ];
     fails(&rt, rt.alloc(), &none, &indirect, Kind::Invalid)?;
     fails(
         &rt,

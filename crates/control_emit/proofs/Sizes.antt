@@ -106,7 +106,7 @@ module _ (w : Around) where
       omega arith
   words_size c ls ms h here there Return a = jump_size h h here there (last_label w ls) (last_label w ms) (last_size ls ms a)
   words_size c ls ms h here there (Call f) a = refl
-  words_size c ls ms h here there (CallIndirect i) a = refl
+  words_size c ls ms h here there (CallIndirect i table) a = refl
   words_size c ls ms h here there Discard a = refl
   words_size c ls ms h here there Select a = refl
   words_size c ls ms h here there (LocalGet x) a = refl

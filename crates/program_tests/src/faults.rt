@@ -148,7 +148,7 @@ const FAULTS: [(&str, &str); 49] = [
 ];
 
 /// The same of tables, memories, globals and element segments, of calls, and of instructions that are left out.
-const FURTHER_FAULTS: [(&str, &str); 39] = [
+const FURTHER_FAULTS: [(&str, &str); 40] = [
     // At a body's last byte an opcode is malformed, whether its instruction is whole or not; one that is left out is unsupported.
     (
         "01 04 01 60 00 00 03 02 01 00 0A 04 01 02 00 0F",
@@ -191,7 +191,7 @@ const FURTHER_FAULTS: [(&str, &str); 39] = [
         "invalid at 22",
     ),
     // Calls by a table that isn't there, also before a missing `end`; without the row's number; of a type that isn't there; with another
-    // table's index; and cut off.
+    // table's index, and with one of too many bits; and cut off.
     (
         "01 04 01 60 00 00 03 02 01 00 0A 09 01 07 00 41 00 11 00 00 0B",
         "invalid at 25",
@@ -210,7 +210,11 @@ const FURTHER_FAULTS: [(&str, &str); 39] = [
     ),
     (
         "01 04 01 60 00 00 03 02 01 00 04 04 01 70 00 01 0A 09 01 07 00 41 00 11 00 01 0B",
-        "unsupported at 33",
+        "invalid at 31",
+    ),
+    (
+        "01 04 01 60 00 00 03 02 01 00 04 04 01 70 00 01 0A 0D 01 0B 00 41 00 11 00 80 80 80 80 10 0B",
+        "malformed at 33",
     ),
     (
         "01 04 01 60 00 00 03 02 01 00 0A 05 01 03 00 11 80",

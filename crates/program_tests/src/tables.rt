@@ -18,6 +18,12 @@ const ROWS_OF_TYPES: &str =
                              04 04 01 70 00 03 07 05 01 01 63 00 02 09 08 01 00 41 00 0B 02 00 01 \
                              0A 13 03 04 00 41 07 0B 04 00 42 07 0B 07 00 20 00 11 01 00 0B";
 
+/// The same, where the index of the table has five bytes.
+const PADDED: &str =
+    "01 12 04 60 00 01 7F 60 00 01 7F 60 00 01 7E 60 01 7F 01 7F 03 04 03 00 02 03 \
+                      04 04 01 70 00 03 07 05 01 01 63 00 02 09 08 01 00 41 00 0B 02 00 01 \
+                      0A 17 03 04 00 41 07 0B 04 00 42 07 0B 0B 00 20 00 11 01 80 80 80 80 00 0B";
+
 /// `f` calls the function of row 0 by the first of two equal types; the function has the second one, and gives 5.
 const LATER: &str =
     "01 09 02 60 00 01 7F 60 00 01 7F 03 03 02 00 01 04 04 01 70 00 01 07 05 01 01 66 00 00 \
@@ -77,7 +83,7 @@ const PRINTING: &str =
                         0A 13 02 09 00 42 7B 41 01 11 00 00 0B 07 00 41 01 11 01 00 0B";
 
 /// Modules, what they are asked for, and the answers.
-const ROWS: [(&str, &str, &str); 17] = [
+const ROWS: [(&str, &str, &str); 18] = [
     (ROWS_OF_TYPES, "c i32:0", "0 i32 7\n"),
     (
         ROWS_OF_TYPES,
@@ -87,6 +93,7 @@ const ROWS: [(&str, &str, &str); 17] = [
     (ROWS_OF_TYPES, "c i32:2", "4 trap uninitialized element\n"),
     (ROWS_OF_TYPES, "c i32:3", "4 trap undefined element\n"),
     (ROWS_OF_TYPES, "c i32:-1", "4 trap undefined element\n"),
+    (PADDED, "c i32:0", "0 i32 7\n"),
     (LATER, "f", "0 i32 5\n"),
     (ARGUMENTS, "f i32:7 i32:2", "0 i32 105\n"),
     (ENDLESS, "f", "4 trap call stack exhausted\n"),

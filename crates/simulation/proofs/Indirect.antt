@@ -48,20 +48,20 @@ module _ (im : Image) (near : length (code_of_image im) ≤ 2 ^ 26) (inst : Inst
       (λ (y : Asked (code_of_image im) inst places f h). let within = slice_get_within text (places f) _ y.has.0 in omega arith)
       (all f h is)
 
-  module _ (type : ℕ) (rest : Seq) where
+  module _ (type table_index : ℕ) (rest : Seq) where
     abbrev size : ℕ
-    size = ahead (Simple (CallIndirect type) rest) + labels_ahead c.frame.labels
+    size = ahead (Simple (CallIndirect type table_index) rest) + labels_ahead c.frame.labels
 
     abbrev Goes : Step → Type 0
-    Goes step = Leads im inst places outer 128 (ahead (Simple (CallIndirect type) rest) + labels_ahead c.frame.labels) r step
+    Goes step = Leads im inst places outer 128 (ahead (Simple (CallIndirect type table_index) rest) + labels_ahead c.frame.labels) r step
 
     halts : {behind : ℕ} (steps : ℕ) (kind : TrapKind) → steps ≤ 128 → TrapsAt (code_of_image im) steps behind (trap_number kind) r.machine → Goes (Trapped c.store kind)
     halts {behind} steps kind short y =
         lifted im inst places outer c.store c.later r start.store start.results start.later 128 size (Trapped c.store kind) (refl, halts_at text inst places outer c.store c.later 128 steps r.machine kind short y)
 
-    module _ (v : Value) (below : List Value) (m : FramesStay (code_of_image im) inst places outer (record c.frame { operands = v ∷ below; code = Simple (CallIndirect type) rest }) c.callers r.machine) where
+    module _ (v : Value) (below : List Value) (m : FramesStay (code_of_image im) inst places outer (record c.frame { operands = v ∷ below; code = Simple (CallIndirect type table_index) rest }) c.callers r.machine) where
       abbrev ty : FuncType
-      ty = (typed_call (code_of_image im) near inst places outer c r.machine type rest v below m).ty
+      ty = (typed_call (code_of_image im) near inst places outer c r.machine type table_index rest v below m).ty
 
       abbrev slots : ℕ
       slots =
@@ -75,7 +75,7 @@ module _ (im : Image) (near : length (code_of_image im) ≤ 2 ^ 26) (inst : Inst
 
         entered : (func : Func) (callee : Compiled (code_of_image im) inst places func) → callee.begin ≡ places f → func.ty ≡ ty → Called (Declared func)
         entered func callee begin_is ty_is =
-            let b = begun text near inst places outer c r.machine type rest v below m func.ty ty_is (places f) y in
+            let b = begun text near inst places outer c r.machine type table_index rest v below m func.ty ty_is (places f) y in
             let arguments = reverse (take (length func.ty.params) below) in
             let callers = record c.frame { operands = drop (length func.ty.params) below; code = rest } ∷ c.callers in
             let step = enter c.store func arguments callers c.later in
@@ -87,7 +87,7 @@ module _ (im : Image) (near : length (code_of_image im) ≤ 2 ^ 26) (inst : Inst
         asked : (number : ℕ) (t : FuncType) → t ≡ ty → slice_get inst.functions f ≡ Some (Imported number t) → HasAt (code_of_image im) (places f) (import_stub (length t.params) number)
             → length t.params < 2 ^ 20 → number < 2 ^ 32 → length t.results ≤ 1 → Called (Imported number t)
         asked number t ty_is found has few small one_result =
-            let b = begun text near inst places outer c r.machine type rest v below m t ty_is (places f) y in
+            let b = begun text near inst places outer c r.machine type table_index rest v below m t ty_is (places f) y in
             let q = with_machine r b.end in
             let i = environment.imports f number t found in
             let arguments = reverse (take (length t.params) below) in
@@ -116,7 +116,7 @@ module _ (im : Image) (near : length (code_of_image im) ≤ 2 ^ 26) (inst : Inst
           → Goes (call_typed c rest below (slice_get inst.context.types type) (slice_get inst.functions f))
       by_function f h is y =
           let k = m.running.compiled in
-          let found = type_is text near inst places outer c r.machine type rest v below m in
+          let found = type_is text near inst places outer c r.machine type table_index rest v below m in
           let like_is : like_in inst f ≡ first_like inst.context.types (type_of h) = ap (λ (o : Option Function). first_like inst.context.types (type_in o)) is in
           let same : (like_in inst f == k.around.like type) ≡ same_function_types ty (type_of h) =
           ap (λ (n : ℕ). n == k.around.like type) like_is ∙ ap (λ (g : ℕ → ℕ). first_like inst.context.types (type_of h) == g type) k.like_is ∙ likes_tell inst.context.types type ty found (type_of h) in
@@ -133,16 +133,16 @@ module _ (im : Image) (near : length (code_of_image im) ≤ 2 ^ 26) (inst : Inst
       goes =
           let table = start.store.table in
           by_option (slice_get inst.table v.number) refl
-          (by_row text near inst places outer c r.machine type rest v below m r.pages start.store.stands.regions table (λ f is. let h = table.functions v.number f is in place_within f h.0 h.1))
+          (by_row text near inst places outer c r.machine type table_index rest v below m r.pages start.store.stands.regions table (λ f is. let h = table.functions v.number f is in place_within f h.0 h.1))
 
-    by_operands : (ops : List Value) → FramesStay (code_of_image im) inst places outer (record c.frame { operands = ops; code = Simple (CallIndirect type) rest }) c.callers r.machine → Goes (call_indirect inst c rest type ops)
+    by_operands : (ops : List Value) → FramesStay (code_of_image im) inst places outer (record c.frame { operands = ops; code = Simple (CallIndirect type table_index) rest }) c.callers r.machine → Goes (call_indirect inst c rest type ops)
     by_operands [] m =
         let at = under m.running.compiled.context m.running.os in
-        let y = called_by (nat_lt 0 at.tables) (slice_get at.types type) [] m.running.sits.typed.0 m.running.sits.typed.1 in
+        let y = called_by (nat_lt table_index at.tables) (slice_get at.types type) [] m.running.sits.typed.0 m.running.sits.typed.1 in
         let e = y.moves.before in
         absurd cc
     by_operands (v ∷ below) m = goes v below m
 
-    pub indirect_leads : FramesStay (code_of_image im) inst places outer (record c.frame { code = Simple (CallIndirect type) rest }) c.callers r.machine
-        → Leads im inst places outer 128 (ahead (Simple (CallIndirect type) rest) + labels_ahead c.frame.labels) r (simple inst c (CallIndirect type) rest)
+    pub indirect_leads : FramesStay (code_of_image im) inst places outer (record c.frame { code = Simple (CallIndirect type table_index) rest }) c.callers r.machine
+        → Leads im inst places outer 128 (ahead (Simple (CallIndirect type table_index) rest) + labels_ahead c.frame.labels) r (simple inst c (CallIndirect type table_index) rest)
     indirect_leads m = by_operands c.frame.operands m

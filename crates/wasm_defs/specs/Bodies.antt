@@ -1,6 +1,5 @@
 -- A body's fields: its locals, and its tokens up to the `end` that closes it (WebAssembly Core 1.0, 5.4 and 5.5.13).
 use Rattle.std.specs.Prelude.{ℕ, zero, suc, ◌+◌, ◌-◌, ◌||◌, ◌==◌, true, List, [], ◌∷◌, length, Option, None, Some, slice_get, nat_lt, nat_le, if◌then◌else◌}
-use Rattle.wasm_defs.specs.declared.fault.Kind.{Kind}
 use Rattle.wasm_defs.specs.declared.fault.Kind.TheVariants.{Malformed, Unsupported, Limit}
 use Rattle.wasm_defs.specs.declared.fault.Refusal.{Refusal}
 use Rattle.wasm_defs.specs.declared.types.ValType.{ValType}
@@ -86,21 +85,21 @@ branch_table = do
   plain (BrTable labels.1 last)
 
 -- a byte that has to be zero
-unfoldable pub zero_byte : Kind → Reader Nothing
-zero_byte kind = do
+unfoldable pub zero_byte : Reader Nothing
+zero_byte = do
   b ← byte
-  if b.1 == 0 then done tt else refused kind b.0
+  if b.1 == 0 then done tt else refused Malformed b.0
 
--- behind the type stands a byte that has to be zero
+-- the type, and the table (Core 2.0, 5.4.1)
 unfoldable pub indirect : Reader Token
 indirect = do
   i ← u32
-  x ← zero_byte Unsupported
-  plain (CallIndirect i.1)
+  table ← u32
+  plain (CallIndirect i.1 table.1)
 
 unfoldable pub with_zero : Plain → Reader Token
 with_zero p = do
-  x ← zero_byte Malformed
+  x ← zero_byte
   plain p
 
 unfoldable pub mem_arg : Reader MemArg

@@ -150,7 +150,7 @@ choose c s body other rest (x ∷ below) = choose_by x.number
     choose_by (suc n) = within c below s (length s.results) rest body rest
 
 module _ (i : Instance) where
-  -- an indirect call (4.4.5.11) by a row of the table
+  -- an indirect call (4.4.5.11) by a row of the table, of which there is one at most
   abbrev pub call_row : Config → Seq → (type : ℕ) → List Value → Option (Option ℕ) → Step
   call_row c rest type operands None = Trapped c.store trap.UndefinedElement
   call_row c rest type operands (Some None) = Trapped c.store trap.UninitializedElement
@@ -167,7 +167,7 @@ module _ (i : Instance) where
   simple c (BrTable ls l) rest = branch_table c ls l c.frame.operands
   simple c Return rest = returns c c.frame.operands
   simple c (Call f) rest = call c rest c.frame.operands (slice_get i.functions f)
-  simple c (CallIndirect type) rest = call_indirect c rest type c.frame.operands
+  simple c (CallIndirect type table) rest = call_indirect c rest type c.frame.operands
   simple c p rest = applied c rest (effect c.store c.frame.locals i.cap p c.frame.operands)
 
   -- a rule for each instruction, and for the end of a sequence

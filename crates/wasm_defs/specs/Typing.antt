@@ -196,7 +196,7 @@ rule_of c (BrTable ls l) =
     with_type (slice_get c.labels l) (λ ts. only_if (are_labels c.labels ts ls) (Stops (I32 ∷ ts)))
 rule_of c Return = Stops c.results
 rule_of c (Call f) = with_type (function_type c f) (called [])
-rule_of c (CallIndirect i) = only_if (nat_lt 0 c.tables) (with_type (slice_get c.types i) (called (I32 ∷ [])))
+rule_of c (CallIndirect i table) = only_if (nat_lt table c.tables) (with_type (slice_get c.types i) (called (I32 ∷ [])))
 rule_of c Discard = Discards
 rule_of c Select = Selects
 rule_of c (LocalGet x) = with_type (slice_get c.locals x) (λ t. Fixed [] (t ∷ []))

@@ -32,8 +32,8 @@ pub enum Plain {
     Return,
     /// A function's index.
     Call(u32),
-    /// A type's index.
-    CallIndirect(u32),
+    /// A type's index, and a table's.
+    CallIndirect(u32, u32),
     /// `drop`
     Discard,
     Select,

@@ -1,7 +1,6 @@
 -- The fault that stops reading, of a body or of what stands outside bodies, isn't Ended.
 use Rattle.std.proofs.Common.{◌≡◌, ◌<◌, ℕ, zero, suc, ◌+◌, List, [], ◌∷◌, length, Option, Some, None, subst, inl, inr}
 use Rattle.std.proofs.lemmas.Bool.{cases_Bool}
-use Rattle.wasm_defs.specs.declared.fault.Kind.{Kind}
 use Rattle.wasm_defs.specs.declared.fault.Kind.TheVariants.{Malformed}
 use Rattle.wasm_defs.specs.declared.fault.Refusal.{Refusal}
 use Rattle.wasm_defs.specs.declared.operation.Access.{Access}
@@ -53,13 +52,13 @@ branch_table_lasts : Lasting branch_table
 unfolding branch_table
 branch_table_lasts = search (label_lasts, lasting) depth 40
 
-zero_byte_lasts : (kind : Kind) → rank kind < 4 → Lasting (zero_byte kind)
+zero_byte_lasts : Lasting zero_byte
 unfolding zero_byte
-zero_byte_lasts kind h = bind _ _ byte_lasts (λ b. either _ _ _ (done_lasts tt) (refused_lasts kind b.0 h))
+zero_byte_lasts = bind _ _ byte_lasts (λ b. either _ _ _ (done_lasts tt) (refused_lasts _ b.0 malformed))
 
 indirect_lasts : Lasting indirect
 unfolding indirect
-indirect_lasts = search (zero_byte_lasts, lasting) depth 40
+indirect_lasts = search lasting depth 40
 
 with_zero_lasts : (p : Plain) → Lasting (with_zero p)
 unfolding with_zero

@@ -1,6 +1,5 @@
 -- What a body is read by is steady: its locals, and an instruction behind its opcode.
 use Rattle.std.proofs.Common.{ℕ, zero, suc, ◌+◌, List, ◌∷◌, Option, Some, None}
-use Rattle.wasm_defs.specs.declared.fault.Kind.{Kind}
 use Rattle.wasm_defs.specs.declared.operation.Access.{Access}
 use Rattle.wasm_defs.specs.declared.operation.Operation.{Operation}
 use Rattle.wasm_defs.specs.declared.token.BlockType.{BlockType}
@@ -54,13 +53,13 @@ pub branch_table_steady : (marks : List ℕ) → Steady marks branch_table
 unfolding branch_table
 branch_table_steady marks = search (label_steady, steady) depth 40
 
-pub zero_byte_steady : (marks : List ℕ) (kind : Kind) → Steady marks (zero_byte kind)
+pub zero_byte_steady : (marks : List ℕ) → Steady marks zero_byte
 unfolding zero_byte
-zero_byte_steady marks kind = search steady depth 40
+zero_byte_steady marks = search steady depth 40
 
 pub indirect_steady : (marks : List ℕ) → Steady marks indirect
 unfolding indirect
-indirect_steady marks = search (zero_byte_steady, steady) depth 40
+indirect_steady marks = search steady depth 40
 
 pub with_zero_steady : (marks : List ℕ) (p : Plain) → Steady marks (with_zero p)
 unfolding with_zero

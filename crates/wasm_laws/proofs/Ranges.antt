@@ -202,13 +202,13 @@ type_in_range make d h = then_got (λ t e. IsSpelledType t) InRange (block_type 
 
 zero_in_range : (p : Plain) (d : Cursor) → IsInRange p → IfGot InRange (with_zero p d)
 unfolding with_zero
-zero_in_range p d h = then_got (λ x e. Unit {0}) InRange (zero_byte Malformed d) _ (always (zero_byte Malformed d)) (λ x e u. h)
+zero_in_range p d h = then_got (λ x e. Unit {0}) InRange (zero_byte d) _ (always (zero_byte d)) (λ x e u. h)
 
 indirect_in_range : (d : Cursor) → HasBytes d → IfGot InRange (indirect d)
 unfolding indirect
 indirect_in_range d fits =
-    then_got (λ i e. i.1 < 2 ^ 32) InRange (u32 d) _ (u32_got d fits)
-    (λ i e lt. then_got (λ x f. Unit {0}) InRange (zero_byte Unsupported e) _ (always (zero_byte Unsupported e)) (λ x f u. lt))
+    then_got (λ i e. (i.1 < 2 ^ 32) × HasBytes e) InRange (u32 d) _ (index_got d fits)
+    (λ i e h. then_got (λ t f. t.1 < 2 ^ 32) InRange (u32 e) _ (u32_got e h.1) (λ t f lt. (h.0, lt)))
 
 mem_arg_got : (d : Cursor) → HasBytes d → IfGot (λ m e. (m.align < 2 ^ 32) × (m.offset < 2 ^ 32)) (mem_arg d)
 unfolding mem_arg

@@ -52,8 +52,8 @@ called_by true None from mid m = absurd m.allowed
 called_by true (Some t) from mid m =
     record { ty = t; is = refl; moves = moves_fixed (I32 ∷ reverse t.params) (reverse t.results) from mid m; height = λ n. rule_height (called (I32 ∷ []) t) from mid n tt m }
 
-module _ (text : List (Option Op)) (near : length text ≤ 2 ^ 26) (inst : Instance) (places : ℕ → ℕ) (outer : Types) (start : Config) (s : State) (type : ℕ) (rest : Seq) (v : Value) (below : List Value)
-    (m : FramesStay text inst places outer (record start.frame { operands = v ∷ below; code = Simple (CallIndirect type) rest }) start.callers s) where
+module _ (text : List (Option Op)) (near : length text ≤ 2 ^ 26) (inst : Instance) (places : ℕ → ℕ) (outer : Types) (start : Config) (s : State) (type table_index : ℕ) (rest : Seq) (v : Value) (below : List Value)
+    (m : FramesStay text inst places outer (record start.frame { operands = v ∷ below; code = Simple (CallIndirect type table_index) rest }) start.callers s) where
   abbrev k : Compiled text inst places start.frame.function
   k = m.running.compiled
 
@@ -69,8 +69,8 @@ module _ (text : List (Option Op)) (near : length text ≤ 2 ^ 26) (inst : Insta
   abbrev h : ℕ
   h = length (types_of_values (v ∷ below)) + n
 
-  pub x : CalledBy (nat_lt 0 (under m.running.compiled.context m.running.os).tables) (slice_get (under m.running.compiled.context m.running.os).types type) (types_of_values (v ∷ below)) m.running.sits.typed.0
-  x = called_by (nat_lt 0 at.tables) (slice_get at.types type) (types_of_values (v ∷ below)) m.running.sits.typed.0 m.running.sits.typed.1
+  pub x : CalledBy (nat_lt table_index (under m.running.compiled.context m.running.os).tables) (slice_get (under m.running.compiled.context m.running.os).types type) (types_of_values (v ∷ below)) m.running.sits.typed.0
+  x = called_by (nat_lt table_index at.tables) (slice_get at.types type) (types_of_values (v ∷ below)) m.running.sits.typed.0 m.running.sits.typed.1
 
   -- the type is one of the module's
   pub type_is : slice_get inst.context.types type ≡ Some x.ty
@@ -90,7 +90,7 @@ module _ (text : List (Option Op)) (near : length text ≤ 2 ^ 26) (inst : Insta
       ++ (shift slots ++ (op.Jalr ra t1 0 ∷ back slots))))))))
 
   has_here : HasAt text (m.running.compiled.begin + m.here) (indirect_words m.running.compiled.around (length (types_of_values (v ∷ below)) + length (belows start.frame.labels)) type (length (type_or_empty (slice_get (under m.running.compiled.context m.running.os).types type)).params))
-  has_here = has_words text inst places k m.running.os (CallIndirect type) rest h m.here (types_of_values (v ∷ below)) m.running.to m.running.there m.running.sits
+  has_here = has_words text inst places k m.running.os (CallIndirect type table_index) rest h m.here (types_of_values (v ∷ below)) m.running.to m.running.there m.running.sits
 
   -- ---- by the row
 
@@ -98,7 +98,7 @@ module _ (text : List (Option Op)) (near : length text ≤ 2 ^ 26) (inst : Insta
   high =
       let room = m.running.room in
       let low = m.running.sits.low in
-      let peak_is = peak_here at (Simple (CallIndirect type) rest) h in
+      let peak_is = peak_here at (Simple (CallIndirect type table_index) rest) h in
       omega arith
 
   pub by_row : (pages : ℕ) → HasRegions pages s → TableHolds inst places s.bytes → ((f : ℕ) → slice_get inst.table v.number ≡ Some (Some f) → places f ≤ length text)
@@ -165,7 +165,7 @@ module _ (text : List (Option Op)) (near : length text ≤ 2 ^ 26) (inst : Insta
     sits : SitsAt text inst places k m.running.os (Some (length m.running.sits.typed.0 + n)) m.running.sits.typed.0 (m.here + 44) rest m.running.to m.running.there
     sits =
         subst (λ (q : Place). SitsAt text inst places k m.running.os q m.running.sits.typed.0 (m.here + 44) rest m.running.to m.running.there) (x.height n)
-        (sits_rest text inst places k m.running.os (CallIndirect type) rest h m.here (types_of_values (v ∷ below)) m.running.to m.running.there m.running.sits m.running.sits.typed.0 m.running.sits.typed.2)
+        (sits_rest text inst places k m.running.os (CallIndirect type table_index) rest h m.here (types_of_values (v ∷ below)) m.running.to m.running.there m.running.sits m.running.sits.typed.0 m.running.sits.typed.2)
 
     whole_is : below ++ belows start.frame.labels ≡ take count below ++ (drop count below ++ belows start.frame.labels)
     whole_is = ap (λ (vs : List Value). vs ++ belows start.frame.labels) (sym (take-append-drop count below)) ∙ append_assoc (take count below) (drop count below) (belows start.frame.labels)
