@@ -1,5 +1,5 @@
--- Heights rise by one at most with each token that is taken.
-use Rattle.std.proofs.Common.{◌≡◌, ◌≤◌, ℕ, zero, suc, ◌+◌, ◌-◌, Bool, true, false, List, [], ◌∷◌, ◌++◌, length, Option, None, Some, refl, sym, ap, ◌∙◌, subst, arith, length-append}
+-- Heights rise with each token that is taken, by no more than a type has parameters or results.
+use Rattle.std.proofs.Common.{◌≡◌, ◌≤◌, ℕ, zero, suc, ◌+◌, ◌-◌, ◌*◌, Bool, true, false, List, [], ◌∷◌, ◌++◌, length, Option, None, Some, refl, sym, ap, ◌∙◌, subst, arith, length-append}
 use Rattle.std.specs.Prelude.{slice_get, nat_lt}
 use Rattle.std.proofs.lemmas.List.{length-reverse}
 use Rattle.wasm_defs.specs.declared.operation.Operation.{Operation}
@@ -15,14 +15,13 @@ use Rattle.wasm_defs.specs.declared.types.FuncType.{FuncType}
 use Rattle.wasm_defs.specs.declared.types.ValType.{ValType}
 use Rattle.wasm_defs.specs.declared.types.ValType.TheVariants.{I32}
 use Rattle.wasm_defs.specs.Places.{higher}
-use Rattle.wasm_defs.specs.Typing.{Types, Signature, Context, Rule, Untyped, Fixed, Stops, Discards, Selects, with_type, only_if, accesses, load_type, load_alignment, store_type, store_alignment, are_labels, function_type, called, rule_of, operated, block_type}
+use Rattle.wasm_defs.specs.Typing.{Types, Signature, Context, Rule, Untyped, Fixed, Stops, Discards, Selects, with_type, only_if, accesses, load_type, load_alignment, store_type, store_alignment, are_labels, function_type, called, rule_of, operated, option_signature, signature_of, block_type}
 use Rattle.body_validator.specs.declared.stack.Opening.{Opening}
 use Rattle.body_validator.specs.declared.stack.Opening.TheVariants.{Block as Blocks, Loop as Loops, If as Ifs, Else as Elses}
 use Rattle.body_validator.specs.Checking.{Operand, Operands, Frame, Frames, ◌>>=◌, guarded, known, take_one, take_all, Taken, take_any, joined, put, apply, applied, label_of, at, enter, fresh, receive, step, height, starts_live, place_of, measured, Checker, step_checker}
 use Rattle.body_validator.specs.Checks.{Checked}
 use Rattle.body_validator.proofs.Options.{through, some_inside, guarded-true}
-use Rattle.wasm_laws.specs.Immediates.{IsSpelledType, TokenIsInRange}
-use Rattle.body_compiler.specs.Steps.{FunctionsAreSmall, IsSmall, AllSmall}
+use Rattle.body_compiler.specs.Steps.{max_lift, FunctionsAreSmall, IsSmall, AllSmall}
 
 -- ---- operands
 
@@ -46,16 +45,16 @@ length-known : (ts : Types) → length (known ts) ≡ length ts
 length-known [] = refl
 length-known (t ∷ ts) = ap suc (length-known ts)
 
--- ---- rules that leave one value at most
+-- ---- rules that leave few values
 
 abbrev pub IsLow : Rule → Type 0
 IsLow Untyped = Unit {0}
-IsLow (Fixed params results) = length results ≤ 1
+IsLow (Fixed params results) = length results ≤ max_lift
 IsLow (Stops params) = Unit {0}
 IsLow Discards = Unit {0}
 IsLow Selects = Unit {0}
 
-apply_low : (r : Rule) (o p : Operands) → IsLow r → apply r o ≡ Some p → length p.own ≤ length o.own + 1
+apply_low : (r : Rule) (o p : Operands) → IsLow r → apply r o ≡ Some p → length p.own ≤ length o.own + max_lift
 apply_low Untyped o p low e = absurd cc
 apply_low (Fixed params results) o p low e =
     let x = through (take_all o.unknown params o.own) (λ own. Some (put o (known results ++ own))) p e in
@@ -63,7 +62,7 @@ apply_low (Fixed params results) o p low e =
     let same = ap (λ (q : Operands). length q.own) (some_inside (put o (known results ++ x.value)) p x.then) in
     let both = length-append (known results) x.value in
     let n = length-known results in
-    let one : length results ≤ 1 = low in
+    let few : length results ≤ max_lift = low in
     omega arith
 apply_low (Stops params) o p low e =
     let x = through (take_all o.unknown params o.own) (λ own. Some (record { own = []; unknown = true; live = false })) p e in
@@ -88,7 +87,7 @@ apply_low Selects o p low e =
 -- ---- instructions
 
 abbrev pub LabelsAreSmall : List Types → Type 0
-LabelsAreSmall labels = (l : ℕ) (ts : Types) → slice_get labels l ≡ Some ts → length ts ≤ 1
+LabelsAreSmall labels = (l : ℕ) (ts : Types) → slice_get labels l ≡ Some ts → length ts ≤ max_lift
 
 type_low : (t : Option Types) (f : Types → Rule) → ((ts : Types) → t ≡ Some ts → IsLow (f ts)) → IsLow (with_type t f)
 type_low None f h = tt
@@ -102,7 +101,7 @@ only_low : (b : Bool) (r : Rule) → IsLow r → IsLow (only_if b r)
 only_low true r h = h
 only_low false r h = tt
 
-operation_low : (op : Operation) → length (operated op).results ≤ 1
+operation_low : (op : Operation) → length (operated op).results ≤ max_lift
 operation_low (Unary t op) = omega arith
 operation_low (Test t) = omega arith
 operation_low (Binary t op) = omega arith
@@ -112,16 +111,16 @@ operation_low (Convert ExtendS) = omega arith
 operation_low (Convert ExtendU) = omega arith
 operation_low (Extend op) = omega arith
 
-called_low : (on_top : Types) (t : Option FuncType) → ((f : FuncType) → t ≡ Some f → length f.results ≤ 1) → IsLow (with_type t (called on_top))
+called_low : (on_top : Types) (t : Option FuncType) → ((f : FuncType) → t ≡ Some f → length f.results ≤ max_lift) → IsLow (with_type t (called on_top))
 called_low on_top None h = tt
 called_low on_top (Some f) h = let n = length-reverse f.results in let k = h f refl in omega arith
 
-function_small : (c : Context) → FunctionsAreSmall c → (f : ℕ) (t : FuncType) → function_type c f ≡ Some t → length t.results ≤ 1
+function_small : (c : Context) → FunctionsAreSmall c → (f : ℕ) (t : FuncType) → function_type c f ≡ Some t → length t.results ≤ max_lift
 function_small c small f t e = by (slice_get c.functions f) refl
   where
-    by : (o : Option ℕ) → slice_get c.functions f ≡ o → length t.results ≤ 1
+    by : (o : Option ℕ) → slice_get c.functions f ≡ o → length t.results ≤ max_lift
     by None is = let h : None ≡ Some t = rw is at e in absurd cc
-    by (Some i) is = let h : slice_get c.types i ≡ Some t = rw is at e in small i t h
+    by (Some i) is = let h : slice_get c.types i ≡ Some t = rw is at e in (small i t h).1
 
 plain_low : (c : Context) (p : Plain) → LabelsAreSmall c.labels → FunctionsAreSmall c → IsLow (rule_of c p)
 plain_low c Unreachable small functions = tt
@@ -131,7 +130,7 @@ plain_low c (BrIf l) small functions = type_low (slice_get c.labels l) (λ ts. F
 plain_low c (BrTable ls l) small functions = type_low (slice_get c.labels l) (λ ts. only_if (are_labels c.labels ts ls) (Stops (I32 ∷ ts))) (λ ts e. only_low (are_labels c.labels ts ls) (Stops (I32 ∷ ts)) tt)
 plain_low c Return small functions = tt
 plain_low c (Call f) small functions = called_low [] (function_type c f) (λ t e. function_small c functions f t e)
-plain_low c (CallIndirect i table) small functions = only_low (nat_lt table c.tables) (with_type (slice_get c.types i) (called (I32 ∷ []))) (called_low (I32 ∷ []) (slice_get c.types i) (λ t e. functions i t e))
+plain_low c (CallIndirect i table) small functions = only_low (nat_lt table c.tables) (with_type (slice_get c.types i) (called (I32 ∷ []))) (called_low (I32 ∷ []) (slice_get c.types i) (λ t e. (functions i t e).1))
 plain_low c Discard small functions = tt
 plain_low c Select small functions = tt
 plain_low c (LocalGet x) small functions = local_low (slice_get c.locals x) _ (λ t. omega arith)
@@ -148,9 +147,9 @@ plain_low c (Operate op) small functions = operation_low op
 
 -- ---- the labels of frames
 
-own_label : (o : Opening) (s : Signature) → IsSmall s → length (label_of o s) ≤ 1
+own_label : (o : Opening) (s : Signature) → IsSmall s → length (label_of o s) ≤ max_lift
 own_label Blocks s h = h.1
-own_label Loops s h = let e = ap (λ (l : Types). length l) h.0 in omega arith
+own_label Loops s h = h.0
 own_label Ifs s h = h.1
 own_label Elses s h = h.1
 
@@ -160,14 +159,14 @@ labels_small c [] none h l ts e = absurd (nothing c.labels l ts none e)
     nothing : (ls : List Types) (l : ℕ) (ts : Types) → ls ≡ [] → slice_get ls l ≡ Some ts → ⊥
     nothing [] l ts n e = absurd cc
     nothing (x ∷ ls) l ts n e = absurd cc
-labels_small c (f ∷ fs) none h zero ts e = subst (λ (x : Types). length x ≤ 1) (some_inside (label_of f.opening f.type) ts e) (own_label f.opening f.type h.0)
+labels_small c (f ∷ fs) none h zero ts e = subst (λ (x : Types). length x ≤ max_lift) (some_inside (label_of f.opening f.type) ts e) (own_label f.opening f.type h.0)
 labels_small c (f ∷ fs) none h (suc l) ts e = labels_small c fs none h.1 l ts e
 
 -- ---- tokens
 
 pub record Rises (before after : Frames) : Type 0 where
   pub small : AllSmall after
-  pub low : height after ≤ height before + 1
+  pub low : height after ≤ height before + max_lift
 
 applied_rises : (r : Rule) (f : Frame) (fs gs : Frames) → IsLow r → AllSmall (f ∷ fs) → applied r (f ∷ fs) ≡ Some gs → Rises (f ∷ fs) gs
 applied_rises r f fs gs low h e =
@@ -175,19 +174,25 @@ applied_rises r f fs gs low h e =
     let more = apply_low r f.operands x.value low x.is in
     subst (λ (g : Frames). Rises (f ∷ fs) g) (some_inside (record f { operands = x.value } ∷ fs) gs x.then) (record { small = h; low = omega arith })
 
-spelled_small : (c : Context) (t : BlockType) (s : Signature) → IsSpelledType t → block_type c t ≡ Some s → IsSmall s
-spelled_small c Empty s h e = subst IsSmall (some_inside _ s e) (refl, omega arith)
-spelled_small c (Value v) s h e = subst IsSmall (some_inside _ s e) (refl, omega arith)
-spelled_small c (Index i) s h e = absurd h
+index_small : (o : Option FuncType) (s : Signature) → ((t : FuncType) → o ≡ Some t → (length t.params ≤ max_lift) × (length t.results ≤ max_lift)) → option_signature o ≡ Some s → IsSmall s
+index_small None s few e = absurd cc
+index_small (Some t) s few e =
+    let k = few t refl in
+    subst IsSmall (some_inside (signature_of t) s e) (omega (arith, k.0, length-reverse t.params), omega (arith, k.1, length-reverse t.results))
+
+type_small : (c : Context) (t : BlockType) (s : Signature) → FunctionsAreSmall c → block_type c t ≡ Some s → IsSmall s
+type_small c Empty s few e = subst IsSmall (some_inside _ s e) (omega arith, omega arith)
+type_small c (Value v) s few e = subst IsSmall (some_inside _ s e) (omega arith, omega arith)
+type_small c (Index i) s few e = index_small (slice_get c.types i) s (few i) e
 
 enter_rises : (opening : Opening) (s : Signature) (params : Types) (f : Frame) (fs gs : Frames) → IsSmall s → AllSmall (f ∷ fs) → enter opening s params (f ∷ fs) ≡ Some gs → Rises (f ∷ fs) gs
 enter_rises opening s params f fs gs small h e =
     let x = through (take_all f.operands.unknown params f.operands.own) (λ own. Some (record { opening = opening; type = s; operands = fresh s f.operands.live } ∷ record f { operands = put f.operands own } ∷ fs)) gs e in
     let less = all_less f.operands.unknown params f.operands.own x.value x.is in
-    let none : length (known s.params) ≡ 0 = length-known s.params ∙ ap (λ (l : Types). length l) small.0 in
+    let some : length (known s.params) ≤ max_lift = omega (arith, length-known s.params, small.0) in
     subst (λ (g : Frames). Rises (f ∷ fs) g) (some_inside _ gs x.then) (record { small = (small, h); low = omega arith })
 
-receive_rises : (results : Types) (f : Frame) (fs : Frames) → length results ≤ 1 → AllSmall fs → Rises (f ∷ fs) (receive results fs)
+receive_rises : (results : Types) (f : Frame) (fs : Frames) → length results ≤ max_lift → AllSmall fs → Rises (f ∷ fs) (receive results fs)
 receive_rises results f [] one h = record { small = tt; low = omega arith }
 receive_rises results f (g ∷ fs) one h =
     let both = length-append (known results) g.operands.own in
@@ -196,7 +201,7 @@ receive_rises results f (g ∷ fs) one h =
 
 turn_rises : (f : Frame) (fs : Frames) → AllSmall (f ∷ fs) → Rises (f ∷ fs) (record { opening = Elses; type = f.type; operands = fresh f.type (starts_live fs) } ∷ fs)
 turn_rises f fs h =
-    let none : length (known f.type.params) ≡ 0 = length-known f.type.params ∙ ap (λ (l : Types). length l) h.0.0 in
+    let some : length (known f.type.params) ≤ max_lift = omega (arith, length-known f.type.params, h.0.0) in
     record { small = h; low = omega arith }
 
 -- in the frames the functions are those of the context
@@ -211,21 +216,21 @@ small_at c fs h i t e = h i t (ap (λ (ts : List FuncType). slice_get ts i) (sym
     types_at c [] = refl
     types_at c (f ∷ fs) = types_at c fs
 
-step_rises : (c : Context) (t : Token) (fs gs : Frames) → c.labels ≡ [] → FunctionsAreSmall c → TokenIsInRange t → AllSmall fs → step c t fs ≡ Some gs → Rises fs gs
-step_rises c t [] gs none functions taken h e = absurd cc
-step_rises c (token.Plain p) (f ∷ fs) gs none functions taken h e =
+step_rises : (c : Context) (t : Token) (fs gs : Frames) → c.labels ≡ [] → FunctionsAreSmall c → AllSmall fs → step c t fs ≡ Some gs → Rises fs gs
+step_rises c t [] gs none functions h e = absurd cc
+step_rises c (token.Plain p) (f ∷ fs) gs none functions h e =
     applied_rises (rule_of (at c (f ∷ fs)) p) f fs gs (plain_low (at c (f ∷ fs)) p (labels_small c (f ∷ fs) none h) (small_at c (f ∷ fs) functions)) h e
-step_rises c (token.Block t) (f ∷ fs) gs none functions taken h e =
+step_rises c (token.Block t) (f ∷ fs) gs none functions h e =
     let x = through (block_type (at c (f ∷ fs)) t) (λ s. enter Blocks s s.params (f ∷ fs)) gs e in
-    enter_rises Blocks x.value x.value.params f fs gs (spelled_small (at c (f ∷ fs)) t x.value taken x.is) h x.then
-step_rises c (token.Loop t) (f ∷ fs) gs none functions taken h e =
+    enter_rises Blocks x.value x.value.params f fs gs (type_small (at c (f ∷ fs)) t x.value (small_at c (f ∷ fs) functions) x.is) h x.then
+step_rises c (token.Loop t) (f ∷ fs) gs none functions h e =
     let x = through (block_type (at c (f ∷ fs)) t) (λ s. enter Loops s s.params (f ∷ fs)) gs e in
-    enter_rises Loops x.value x.value.params f fs gs (spelled_small (at c (f ∷ fs)) t x.value taken x.is) h x.then
-step_rises c (token.If t) (f ∷ fs) gs none functions taken h e =
+    enter_rises Loops x.value x.value.params f fs gs (type_small (at c (f ∷ fs)) t x.value (small_at c (f ∷ fs) functions) x.is) h x.then
+step_rises c (token.If t) (f ∷ fs) gs none functions h e =
     let x = through (block_type (at c (f ∷ fs)) t) (λ s. enter Ifs s (I32 ∷ s.params) (f ∷ fs)) gs e in
-    enter_rises Ifs x.value (I32 ∷ x.value.params) f fs gs (spelled_small (at c (f ∷ fs)) t x.value taken x.is) h x.then
-step_rises c token.Else (f ∷ fs) gs none functions taken h e = subst (λ (g : Frames). Rises (f ∷ fs) g) (guarded-true _ _ gs e).1 (turn_rises f fs h)
-step_rises c token.End (f ∷ fs) gs none functions taken h e = subst (λ (g : Frames). Rises (f ∷ fs) g) (guarded-true _ _ gs e).1 (receive_rises f.type.results f fs h.0.1 h.1)
+    enter_rises Ifs x.value (I32 ∷ x.value.params) f fs gs (type_small (at c (f ∷ fs)) t x.value (small_at c (f ∷ fs) functions) x.is) h x.then
+step_rises c token.Else (f ∷ fs) gs none functions h e = subst (λ (g : Frames). Rises (f ∷ fs) g) (guarded-true _ _ gs e).1 (turn_rises f fs h)
+step_rises c token.End (f ∷ fs) gs none functions h e = subst (λ (g : Frames). Rises (f ∷ fs) g) (guarded-true _ _ gs e).1 (receive_rises f.type.results f fs h.0.1 h.1)
 
 -- ---- the greatest height
 
@@ -239,22 +244,22 @@ place_low (f ∷ fs) most n x y = higher_low f.operands.live (height (f ∷ fs))
 
 pub record Low (check : Checked) (left : ℕ) (bound : ℕ) : Type 0 where
   pub small : AllSmall check.checker.frames
-  pub low : height check.checker.frames + left ≤ bound
-  pub most : check.checker.greatest + left ≤ bound
+  pub low : height check.checker.frames + max_lift * left ≤ bound
+  pub most : check.checker.greatest + max_lift * left ≤ bound
 
-pub low-after : (check later : Checked) (t : Token) (left fewer bound : ℕ) → check.context.labels ≡ [] → FunctionsAreSmall check.context → TokenIsInRange t → fewer + 1 ≤ left → Low check left bound
+pub low-after : (check later : Checked) (t : Token) (left fewer bound : ℕ) → check.context.labels ≡ [] → FunctionsAreSmall check.context → fewer + 1 ≤ left → Low check left bound
     → step_checker check.context t check.checker ≡ Some later.checker → Low later fewer bound
-low-after check later t left fewer bound none functions taken less h e =
+low-after check later t left fewer bound none functions less h e =
     let x = through (step check.context t check.checker.frames) (λ fs. Some (measured check.checker.greatest fs)) later.checker e in
-    let rises = step_rises check.context t check.checker.frames x.value none functions taken h.small x.is in
+    let rises = step_rises check.context t check.checker.frames x.value none functions h.small x.is in
     let low = h.low in
     let most = h.most in
     let rise = rises.low in
     let same = some_inside (measured check.checker.greatest x.value) later.checker x.then in
-    let top : higher (place_of x.value) check.checker.greatest ≤ bound - fewer = place_low x.value check.checker.greatest (bound - fewer) (omega arith) (omega arith) in
-    let fits : fewer ≤ bound = omega arith in
+    let top : higher (place_of x.value) check.checker.greatest ≤ bound - max_lift * fewer = place_low x.value check.checker.greatest (bound - max_lift * fewer) (omega arith) (omega arith) in
+    let fits : max_lift * fewer ≤ bound = omega arith in
     record {
       small = subst (λ (y : Checker). AllSmall y.frames) same rises.small;
-      low = subst (λ (y : Checker). height y.frames + fewer ≤ bound) same (omega arith);
-      most = subst (λ (y : Checker). y.greatest + fewer ≤ bound) same (omega arith);
+      low = subst (λ (y : Checker). height y.frames + max_lift * fewer ≤ bound) same (omega arith);
+      most = subst (λ (y : Checker). y.greatest + max_lift * fewer ≤ bound) same (omega arith);
     }

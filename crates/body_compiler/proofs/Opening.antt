@@ -1,10 +1,14 @@
 -- Labels that are opened: what a block's type says of them.
-use Rattle.std.proofs.Common.{◌≡◌, ◌-◌, ℕ, Bool, true, false, [], length, refl, sym, ap, ◌∙◌, subst, arith}
+use Rattle.std.proofs.Common.{◌≡◌, ◌-◌, ℕ, Bool, true, false, List, [], length, Option, None, Some, sym, ap, ◌∙◌, subst}
+use Rattle.std.specs.Prelude.{slice_get}
+use Rattle.std.proofs.lemmas.List.{length-reverse}
 use Rattle.wasm_defs.specs.declared.token.BlockType.{BlockType}
-use Rattle.wasm_defs.specs.declared.token.BlockType.TheVariants.{Empty, Value, Index}
+use Rattle.wasm_defs.specs.declared.token.BlockType.TheVariants.{Index}
+use Rattle.wasm_defs.specs.declared.types.FuncType.{FuncType}
 use Rattle.wasm_defs.specs.declared.token.Token.TheVariants as token
-use Rattle.wasm_defs.specs.Places.{shape}
-use Rattle.wasm_defs.specs.Typing.{Context}
+use Rattle.wasm_defs.specs.Context.{type_or_empty}
+use Rattle.wasm_defs.specs.Places.{or_empty, shape}
+use Rattle.wasm_defs.specs.Typing.{Context, option_signature}
 use Rattle.body_validator.specs.Checking.{guarded}
 use Rattle.frame_layout.specs.Templates.{Around}
 use Rattle.frame_layout.specs.Functions.{test_words}
@@ -12,32 +16,39 @@ use Rattle.control_emit.specs.Pending.{Shape}
 use Rattle.control_emit.specs.Emits.{Draft, Opens}
 use Rattle.control_emit.specs.Begins.{Begins}
 use Rattle.control_emit.specs.Walks.{Step, end_shape, start_shape}
-use Rattle.wasm_laws.specs.Immediates.{IsSpelledType}
-use Rattle.body_compiler.specs.Steps.{HasResults}
+use Rattle.body_compiler.specs.Steps.{HasParams, HasResults}
 
-no_params : (c : Context) (t : BlockType) → IsSpelledType t → length (shape c t).params ≡ 0
-no_params c Empty s = refl
-no_params c (Value v) s = refl
-no_params c (Index i) s = absurd s
+-- the counts of a type of the module
+pub params_are : (types : List FuncType) (i : ℕ) (o : Option FuncType) → slice_get types i ≡ o → HasParams types (Index i) (length (type_or_empty o).params)
+params_are types i None is c same = ap (λ (x : Option FuncType). length (or_empty (option_signature x)).params) (ap (λ (ts : List FuncType). slice_get ts i) same ∙ is)
+params_are types i (Some f) is c same =
+    ap (λ (x : Option FuncType). length (or_empty (option_signature x)).params) (ap (λ (ts : List FuncType). slice_get ts i) same ∙ is) ∙ length-reverse f.params
 
-ended_at : (h n p r : ℕ) → p ≡ 0 → r ≡ n → end_shape h n ≡ end_shape (h - p) r
-ended_at h n p r e f = let same : h ≡ h - p = omega arith in ap (λ (m : ℕ). end_shape m n) same ∙ ap (λ (m : ℕ). end_shape (h - p) m) (sym f)
+pub results_are : (types : List FuncType) (i : ℕ) (o : Option FuncType) → slice_get types i ≡ o → HasResults types (Index i) (length (type_or_empty o).results)
+results_are types i None is c same = ap (λ (x : Option FuncType). length (or_empty (option_signature x)).results) (ap (λ (ts : List FuncType). slice_get ts i) same ∙ is)
+results_are types i (Some f) is c same =
+    ap (λ (x : Option FuncType). length (or_empty (option_signature x)).results) (ap (λ (ts : List FuncType). slice_get ts i) same ∙ is) ∙ length-reverse f.results
 
-pub opens_block : (w : Around) (c : Context) (t : BlockType) (live : Bool) (h n : ℕ) (a b : Draft) → HasResults t n → Begins w (token.Block t) live h h n a b → Step w c (token.Block t) (guarded live h) a b
-opens_block w c t false h n a b s x = record { shape = end_shape h n; opens = x }
-opens_block w c t true h n a b s x =
-    subst (λ (y : Shape). Opens a b y (λ e. [])) (ended_at h n (length (shape c t).params) (length (shape c t).results) (s c).0 (s c).1) x
+ended_at : (h n p q r : ℕ) → q ≡ p → r ≡ n → end_shape (h - p) n ≡ end_shape (h - q) r
+ended_at h n p q r e f = ap (λ (m : ℕ). end_shape (h - m) n) (sym e) ∙ ap (λ (m : ℕ). end_shape (h - q) m) (sym f)
 
-pub opens_loop : (w : Around) (c : Context) (t : BlockType) (live : Bool) (h : ℕ) (a b : Draft) → IsSpelledType t → Begins w (token.Loop t) live h h 0 a b → Step w c (token.Loop t) (guarded live h) a b
-opens_loop w c t false h a b s x = record { shape = start_shape h 0 (length a.words); opens = x }
-opens_loop w c t true h a b s x =
-    let p = length (shape c t).params in
-    let none = no_params c t s in
-    let same : h ≡ h - p = omega arith in
-    subst (λ (y : Shape). Opens a b y (λ e. [])) (ap (λ (m : ℕ). start_shape m 0 (length a.words)) same ∙ ap (λ (m : ℕ). start_shape (h - p) m (length a.words)) (sym none)) x
+started_at : (h p q here : ℕ) → q ≡ p → start_shape (h - p) p here ≡ start_shape (h - q) q here
+started_at h p q here e = ap (λ (m : ℕ). start_shape (h - m) m here) (sym e)
 
-pub opens_if : (w : Around) (c : Context) (t : BlockType) (live : Bool) (h base n : ℕ) (a b : Draft) → base ≡ h - 1 → HasResults t n → Begins w (token.If t) live h base n a b → Step w c (token.If t) (guarded live h) a b
-opens_if w c t false h base n a b e s x = record { shape = end_shape base n; opens = x }
-opens_if w c t true h base n a b e s x =
+pub opens_block : (w : Around) (c : Context) (t : BlockType) (live : Bool) (h base p n : ℕ) (a b : Draft) → base ≡ h - p → length (shape c t).params ≡ p → length (shape c t).results ≡ n → Begins w (token.Block t) live h base n a b
+    → Step w c (token.Block t) (guarded live h) a b
+opens_block w c t false h base p n a b e k l x = record { shape = end_shape base n; opens = x }
+opens_block w c t true h base p n a b e k l x =
+    subst (λ (y : Shape). Opens a b y (λ e. [])) (ap (λ (m : ℕ). end_shape m n) e ∙ ended_at h n p (length (shape c t).params) (length (shape c t).results) k l) x
+
+pub opens_loop : (w : Around) (c : Context) (t : BlockType) (live : Bool) (h base p : ℕ) (a b : Draft) → base ≡ h - p → length (shape c t).params ≡ p → Begins w (token.Loop t) live h base p a b → Step w c (token.Loop t) (guarded live h) a b
+opens_loop w c t false h base p a b e k x = record { shape = start_shape base p (length a.words); opens = x }
+opens_loop w c t true h base p a b e k x =
+    subst (λ (y : Shape). Opens a b y (λ e. [])) (ap (λ (m : ℕ). start_shape m p (length a.words)) e ∙ started_at h p (length (shape c t).params) (length a.words) k) x
+
+pub opens_if : (w : Around) (c : Context) (t : BlockType) (live : Bool) (h base p n : ℕ) (a b : Draft) → base ≡ h - 1 - p → length (shape c t).params ≡ p → length (shape c t).results ≡ n → Begins w (token.If t) live h base n a b
+    → Step w c (token.If t) (guarded live h) a b
+opens_if w c t false h base p n a b e k l x = record { shape = end_shape base n; opens = x }
+opens_if w c t true h base p n a b e k l x =
     subst (λ (y : Shape). Opens a b y (λ f. test_words w h (length a.words) f.other))
-    (ap (λ (m : ℕ). end_shape m n) e ∙ ended_at (h - 1) n (length (shape c t).params) (length (shape c t).results) (s c).0 (s c).1) x
+    (ap (λ (m : ℕ). end_shape m n) e ∙ ended_at (h - 1) n p (length (shape c t).params) (length (shape c t).results) k l) x

@@ -1,5 +1,5 @@
 -- Each frame that is open has its label, and what is taken names some of these.
-use Rattle.std.proofs.Common.{◌≡◌, ◌<◌, ◌≤◌, ℕ, zero, suc, ◌+◌, Bool, true, false, List, [], ◌∷◌, length, Option, None, Some, refl, sym, ap, ◌∙◌, subst, arith}
+use Rattle.std.proofs.Common.{◌≡◌, ◌<◌, ◌≤◌, ℕ, zero, suc, ◌+◌, ◌*◌, Bool, true, false, List, [], ◌∷◌, length, Option, None, Some, refl, sym, ap, ◌∙◌, subst, arith}
 use Rattle.std.specs.Prelude.{slice_get}
 use Rattle.wasm_defs.specs.declared.token.Plain.{Plain}
 use Rattle.wasm_defs.specs.declared.token.Plain.TheVariants.{Unreachable, Nop, Br, BrIf, BrTable, Return, Call, CallIndirect, Discard, Select, LocalGet, LocalSet, LocalTee, GlobalGet, GlobalSet, Load, Store, MemorySize, MemoryGrow, Const, Operate}
@@ -18,8 +18,7 @@ use Rattle.control_emit.specs.Emits.{Draft}
 use Rattle.control_emit.specs.Walks.{Step}
 use Rattle.control_emit.proofs.Composing.{count-shapes, count-more}
 use Rattle.wasm_defs.specs.Limits.{max_body}
-use Rattle.wasm_laws.specs.Immediates.{TokenIsInRange}
-use Rattle.body_compiler.specs.Steps.{FunctionsAreSmall, NamesPlain, NamesOpen, AreTied}
+use Rattle.body_compiler.specs.Steps.{max_lift, FunctionsAreSmall, NamesPlain, NamesOpen, AreTied}
 use Rattle.body_compiler.proofs.Depths.{checker_depth}
 use Rattle.body_compiler.proofs.Known.{known_after}
 use Rattle.body_compiler.proofs.Lows.{low-after}
@@ -121,10 +120,10 @@ depth_rises (token.If t) n = omega arith
 depth_rises token.Else n = omega arith
 depth_rises token.End n = omega arith
 
-pub tied-after : (w : Around) (c : Context) (t : Token) (q : Place) (a b : Draft) (check later : Checked) (left fewer : ℕ) → fewer + 1 ≤ left → TokenIsInRange t → AreTied a.labels check left → Step w c t q a b
+pub tied-after : (w : Around) (c : Context) (t : Token) (q : Place) (a b : Draft) (check later : Checked) (left fewer : ℕ) → fewer + 1 ≤ left → AreTied a.labels check left → Step w c t q a b
     → step_checker check.context t check.checker ≡ Some later.checker → later.context ≡ check.context → AreTied b.labels later fewer
-tied-after w c t q a b check later left fewer less taken tied s e same =
-    let low = low-after check later t left fewer max_body tied.unlabelled tied.functions taken less (record { small = tied.small; low = tied.low; most = tied.most }) e in
+tied-after w c t q a b check later left fewer less tied s e same =
+    let low = low-after check later t left fewer (max_lift * max_body) tied.unlabelled tied.functions less (record { small = tied.small; low = tied.low; most = tied.most }) e in
     let depth = checker_depth check.context t check.checker later.checker e in
     let rise = depth_rises t (length check.checker.frames) in
     let few = tied.few in

@@ -1,13 +1,13 @@
 //! A body's code: its tokens are read one after the other, checked, and compiled.
 
-ghost use Rattle.std.specs.Prelude.{◌≡◌, ◌≢◌, ◌≤◌, ℕ, ◌+◌, List, [], length, OnOk};
+ghost use Rattle.std.specs.Prelude.{◌≡◌, ◌≢◌, ◌≤◌, ℕ, ◌+◌, ◌*◌, List, [], length, OnOk};
 ghost use Rattle.wasm_defs.specs.Bodies.{Spelled as SpelledGiven};
 ghost use Rattle.wasm_defs.specs.Fields.{Cursor as CursorGiven, Got, byte};
 ghost use Rattle.wasm_defs.specs.Limits.{max_body};
 ghost use Rattle.wasm_defs.specs.Typing.{Context as ContextGiven};
 ghost use Rattle.frame_layout.specs.Slots.{link};
 ghost use Rattle.wasm_laws.specs.Sections.{AreBytes};
-ghost use Rattle.body_compiler.specs.Steps.{AreTied};
+ghost use Rattle.body_compiler.specs.Steps.{max_lift, AreTied};
 ghost use Rattle.body_compiler.specs.Going.{IsCompiling, calling, Goes, Judges, reading_stop};
 ghost use Rattle.control_emit.specs.Emits.{draft as drafted, IsHeld};
 
@@ -107,7 +107,7 @@ pub fn judge_code(
     ensures rows { draft.new.rows ≡ draft.old.rows }
     ensures held { OnOk result (IsHeld (drafted draft.new.labels draft.new.words)) }
     ensures over { OnOk result (check.new.checker.frames ≡ []) }
-    ensures most { OnOk result (check.new.checker.greatest ≤ max_body) }
+    ensures most { OnOk result (check.new.checker.greatest ≤ max_lift * max_body) }
     ensures grows { OnOk result (length draft.old.words ≤ length draft.new.words) }
     ensures judges { (c : ContextGiven) (code : SpelledGiven) (front : List ℕ) → IsCompiling c last fields.old check.old code draft.old.layout front (calling draft.old.labels draft.old.words draft.old.calls.items draft.old.rows) → Judges c code draft.old.layout front result check.new (calling draft.new.labels draft.new.words draft.new.calls.items draft.new.rows) }
 {

@@ -1,8 +1,8 @@
 -- Instructions are read as they are spelled.
-use Rattle.std.proofs.Common.{◌≡◌, ◌≤◌, ℕ, ◌-◌, ℤ, true, eqb, nat_lt, nat_le, ◌||◌, List, [], ◌∷◌, length, Option, Some, None, refl, sym, ap, subst, ◌∙◌}
+use Rattle.std.proofs.Common.{◌≡◌, ◌≤◌, ℕ, ◌-◌, ℤ, true, eqb, nat_lt, nat_le, ◌||◌, List, [], ◌∷◌, length, Option, Some, None, refl, sym, ap, subst, ◌∙◌, suc, ◌+◌, pos, negsuc, inl, inr, arith, false}
 use Rattle.std.specs.Prelude.{slice_get}
 use Rattle.std.specs.List.{All}
-use Rattle.std.proofs.lemmas.Bool.{eqb-true, ltb-false}
+use Rattle.std.proofs.lemmas.Bool.{eqb-true, ltb-false, le-ltb}
 use Rattle.wasm_defs.specs.declared.types.ValType.{ValType}
 use Rattle.wasm_defs.specs.declared.types.ValType.TheVariants.{I32, I64}
 use Rattle.wasm_defs.specs.declared.operation.UnaryOp.TheVariants.{Clz, Ctz, Popcnt}
@@ -27,14 +27,15 @@ use Rattle.wasm_defs.specs.declared.token.Token.{Token}
 use Rattle.wasm_defs.specs.declared.token.Token.TheVariants as token
 use Rattle.wasm_defs.specs.Opcodes.{operations, accesses}
 use Rattle.wasm_defs.specs.Entries.{const_opcode, bits_of}
-use Rattle.wasm_defs.specs.Fields.{Cursor, Got, Reader, ◌>>=◌, byte, number, u32, vector}
-use Rattle.wasm_defs.specs.Items.{Spelling, ◌then◌, exactly, byte_is, vector_is, listed_index_is}
-use Rattle.wasm_defs.specs.Bodies.{plain, with_index, block_type, with_type, label, branch_table, zero_byte, indirect, with_zero, mem_arg, accessed, with_mem_arg, constant, control, variable, accessed_at, memory, operated_at, numeric, instruction}
+use Rattle.wasm_defs.specs.Numbers.{IsLastByte, Spells}
+use Rattle.wasm_defs.specs.Fields.{Cursor, Read, Got, Reader, then_go, ◌>>=◌, byte, number, u32, vector, here}
+use Rattle.wasm_defs.specs.Items.{Spelling, ◌then◌, exactly, byte_is, number_is, vector_is, listed_index_is}
+use Rattle.wasm_defs.specs.Bodies.{plain, with_index, short_type, type_by, block_type, with_type, label, branch_table, zero_byte, indirect, with_zero, mem_arg, accessed, with_mem_arg, constant, control, variable, accessed_at, memory, operated_at, numeric, instruction}
 use Rattle.wasm_defs.specs.Codes.{load_code, store_code, operation_code, listed_vector_is, block_type_is, mem_arg_is, signed_is, plain_is, instruction_is, token_is}
 use Rattle.wasm_laws.specs.Steadiness.{token}
 use Rattle.wasm_laws.proofs.Steady.{IfGot}
 use Rattle.wasm_laws.proofs.Parts.{either_got}
-use Rattle.wasm_laws.proofs.Spelt.{Ready, Found, found_then, found_as, read, Reads, reads_then, reads_on, Spelt}
+use Rattle.wasm_laws.proofs.Spelt.{Ready, Found, found_then, found_here, found_as, read, Reads, reads_then, reads_on, Spelt}
 use Rattle.wasm_laws.proofs.SpeltFields.{Always, byte_spelt, number_spelt, u32_spelt}
 use Rattle.wasm_laws.proofs.SpeltLists.{vector_spelt}
 use Rattle.wasm_laws.proofs.SpeltParts.{placed_spelt, ruled_spelt}
@@ -83,21 +84,62 @@ labels_spelt =
     ruled_spelt _ (λ (xs : ℕ × List ℕ). Always {A = ℕ × ℕ} (xs.0, length xs.1) × All Always xs.1) Always (vector u32 label) (λ xs k. tt) (λ xs k. (tt, λ i d lt. tt))
     (vector_spelt listed_index_is Always Always u32 label u32_spelt label_spelt)
 
+-- the one byte that spells a negative number
+short_last : (less b : ℕ) → IsLastByte true 33 b (negsuc less) → b ∷ [] ≡ (127 - less) ∷ []
+short_last less b (inl h) = let e = h.2 in absurd cc
+short_last less b (inr h) =
+    let e = h.3 in
+    let same : less ≡ 127 - b = cc in
+    let is : b ≡ 127 - less = omega (arith, same, h.0, h.1) in
+    ap (λ (x : ℕ). x ∷ []) is
+
+short_is : (less : ℕ) (bytes : List ℕ) → Spells (negsuc less) 33 true bytes → length bytes ≤ 1 → bytes ≡ (127 - less) ∷ []
+short_is less [] s le = absurd s
+short_is less (b ∷ []) s le = short_last less b s
+short_is less (b ∷ c ∷ bytes) s le = absurd (omega arith)
+
+abbrev TypeFound : Cursor → BlockType → Cursor → Type 0
+TypeFound c t d = Found (block_type_is t) (Always t) c d
+
+short_found : (o less : ℕ) (c d : Cursor) → Found (number_is true 33 (o, negsuc less)) (Unit {0}) c d → d.at - o ≤ 1 → IfGot (TypeFound c) (short_type o less d)
+short_found o less c d f le =
+    let one : f.taken ≡ (127 - less) ∷ [] = short_is less f.taken f.spelled.1 (omega (arith, le, f.at, f.spelled.0)) in
+    either_got _ (eqb less 0x3F) _ _ d (λ e. found_here (block_type_is Empty) _ c d f (one ∙ ap (λ (k : ℕ). (127 - k) ∷ []) (eqb-true less 0x3F e)) tt) (λ no.
+    either_got _ (eqb less 0x00) _ _ d (λ e. found_here (block_type_is (Value I32)) _ c d f (one ∙ ap (λ (k : ℕ). (127 - k) ∷ []) (eqb-true less 0x00 e)) tt) (λ no.
+    either_got _ (eqb less 0x01) _ _ d (λ e. found_here (block_type_is (Value I64)) _ c d f (one ∙ ap (λ (k : ℕ). (127 - k) ∷ []) (eqb-true less 0x01 e)) tt) (λ no.
+    either_got _ (eqb less 0x02 || eqb less 0x03) _ _ d (λ e. tt) (λ no. tt))))
+
+type_found : (o : ℕ) (n : ℤ) (c d : Cursor) → Found (number_is true 33 (o, n)) (Unit {0}) c d → IfGot (TypeFound c) (type_by o (d.at - o) n d)
+type_found o (pos i) c d f = found_as (block_type_is (Index i)) _ c d f (λ at bytes s. s.1) tt
+type_found o (negsuc less) c d f = either_got _ (nat_lt 1 (d.at - o)) _ _ d (λ long. tt) (λ short. short_found o less c d f (ltb-false 1 (d.at - o) short))
+
 block_type_found : (c : Cursor) → Ready c → IfGot (λ t d. Found (block_type_is t) (Always t) c d) (block_type c)
-unfolding block_type
-block_type_found c ready =
-    read _ _ byte _ _ c byte_spelt ready (λ b d found ready.
-    either_got _ (eqb b.1 0x40) _ _ d (λ e. found_as (block_type_is Empty) _ c d found (λ at bytes s. s.1 ∙ ap (λ (n : ℕ). n ∷ []) (eqb-true b.1 0x40 e)) tt) (λ no.
-    either_got _ (eqb b.1 0x7F) _ _ d (λ e. found_as (block_type_is (Value I32)) _ c d found (λ at bytes s. s.1 ∙ ap (λ (n : ℕ). n ∷ []) (eqb-true b.1 0x7F e)) tt) (λ no.
-    either_got _ (eqb b.1 0x7E) _ _ d (λ e. found_as (block_type_is (Value I64)) _ c d found (λ at bytes s. s.1 ∙ ap (λ (n : ℕ). n ∷ []) (eqb-true b.1 0x7E e)) tt) (λ no.
-    either_got _ (eqb b.1 0x7D || eqb b.1 0x7C || nat_lt b.1 0x40 || nat_le 0x80 b.1) _ _ d (λ e. tt) (λ no. tt)))))
+unfolding block_type here
+block_type_found c ready = read _ _ (number true 33) _ _ c (number_spelt true 33) ready (λ n d found ready. type_found n.0 n.1 c d found)
+
+-- what is done with the number
+abbrev pub typed_by : ℕ × ℤ → Reader BlockType
+typed_by n = here >>= (λ behind. type_by n.0 (behind - n.0) n.1)
+
+short_by : (at bytes less : ℕ) (c : Cursor) (t : BlockType) → bytes ≤ 1 → short_type at less c ≡ Got t c → type_by at bytes (negsuc less) c ≡ Got t c
+short_by at bytes less c t le h = rw (le-ltb 1 bytes le) h
+
+short_reads : (less b : ℕ) (t : BlockType) → Spells (negsuc less) 33 true (b ∷ []) → ((o : ℕ) (c : Cursor) → short_type o less c ≡ Got t c) → Reads block_type t (exactly (b ∷ []))
+unfolding block_type here
+short_reads less b t s h = record {
+  by = λ at end front back fits e.
+      let got = ((number_spelt true 33).complete (at, negsuc less) tt).by at end front back fits (refl, subst (Spells (negsuc less) 33 true) (sym e) s) in
+      let behind : Cursor = record { at = at + length front; rest = back; end = end } in
+      ap (λ (z : Read (ℕ × ℤ)). then_go z typed_by) got ∙ short_by at (at + length front - at) less behind t (omega (arith, ap length e)) (h at behind);
+}
 
 block_type_read : (t : BlockType) → Reads block_type t (block_type_is t)
-unfolding block_type
-block_type_read Empty = reads_only byte _ 0x40 Empty (exactly (0x40 ∷ [])) (byte_reads 0x40) (λ o c. refl)
-block_type_read (Value I32) = reads_only byte _ 0x7F (Value I32) (exactly (0x7F ∷ [])) (byte_reads 0x7F) (λ o c. refl)
-block_type_read (Value I64) = reads_only byte _ 0x7E (Value I64) (exactly (0x7E ∷ [])) (byte_reads 0x7E) (λ o c. refl)
-block_type_read (Index i) = record { by = λ at end front back fits k. absurd k }
+unfolding block_type here
+block_type_read Empty = short_reads 0x3F 0x40 Empty (inr (omega arith, omega arith, omega arith, refl)) (λ o c. refl)
+block_type_read (Value I32) = short_reads 0x00 0x7F (Value I32) (inr (omega arith, omega arith, omega arith, refl)) (λ o c. refl)
+block_type_read (Value I64) = short_reads 0x01 0x7E (Value I64) (inr (omega arith, omega arith, omega arith, refl)) (λ o c. refl)
+block_type_read (Index i) =
+    reads_only (number true 33) _ (pos i) (Index i) (block_type_is (Index i)) (λ o. (number_spelt true 33).complete (o, pos i) tt) (λ o c. refl)
 
 pub block_type_spelt : Spelt block_type_is Always block_type
 block_type_spelt = record { sound = block_type_found; complete = λ t k. block_type_read t }

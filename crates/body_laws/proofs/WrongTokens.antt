@@ -1,5 +1,5 @@
 -- Where no token begins, the fault stands at the first field that isn't spelled.
-use Rattle.std.proofs.Common.{◌≡◌, ◌⊎◌, inl, inr, ℕ, zero, suc, ◌+◌, Bool, true, false, cond, nat_lt, nat_le, eqb, ◌||◌, List, [], ◌∷◌, ◌++◌, length, replicate, Option, Some, None, refl, sym, ap, subst, ◌∙◌, append_assoc, arith, length-append}
+use Rattle.std.proofs.Common.{◌≡◌, ◌⊎◌, inl, inr, ℕ, zero, suc, ◌+◌, ◌-◌, ℤ, pos, negsuc, Bool, true, false, cond, nat_lt, nat_le, eqb, ◌||◌, List, [], ◌∷◌, ◌++◌, length, replicate, Option, Some, None, refl, sym, ap, subst, ◌∙◌, append_assoc, arith, length-append}
 use Rattle.std.proofs.lemmas.List.{append-nil}
 use Rattle.wasm_defs.specs.declared.fault.Kind.{Kind}
 use Rattle.wasm_defs.specs.declared.fault.Kind.TheVariants.{Malformed, Unsupported}
@@ -15,9 +15,10 @@ use Rattle.wasm_defs.specs.declared.token.Plain.TheVariants as plains
 use Rattle.wasm_defs.specs.declared.token.Token.{Token}
 use Rattle.wasm_defs.specs.declared.token.Token.TheVariants as token
 use Rattle.wasm_defs.specs.Entries.{bits_of}
-use Rattle.wasm_defs.specs.Fields.{Cursor, Read, Got, Fault, Reader, then_go, ◌>>=◌, done, refused, repeated, room_of, window, past, first_of, byte, number, u32, vector}
+use Rattle.wasm_defs.specs.Fields.{Cursor, Read, Got, Fault, Reader, then_go, ◌>>=◌, done, refused, repeated, room_of, window, past, first_of, from_reading, byte, number, here, u32, vector}
+use Rattle.wasm_defs.specs.Numbers.{Reading, Number, CutOff, Bad, number_at}
 use Rattle.wasm_defs.specs.Items.{Spelling, ◌then◌, exactly, byte_is, u32_is, number_is, listed_index_is}
-use Rattle.wasm_defs.specs.Bodies.{with_index, block_type, with_type, label, branch_table, zero_byte, indirect, with_zero, mem_arg, accessed, with_mem_arg, constant, control, variable, accessed_at, memory, operated_at, numeric, instruction}
+use Rattle.wasm_defs.specs.Bodies.{with_index, short_type, type_by, block_type, with_type, label, branch_table, zero_byte, indirect, with_zero, mem_arg, accessed, with_mem_arg, constant, control, variable, accessed_at, memory, operated_at, numeric, instruction}
 use Rattle.wasm_defs.specs.Codes.{block_type_is, instruction_is}
 use Rattle.wasm_defs.proofs.NumberLaws.{AreBytes}
 use Rattle.wasm_laws.specs.Sections as sections
@@ -28,7 +29,7 @@ use Rattle.wasm_laws.proofs.Parts.{then_got, got_map}
 use Rattle.wasm_laws.proofs.Spelt.{cursor, Ready, Found, later, found_nothing, found_then, found_here}
 use Rattle.wasm_laws.proofs.SpeltFields.{Always, byte_spelt, number_spelt, u32_spelt}
 use Rattle.body_laws.specs.WrongTokens.{Field, Index, Typed, Zero, Signed, field_is, fields_are, Following, Fields, Labels, following_is, IsWrongField, AreWrongFields, IsWrongFollowing, IsWrongToken}
-use Rattle.body_laws.proofs.SpeltTokens.{block_type_spelt, zero_spelt, token_read}
+use Rattle.body_laws.proofs.SpeltTokens.{typed_by, block_type_spelt, zero_spelt, token_read}
 use Rattle.body_laws.proofs.WrongFields.{IfStops, stops_then, stops_as, got_as, Fits, fits_behind, got_of, read_wrong, fault_at, cut_place, number_place, u32_place}
 
 -- ---- readers of fields
@@ -89,16 +90,22 @@ block_tested at d r false false true fourth e = absurd cc
 block_tested at d r false false false true e = fault_at at (record { offset = at; kind = Unsupported }) r refl e
 block_tested at d r false false false false e = fault_at at (record { offset = at; kind = Malformed }) r refl e
 
-block_place : (c : Cursor) (r : Refusal) → block_type c ≡ Fault r → r.offset ≡ c.at
-unfolding block_type byte
-block_place c r e = of (window c) e
-  where
-    test : ℕ × ℕ → Reader BlockType
-    test b = cond (eqb b.1 0x40) (done Empty) (cond (eqb b.1 0x7F) (done (Value I32)) (cond (eqb b.1 0x7E) (done (Value I64)) (cond (eqb b.1 0x7D || eqb b.1 0x7C || nat_lt b.1 0x40 || nat_le 0x80 b.1) (refused Unsupported b.0) (refused Malformed b.0))))
+type_tested : (at less : ℕ) (d : Cursor) (r : Refusal) (long : Bool) → cond long (refused Malformed at) (short_type at less) d ≡ Fault r → r.offset ≡ at
+type_tested at less d r true e = fault_at at (record { offset = at; kind = Malformed }) r refl e
+type_tested at less d r false e = block_tested at d r (eqb less 0x3F) (eqb less 0x00) (eqb less 0x01) (eqb less 0x02 || eqb less 0x03) e
 
-    of : (w : List ℕ) → then_go (first_of c w) test ≡ Fault r → r.offset ≡ c.at
-    of [] e = cut_place (nat_le (room_of c) (length c.rest)) c test r e
-    of (b ∷ w) e = block_tested c.at (past c 1) r (eqb b 0x40) (eqb b 0x7F) (eqb b 0x7E) (eqb b 0x7D || eqb b 0x7C || nat_lt b 0x40 || nat_le 0x80 b) e
+type_place : (at bytes : ℕ) (n : ℤ) (d : Cursor) (r : Refusal) → type_by at bytes n d ≡ Fault r → r.offset ≡ at
+type_place at bytes (pos i) d r e = absurd cc
+type_place at bytes (negsuc less) d r e = type_tested at less d r (nat_lt 1 bytes) e
+
+block_place : (c : Cursor) (r : Refusal) → block_type c ≡ Fault r → r.offset ≡ c.at
+unfolding block_type number here
+block_place c r e = of (number_at true 33 (window c)) e
+  where
+    of : (x : Reading) → then_go (from_reading c x) typed_by ≡ Fault r → r.offset ≡ c.at
+    of (Number n len) e = type_place c.at ((past c len).at - c.at) n (past c len) r e
+    of CutOff e = cut_place (nat_le (room_of c) (length c.rest)) c typed_by r e
+    of Bad e = fault_at c.at (record { offset = c.at; kind = Malformed }) r refl e
 
 block_field : FieldIs Typed block_type
 block_field = record {

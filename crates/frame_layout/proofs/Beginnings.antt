@@ -17,7 +17,7 @@ use Rattle.frame_layout.specs.Macros.{ra, t0, t1, s0, s5, forward, const_32, sto
 use Rattle.frame_layout.specs.Templates.{room_words, zero_locals, prologue}
 use Rattle.frame_layout.specs.Laws.{with_slot, IsFrame, Does, TrapsAt, Enters, PrologueLaw, ExhaustionLaw}
 use Rattle.frame_layout.proofs.Standing.{has_first, has_rest}
-use Rattle.frame_layout.proofs.Constants.{block_leaves, const_32_leaves}
+use Rattle.frame_layout.proofs.Constants.{block_leaves, const_33_leaves}
 use Rattle.frame_layout.proofs.SlotLaws.{store_slot_leaves, slot_written, slot_other, size_stays}
 use Rattle.frame_layout.proofs.Steps.{does_leave, does_then, does_with, does_count, does_nothing, leaves_then, frame_stays, frame_written}
 use Rattle.frame_layout.proofs.Jumps.{passed_does, taken_does, trap_traps, traps_after}
@@ -28,7 +28,7 @@ use Rattle.frame_layout.proofs.Zeroing.{zeroed, zeroed_size, zeroed_below, zeroe
 abbrev pub address_words : (r k : ℕ) → List Op
 address_words r k = const_32 r (8 * k) ++ (Reg Add r r s0 ∷ [])
 
-pub sum_leaves : (code : List (Option Op)) (s : State) (i base r k : ℕ) → (one : Leaves code 5 s s.bytes (suc r) (8 * k)) → HasAt code (i + 5) (Reg Add (suc r) (suc r) s0 ∷ []) → s.pc ≡ place i → IsFrame base s → s0 ≢ suc r → k < 2 ^ 24 → base ≤ max_slots → Leaves code 6 s s.bytes (suc r) (address (base + k))
+pub sum_leaves : (code : List (Option Op)) (s : State) (i base r k : ℕ) → (one : Leaves code 5 s s.bytes (suc r) (8 * k)) → HasAt code (i + 5) (Reg Add (suc r) (suc r) s0 ∷ []) → s.pc ≡ place i → IsFrame base s → s0 ≢ suc r → k < 2 ^ 30 → base ≤ max_slots → Leaves code 6 s s.bytes (suc r) (address (base + k))
 unfolding computed
 sum_leaves code s i base r k one has at frame differs small inside =
     let pc_one = one.pc_is in
@@ -38,17 +38,17 @@ sum_leaves code s i base r k one has at frame differs small inside =
     let same = eq-eqb (suc r) (suc r) refl in
     leaves_then one (block_leaves code (Reg Add (suc r) (suc r) s0 ∷ []) (i + 5) one.end (suc r) (address (base + k)) (rw same refl) has (omega arith) (rw same sum))
 
-address_leaves : (code : List (Option Op)) (s : State) (i base r k : ℕ) → HasAt code i (address_words (suc r) k) → s.pc ≡ place i → IsFrame base s → s0 ≢ suc r → k < 2 ^ 24 → base ≤ max_slots → Leaves code 6 s s.bytes (suc r) (address (base + k))
+address_leaves : (code : List (Option Op)) (s : State) (i base r k : ℕ) → HasAt code i (address_words (suc r) k) → s.pc ≡ place i → IsFrame base s → s0 ≢ suc r → k < 2 ^ 30 → base ≤ max_slots → Leaves code 6 s s.bytes (suc r) (address (base + k))
 address_leaves code s i base r k has at frame differs small inside =
     let front = const_32 (suc r) (8 * k) in
     let back = Reg Add (suc r) (suc r) s0 ∷ [] in
-    let one = const_32_leaves code s i (suc r) (8 * k) (has_first code i front back has) at (λ e. absurd cc) (omega arith) in
+    let one = const_33_leaves code s i (suc r) (8 * k) (has_first code i front back has) at (λ e. absurd cc) (omega arith) in
     sum_leaves code s i base r k one (has_rest code i front back has) at frame differs small inside
 
 -- ---- room for so many slots
 
 -- behind the test, and past the trap
-module _ (code : List (Option Op)) (s : State) (i base slots : ℕ) (has : HasAt code i (room_words slots)) (at : s.pc ≡ place i) (frame : IsFrame base s) (small : slots < 2 ^ 24) (inside : base ≤ max_slots) where
+module _ (code : List (Option Op)) (s : State) (i base slots : ℕ) (has : HasAt code i (room_words slots)) (at : s.pc ≡ place i) (frame : IsFrame base s) (small : slots < 2 ^ 30) (inside : base ≤ max_slots) where
   abbrev test : List Op
   test = Branch Bgeu s5 t0 (forward 16) ∷ []
 

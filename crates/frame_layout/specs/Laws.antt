@@ -113,7 +113,7 @@ PrologueLaw =
 abbrev pub ExhaustionLaw : Type 0
 ExhaustionLaw =
     (code : List (Option Op)) (s : State) (i base : ℕ) (l : Layout) → HasAt code i (prologue l) → s.pc ≡ place i → IsFrame base s
-    → base ≤ max_slots → need l < 2 ^ 24 → max_slots < base + need l → TrapsAt code 10 10 8 s
+    → base ≤ max_slots → need l < 2 ^ 30 → max_slots < base + need l → TrapsAt code 10 10 8 s
 
 -- so many results go from their operands' slots to the frame's first ones, from the one of an index on
 abbrev pub with_results : Layout → (base results index : ℕ) → Bytes → Bytes

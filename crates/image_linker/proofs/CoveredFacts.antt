@@ -11,9 +11,9 @@ use Rattle.wasm_defs.specs.Trees.{Seq, Nothing, Simple, Block, Loop, If, IfElse}
 use Rattle.wasm_defs.specs.Faults.{tokens_of, read_of, context_at, ending_fault, IsValidCode, Module, IsModule}
 use Rattle.wasm_defs.specs.Instances.{rows_of, elements_of, instance_of, exports_of, named, start_of}
 use Rattle.wasm_laws.specs.Behind.{AreValidIn}
-use Rattle.wasm_laws.specs.Kept.{TypesAreSmall, BodyIsSmall, BodiesAreSmall, SpacesAreSmall, ConstantsFit, AreThere, TakesNothing}
+use Rattle.wasm_laws.specs.Kept.{TypeIsSmall, TypesAreSmall, BodyIsSmall, BodiesAreSmall, SpacesAreSmall, ConstantsFit, AreThere, TakesNothing}
 use Rattle.wasm_laws.specs.Sections.{AreBytes}
-use Rattle.wasm_laws.specs.Immediates.{IsSpelledType, IsInRange, TreeIsInRange}
+use Rattle.wasm_laws.specs.Immediates.{IsInRange, TreeIsInRange}
 use Rattle.wasm_laws.proofs.Behind.{bodies_are_valid}
 use Rattle.wasm_laws.proofs.Bytes.{each_byte, HaveBytes, bodies_have_bytes}
 use Rattle.wasm_laws.proofs.Constants.{constants_fit}
@@ -28,7 +28,8 @@ use Rattle.wasm_laws.proofs.Spaces.{spaces_are_small}
 use Rattle.wasm_laws.proofs.Starts.{start_is_right}
 use Rattle.wasm_laws.proofs.Typed.{functions_of-counts}
 use Rattle.sim_frames.specs.Covered.{IsCoveredStep, IsCovered}
-use Rattle.wasm_defs.specs.Typing.{Types, Context, inside, function_type}
+use Rattle.wasm_defs.specs.Places.{or_empty}
+use Rattle.wasm_defs.specs.Typing.{Types, Context, inside, option_signature, function_type}
 use Rattle.std.specs.Prelude.{slice_get}
 use Rattle.std.proofs.lemmas.List.{length-reverse}
 use Rattle.std.proofs.lemmas.Option.{slice_get_within}
@@ -37,7 +38,7 @@ use Rattle.wasm_defs.specs.declared.token.BlockType.{BlockType}
 use Rattle.wasm_defs.specs.declared.token.BlockType.TheVariants.{Empty, Value, Index}
 use Rattle.wasm_defs.specs.declared.token.Token.{Token}
 use Rattle.wasm_defs.specs.declared.token.Token.TheVariants as token
-use Rattle.sim_frames.proofs.Lows.{TakesOne, IsFew, FewIn, body_low, tokens_spelled}
+use Rattle.sim_frames.proofs.Lows.{max_lift, TakesFew, IsFew, FewIn, body_low, tokens_spelled}
 use Rattle.image_linker.proofs.CoveredModules.{IsCoveredBody, AreCoveredBodies, IsCoveredModule}
 use Rattle.image_linker.proofs.Imported.{ImportsFirst, imports_come_first}
 use Rattle.image_linker.proofs.SegmentFacts.{segments_are_held}
@@ -70,57 +71,66 @@ covered_step (Const I32 n) range = constant_fits n range
 covered_step (Const I64 n) range = long_constant_fits n range
 covered_step (Operate op) range = tt
 
-takes_one : (c : Context) (type : BlockType) → IsSpelledType type → TakesOne c type
-takes_one c Empty is = (omega arith, omega arith)
-takes_one c (Value t) is = (omega arith, omega arith)
-takes_one c (Index x) is = absurd is
+type_at : (ts : List FuncType) → TypesAreSmall ts → (i : ℕ) (t : FuncType) → slice_get ts i ≡ Some t → TypeIsSmall t
+type_at [] small i t e = absurd cc
+type_at (u ∷ ts) small zero t e = let same : u ≡ t = cc in subst TypeIsSmall same small.0
+type_at (u ∷ ts) small (suc i) t e = type_at ts small.1 i t e
 
-covered_tree : (c : Context) (tree : Seq) → TreeIsInRange tree → IsCovered tree × IsFew c tree
-covered_tree c Nothing range = (tt, tt)
-covered_tree c (Simple p rest) range =
-    let step = covered_step p range.0 in
-    let more = covered_tree c rest range.1 in
-    ((step, more.0), (step, more.1))
-covered_tree c (Block type body rest) range =
-    let first = covered_tree c body range.1 in
-    let more = covered_tree c rest range.2 in
-    ((first.0, more.0), (takes_one c type range.0, first.1, more.1))
-covered_tree c (Loop type body rest) range =
-    let first = covered_tree c body range.1 in
-    let more = covered_tree c rest range.2 in
-    ((first.0, more.0), (takes_one c type range.0, first.1, more.1))
-covered_tree c (If type body rest) range =
-    let first = covered_tree c body range.1 in
-    let more = covered_tree c rest range.2 in
-    ((first.0, more.0), (takes_one c type range.0, first.1, more.1))
-covered_tree c (IfElse type body other rest) range =
-    let first = covered_tree c body range.1 in
-    let second = covered_tree c other range.2 in
-    let more = covered_tree c rest range.3 in
-    ((first.0, second.0, more.0), (takes_one c type range.0, first.1, second.1, more.1))
+small_at : (ts : List FuncType) → TypesAreSmall ts → (i : ℕ) (t : FuncType) → slice_get ts i ≡ Some t → length t.results ≤ max_lift
+small_at ts small i t e = let k = type_at ts small i t e in omega (arith, k.results)
 
-small_at : (ts : List FuncType) → TypesAreSmall ts → (i : ℕ) (t : FuncType) → slice_get ts i ≡ Some t → length t.results ≤ 1
-small_at [] small i t e = absurd cc
-small_at (u ∷ ts) small zero t e = let same : u ≡ t = cc in subst (λ (v : FuncType). length v.results ≤ 1) same small.0.results
-small_at (u ∷ ts) small (suc i) t e = small_at ts small.1 i t e
-
-few_functions : (c : Context) → TypesAreSmall c.types → (f : ℕ) (t : FuncType) → function_type c f ≡ Some t → length t.results ≤ 1
+few_functions : (c : Context) → TypesAreSmall c.types → (f : ℕ) (t : FuncType) → function_type c f ≡ Some t → length t.results ≤ max_lift
 few_functions c small f t e = by (slice_get c.functions f) refl
   where
-    by : (o : Option ℕ) → slice_get c.functions f ≡ o → length t.results ≤ 1
+    by : (o : Option ℕ) → slice_get c.functions f ≡ o → length t.results ≤ max_lift
     by None is = let h : None ≡ Some t = rw is at e in absurd cc
     by (Some i) is = let h : slice_get c.types i ≡ Some t = rw is at e in small_at c.types small i t h
 
-few_in : (c : Context) → TypesAreSmall c.types → c.labels ≡ [] → length c.results ≤ 1 → FewIn (inside c c.results)
+few_in : (c : Context) → TypesAreSmall c.types → c.labels ≡ [] → length c.results ≤ max_lift → FewIn (inside c c.results)
 few_in c small none one = record { labels = labels; functions = few_functions c small; types = small_at c.types small }
   where
-    none_there : (ls : List Types) (l : ℕ) (ts : Types) → ls ≡ [] → slice_get ls l ≡ Some ts → length ts ≤ 1
+    none_there : (ls : List Types) (l : ℕ) (ts : Types) → ls ≡ [] → slice_get ls l ≡ Some ts → length ts ≤ max_lift
     none_there [] l ts e is = absurd cc
     none_there (x ∷ xs) l ts e is = absurd cc
 
-    labels : (l : ℕ) (ts : Types) → slice_get (c.results ∷ c.labels) l ≡ Some ts → length ts ≤ 1
-    labels zero ts is = let same : c.results ≡ ts = cc in subst (λ (us : Types). length us ≤ 1) same one
+    labels : (l : ℕ) (ts : Types) → slice_get (c.results ∷ c.labels) l ≡ Some ts → length ts ≤ max_lift
+    labels zero ts is = let same : c.results ≡ ts = cc in subst (λ (us : Types). length us ≤ max_lift) same one
     labels (suc l) ts is = none_there c.labels l ts none is
+
+few_of : (o : Option FuncType) → ((t : FuncType) → o ≡ Some t → TypeIsSmall t) → (length (or_empty (option_signature o)).params ≤ max_lift) × (length (or_empty (option_signature o)).results ≤ max_lift)
+few_of None small = (omega arith, omega arith)
+few_of (Some t) small =
+    let k = small t refl in
+    (omega (arith, k.params, length-reverse t.params), omega (arith, k.results, length-reverse t.results))
+
+takes_few : (c : Context) → TypesAreSmall c.types → (type : BlockType) → TakesFew c type
+takes_few c types Empty = (omega arith, omega arith)
+takes_few c types (Value t) = (omega arith, omega arith)
+takes_few c types (Index x) = few_of (slice_get c.types x) (type_at c.types types x)
+
+covered_tree : (c : Context) → TypesAreSmall c.types → (tree : Seq) → TreeIsInRange tree → IsCovered tree × IsFew c tree
+covered_tree c types Nothing range = (tt, tt)
+covered_tree c types (Simple p rest) range =
+    let step = covered_step p range.0 in
+    let more = covered_tree c types rest range.1 in
+    ((step, more.0), (step, more.1))
+covered_tree c types (Block type body rest) range =
+    let first = covered_tree c types body range.1 in
+    let more = covered_tree c types rest range.2 in
+    ((first.0, more.0), (takes_few c types type, first.1, more.1))
+covered_tree c types (Loop type body rest) range =
+    let first = covered_tree c types body range.1 in
+    let more = covered_tree c types rest range.2 in
+    ((first.0, more.0), (takes_few c types type, first.1, more.1))
+covered_tree c types (If type body rest) range =
+    let first = covered_tree c types body range.1 in
+    let more = covered_tree c types rest range.2 in
+    ((first.0, more.0), (takes_few c types type, first.1, more.1))
+covered_tree c types (IfElse type body other rest) range =
+    let first = covered_tree c types body range.1 in
+    let second = covered_tree c types other range.2 in
+    let more = covered_tree c types rest range.3 in
+    ((first.0, second.0, more.0), (takes_few c types type, first.1, second.1, more.1))
 
 tokens_length : (ts : List (ℕ × Token)) → length (tokens_of ts) ≡ length ts
 tokens_length [] = refl
@@ -133,7 +143,7 @@ module _ (items : List Item) (types : TypesAreSmall (context_of items).types) wh
       let tokens = (read_of b).code.tokens in
       let range = tree_is_in_range b.first b.bytes tree (each_byte b.bytes bytes) valid.tree_is in
       let ty = function_is_small (context_of items) (import_count items + k) types in
-      let tree_is = covered_tree c tree range in
+      let tree_is = covered_tree c types tree range in
       let low = body_low c c tree refl (few_in c types refl (omega (arith, ty.results, length-reverse (type_of_function (context_of items) (import_count items + k)).results))) tree_is.1 in
       let count = ap length valid.tree_is in
       let spelt = tokens_spelled tree (token.End ∷ []) in

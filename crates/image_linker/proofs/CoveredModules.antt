@@ -21,7 +21,7 @@ pub record IsCoveredBody (items : List Item) (k : ℕ) (b : Body) (tree : Seq) :
   pub covered : IsCovered tree
   pub typed : IsBody (context_at items k b) tree
   pub few_params : length (function_of items k b tree).ty.params ≤ max_params
-  pub fits : need (layout_of items k b tree) < 2 ^ 24
+  pub fits : need (layout_of items k b tree) < 2 ^ 30
 
 -- the bodies, of which the first is the k-th
 abbrev pub AreCoveredBodies : List Item → (k : ℕ) → List Body → List Seq → Type 0

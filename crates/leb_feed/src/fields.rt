@@ -206,7 +206,7 @@ impl<'a> Fields<'a> {
         Ok((at, n as u32))
     }
 
-    /// A signed number of 32 or 64 bits.
+    /// A signed number of so many bits: 32, 33 or 64.
     #[inline]
     pub fn signed(&mut self, bits: u32) -> Result<(u64, i64), Stop>
         requires some_bits { 1 ≤ bits }

@@ -42,8 +42,18 @@ const FIBONACCI: &str = "01 06 01 60 01 7F 01 7F 03 02 01 00 07 05 01 01 66 00 0
 const DIVIDING: &str = "01 09 02 60 01 7F 01 7F 60 00 00 03 03 02 00 00 07 05 01 01 66 00 00 \
                         0A 13 02 09 00 20 00 10 01 41 01 6A 0B 07 00 41 0A 20 00 6D 0B";
 
+/// A block by the function's own type takes the argument, and adds one to it.
+const BLOCK: &str = "01 06 01 60 01 7F 01 7F 03 02 01 00 07 05 01 01 66 00 00 \
+                     0A 0C 01 0A 00 20 00 02 00 41 01 6A 0B 0B";
+
+/// A loop by that type takes the argument, and one less at each turn, down to zero.
+const LOOP: &str = "01 06 01 60 01 7F 01 7F 03 02 01 00 07 05 01 01 66 00 00 \
+                    0A 16 01 14 00 20 00 03 00 21 00 20 00 41 7F 6A 22 00 20 00 0D 00 0B 0B";
+
 /// Modules, what they are asked for, and the answers.
-const ROWS: [(&str, &str, &str); 18] = [
+const ROWS: [(&str, &str, &str); 20] = [
+    (BLOCK, "f i32:41", "0 i32 42\n"),
+    (LOOP, "f i32:5", "0 i32 0\n"),
     (COUNTDOWN, "f i32:0", "0 ok\n"),
     (COUNTDOWN, "f i32:65534", "0 ok\n"),
     (COUNTDOWN, "f i32:65535", "4 trap call stack exhausted\n"),

@@ -148,7 +148,7 @@ const FAULTS: [(&str, &str); 49] = [
 ];
 
 /// The same of tables, memories, globals and element segments, of calls, and of instructions that are left out.
-const FURTHER_FAULTS: [(&str, &str); 40] = [
+const FURTHER_FAULTS: [(&str, &str); 44] = [
     // At a body's last byte an opcode is malformed, whether its instruction is whole or not; one that is left out is unsupported.
     (
         "01 04 01 60 00 00 03 02 01 00 0A 04 01 02 00 0F",
@@ -233,6 +233,23 @@ const FURTHER_FAULTS: [(&str, &str); 40] = [
     (
         "01 04 01 60 00 00 03 02 01 00 0A 0C 01 0A 00 41 00 04 7F 41 01 0B 1A 0B",
         "invalid at 29",
+    ),
+    // Types of blocks: one that isn't there, a parameter that is wanting, 40 in two bytes, and one of floats.
+    (
+        "01 06 01 60 01 7F 01 7F 03 02 01 00 07 05 01 01 66 00 00 0A 0C 01 0A 00 20 00 02 01 41 01 6A 0B 0B",
+        "invalid at 34",
+    ),
+    (
+        "01 05 01 60 01 7F 00 03 02 01 00 0A 08 01 06 00 02 00 1A 0B 0B",
+        "invalid at 24",
+    ),
+    (
+        "01 04 01 60 00 00 03 02 01 00 0A 08 01 06 00 02 C0 7F 0B 0B",
+        "malformed at 24",
+    ),
+    (
+        "01 04 01 60 00 00 03 02 01 00 0A 07 01 05 00 02 7D 0B 0B",
+        "unsupported at 24",
     ),
     // Opcodes that are none of the language, and one that is left out.
     (

@@ -1,5 +1,5 @@
 -- A body's fields: its locals, and its tokens up to the `end` that closes it (WebAssembly Core 1.0, 5.4 and 5.5.13).
-use Rattle.std.specs.Prelude.{ℕ, zero, suc, ◌+◌, ◌-◌, ◌||◌, ◌==◌, true, List, [], ◌∷◌, length, Option, None, Some, slice_get, nat_lt, nat_le, if◌then◌else◌}
+use Rattle.std.specs.Prelude.{ℕ, zero, suc, ◌+◌, ◌-◌, ℤ, pos, negsuc, ◌||◌, ◌==◌, true, List, [], ◌∷◌, length, Option, None, Some, slice_get, nat_lt, if◌then◌else◌}
 use Rattle.wasm_defs.specs.declared.fault.Kind.TheVariants.{Malformed, Unsupported, Limit}
 use Rattle.wasm_defs.specs.declared.fault.Refusal.{Refusal}
 use Rattle.wasm_defs.specs.declared.types.ValType.{ValType}
@@ -8,7 +8,7 @@ use Rattle.wasm_defs.specs.declared.operation.Operation.{Operation}
 use Rattle.wasm_defs.specs.declared.operation.Access.{Access}
 use Rattle.wasm_defs.specs.declared.operation.Access.TheVariants as access
 use Rattle.wasm_defs.specs.declared.token.BlockType.{BlockType}
-use Rattle.wasm_defs.specs.declared.token.BlockType.TheVariants.{Empty, Value}
+use Rattle.wasm_defs.specs.declared.token.BlockType.TheVariants.{Empty, Value, Index}
 use Rattle.wasm_defs.specs.declared.token.MemArg.{MemArg}
 use Rattle.wasm_defs.specs.declared.token.Plain.{Plain}
 use Rattle.wasm_defs.specs.declared.token.Plain.TheVariants.{Unreachable, Nop, Br, BrIf, BrTable, Return, Call, CallIndirect, Discard, Select, LocalGet, LocalSet, LocalTee, GlobalGet, GlobalSet, Load, Store, MemorySize, MemoryGrow, Const, Operate}
@@ -16,7 +16,7 @@ use Rattle.wasm_defs.specs.declared.token.Token.{Token}
 use Rattle.wasm_defs.specs.declared.token.Token.TheVariants as token
 use Rattle.wasm_defs.specs.Limits.{max_locals}
 use Rattle.wasm_defs.specs.Opcodes.{operations, accesses}
-use Rattle.wasm_defs.specs.Fields.{Cursor, Read, Got, Fault, Wants, Reader, ◌>>=◌, done, refused, byte, number, u32, vector}
+use Rattle.wasm_defs.specs.Fields.{Cursor, Read, Got, Fault, Wants, Reader, ◌>>=◌, done, refused, byte, number, u32, vector, here}
 use Rattle.wasm_defs.specs.Entries.{value_type, bits_of}
 use Rattle.wasm_defs.specs.Outside.{Nothing}
 
@@ -57,15 +57,27 @@ with_index make = do
   i ← u32
   plain (make i.1)
 
--- a block's type (5.3.2): an index of a type, in any spelling, is left out
+-- a block's type (Core 2.0, 5.4.1) is a number of 33 bits: the index of a type; or a negative one of one byte, 40 where there is no
+-- result, or the value type of one. That byte is 7F less so much
+
+abbrev pub short_type : (at less : ℕ) → Reader BlockType
+short_type at less =
+    if less == 0x3F then done Empty
+    else if less == 0x00 then done (Value I32)
+    else if less == 0x01 then done (Value I64)
+    else if less == 0x02 || less == 0x03 then refused Unsupported at
+    else refused Malformed at
+
+-- by the number of its bytes, and what they spell
+abbrev pub type_by : (at bytes : ℕ) → ℤ → Reader BlockType
+type_by at bytes (pos i) = done (Index i)
+type_by at bytes (negsuc less) = if nat_lt 1 bytes then refused Malformed at else short_type at less
+
 unfoldable pub block_type : Reader BlockType
 block_type = do
-  b ← byte
-  if b.1 == 0x40 then done Empty
-      else if b.1 == 0x7F then done (Value I32)
-      else if b.1 == 0x7E then done (Value I64)
-      else if b.1 == 0x7D || b.1 == 0x7C || nat_lt b.1 0x40 || nat_le 0x80 b.1 then refused Unsupported b.0
-      else refused Malformed b.0
+  n ← number true 33
+  behind ← here
+  type_by n.0 (behind - n.0) n.1
 
 unfoldable pub with_type : (BlockType → Token) → Reader Token
 with_type make = do

@@ -1,6 +1,6 @@
 -- Which bytes are the code of a body (WebAssembly Core 1.0, 5.4 and 5.5.13): spellings joined one behind the other, with no
 -- reader, and no count of the blocks that are open. How tokens nest is said in Trees.
-use Rattle.std.specs.Prelude.{◌≡◌, ℕ, ℤ, true, List, [], ◌∷◌, length}
+use Rattle.std.specs.Prelude.{◌≡◌, ℕ, ℤ, pos, true, List, [], ◌∷◌, length}
 use Rattle.wasm_defs.specs.declared.types.ValType.{ValType}
 use Rattle.wasm_defs.specs.declared.types.ValType.TheVariants.{I32, I64}
 use Rattle.wasm_defs.specs.declared.operation.UnaryOp.TheVariants.{Clz, Ctz, Popcnt}
@@ -125,11 +125,11 @@ operation_code (Extend I64Extend32S) = 0xC4
 abbrev pub listed_vector_is : {A : Type 0} → (A → Spelling) → List A → Spelling
 listed_vector_is p xs = listed_index_is (length xs) then each_is p xs
 
--- the type of a block (5.3.2); no bytes spell one by its index
+-- the type of a block (Core 2.0, 5.4.1), one of the module by its index as a signed number
 abbrev pub block_type_is : BlockType → Spelling
 block_type_is Empty = exactly (0x40 ∷ [])
 block_type_is (Value ty) = listed_type_is ty
-block_type_is (Index i) = λ at bytes. ⊥
+block_type_is (Index i) = λ at bytes. Spells (pos i) 33 true bytes
 
 -- an alignment and an offset (5.4.4)
 abbrev pub mem_arg_is : MemArg → Spelling

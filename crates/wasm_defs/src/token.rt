@@ -4,7 +4,7 @@ use crate::lists::Labels;
 use crate::operation::{LoadOp, Operation, StoreOp};
 use crate::types::ValType;
 
-/// The type of a block: no result or one (Core 5.3.2), or a type of the module, which 1.0 has no spelling for.
+/// The type of a block: no result or one, or a type of the module, by its index (Core 2.0, 2.4.8).
 #[derive(Clone, Copy, Debug, PartialEq, Eq)]
 pub enum BlockType {
     Empty,

@@ -1,20 +1,22 @@
 -- The fault that stops reading, of a body or of what stands outside bodies, isn't Ended.
-use Rattle.std.proofs.Common.{◌≡◌, ◌<◌, ℕ, zero, suc, ◌+◌, List, [], ◌∷◌, length, Option, Some, None, subst, inl, inr}
+use Rattle.std.proofs.Common.{◌≡◌, ◌<◌, ℕ, zero, suc, ◌+◌, ◌-◌, ℤ, pos, negsuc, true, eqb, nat_lt, ◌||◌, List, [], ◌∷◌, length, Option, Some, None, subst, inl, inr}
 use Rattle.std.proofs.lemmas.Bool.{cases_Bool}
-use Rattle.wasm_defs.specs.declared.fault.Kind.TheVariants.{Malformed}
+use Rattle.wasm_defs.specs.declared.fault.Kind.TheVariants.{Malformed, Unsupported}
 use Rattle.wasm_defs.specs.declared.fault.Refusal.{Refusal}
 use Rattle.wasm_defs.specs.declared.operation.Access.{Access}
 use Rattle.wasm_defs.specs.declared.operation.Operation.{Operation}
 use Rattle.wasm_defs.specs.declared.token.BlockType.{BlockType}
+use Rattle.wasm_defs.specs.declared.token.BlockType.TheVariants.{Empty, Value, Index}
 use Rattle.wasm_defs.specs.declared.token.Plain.{Plain}
 use Rattle.wasm_defs.specs.declared.token.Token.{Token}
 use Rattle.wasm_defs.specs.declared.types.ValType.{ValType}
+use Rattle.wasm_defs.specs.declared.types.ValType.TheVariants.{I32, I64}
 use Rattle.wasm_defs.specs.Fields.{Cursor, Read, Got, Fault, Wants, byte}
 use Rattle.wasm_defs.specs.Entries.{Seen, nothing}
-use Rattle.wasm_defs.specs.Bodies.{Group, Spelled, group, groups, local_groups, with_index, block_type, with_type, label, branch_table, zero_byte, indirect, with_zero, mem_arg, with_mem_arg, constant, control, variable, accessed_at, memory, operated_at, numeric, instruction, malformed_at, closed, goes_on, depth_after, spelled_from, read_code, last_of, body_cursor, body_read}
+use Rattle.wasm_defs.specs.Bodies.{Group, Spelled, group, groups, local_groups, with_index, short_type, type_by, block_type, with_type, label, branch_table, zero_byte, indirect, with_zero, mem_arg, with_mem_arg, constant, control, variable, accessed_at, memory, operated_at, numeric, instruction, malformed_at, closed, goes_on, depth_after, spelled_from, read_code, last_of, body_cursor, body_read}
 use Rattle.wasm_defs.specs.Outside.{Row, row, entered, noted, inside, Ending, Whole, Refused, Owed, Run, runs_on, Next, finish, entries, contents, section, owes_code, or_section, sections_up_to, beginning, module_read}
 use Rattle.wasm_defs.specs.Faults.{rank}
-use Rattle.wasm_laws.proofs.FieldKinds.{Lasts, Lasting, LastingRow, lasting, value_type_lasts, bind, done_lasts, refused_lasts, either, unsupported, malformed, byte_lasts, header_lasts, preamble_lasts, end_lasts, row_lasts}
+use Rattle.wasm_laws.proofs.FieldKinds.{Lasts, Lasting, LastingRow, lasting, value_type_lasts, bind, done_lasts, refused_lasts, either, unsupported, malformed, byte_lasts, number_lasts, here_lasts, header_lasts, preamble_lasts, end_lasts, row_lasts}
 
 -- ---- locals
 
@@ -36,9 +38,19 @@ with_index_lasts : (make : ℕ → Plain) → Lasting (with_index make)
 unfolding with_index
 with_index_lasts make = search lasting depth 40
 
+short_type_lasts : (at less : ℕ) → Lasting (short_type at less)
+short_type_lasts at less =
+    either (eqb less 0x3F) _ _ (done_lasts Empty)
+    (either (eqb less 0x00) _ _ (done_lasts (Value I32))
+    (either (eqb less 0x01) _ _ (done_lasts (Value I64)) (either (eqb less 0x02 || eqb less 0x03) _ _ (refused_lasts Unsupported at unsupported) (refused_lasts Malformed at malformed))))
+
+type_lasts : (at bytes : ℕ) (n : ℤ) → Lasting (type_by at bytes n)
+type_lasts at bytes (pos i) = done_lasts (Index i)
+type_lasts at bytes (negsuc less) = either (nat_lt 1 bytes) _ (short_type at less) (refused_lasts Malformed at malformed) (short_type_lasts at less)
+
 block_type_lasts : Lasting block_type
 unfolding block_type
-block_type_lasts = search lasting depth 40
+block_type_lasts = bind _ _ (number_lasts true 33) (λ n. bind _ _ here_lasts (λ behind. type_lasts n.0 (behind - n.0) n.1))
 
 with_type_lasts : (make : BlockType → Token) → Lasting (with_type make)
 unfolding with_type

@@ -1,17 +1,20 @@
 -- What a body is read by is steady: its locals, and an instruction behind its opcode.
-use Rattle.std.proofs.Common.{ℕ, zero, suc, ◌+◌, List, ◌∷◌, Option, Some, None}
+use Rattle.std.proofs.Common.{ℕ, zero, suc, ◌+◌, ◌-◌, ℤ, pos, negsuc, true, eqb, nat_lt, ◌||◌, List, ◌∷◌, Option, Some, None}
+use Rattle.wasm_defs.specs.declared.fault.Kind.TheVariants.{Malformed, Unsupported}
 use Rattle.wasm_defs.specs.declared.operation.Access.{Access}
 use Rattle.wasm_defs.specs.declared.operation.Operation.{Operation}
 use Rattle.wasm_defs.specs.declared.token.BlockType.{BlockType}
+use Rattle.wasm_defs.specs.declared.token.BlockType.TheVariants.{Empty, Value, Index}
 use Rattle.wasm_defs.specs.declared.token.Plain.{Plain}
 use Rattle.wasm_defs.specs.declared.token.Token.{Token}
 use Rattle.wasm_defs.specs.declared.types.ValType.{ValType}
-use Rattle.wasm_defs.specs.Fields.{u32, byte}
-use Rattle.wasm_defs.specs.Bodies.{group, groups, local_groups, with_index, block_type, with_type, label, branch_table, zero_byte, indirect, with_zero, mem_arg, with_mem_arg, constant, control, variable, accessed_at, memory, operated_at, numeric, instruction}
+use Rattle.wasm_defs.specs.declared.types.ValType.TheVariants.{I32, I64}
+use Rattle.wasm_defs.specs.Fields.{u32, byte, number, here}
+use Rattle.wasm_defs.specs.Bodies.{group, groups, local_groups, with_index, short_type, type_by, block_type, with_type, label, branch_table, zero_byte, indirect, with_zero, mem_arg, with_mem_arg, constant, control, variable, accessed_at, memory, operated_at, numeric, instruction}
 use Rattle.wasm_laws.specs.Steadiness.{token}
 use Rattle.wasm_laws.proofs.Steady.{Steady, In, here_in, bind, bind_field, either, done_steady, refused_steady}
-use Rattle.wasm_laws.proofs.Windows.{byte_field}
-use Rattle.wasm_laws.proofs.FieldLaws.{u32_field}
+use Rattle.wasm_laws.proofs.Windows.{byte_field, number_field}
+use Rattle.wasm_laws.proofs.FieldLaws.{u32_field, here_steady}
 use Rattle.wasm_laws.proofs.EntryLaws.{steady, value_type_steady}
 
 -- ---- locals
@@ -37,9 +40,21 @@ pub with_index_steady : (marks : List ℕ) (make : ℕ → Plain) → Steady mar
 unfolding with_index
 with_index_steady marks make = search steady depth 40
 
+short_type_steady : (marks : List ℕ) (at less : ℕ) → In at marks → Steady marks (short_type at less)
+short_type_steady marks at less i =
+    either marks (eqb less 0x3F) _ _ (done_steady marks Empty)
+    (either marks (eqb less 0x00) _ _ (done_steady marks (Value I32))
+    (either marks (eqb less 0x01) _ _ (done_steady marks (Value I64))
+    (either marks (eqb less 0x02 || eqb less 0x03) _ _ (refused_steady marks Unsupported at i) (refused_steady marks Malformed at i))))
+
+type_steady : (marks : List ℕ) (at bytes : ℕ) (n : ℤ) → In at marks → Steady marks (type_by at bytes n)
+type_steady marks at bytes (pos x) i = done_steady marks (Index x)
+type_steady marks at bytes (negsuc less) i = either marks (nat_lt 1 bytes) _ (short_type at less) (refused_steady marks Malformed at i) (short_type_steady marks at less i)
+
 pub block_type_steady : (marks : List ℕ) → Steady marks block_type
 unfolding block_type
-block_type_steady marks = search steady depth 40
+block_type_steady marks =
+    bind_field marks (number true 33) _ (number_field true 33) (λ n. bind _ here _ (here_steady _) (λ behind. type_steady _ n.0 (behind - n.0) n.1 here_in))
 
 pub with_type_steady : (marks : List ℕ) (make : BlockType → Token) → Steady marks (with_type make)
 unfolding with_type

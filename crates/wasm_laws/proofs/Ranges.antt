@@ -8,8 +8,8 @@ use Rattle.std.proofs.lemmas.Nat.{pow_pos, pow-add}
 use Rattle.wasm_defs.proofs.NumberLaws.{AreBytes, reading_small}
 use Rattle.wasm_defs.specs.Numbers.{Reading, Number, CutOff, Bad, last_byte, after_byte, number_at, IsSmall}
 use Rattle.wasm_defs.specs.Faults.{tokens_of}
-use Rattle.wasm_defs.specs.Fields.{Cursor, nat_of, window, room_of, from_reading, number, u32, vector, repeated, Read, Got, Fault, Wants, byte, done, refused}
-use Rattle.wasm_defs.specs.Bodies.{with_index, constant, instruction, body_read, block_type, with_type, branch_table, label, indirect, with_zero, with_mem_arg, mem_arg, zero_byte}
+use Rattle.wasm_defs.specs.Fields.{Cursor, nat_of, window, room_of, from_reading, number, here, u32, vector, repeated, Read, Got, Fault, Wants}
+use Rattle.wasm_defs.specs.Bodies.{with_index, constant, instruction, body_read, type_by, block_type, with_type, branch_table, label, indirect, with_zero, with_mem_arg, mem_arg, zero_byte}
 use Rattle.wasm_defs.specs.Trees.{Seq, Nothing, Simple, Block, Loop, If, IfElse, spelled, Tree}
 use Rattle.wasm_defs.specs.declared.token.Plain.{Plain}
 use Rattle.wasm_defs.specs.declared.token.Plain.TheVariants.{LocalGet, LocalSet, LocalTee, Br, BrIf, Call, GlobalGet, GlobalSet, MemorySize, MemoryGrow}
@@ -20,14 +20,12 @@ use Rattle.wasm_defs.specs.declared.token.Token.TheVariants as token
 use Rattle.wasm_laws.specs.Immediates.{IsSpelledType, IsInRange, TokenIsInRange, TokensAreInRange, TreeIsInRange, AreIndices}
 use Rattle.wasm_laws.proofs.Steady.{IfGot, always, Advances}
 use Rattle.wasm_laws.proofs.Windows.{cut_got}
-use Rattle.wasm_laws.proofs.Parts.{then_got, got_both}
+use Rattle.wasm_laws.proofs.Parts.{then_got, got_both, either_got}
 use Rattle.wasm_laws.proofs.Spelt.{bytes_behind}
 use Rattle.wasm_laws.proofs.SpeltFields.{front_bytes}
 use Rattle.wasm_laws.proofs.Instructions.{Spells, by_opcode, Each, each_token}
 use Rattle.wasm_defs.specs.declared.operation.Access.{Access}
 use Rattle.wasm_defs.specs.declared.token.BlockType.{BlockType}
-use Rattle.wasm_defs.specs.declared.token.BlockType.TheVariants.{Empty, Value}
-use Rattle.wasm_defs.specs.declared.fault.Kind.TheVariants.{Malformed, Unsupported}
 use Rattle.wasm_laws.proofs.FieldLaws.{u32_field}
 use Rattle.wasm_defs.specs.declared.operation.Access.TheVariants as access
 
@@ -176,29 +174,32 @@ table_in_range d fits =
     (λ n e h. then_got (λ ls f. AreIndices ls × HasBytes f) (λ ls f. AreIndices ls.1 × HasBytes f) (repeated n.1 label e) _ (labels_got n.1 e h.1) (λ ls f k. k)))
     (λ ls e h. then_got (λ l f. (l < 2 ^ 32) × HasBytes f) InRange (label e) _ (label_got e h.1) (λ l f k. (h.0, k.0)))
 
-type_got : (b : ℕ × ℕ) (d : Cursor) → IfGot (λ t e. IsSpelledType t) ((if b.1 == 0x40 then done Empty else if b.1 == 0x7F then done (Value I32) else if b.1 == 0x7E then done (Value I64) else if b.1 == 0x7D || b.1 == 0x7C || nat_lt b.1 0x40 || nat_le 0x80 b.1 then refused Unsupported b.0 else refused Malformed b.0) d)
-type_got b d =
-    elim (cases_Bool (eqb b.1 0x40)) [
-      | inl is ↦ rw is tt
-      | inr h ↦ rw h (elim (cases_Bool (eqb b.1 0x7F)) [
-        | inl is ↦ rw is tt
-        | inr h ↦ rw h (elim (cases_Bool (eqb b.1 0x7E)) [
-          | inl is ↦ rw is tt
-          | inr h ↦ rw h (elim (cases_Bool (b.1 == 0x7D || b.1 == 0x7C || nat_lt b.1 0x40 || nat_le 0x80 b.1)) [
-            | inl is ↦ rw is tt
-            | inr h ↦ rw h tt
-          ])
-        ])
-      ])
-    ]
+-- the index of a type has 32 bits, since it isn't negative
+type_number : (c : Cursor) (r : Reading) → IsSigned 33 r → IfGot (λ n d. n.1 <ℤ pos 4294967296) (from_reading c r)
+type_number c (Number n len) h = h.1
+type_number c CutOff h = cut_got _ _ c
+type_number c Bad h = tt
 
-block_type_got : (d : Cursor) → IfGot (λ t e. IsSpelledType t) (block_type d)
-unfolding block_type
-block_type_got d = then_got (λ b e. Unit {0}) (λ t e. IsSpelledType t) (byte d) _ (always (byte d)) (λ b e u. type_got b e)
+type_number_got : (c : Cursor) → HasBytes c → IfGot (λ n d. n.1 <ℤ pos 4294967296) (number true 33 c)
+unfolding number
+type_number_got c fits = type_number c (number_at true 33 (window c)) (reading_signed 33 (window c) (front_bytes (room_of c) c.rest fits))
 
-type_in_range : (make : BlockType → Token) (d : Cursor) → ((t : BlockType) → IsSpelledType t → TokenIsInRange (make t)) → IfGot InRange (with_type make d)
+type_got : (at bytes : ℕ) (n : ℤ) (d : Cursor) → n <ℤ pos 4294967296 → IfGot (λ t e. IsSpelledType t) (type_by at bytes n d)
+type_got at bytes (pos i) d h = omega (arith, ints)
+type_got at bytes (negsuc less) d h =
+    either_got _ (nat_lt 1 bytes) _ _ d (λ long. tt) (λ short.
+    either_got _ (eqb less 0x3F) _ _ d (λ e. tt) (λ no.
+    either_got _ (eqb less 0x00) _ _ d (λ e. tt) (λ no.
+    either_got _ (eqb less 0x01) _ _ d (λ e. tt) (λ no.
+    either_got _ (eqb less 0x02 || eqb less 0x03) _ _ d (λ e. tt) (λ no. tt)))))
+
+block_type_got : (d : Cursor) → HasBytes d → IfGot (λ t e. IsSpelledType t) (block_type d)
+unfolding block_type here
+block_type_got d fits = then_got (λ n e. n.1 <ℤ pos 4294967296) (λ t e. IsSpelledType t) (number true 33 d) _ (type_number_got d fits) (λ n e h. type_got n.0 (e.at - n.0) n.1 e h)
+
+type_in_range : (make : BlockType → Token) (d : Cursor) → HasBytes d → ((t : BlockType) → IsSpelledType t → TokenIsInRange (make t)) → IfGot InRange (with_type make d)
 unfolding with_type
-type_in_range make d h = then_got (λ t e. IsSpelledType t) InRange (block_type d) _ (block_type_got d) (λ t e is. h t is)
+type_in_range make d fits h = then_got (λ t e. IsSpelledType t) InRange (block_type d) _ (block_type_got d fits) (λ t e is. h t is)
 
 zero_in_range : (p : Plain) (d : Cursor) → IsInRange p → IfGot InRange (with_zero p d)
 unfolding with_zero
@@ -225,9 +226,9 @@ all_in_range : (d : Cursor) → HasBytes d → Spells InRange d
 all_in_range d fits = record {
   unreachables = tt;
   nops = tt;
-  blocks = type_in_range token.Block d (λ t is. is);
-  loops = type_in_range token.Loop d (λ t is. is);
-  ifs = type_in_range token.If d (λ t is. is);
+  blocks = type_in_range token.Block d fits (λ t is. is);
+  loops = type_in_range token.Loop d fits (λ t is. is);
+  ifs = type_in_range token.If d fits (λ t is. is);
   elses = tt;
   ends = tt;
   branches = index_in_range Br d fits (λ i lt. lt);

@@ -11,9 +11,9 @@ use Rattle.wasm_defs.specs.declared.token.Token.{Token}
 use Rattle.wasm_defs.specs.declared.token.Token.TheVariants as token
 use Rattle.wasm_defs.specs.Trees.{Seq, Nothing, Simple, Block, Loop, If, IfElse}
 
--- a block's type that bytes spell: it takes nothing and leaves one value at most, and is none of the module's types
+-- a block's type that bytes spell: where it is one of the module's types, its index has 32 bits
 abbrev pub IsSpelledType : BlockType → Type 0
-IsSpelledType (Index x) = ⊥
+IsSpelledType (Index x) = x < 2 ^ 32
 IsSpelledType _ = Unit {0}
 
 abbrev pub AreIndices : List ℕ → Type 0

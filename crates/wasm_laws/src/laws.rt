@@ -121,7 +121,7 @@ pub fn bodies_stand_behind_items()
     ensures valid { (bytes : List ℕ) (m : Module) → IsModule bytes m → AreValidIn m.items 0 m.bodies m.trees }
 {}
 
-/// The immediates of a body's instructions have the bits that bytes spell, no block's type is one of the module's, and each token
+/// The immediates of a body's instructions have the bits that bytes spell, a block's type that is one of the module's too, and each token
 /// has a byte.
 pub fn immediates_are_in_range()
     ensures range { (first : ℕ) (bytes : List ℕ) (tree : Seq) → AreBytes bytes →

@@ -216,7 +216,7 @@ module _ (text : List (Option Op)) (near : length text ≤ 2 ^ 26) (inst : Insta
         let split = types_split x.takes x.stops.rest below types in
         let z = front_lands text near k.around (used start.callers) m.address start.frame.locals s k.begin m.here h m.at v (below ++ belows start.frame.labels)
         (held_here text near inst places outer stub c s (BrTable ls l) rest m).matches ty refl high count few (label l).takes
-        (omega (arith, takes_is, split.2, length-append below (belows start.frame.labels), m.running.compiled.fits)) (omega (arith, index_is, jump.1))
+        (omega (arith, takes_is, split.2, length-append below (belows start.frame.labels), m.running.room)) (omega (arith, index_is, jump.1))
         (has_first text (k.begin + m.here) front (jumps k.around (h - 1) first all) has) in
         let y = z.3 in
         let here = first + index * jump_count n in

@@ -1,4 +1,4 @@
-use Rattle.std.proofs.Common.{◌+◌, ◌∙◌, length, refl, ap, arith}
+use Rattle.std.proofs.Common.{◌+◌, ◌∙◌, length, refl, sym, ap, subst, arith}
 use Rattle.wasm_defs.specs.Faults.{tokens_of}
 use Rattle.body_compiler.proofs.Going.{instruction_shrinks, refused_token, stop_behind}
 use Rattle.body_validator.specs.Checking.{guarded}
@@ -6,6 +6,7 @@ use Rattle.control_emit.specs.Emits.{draft}
 use Rattle.body_compiler.proofs.Spelled.{token_in_range, bytes_later}
 use Rattle.wasm_defs.specs.Typing.{Context}
 use Rattle.index_spaces.specs.Spaces.{context_in}
+use Rattle.body_compiler.specs.Steps.{TypesLiftFew}
 use Rattle.body_compiler.specs.Going.{calling}
 use Rattle.body_compiler.proofs.Known.{takes_there, calls_there, rows_there, same_functions}
 use Rattle.body_compiler.proofs.Tying.{names, tied-after, some-labels}
@@ -29,6 +30,11 @@ take_step-requires-clause-few c = let count = c.requires.tied.count in let few =
 
 pub take_step-requires-clause-high : goal.take_step-requires-clause-high
 take_step-requires-clause-high c = let low = c.requires.tied.low in let is = c.in-Ok-token.ensures.steps.3.1 in omega arith
+
+pub take_step-requires-clause-types : goal.take_step-requires-clause-types
+take_step-requires-clause-types c =
+    let steps = c.in-Ok-token.ensures.steps in
+    subst TypesLiftFew (sym (c.context.ensures.types ∙ ap (λ (x : Context). x.types) steps.1)) c.requires.tied.functions
 
 pub take_step-requires-clause-there : goal.take_step-requires-clause-there
 take_step-requires-clause-there c =
@@ -56,8 +62,7 @@ returns-in-Ok-take_step-clause-tied c =
     let same = same_functions own (context_in c.context.result.now) (c.context.ensures.types ∙ ap (λ (x : Context). x.types) steps.1) (c.context.ensures.functions ∙ ap (λ (x : Context). x.functions) steps.1) in
     let shrinks = instruction_shrinks c.args.at c.args.opcode c.args.fields.now c.instruction.new.fields c.in-Ok.token c.in-Ok.ensures in
     tied-after w own c.in-Ok.token (guarded s.live s.height_before) (draft c.args.draft.now.labels c.args.draft.now.words) (draft c.take_step.new.draft.labels c.take_step.new.draft.words) c.args.check.now c.token.new.self
-    (length c.args.fields.now.rest + 1) (length c.instruction.new.fields.rest) (omega arith)
-    (token_in_range c.args.at c.args.opcode c.args.fields.now c.instruction.new.fields c.in-Ok.token c.requires.bytes c.in-Ok.ensures) c.requires.tied
+    (length c.args.fields.now.rest + 1) (length c.instruction.new.fields.rest) (omega arith) c.requires.tied
     (c.in-Ok-take_step.ensures.words w own refl (unlinked c.args.draft.now.rows (context_in c.context.result.now).types c.args.draft.now.layout) same) steps.0 steps.1
 
 pub returns-in-Ok-take_step-clause-shrinks : goal.returns-in-Ok-take_step-clause-shrinks
