@@ -14,7 +14,7 @@ use Rattle.image_format.specs.declared.image.Export.{Export}
 use Rattle.image_format.specs.Versions.{number_of}
 use Rattle.image_format.specs.Contents.{Image}
 use Rattle.image_format.specs.ImageBytes.{◌·◌, u32, u64, listed, text, value_type, results, signature, row, segment, import, export, flag, version, spelling}
-use Rattle.image_format.specs.Sizes.{signature_size, segment_size, import_size, export_size, size_of}
+use Rattle.image_format.specs.Sizes.{results_size, signature_size, segment_size, import_size, export_size, size_of}
 
 u32_size : (n : ℕ) → length (u32 n) ≡ 4
 unfolding u32
@@ -47,10 +47,15 @@ text_size bytes = joined (u32 (length bytes)) bytes 4 (length bytes) (u32_size (
 types_size : (types : List ValType) → sum_by (λ (t : ValType). 1) types ≡ length types
 types_size types = listed_same value_type (λ t. 1) (λ t. refl) 1 (λ n. n) refl (λ k. omega arith) (λ t. refl) types
 
+results_is : (types : List ValType) → length (results types) ≡ results_size types
+results_is [] = refl
+results_is (type ∷ []) = refl
+results_is (type ∷ other ∷ types) = omega (arith, listed_size value_type (λ t. 1) (λ t. refl) (type ∷ other ∷ types), types_size (type ∷ other ∷ types))
+
 signature_is : (s : FuncType) → length (signature s) ≡ signature_size s
 signature_is s =
     let params = listed_size value_type (λ t. 1) (λ t. refl) s.params in
-    let all = joined (listed value_type s.params) (results s.results) _ 1 params refl in
+    let all = joined (listed value_type s.params) (results s.results) _ (results_size s.results) params (results_is s.results) in
     omega (arith, all, types_size s.params)
 
 segment_is : (s : Segment) → length (segment s) ≡ segment_size s

@@ -1,13 +1,19 @@
 -- How many bytes an image has.
-use Rattle.std.specs.Prelude.{ℕ, ◌+◌, ◌*◌, length, sum_by}
+use Rattle.std.specs.Prelude.{ℕ, ◌+◌, ◌*◌, List, [], ◌∷◌, length, sum_by}
+use Rattle.wasm_defs.specs.declared.types.ValType.{ValType}
 use Rattle.wasm_defs.specs.declared.types.FuncType.{FuncType}
 use Rattle.image_format.specs.declared.image.Segment.{Segment}
 use Rattle.image_format.specs.declared.image.Import.{Import}
 use Rattle.image_format.specs.declared.image.Export.{Export}
 use Rattle.image_format.specs.Contents.{Image}
 
+abbrev pub results_size : List ValType → ℕ
+results_size [] = 1
+results_size (type ∷ []) = 1
+results_size (type ∷ other ∷ types) = 7 + length types
+
 abbrev pub signature_size : FuncType → ℕ
-signature_size s = 5 + length s.params
+signature_size s = 4 + length s.params + results_size s.results
 
 abbrev pub segment_size : Segment → ℕ
 segment_size s = 8 + length s.bytes

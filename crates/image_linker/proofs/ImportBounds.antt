@@ -37,6 +37,7 @@ imports_fit c s (Imported from what kind type_index ∷ items) types named keep 
       module_name = record { short = omega (arith, rules.0); utf8 = named.0.0 };
       name = record { short = omega (arith, rules.1); utf8 = named.0.1 };
       signature = record { params = omega (arith, small.params); results = omega (arith, small.results) };
+      one_result = omega (arith, small.results);
     })
     (imports_fit c (note s (Imported from what kind type_index)) items types named.1 keep.1)
 imports_fit c s (x ∷ items) types named keep = imports_fit c (note s x) items types named.1 keep.1

@@ -7,6 +7,7 @@ use Rattle.std.proofs.lemmas.List.Sums.{sum_by-cons}
 use Rattle.wasm_defs.specs.declared.item.Item.{Item}
 use Rattle.wasm_defs.specs.declared.item.Item.TheVariants.{Signature, Imported, Function, Table, Memory, Global, Exported, Start, Element, Code, Segment}
 use Rattle.wasm_defs.specs.declared.item.Extern.TheVariants as extern
+use Rattle.wasm_defs.specs.declared.types.ValType.{ValType}
 use Rattle.wasm_defs.specs.Faults.{Module}
 use Rattle.wasm_defs.specs.Instances.{exports_of, data_of, i32_value, is_linkable}
 use Rattle.wasm_defs.specs.Typing.{Context}
@@ -20,7 +21,7 @@ use Rattle.image_format.specs.declared.image.Import.{Import}
 use Rattle.image_format.specs.declared.image.Export.{Export}
 use Rattle.image_format.specs.Bounds.{Each, IsImport, ExportFits}
 use Rattle.image_format.specs.Contents.{Image, IsImage}
-use Rattle.image_format.specs.Sizes.{segment_size, import_size, export_size, size_of}
+use Rattle.image_format.specs.Sizes.{results_size, segment_size, import_size, export_size, size_of}
 use Rattle.image_format.proofs.Sizes.{spelling_size}
 use Rattle.image_linker.specs.ImageOf.{segment_of, placed_segments, imports_of, export_of, image_of}
 use Rattle.image_linker.specs.Laws.{ImagesAreShort}
@@ -74,24 +75,38 @@ segments_size : (xs : List Placed) → sum_by segment_size xs ≡ 8 * length xs 
 segments_size [] = refl
 segments_size (x ∷ xs) = let a = sum_by-cons segment_size x xs in let b = sum_by-cons data_bytes x xs in omega (arith, a, b, segments_size xs)
 
+-- several results have a byte each, behind one that says so and their number
+results_bounded : (types : List ValType) → results_size types ≤ 5 + length types
+results_bounded [] = omega arith
+results_bounded (type ∷ []) = omega arith
+results_bounded (type ∷ other ∷ types) = omega arith
+
+one_result_size : (types : List ValType) → length types ≤ 1 → results_size types ≡ 1
+one_result_size [] le = refl
+one_result_size (type ∷ []) le = refl
+one_result_size (type ∷ other ∷ types) le = absurd (omega arith)
+
 imports_size : (xs : List Import) → All IsImport xs → sum_by import_size xs ≤ 1013 * length xs + sum_by import_names xs
 imports_size [] h = omega arith
 imports_size (x ∷ xs) h =
     let is = All-head IsImport x xs h in
     let small = is.signature.params in
+    let one = one_result_size x.signature.results is.one_result in
     let a = sum_by-cons import_size x xs in
     let b = sum_by-cons import_names x xs in
     let rest = imports_size xs (All-tail IsImport x xs h) in
-    omega (arith, small, a, b, rest)
+    omega (arith, small, one, a, b, rest)
 
-exports_size : (words : ℕ) (front xs : List Export) → Each (ExportFits words) front xs → sum_by export_size xs ≤ 1013 * length xs + sum_by export_name xs
+exports_size : (words : ℕ) (front xs : List Export) → Each (ExportFits words) front xs → sum_by export_size xs ≤ 2017 * length xs + sum_by export_name xs
 exports_size words front [] h = omega arith
 exports_size words front (x ∷ xs) h =
     let small = h.0.is.signature.params in
+    let few = h.0.is.signature.results in
+    let bounded = results_bounded x.signature.results in
     let a = sum_by-cons export_size x xs in
     let b = sum_by-cons export_name x xs in
     let rest = exports_size words (front ++ x ∷ []) xs h.1 in
-    omega (arith, small, a, b, rest)
+    omega (arith, small, few, bounded, a, b, rest)
 
 size_is_bounded : (i : Image) → IsImage i → sum_by data_bytes i.segments + sum_by import_names i.imports + sum_by export_name i.exports ≤ 67108864 → size_of i ≤ 1073741824
 size_is_bounded i bounded held =

@@ -14,3 +14,4 @@ pub mod ReplyLaws
 pub mod PrintedRuns
 pub mod PrintingHosts
 pub mod SignatureLaws
+pub mod ResultLaws

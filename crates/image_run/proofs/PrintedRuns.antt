@@ -15,7 +15,7 @@ use Rattle.wasm_defs.specs.declared.types.ValType.{ValType}
 use Rattle.image_format.specs.Environment.{Entry}
 use Rattle.image_format.specs.ImageRun.{Running, ImageRun, begin, run_of, steps}
 use Rattle.image_run.specs.declared.outcome.Outcome.{Outcome}
-use Rattle.image_run.specs.Hosts.{Leads, values_of}
+use Rattle.image_run.specs.Hosts.{Leads}
 use Rattle.std.specs.Prelude.{◌≢◌}
 use Rattle.std.specs.Str.{bytes_eq}
 use Rattle.wasm_defs.specs.declared.types.FuncType.{FuncType}
@@ -124,22 +124,22 @@ known_at (x ∷ is) (suc number) import known there = known_at is number import 
     behind true b e = e
     behind false b e = absurd cc
 
-stopped_by : (outcome : Outcome) (memory : List ℕ) (end : Ending) → IsEnd outcome memory end → end ≡ As Stops → outcome ≡ HostStopped
-stopped_by (outcome.Returned v) memory end h e = absurd (let t : As Stops ≡ As (Returns (values_of v) memory h.0) = sym e ∙ h.1 in cc)
-stopped_by (outcome.Trapped kind) memory end h e = absurd (let t : As Stops ≡ As (Traps kind memory h.0) = sym e ∙ h.1 in cc)
-stopped_by outcome.StepsSpent memory end h e = absurd (let t : As Stops ≡ As Going = sym e ∙ h in cc)
-stopped_by outcome.HostStopped memory end h e = refl
-stopped_by (outcome.Fault kind pc) memory end h e = absurd (let t : As Stops ≡ Fault kind pc = sym e ∙ h in cc)
+stopped_by : (outcome : Outcome) (memory : List ℕ) (results : List Value) (end : Ending) → IsEnd outcome memory results end → end ≡ As Stops → outcome ≡ HostStopped
+stopped_by (outcome.Returned n) memory results end h e = absurd (let t : As Stops ≡ As (Returns results memory h.1) = sym e ∙ h.2 in cc)
+stopped_by (outcome.Trapped kind) memory results end h e = absurd (let t : As Stops ≡ As (Traps kind memory h.0) = sym e ∙ h.1 in cc)
+stopped_by outcome.StepsSpent memory results end h e = absurd (let t : As Stops ≡ As Going = sym e ∙ h in cc)
+stopped_by outcome.HostStopped memory results end h e = refl
+stopped_by (outcome.Fault kind pc) memory results end h e = absurd (let t : As Stops ≡ Fault kind pc = sym e ∙ h in cc)
 
 -- a run of an image with known imports alone ends in no other way
 pub printing_ends : (i : Image) (e : Export) (arguments : List Value) (n : ℕ) → has_unknown_import i.imports ≡ false → IsUnstopped (printing_run i e.offset e.signature.results arguments n).end
 printing_ends i e arguments n known =
     subst IsUnstopped (sym (ap (λ (x : ImageRun). x.end) (ideal_goes i e arguments n))) (never_stopped i (λ number import. known_at i.imports number import known) n (first i e arguments) n)
 
-unstopped : (i : Image) (e : Export) (arguments : List Value) (n : ℕ) (outcome : Outcome) (memory : List ℕ) → has_unknown_import i.imports ≡ false
-    → IsEnd outcome memory (printing_run i e.offset e.signature.results arguments n).end → outcome ≢ HostStopped
-unstopped i e arguments n outcome memory known h is =
-    let end : (printing_run i e.offset e.signature.results arguments n).end ≡ As Stops = subst (λ (o : Outcome). IsEnd o memory (printing_run i e.offset e.signature.results arguments n).end) is h in
+unstopped : (i : Image) (e : Export) (arguments : List Value) (n : ℕ) (outcome : Outcome) (memory : List ℕ) (results : List Value) → has_unknown_import i.imports ≡ false
+    → IsEnd outcome memory results (printing_run i e.offset e.signature.results arguments n).end → outcome ≢ HostStopped
+unstopped i e arguments n outcome memory results known h is =
+    let end : (printing_run i e.offset e.signature.results arguments n).end ≡ As Stops = subst (λ (o : Outcome). IsEnd o memory results (printing_run i e.offset e.signature.results arguments n).end) is h in
     subst IsUnstopped end (printing_ends i e arguments n known)
 
 module _ (H : Type 0) (Answers : H → HostCall → Reply → H → Type 0) (imports : List Import) (IsOf : H → Type 0) (is_open : H → Bool) (written : H → Option (List ℕ)) (faults : H → ℕ)
@@ -268,14 +268,14 @@ module _ (H : Type 0) (Answers : H → HostCall → Reply → H → Type 0) (imp
     abbrev all_replies : List Reply
     all_replies = replicate n replied
 
-    module _ (outcome : Outcome) (memory : List ℕ) (h : RunsTo Answers i e arguments n from to outcome memory) where
+    module _ (outcome : Outcome) (memory : List ℕ) (results : List Value) (h : RunsTo Answers i e arguments n from to outcome memory results) where
       abbrev real : ImageRun
       real = run_of_export i e arguments h.replies n
 
       size : length real.calls ≤ n
       size = rw (by_goes i e arguments n h.replies) (omega (arith, calls_few i n (first i e arguments) h.replies, ap length (first_calls i e arguments)))
 
-      all_prints : AllPrinted from to real.calls h.replies → PrintsRun (nat_lt (faults from) (faults to)) imports ideal outcome memory (written from) (written to)
+      all_prints : AllPrinted from to real.calls h.replies → PrintsRun (nat_lt (faults from) (faults to)) imports ideal outcome memory results (written from) (written to)
       all_prints p =
           let c = length real.calls in
           let calm : nat_lt (faults from) (faults to) ≡ false = le-ltb (faults from) (faults to) (omega (arith, p.faults_are)) in
@@ -283,10 +283,10 @@ module _ (H : Type 0) (Answers : H → HostCall → Reply → H → Type 0) (imp
           let there : run_of (goes i n (first i e arguments) (replicate c replied)) ≡ real = ap (λ (rs : List Reply). run_of (goes i n (first i e arguments) rs)) (sym p.replies) ∙ sym (by_goes i e arguments n h.replies) in
           let enough = replies_enough i n (first i e arguments) (replicate c replied) (replicate (n - c) replied) (omega (arith, ap (λ (x : ImageRun). length x.calls) there, length-replicate c replied, ap length (first_calls i e arguments))) in
           let same : ideal ≡ real = ideal_goes i e arguments n ∙ ap (λ (rs : List Reply). run_of (goes i n (first i e arguments) rs)) all ∙ enough ∙ there in
-          let ends : IsEnd outcome memory ideal.end = rw same h.end in
-          rw calm (unstopped i e arguments n outcome memory known ends, ends, rw same p.written_is)
+          let ends : IsEnd outcome memory results ideal.end = rw same h.end in
+          rw calm (unstopped i e arguments n outcome memory results known ends, ends, rw same p.written_is)
 
-      some_prints : SomePrinted from to real.calls h.replies → PrintsRun (nat_lt (faults from) (faults to)) imports ideal outcome memory (written from) (written to)
+      some_prints : SomePrinted from to real.calls h.replies → PrintsRun (nat_lt (faults from) (faults to)) imports ideal outcome memory results (written from) (written to)
       some_prints q =
           let k = length q.front in
           let text = text_of (function_at imports q.call.number) q.call.arguments in
@@ -308,10 +308,10 @@ module _ (H : Type 0) (Answers : H → HostCall → Reply → H → Type 0) (imp
           let cut = front_cut (printed imports q.front) text (printed imports (drop (k + 1) ideal.calls)) q.count (omega (arith, q.inside)) in
           let over : (run_of (goes i n (first i e arguments) (replicate k replied ++ Stop ∷ q.stops))).end ≡ As Stops =
           stops_end i n (first i e arguments) (replicate k replied) q.stops (omega (arith, ap (λ (x : ImageRun). length x.calls) is_real, made, length-replicate k replied, ap length (first_calls i e arguments))) in
-          let stopped : outcome ≡ HostStopped = stopped_by outcome memory real.end h.end (ap (λ (x : ImageRun). x.end) (sym is_real) ∙ over) in
+          let stopped : outcome ≡ HostStopped = stopped_by outcome memory results real.end h.end (ap (λ (x : ImageRun). x.end) (sym is_real) ∙ over) in
           rw rose (stopped, length (printed imports q.front) + q.count, q.written_is ∙ ap (append_known (written from)) (sym (ap (take (length (printed imports q.front) + q.count)) printed_parts ∙ cut)))
 
-      pub prints_run : PrintsRun (nat_lt (faults from) (faults to)) imports ideal outcome memory (written from) (written to)
+      pub prints_run : PrintsRun (nat_lt (faults from) (faults to)) imports ideal outcome memory results (written from) (written to)
       prints_run =
           elim (led from to real.calls h.replies of open_now h.leads) [
             | inl p ↦ all_prints p

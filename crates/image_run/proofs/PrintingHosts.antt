@@ -30,19 +30,19 @@ module _ (O : Type 0) (written_of : O → Option (List ℕ)) (faults_of : O → 
       ((same, h.1 ∙ over.1), prints)
 
   module _ (e : Export) (arguments : List Value) (n : ℕ) (from to : SinkHost O) (of : from.image.now ≡ image) (open_now : from.is_open ≡ true) (few : faults_of from.out.now < 2 ^ 64 - 1)
-      (known : has_unknown_import image.imports ≡ false) (outcome : Outcome) (memory : List ℕ) (h : RunsTo Answers image e arguments n from to outcome memory) where
-    pub prints : PrintsRun (nat_lt (faults_of from.out.now) (faults_of to.out.now)) image.imports (printing_run image e.offset e.signature.results arguments n) outcome memory (written_of from.out.now) (written_of to.out.now)
+      (known : has_unknown_import image.imports ≡ false) (outcome : Outcome) (memory : List ℕ) (results : List Value) (h : RunsTo Answers image e arguments n from to outcome memory results) where
+    pub prints : PrintsRun (nat_lt (faults_of from.out.now) (faults_of to.out.now)) image.imports (printing_run image e.offset e.signature.results arguments n) outcome memory results (written_of from.out.now) (written_of to.out.now)
     prints =
         prints_run (SinkHost O) Answers image.imports (IsOver from.out.ghost_name) (λ x. x.is_open) (λ x. written_of x.out.now) (λ x. faults_of x.out.now) (says from.out.ghost_name) image refl e arguments n from to (of, refl) open_now few known outcome
-        memory h
+        memory results h
 
     pub calm : nat_lt (faults_of from.out.now) (faults_of to.out.now) ≡ false → (to.is_open ≡ true) × (faults_of to.out.now ≡ faults_of from.out.now)
     calm =
         calm_open (SinkHost O) Answers image.imports (IsOver from.out.ghost_name) (λ x. x.is_open) (λ x. written_of x.out.now) (λ x. faults_of x.out.now) (says from.out.ghost_name) image refl e arguments n from to (of, refl) open_now few known outcome
-        memory h
+        memory results h
 
     -- the host still holds the sink
     pub still : to.out.ghost_name ≡ from.out.ghost_name
     still =
         (still_of (SinkHost O) Answers image.imports (IsOver from.out.ghost_name) (λ x. x.is_open) (λ x. written_of x.out.now) (λ x. faults_of x.out.now) (says from.out.ghost_name) image refl e arguments n from to (of, refl) open_now few known outcome
-        memory h).1
+        memory results h).1

@@ -228,7 +228,7 @@ module _ (H : Type 0) (Calls : H → HostCall → Reply → H → Type 0) (i : I
       comes = λ before more results later.
           let r = behind before more results later in
           let x = done before more results later in
-          let h : IsOver x × ((run_of x).calls ≡ r.calls) × IsEnd o (memory_of r) (run_of x).end = subst (λ (y : Answer). Says y r x) is (answers before more results later) in
+          let h : IsOver x × ((run_of x).calls ≡ r.calls) × IsEnd o (memory_of r) [] (run_of x).end = subst (λ (y : Answer). Says y r x) is (answers before more results later) in
           subst (λ (y : Stepping). Comes (Some o) i rest r y) (sym (leads_to before more results later ∙ over_stays x (steps i rest) h.0)) (h.1, h.2);
     }
 

@@ -1,11 +1,10 @@
 -- Runs of an exported function, behind the start function.
-use Rattle.std.proofs.Common.{◌≡◌, ℕ, ◌*◌, ◌==◌, if◌then◌else◌, [], ◌∷◌, ◌++◌, List, Option, None, Some, refl, sym, ap, ◌∙◌, subst}
+use Rattle.std.proofs.Common.{◌≡◌, ℕ, ◌*◌, ◌==◌, if◌then◌else◌, [], ◌∷◌, ◌++◌, List, length, Option, None, Some, refl, sym, ap, ◌∙◌, subst}
 use Rattle.std.specs.Prelude.{◌≢◌, take}
 use Rattle.std.proofs.lemmas.Bool.{eq-eqb, ne_eqb}
 use Rattle.std.proofs.lemmas.List.{append-nil}
 use Rattle.rv_isa.specs.Steps.{Bytes, State}
 use Rattle.wasm_defs.specs.declared.types.ValType.{ValType}
-use Rattle.wasm_defs.specs.declared.value.Value.{Value as Given}
 use Rattle.wasm_defs.specs.Values.{Value}
 use Rattle.wasm_defs.specs.Memory.{page}
 use Rattle.wasm_defs.specs.Host.{HostCall, Reply}
@@ -16,11 +15,12 @@ use Rattle.image_format.specs.Environment.{Entry, entered}
 use Rattle.image_format.specs.ImageRun.{Running, Stepping, As, steps, run_of, begin, results_at, globals_of}
 use Rattle.image_run.specs.declared.outcome.Outcome.{Outcome}
 use Rattle.image_run.specs.declared.outcome.Outcome.TheVariants.{Returned}
-use Rattle.image_run.specs.Hosts.{Leads, values_of}
+use Rattle.image_run.specs.Hosts.{Leads}
 use Rattle.image_run.specs.Ends.{IsEnd, RunsTo, run_of_export}
 use Rattle.image_run.specs.States.{at, IsLoaded}
 use Rattle.image_run.specs.Answers.{Comes, Runs, Begins, Starts, run_with}
 use Rattle.image_run.proofs.LeadLaws.{leads_append}
+use Rattle.image_run.proofs.ResultLaws.{results_counted}
 
 if_zero : (n : ℕ) (x y : Running) → n ≡ 0 → (if n == 0 then x else y) ≡ x
 if_zero n x y e = rw (eq-eqb n 0 e) refl
@@ -64,7 +64,7 @@ module _ (H : Type 0) (Calls : H → HostCall → Reply → H → Type 0) (i : I
       → Comes ended i left (at new pages calls more [] (e ∷ [])) y → Begins ended i left new pages calls more e x
   came None left new pages calls more e x y same h = same ∙ h
   came (Some o) left new pages calls more e x y same h =
-      subst (λ (z : Stepping). ((run_of z).calls ≡ calls) × IsEnd o (take (page * pages) new.bytes.memory) (run_of z).end) (sym same) h
+      subst (λ (z : Stepping). ((run_of z).calls ≡ calls) × IsEnd o (take (page * pages) new.bytes.memory) [] (run_of z).end) (sym same) h
 
   pub starts_by : (bytes : Bytes) (first new : State) (pages pages_now left : ℕ) (to : H) (ended : Option Outcome) → IsLoaded i bytes → pages ≡ i.pages → i.start ≢ 0 → first ≡ entered pages bytes (start_of i)
       → Runs Calls i from to first new pages pages_now n left ended → Starts Calls i from to new pages_now n left ended
@@ -88,22 +88,22 @@ module _ (H : Type 0) (Calls : H → HostCall → Reply → H → Type 0) (i : I
     by_run replies = refl
 
     -- the run is over
-    runs_to : (to : H) (outcome : Outcome) (memory : List ℕ) (calls : List HostCall) (replies : List Reply) → Leads Calls from calls replies to
-        → (run_of (run_with i n called replies)).calls ≡ calls → IsEnd outcome memory (run_of (run_with i n called replies)).end → RunsTo Calls i e arguments n from to outcome memory
-    runs_to to outcome memory calls replies leads are end = record {
+    runs_to : (to : H) (outcome : Outcome) (memory : List ℕ) (results : List Value) (calls : List HostCall) (replies : List Reply) → Leads Calls from calls replies to
+        → (run_of (run_with i n called replies)).calls ≡ calls → IsEnd outcome memory results (run_of (run_with i n called replies)).end → RunsTo Calls i e arguments n from to outcome memory results
+    runs_to to outcome memory results calls replies leads are end = record {
       replies = replies;
       leads = rw (by_run replies) (subst (λ (l : List HostCall). Leads Calls from l replies to) (sym are) leads);
       end = rw (by_run replies) end;
     }
 
     -- it was over in the start function
-    pub over_at_start : (s : State) (pages left : ℕ) (to : H) (outcome : Outcome) → Starts Calls i from to s pages n left (Some outcome) → RunsTo Calls i e arguments n from to outcome (take (page * pages) s.bytes.memory)
+    pub over_at_start : (s : State) (pages left : ℕ) (to : H) (outcome : Outcome) → Starts Calls i from to s pages n left (Some outcome) → RunsTo Calls i e arguments n from to outcome (take (page * pages) s.bytes.memory) []
     over_at_start s pages left to outcome h =
         let b = h.begins [] called in
         let all = append-nil h.replies in
-        let fact : List Reply → Type 0 = λ rs. ((run_of (run_with i n called rs)).calls ≡ h.calls) × IsEnd outcome (take (page * pages) s.bytes.memory) (run_of (run_with i n called rs)).end in
+        let fact : List Reply → Type 0 = λ rs. ((run_of (run_with i n called rs)).calls ≡ h.calls) × IsEnd outcome (take (page * pages) s.bytes.memory) [] (run_of (run_with i n called rs)).end in
         let c = subst fact all b in
-        runs_to to outcome (take (page * pages) s.bytes.memory) h.calls h.replies h.leads c.0 c.1
+        runs_to to outcome (take (page * pages) s.bytes.memory) [] h.calls h.replies h.leads c.0 c.1
 
     module _ (s first new : State) (pages pages_now left left_now : ℕ) (between to : H) (begun : Starts Calls i from between s pages n left None) (entry : first ≡ entered pages s.bytes called.0) where
       module _ (ended : Option Outcome) (h : Runs Calls i between to first new pages pages_now left left_now ended) where
@@ -120,17 +120,18 @@ module _ (H : Type 0) (Calls : H → HostCall → Reply → H → Type 0) (i : I
         comes : Comes ended i left_now (at new pages_now all_calls [] called.1 []) (run_with i n called (begun.replies ++ (h.replies ++ [])))
         comes = subst (λ (x : Stepping). Comes ended i left_now (at new pages_now all_calls [] called.1 []) x) (sym goes) (h.comes begun.calls [] called.1 [])
 
-      pub over_then : (outcome : Outcome) → Runs Calls i between to first new pages pages_now left left_now (Some outcome) → RunsTo Calls i e arguments n from to outcome (take (page * pages_now) new.bytes.memory)
+      pub over_then : (outcome : Outcome) → Runs Calls i between to first new pages pages_now left left_now (Some outcome) → RunsTo Calls i e arguments n from to outcome (take (page * pages_now) new.bytes.memory) []
       over_then outcome h =
           let c = comes (Some outcome) h in
-          runs_to to outcome (take (page * pages_now) new.bytes.memory) (all_calls (Some outcome) h) (begun.replies ++ (h.replies ++ [])) (led (Some outcome) h) c.0 c.1
+          runs_to to outcome (take (page * pages_now) new.bytes.memory) [] (all_calls (Some outcome) h) (begun.replies ++ (h.replies ++ [])) (led (Some outcome) h) c.0 c.1
 
-      pub returns_then : (v : Option Given) → Runs Calls i between to first new pages pages_now left left_now None → values_of v ≡ results_at new.bytes.stack 0 e.signature.results
-          → RunsTo Calls i e arguments n from to (Returned v) (take (page * pages_now) new.bytes.memory)
-      returns_then v h are =
+      pub returns_then : (count : ℕ) → Runs Calls i between to first new pages pages_now left left_now None → count ≡ length e.signature.results
+          → RunsTo Calls i e arguments n from to (Returned count) (take (page * pages_now) new.bytes.memory) (results_at new.bytes.stack 0 e.signature.results)
+      returns_then count h is =
           let c = comes None h in
           let memory = take (page * pages_now) new.bytes.memory in
+          let results = results_at new.bytes.stack 0 e.signature.results in
           let globals = globals_of (at new pages_now (all_calls None h) [] called.1 []) in
-          runs_to to (Returned v) memory (all_calls None h) (begun.replies ++ (h.replies ++ [])) (led None h)
+          runs_to to (Returned count) memory results (all_calls None h) (begun.replies ++ (h.replies ++ [])) (led None h)
           (ap (λ (x : Stepping). (run_of x).calls) c)
-          (globals, ap (λ (x : Stepping). (run_of x).end) c ∙ ap (λ (vs : List Value). As (Returns vs memory globals)) (sym are))
+          (is ∙ sym (results_counted new.bytes.stack 0 e.signature.results), globals, ap (λ (x : Stepping). (run_of x).end) c)

@@ -65,7 +65,7 @@ IsOver (Waiting r) = Unit {0}
 abbrev pub Says : Answer → Running → Stepping → Type 0
 Says answer.GoesOn r done = done ≡ To r
 Says answer.Ended r done = done ≡ finish r r.later
-Says (answer.Over outcome) r done = IsOver done × ((run_of done).calls ≡ r.calls) × IsEnd outcome (memory_of r) (run_of done).end
+Says (answer.Over outcome) r done = IsOver done × ((run_of done).calls ≡ r.calls) × IsEnd outcome (memory_of r) [] (run_of done).end
 
 -- the environment, called at a machine that stands behind the ECALL, makes calls that lead the host so, and does what is answered:
 -- whatever was called before, replied later, and left to run
@@ -81,7 +81,7 @@ pub record Answered {H : Type 0} (Answers : H → HostCall → Reply → H → T
 -- what the steps of a function come to: it has ended with so many steps left, or the run is over
 abbrev pub Comes : Option Outcome → Image → (left : ℕ) → Running → Stepping → Type 0
 Comes None i left r done = done ≡ on (finish r r.later) (steps i left)
-Comes (Some outcome) i left r done = ((run_of done).calls ≡ r.calls) × IsEnd outcome (memory_of r) (run_of done).end
+Comes (Some outcome) i left r done = ((run_of done).calls ≡ r.calls) × IsEnd outcome (memory_of r) [] (run_of done).end
 
 -- the function that runs makes calls that lead the host so, and its steps come to that: whatever was called before, replied later,
 -- and left to run
@@ -102,7 +102,7 @@ run_with i n e replies = steps i n (first_running i replies e)
 abbrev pub Begins : Option Outcome → Image → (left : ℕ) → State → (pages : ℕ) → List HostCall → List Reply → Entry × List ValType → Stepping → Type 0
 Begins None i left machine pages calls more e done = done ≡ steps i left (at (entered pages machine.bytes e.0) pages calls more e.1 [])
 Begins (Some outcome) i left machine pages calls more e done =
-    ((run_of done).calls ≡ calls) × IsEnd outcome (take (page * pages) machine.bytes.memory) (run_of done).end
+    ((run_of done).calls ≡ calls) × IsEnd outcome (take (page * pages) machine.bytes.memory) [] (run_of done).end
 
 -- the start function of an image that is loaded, if there is one, makes calls that lead the host so, and its steps come to that:
 -- whatever is replied later, and called then

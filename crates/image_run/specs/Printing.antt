@@ -70,10 +70,10 @@ printing_run i offset results arguments steps = image_run i offset results argum
 
 -- What such a run writes to a sink, and how it ends: by whether the sink failed. Where it did, the run was stopped, and a front of
 -- the text was written.
-abbrev pub PrintsRun : (failed : Bool) → List Import → ImageRun → Outcome → (memory : List ℕ) → (written written_now : Option (List ℕ)) → Type 0
-PrintsRun false imports run outcome memory written written_now =
-    (outcome ≢ HostStopped) × IsEnd outcome memory run.end × (written_now ≡ append_known written (printed imports run.calls))
-PrintsRun true imports run outcome memory written written_now =
+abbrev pub PrintsRun : (failed : Bool) → List Import → ImageRun → Outcome → (memory : List ℕ) → (results : List Value) → (written written_now : Option (List ℕ)) → Type 0
+PrintsRun false imports run outcome memory results written written_now =
+    (outcome ≢ HostStopped) × IsEnd outcome memory results run.end × (written_now ≡ append_known written (printed imports run.calls))
+PrintsRun true imports run outcome memory results written written_now =
     (outcome ≡ HostStopped) × (n : ℕ) × (written_now ≡ append_known written (take n (printed imports run.calls)))
 
 -- A call's text is written and it returns nothing, or the sink failed and the run stops. Once it has, nothing is written. By

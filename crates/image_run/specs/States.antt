@@ -1,13 +1,15 @@
 -- Machines of an image, and what an instance of it is.
-use Rattle.std.specs.Prelude.{◌≡◌, ℕ, ◌*◌, ◌≤◌, Bool, false, List, length, take, replicate}
+use Rattle.std.specs.Prelude.{◌≡◌, ℕ, ◌*◌, ◌≤◌, Bool, false, List, [], length, take, replicate, Option, None, Some}
 use Rattle.rv_isa.specs.Steps.{Bytes, State}
 use Rattle.rv64im_machine.specs.Contents.{Contents as Machine}
 use Rattle.wasm_defs.specs.declared.types.ValType.{ValType}
 use Rattle.wasm_defs.specs.declared.value.Value.{Value as Given}
+use Rattle.wasm_defs.specs.Values.{Value}
 use Rattle.wasm_defs.specs.Memory.{page}
 use Rattle.wasm_defs.specs.Host.{HostCall, Reply}
 use Rattle.image_format.specs.Contents.{Image, IsImage}
-use Rattle.image_format.specs.declared.limits.TheConstants.{PARAMS}
+use Rattle.image_format.specs.declared.image.Export.{Export}
+use Rattle.image_format.specs.declared.limits.TheConstants.{PARAMS, RESULTS}
 use Rattle.image_format.specs.Environment.{Entry, loaded, code_of_image}
 use Rattle.image_format.specs.ImageRun.{Running}
 
@@ -42,16 +44,23 @@ pub record Keeps (old new : Machine) : Type 0 where
   pub stack : length new.bytes.stack ≡ length old.bytes.stack
   pub memory : length new.bytes.memory ≡ length old.bytes.memory
 
--- an image that was loaded, its memory as it is now, and whether it has run
+-- the types of the results that lie in the stack's first slots: of an exported function that returned
+abbrev pub types_left : Option Export → List ValType
+types_left None = []
+types_left (Some e) = e.signature.results
+
+-- an image that was loaded, its memory as it is now, whether it has run, and the results of a run that returned
 pub record Contents : Type 0 where
   pub image : Image
   pub memory : List ℕ
   pub has_run : Bool
+  pub results : List Value
 
 -- what every instance keeps
-pub record IsInstance (i : Image) (m : Machine) (pages : ℕ) (room : List Given) (has_run : Bool) : Type 0 where
+pub record IsInstance (i : Image) (m : Machine) (pages : ℕ) (room : List Given) (has_run : Bool) (left : List ValType) : Type 0 where
   pub bounds : IsImage i
   pub machine : RunsImage i m pages
   pub fits : PARAMS ≤ length room
   pub bytes : has_run ≡ false → IsLoaded i m.bytes
   pub first_pages : has_run ≡ false → pages ≡ i.pages
+  pub few_results : length left ≤ RESULTS

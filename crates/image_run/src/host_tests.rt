@@ -58,10 +58,11 @@ fn replying<'a>(replies: &'a [Reply]) -> Listed<'a> {
     }
 }
 
-/// How a call of an export ends, and the first bytes of the memory behind it with its size.
+/// How a call of an export ends, its only result where it returned one, and the first bytes of the memory behind it with its size.
 #[derive(Clone, Copy, Debug, PartialEq, Eq)]
 struct Seen {
     outcome: Outcome,
+    result: Option<Value>,
     first: u64,
     size: usize,
 }
@@ -81,8 +82,13 @@ fn called(alloc: Global, image: &Image, host: &mut Listed<'_>) -> Result<Seen, F
     }
     let mut instance = Instance::load(alloc, image)?;
     let outcome = instance.start_and_run("f", &arguments, host, 100);
+    let result = match outcome {
+        Outcome::Returned(1) => Some(instance.result(0)),
+        _ => None,
+    };
     Ok(Seen {
         outcome,
+        result,
         first: first_word(instance.memory()),
         size: instance.memory().len(),
     })
@@ -103,7 +109,8 @@ fn memories_grow_up_to_their_cap(rt: HostRuntime) -> Result<(), Fail> {
         let image = image(rt.alloc(), &plain(&[pages, GROW, ECALL, TO_SLOT, RETURN]))?;
         let found = called(rt.alloc(), &image, &mut replying(&[]))?;
         let wanted = Seen {
-            outcome: Outcome::Returned(Some(Value::I64(answer))),
+            outcome: Outcome::Returned(1),
+            result: Some(Value::I64(answer)),
             first: LOADED,
             size,
         };
@@ -128,7 +135,8 @@ fn imports_are_called(rt: HostRuntime) -> Result<(), Fail> {
     let mut host = replying(&replies);
     let found = called(rt.alloc(), &importing, &mut host)?;
     let wanted = Seen {
-        outcome: Outcome::Returned(Some(Value::I64(41))),
+        outcome: Outcome::Returned(1),
+        result: Some(Value::I64(41)),
         first: LOADED + 0x0605,
         size: 65_536,
     };
@@ -172,6 +180,7 @@ fn replies_that_do_not_fit_stop_the_run(rt: HostRuntime) -> Result<(), Fail> {
         let found = called(rt.alloc(), &importing, &mut replying(&[reply]))?;
         let wanted = Seen {
             outcome: Outcome::HostStopped,
+            result: None,
             first: LOADED,
             size: 65_536,
         };

@@ -8,7 +8,7 @@ ghost use Rattle.rv64im_machine.specs.Lending.{with_bytes};
 ghost use Rattle.wasm_defs.specs.Host.{are_of, most_patched, patched, taken};
 ghost use Rattle.wasm_defs.specs.Values.{value_of};
 ghost use Rattle.image_format.specs.declared.limits.TheConstants.{PARAMS};
-ghost use Rattle.image_format.specs.Bounds.{IsSignature};
+ghost use Rattle.image_format.specs.Bounds.{IsImport};
 ghost use Rattle.image_format.specs.ImageRun.{slots_at, values_at, with_results};
 ghost use Rattle.image_run.specs.Hosts.{patch_of, reply_of, values_of};
 ghost use Rattle.image_run.specs.Answers.{Answered, Patches, Replies, Takes};
@@ -168,7 +168,7 @@ fn call_host<H: Host>(
 /// The import of a number, if there is one.
 fn import_at(image: &Image, number: u64) -> Option<&Import>
     ensures import { option_copied result ≡ slice_get image.now.imports number }
-    ensures signature { IfSome result (λ i. IsSignature i.now.signature) }
+    ensures bounds { IfSome result (λ i. IsImport i.now) }
     ensures number { IfSome result (λ _. number < 2 ^ 32) }
 {
     image.imports.as_slice().get(number as usize)

@@ -1,9 +1,9 @@
 //! Instances of images.
-ghost use Rattle.std.specs.Prelude.{◌≡◌, ◌<◌, ◌-◌, ◌*◌, ◌^◌, nat_lt, true, false, Some, None, IfOk, map, take};
+ghost use Rattle.std.specs.Prelude.{◌≡◌, ◌<◌, ◌-◌, ◌*◌, ◌^◌, nat_lt, true, false, [], Some, None, IfOk, length, map, slice_get, take};
 ghost use Rattle.wasm_defs.specs.Values.{type_of, value_of};
 ghost use Rattle.image_format.specs.declared.image.Export.{Export};
 ghost use Rattle.image_run.specs.Checks.{export_named, not_runnable, unfit};
-ghost use Rattle.image_run.specs.Ends.{RunsTo};
+ghost use Rattle.image_run.specs.Ends.{RunsTo, TellsCount};
 ghost use Rattle.image_run.specs.Printing.{PrintsRun, printing_run};
 ghost use Rattle.image_run.specs.States.{first_memory};
 
@@ -11,9 +11,10 @@ use crate::checks::find_export;
 use crate::host::Host;
 use crate::outcome::Outcome;
 use crate::regions::regions_of;
-use crate::run::{enter, returned, run_function, run_start};
+use crate::run::{enter, run_function, run_start};
 use crate::sink_host::SinkHost;
-use image_format::{Image, PARAMS};
+use crate::words::{value_in, word_in};
+use image_format::{Export, Image, PARAMS};
 use io_edges::Sink;
 use rv64im_machine::{Machine, Region};
 use std::alloc::{AllocError, Global};
@@ -21,7 +22,7 @@ use std::marker::Model;
 use wasm_defs::Value;
 
 /// An image that is loaded, and all memory that a run of it can want. It runs once. Contracts see the image, its memory as it is
-/// now, and whether it has run.
+/// now, whether it has run, and the results of a run that returned.
 #[derive(Drop)]
 pub struct Instance<'a> {
     image: &'a Image,
@@ -29,18 +30,22 @@ pub struct Instance<'a> {
     pages: u32,
     room: Vec<Value>,
     has_run: bool,
+    /// The function whose run returned: its results lie in the stack's first slots.
+    returned: Option<&'a Export>,
 }
 
 impl<'a> Model for Instance<'a> {
     ghost use Rattle.std.specs.Prelude.{◌*◌, take};
+    ghost use Rattle.std.specs.Option.{option_copied};
     ghost use Rattle.wasm_defs.specs.Memory.{page};
-    ghost use Rattle.image_run.specs.States.{Contents, IsInstance};
+    ghost use Rattle.image_format.specs.ImageRun.{results_at};
+    ghost use Rattle.image_run.specs.States.{Contents, IsInstance, types_left};
 
     ghost Value = { Contents };
 
-    ghost view = { λ s. record { image = s.image.now; memory = take (page * s.pages) s.machine.bytes.memory; has_run = s.has_run } };
+    ghost view = { λ s. record { image = s.image.now; memory = take (page * s.pages) s.machine.bytes.memory; has_run = s.has_run; results = results_at s.machine.bytes.stack 0 (types_left (option_copied s.returned)) } };
 
-    ghost invariant = { λ s. IsInstance s.image.now s.machine s.pages s.room.items s.has_run };
+    ghost invariant = { λ s. IsInstance s.image.now s.machine s.pages s.room.items s.has_run (types_left (option_copied s.returned)) };
 }
 
 impl<'a> Instance<'a> {
@@ -50,6 +55,7 @@ impl<'a> Instance<'a> {
         ensures image { IfOk result (λ s. s.image ≡ image.now) }
         ensures memory { IfOk result (λ s. s.memory ≡ first_memory image.now) }
         ensures ready { IfOk result (λ s. s.has_run ≡ false) }
+        ensures results { IfOk result (λ s. s.results ≡ []) }
     {
         let regions = regions_of(alloc, image)?;
         let machine = Machine::new(alloc, image.text.as_slice(), regions)?;
@@ -60,6 +66,7 @@ impl<'a> Instance<'a> {
             pages: image.pages,
             room,
             has_run: false,
+            returned: None,
         })
     }
 
@@ -78,8 +85,22 @@ impl<'a> Instance<'a> {
         &self.machine.bytes(Region::Memory)[..size]
     }
 
+    /// A result of the run that returned, by its place in order. The condition is that there are more.
+    pub fn result(&self, index: u32) -> Value
+        requires { index < length self.now.results }
+        ensures { slice_get self.now.results index ≡ Some (value_of result) }
+    {
+        let Some(export) = self.returned else {
+            unreachable!()
+        };
+        let at = index as usize;
+        let ty = export.signature.results.as_slice()[at];
+        value_in(ty, word_in(self.machine.bytes(Region::Stack), 8 * at))
+    }
+
     /// Runs the start function of the image, if it has one, and then the exported function of that name with these arguments, both
-    /// together for at most so many steps of the machine. The host answers the calls of imports. No memory is taken.
+    /// together for at most so many steps of the machine. The host answers the calls of imports. Where the function returns, the
+    /// outcome is the number of its results, and `result` gives them. No memory is taken.
     ///
     /// The conditions are that the image has the export, that the arguments are of its types, that the image isn't unlinkable, and
     /// that the instance hasn't run.
@@ -95,15 +116,17 @@ impl<'a> Instance<'a> {
         requires fit { unfit self.old.image (map type_of arguments.now) (export_named export.now self.old.image.exports) ≡ None }
         ensures image { self.new.image ≡ self.old.image }
         ensures has_run { self.new.has_run ≡ true }
+        ensures count { TellsCount result self.new.results }
         ensures host { H.is_ready host.new ≡ true }
         ensures run { (e : Export) × (export_named export.now self.old.image.exports ≡ Some e)
-            × RunsTo H.answers self.old.image e (map value_of arguments.now) steps host.old host.new result self.new.memory }
+            × RunsTo H.answers self.old.image e (map value_of arguments.now) steps host.old host.new result self.new.memory self.new.results }
     {
         let Some(export) = find_export(self.image, export) else {
             unreachable!()
         };
         let mut left = steps;
         self.has_run = true;
+        self.returned = None;
         if let Some(outcome) = run_start(
             &mut self.machine,
             &mut self.pages,
@@ -125,8 +148,8 @@ impl<'a> Instance<'a> {
         ) {
             return outcome;
         }
-        let results = export.signature.results.as_slice();
-        Outcome::Returned(returned(self.machine.bytes(Region::Stack), results))
+        self.returned = Some(export);
+        Outcome::Returned(export.signature.results.as_slice().len() as u32)
     }
 
     /// Runs the start function and the exported one, as `start_and_run` does, with the program's host, which prints to a sink.
@@ -146,10 +169,11 @@ impl<'a> Instance<'a> {
         requires fit { not_runnable self.old.image export.now (map type_of arguments.now) ≡ None }
         ensures image { self.new.image ≡ self.old.image }
         ensures has_run { self.new.has_run ≡ true }
+        ensures count { TellsCount result self.new.results }
         ensures calm { nat_lt (O.faults out.old) (O.faults out.new) ≡ false → (O.is_open out.new ≡ true) × (O.faults out.new ≡ O.faults out.old) }
         ensures run { (e : Export) × (export_named export.now self.old.image.exports ≡ Some e)
             × PrintsRun (nat_lt (O.faults out.old) (O.faults out.new)) self.old.image.imports
-            (printing_run self.old.image e.offset e.signature.results (map value_of arguments.now) steps) result self.new.memory (O.written out.old) (O.written out.new) }
+            (printing_run self.old.image e.offset e.signature.results (map value_of arguments.now) steps) result self.new.memory self.new.results (O.written out.old) (O.written out.new) }
     {
         let mut host = SinkHost::new(self.image, out);
         self.start_and_run(export, arguments, &mut host, steps)

@@ -1,12 +1,12 @@
 //! How runs end.
 use rv64im_machine::FaultKind;
-use wasm_defs::{TrapKind, Value};
+use wasm_defs::TrapKind;
 
 /// How a run of an exported function ends.
 #[derive(Clone, Copy, Debug, PartialEq, Eq)]
 pub enum Outcome {
-    /// The function returned, with its result if its type has one.
-    Returned(Option<Value>),
+    /// The function returned, with so many results.
+    Returned(u32),
     /// It trapped (WebAssembly Core 1.0, 4.4).
     Trapped(TrapKind),
     /// All steps were made, and it hadn't ended.

@@ -6,9 +6,7 @@ ghost use Rattle.rv64im_machine.specs.Lending.{with_bytes};
 ghost use Rattle.wasm_defs.specs.Values.{value_of, words_of};
 ghost use Rattle.image_format.specs.declared.limits.TheConstants.{PARAMS};
 ghost use Rattle.image_format.specs.Environment.{entered, first_registers, with_words};
-ghost use Rattle.image_format.specs.ImageRun.{results_at};
 ghost use Rattle.image_run.specs.Answers.{Runs, Starts};
-ghost use Rattle.image_run.specs.Hosts.{values_of};
 ghost use Rattle.image_run.specs.States.{IsLoaded, Keeps, RunsImage};
 
 use crate::answer::Answer;
@@ -18,10 +16,10 @@ use crate::layout::{
     GLOBALS, MEMORY, PAGE, RA, S0, S1, S2, S3, S4, S5, STACK, STACK_SIZE, TABLE, TEXT,
 };
 use crate::outcome::Outcome;
-use crate::words::{value_in, word_in, write_value};
+use crate::words::write_value;
 use image_format::Image;
 use rv64im_machine::{Machine, Ran};
-use wasm_defs::{ValType, Value};
+use wasm_defs::Value;
 
 /// Sets the registers for a call from outside.
 fn set_registers(machine: &mut Machine, pages: u32)
@@ -58,16 +56,6 @@ pub(crate) fn enter(machine: &mut Machine, pages: u32, offset: u32, arguments: &
     write_arguments(machine, arguments);
     set_registers(machine, pages);
     machine.set_pc(TEXT + u64::from(offset));
-}
-
-/// The result that stands in the stack's first slot, if there is one.
-pub(crate) fn returned(stack: &[u8], results: &[ValType]) -> Option<Value>
-    requires stack { 8 ≤ length stack.now }
-    requires results { length results.now ≤ 1 }
-    ensures { values_of result ≡ results_at stack.now 0 results.now }
-{
-    let ty = results.first()?;
-    Some(value_in(*ty, word_in(stack, 0)))
 }
 
 /// Runs the function at which the machine of an image stands, for at most so many steps. Where it ends, `left` is how many steps are

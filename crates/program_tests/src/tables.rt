@@ -224,7 +224,7 @@ fn rows_lead_to_imports(rt: HostRuntime) -> Result<(), Fail> {
     let image = image_of(&rt, alloc, PRINTING)?;
     let mut page = Page::new(alloc, 64)?;
     let outcome = printed(alloc, &image, "m", &mut page)?;
-    assert_eq!(rt; outcome, Outcome::Returned(None));
+    assert_eq!(rt; outcome, Outcome::Returned(0));
     assert!(rt; page.bytes() == "-5\n".as_bytes());
     let mut page = Page::new(alloc, 64)?;
     let outcome = printed(alloc, &image, "w", &mut page)?;

@@ -30,3 +30,4 @@ pub mod DrillRuns
 pub mod DrillSums
 pub mod Drills
 pub mod ShownBytes
+pub mod ValueLines

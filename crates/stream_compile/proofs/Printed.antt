@@ -7,7 +7,7 @@ use Rattle.std.proofs.lemmas.Bool.{cases_Bool, ltb-true, ltb-false}
 use Rattle.std.proofs.lemmas.List.{take-append-le, take_all, take_at}
 use Rattle.io_edges.proofs.Known.{append_more}
 use Rattle.wasm_defs.specs.declared.value.Value.{Value as Given}
-use Rattle.wasm_defs.specs.Values.{type_of, value_of}
+use Rattle.wasm_defs.specs.Values.{Value, type_of, value_of}
 use Rattle.wasm_defs.specs.ModuleRun.{Returns, Traps, Stops, Going, Fails}
 use Rattle.image_format.specs.Contents.{Image}
 use Rattle.image_format.specs.declared.image.Export.{Export}
@@ -39,12 +39,12 @@ some_line drill peek (As Fails) h = absurd h
 some_line drill peek (Fault kind pc) h = (machine_fault kind pc, refl)
 
 -- the line of an outcome is that of its end
-line_ends : (drill : Option ℕ) (peek : Option Peek) (outcome : Ran) (memory : List ℕ) (end : Ending) → outcome ≢ ran.HostStopped → IsEnd outcome memory end → EndsAs drill peek end (lines_of drill peek outcome memory)
-line_ends drill peek (ran.Returned v) memory end going h = subst (λ (e : Ending). EndsAs drill peek e (lines_of drill peek (ran.Returned v) memory)) (sym h.1) refl
-line_ends drill peek (ran.Trapped kind) memory end going h = subst (λ (e : Ending). EndsAs drill peek e (lines_of drill peek (ran.Trapped kind) memory)) (sym h.1) refl
-line_ends drill peek ran.StepsSpent memory end going h = subst (λ (e : Ending). EndsAs drill peek e steps_spent) (sym h) refl
-line_ends drill peek ran.HostStopped memory end going h = absurd (going refl)
-line_ends drill peek (ran.Fault kind pc) memory end going h = subst (λ (e : Ending). EndsAs drill peek e (lines_of drill peek (ran.Fault kind pc) memory)) (sym h) refl
+line_ends : (drill : Option ℕ) (peek : Option Peek) (outcome : Ran) (memory : List ℕ) (results : List Value) (end : Ending) → outcome ≢ ran.HostStopped → IsEnd outcome memory results end → EndsAs drill peek end (lines_of drill peek outcome memory results)
+line_ends drill peek (ran.Returned n) memory results end going h = subst (λ (e : Ending). EndsAs drill peek e (lines_of drill peek (ran.Returned n) memory results)) (sym h.2) refl
+line_ends drill peek (ran.Trapped kind) memory results end going h = subst (λ (e : Ending). EndsAs drill peek e (lines_of drill peek (ran.Trapped kind) memory results)) (sym h.1) refl
+line_ends drill peek ran.StepsSpent memory results end going h = subst (λ (e : Ending). EndsAs drill peek e steps_spent) (sym h) refl
+line_ends drill peek ran.HostStopped memory results end going h = absurd (going refl)
+line_ends drill peek (ran.Fault kind pc) memory results end going h = subst (λ (e : Ending). EndsAs drill peek e (lines_of drill peek (ran.Fault kind pc) memory results)) (sym h) refl
 
 -- a front of a text is one of what begins with it
 front_of_more : (n : ℕ) (text more : List ℕ) → (k : ℕ) × (take n text ≡ take k (text ++ more))
@@ -73,53 +73,50 @@ module _ (drill : Option ℕ) (i : Image) (call : Call) (name : List ℕ) (value
       )
 
   -- the line was written, or a front of it
-  line_told : (e : Export) (outcome : Ran) (memory : List ℕ) (failed : Bool) → export_named name i.exports ≡ Some e → outcome ≢ ran.HostStopped
-      → IsEnd outcome memory (printing_run i e.offset e.signature.results (map value_of values) call.steps).end
-      → between ≡ append_known old (printed i.imports (printing_run i e.offset e.signature.results (map value_of values) call.steps).calls) → Told status (lines_of drill call.peek outcome memory) failed between new → Written failed
-  line_told e outcome memory true found going end text told =
+  line_told : (e : Export) (outcome : Ran) (memory : List ℕ) (results : List Value) (failed : Bool) → export_named name i.exports ≡ Some e → outcome ≢ ran.HostStopped
+      → IsEnd outcome memory results (printing_run i e.offset e.signature.results (map value_of values) call.steps).end
+      → between ≡ append_known old (printed i.imports (printing_run i e.offset e.signature.results (map value_of values) call.steps).calls) → Told status (lines_of drill call.peek outcome memory results) failed between new → Written failed
+  line_told e outcome memory results true found going end text told =
       let run = printing_run i e.offset e.signature.results (map value_of values) call.steps in
       let all = printed i.imports run.calls in
-      let line = lines_of drill call.peek outcome memory in (
+      let line = lines_of drill call.peek outcome memory results in (
         behind all line,
-        runs_as drill i call name values checked b none is e line found (line_ends drill call.peek outcome memory run.end going end),
+        runs_as drill i call name values checked b none is e line found (line_ends drill call.peek outcome memory results run.end going end),
         (told.0, length all + told.1, told.2 ∙ ap (λ (k : Option (List ℕ)). append_known k (take told.1 line.text)) text ∙ append_more old all (take told.1 line.text) ∙ ap (append_known old) (sym (past all line.text told.1))),
       )
-  line_told e outcome memory false found going end text told =
+  line_told e outcome memory results false found going end text told =
       let run = printing_run i e.offset e.signature.results (map value_of values) call.steps in
       let all = printed i.imports run.calls in
-      let line = lines_of drill call.peek outcome memory in (
+      let line = lines_of drill call.peek outcome memory results in (
         behind all line,
-        runs_as drill i call name values checked b none is e line found (line_ends drill call.peek outcome memory run.end going end),
+        runs_as drill i call name values checked b none is e line found (line_ends drill call.peek outcome memory results run.end going end),
         (told.0, told.1 ∙ ap (λ (k : Option (List ℕ)). append_known k line.text) text ∙ append_more old all line.text),
       )
 
-  by_sink : (e : Export) (outcome : Ran) (memory : List ℕ) (failed : Bool) → nat_lt before middle ≡ failed → export_named name i.exports ≡ Some e
-      → PrintsRun failed i.imports (printing_run i e.offset e.signature.results (map value_of values) call.steps) outcome memory old between
-      → (failed ≡ false → middle ≡ before) → (outcome ≡ ran.HostStopped → (status ≡ 7) × (new ≡ between) × (now ≡ middle)) → (outcome ≢ ran.HostStopped → Told status (lines_of drill call.peek outcome memory) (nat_lt middle now) between new)
+  by_sink : (e : Export) (outcome : Ran) (memory : List ℕ) (results : List Value) (failed : Bool) → nat_lt before middle ≡ failed → export_named name i.exports ≡ Some e
+      → PrintsRun failed i.imports (printing_run i e.offset e.signature.results (map value_of values) call.steps) outcome memory results old between
+      → (failed ≡ false → middle ≡ before) → (outcome ≡ ran.HostStopped → (status ≡ 7) × (new ≡ between) × (now ≡ middle)) → (outcome ≢ ran.HostStopped → Told status (lines_of drill call.peek outcome memory results) (nat_lt middle now) between new)
       → Written (nat_lt before now)
-  by_sink e outcome memory true failed found p calm stopped told =
+  by_sink e outcome memory results true failed found p calm stopped told =
       let s = stopped p.0 in
       let here : nat_lt before now ≡ true = ap (nat_lt before) s.2 ∙ failed in
       rw here (stopped_told e p.1 found s.0 s.1 p.2)
-  by_sink e outcome memory false failed found p calm stopped told =
-      let here : Told status (lines_of drill call.peek outcome memory) (nat_lt before now) between new = subst (λ (k : ℕ). Told status (lines_of drill call.peek outcome memory) (nat_lt k now) between new) (calm refl) (told p.0) in
-      line_told e outcome memory (nat_lt before now) found p.0 p.1 p.2 here
+  by_sink e outcome memory results false failed found p calm stopped told =
+      let here : Told status (lines_of drill call.peek outcome memory results) (nat_lt before now) between new = subst (λ (k : ℕ). Told status (lines_of drill call.peek outcome memory results) (nat_lt k now) between new) (calm refl) (told p.0) in
+      line_told e outcome memory results (nat_lt before now) found p.0 p.1 p.2 here
 
-  -- the bytes that are shown are the memory behind the run
-  pub run_told : (outcome : Ran) (memory shown : List ℕ) → shown ≡ memory
-      → (e : Export) × (export_named name i.exports ≡ Some e) × PrintsRun (nat_lt before middle) i.imports (printing_run i e.offset e.signature.results (map value_of values) call.steps) outcome memory old between
-      → (nat_lt before middle ≡ false → middle ≡ before) → (outcome ≡ ran.HostStopped → (status ≡ 7) × (new ≡ between) × (now ≡ middle)) → (outcome ≢ ran.HostStopped → Told status (lines_of drill call.peek outcome shown) (nat_lt middle now) between new)
+  pub run_told : (outcome : Ran) (memory : List ℕ) (results : List Value)
+      → (e : Export) × (export_named name i.exports ≡ Some e) × PrintsRun (nat_lt before middle) i.imports (printing_run i e.offset e.signature.results (map value_of values) call.steps) outcome memory results old between
+      → (nat_lt before middle ≡ false → middle ≡ before) → (outcome ≡ ran.HostStopped → (status ≡ 7) × (new ≡ between) × (now ≡ middle)) → (outcome ≢ ran.HostStopped → Told status (lines_of drill call.peek outcome memory results) (nat_lt middle now) between new)
       → Written (nat_lt before now)
-  run_told outcome memory shown same (e, found, p) calm stopped told =
-      by_sink e outcome memory (nat_lt before middle) refl found p calm stopped
-      (subst (λ (bytes : List ℕ). outcome ≢ ran.HostStopped → Told status (lines_of drill call.peek outcome bytes) (nat_lt middle now) between new) same told)
+  run_told outcome memory results (e, found, p) calm stopped told = by_sink e outcome memory results (nat_lt before middle) refl found p calm stopped told
 
 -- where the run wasn't stopped, the sink's count stands
-pub calm_count : (imports : List Import) (run : ImageRun) (outcome : Ran) (memory : List ℕ) (old new : Option (List ℕ)) (before now : ℕ) → PrintsRun (nat_lt before now) imports run outcome memory old new
+pub calm_count : (imports : List Import) (run : ImageRun) (outcome : Ran) (memory : List ℕ) (results : List Value) (old new : Option (List ℕ)) (before now : ℕ) → PrintsRun (nat_lt before now) imports run outcome memory results old new
     → outcome ≢ ran.HostStopped → nat_lt before now ≡ false
-calm_count imports run outcome memory old new before now = by_count (nat_lt before now)
+calm_count imports run outcome memory results old new before now = by_count (nat_lt before now)
   where
-    by_count : (failed : Bool) → PrintsRun failed imports run outcome memory old new → outcome ≢ ran.HostStopped → failed ≡ false
+    by_count : (failed : Bool) → PrintsRun failed imports run outcome memory results old new → outcome ≢ ran.HostStopped → failed ≡ false
     by_count true p going = absurd (going p.0)
     by_count false p going = refl
 

@@ -5,7 +5,7 @@ use Rattle.command_words.specs.declared.peek.Peek.{Peek}
 use Rattle.wasm_defs.specs.Host.{all_in_range}
 use Rattle.image_format.specs.Contents.{Image}
 use Rattle.image_format.specs.Reading.{image_or_offset}
-use Rattle.image_run.specs.Hosts.{values_of}
+use Rattle.wasm_defs.specs.Values.{Value}
 use Rattle.image_run.specs.declared.outcome.Outcome.{Outcome as Given}
 use Rattle.image_run.specs.declared.outcome.Outcome.TheVariants as given
 use Rattle.stream_compile.specs.declared.foreign.Foreign.{Foreign}
@@ -13,25 +13,25 @@ use Rattle.stream_compile.specs.declared.foreign.Foreign.TheVariants as foreign
 use Rattle.stream_compile.specs.Came.{CameUpTo, image_input}
 use Rattle.stream_compile.specs.Texts.{Outcome, Told, arguments_of, machine_fault, returned_by, showing, steps_spent, trapped, TellsImageCall}
 
--- the line of an outcome of a run that no host stopped
-abbrev pub line_of : (drill : Option ℕ) → Given → Outcome
-line_of drill (given.Returned v) = returned_by drill (values_of v)
-line_of drill (given.Trapped kind) = trapped kind
-line_of drill given.StepsSpent = steps_spent
-line_of drill given.HostStopped = record { status = 7; text = [] }
-line_of drill (given.Fault kind pc) = machine_fault kind pc
+-- the lines of an outcome of a run that no host stopped, with its results
+abbrev pub line_of : (drill : Option ℕ) → Given → (results : List Value) → Outcome
+line_of drill (given.Returned n) results = returned_by drill results
+line_of drill (given.Trapped kind) results = trapped kind
+line_of drill given.StepsSpent results = steps_spent
+line_of drill given.HostStopped results = record { status = 7; text = [] }
+line_of drill (given.Fault kind pc) results = machine_fault kind pc
 
 -- bytes are shown behind a value and behind a trap
 abbrev pub shown_behind : Given → Option Peek → Option Peek
-shown_behind (given.Returned v) peek = peek
+shown_behind (given.Returned n) peek = peek
 shown_behind (given.Trapped kind) peek = peek
 shown_behind given.StepsSpent peek = None
 shown_behind given.HostStopped peek = None
 shown_behind (given.Fault kind pc) peek = None
 
--- its lines, with the memory behind the run
-abbrev pub lines_of : (drill : Option ℕ) → Option Peek → Given → (memory : List ℕ) → Outcome
-lines_of drill peek outcome memory = showing (shown_behind outcome peek) memory (line_of drill outcome)
+-- its lines, with the memory and the results behind the run
+abbrev pub lines_of : (drill : Option ℕ) → Option Peek → Given → (memory : List ℕ) → (results : List Value) → Outcome
+lines_of drill peek outcome memory results = showing (shown_behind outcome peek) memory (line_of drill outcome results)
 
 -- what was answered and written is an outcome of these
 abbrev pub IsTold : (Outcome → Type 0) → ℕ → Bool → (written written_now : Option (List ℕ)) → Type 0

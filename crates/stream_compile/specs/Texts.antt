@@ -93,10 +93,14 @@ abbrev pub type_name : ValType → List ℕ
 type_name I32 = codes "i32 "
 type_name I64 = codes "i64 "
 
--- a value as a signed number, or that there is none
+-- a value as a signed number
+abbrev pub value_line : Value → List ℕ
+value_line v = type_name v.ty ++ signed_decimal (signed v.ty v.number) ++ codes "\n"
+
+-- each value on a line, in order, or that there is none
 abbrev pub returned : List Value → Outcome
 returned [] = record { status = 0; text = codes "ok\n" }
-returned (v ∷ vs) = record { status = 0; text = type_name v.ty ++ signed_decimal (signed v.ty v.number) ++ codes "\n" }
+returned (v ∷ vs) = record { status = 0; text = flat_map value_line (v ∷ vs) }
 
 -- what the last of so many functions returned, as a signed number
 abbrev pub drill_line : (functions : ℕ) → ℤ → Outcome
@@ -139,7 +143,7 @@ given_value (argument.I64 n) = given.I64 n
 abbrev pub arguments_of : List Argument → List Value
 arguments_of arguments = map value_of (map given_value arguments)
 
--- the line of the values that were returned: by a drill with so many functions, or by another run
+-- the lines of the values that were returned: by a drill with so many functions, or by another run
 abbrev pub returned_by : (drill : Option ℕ) → List Value → Outcome
 returned_by None values = returned values
 returned_by (Some functions) values = drilled functions values

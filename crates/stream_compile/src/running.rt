@@ -59,5 +59,5 @@ pub fn run_image<O: Sink>(
     }
     let mut instance = Instance::load(alloc, image)?;
     let outcome = instance.run_printing(name, &values, out, call.steps);
-    Ok(write_end(out, drill, call.peek, outcome, instance.memory()))
+    Ok(write_end(out, drill, call.peek, outcome, &instance))
 }

@@ -1,19 +1,20 @@
 //! What is written to the sink. Nothing here takes memory.
 
-ghost use Rattle.std.specs.Prelude.{ℕ, Option, ◌≡◌, ◌≢◌, ◌<◌, ◌^◌, ◌-◌, ◌++◌, true, codes, nat_lt};
+ghost use Rattle.std.specs.Prelude.{ℕ, Option, ◌≡◌, ◌≢◌, ◌<◌, ◌^◌, ◌-◌, ◌∷◌, ◌++◌, [], List, length, true, codes, nat_lt};
 ghost use Rattle.std.specs.Fmt.{decimal, signed_decimal};
-ghost use Rattle.wasm_defs.specs.Values.{value_of};
+ghost use Rattle.std.specs.List.{flat_map};
+ghost use Rattle.wasm_defs.specs.Values.{Value as ModuleValue, value_of};
 ghost use Rattle.io_edges.specs.Streams.{WritesText};
-ghost use Rattle.image_run.specs.Hosts.{values_of};
+ghost use Rattle.image_run.specs.Ends.{TellsCount};
 ghost use Rattle.image_run.specs.declared.outcome.Outcome.TheVariants.{HostStopped};
 ghost use Rattle.stream_compile.specs.Reading.{view};
 ghost use Rattle.stream_compile.specs.Running.{line_of, lines_of, shown_behind};
-ghost use Rattle.stream_compile.specs.Texts.{drill_line, drilled, fault_name, machine_fault, peeked, returned, returned_by, Told};
+ghost use Rattle.stream_compile.specs.Texts.{drill_line, drilled, fault_name, machine_fault, peeked, returned, returned_by, Told, value_line};
 
 use crate::output::Output;
 use crate::shown::write_shown;
 use command_words::Peek;
-use image_run::Outcome;
+use image_run::{Instance, Outcome};
 use io_edges::{Sink, write_all};
 use itoa::Buffer;
 use rv64im_machine::FaultKind;
@@ -61,17 +62,45 @@ fn write_number<O: Sink>(out: &mut O, front: &[u8], number: &[u8]) -> bool
     }
 }
 
-/// Writes the value that a function returned, as a signed number, or that there is none.
-fn write_returned<O: Sink>(out: &mut O, value: Option<Value>) -> bool
+/// Writes a value as a signed number.
+fn write_value<O: Sink>(out: &mut O, value: Value) -> bool
     requires { O.is_open out.old ≡ true }
-    ensures text { WritesText result (returned (values_of value)).text (O.written out.old) (O.written out.new) (O.faults out.old) (O.faults out.new) }
+    ensures text { WritesText result (value_line (value_of value)) (O.written out.old) (O.written out.new) (O.faults out.old) (O.faults out.new) }
     ensures open { result ≡ true → O.is_open out.new ≡ true }
 {
     let mut buffer = Buffer::new();
     match value {
-        None => write_all(out, b"ok\n"),
-        Some(Value::I32(number)) => write_number(out, b"i32 ", buffer.format(number).as_bytes()),
-        Some(Value::I64(number)) => write_number(out, b"i64 ", buffer.format(number).as_bytes()),
+        Value::I32(number) => write_number(out, b"i32 ", buffer.format(number).as_bytes()),
+        Value::I64(number) => write_number(out, b"i64 ", buffer.format(number).as_bytes()),
+    }
+}
+
+/// Writes each of so many values that a run returned, on a line of its own, in order.
+fn write_values<O: Sink>(out: &mut O, instance: &Instance<'_>, count: u32) -> bool
+    requires count { count ≡ length instance.now.results }
+    requires open { O.is_open out.old ≡ true }
+    ensures text { WritesText result (flat_map value_line instance.now.results) (O.written out.old) (O.written out.new) (O.faults out.old) (O.faults out.new) }
+    ensures open { result ≡ true → O.is_open out.new ≡ true }
+{
+    for index in 0..count {
+        if !write_value(out, instance.result(index)) {
+            return false;
+        }
+    }
+    true
+}
+
+/// Writes the values that a run returned, or that there is none.
+fn write_returned<O: Sink>(out: &mut O, instance: &Instance<'_>, count: u32) -> bool
+    requires count { count ≡ length instance.now.results }
+    requires open { O.is_open out.old ≡ true }
+    ensures text { WritesText result (returned instance.now.results).text (O.written out.old) (O.written out.new) (O.faults out.old) (O.faults out.new) }
+    ensures open { result ≡ true → O.is_open out.new ≡ true }
+{
+    if count == 0 {
+        write_all(out, b"ok\n")
+    } else {
+        write_values(out, instance, count)
     }
 }
 
@@ -90,28 +119,47 @@ fn write_drill_line<O: Sink>(out: &mut O, functions: u64, value: i64) -> bool
     }
 }
 
-/// Writes what the last of so many functions returned, as a signed number, or that it returned nothing.
-fn write_drilled<O: Sink>(out: &mut O, functions: u64, value: Option<Value>) -> bool
+/// Writes the line of a drill with so many functions, whose last returned a value.
+fn write_drilled_value<O: Sink>(out: &mut O, functions: u64, value: Value) -> bool
     requires { O.is_open out.old ≡ true }
-    ensures text { WritesText result (drilled functions (values_of value)).text (O.written out.old) (O.written out.new) (O.faults out.old) (O.faults out.new) }
+    ensures text { WritesText result (drilled functions (value_of value ∷ [])).text (O.written out.old) (O.written out.new) (O.faults out.old) (O.faults out.new) }
     ensures open { result ≡ true → O.is_open out.new ≡ true }
 {
     match value {
-        None => write_all(out, b"ok\n"),
-        Some(Value::I32(number)) => write_drill_line(out, functions, i64::from(number)),
-        Some(Value::I64(number)) => write_drill_line(out, functions, number),
+        Value::I32(number) => write_drill_line(out, functions, i64::from(number)),
+        Value::I64(number) => write_drill_line(out, functions, number),
     }
 }
 
-/// Writes what was returned: of a drill with so many functions, or of another run.
-fn write_returned_by<O: Sink>(out: &mut O, drill: Option<u64>, value: Option<Value>) -> bool
-    requires { O.is_open out.old ≡ true }
-    ensures text { WritesText result (returned_by drill (values_of value)).text (O.written out.old) (O.written out.new) (O.faults out.old) (O.faults out.new) }
+/// Writes what the last of so many functions returned first, as a signed number, or that it returned nothing.
+fn write_drilled<O: Sink>(out: &mut O, functions: u64, instance: &Instance<'_>, count: u32) -> bool
+    requires count { count ≡ length instance.now.results }
+    requires open { O.is_open out.old ≡ true }
+    ensures text { WritesText result (drilled functions instance.now.results).text (O.written out.old) (O.written out.new) (O.faults out.old) (O.faults out.new) }
+    ensures open { result ≡ true → O.is_open out.new ≡ true }
+{
+    if count == 0 {
+        write_all(out, b"ok\n")
+    } else {
+        write_drilled_value(out, functions, instance.result(0))
+    }
+}
+
+/// Writes what was returned: by a drill with so many functions, or by another run.
+fn write_returned_by<O: Sink>(
+    out: &mut O,
+    drill: Option<u64>,
+    instance: &Instance<'_>,
+    count: u32,
+) -> bool
+    requires count { count ≡ length instance.now.results }
+    requires open { O.is_open out.old ≡ true }
+    ensures text { WritesText result (returned_by drill instance.now.results).text (O.written out.old) (O.written out.new) (O.faults out.old) (O.faults out.new) }
     ensures open { result ≡ true → O.is_open out.new ≡ true }
 {
     match drill {
-        None => write_returned(out, value),
-        Some(functions) => write_drilled(out, functions, value),
+        None => write_returned(out, instance, count),
+        Some(functions) => write_drilled(out, functions, instance, count),
     }
 }
 
@@ -157,14 +205,20 @@ fn write_fault<O: Sink>(out: &mut O, kind: FaultKind, pc: u64) -> bool
 }
 
 /// Writes how a run ended that no host stopped.
-fn write_line<O: Sink>(out: &mut O, drill: Option<u64>, outcome: Outcome) -> bool
+fn write_line<O: Sink>(
+    out: &mut O,
+    drill: Option<u64>,
+    outcome: Outcome,
+    instance: &Instance<'_>,
+) -> bool
     requires stopped { outcome ≢ HostStopped }
+    requires count { TellsCount outcome instance.now.results }
     requires open { O.is_open out.old ≡ true }
-    ensures text { WritesText result (line_of drill outcome).text (O.written out.old) (O.written out.new) (O.faults out.old) (O.faults out.new) }
+    ensures text { WritesText result (line_of drill outcome instance.now.results).text (O.written out.old) (O.written out.new) (O.faults out.old) (O.faults out.new) }
     ensures open { result ≡ true → O.is_open out.new ≡ true }
 {
     match outcome {
-        Outcome::Returned(value) => write_returned_by(out, drill, value),
+        Outcome::Returned(count) => write_returned_by(out, drill, instance, count),
         Outcome::Trapped(kind) => write_number(out, b"trap ", kind.text().as_bytes()),
         Outcome::StepsSpent => write_all(out, b"steps spent\n"),
         Outcome::Fault(kind, pc) => write_fault(out, kind, pc),
@@ -178,14 +232,15 @@ fn write_line_and_bytes<O: Sink>(
     drill: Option<u64>,
     outcome: Outcome,
     shown: Peek,
-    memory: &[u8],
+    instance: &Instance<'_>,
 ) -> bool
     requires stopped { outcome ≢ HostStopped }
+    requires count { TellsCount outcome instance.now.results }
     requires open { O.is_open out.old ≡ true }
-    ensures { WritesText result ((line_of drill outcome).text ++ peeked shown memory.now) (O.written out.old) (O.written out.new) (O.faults out.old) (O.faults out.new) }
+    ensures { WritesText result ((line_of drill outcome instance.now.results).text ++ peeked shown instance.now.memory) (O.written out.old) (O.written out.new) (O.faults out.old) (O.faults out.new) }
 {
-    if write_line(out, drill, outcome) {
-        write_shown(out, shown, memory)
+    if write_line(out, drill, outcome, instance) {
+        write_shown(out, shown, instance.memory())
     } else {
         false
     }
@@ -207,21 +262,23 @@ fn write_lines<O: Sink>(
     drill: Option<u64>,
     peek: Option<Peek>,
     outcome: Outcome,
-    memory: &[u8],
+    instance: &Instance<'_>,
 ) -> bool
     requires stopped { outcome ≢ HostStopped }
+    requires count { TellsCount outcome instance.now.results }
     requires open { O.is_open out.old ≡ true }
-    ensures { WritesText result (lines_of drill peek outcome memory.now).text (O.written out.old) (O.written out.new) (O.faults out.old) (O.faults out.new) }
+    ensures { WritesText result (lines_of drill peek outcome instance.now.memory instance.now.results).text (O.written out.old) (O.written out.new) (O.faults out.old) (O.faults out.new) }
 {
     match shown_behind(outcome, peek) {
-        None => write_line(out, drill, outcome),
-        Some(shown) => write_line_and_bytes(out, drill, outcome, shown, memory),
+        None => write_line(out, drill, outcome, instance),
+        Some(shown) => write_line_and_bytes(out, drill, outcome, shown, instance),
     }
 }
 
 /// The status of an outcome.
+#[tactic(auto, using(crate::proofs::ValueLines::returned_status))]
 fn status_of(outcome: Outcome) -> u8
-    ensures { (drill : Option ℕ) → result ≡ (line_of drill outcome).status }
+    ensures { (drill : Option ℕ) (results : List ModuleValue) → result ≡ (line_of drill outcome results).status }
 {
     match outcome {
         Outcome::Returned(_) => 0,
@@ -239,17 +296,18 @@ pub fn write_end<O: Sink>(
     drill: Option<u64>,
     peek: Option<Peek>,
     outcome: Outcome,
-    memory: &[u8],
+    instance: &Instance<'_>,
 ) -> u8
+    requires results { TellsCount outcome instance.now.results }
     requires count { outcome ≢ HostStopped → O.faults out.old < 2 ^ 64 - 1 }
     requires open { outcome ≢ HostStopped → O.is_open out.old ≡ true }
     ensures stopped { outcome ≡ HostStopped → (result ≡ 7) × (out.new ≡ out.old) }
-    ensures told { outcome ≢ HostStopped → Told result (lines_of drill peek outcome memory.now) (nat_lt (O.faults out.old) (O.faults out.new)) (O.written out.old) (O.written out.new) }
+    ensures told { outcome ≢ HostStopped → Told result (lines_of drill peek outcome instance.now.memory instance.now.results) (nat_lt (O.faults out.old) (O.faults out.new)) (O.written out.old) (O.written out.new) }
 {
     match outcome {
         Outcome::HostStopped => SINK_FAILED,
         _ => {
-            if write_lines(out, drill, peek, outcome, memory) {
+            if write_lines(out, drill, peek, outcome, instance) {
                 status_of(outcome)
             } else {
                 SINK_FAILED

@@ -15,7 +15,7 @@ returns-in-Some-clause-told g c =
 pub write_end-requires-clause-count : goal.write_end-requires-clause-count
 write_end-requires-clause-count g c =
     λ going.
-    let calm = calm_count _ _ _ _ _ _ _ _ c.run_printing-outcome.ensures.run.2 going in
+    let calm = calm_count _ _ _ _ _ _ _ _ _ c.run_printing-outcome.ensures.run.2 going in
     let same = (c.run_printing-outcome.ensures.calm calm).1 in
     omega (arith, same, c.requires.count)
 
@@ -27,7 +27,7 @@ returns-clause-told g c =
     let done = rw (c.in_ok-instance.ensures.image, c.deref-2.ensures.value) at c.run_printing-outcome.ensures.run in
     let b = begun call name c.as_slice.result.now values values c.as_slice.ensures c.in_ok-values.ensures.values c.in_ok-values.ensures.ranges refl c.as_str-name.ensures in
     run_told c.args.drill c.args.image.now call name values c.run_checks.result b c.in_default.is (rw c.deref.ensures.value at c.run_checks.ensures) c.write_end.result (g.O.Sink.faults c.args.out.now) (g.O.Sink.faults c.run_printing-outcome.new.out)
-    (g.O.Sink.faults c.write_end.new.out) (g.O.Sink.written c.args.out.now) (g.O.Sink.written c.run_printing-outcome.new.out) (g.O.Sink.written c.write_end.new.out) c.run_printing-outcome.result _ _ c.memory.ensures done
+    (g.O.Sink.faults c.write_end.new.out) (g.O.Sink.written c.args.out.now) (g.O.Sink.written c.run_printing-outcome.new.out) (g.O.Sink.written c.write_end.new.out) c.run_printing-outcome.result _ _ done
     (λ quiet. (c.run_printing-outcome.ensures.calm quiet).1)
     (λ h. let s = c.write_end.ensures.stopped h in (s.0, ap g.O.Sink.written s.1, ap g.O.Sink.faults s.1))
     c.write_end.ensures.told

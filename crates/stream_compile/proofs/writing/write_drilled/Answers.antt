@@ -1,22 +1,16 @@
-use Rattle.std.proofs.Common.{◌≡◌, ◌∙◌, sym, ap, subst, rules, w64}
-use mir.Val.{SFits}
-use Rattle.std.proofs.lemmas.Int.{to_z-of_z}
+use Rattle.std.proofs.Common.{sym, subst, arith}
 use Rattle.io_edges.specs.Streams.{WritesText}
-use Rattle.image_run.specs.Hosts.{values_of}
-use Rattle.stream_compile.specs.Texts.{Outcome, drill_line, drilled}
+use Rattle.wasm_defs.specs.Values.{value_of}
+use Rattle.stream_compile.specs.Texts.{Outcome}
+use Rattle.stream_compile.proofs.ValueLines.{first_drilled, none_drilled}
 use Rattle.stream_compile.proofs.writing.write_drilled.Goals as goal
 
-pub returns-in-Some-I32-clause-text : goal.returns-in-Some-I32-clause-text
-returns-in-Some-I32-clause-text g c =
-    let same : drilled c.args.functions (values_of c.args.value) ≡ drill_line c.args.functions c.from.result = search rules in
-    let fits : SFits w64 c.from.result = search rules in
-    let line = ap (drill_line c.args.functions) (to_z-of_z w64 c.from.result fits) ∙ sym same in
-    subst (λ (o : Outcome). WritesText c.write_drill_line.result o.text (g.O.Sink.written c.args.out.now) (g.O.Sink.written c.write_drill_line.new.out) (g.O.Sink.faults c.args.out.now) (g.O.Sink.faults c.write_drill_line.new.out)) line c.write_drill_line.ensures.text
+pub returns-then-count-eq0-clause-text : goal.returns-then-count-eq0-clause-text
+returns-then-count-eq0-clause-text g c =
+    let none = none_drilled c.args.functions c.args.instance.now.results (omega (arith, c.requires.count, c.if-count-eq0.true)) in
+    subst (λ (o : Outcome). WritesText c.write_all.result o.text (g.O.Sink.written c.args.out.now) (g.O.Sink.written c.write_all.new.out) (g.O.Sink.faults c.args.out.now) (g.O.Sink.faults c.write_all.new.out)) (sym none) c.write_all.ensures.text
 
-pub returns-in-Some-I64-clause-text : goal.returns-in-Some-I64-clause-text
-returns-in-Some-I64-clause-text g c =
-    let same : drilled c.args.functions (values_of c.args.value) ≡ drill_line c.args.functions c.in-Some-I64.number = search rules in
-    let fits : SFits w64 c.in-Some-I64.number = search rules in
-    let line = ap (drill_line c.args.functions) (to_z-of_z w64 c.in-Some-I64.number fits) ∙ sym same in
-    subst (λ (o : Outcome). WritesText c.write_drill_line-in-Some-I64.result o.text (g.O.Sink.written c.args.out.now) (g.O.Sink.written c.write_drill_line-in-Some-I64.new.out) (g.O.Sink.faults c.args.out.now) (g.O.Sink.faults c.write_drill_line-in-Some-I64.new.out))
-    line c.write_drill_line-in-Some-I64.ensures.text
+pub returns-else-count-eq0-clause-text : goal.returns-else-count-eq0-clause-text
+returns-else-count-eq0-clause-text g c =
+    let first = first_drilled c.args.functions c.args.instance.now.results (value_of c.result.result) c.result.ensures in
+    subst (λ (o : Outcome). WritesText c.write_drilled_value.result o.text (g.O.Sink.written c.args.out.now) (g.O.Sink.written c.write_drilled_value.new.out) (g.O.Sink.faults c.args.out.now) (g.O.Sink.faults c.write_drilled_value.new.out)) first c.write_drilled_value.ensures.text

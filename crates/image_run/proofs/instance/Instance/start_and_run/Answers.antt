@@ -1,13 +1,14 @@
-use Rattle.std.proofs.Common.{◌≡◌, ◌≤◌, ℕ, List, None, map, length, sym, ap, ◌∙◌, subst, arith}
+use Rattle.std.proofs.Common.{◌≡◌, ℕ, ◌*◌, List, [], None, length, map, take, sym, ap, ◌∙◌, subst, arith}
 use Rattle.rv64im_machine.specs.Contents.{state_of}
 use Rattle.wasm_defs.specs.declared.types.FuncType.{FuncType}
 use Rattle.wasm_defs.specs.declared.types.ValType.{ValType}
 use Rattle.wasm_defs.specs.Values.{type_of, value_of}
-use Rattle.image_format.specs.ImageRun.{results_at}
+use Rattle.wasm_defs.specs.Memory.{page}
 use Rattle.image_run.specs.Checks.{export_named, unfit}
 use Rattle.image_run.specs.States.{Contents}
 use Rattle.image_run.proofs.RunLaws.{of_image}
-use Rattle.image_run.proofs.SignatureLaws.{few_arguments, one_result}
+use Rattle.image_run.proofs.SignatureLaws.{few_arguments, few_results}
+use Rattle.image_run.proofs.ResultLaws.{tells_count}
 use Rattle.image_run.proofs.StartLaws.{over_at_start, over_then, returns_then}
 use Rattle.image_run.proofs.instance.Instance.start_and_run.Goals as goal
 
@@ -18,6 +19,10 @@ returns-in-Some-run_start-clause-run g c =
     let arguments = map value_of c.args.arguments.now in
     rw (← c.self.view_is)
     (e, sym c.in-Some.ensures, over_at_start g.row.H.Denot g.H.Host.answers i c.args.host.now c.args.steps e arguments (state_of c.run_start.new.machine) c.run_start.new.pages c.run_start.new.left c.run_start.new.host c.in-Some-run_start.outcome c.in-Some-run_start.ensures.starts)
+
+pub returns-in-Some-run_start-clause-count : goal.returns-in-Some-run_start-clause-count
+returns-in-Some-run_start-clause-count g c =
+    tells_count c.in-Some-run_start.outcome (take (page * c.run_start.new.pages) (state_of c.run_start.new.machine).bytes.memory) [] _ (returns-in-Some-run_start-clause-run g c).2.end
 
 pub enter-requires : goal.enter-requires
 enter-requires g c =
@@ -42,21 +47,21 @@ returns-in-Some-run_function-clause-run g c =
           c.run_start.new.left c.run_function.new.left c.run_start.new.host c.run_function.new.host c.in_default-run_start.ensures.starts c.enter.ensures.state c.in-Some-run_function.outcome c.in-Some-run_function.ensures.runs,
     )
 
-pub returned-requires-clause-results : goal.returned-requires-clause-results
-returned-requires-clause-results g c =
-    let i = c.self.inside.image.now in
-    rw c.as_slice-results.ensures (subst (λ (t : FuncType). length t.results ≤ 1) (sym c.deref.ensures) (one_result i c.args.export.now c.in-Some.export.now c.self.invariant.bounds (sym c.in-Some.ensures)))
-
 pub returns-clause-run : goal.returns-clause-run
 returns-clause-run g c =
     let i = c.self.inside.image.now in
     let e = c.in-Some.export.now in
     let arguments = map value_of c.args.arguments.now in
-    let stack = c.run_function.new.machine.bytes.stack in
-    let are = c.returned.ensures ∙ ap (λ (bytes : List ℕ). results_at bytes 0 c.as_slice-results.result.now) c.bytes.ensures.value ∙ ap (λ (types : List ValType). results_at stack 0 types) (c.as_slice-results.ensures ∙ ap (λ (t : FuncType). t.results) c.deref.ensures) in
     rw (← c.self.view_is) (
       e,
       sym c.in-Some.ensures,
       returns_then g.row.H.Denot g.H.Host.answers i c.args.host.now c.args.steps e arguments (state_of c.run_start.new.machine) (state_of c.enter.new.machine) (state_of c.run_function.new.machine) c.run_start.new.pages c.run_function.new.pages
-          c.run_start.new.left c.run_function.new.left c.run_start.new.host c.run_function.new.host c.in_default-run_start.ensures.starts c.enter.ensures.state c.returned.result c.in_default-run_function.ensures.runs are,
+          c.run_start.new.left c.run_function.new.left c.run_start.new.host c.run_function.new.host c.in_default-run_start.ensures.starts c.enter.ensures.state _ c.in_default-run_function.ensures.runs (ap (λ (types : List ValType). length types) (c.as_slice.ensures ∙ ap (λ (f : FuncType). f.results) c.deref.ensures)),
     )
+
+pub returns-in-Some-run_function-clause-count : goal.returns-in-Some-run_function-clause-count
+returns-in-Some-run_function-clause-count g c =
+    tells_count c.in-Some-run_function.outcome (take (page * c.run_function.new.pages) (state_of c.run_function.new.machine).bytes.memory) [] _ (returns-in-Some-run_function-clause-run g c).2.end
+
+pub returns-clause-count : goal.returns-clause-count
+returns-clause-count g c = (returns-clause-run g c).2.end.0
