@@ -11,9 +11,9 @@ use Rattle.wasm_defs.specs.Items.{Section}
 use Rattle.wasm_defs.specs.Outside.{Body, Part, Section as Headed, Listed, Coded, Ending, Whole, Refused, Owed, Run, module_read}
 use Rattle.wasm_defs.specs.Trees.{Seq, Tree}
 use Rattle.wasm_defs.specs.Typing.{Context, IsBody}
-use Rattle.wasm_laws.specs.Behind.{SayTheSame, StartsKeep, AreValidIn}
+use Rattle.wasm_laws.specs.Behind.{SayTheSame, UsesKeep, AreValidIn}
 use Rattle.wasm_laws.specs.Sections.{AreBytes, parts_in}
-use Rattle.wasm_laws.proofs.Behind.{bodies_stand_behind, bodies_are_valid, starts_keep}
+use Rattle.wasm_laws.proofs.Behind.{bodies_stand_behind, bodies_are_valid, uses_keep}
 use Rattle.wasm_laws.proofs.Bytes.{each_byte, HaveBytes, bodies_have_bytes}
 use Rattle.wasm_laws.proofs.Described.{items_of_parts, bodies_of_parts, whole_is_described}
 use Rattle.wasm_laws.proofs.Locals.{locals_are_few}
@@ -72,7 +72,7 @@ items_with (Listed y ∷ front) x = ap (λ (l : List Item). y ∷ l) (items_with
 items_with (Coded a ∷ front) x = items_with front x
 
 valid_at_parts : (bytes : List ℕ) (front : List Part) (items : List Item) (k : ℕ) (parts : List Part) (trees : List Seq) → (module_read bytes).parts ≡ front ++ parts → items_of front ≡ items
-    → StartsKeep items (items_of parts) → AreValidIn (items_of (module_read bytes).parts) k (bodies_of parts) trees → AreValid items k parts trees
+    → UsesKeep items (items_of parts) → AreValidIn (items_of (module_read bytes).parts) k (bodies_of parts) trees → AreValid items k parts trees
 valid_at_parts bytes front items k [] [] e same s h = tt
 valid_at_parts bytes front items k [] (tree ∷ trees) e same s h = absurd h
 valid_at_parts bytes front items k (Headed at id ∷ parts) trees e same s h =
@@ -106,7 +106,7 @@ module_is_spelled bytes m fits is =
         is = d.1;
         items = is.items ∙ ap items_of d.2 ∙ items_of_parts d.0;
         bodies = is.bodies ∙ ap bodies_of d.2 ∙ bodies_of_parts d.0;
-        starts = subst (StartsKeep []) (sym is.items) (starts_keep [] 0 run.parts m.trees is.valid);
+        starts = subst (UsesKeep []) (sym is.items) (uses_keep [] 0 run.parts m.trees is.valid);
         spelled = valid;
       },
     )
@@ -122,6 +122,6 @@ spelled_is_module bytes m sections s =
       whole = ap (λ (r : Run). ending_fault (length bytes) r.ending) w.1;
       items = items;
       bodies = bodies;
-      valid = valid_at_parts bytes [] [] 0 (module_read bytes).parts m.trees refl refl (subst (StartsKeep []) items s.starts)
+      valid = valid_at_parts bytes [] [] 0 (module_read bytes).parts m.trees refl refl (subst (UsesKeep []) items s.starts)
           (subst (λ (l : List Body). AreValidIn (items_of (module_read bytes).parts) 0 l m.trees) bodies (subst (λ (l : List Item). AreValidIn l 0 m.bodies m.trees) items valid));
     }

@@ -10,7 +10,7 @@ use Rattle.wasm_defs.specs.Items.{Section, items_in, bodies_in}
 use Rattle.wasm_defs.specs.Outside.{Body}
 use Rattle.wasm_defs.specs.Trees.{Seq, Tree}
 use Rattle.wasm_defs.specs.Typing.{IsBody}
-use Rattle.wasm_laws.specs.Behind.{StartsKeep}
+use Rattle.wasm_laws.specs.Behind.{UsesKeep}
 use Rattle.wasm_laws.specs.Kept.{LocalsAreFew}
 use Rattle.wasm_laws.specs.Sections.{AreSectionsOf}
 
@@ -36,5 +36,5 @@ pub record IsSpelledModule (bytes : List ℕ) (m : Module) (sections : List Sect
   pub is : AreSectionsOf sections bytes
   pub items : m.items ≡ items_in sections
   pub bodies : m.bodies ≡ bodies_in sections
-  pub starts : StartsKeep [] m.items
+  pub starts : UsesKeep [] m.items
   pub spelled : AreSpelled m.items 0 m.bodies m.trees

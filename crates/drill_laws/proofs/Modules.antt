@@ -20,7 +20,7 @@ use Rattle.wasm_defs.specs.Outside.{Body}
 use Rattle.wasm_defs.specs.Places.{greatest, places_of}
 use Rattle.wasm_defs.specs.Trees.{Seq, Tree}
 use Rattle.wasm_defs.specs.Typing.{Context, IsBody, function_type}
-use Rattle.wasm_laws.specs.Behind.{StartsKeep}
+use Rattle.wasm_laws.specs.Behind.{UsesKeep}
 use Rattle.frame_layout.specs.Templates.{Around}
 use Rattle.body_laws.specs.Spelled.{AreSpelled, IsSpelled, IsSpelledModule}
 use Rattle.body_laws.proofs.SpeltCodes.{spelled_is_read}
@@ -158,7 +158,7 @@ module _ (n : ℕ) (most : n ≤ 50000) (items : List Item) (says : context_of i
 
 -- ---- the module
 
-starts_kept : (before : List Item) (at n : ℕ) (behind : List Item) → ((front : List Item) → StartsKeep front behind) → StartsKeep before (function_items at n ++ behind)
+starts_kept : (before : List Item) (at n : ℕ) (behind : List Item) → ((front : List Item) → UsesKeep front behind) → UsesKeep before (function_items at n ++ behind)
 starts_kept before at zero behind keep = (tt, keep (before ++ Function (at, 1) ∷ []))
 starts_kept before at (suc n) behind keep = (tt, starts_kept (before ++ Function (at, 0) ∷ []) (at + 1) n behind keep)
 

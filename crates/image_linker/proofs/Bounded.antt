@@ -124,7 +124,7 @@ module _ (bytes : List ℕ) (m : Module) (fits : AreBytes bytes) (is : IsModuleO
       let named = subst AreNamed (sym d.2) (sections_named d.0 _ _ d.1.spelled.spelled.second.second) in
       let keep = subst (AllKeep nothing) (sym d.2) (items_keep nothing d.0 d.1.kept.each) in
       let listed : entries_in 2 m.items ≤ max_entries = subst (λ (items : List Item). entries_in 2 items ≤ max_entries) (sym is.is.items) (entries_are_few 2 (λ ten. absurd cc) bytes) in
-      (omega (arith, imports_counted (context_of m.items) m.items, imports_are_few m.items, listed), imports_fit (context_of m.items) nothing m.items types named keep)
+      (omega (arith, imports_counted (context_of m.items) m.items, imports_are_few m.items, listed), imports_fit (context_of m.items) nothing m.items types good.returns named keep)
 
   there : AreThere (context_of m.items) (length (functions_of m.items)) (exports_of m.items)
   there = subst (λ (items : List Item). AreThere (context_of items) (length (functions_of items)) (exports_of items)) (sym is.is.items) (exports_are_there bytes)

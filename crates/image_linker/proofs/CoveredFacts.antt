@@ -26,6 +26,7 @@ use Rattle.wasm_laws.proofs.Locals.{bodies_are_small}
 use Rattle.wasm_laws.proofs.Ranges.{constant_fits, long_constant_fits, tree_is_in_range}
 use Rattle.wasm_laws.proofs.Spaces.{spaces_are_small}
 use Rattle.wasm_laws.proofs.Starts.{start_is_right}
+use Rattle.wasm_laws.proofs.ImportTypes.{imports_return_one}
 use Rattle.wasm_laws.proofs.Typed.{functions_of-counts}
 use Rattle.sim_frames.specs.Covered.{IsCoveredStep, IsCovered}
 use Rattle.wasm_defs.specs.Places.{or_empty}
@@ -226,4 +227,5 @@ module _ (bytes : List ℕ) (m : Module) (fits : AreBytes bytes) (is : IsModule 
     exports = exported;
     start = started;
     types = small_types;
+    returns = imports_return_one bytes m is;
   }

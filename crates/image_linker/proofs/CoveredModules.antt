@@ -8,7 +8,7 @@ use Rattle.wasm_defs.specs.Trees.{Seq}
 use Rattle.wasm_defs.specs.Typing.{IsBody}
 use Rattle.wasm_defs.specs.Faults.{context_at, Module}
 use Rattle.wasm_defs.specs.Instances.{data_of, exports_of, named, function_of, instance_of, start_of}
-use Rattle.wasm_laws.specs.Kept.{SpacesAreSmall, ConstantsFit, TakesNothing, TypesAreSmall}
+use Rattle.wasm_laws.specs.Kept.{SpacesAreSmall, ConstantsFit, TakesNothing, TypesAreSmall, ImportsReturnOne}
 use Rattle.frame_layout.specs.Slots.{need}
 use Rattle.sim_frames.specs.Covered.{IsCovered}
 use Rattle.wasm_defs.specs.Context.{context_of, types_of, functions_of, import_count, type_of_function}
@@ -45,3 +45,4 @@ pub record IsCoveredModule (m : Module) : Type 0 where
   -- and so is the start function, which takes and gives nothing
   pub start : (f : ℕ) → start_of m.items ≡ Some f → (f < length (functions_of m.items)) × TakesNothing (type_of_function (context_of m.items) f)
   pub types : TypesAreSmall (context_of m.items).types
+  pub returns : ImportsReturnOne (context_of m.items).types m.items

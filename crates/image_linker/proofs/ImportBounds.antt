@@ -8,7 +8,7 @@ use Rattle.wasm_defs.specs.Context.{import_count, type_or_empty}
 use Rattle.wasm_defs.specs.Entries.{Seen, note}
 use Rattle.wasm_defs.specs.Rules.{AllKeep}
 use Rattle.wasm_defs.specs.Typing.{Context}
-use Rattle.wasm_laws.specs.Kept.{TypesAreSmall}
+use Rattle.wasm_laws.specs.Kept.{TypesAreSmall, ImportsReturnOne}
 use Rattle.wasm_laws.proofs.Counted.{entries_in}
 use Rattle.image_format.specs.Bounds.{IsImport}
 use Rattle.image_linker.specs.ImageOf.{imports_of}
@@ -26,9 +26,9 @@ imports_counted c [] = refl
 imports_counted c (Imported from what kind type_index ∷ items) = omega (arith, imports_counted c items)
 imports_counted c (x ∷ items) = imports_counted c items
 
-pub imports_fit : (c : Context) (s : Seen) (items : List Item) → TypesAreSmall c.types → AreNamed items → AllKeep s items → All IsImport (imports_of c items)
-imports_fit c s [] types named keep = All-nil IsImport
-imports_fit c s (Imported from what kind type_index ∷ items) types named keep =
+pub imports_fit : (c : Context) (s : Seen) (items : List Item) → TypesAreSmall c.types → ImportsReturnOne c.types items → AreNamed items → AllKeep s items → All IsImport (imports_of c items)
+imports_fit c s [] types one named keep = All-nil IsImport
+imports_fit c s (Imported from what kind type_index ∷ items) types one named keep =
     let ty = type_or_empty (slice_get c.types type_index.1) in
     let small = small_at c.types type_index.1 types in
     let rules = keep.0 in
@@ -37,7 +37,7 @@ imports_fit c s (Imported from what kind type_index ∷ items) types named keep 
       module_name = record { short = omega (arith, rules.0); utf8 = named.0.0 };
       name = record { short = omega (arith, rules.1); utf8 = named.0.1 };
       signature = record { params = omega (arith, small.params); results = omega (arith, small.results) };
-      one_result = omega (arith, small.results);
+      one_result = one.0;
     })
-    (imports_fit c (note s (Imported from what kind type_index)) items types named.1 keep.1)
-imports_fit c s (x ∷ items) types named keep = imports_fit c (note s x) items types named.1 keep.1
+    (imports_fit c (note s (Imported from what kind type_index)) items types one.1 named.1 keep.1)
+imports_fit c s (x ∷ items) types one named keep = imports_fit c (note s x) items types one named.1 keep.1

@@ -14,7 +14,7 @@ use Rattle.wasm_defs.specs.Faults.{items_of}
 use Rattle.wasm_defs.specs.Instances.{imports_from}
 use Rattle.wasm_defs.specs.Outside.{Part, Section, Listed, Coded, module_read}
 use Rattle.wasm_defs.specs.Typing.{Context}
-use Rattle.wasm_laws.specs.Kept.{TypeIsSmall, TypesAreSmall}
+use Rattle.wasm_laws.specs.Kept.{TypeIsSmall, TypesAreSmall, ImportsReturnOne}
 use Rattle.wasm_laws.proofs.Sorted.{AreSorted, parts_are_sorted}
 use Rattle.frame_layout.specs.Templates.{import_stub}
 use Rattle.frame_layout.proofs.Standing.{has_first, has_rest}
@@ -71,6 +71,7 @@ pub record IsStub (code : List (Option Op)) (c : Context) (items : List Item) (i
   pub is : h ≡ run.Imported number ty
   pub has : HasAt code place (import_stub (length ty.params) number)
   pub small : TypeIsSmall ty
+  pub one_result : length ty.results ≤ 1
   pub import : Import
   pub found : slice_get (imports_of c items) i ≡ Some import
   pub signature : import.signature ≡ ty
@@ -81,10 +82,10 @@ small_at (t ∷ types) zero h = h.0
 small_at (t ∷ types) (suc i) h = small_at types i h.1
 
 module _ (code : List (Option Op)) (c : Context) (types : TypesAreSmall c.types) where
-  pub stub_stands : (items : List Item) (here first i place number : ℕ) (h : run.Function) → place ≡ here + stub_size * i → number ≡ first + i → HasAt code here (stubs_from c first items)
+  pub stub_stands : (items : List Item) (here first i place number : ℕ) (h : run.Function) → ImportsReturnOne c.types items → place ≡ here + stub_size * i → number ≡ first + i → HasAt code here (stubs_from c first items)
       → slice_get (imports_from c first items) i ≡ Some h → IsStub code c items i place number h
-  stub_stands [] here first i place number h p n has e = absurd cc
-  stub_stands (Imported from what kind type_index ∷ items) here first zero place number h p n has e =
+  stub_stands [] here first i place number h one p n has e = absurd cc
+  stub_stands (Imported from what kind type_index ∷ items) here first zero place number h one p n has e =
       let ty = type_or_empty (slice_get c.types type_index.1) in
       let same : run.Imported first ty ≡ h = cc in
       let number_is : first ≡ number = omega (arith, n) in
@@ -95,18 +96,19 @@ module _ (code : List (Option Op)) (c : Context) (types : TypesAreSmall c.types)
         is = sym same ∙ ap (λ (k : ℕ). run.Imported k ty) number_is;
         has = subst (λ (q : ℕ). HasAt code q (import_stub (length ty.params) number)) place_is (subst (λ (k : ℕ). HasAt code here (import_stub (length ty.params) k)) number_is stub);
         small = small_at c.types type_index.1 types;
+        one_result = one.0;
         import = record { «module» = from.1; name = what.1; signature = ty };
         found = refl;
         signature = refl;
       }
-  stub_stands (Imported from what kind type_index ∷ items) here first (suc i) place number h p n has e =
+  stub_stands (Imported from what kind type_index ∷ items) here first (suc i) place number h one p n has e =
       let ty = type_or_empty (slice_get c.types type_index.1) in
       let stub = import_stub (length ty.params) first in
-      let x = stub_stands items (here + length stub) (suc first) i place number h (omega (arith, p)) (omega (arith, n)) (has_rest code here stub (stubs_from c (suc first) items) has) e in
-      record { ty = x.ty; is = x.is; has = x.has; small = x.small; import = x.import; found = x.found; signature = x.signature }
-  stub_stands (x ∷ items) here first i place number h p n has e =
-      let y = stub_stands items here first i place number h p n has e in
-      record { ty = y.ty; is = y.is; has = y.has; small = y.small; import = y.import; found = y.found; signature = y.signature }
+      let x = stub_stands items (here + length stub) (suc first) i place number h one.1 (omega (arith, p)) (omega (arith, n)) (has_rest code here stub (stubs_from c (suc first) items) has) e in
+      record { ty = x.ty; is = x.is; has = x.has; small = x.small; one_result = x.one_result; import = x.import; found = x.found; signature = x.signature }
+  stub_stands (x ∷ items) here first i place number h one p n has e =
+      let y = stub_stands items here first i place number h one p n has e in
+      record { ty = y.ty; is = y.is; has = y.has; small = y.small; one_result = y.one_result; import = y.import; found = y.found; signature = y.signature }
 
 -- the fields of their words fit
 pub each_stub_in_range : (c : Context) (number : ℕ) (items : List Item) → AllInRange (stubs_from c number items)

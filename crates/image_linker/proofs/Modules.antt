@@ -129,7 +129,7 @@ module _ (m : Module) (good : IsCoveredModule m) (short : length (text_of m) ≤
       let c = context_of m.items in
       let stubs = imports_from c 0 m.items in
       let found : slice_get stubs i ≡ Some h = sym (get_left stubs (map Declared (declared_functions m)) i (omega (arith, less, imports_length c 0 m.items))) ∙ is in
-      stub_stands text c good.types m.items (length exit_stub) 0 i (places i) i h (stub_place (length exit_stub) imported i (length exit_stub + stub_size * i) (places_from m.items (front_size m.items) 0 m.bodies m.trees) less refl) (omega arith) (stubs_stand m good) found
+      stub_stands text c good.types m.items (length exit_stub) 0 i (places i) i h good.returns (stub_place (length exit_stub) imported i (length exit_stub + stub_size * i) (places_from m.items (front_size m.items) 0 m.bodies m.trees) less refl) (omega arith) (stubs_stand m good) found
 
   -- ---- all functions
 
@@ -234,7 +234,7 @@ module _ (m : Module) (good : IsCoveredModule m) (short : length (text_of m) ≤
           let x = asked i h less is in
           let small = x.small in
           let few = few_imports in
-          inr (record { number = i; ty = x.ty; is = x.is; has = x.has; few = omega (arith, small.params); small = omega (arith, less, few); one_result = small.results })
+          inr (record { number = i; ty = x.ty; is = x.is; has = x.has; few = omega (arith, small.params); small = omega (arith, less, few); one_result = x.one_result })
 
       later : import_count m.items ≤ i → IsPlaced text (instance_of m) places i h
       later le =

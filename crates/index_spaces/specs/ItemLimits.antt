@@ -1,9 +1,9 @@
--- What an item keeps so that the types of a module keep their limits (WebAssembly Core 1.0, 3.2.2, and the limits of this implementation).
+-- What an item keeps so that the types of a module keep the limits of this implementation.
 use Rattle.wasm_defs.specs.declared.item.Item.{Item}
 use Rattle.wasm_defs.specs.declared.item.Item.TheVariants.{Signature}
 use Rattle.wasm_laws.specs.Kept.{TypeIsSmall}
 
--- a type that it lists has at most 1,000 parameters and at most one result
+-- a type that it lists has at most 1,000 parameters and at most 1,000 results
 abbrev pub HasSmallType : Item → Type 0
 HasSmallType (Signature form params results ty) = TypeIsSmall ty
 HasSmallType _ = Unit {0}

@@ -11,7 +11,7 @@ use wasm_defs::Refusal;
 #[derive(Clone, Copy, Debug, PartialEq, Eq, Error)]
 pub enum AddStop {
     /// The start function isn't there, or has parameters or results: the module is invalid at its index (WebAssembly Core
-    /// 1.0, 3.4.7).
+    /// 1.0, 3.4.7). Or an import's type has several results: the module is unsupported at the type's index.
     #[error("refused at {offset}: {kind:?}", offset = .0.offset, kind = .0.kind)]
     Refused(Refusal),
     /// Memory ran out.

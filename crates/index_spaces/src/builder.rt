@@ -1,11 +1,11 @@
 //! Gathers the context of a module from its items.
 
-ghost use Rattle.std.specs.Prelude.{◌≡◌, [], true, OnOk, OnErr, IfOk, Some, Err};
+ghost use Rattle.std.specs.Prelude.{◌≡◌, [], true, false, OnOk, OnErr, IfOk, Some, Err};
 ghost use Rattle.std.specs.Option.{option_or};
-ghost use Rattle.wasm_defs.specs.Faults.{may_start, started, StartsRight, IsStartFault};
+ghost use Rattle.wasm_defs.specs.Faults.{may_start, may_import, use_of, UsesRight, IsUseFault};
 ghost use Rattle.wasm_defs.specs.Instances.{i32_value};
 ghost use Rattle.index_spaces.specs.ItemLimits.{HasSmallType};
-ghost use Rattle.index_spaces.specs.Spaces.{context_in, spaces_of, with_item};
+ghost use Rattle.index_spaces.specs.Spaces.{context_in, spaces_of, with_import, with_item};
 ghost use Rattle.wasm_defs.specs.declared.fault.Refusal.{Refusal as Refused};
 
 use crate::add_stop::AddStop;
@@ -114,7 +114,7 @@ fn may_start(context: &Context, index: u32) -> bool
 fn add_start(context: &mut Context, index: (u64, u32)) -> Result<(), AddStop>
     ensures ok { OnOk result (context.new ≡ record context.old { start = option_or context.old.start (Some index.1) }) }
     ensures starts { OnOk result (may_start (context_in context.old) index.1 ≡ true) }
-    ensures refused { (r : Refused) → result ≡ Err (AddStop.Refused r) → IsStartFault (context_in context.old) (Some index) r }
+    ensures refused { (r : Refused) → result ≡ Err (AddStop.Refused r) → IsUseFault (context_in context.old) (Some (index.0, index.1, true)) r }
     ensures err { OnErr result (context.new ≡ context.old) }
 {
     if !may_start(context, index.1) {
@@ -124,6 +124,40 @@ fn add_start(context: &mut Context, index: (u64, u32)) -> Result<(), AddStop>
         }));
     }
     context.add_start(index.1);
+    Ok(())
+}
+
+/// Whether an import may have a type: a host gives one result at most.
+fn may_import(context: &Context, type_index: u32) -> bool
+    ensures { result ≡ may_import (context_in context.now) type_index }
+{
+    match context.types().get(type_index as usize) {
+        Some(ty) => ty.results.as_slice().len() <= 1,
+        None => false,
+    }
+}
+
+/// Adds an import: the names of its module and of its own, and the offset of its type's index with the index.
+fn add_import(
+    context: &mut Context,
+    alloc: Global,
+    module: &Name,
+    name: &Name,
+    type_index: (u64, u32),
+) -> Result<(), AddStop>
+    ensures ok { OnOk result (context.new ≡ with_import context.old (record { «module» = «module».now; name = name.now; type_index = type_index.1 })) }
+    ensures uses { OnOk result (may_import (context_in context.old) type_index.1 ≡ true) }
+    ensures refused { (r : Refused) → result ≡ Err (AddStop.Refused r) → IsUseFault (context_in context.old) (Some (type_index.0, type_index.1, false)) r }
+    ensures err { OnErr result (context.new ≡ context.old) }
+{
+    if !may_import(context, type_index.1) {
+        return Err(AddStop::Refused(Refusal {
+            offset: type_index.0,
+            kind: Kind::Unsupported,
+        }));
+    }
+    let import = import_of(alloc, module, name, type_index.1)?;
+    context.add_import(import)?;
     Ok(())
 }
 
@@ -154,15 +188,16 @@ impl ContextBuilder {
     }
 
     /// Adds an item, which stands behind those that were added before. The code section's count changes nothing. A type has at most
-    /// 1,000 parameters and at most one result, as those of the items that were read of a module do.
+    /// 1,000 parameters and at most 1,000 results, as those of the items that were read of a module do.
     ///
     /// `Refused` comes exactly where the item names a start function that isn't among the functions so far, or has parameters or
-    /// results. Behind an `Err` the context is as before.
+    /// results, and where it is an import whose type isn't among the types so far, or has several results. Behind an `Err` the
+    /// context is as before.
     pub fn add(&mut self, item: &Item) -> Result<(), AddStop>
         requires { HasSmallType item.now }
         ensures ok { OnOk result (self.new ≡ with_item self.old item.now) }
-        ensures starts { OnOk result (StartsRight (context_in self.old) (started item.now)) }
-        ensures refused { (r : Refused) → result ≡ Err (AddStop.Refused r) → IsStartFault (context_in self.old) (started item.now) r }
+        ensures uses { OnOk result (UsesRight (context_in self.old) (use_of item.now)) }
+        ensures refused { (r : Refused) → result ≡ Err (AddStop.Refused r) → IsUseFault (context_in self.old) (use_of item.now) r }
         ensures err { OnErr result (self.new ≡ self.old) }
     {
         let alloc = self.alloc;
@@ -174,7 +209,7 @@ impl ContextBuilder {
                 name,
                 type_index,
                 ..
-            } => context.add_import(import_of(alloc, &module.1, &name.1, type_index.1)?),
+            } => return add_import(context, alloc, &module.1, &name.1, *type_index),
             Item::Function { type_index } => context.add_function(type_index.1),
             Item::Table { limits, .. } => context.add_table(*limits),
             Item::Memory { limits } => context.add_memory(*limits),

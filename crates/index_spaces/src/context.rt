@@ -15,7 +15,7 @@ use wasm_defs::{FuncType, GlobalType, Limits};
 /// A module's index spaces: its types, and what its functions may name of functions, tables, memories and globals, imported
 /// ones first (Core 3.1). An index is the place in its space, from 0 on. And what the module imports and exports, what its
 /// globals, its table and its memory begin with, and its start function (Core 2.5). Each type has at most 1,000 parameters and at
-/// most one result (Core 3.2.2).
+/// most 1,000 results.
 #[derive(Drop)]
 pub struct Context {
     types: TypeSpace,
@@ -163,7 +163,7 @@ impl Context {
         self.start = self.start.or(Some(index));
     }
 
-    /// Each type has at most 1,000 parameters and at most one result (Core 3.2.2).
+    /// Each type has at most 1,000 parameters and at most 1,000 results.
     pub fn keeps_limits(&self)
         ensures { TypesAreSmall self.now.types }
     {

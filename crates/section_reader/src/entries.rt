@@ -1,7 +1,7 @@
 //! Entries of the sections (WebAssembly Core 1.0, 5.5): each item's fields in order.
 
 ghost use Rattle.std.specs.Prelude.{◌≡◌};
-ghost use Rattle.wasm_defs.specs.Entries.{results, signature, imported, function, table, memory, mutability, global, extern_kind, space, exported, start, element, code, segment};
+ghost use Rattle.wasm_defs.specs.Entries.{signature, imported, function, table, memory, mutability, global, extern_kind, space, exported, start, element, code, segment};
 ghost use Rattle.leb_feed.specs.Reads.{Reads, NeedsNoMemory};
 
 use crate::entry_fields::{constant, index, indices, limits, sole, value_types};
@@ -9,24 +9,11 @@ use crate::seen::Seen;
 use leb_feed::{Fields, Stop};
 use std::alloc::Global;
 use wasm_defs::{
-    Extern, FuncType, Item, Kind, MAX_PAGES, MAX_PARAMS, MAX_TABLE, TOP_PAGES, ValType,
+    Extern, FuncType, Item, Kind, MAX_PAGES, MAX_PARAMS, MAX_RESULTS, MAX_TABLE, TOP_PAGES, ValType,
 };
 
 /// The greatest maximum that a table may have, in rows: any.
 const TOP_ROWS: u32 = u32::MAX;
-
-/// The count of a type's results, of which 1.0 has one at most (Core 2.3.3).
-#[tactic(auto, unfolding(wasm_defs::specs::Entries::results))]
-fn results(fields: &mut Fields<'_>) -> Result<(u64, u32), Stop>
-    ensures read { Reads results (λ n. n) result fields.old fields.new }
-    ensures free { NeedsNoMemory result }
-{
-    let (at, n) = fields.u32()?;
-    if 1 < n {
-        return Err(Fields::refused(Kind::Invalid, at));
-    }
-    Ok((at, n))
-}
 
 /// A function type (Core 5.3.3).
 #[tactic(auto, unfolding(wasm_defs::specs::Entries::signature, wasm_defs::specs::Fields::vector))]
@@ -39,7 +26,7 @@ pub fn signature(fields: &mut Fields<'_>, alloc: Global, seen: &Seen) -> Result<
     }
     let (params, n) = fields.count(MAX_PARAMS)?;
     let param_types = value_types(fields, alloc, n)?;
-    let (results, n) = results(fields)?;
+    let (results, n) = fields.count(MAX_RESULTS)?;
     let result_types = value_types(fields, alloc, n)?;
     Ok(Item::Signature {
         form,

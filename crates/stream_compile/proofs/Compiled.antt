@@ -8,9 +8,9 @@ use Rattle.wasm_defs.specs.Limits.{max_text}
 use Rattle.wasm_defs.specs.Trees.{Seq}
 use Rattle.wasm_defs.specs.Entries.{Seen}
 use Rattle.wasm_defs.specs.Outside.{Part, Section, Listed, Coded, Body, Run, Whole, after_part, ends, module_read}
-use Rattle.wasm_defs.specs.Faults.{ending_fault, items_of, bodies_of, read_of, context_at, started, StartsRight, IsStartFault, IsCodeFault, IsValidCode, IsOutsideFault, IsFaultInside, Module, IsModule, Rejected}
+use Rattle.wasm_defs.specs.Faults.{ending_fault, items_of, bodies_of, read_of, context_at, use_of, UsesRight, IsUseFault, IsCodeFault, IsValidCode, IsOutsideFault, IsFaultInside, Module, IsModule, Rejected}
 use Rattle.wasm_defs.specs.Context.{context_of}
-use Rattle.wasm_laws.specs.Order.{AreOrdered, BodyStands, StartStands, behind_start, end_of, first_section}
+use Rattle.wasm_laws.specs.Order.{AreOrdered, BodyStands, UseStands, behind_use, end_of, first_section}
 use Rattle.wasm_laws.proofs.Behind.{bodies_stand_behind}
 use Rattle.wasm_laws.proofs.Counted.{entries_are_few}
 use Rattle.wasm_laws.proofs.Order.{around_body, around_item, parts_before_fault, parts_in_module}
@@ -24,7 +24,7 @@ use Rattle.image_linker.specs.Judging.{text_bytes, limit_at, IsTextFault, IsFaul
 use Rattle.stream_compile.specs.Codes.{Coding, AreAll, with_code}
 use Rattle.stream_compile.specs.Progress.{IsJudging, body_of_spaces}
 use Rattle.wasm_laws.proofs.PartLists.{items_of-append, bodies_of-append}
-use Rattle.wasm_laws.proofs.PartOrder.{start_fault_stands, fault_after}
+use Rattle.wasm_laws.proofs.PartOrder.{use_fault_stands, fault_after}
 use Rattle.image_linker.proofs.ImportBounds.{imports_are_few}
 use Rattle.stream_compile.proofs.TextFaults.{text_after, tree_once}
 use Rattle.stream_compile.proofs.CodeWords.{all_more, codes_both, codes_of_module}
@@ -64,7 +64,7 @@ module _ (bytes : List ℕ) (left : Run) (codes : Coding) where
         text_whole = λ r f. j.text_whole r (moved _ (items_of front) _ (length (bodies_of front)) left.parts r items bodies f);
       }
 
-  pub after_item : (spaces later : Spaces) (x : Item) → IsJudging bytes (after_part (Listed x) left) spaces codes → StartsRight (context_in spaces) (started x) → later ≡ with_item spaces x → IsJudging bytes left later codes
+  pub after_item : (spaces later : Spaces) (x : Item) → IsJudging bytes (after_part (Listed x) left) spaces codes → UsesRight (context_in spaces) (use_of x) → later ≡ with_item spaces x → IsJudging bytes left later codes
   after_item spaces later x j starts e =
       let front = j.judged.front in
       let items : items_of (front ++ Listed x ∷ []) ≡ items_of front ++ x ∷ [] = items_of-append front (Listed x ∷ []) in
@@ -104,23 +104,23 @@ is_refused bytes left spaces codes total r j len none fault =
 
 -- the start function is at fault
 pub start_refused : (bytes : List ℕ) (left : Run) (spaces : Spaces) (codes : Coding) (x : Item) (r : Refusal) → IsJudging bytes (after_part (Listed x) left) spaces codes
-    → IsStartFault (context_in spaces) (started x) r → IsVerdictOf bytes (Rejected r)
+    → IsUseFault (context_in spaces) (use_of x) r → IsVerdictOf bytes (Rejected r)
 start_refused bytes left spaces codes x r j f =
     lifted bytes r (judging.start_refused bytes left spaces codes.count x r j.judged f) (λ s t. later s (j.text_left s t))
   where
     front : List Part
     front = j.judged.front
 
-    here : IsStartFault (context_of (items_of front)) (started x) r
-    here = subst (λ (s : Spaces). IsStartFault (context_in s) (started x) r) j.judged.spaces_are f
+    here : IsUseFault (context_of (items_of front)) (use_of x) r
+    here = subst (λ (s : Spaces). IsUseFault (context_in s) (use_of x) r) j.judged.spaces_are f
 
-    around : (at : ℕ) × StartStands at (length bytes) (started x) × AreOrdered (behind_start at (started x)) (length bytes) left.parts
+    around : (at : ℕ) × UseStands at (length bytes) (use_of x) × AreOrdered (behind_use at (use_of x)) (length bytes) left.parts
     around = around_item first_section (length bytes) front x left.parts (rw j.judged.parts at (parts_in_module bytes))
 
     later : (s : Refusal) → IsTextFault (items_of front) (length (bodies_of front)) codes.words (Listed x ∷ left.parts) s → r.offset ≤ s.offset
     later s t =
-        let k = text_after (behind_start around.0 (started x)) (length bytes) (items_of front ++ x ∷ []) (length (bodies_of front)) codes.words left.parts s around.2 t in
-        omega (arith, (start_fault_stands around.0 (length bytes) (context_of (items_of front)) (started x) r around.1 here).1)
+        let k = text_after (behind_use around.0 (use_of x)) (length bytes) (items_of front ++ x ∷ []) (length (bodies_of front)) codes.words left.parts s around.2 t in
+        omega (arith, (use_fault_stands around.0 (length bytes) (context_of (items_of front)) (use_of x) r around.1 here).1)
 
 -- a body is at fault
 pub body_refused : (bytes : List ℕ) (left : Run) (spaces : Spaces) (codes : Coding) (b : Body) (r : Refusal) → IsJudging bytes (after_part (Coded b) left) spaces codes

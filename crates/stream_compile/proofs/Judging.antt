@@ -9,18 +9,18 @@ use Rattle.wasm_defs.specs.Trees.{Seq}
 use Rattle.wasm_defs.specs.Entries.{Seen}
 use Rattle.wasm_defs.specs.Context.{context_of, import_count, declared_count, functions_of}
 use Rattle.wasm_defs.specs.Outside.{Part, Section, Listed, Coded, Body, Run, Whole, after_part, ends, module_read}
-use Rattle.wasm_defs.specs.Faults.{ending_fault, items_of, bodies_of, IsCodeFault, IsValidCode, read_of, context_at, started, StartsRight, IsStartFault, IsFaultInside, AreValid, IsOutsideFault, IsFault, Module, IsModule, Verdict, Accepted, Rejected}
-use Rattle.wasm_laws.specs.Order.{AreOrdered, BodyStands, StartStands, behind_start, end_of, first_section}
+use Rattle.wasm_defs.specs.Faults.{ending_fault, items_of, bodies_of, IsCodeFault, IsValidCode, read_of, context_at, use_of, UsesRight, IsUseFault, IsFaultInside, AreValid, IsOutsideFault, IsFault, Module, IsModule, Verdict, Accepted, Rejected}
+use Rattle.wasm_laws.specs.Order.{AreOrdered, BodyStands, UseStands, behind_use, end_of, first_section}
 use Rattle.wasm_laws.specs.Typed.{AreTyped}
 use Rattle.wasm_laws.proofs.Typed.{functions_have_types}
-use Rattle.wasm_laws.proofs.Order.{around_body, around_item, start_goes_on, parts_before_fault, parts_in_module}
+use Rattle.wasm_laws.proofs.Order.{around_body, around_item, use_goes_on, parts_before_fault, parts_in_module}
 use Rattle.wasm_laws.proofs.Few.{parts_are_few}
 use Rattle.wasm_laws.proofs.Verdicts.{some_once, code_fault_once, code_fault_inside}
 use Rattle.index_spaces.specs.Spaces.{Spaces, spaces_of, with_item, context_in}
 use Rattle.stream_compile.specs.Progress.{IsJudged, body_of_spaces}
 use Rattle.index_spaces.proofs.SpaceLaws.{spaces_of-append, functions_of-counts}
 use Rattle.wasm_laws.proofs.PartLists.{items_of-append, bodies_of-append, typed_behind, valid_both, fault_behind, fault_of_rest, functions_are_few, bodies_are_few}
-use Rattle.wasm_laws.proofs.PartOrder.{start_fault_stands, start_once, fault_after}
+use Rattle.wasm_laws.proofs.PartOrder.{use_fault_stands, use_once, fault_after}
 
 -- ---- how far judging came
 
@@ -44,7 +44,7 @@ after_section bytes left spaces bodies at id j = record {
   valid = valid_more j.front (Section at id) j.trees [] j.valid tt;
 }
 
-abbrev pub after_item : (bytes : List ℕ) (left : Run) (spaces later : Spaces) (bodies : ℕ) (x : Item) → IsJudged bytes (after_part (Listed x) left) spaces bodies → StartsRight (context_in spaces) (started x) → later ≡ with_item spaces x → IsJudged bytes left later bodies
+abbrev pub after_item : (bytes : List ℕ) (left : Run) (spaces later : Spaces) (bodies : ℕ) (x : Item) → IsJudged bytes (after_part (Listed x) left) spaces bodies → UsesRight (context_in spaces) (use_of x) → later ≡ with_item spaces x → IsJudged bytes left later bodies
 after_item bytes left spaces later bodies x j starts e = record {
   front = j.front ++ Listed x ∷ [];
   parts = regrouped bytes j.front left.parts (Listed x) j.parts;
@@ -52,7 +52,7 @@ after_item bytes left spaces later bodies x j starts e = record {
   spaces_are = e ∙ ap (λ (s : Spaces). with_item s x) j.spaces_are ∙ sym (spaces_of-append (items_of j.front) x) ∙ ap spaces_of (sym (items_of-append j.front (Listed x ∷ [])));
   count = j.count ∙ ap length (sym (bodies_of-append j.front (Listed x ∷ []) ∙ append-nil (bodies_of j.front)));
   trees = j.trees ++ [];
-  valid = valid_more j.front (Listed x) j.trees [] j.valid (subst (λ (s : Spaces). StartsRight (context_in s) (started x)) j.spaces_are starts, tt);
+  valid = valid_more j.front (Listed x) j.trees [] j.valid (subst (λ (s : Spaces). UsesRight (context_in s) (use_of x)) j.spaces_are starts, tt);
 }
 
 pub context_is : (bytes : List ℕ) (left : Run) (spaces : Spaces) (bodies : ℕ) (b : Body) (j : IsJudged bytes left spaces bodies) → body_of_spaces spaces bodies b ≡ context_at (items_of j.front) (length (bodies_of j.front)) b
@@ -155,30 +155,30 @@ body_refused bytes left spaces bodies b r j f = (inr inside, λ s g. no_less s g
 
 -- ---- the start function is at fault
 
-pub start_refused : (bytes : List ℕ) (left : Run) (spaces : Spaces) (bodies : ℕ) (x : Item) (r : Refusal) → IsJudged bytes (after_part (Listed x) left) spaces bodies → IsStartFault (context_in spaces) (started x) r → IsVerdictBesideText bytes (Rejected r)
+pub start_refused : (bytes : List ℕ) (left : Run) (spaces : Spaces) (bodies : ℕ) (x : Item) (r : Refusal) → IsJudged bytes (after_part (Listed x) left) spaces bodies → IsUseFault (context_in spaces) (use_of x) r → IsVerdictBesideText bytes (Rejected r)
 start_refused bytes left spaces bodies x r j f = (inr inside, λ s g. no_less s g)
   where
-    here : IsStartFault (context_of (items_of j.front)) (started x) r
-    here = subst (λ (s : Spaces). IsStartFault (context_in s) (started x) r) j.spaces_are f
+    here : IsUseFault (context_of (items_of j.front)) (use_of x) r
+    here = subst (λ (s : Spaces). IsUseFault (context_in s) (use_of x) r) j.spaces_are f
 
     inside : IsFaultInside [] 0 (module_read bytes).parts r
     inside = rw j.parts (fault_of_rest [] 0 j.front (Listed x ∷ left.parts) r (inl here))
 
-    around : (at : ℕ) × StartStands at (length bytes) (started x) × AreOrdered (behind_start at (started x)) (length bytes) left.parts
+    around : (at : ℕ) × UseStands at (length bytes) (use_of x) × AreOrdered (behind_use at (use_of x)) (length bytes) left.parts
     around = around_item first_section (length bytes) j.front x left.parts (rw j.parts at (parts_in_module bytes))
 
-    before : r.offset < behind_start around.0 (started x)
-    before = (start_fault_stands around.0 (length bytes) (context_of (items_of j.front)) (started x) r around.1 here).1
+    before : r.offset < behind_use around.0 (use_of x)
+    before = (use_fault_stands around.0 (length bytes) (context_of (items_of j.front)) (use_of x) r around.1 here).1
 
     of_outside : (s : Refusal) → IsOutsideFault bytes s → r.offset ≤ s.offset
     of_outside s e =
         let a = around_item first_section s.offset j.front x left.parts (rw j.parts at (parts_before_fault bytes s e).0) in
-        let b = start_fault_stands a.0 s.offset (context_of (items_of j.front)) (started x) r a.1 here in
-        omega (arith, b.1, (start_goes_on a.0 s.offset (started x) a.1).1)
+        let b = use_fault_stands a.0 s.offset (context_of (items_of j.front)) (use_of x) r a.1 here in
+        omega (arith, b.1, (use_goes_on a.0 s.offset (use_of x) a.1).1)
 
     of_inside : (s : Refusal) → IsFaultInside (items_of j.front) (length (bodies_of j.front)) (Listed x ∷ left.parts) s → r.offset ≤ s.offset
-    of_inside s (inl g) = omega (arith, ap (λ (t : Refusal). t.offset) (start_once (context_of (items_of j.front)) (started x) r s here g))
-    of_inside s (inr g) = let k = fault_after (behind_start around.0 (started x)) (length bytes) (items_of j.front ++ x ∷ []) (length (bodies_of j.front)) left.parts s around.2 g in omega (arith, before)
+    of_inside s (inl g) = omega (arith, ap (λ (t : Refusal). t.offset) (use_once (context_of (items_of j.front)) (use_of x) r s here g))
+    of_inside s (inr g) = let k = fault_after (behind_use around.0 (use_of x)) (length bytes) (items_of j.front ++ x ∷ []) (length (bodies_of j.front)) left.parts s around.2 g in omega (arith, before)
 
     no_less : (s : Refusal) → IsFault bytes s → r.offset ≤ s.offset
     no_less s (inl g) = of_outside s g

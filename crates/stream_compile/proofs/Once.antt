@@ -4,10 +4,10 @@ use Rattle.wasm_defs.specs.declared.fault.Refusal.{Refusal}
 use Rattle.wasm_defs.specs.declared.item.Item.{Item}
 use Rattle.wasm_defs.specs.Trees.{Seq}
 use Rattle.wasm_defs.specs.Outside.{Part, Section, Listed, Coded, Body, module_read}
-use Rattle.wasm_defs.specs.Faults.{items_of, bodies_of, tokens_of, read_of, context_at, started, IsOutsideFault, IsFaultInside, IsFault, AreValid, Module, IsModule, Verdict, Accepted, Rejected}
+use Rattle.wasm_defs.specs.Faults.{items_of, bodies_of, tokens_of, read_of, context_at, use_of, IsOutsideFault, IsFaultInside, IsFault, AreValid, Module, IsModule, Verdict, Accepted, Rejected}
 use Rattle.wasm_defs.specs.Context.{context_of}
-use Rattle.wasm_laws.specs.Order.{AreOrdered, behind_start, end_of, first_section}
-use Rattle.wasm_laws.proofs.Order.{start_goes_on, parts_before_fault, parts_in_module}
+use Rattle.wasm_laws.specs.Order.{AreOrdered, behind_use, end_of, first_section}
+use Rattle.wasm_laws.proofs.Order.{use_goes_on, parts_before_fault, parts_in_module}
 use Rattle.wasm_laws.proofs.Verdicts.{some_once, code_fault_once, code_fault_inside, module_has_no_fault}
 use Rattle.body_validator.proofs.TreeLaws.{trees_one}
 use Rattle.std.proofs.lemmas.List.{append-nil}
@@ -18,7 +18,7 @@ use Rattle.image_linker.specs.ImageOf.{size_of, stub_size, front_size}
 use Rattle.wasm_laws.proofs.PartLists.{items_of-append}
 use Rattle.stream_compile.proofs.CodeWords.{same_size}
 use Rattle.image_linker.specs.Judging.{sizes, text_bytes, IsTextFault, IsFaultOf, IsModuleOf, IsVerdictOf}
-use Rattle.wasm_laws.proofs.PartOrder.{start_fault_stands, start_once, fault_after}
+use Rattle.wasm_laws.proofs.PartOrder.{use_fault_stands, use_once, fault_after}
 use Rattle.stream_compile.proofs.TextFaults.{text_not_outside, text_not_inside, text_once, tree_once}
 
 -- ---- faults of bodies
@@ -26,16 +26,16 @@ use Rattle.stream_compile.proofs.TextFaults.{text_not_outside, text_not_inside, 
 inside_once : (low last : ℕ) (items : List Item) (k : ℕ) (parts : List Part) (r s : Refusal) → AreOrdered low last parts → IsFaultInside items k parts r → IsFaultInside items k parts s → r.offset ≡ s.offset → r ≡ s
 inside_once low last items k [] r s o f g e = absurd f
 inside_once low last items k (Section at id ∷ parts) r s o f g e = inside_once (suc at) last items k parts r s o.2 f g e
-inside_once low last items k (Listed x ∷ parts) r s o (inl f) (inl g) e = start_once (context_of items) (started x) r s f g
+inside_once low last items k (Listed x ∷ parts) r s o (inl f) (inl g) e = use_once (context_of items) (use_of x) r s f g
 inside_once low last items k (Listed x ∷ parts) r s o (inl f) (inr g) e =
-    let here = start_fault_stands low last (context_of items) (started x) r o.0 f in
-    let later = fault_after (behind_start low (started x)) last (items ++ x ∷ []) k parts s o.1 g in
+    let here = use_fault_stands low last (context_of items) (use_of x) r o.0 f in
+    let later = fault_after (behind_use low (use_of x)) last (items ++ x ∷ []) k parts s o.1 g in
     absurd (omega (arith, here.1))
 inside_once low last items k (Listed x ∷ parts) r s o (inr f) (inl g) e =
-    let here = start_fault_stands low last (context_of items) (started x) s o.0 g in
-    let later = fault_after (behind_start low (started x)) last (items ++ x ∷ []) k parts r o.1 f in
+    let here = use_fault_stands low last (context_of items) (use_of x) s o.0 g in
+    let later = fault_after (behind_use low (use_of x)) last (items ++ x ∷ []) k parts r o.1 f in
     absurd (omega (arith, here.1))
-inside_once low last items k (Listed x ∷ parts) r s o (inr f) (inr g) e = inside_once (behind_start low (started x)) last (items ++ x ∷ []) k parts r s o.1 f g e
+inside_once low last items k (Listed x ∷ parts) r s o (inr f) (inr g) e = inside_once (behind_use low (use_of x)) last (items ++ x ∷ []) k parts r s o.1 f g e
 inside_once low last items k (Coded b ∷ parts) r s o (inl f) (inl g) e = code_fault_once (context_at items k b) (read_of b).code r s f g
 inside_once low last items k (Coded b ∷ parts) r s o (inl f) (inr g) e =
     let stands = o.0 in
@@ -54,9 +54,9 @@ pub before_last : (low last : ℕ) (items : List Item) (k : ℕ) (parts : List P
 before_last low last items k [] r o f = absurd f
 before_last low last items k (Section at id ∷ parts) r o f = before_last (suc at) last items k parts r o.2 f
 before_last low last items k (Listed x ∷ parts) r o (inl f) =
-    let here = start_fault_stands low last (context_of items) (started x) r o.0 f in
-    omega (arith, here.1, (start_goes_on low last (started x) o.0).1)
-before_last low last items k (Listed x ∷ parts) r o (inr f) = before_last (behind_start low (started x)) last (items ++ x ∷ []) k parts r o.1 f
+    let here = use_fault_stands low last (context_of items) (use_of x) r o.0 f in
+    omega (arith, here.1, (use_goes_on low last (use_of x) o.0).1)
+before_last low last items k (Listed x ∷ parts) r o (inr f) = before_last (behind_use low (use_of x)) last (items ++ x ∷ []) k parts r o.1 f
 before_last low last items k (Coded b ∷ parts) r o (inl f) =
     let stands = o.0 in
     let here = code_fault_inside (context_at items k b) b r (omega (arith, stands.least)) f in

@@ -10,10 +10,10 @@ use Rattle.wasm_defs.specs.Typing.{Context}
 use Rattle.wasm_defs.specs.Context.{context_of}
 use Rattle.wasm_defs.specs.Viable.{IsFaulty}
 use Rattle.wasm_defs.specs.Outside.{Part, Section, Listed, Coded, Body, Ending, Whole, Refused, Owed, Run, module_read}
-use Rattle.wasm_defs.specs.Faults.{rank, ending_fault, tokens_of, IsCodeFault, started, IsStartFault, IsFaultInside, read_of, context_at, Verdict, Accepted, Rejected}
+use Rattle.wasm_defs.specs.Faults.{rank, ending_fault, tokens_of, IsCodeFault, Use, use_of, use_kind, IsUseFault, IsFaultInside, read_of, context_at, Verdict, Accepted, Rejected}
 use Rattle.wasm_laws.specs.Runs.{Becomes}
-use Rattle.wasm_laws.specs.Order.{AreOrdered, behind_start, end_of, first_section}
-use Rattle.wasm_laws.proofs.Order.{start_goes_on, start_before, parts_before_fault, parts_in_module}
+use Rattle.wasm_laws.specs.Order.{AreOrdered, behind_use, end_of, first_section}
+use Rattle.wasm_laws.proofs.Order.{use_goes_on, use_before, parts_before_fault, parts_in_module}
 use Rattle.wasm_laws.proofs.Runs.{module_goes_on}
 use Rattle.image_linker.specs.ImageOf.{size_of}
 use Rattle.image_linker.specs.Judging.{IsTextFault, IsFaultOf, IsVerdictOf, IsStoppedAt, lasting, lasting_fault}
@@ -45,14 +45,18 @@ code_kind : (c : Context) (b : Body) (r : Refusal) → IsCodeFault c (read_of b)
 code_kind c b r (inl t) = faulty_kind c (tokens_of t.before ++ t.token ∷ []) r.kind t.faulty
 code_kind c b r (inr s) = body_fault_lasts b.first b.bytes r s.is
 
-start_kind : (c : Context) (o : Option (ℕ × ℕ)) (r : Refusal) → IsStartFault c o r → rank r.kind < 4
-start_kind c None r f = absurd f
-start_kind c (Some index) r f = omega (arith, ap (λ (s : Refusal). rank s.kind) f.1)
+use_ranks : (at index : ℕ) (starts : Bool) → rank (use_kind (at, index, starts)) < 4
+use_ranks at index true = omega arith
+use_ranks at index false = omega arith
+
+use_kind_rank : (c : Context) (o : Option Use) (r : Refusal) → IsUseFault c o r → rank r.kind < 4
+use_kind_rank c None r f = absurd f
+use_kind_rank c (Some u) r f = omega (arith, use_ranks u.0 u.1 u.2, ap (λ (s : Refusal). rank s.kind) f.1)
 
 inside_kind : (items : List Item) (k : ℕ) (parts : List Part) (r : Refusal) → IsFaultInside items k parts r → rank r.kind < 4
 inside_kind items k [] r f = absurd f
 inside_kind items k (Section at id ∷ parts) r f = inside_kind items k parts r f
-inside_kind items k (Listed x ∷ parts) r (inl f) = start_kind (context_of items) (started x) r f
+inside_kind items k (Listed x ∷ parts) r (inl f) = use_kind_rank (context_of items) (use_of x) r f
 inside_kind items k (Listed x ∷ parts) r (inr f) = inside_kind (items ++ x ∷ []) k parts r f
 inside_kind items k (Coded b ∷ parts) r (inl f) = code_kind (context_at items k b) b r f
 inside_kind items k (Coded b ∷ parts) r (inr f) = inside_kind items (suc k) parts r f
@@ -81,7 +85,7 @@ ended_is_owed bytes r (inr f) k = absurd (not_ended r.kind (text_kind [] 0 0 (mo
 front_ordered : (low last : ℕ) (front back : List Part) → AreOrdered low last (front ++ back) → AreOrdered low last front
 front_ordered low last [] back o = tt
 front_ordered low last (Section at id ∷ front) back o = (o.0, o.1, front_ordered (suc at) last front back o.2)
-front_ordered low last (Listed x ∷ front) back o = (o.0, front_ordered (behind_start low (started x)) last front back o.1)
+front_ordered low last (Listed x ∷ front) back o = (o.0, front_ordered (behind_use low (use_of x)) last front back o.1)
 front_ordered low last (Coded b ∷ front) back o = (o.0, front_ordered (end_of b) last front back o.1)
 
 -- the parts in front end where the others begin
@@ -89,8 +93,8 @@ split : (low last : ℕ) (front back : List Part) → AreOrdered low last (front
 split low last [] back o = (low, omega arith, tt, o)
 split low last (Section at id ∷ front) back o = let q = split (suc at) last front back o.2 in (q.0, omega (arith, o.0, q.1), (o.0, omega (arith, q.1), q.2), q.3)
 split low last (Listed x ∷ front) back o =
-    let q = split (behind_start low (started x)) last front back o.1 in
-    (q.0, omega (arith, q.1, (start_goes_on low last (started x) o.0).0), (start_before low last q.0 (started x) o.0 q.1, q.2), q.3)
+    let q = split (behind_use low (use_of x)) last front back o.1 in
+    (q.0, omega (arith, q.1, (use_goes_on low last (use_of x) o.0).0), (use_before low last q.0 (use_of x) o.0 q.1, q.2), q.3)
 split low last (Coded b ∷ front) back o =
     let q = split (end_of b) last front back o.1 in
     let stands = o.0 in

@@ -5,7 +5,7 @@ use Rattle.std.proofs.Common.{◌≡◌, ℕ, ◌+◌, ◌^◌, ◌≤◌, ◌<�
 use Rattle.wasm_defs.specs.declared.fault.Refusal.{Refusal}
 use Rattle.wasm_defs.specs.declared.item.Item.{Item}
 use Rattle.wasm_defs.specs.declared.item.Item.TheVariants as item
-use Rattle.wasm_defs.specs.Faults.{ending_fault, started, StartsRight, IsStartFault, Rejected}
+use Rattle.wasm_defs.specs.Faults.{ending_fault, use_of, UsesRight, IsUseFault, Rejected}
 use Rattle.wasm_defs.specs.Outside.{Part, Run, Ending, Whole, Refused, Owed, ends, sections, no_end, module_read}
 use Rattle.index_spaces.specs.Spaces.{Spaces, spaces_of, context_in, with_item}
 use Rattle.section_reader.specs.declared.front.Front.{Front}
@@ -166,14 +166,14 @@ module _ (bytes : List ℕ) (f : Front) (spaces : Spaces) (codes : Coding) (faul
 
 module _ (bytes : List ℕ) (s : Compilation) (x : Item) (more : List ℕ) (t : IsTaking bytes s x more) where
   -- the start function is at fault
-  pub item_refused : (r : Refusal) → IsStartFault (context_in s.spaces) (started x) r → IsVerdictOf bytes (Rejected r)
+  pub item_refused : (r : Refusal) → IsUseFault (context_in s.spaces) (use_of x) r → IsVerdictOf bytes (Rejected r)
   item_refused r f = start_refused bytes (onward_left s.front more) s.spaces s.codes x r t.judging f
 
-  pub item_judged : (later : Spaces) → StartsRight (context_in s.spaces) (started x) → later ≡ with_item s.spaces x → IsJudging bytes (onward_left s.front more) later s.codes
+  pub item_judged : (later : Spaces) → UsesRight (context_in s.spaces) (use_of x) → later ≡ with_item s.spaces x → IsJudging bytes (onward_left s.front more) later s.codes
   item_judged later starts is = after_item bytes (onward_left s.front more) s.codes s.spaces later x t.judging starts is
 
   -- no bodies come
-  pub item_reading : (later : Spaces) → StartsRight (context_in s.spaces) (started x) → later ≡ with_item s.spaces x → is_at_bodies s.front.steps.stage ≡ false → IsReading bytes s.front later s.codes more
+  pub item_reading : (later : Spaces) → UsesRight (context_in s.spaces) (use_of x) → later ≡ with_item s.spaces x → is_at_bodies s.front.steps.stage ≡ false → IsReading bytes s.front later s.codes more
   item_reading later starts is apart = record {
     few = t.few;
     judging = item_judged later starts is;
@@ -181,7 +181,7 @@ module _ (bytes : List ℕ) (s : Compilation) (x : Item) (more : List ℕ) (t : 
   }
 
   -- the bodies come
-  pub item_cutting : (later : Spaces) (c : Cutting) (count end : ℕ) → StartsRight (context_in s.spaces) (started x) → later ≡ with_item s.spaces x → BodiesCome count end s.front
+  pub item_cutting : (later : Spaces) (c : Cutting) (count end : ℕ) → UsesRight (context_in s.spaces) (use_of x) → later ≡ with_item s.spaces x → BodiesCome count end s.front
       → ((rest : List ℕ) → onward_left s.front rest ≡ cut_run (left c rest) (sections_behind s.front.steps.seen c.place.at c.place.end rest)) → c.place.at ≡ total s.front → c.place.end ≡ end
       → IsCutting bytes s.front c later s.codes more
   item_cutting later c count end starts is come run at ends = record {
@@ -219,7 +219,7 @@ not_bodies (item.Element table place functions) f none h = h
 not_bodies (item.Segment memory place bytes) f none h = h
 
 -- the bodies may begin
-pub may_begin : (bytes : List ℕ) (s : Compilation) (count : ℕ × ℕ) (end : ℕ) (more : List ℕ) (t : IsTaking bytes s (item.Code count end) more) (later : Spaces) → StartsRight (context_in s.spaces) (started (item.Code count end)) → later ≡ with_item s.spaces (item.Code count end)
+pub may_begin : (bytes : List ℕ) (s : Compilation) (count : ℕ × ℕ) (end : ℕ) (more : List ℕ) (t : IsTaking bytes s (item.Code count end) more) (later : Spaces) → UsesRight (context_in s.spaces) (use_of (item.Code count end)) → later ≡ with_item s.spaces (item.Code count end)
     → (length later.functions < 2 ^ 32) × (later.imported + count.1 < 2 ^ 32) × (total s.front ≤ end) × (end < 2 ^ 60)
 may_begin bytes s count end more t later starts is =
     let run = onward_left s.front more in

@@ -11,11 +11,11 @@ use Rattle.wasm_defs.specs.Trees.{Seq}
 use Rattle.wasm_defs.specs.Typing.{Context}
 use Rattle.wasm_defs.specs.Context.{context_of}
 use Rattle.wasm_defs.specs.declared.fault.Kind.TheVariants.{Invalid}
-use Rattle.wasm_defs.specs.Faults.{ending_fault, items_of, bodies_of, read_of, context_at, may_start, started, StartsRight, IsStartFault, IsCodeFault, IsValidCode, IsOutsideFault, IsFaultInside, IsFault, AreValid, Module, Verdict, Accepted, Rejected}
+use Rattle.wasm_defs.specs.Faults.{ending_fault, items_of, bodies_of, read_of, context_at, Use, use_of, serves, use_kind, UsesRight, IsUseFault, IsCodeFault, IsValidCode, IsOutsideFault, IsFaultInside, IsFault, AreValid, Module, Verdict, Accepted, Rejected}
 use Rattle.wasm_laws.specs.Sections.{AreBytes}
 use Rattle.wasm_laws.proofs.Behind.{bodies_stand_behind}
 use Rattle.wasm_laws.proofs.Counted.{entries_are_few}
-use Rattle.wasm_laws.proofs.Verdicts.{code_fault_once, valid_has_no_fault, starts_without_fault}
+use Rattle.wasm_laws.proofs.Verdicts.{code_fault_once, valid_has_no_fault, uses_without_fault}
 use Rattle.frame_layout.specs.Templates.{exit_stub}
 use Rattle.image_linker.specs.ImageOf.{size_of, stub_size, front_size}
 use Rattle.image_linker.specs.Judging.{sizes, text_bytes, limit_at, IsTextFault, IsFaultOf, IsModuleOf, IsVerdictOf}
@@ -35,29 +35,29 @@ code_least : (c : Context) (b : Body) → IsJudged c (read_of b).code → HasLea
 code_least c b (inl v) = inr (λ s f. valid_has_no_fault c (read_of b).code v.0 s v.1 f)
 code_least c b (inr p) = inl (p.0, p.1, λ s g. omega (arith, ap (λ (r : Refusal). r.offset) (code_fault_once c (read_of b).code p.0 s p.1 g)))
 
--- ---- and of the start function
+-- ---- and of the start function, or of an import
 
-start_least : (c : Context) (o : Option (ℕ × ℕ)) → HasLeast (IsStartFault c o)
-start_least c None = inr (λ s f. f)
-start_least c (Some index) =
-    elim (cases_Bool (may_start c index.1)) [
-      | inl may ↦ inr (λ s f. starts_without_fault c (Some index) s may f)
-      | inr wrong ↦ inl (record { offset = index.0; kind = Invalid }, (wrong, refl), λ s f. omega (arith, ap (λ (r : Refusal). r.offset) f.1))
+use_least : (c : Context) (o : Option Use) → HasLeast (IsUseFault c o)
+use_least c None = inr (λ s f. f)
+use_least c (Some u) =
+    elim (cases_Bool (serves c u)) [
+      | inl does ↦ inr (λ s f. uses_without_fault c (Some u) s does f)
+      | inr wrong ↦ inl (record { offset = u.0; kind = use_kind u }, (wrong, refl), λ s f. omega (arith, ap (λ (r : Refusal). r.offset) f.1))
     ]
 
-starts_of : (c : Context) (o : Option (ℕ × ℕ)) → ((s : Refusal) → IsStartFault c o s → ⊥) → StartsRight c o
-starts_of c None none = tt
-starts_of c (Some index) none =
-    elim (cases_Bool (may_start c index.1)) [
-      | inl may ↦ may
-      | inr wrong ↦ absurd (none (record { offset = index.0; kind = Invalid }) (wrong, refl))
+uses_of : (c : Context) (o : Option Use) → ((s : Refusal) → IsUseFault c o s → ⊥) → UsesRight c o
+uses_of c None none = tt
+uses_of c (Some u) none =
+    elim (cases_Bool (serves c u)) [
+      | inl does ↦ does
+      | inr wrong ↦ absurd (none (record { offset = u.0; kind = use_kind u }) (wrong, refl))
     ]
 
 inside_least : (items : List Item) (k : ℕ) (parts : List Part) → HasLeast (IsFaultInside items k parts)
 inside_least items k [] = inr (λ s f. f)
 inside_least items k (Section at id ∷ parts) = inside_least items k parts
 inside_least items k (Listed x ∷ parts) =
-    least_either (IsStartFault (context_of items) (started x)) (IsFaultInside (items ++ x ∷ []) k parts) (start_least (context_of items) (started x)) (inside_least (items ++ x ∷ []) k parts)
+    least_either (IsUseFault (context_of items) (use_of x)) (IsFaultInside (items ++ x ∷ []) k parts) (use_least (context_of items) (use_of x)) (inside_least (items ++ x ∷ []) k parts)
 inside_least items k (Coded b ∷ parts) =
     least_either (IsCodeFault (context_at items k b) (read_of b).code) (IsFaultInside items (suc k) parts)
     (code_least (context_at items k b) b (body_judged (context_at items k b) b.first b.bytes)) (inside_least items (suc k) parts)
@@ -67,7 +67,7 @@ trees_of items k [] none = ([], tt)
 trees_of items k (Section at id ∷ parts) none = trees_of items k parts none
 trees_of items k (Listed x ∷ parts) none =
     let rest = trees_of (items ++ x ∷ []) k parts (λ s f. none s (inr f)) in
-    (rest.0, (starts_of (context_of items) (started x) (λ s f. none s (inl f)), rest.1))
+    (rest.0, (uses_of (context_of items) (use_of x) (λ s f. none s (inl f)), rest.1))
 trees_of items k (Coded b ∷ parts) none =
     elim (body_judged (context_at items k b) b.first b.bytes) [
       | inl v ↦ let rest = trees_of items (suc k) parts (λ s f. none s (inr f)) in (v.0 ∷ rest.0, (v.1, rest.1))

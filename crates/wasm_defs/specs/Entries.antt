@@ -13,7 +13,7 @@ use Rattle.wasm_defs.specs.declared.item.Limits.{Limits}
 use Rattle.wasm_defs.specs.declared.item.Constant.{Constant}
 use Rattle.wasm_defs.specs.declared.item.Item.{Item}
 use Rattle.wasm_defs.specs.declared.item.Item.TheVariants.{Signature, Imported, Function, Table, Memory, Global, Exported, Start, Element, Code, Segment}
-use Rattle.wasm_defs.specs.Limits.{max_params, max_table, max_pages, top_pages, top_rows}
+use Rattle.wasm_defs.specs.Limits.{max_params, max_results, max_table, max_pages, top_pages, top_rows}
 use Rattle.wasm_defs.specs.Fields.{Reader, ◌>>=◌, done, refused, byte, number, u32, count, vector, stop, counted_bytes, name}
 
 -- the names that were exported, each with its offset
@@ -122,18 +122,13 @@ constant ty = do
 
 -- ---- entries
 
--- a type (5.3.3); with several results the limit on their count is another
-unfoldable pub results : Reader (ℕ × ℕ)
-results = do
-  n ← u32
-  if nat_lt 1 n.1 then refused Invalid n.0 else done n
-
+-- a type (5.3.3)
 unfoldable pub signature : Seen → Reader Item
 signature seen = do
   form ← byte
   if form.1 == 0x60 then (do
     params ← vector (count max_params) listed_type
-    out ← vector results listed_type
+    out ← vector (count max_results) listed_type
     done (Signature form.0 params.0 out.0 (record { params = params.1; results = out.1 })))
       else refused Malformed form.0
 

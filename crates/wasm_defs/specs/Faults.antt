@@ -1,10 +1,10 @@
 -- The faults of a module, but for that of its image's text.
-use Rattle.std.specs.Prelude.{◌≡◌, ◌⊎◌, ℕ, suc, ◌+◌, List, [], ◌∷◌, ◌++◌, ◌==◌, ◌&&◌, length, Bool, true, false, Option, None, Some}
+use Rattle.std.specs.Prelude.{◌≡◌, ◌⊎◌, ℕ, suc, ◌+◌, List, [], ◌∷◌, ◌++◌, ◌==◌, ◌&&◌, length, Bool, true, false, Option, None, Some, slice_get, nat_le, if◌then◌else◌}
 use Rattle.wasm_defs.specs.declared.fault.Kind.{Kind}
 use Rattle.wasm_defs.specs.declared.fault.Kind.TheVariants.{Malformed, Unsupported, Limit, Invalid, Ended}
 use Rattle.wasm_defs.specs.declared.fault.Refusal.{Refusal}
 use Rattle.wasm_defs.specs.declared.item.Item.{Item}
-use Rattle.wasm_defs.specs.declared.item.Item.TheVariants.{Start}
+use Rattle.wasm_defs.specs.declared.item.Item.TheVariants.{Imported, Start}
 use Rattle.wasm_defs.specs.declared.token.Token.{Token}
 use Rattle.wasm_defs.specs.declared.types.FuncType.{FuncType}
 use Rattle.wasm_defs.specs.Outside.{Part, Section, Listed, Coded, Body, Ending, Whole, Refused, Owed, module_read}
@@ -34,9 +34,9 @@ ending_fault len Owed = Some (record { offset = len; kind = Ended })
 abbrev pub IsOutsideFault : List ℕ → Refusal → Type 0
 IsOutsideFault bytes r = ending_fault (length bytes) (module_read bytes).ending ≡ Some r
 
--- ---- of the start function
+-- ---- of the start function, and of imports
 
--- a function without parameters and without results
+-- a function without parameters and without results (3.4.7)
 abbrev pub is_start_type : Option FuncType → Bool
 is_start_type None = false
 is_start_type (Some t) = length t.params == 0 && length t.results == 0
@@ -44,20 +44,40 @@ is_start_type (Some t) = length t.params == 0 && length t.results == 0
 abbrev pub may_start : Context → ℕ → Bool
 may_start c index = is_start_type (function_type c index)
 
--- the start function that an item names: the offset of its index, and the index
-abbrev pub started : Item → Option (ℕ × ℕ)
-started (Start index) = Some index
-started x = None
+-- a function of one result at most: a host gives no more
+abbrev pub is_import_type : Option FuncType → Bool
+is_import_type None = false
+is_import_type (Some t) = nat_le (length t.results) 1
 
--- it is there, and of that type (3.4.7)
-abbrev pub StartsRight : Context → Option (ℕ × ℕ) → Type 0
-StartsRight c None = Unit {0}
-StartsRight c (Some index) = may_start c index.1 ≡ true
+abbrev pub may_import : Context → ℕ → Bool
+may_import c index = is_import_type (slice_get c.types index)
 
--- else its index is invalid
-abbrev pub IsStartFault : Context → Option (ℕ × ℕ) → Refusal → Type 0
-IsStartFault c None r = ⊥
-IsStartFault c (Some index) r = (may_start c index.1 ≡ false) × (r ≡ record { offset = index.0; kind = Invalid })
+-- an index that not every type serves: its offset, the index, and whether it is that of the start function, or else of an import's
+-- type
+abbrev pub Use : Type 0
+Use = ℕ × ℕ × Bool
+
+-- that of an item
+abbrev pub use_of : Item → Option Use
+use_of (Start index) = Some (index.0, index.1, true)
+use_of (Imported from what kind type_index) = Some (type_index.0, type_index.1, false)
+use_of x = None
+
+abbrev pub serves : Context → Use → Bool
+serves c u = if u.2 then may_start c u.1 else may_import c u.1
+
+-- its type serves
+abbrev pub UsesRight : Context → Option Use → Type 0
+UsesRight c None = Unit {0}
+UsesRight c (Some u) = serves c u ≡ true
+
+-- else the start function is invalid, and an import unsupported, at the index
+abbrev pub use_kind : Use → Kind
+use_kind u = if u.2 then Invalid else Unsupported
+
+abbrev pub IsUseFault : Context → Option Use → Refusal → Type 0
+IsUseFault c None r = ⊥
+IsUseFault c (Some u) r = (serves c u ≡ false) × (r ≡ record { offset = u.0; kind = use_kind u })
 
 -- ---- in a body
 
@@ -93,11 +113,11 @@ context_at items k b =
     let c = context_of items in
     body_context c (type_of_function c (import_count items + k)) (read_of b).groups
 
--- a fault of the start function or of one of the bodies, after these items and k bodies
+-- a fault of an item's use or of one of the bodies, after these items and k bodies
 abbrev pub IsFaultInside : List Item → ℕ → List Part → Refusal → Type 0
 IsFaultInside items k [] r = ⊥
 IsFaultInside items k (Section at id ∷ parts) r = IsFaultInside items k parts r
-IsFaultInside items k (Listed x ∷ parts) r = IsStartFault (context_of items) (started x) r ⊎ IsFaultInside (items ++ x ∷ []) k parts r
+IsFaultInside items k (Listed x ∷ parts) r = IsUseFault (context_of items) (use_of x) r ⊎ IsFaultInside (items ++ x ∷ []) k parts r
 IsFaultInside items k (Coded b ∷ parts) r = IsCodeFault (context_at items k b) (read_of b).code r ⊎ IsFaultInside items (suc k) parts r
 
 -- ---- the module
@@ -111,12 +131,12 @@ pub record IsValidCode (c : Context) (code : Spelled) (tree : Seq) : Type 0 wher
   pub tree_is : Tree (tokens_of code.tokens) tree
   pub typed : IsBody c tree
 
--- the start function and the bodies are valid, the bodies with these trees
+-- the items' uses and the bodies are right, the bodies with these trees
 abbrev pub AreValid : List Item → ℕ → List Part → List Seq → Type 0
 AreValid items k [] [] = Unit {0}
 AreValid items k [] (tree ∷ trees) = ⊥
 AreValid items k (Section at id ∷ parts) trees = AreValid items k parts trees
-AreValid items k (Listed x ∷ parts) trees = StartsRight (context_of items) (started x) × AreValid (items ++ x ∷ []) k parts trees
+AreValid items k (Listed x ∷ parts) trees = UsesRight (context_of items) (use_of x) × AreValid (items ++ x ∷ []) k parts trees
 AreValid items k (Coded b ∷ parts) [] = ⊥
 AreValid items k (Coded b ∷ parts) (tree ∷ trees) = IsValidCode (context_at items k b) (read_of b).code tree × AreValid items (suc k) parts trees
 

@@ -17,6 +17,10 @@ max_entries = 100000
 abbrev pub max_params : ℕ
 max_params = 1000
 
+-- results of a type
+abbrev pub max_results : ℕ
+max_results = 1000
+
 -- declared locals of a body, its parameters not counted
 abbrev pub max_locals : ℕ
 max_locals = 50000

@@ -6,7 +6,7 @@ use Rattle.std.specs.FinMap as map
 use Rattle.wasm_defs.specs.declared.item.Item.{Item}
 use Rattle.wasm_defs.specs.declared.item.Item.TheVariants.{Signature, Imported, Function, Table, Memory, Global, Exported, Start, Element, Code, Segment}
 use Rattle.wasm_defs.specs.declared.item.Limits.{Limits}
-use Rattle.wasm_defs.specs.Limits.{max_module, max_entries, max_params, max_table, max_pages, top_pages, top_rows, max_body, max_name}
+use Rattle.wasm_defs.specs.Limits.{max_module, max_entries, max_params, max_results, max_table, max_pages, top_pages, top_rows, max_body, max_name}
 use Rattle.wasm_defs.specs.Entries.{Seen, nothing, note, space}
 use Rattle.wasm_defs.specs.Items.{Section, Payload, Custom, Vector, Starting, Bodies, payload_items}
 
@@ -24,10 +24,9 @@ LimitsKeep l most top = (l.min.1 ≤ most) × IsUpTo l.max l.min top
 abbrev pub IsSole : ℕ × ℕ → ℕ → Type 0
 IsSole index there = (index.1 ≡ 0) × (0 < there)
 
--- an item behind those that were seen: a type has one result at most (3.2.2); an index is one of what it counts, and an
--- export's name is new (3.4.10)
+-- an item behind those that were seen: an index is one of what it counts, and an export's name is new (3.4.10)
 abbrev pub Keeps : Seen → Item → Type 0
-Keeps s (Signature form params results ty) = (length ty.params ≤ max_params) × (length ty.results ≤ 1)
+Keeps s (Signature form params results ty) = (length ty.params ≤ max_params) × (length ty.results ≤ max_results)
 Keeps s (Imported from what kind type_index) = (length from.1 ≤ max_name) × (length what.1 ≤ max_name) × (type_index.1 < s.types)
 Keeps s (Function type_index) = type_index.1 < s.types
 Keeps s (Table element limits) = LimitsKeep limits max_table top_rows

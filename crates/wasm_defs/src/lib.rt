@@ -21,8 +21,8 @@ pub use front_stop::FrontStop;
 pub use item::{Constant, Extern, Item, Limits};
 pub use laws::numbers_are_prefix_free;
 pub use limits::{
-    MAX_BODY, MAX_ENTRIES, MAX_LOCALS, MAX_MODULE, MAX_NAME, MAX_PAGES, MAX_PARAMS, MAX_TABLE,
-    MAX_TEXT, TOP_PAGES,
+    MAX_BODY, MAX_ENTRIES, MAX_LOCALS, MAX_MODULE, MAX_NAME, MAX_PAGES, MAX_PARAMS, MAX_RESULTS,
+    MAX_TABLE, MAX_TEXT, TOP_PAGES,
 };
 pub use lists::{Bytes, Indices, Labels, Name, Sequence, ValTypes};
 pub use operation::{

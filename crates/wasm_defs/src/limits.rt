@@ -13,6 +13,9 @@ pub const MAX_ENTRIES: u32 = 100_000;
 /// Parameters of a function type.
 pub const MAX_PARAMS: u32 = 1_000;
 
+/// Results of a function type.
+pub const MAX_RESULTS: u32 = 1_000;
+
 /// Declared locals of a body, its parameters not counted.
 pub const MAX_LOCALS: u32 = 50_000;
 

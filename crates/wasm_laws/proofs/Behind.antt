@@ -10,7 +10,7 @@ use Rattle.wasm_defs.specs.Faults.{items_of, bodies_of, read_of, context_at, IsV
 use Rattle.wasm_defs.specs.Outside.{Body, Part, Section, Listed, Coded, module_read}
 use Rattle.wasm_defs.specs.Trees.{Seq}
 use Rattle.wasm_defs.specs.Typing.{Context}
-use Rattle.wasm_laws.specs.Behind.{AreSegments, SayTheSame, StandBehind, StartsKeep, AreValidIn}
+use Rattle.wasm_laws.specs.Behind.{AreSegments, SayTheSame, StandBehind, UsesKeep, AreValidIn}
 use Rattle.wasm_laws.proofs.Sorted.{AreSorted, parts_are_sorted}
 
 -- ---- segments add nothing
@@ -154,12 +154,12 @@ valid_in_all bytes front items k (Coded b ∷ parts) (tree ∷ trees) e same h =
       valid_in_all bytes (front ++ Coded b ∷ []) items (suc k) parts trees (e ∙ sym (append_assoc front (Coded b ∷ []) parts)) (items_with front (Coded b) ∙ no_items_more (items_of front) ∙ same) h.1,
     )
 
-pub starts_keep : (items : List Item) (k : ℕ) (parts : List Part) (trees : List Seq) → AreValid items k parts trees → StartsKeep items (items_of parts)
-starts_keep items k [] trees v = tt
-starts_keep items k (Section at id ∷ parts) trees v = starts_keep items k parts trees v
-starts_keep items k (Listed x ∷ parts) trees v = (v.0, starts_keep (items ++ x ∷ []) k parts trees v.1)
-starts_keep items k (Coded b ∷ parts) [] v = absurd v
-starts_keep items k (Coded b ∷ parts) (tree ∷ trees) v = starts_keep items (suc k) parts trees v.1
+pub uses_keep : (items : List Item) (k : ℕ) (parts : List Part) (trees : List Seq) → AreValid items k parts trees → UsesKeep items (items_of parts)
+uses_keep items k [] trees v = tt
+uses_keep items k (Section at id ∷ parts) trees v = uses_keep items k parts trees v
+uses_keep items k (Listed x ∷ parts) trees v = (v.0, uses_keep (items ++ x ∷ []) k parts trees v.1)
+uses_keep items k (Coded b ∷ parts) [] v = absurd v
+uses_keep items k (Coded b ∷ parts) (tree ∷ trees) v = uses_keep items (suc k) parts trees v.1
 
 pub bodies_are_valid : (bytes : List ℕ) (m : Module) → IsModule bytes m → AreValidIn m.items 0 m.bodies m.trees
 bodies_are_valid bytes m is =

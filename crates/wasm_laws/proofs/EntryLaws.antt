@@ -1,7 +1,7 @@
 -- Entries of sections, and what stands before and after them, are steady.
 use Rattle.std.proofs.Common.{ℕ, List}
 use Rattle.wasm_defs.specs.declared.types.ValType.{ValType}
-use Rattle.wasm_defs.specs.Entries.{Seen, index, value_type, listed_type, limits, constant, results, signature, imported, function, table, memory, mutability, global, extern_kind, exported, start, sole, listed_index, element, code, segment}
+use Rattle.wasm_defs.specs.Entries.{Seen, index, value_type, listed_type, limits, constant, signature, imported, function, table, memory, mutability, global, extern_kind, exported, start, sole, listed_index, element, code, segment}
 use Rattle.wasm_defs.specs.Outside.{rest_of_section, number_of, at_most_one, function_count, custom_name, body, header, preamble}
 use Rattle.wasm_laws.proofs.Steady.{Steady}
 use Rattle.wasm_laws.proofs.FieldLaws.{readers, count_steady, vector_steady, counted_bytes_steady}
@@ -31,10 +31,6 @@ pub constant_steady : (marks : List ℕ) (ty : ValType) → Steady marks (consta
 unfolding constant
 constant_steady marks ty = search steady depth 40
 
-pub results_steady : (marks : List ℕ) → Steady marks results
-unfolding results
-results_steady marks = search steady depth 40
-
 pub mutability_steady : (marks : List ℕ) → Steady marks mutability
 unfolding mutability
 mutability_steady marks = search steady depth 40
@@ -51,7 +47,7 @@ pub listed_index_steady : (marks : List ℕ) (most : ℕ) → Steady marks (list
 unfolding listed_index
 listed_index_steady marks most = search (index_steady, steady) depth 40
 
-pub ruleset parts = (index_steady, value_type_steady, listed_type_steady, limits_steady, constant_steady, results_steady, mutability_steady, extern_kind_steady, sole_steady, listed_index_steady, steady)
+pub ruleset parts = (index_steady, value_type_steady, listed_type_steady, limits_steady, constant_steady, mutability_steady, extern_kind_steady, sole_steady, listed_index_steady, steady)
 
 -- ---- entries
 

@@ -8,8 +8,8 @@ use Rattle.wasm_defs.specs.declared.item.Item.{Item}
 use Rattle.wasm_defs.specs.declared.item.Item.TheVariants.{Signature, Imported, Function, Table, Memory, Exported}
 use Rattle.wasm_defs.specs.declared.item.Limits.{Limits}
 use Rattle.wasm_defs.specs.Fields.{Cursor, Reader, repeated, byte, u32, count, vector, name}
-use Rattle.wasm_defs.specs.Entries.{Seen, note, space, index, listed_type, limits, results, signature, imported, function, table, memory, global, extern_kind, exported, start, element, code, segment}
-use Rattle.wasm_defs.specs.Limits.{max_params, max_table, max_pages, top_rows, top_pages}
+use Rattle.wasm_defs.specs.Entries.{Seen, note, space, index, listed_type, limits, signature, imported, function, table, memory, global, extern_kind, exported, start, element, code, segment}
+use Rattle.wasm_defs.specs.Limits.{max_params, max_results, max_table, max_pages, top_rows, top_pages}
 use Rattle.wasm_defs.specs.Outside.{entered, module_read}
 use Rattle.wasm_defs.specs.Context.{functions_of}
 use Rattle.wasm_defs.specs.Faults.{items_of}
@@ -78,16 +78,6 @@ count_up_to most c =
       | inr fits ↦ rw (le-ltb most n.1 fits) fits
     ])
 
-one_at_most : (c : Cursor) → IfGot (λ n d. n.1 ≤ 1) (results c)
-unfolding results
-one_at_most c =
-    then_got (λ n d. Unit {0}) (λ n d. n.1 ≤ 1) (u32 c) _ (always (u32 c))
-    (λ n d t.
-    elim (cases_lt 1 n.1) [
-      | inl over ↦ rw (lt-ltb 1 n.1 over) tt
-      | inr fits ↦ rw (le-ltb 1 n.1 fits) fits
-    ])
-
 signature_kept : (seen : Seen) (c : Cursor) → IfGot (λ x d. IsKept seen.functions x) (signature seen c)
 unfolding signature
 signature_kept seen c =
@@ -97,8 +87,8 @@ signature_kept seen c =
       | inr other ↦ rw other tt
       | inl right ↦ rw right (then_got (λ ps e. length ps.1 ≤ max_params) (λ x d. IsKept seen.functions x) (vector (count max_params) listed_type d) _ (vector_length max_params (count max_params) listed_type d (count_up_to max_params d))
           (λ ps e few.
-          then_got (λ rs f. length rs.1 ≤ 1) (λ x d. IsKept seen.functions x) (vector results listed_type e) _ (vector_length 1 results listed_type e (one_at_most e))
-          (λ rs f one. record { params = few; results = one })))
+          then_got (λ rs f. length rs.1 ≤ max_results) (λ x d. IsKept seen.functions x) (vector (count max_results) listed_type e) _ (vector_length max_results (count max_results) listed_type e (count_up_to max_results e))
+          (λ rs f some. record { params = few; results = some })))
     ])
 
 signature_keeps : Keeps signature

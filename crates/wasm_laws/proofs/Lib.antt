@@ -56,3 +56,4 @@ pub mod PartLists
 pub mod PartOrder
 pub mod Held
 pub mod Starts
+pub mod ImportTypes

@@ -5,12 +5,12 @@ use Rattle.std.proofs.lemmas.Bool.{cases_lt, lt-ltb, le-ltb}
 use Rattle.wasm_defs.specs.Bodies.{Group, group, groups, local_groups, body_cursor, last_of, read_code, body_read}
 use Rattle.wasm_defs.specs.Context.{declared_types}
 use Rattle.wasm_defs.specs.Entries.{value_type}
-use Rattle.wasm_defs.specs.Faults.{bodies_of, started}
+use Rattle.wasm_defs.specs.Faults.{bodies_of, use_of}
 use Rattle.wasm_defs.specs.Fields.{Cursor, Read, Got, Fault, Wants, u32}
 use Rattle.wasm_defs.specs.Limits.{max_locals}
 use Rattle.wasm_defs.specs.Outside.{Part, Section, Listed, Coded, module_read}
 use Rattle.wasm_laws.specs.Kept.{LocalsAreFew, BodiesAreSmall}
-use Rattle.wasm_laws.specs.Order.{AreOrdered, behind_start, end_of, first_section}
+use Rattle.wasm_laws.specs.Order.{AreOrdered, behind_use, end_of, first_section}
 use Rattle.wasm_laws.proofs.Order.{parts_in_module}
 use Rattle.wasm_laws.proofs.Parts.{then_got}
 use Rattle.wasm_laws.proofs.Steady.{IfGot, always}
@@ -63,7 +63,7 @@ locals_are_few first bytes = let c = body_cursor first bytes in read_fits (last_
 ordered_are_small : (low last : ℕ) (parts : List Part) → AreOrdered low last parts → BodiesAreSmall (bodies_of parts)
 ordered_are_small low last [] h = tt
 ordered_are_small low last (Section at id ∷ parts) h = ordered_are_small (suc at) last parts h.2
-ordered_are_small low last (Listed x ∷ parts) h = ordered_are_small (behind_start low (started x)) last parts h.1
+ordered_are_small low last (Listed x ∷ parts) h = ordered_are_small (behind_use low (use_of x)) last parts h.1
 ordered_are_small low last (Coded b ∷ parts) h =
     let stands = h.0 in
     (record { least = stands.least; most = stands.most; locals = locals_are_few b.first b.bytes }, ordered_are_small (end_of b) last parts h.1)

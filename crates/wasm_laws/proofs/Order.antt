@@ -7,13 +7,13 @@ use Rattle.wasm_defs.specs.declared.fault.Kind.TheVariants.{Ended}
 use Rattle.wasm_defs.specs.Fields.{Cursor, Read, Got, Fault, Wants, room_of, fixed}
 use Rattle.wasm_defs.specs.Entries.{Seen, nothing}
 use Rattle.wasm_defs.specs.Outside.{Body, Part, Section, Listed, Coded, Row, row, entered, noted, inside, no_end, Ending, Whole, Refused, Owed, Run, after_part, runs_on, Next, finish, entries, contents, section, owes_code, at_the_end, or_section, sections_up_to, magic, version, preamble, beginning, module_read}
-use Rattle.wasm_defs.specs.Faults.{ending_fault, started}
-use Rattle.wasm_laws.specs.Order.{end_of, BodyStands, StartStands, behind_start, AreOrdered, first_section}
+use Rattle.wasm_defs.specs.Faults.{ending_fault, Use, use_of}
+use Rattle.wasm_laws.specs.Order.{end_of, BodyStands, UseStands, behind_use, AreOrdered, first_section}
 use Rattle.wasm_laws.proofs.Steady.{IfGot, Advance, moves_of, StandsIn}
 use Rattle.wasm_laws.proofs.EntryLaws.{header_steady, preamble_steady}
 use Rattle.wasm_laws.proofs.Takes.{header_takes}
 use Rattle.wasm_laws.proofs.RowLaws.{SteadyRow, row_steady, end_steady}
-use Rattle.wasm_laws.proofs.Parts.{then_got, got_both, got_map, fixed_got, StartLies, PartLies, LyingRow, row_lies}
+use Rattle.wasm_laws.proofs.Parts.{then_got, got_both, got_map, fixed_got, UseLies, PartLies, LyingRow, row_lies}
 
 -- where reading so many bytes ends: at the fault, or at their number
 abbrev pub ending_place : ℕ → Ending → ℕ
@@ -34,38 +34,38 @@ stands_wider low low' last last' b le ge p = record { from = omega (arith, p.fro
 
 -- ---- items
 
-abbrev Started : Type 0
-Started = Option (ℕ × ℕ)
+abbrev Used : Type 0
+Used = Option Use
 
-pub start_wider : (low low' last last' : ℕ) (o : Started) → low' ≤ low → last ≤ last' → StartStands low last o → StartStands low' last' o
-start_wider low low' last last' None le ge p = omega (arith, p)
-start_wider low low' last last' (Some index) le ge p = (omega (arith, p.0), omega (arith, p.1))
+pub use_wider : (low low' last last' : ℕ) (o : Used) → low' ≤ low → last ≤ last' → UseStands low last o → UseStands low' last' o
+use_wider low low' last last' None le ge p = omega (arith, p)
+use_wider low low' last last' (Some u) le ge p = (omega (arith, p.0), omega (arith, p.1))
 
 -- what stands behind an item stands no earlier than it
-pub start_goes_on : (low last : ℕ) (o : Started) → StartStands low last o → (low ≤ behind_start low o) × (behind_start low o ≤ last)
-start_goes_on low last None p = (omega arith, p)
-start_goes_on low last (Some index) p = (omega (arith, p.0), omega (arith, p.1))
+pub use_goes_on : (low last : ℕ) (o : Used) → UseStands low last o → (low ≤ behind_use low o) × (behind_use low o ≤ last)
+use_goes_on low last None p = (omega arith, p)
+use_goes_on low last (Some u) p = (omega (arith, p.0), omega (arith, p.1))
 
-behind_lower : (low low' : ℕ) (o : Started) → low' ≤ low → behind_start low' o ≤ behind_start low o
+behind_lower : (low low' : ℕ) (o : Used) → low' ≤ low → behind_use low' o ≤ behind_use low o
 behind_lower low low' None le = le
-behind_lower low low' (Some index) le = omega arith
+behind_lower low low' (Some u) le = omega arith
 
 -- before a place, no earlier than which another part stands
-pub start_before : (low last place : ℕ) (o : Started) → StartStands low last o → behind_start low o ≤ place → StartStands low place o
-start_before low last place None p le = le
-start_before low last place (Some index) p le = (p.0, omega arith)
+pub use_before : (low last place : ℕ) (o : Used) → UseStands low last o → behind_use low o ≤ place → UseStands low place o
+use_before low last place None p le = le
+use_before low last place (Some u) p le = (p.0, omega arith)
 
 -- an item that was taken
-start_taken : (c d : Cursor) (last : ℕ) (o : Started) → c.at ≤ d.at → StartLies c o d → d.at ≤ last → StartStands c.at last o × (behind_start c.at o ≤ d.at)
-start_taken c d last None le p ge = (omega arith, le)
-start_taken c d last (Some index) le p ge = ((p.0, omega (arith, p.1)), omega (arith, p.1))
+use_taken : (c d : Cursor) (last : ℕ) (o : Used) → c.at ≤ d.at → UseLies c o d → d.at ≤ last → UseStands c.at last o × (behind_use c.at o ≤ d.at)
+use_taken c d last None le p ge = (omega arith, le)
+use_taken c d last (Some u) le p ge = ((p.0, omega (arith, p.1)), omega (arith, p.1))
 
 -- ---- parts
 
 pub ordered_wider : (low low' last last' : ℕ) (parts : List Part) → low' ≤ low → last ≤ last' → AreOrdered low last parts → AreOrdered low' last' parts
 ordered_wider low low' last last' [] le ge p = tt
 ordered_wider low low' last last' (Section at id ∷ parts) le ge p = (omega (arith, p.0), omega (arith, p.1), ordered_wider (suc at) (suc at) last last' parts (omega arith) ge p.2)
-ordered_wider low low' last last' (Listed x ∷ parts) le ge p = (start_wider low low' last last' (started x) le ge p.0, ordered_wider (behind_start low (started x)) (behind_start low' (started x)) last last' parts (behind_lower low low' (started x) le) ge p.1)
+ordered_wider low low' last last' (Listed x ∷ parts) le ge p = (use_wider low low' last last' (use_of x) le ge p.0, ordered_wider (behind_use low (use_of x)) (behind_use low' (use_of x)) last last' parts (behind_lower low low' (use_of x) le) ge p.1)
 ordered_wider low low' last last' (Coded b ∷ parts) le ge p = (stands_wider low low' last last' b le ge p.0, ordered_wider (end_of b) (end_of b) last last' parts (omega arith) ge p.1)
 
 -- what stands before a body, and what behind it
@@ -76,9 +76,9 @@ around_body low last (Section at id ∷ front) b back p =
     let body = q.1 in
     ((p.0, omega (arith, body.from), q.0), stands_wider (suc at) low last last b (omega (arith, p.0)) (omega arith) body, q.2)
 around_body low last (Listed x ∷ front) b back p =
-    let q = around_body (behind_start low (started x)) last front b back p.1 in
+    let q = around_body (behind_use low (use_of x)) last front b back p.1 in
     let body = q.1 in
-    ((start_before low last b.size (started x) p.0 body.from, q.0), stands_wider (behind_start low (started x)) low last last b (start_goes_on low last (started x) p.0).0 (omega arith) body, q.2)
+    ((use_before low last b.size (use_of x) p.0 body.from, q.0), stands_wider (behind_use low (use_of x)) low last last b (use_goes_on low last (use_of x) p.0).0 (omega arith) body, q.2)
 around_body low last (Coded a ∷ front) b back p =
     let q = around_body (end_of a) last front b back p.1 in
     let first = p.0 in
@@ -93,18 +93,18 @@ around_section low last (Section first one ∷ front) at id back p =
     let q = around_section (suc first) last front at id back p.2 in
     ((p.0, omega (arith, q.1), q.0), omega (arith, p.0, q.1), q.2, q.3)
 around_section low last (Listed x ∷ front) at id back p =
-    let q = around_section (behind_start low (started x)) last front at id back p.1 in
-    ((start_before low last at (started x) p.0 q.1, q.0), omega (arith, (start_goes_on low last (started x) p.0).0, q.1), q.2, q.3)
+    let q = around_section (behind_use low (use_of x)) last front at id back p.1 in
+    ((use_before low last at (use_of x) p.0 q.1, q.0), omega (arith, (use_goes_on low last (use_of x) p.0).0, q.1), q.2, q.3)
 around_section low last (Coded a ∷ front) at id back p =
     let q = around_section (end_of a) last front at id back p.1 in
     let first = p.0 in
     ((record { from = first.from; sized = first.sized; least = first.least; most = first.most; before = q.1 }, q.0), omega (arith, first.from, first.sized, q.1), q.2, q.3)
 
 -- where an item among the parts stands, and what behind it
-pub around_item : (low last : ℕ) (front : List Part) (x : Item) (back : List Part) → AreOrdered low last (front ++ Listed x ∷ back) → (at : ℕ) × StartStands at last (started x) × AreOrdered (behind_start at (started x)) last back
+pub around_item : (low last : ℕ) (front : List Part) (x : Item) (back : List Part) → AreOrdered low last (front ++ Listed x ∷ back) → (at : ℕ) × UseStands at last (use_of x) × AreOrdered (behind_use at (use_of x)) last back
 around_item low last [] x back p = (low, p.0, p.1)
 around_item low last (Section at id ∷ front) x back p = around_item (suc at) last front x back p.2
-around_item low last (Listed y ∷ front) x back p = around_item (behind_start low (started y)) last front x back p.1
+around_item low last (Listed y ∷ front) x back p = around_item (behind_use low (use_of y)) last front x back p.1
 around_item low last (Coded b ∷ front) x back p = around_item (end_of b) last front x back p.1
 
 -- ---- runs
@@ -126,8 +126,8 @@ runs_ordered P low len c Wants f e p q h = record { parts = tt; after = omega ar
 part_ordered : (c d : Cursor) (len : ℕ) (x : Part) (r : Run) → c.at ≤ d.at → PartLies c x d → IsOrdered d.at d.at len r → IsOrdered c.at c.at len (after_part x r)
 part_ordered c d len (Section at id) r le p q = absurd p
 part_ordered c d len (Listed x) r le p q =
-    let item = start_taken c d (ending_place len r.ending) (started x) le p q.after in
-    record { parts = (item.0, ordered_wider d.at (behind_start c.at (started x)) (ending_place len r.ending) (ending_place len r.ending) r.parts item.1 (omega arith) q.parts); after = omega (arith, q.after); within = q.within }
+    let item = use_taken c d (ending_place len r.ending) (use_of x) le p q.after in
+    record { parts = (item.0, ordered_wider d.at (behind_use c.at (use_of x)) (ending_place len r.ending) (ending_place len r.ending) r.parts item.1 (omega arith) q.parts); after = omega (arith, q.after); within = q.within }
 part_ordered c d len (Coded b) r le p q = record {
   parts = (record { from = p.from; sized = p.sized; least = p.least; most = p.most; before = omega (arith, p.taken, q.after) }, ordered_wider d.at (end_of b) (ending_place len r.ending) (ending_place len r.ending) r.parts p.taken (omega arith) q.parts);
   after = omega (arith, q.after);

@@ -7,9 +7,9 @@ use Rattle.wasm_defs.specs.declared.item.Item.TheVariants.{Signature, Imported, 
 use Rattle.wasm_defs.specs.Trees.{Seq}
 use Rattle.wasm_defs.specs.Context.{context_of, functions_of}
 use Rattle.wasm_defs.specs.Outside.{Part, Section, Listed, Coded, Body}
-use Rattle.wasm_defs.specs.Faults.{items_of, bodies_of, started, IsFaultInside, AreValid}
+use Rattle.wasm_defs.specs.Faults.{items_of, bodies_of, use_of, IsFaultInside, AreValid}
 use Rattle.wasm_laws.specs.Typed.{AreTyped}
-use Rattle.wasm_laws.proofs.Verdicts.{starts_without_fault, valid_bodies}
+use Rattle.wasm_laws.proofs.Verdicts.{uses_without_fault, valid_bodies}
 
 pub items_of-append : (xs ys : List Part) → items_of (xs ++ ys) ≡ items_of xs ++ items_of ys
 items_of-append [] ys = refl
@@ -41,7 +41,7 @@ valid_both items k (Coded b ∷ front) rest (t ∷ trees) more p q = let e : suc
 pub fault_behind : (items : List Item) (k : ℕ) (front rest : List Part) (trees : List Seq) (r : Refusal) → AreValid items k front trees → IsFaultInside items k (front ++ rest) r → IsFaultInside (items ++ items_of front) (k + length (bodies_of front)) rest r
 fault_behind items k [] rest trees r p f = let e : k + 0 ≡ k = omega arith in rw (append-nil, e) f
 fault_behind items k (Section at id ∷ front) rest trees r p f = fault_behind items k front rest trees r p f
-fault_behind items k (Listed x ∷ front) rest trees r p (inl f) = absurd (starts_without_fault (context_of items) (started x) r p.0 f)
+fault_behind items k (Listed x ∷ front) rest trees r p (inl f) = absurd (uses_without_fault (context_of items) (use_of x) r p.0 f)
 fault_behind items k (Listed x ∷ front) rest trees r p (inr f) = rw (← append_assoc items (x ∷ []) (items_of front)) (fault_behind (items ++ x ∷ []) k front rest trees r p.1 f)
 fault_behind items k (Coded b ∷ front) rest [] r p f = absurd p
 fault_behind items k (Coded b ∷ front) rest (t ∷ trees) r p (inl f) = absurd (valid_bodies items k (Coded b ∷ []) (t ∷ []) r (p.0, tt) (inl f))

@@ -1,17 +1,18 @@
 -- What an entry of a section is: an item, or in the code section a body that lies in what was taken.
-use Rattle.std.proofs.Common.{◌≡◌, ℕ, ◌+◌, ◌≤◌, ◌<◌, Bool, true, false, cond, ltb, ◌||◌, eqb, List, length, Option, None, Some, refl, ap, arith, length-take, inl, inr}
+use Rattle.std.proofs.Common.{◌≡◌, ℕ, ◌+◌, ◌≤◌, ◌<◌, Bool, true, false, cond, ltb, ◌||◌, eqb, List, [], length, Option, None, Some, refl, ap, arith, length-take, inl, inr}
 use Rattle.std.proofs.lemmas.Bool.{cases_Bool, cases_lt, lt-ltb, le-ltb, or_parts, ltb-false}
 use Rattle.wasm_defs.specs.declared.item.Item.{Item}
 use Rattle.wasm_defs.specs.declared.fault.Kind.TheVariants.{Invalid}
 use Rattle.wasm_defs.specs.Limits.{max_body}
-use Rattle.wasm_defs.specs.Fields.{Cursor, Read, Got, Fault, Wants, Reader, then_go, past, room_of, window, u32, room, here, run, agree, fixed, done, refused}
+use Rattle.wasm_defs.specs.Fields.{Cursor, Read, Got, Fault, Wants, Reader, then_go, past, room_of, window, byte, u32, name, room, here, run, agree, fixed, done, refused}
 use Rattle.wasm_defs.specs.Entries.{Seen, index, signature, imported, function, table, memory, global, exported, start, element, code, segment}
 use Rattle.wasm_defs.specs.Outside.{Body, Part, Section, Listed, Coded, listed, body, entries_of, code_entry, Row, row}
-use Rattle.wasm_defs.specs.Faults.{started}
+use Rattle.wasm_defs.specs.Faults.{Use, use_of}
 use Rattle.wasm_laws.specs.Order.{end_of}
-use Rattle.wasm_laws.proofs.Steady.{IfGot, IsMarked}
-use Rattle.wasm_laws.proofs.Windows.{cut_got}
+use Rattle.wasm_laws.proofs.Steady.{IfGot, Advance, advance_then, IsMarked}
+use Rattle.wasm_laws.proofs.Windows.{cut_got, byte_field}
 use Rattle.wasm_laws.proofs.FieldLaws.{u32_field}
+use Rattle.wasm_laws.proofs.Names.{name_field}
 use Rattle.wasm_laws.proofs.Sorts.{Yields, yielding}
 
 pub then_got : {A B : Type 0} (P : A → Cursor → Type 0) (Q : B → Cursor → Type 0) (x : Read A) (f : A → Reader B) → IfGot P x → ((a : A) (d : Cursor) → P a d → IfGot Q (f a d)) → IfGot Q (then_go x f)
@@ -52,14 +53,14 @@ pub record Lies (c d : Cursor) (b : Body) : Type 0 where
   pub most : length b.bytes ≤ max_body
   pub taken : end_of b ≤ d.at
 
--- an item that was taken: the start function's index stands among what was
-abbrev pub StartLies : Cursor → Option (ℕ × ℕ) → Cursor → Type 0
-StartLies c None d = Unit {0}
-StartLies c (Some index) d = IsMarked c index d
+-- an item that was taken: the index that not every type serves stands among what was
+abbrev pub UseLies : Cursor → Option Use → Cursor → Type 0
+UseLies c None d = Unit {0}
+UseLies c (Some u) d = IsMarked c (u.0, u.1) d
 
 abbrev pub PartLies : Cursor → Part → Cursor → Type 0
 PartLies c (Section at id) d = ⊥
-PartLies c (Listed x) d = StartLies c (started x) d
+PartLies c (Listed x) d = UseLies c (use_of x) d
 PartLies c (Coded b) d = Lies c d b
 
 -- ---- bodies
@@ -97,25 +98,21 @@ body_lies c =
 -- ---- items
 
 abbrev IsOther : Item → Type 0
-IsOther x = started x ≡ None
+IsOther x = use_of x ≡ None
 
-other_lies : (c d : Cursor) (o : Option (ℕ × ℕ)) → o ≡ None → StartLies c o d
+other_lies : (c d : Cursor) (o : Option Use) → o ≡ None → UseLies c o d
 other_lies c d None h = tt
-other_lies c d (Some index) h = absurd cc
+other_lies c d (Some u) h = absurd cc
 
 abbrev ItemLies : Cursor → Item → Cursor → Type 0
-ItemLies c x d = StartLies c (started x) d
+ItemLies c x d = UseLies c (use_of x) d
 
 others_lie : (entry : Seen → Reader Item) → ((seen : Seen) → Yields IsOther (entry seen)) → (seen : Seen) (c : Cursor) → IfGot (ItemLies c) (entry seen c)
-others_lie entry yields seen c = got_map (λ x d. IsOther x) (ItemLies c) (entry seen c) (λ x d h. other_lies c d (started x) h) ((yields seen).got c)
+others_lie entry yields seen c = got_map (λ x d. IsOther x) (ItemLies c) (entry seen c) (λ x d h. other_lies c d (use_of x) h) ((yields seen).got c)
 
 signature_other : (seen : Seen) → Yields IsOther (signature seen)
 unfolding signature
 signature_other seen = search yielding depth 40
-
-imported_other : (seen : Seen) → Yields IsOther (imported seen)
-unfolding imported
-imported_other seen = search yielding depth 40
 
 function_other : (seen : Seen) → Yields IsOther (function seen)
 unfolding function
@@ -159,6 +156,24 @@ start_lies : (seen : Seen) (c : Cursor) → IfGot (ItemLies c) (start seen c)
 unfolding start
 start_lies seen c = then_got (IsMarked c) (ItemLies c) (index seen.functions c) _ (index_lies seen.functions c) (λ i d q. q)
 
+-- behind what was taken, an index of more that is
+marked_behind : {A : Type 0} (c d e : Cursor) (x : ℕ × A) → Advance c d → IsMarked d x e → IsMarked c x e
+marked_behind c d e x p q = (omega (arith, p.at, q.0), q.1)
+
+imported_lies : (seen : Seen) (c : Cursor) → IfGot (ItemLies c) (imported seen c)
+unfolding imported
+imported_lies seen c =
+    then_got (λ from d. Advance c d) (ItemLies c) (name c) _ ((name_field.steady []).moves c)
+    (λ from d first.
+    then_got (λ what e. Advance d e) (ItemLies c) (name d) _ ((name_field.steady []).moves d)
+    (λ what e second.
+    then_got (λ kind f. Advance e f) (ItemLies c) (byte e) _ ((byte_field.steady []).moves e)
+    (λ kind f third.
+    either_got (ItemLies c) (ltb 3 kind.1) _ _ f (λ t. tt)
+    (λ no. either_got (ItemLies c) (ltb 0 kind.1) _ _ f (λ t. tt)
+    (λ no. then_got (IsMarked f) (ItemLies c) (index seen.types f) _ (index_lies seen.types f)
+    (λ i g q. marked_behind c f g i (advance_then c e f (advance_then c d e first second) third) q))))))
+
 -- ---- rows
 
 listed_lies : (c : Cursor) (x : Read Item) → IfGot (ItemLies c) x → IfGot (PartLies c) (then_go x (λ y d. Got (Listed y) d))
@@ -182,7 +197,7 @@ code_lies seen c = either_got (PartLies c) seen.counted body (listed (code seen)
 pub row_lies : (id : ℕ) → LyingRow (row id)
 row_lies id =
     either_row (eqb id 1) _ _ (items_lie _ _ (others_lie signature signature_other))
-    (either_row (eqb id 2) _ _ (items_lie _ _ (others_lie imported imported_other))
+    (either_row (eqb id 2) _ _ (items_lie _ _ imported_lies)
     (either_row (eqb id 3) _ _ (items_lie _ _ (others_lie function function_other))
     (either_row (eqb id 4) _ _ (items_lie _ _ (others_lie table table_other))
     (either_row (eqb id 5) _ _ (items_lie _ _ (others_lie memory memory_other))

@@ -8,9 +8,9 @@ use Rattle.wasm_defs.specs.declared.types.ValType.{ValType}
 use Rattle.wasm_defs.specs.declared.types.ValType.TheVariants.{I32}
 use Rattle.wasm_defs.specs.declared.item.Item.{Item}
 use Rattle.wasm_defs.specs.declared.item.Item.TheVariants.{Signature, Imported, Function, Table, Memory, Global, Exported, Element, Segment}
-use Rattle.wasm_defs.specs.Limits.{max_params, max_table, max_pages, top_pages, top_rows}
+use Rattle.wasm_defs.specs.Limits.{max_params, max_results, max_table, max_pages, top_pages, top_rows}
 use Rattle.wasm_defs.specs.Fields.{Cursor, Reader, byte, u32, count, vector, counted_bytes, name}
-use Rattle.wasm_defs.specs.Entries.{Seen, space, index, value_type, listed_type, limits, constant, results, signature, imported, function, table, memory, mutability, global, extern_kind, exported, sole, listed_index, element, segment}
+use Rattle.wasm_defs.specs.Entries.{Seen, space, index, value_type, listed_type, limits, constant, signature, imported, function, table, memory, mutability, global, extern_kind, exported, sole, listed_index, element, segment}
 use Rattle.wasm_defs.specs.Items.{u32_is, vector_is, listed_type_is, listed_index_is, limits_are, item_is, section_of}
 use Rattle.wasm_defs.specs.Rules.{Keeps}
 use Rattle.wasm_laws.proofs.Steady.{IfGot}
@@ -18,7 +18,7 @@ use Rattle.wasm_laws.proofs.Spelt.{Ready, Found, found_then, found_as, read, unl
 use Rattle.wasm_laws.proofs.SpeltFields.{Always, byte_spelt, u32_spelt}
 use Rattle.wasm_laws.proofs.SpeltLists.{vector_spelt, counted_bytes_spelt}
 use Rattle.wasm_laws.proofs.SpeltNames.{name_spelt}
-use Rattle.wasm_laws.proofs.SpeltParts.{byte_as, count_spelt, results_spelt, index_spelt, sole_spelt, listed_index_spelt, listed_type_spelt, value_type_spelt, mutability_spelt, extern_kind_spelt, ruled_spelt, limits_spelt, constant_spelt}
+use Rattle.wasm_laws.proofs.SpeltParts.{byte_as, count_spelt, index_spelt, sole_spelt, listed_index_spelt, listed_type_spelt, value_type_spelt, mutability_spelt, extern_kind_spelt, ruled_spelt, limits_spelt, constant_spelt}
 
 -- an item of the section of that id, which keeps its rule
 abbrev pub Belongs : ℕ → Seen → Item → Type 0
@@ -38,8 +38,8 @@ types_spelt most counted h =
 params_spelt : Spelt (λ xs. vector_is listed_type_is xs.0 xs.1) (λ xs. length xs.1 ≤ max_params) (vector (count max_params) listed_type)
 params_spelt = types_spelt max_params (count max_params) (count_spelt max_params)
 
-outs_spelt : Spelt (λ xs. vector_is listed_type_is xs.0 xs.1) (λ xs. length xs.1 ≤ 1) (vector results listed_type)
-outs_spelt = types_spelt 1 results results_spelt
+outs_spelt : Spelt (λ xs. vector_is listed_type_is xs.0 xs.1) (λ xs. length xs.1 ≤ max_results) (vector (count max_results) listed_type)
+outs_spelt = types_spelt max_results (count max_results) (count_spelt max_results)
 
 signature_found : (seen : Seen) (c : Cursor) → Ready c → IfGot (λ x d. Found (item_is x) (Belongs 1 seen x) c d) (signature seen c)
 unfolding signature
@@ -47,7 +47,7 @@ signature_found seen c ready =
     read _ _ byte _ _ c byte_spelt ready (λ form d form_found ready.
     provided _ (eqb form.1 0x60) Malformed form.0 _ d (λ right.
     read _ _ (vector (count max_params) listed_type) _ _ d params_spelt ready (λ params e params_found ready.
-    read _ _ (vector results listed_type) _ _ e outs_spelt ready (λ outs f outs_found ready.
+    read _ _ (vector (count max_results) listed_type) _ _ e outs_spelt ready (λ outs f outs_found ready.
     found_then _ c d f (byte_as form.0 form.1 0x60 _ c d (eqb-true form.1 0x60 right) form_found) (found_then (Unit {0}) d e f params_found outs_found tt)
     ((params_found.kept, outs_found.kept), refl)))))
 
@@ -56,7 +56,7 @@ unfolding signature
 signature_read seen (Signature form params outs ty) k =
     reads_then byte _ (form, 0x60) _ _ _ (byte_spelt.complete (form, 0x60) tt)
     (reads_then (vector (count max_params) listed_type) _ (params, ty.params) _ _ _ (params_spelt.complete (params, ty.params) k.0.0)
-    (reads_on (vector results listed_type) _ (outs, ty.results) _ _ (outs_spelt.complete (outs, ty.results) k.0.1) (λ c. refl)))
+    (reads_on (vector (count max_results) listed_type) _ (outs, ty.results) _ _ (outs_spelt.complete (outs, ty.results) k.0.1) (λ c. refl)))
 signature_read seen x k = absurd (omega (arith, k.1))
 
 pub signature_spelt : SpeltEntry 1 signature

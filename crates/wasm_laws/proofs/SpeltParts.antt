@@ -9,7 +9,7 @@ use Rattle.wasm_defs.specs.declared.item.Extern.TheVariants as extern
 use Rattle.wasm_defs.specs.declared.item.Constant.{Constant}
 use Rattle.wasm_defs.specs.Numbers.{Spells}
 use Rattle.wasm_defs.specs.Fields.{Cursor, Read, Got, Fault, Wants, Reader, then_go, ◌>>=◌, done, refused, byte, number, u32, count}
-use Rattle.wasm_defs.specs.Entries.{index, value_type, listed_type, limits, const_opcode, bits_of, constant, results, mutability, extern_kind, sole, listed_index}
+use Rattle.wasm_defs.specs.Entries.{index, value_type, listed_type, limits, const_opcode, bits_of, constant, mutability, extern_kind, sole, listed_index}
 use Rattle.wasm_defs.specs.Items.{Spelling, ◌then◌, byte_is, u32_is, type_code, type_is, listed_type_is, bounds_are, limits_are, mutability_code, listed_index_is, constant_is, extern_code}
 use Rattle.wasm_defs.specs.Rules.{IsUpTo, LimitsKeep, IsSole}
 use Rattle.wasm_laws.proofs.Steady.{IfGot}
@@ -23,10 +23,6 @@ use Rattle.wasm_laws.proofs.Parts.{either_got}
 pub count_spelt : (most : ℕ) → Spelt u32_is (λ n. Always n × (n.1 ≤ most)) (count most)
 unfolding count
 count_spelt most = checked_spelt u32_is Always (λ n. n.1 ≤ most) u32 (λ n. ltb most n.1) (λ n. Limit) (λ n. n.0) u32_spelt (λ n e. ltb-false most n.1 e) (λ n k le. le-ltb most n.1 le)
-
-pub results_spelt : Spelt u32_is (λ n. Always n × (n.1 ≤ 1)) results
-unfolding results
-results_spelt = checked_spelt u32_is Always (λ n. n.1 ≤ 1) u32 (λ n. ltb 1 n.1) (λ n. Invalid) (λ n. n.0) u32_spelt (λ n e. ltb-false 1 n.1 e) (λ n k le. le-ltb 1 n.1 le)
 
 -- the same, where the test is of what is right
 pub allowed_spelt : {A : Type 0} (S : A → Spelling) (K L : A → Type 0) (p : Reader A) (right : A → Bool) (kind : A → Kind) (place : A → ℕ) → Spelt S K p → ((x : A) → right x ≡ true → L x) → ((x : A) → K x → L x → right x ≡ true) → Spelt S (λ x. K x × L x) (p >>= (λ x. if right x then done x else refused (kind x) (place x)))

@@ -9,15 +9,15 @@ use Rattle.wasm_defs.specs.Typing.{function_type}
 use Rattle.wasm_defs.specs.Context.{context_of, types_of, functions_of}
 use Rattle.wasm_defs.specs.Instances.{start_of}
 use Rattle.wasm_defs.specs.Outside.{module_read}
-use Rattle.wasm_defs.specs.Faults.{is_start_type, started, StartsRight, Module, IsModule}
-use Rattle.wasm_laws.specs.Behind.{StartsKeep}
+use Rattle.wasm_defs.specs.Faults.{is_start_type, Use, use_of, UsesRight, serves, Module, IsModule}
+use Rattle.wasm_laws.specs.Behind.{UsesKeep}
 use Rattle.wasm_laws.specs.Kept.{TakesNothing}
-use Rattle.wasm_laws.proofs.Behind.{starts_keep}
+use Rattle.wasm_laws.proofs.Behind.{uses_keep}
 use Rattle.wasm_laws.proofs.Typed.{types_of-append, functions_of-append}
 
 -- ---- what is there stays there with more behind it
 
-found_more : {A : Type 0} (xs ys : List A) (i : ℕ) (a : A) → slice_get xs i ≡ Some a → slice_get (xs ++ ys) i ≡ Some a
+pub found_more : {A : Type 0} (xs ys : List A) (i : ℕ) (a : A) → slice_get xs i ≡ Some a → slice_get (xs ++ ys) i ≡ Some a
 found_more [] ys i a e = absurd cc
 found_more (x ∷ xs) ys zero a e = e
 found_more (x ∷ xs) ys (suc i) a e = found_more xs ys i a e
@@ -57,11 +57,15 @@ takes_nothing (Some t) e =
 
 -- ---- the start function of some items
 
-abbrev from_started : Option (ℕ × ℕ) → Option ℕ → Option ℕ
-from_started None later = later
-from_started (Some index) later = Some index.1
+abbrev from_index : (starts : Bool) → ℕ → Option ℕ → Option ℕ
+from_index true index later = Some index
+from_index false index later = later
 
-start_by : (x : Item) (xs : List Item) → start_of (x ∷ xs) ≡ from_started (started x) (start_of xs)
+abbrev from_use : Option Use → Option ℕ → Option ℕ
+from_use None later = later
+from_use (Some u) later = from_index u.2 u.1 later
+
+start_by : (x : Item) (xs : List Item) → start_of (x ∷ xs) ≡ from_use (use_of x) (start_of xs)
 start_by (Signature form params results ty) xs = refl
 start_by (Imported from what kind type_index) xs = refl
 start_by (Function type_index) xs = refl
@@ -80,18 +84,22 @@ IsRight items f = (t : FuncType) × (function_type (context_of items) f ≡ Some
 right_more : (xs ys : List Item) (f : ℕ) → IsRight xs f → IsRight (xs ++ ys) f
 right_more xs ys f (t, e, is) = (t, function_more xs ys f t e, is)
 
-first_right : (before later : List Item) (o : Option (ℕ × ℕ)) (next : Option ℕ) (f : ℕ) → StartsRight (context_of before) o → from_started o next ≡ Some f → (next ≡ Some f → IsRight (before ++ later) f) → IsRight (before ++ later) f
-first_right before later None next f right e rest = rest e
-first_right before later (Some index) next f right e rest =
-    let same : index.1 ≡ f = cc in
-    subst (IsRight (before ++ later)) same (right_more before later index.1 (takes_nothing (function_type (context_of before) index.1) right))
+index_right : (before later : List Item) (at index : ℕ) (starts : Bool) (next : Option ℕ) (f : ℕ) → serves (context_of before) (at, index, starts) ≡ true → from_index starts index next ≡ Some f → (next ≡ Some f → IsRight (before ++ later) f) → IsRight (before ++ later) f
+index_right before later at index true next f right e rest =
+    let same : index ≡ f = cc in
+    subst (IsRight (before ++ later)) same (right_more before later index (takes_nothing (function_type (context_of before) index) right))
+index_right before later at index false next f right e rest = rest e
 
-all_right : (before xs : List Item) (f : ℕ) → StartsKeep before xs → start_of xs ≡ Some f → IsRight (before ++ xs) f
+first_right : (before later : List Item) (o : Option Use) (next : Option ℕ) (f : ℕ) → UsesRight (context_of before) o → from_use o next ≡ Some f → (next ≡ Some f → IsRight (before ++ later) f) → IsRight (before ++ later) f
+first_right before later None next f right e rest = rest e
+first_right before later (Some u) next f right e rest = index_right before later u.0 u.1 u.2 next f right e rest
+
+all_right : (before xs : List Item) (f : ℕ) → UsesKeep before xs → start_of xs ≡ Some f → IsRight (before ++ xs) f
 all_right before [] f keep e = absurd cc
 all_right before (x ∷ xs) f keep e =
-    first_right before (x ∷ xs) (started x) (start_of xs) f keep.0 (sym (start_by x xs) ∙ e)
+    first_right before (x ∷ xs) (use_of x) (start_of xs) f keep.0 (sym (start_by x xs) ∙ e)
     (λ h. subst (λ (l : List Item). IsRight l f) (append_assoc before (x ∷ []) xs) (all_right (before ++ x ∷ []) xs f keep.1 h))
 
 pub start_is_right : (bytes : List ℕ) (m : Module) (f : ℕ) → IsModule bytes m → start_of m.items ≡ Some f → (t : FuncType) × (function_type (context_of m.items) f ≡ Some t) × TakesNothing t
 start_is_right bytes m f is e =
-    all_right [] m.items f (subst (StartsKeep []) (sym is.items) (starts_keep [] 0 (module_read bytes).parts m.trees is.valid)) e
+    all_right [] m.items f (subst (UsesKeep []) (sym is.items) (uses_keep [] 0 (module_read bytes).parts m.trees is.valid)) e

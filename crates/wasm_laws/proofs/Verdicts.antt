@@ -9,7 +9,7 @@ use Rattle.wasm_defs.specs.Outside.{Part, Section, Listed, Coded, Body, module_r
 use Rattle.wasm_defs.specs.Typing.{Context}
 use Rattle.wasm_defs.specs.Context.{context_of}
 use Rattle.wasm_defs.specs.Trees.{Seq}
-use Rattle.wasm_defs.specs.Faults.{ending_fault, tokens_of, IsCodeFault, IsValidCode, read_of, context_at, may_start, started, StartsRight, IsStartFault, IsFaultInside, IsFault, AreValid}
+use Rattle.wasm_defs.specs.Faults.{ending_fault, tokens_of, IsCodeFault, IsValidCode, read_of, context_at, Use, serves, use_of, UsesRight, IsUseFault, IsFaultInside, IsFault, AreValid}
 use Rattle.wasm_laws.specs.Steadiness.{Advances, StandsIn}
 use Rattle.wasm_laws.proofs.Faulty.{no_token_fault, token_fault_once}
 use Rattle.wasm_laws.proofs.Spelling.{AllWithin, Places, places_lower, stops_at, missing, IsOpen, open_later, spelled_places}
@@ -70,19 +70,19 @@ pub valid_has_no_fault : (c : Context) (code : Spelled) (tree : Seq) (r : Refusa
 valid_has_no_fault c code tree r v (inl t) = no_token_fault c code.tokens r ([], tree, append-nil (tokens_of code.tokens) ∙ v.tree_is, v.typed) t
 valid_has_no_fault c code tree r v (inr s) = none_is_some code.fault r v.whole s.is
 
--- ---- a start function of the right type has no fault
+-- ---- an index whose type serves has no fault
 
 true_or_false : (b : Bool) → b ≡ true → b ≡ false → ⊥
 true_or_false b t f = cc
 
-pub starts_without_fault : (c : Context) (o : Option (ℕ × ℕ)) (r : Refusal) → StartsRight c o → IsStartFault c o r → ⊥
-starts_without_fault c None r p f = f
-starts_without_fault c (Some index) r p f = true_or_false (may_start c index.1) p f.0
+pub uses_without_fault : (c : Context) (o : Option Use) (r : Refusal) → UsesRight c o → IsUseFault c o r → ⊥
+uses_without_fault c None r p f = f
+uses_without_fault c (Some u) r p f = true_or_false (serves c u) p f.0
 
 pub valid_bodies : (items : List Item) (k : ℕ) (parts : List Part) (trees : List Seq) (r : Refusal) → AreValid items k parts trees → IsFaultInside items k parts r → ⊥
 valid_bodies items k [] trees r v f = f
 valid_bodies items k (Section at id ∷ parts) trees r v f = valid_bodies items k parts trees r v f
-valid_bodies items k (Listed x ∷ parts) trees r v (inl f) = starts_without_fault (context_of items) (started x) r v.0 f
+valid_bodies items k (Listed x ∷ parts) trees r v (inl f) = uses_without_fault (context_of items) (use_of x) r v.0 f
 valid_bodies items k (Listed x ∷ parts) trees r v (inr f) = valid_bodies (items ++ x ∷ []) k parts trees r v.1 f
 valid_bodies items k (Coded b ∷ parts) [] r v f = v
 valid_bodies items k (Coded b ∷ parts) (tree ∷ trees) r v (inl f) = valid_has_no_fault (context_at items k b) (read_of b).code tree r v.0 f

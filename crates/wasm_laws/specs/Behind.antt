@@ -5,7 +5,7 @@ use Rattle.wasm_defs.specs.declared.item.Item.TheVariants.{Segment}
 use Rattle.wasm_defs.specs.Context.{context_of, import_count, declared_count, tables_of, memories_of}
 use Rattle.wasm_defs.specs.Outside.{Body, Part}
 use Rattle.wasm_defs.specs.Trees.{Seq}
-use Rattle.wasm_defs.specs.Faults.{items_of, read_of, context_at, started, StartsRight, IsValidCode}
+use Rattle.wasm_defs.specs.Faults.{items_of, read_of, context_at, use_of, UsesRight, IsValidCode}
 
 abbrev pub AreSegments : List Item → Type 0
 AreSegments [] = Unit {0}
@@ -32,7 +32,7 @@ AreValidIn items k [] (tree ∷ trees) = ⊥
 AreValidIn items k (b ∷ bodies) [] = ⊥
 AreValidIn items k (b ∷ bodies) (tree ∷ trees) = IsValidCode (context_at items k b) (read_of b).code tree × AreValidIn items (suc k) bodies trees
 
--- the start function that an item names is one of the functions before it, and of the right type: functions stand before it
-abbrev pub StartsKeep : List Item → List Item → Type 0
-StartsKeep before [] = Unit {0}
-StartsKeep before (x ∷ xs) = StartsRight (context_of before) (started x) × StartsKeep (before ++ x ∷ []) xs
+-- the type of the start function and of each import is one before it, and serves
+abbrev pub UsesKeep : List Item → List Item → Type 0
+UsesKeep before [] = Unit {0}
+UsesKeep before (x ∷ xs) = UsesRight (context_of before) (use_of x) × UsesKeep (before ++ x ∷ []) xs

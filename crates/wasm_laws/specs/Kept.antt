@@ -1,23 +1,23 @@
 -- Limits that types, locals, bodies, tables, memories and globals keep to, and functions that exports name (WebAssembly Core 1.0,
 -- 3.2.2, 3.4.10, 4.5.3 and 5.5.13).
-use Rattle.std.specs.Prelude.{◌≡◌, ◌≤◌, ◌<◌, ℕ, ℤ, List, [], ◌∷◌, length, FitsSigned, IsSome}
+use Rattle.std.specs.Prelude.{◌≡◌, ◌≤◌, ◌<◌, ℕ, ℤ, List, [], ◌∷◌, length, FitsSigned, IsSome, slice_get}
 use Rattle.std.specs.Int.{w32, w64}
 use Rattle.wasm_defs.specs.declared.item.Item.{Item}
-use Rattle.wasm_defs.specs.declared.item.Item.TheVariants.{Global}
+use Rattle.wasm_defs.specs.declared.item.Item.TheVariants.{Global, Imported}
 use Rattle.wasm_defs.specs.declared.types.FuncType.{FuncType}
 use Rattle.wasm_defs.specs.declared.types.ValType.{ValType}
 use Rattle.wasm_defs.specs.declared.types.ValType.TheVariants.{I32, I64}
 use Rattle.wasm_defs.specs.Bodies.{Group, body_read}
-use Rattle.wasm_defs.specs.Context.{declared_types}
-use Rattle.wasm_defs.specs.Limits.{max_entries, max_params, max_locals, max_body, max_table, max_pages}
+use Rattle.wasm_defs.specs.Context.{declared_types, type_or_empty}
+use Rattle.wasm_defs.specs.Limits.{max_entries, max_params, max_results, max_locals, max_body, max_table, max_pages}
 use Rattle.wasm_defs.specs.Instances.{rows_of, pages_of, cap_of, values_of}
 use Rattle.wasm_defs.specs.Outside.{Body}
 use Rattle.wasm_defs.specs.Typing.{Context, function_type}
 
--- a type's parameters, and its one result at most
+-- a type's parameters, and its results
 pub record TypeIsSmall (f : FuncType) : Type 0 where
   pub params : length f.params ≤ max_params
-  pub results : length f.results ≤ 1
+  pub results : length f.results ≤ max_results
 
 abbrev pub TypesAreSmall : List FuncType → Type 0
 TypesAreSmall [] = Unit {0}
@@ -69,3 +69,9 @@ AreThere c functions (e ∷ es) = IsThere c functions e.1 × AreThere c function
 pub record TakesNothing (f : FuncType) : Type 0 where
   pub params : f.params ≡ []
   pub results : f.results ≡ []
+
+-- each import's type has one result at most
+abbrev pub ImportsReturnOne : List FuncType → List Item → Type 0
+ImportsReturnOne types [] = Unit {0}
+ImportsReturnOne types (Imported from what kind type_index ∷ xs) = (length (type_or_empty (slice_get types type_index.1)).results ≤ 1) × ImportsReturnOne types xs
+ImportsReturnOne types (_ ∷ xs) = ImportsReturnOne types xs

@@ -2,7 +2,7 @@
 use Rattle.std.specs.Prelude.{◌≡◌, ◌≤◌, ◌<◌, ℕ, suc, ◌+◌, List, [], ◌∷◌, length, take, drop, Option, None, Some}
 use Rattle.wasm_defs.specs.Limits.{max_body}
 use Rattle.wasm_defs.specs.Outside.{Body, Part, Section, Listed, Coded}
-use Rattle.wasm_defs.specs.Faults.{started}
+use Rattle.wasm_defs.specs.Faults.{Use, use_of}
 
 -- the offset behind a body
 abbrev pub end_of : Body → ℕ
@@ -16,22 +16,22 @@ pub record BodyStands (low last : ℕ) (b : Body) : Type 0 where
   pub most : length b.bytes ≤ max_body
   pub before : end_of b ≤ last
 
--- an item from low on, and no later than last: the start function's index before it, since that may be a fault
-abbrev pub StartStands : (low last : ℕ) → Option (ℕ × ℕ) → Type 0
-StartStands low last None = low ≤ last
-StartStands low last (Some index) = (low ≤ index.0) × (index.0 < last)
+-- an item from low on, and no later than last: the index that not every type serves before it, since that may be a fault
+abbrev pub UseStands : (low last : ℕ) → Option Use → Type 0
+UseStands low last None = low ≤ last
+UseStands low last (Some u) = (low ≤ u.0) × (u.0 < last)
 
 -- the first offset at which another part may stand behind an item
-abbrev pub behind_start : ℕ → Option (ℕ × ℕ) → ℕ
-behind_start low None = low
-behind_start low (Some index) = suc index.0
+abbrev pub behind_use : ℕ → Option Use → ℕ
+behind_use low None = low
+behind_use low (Some u) = suc u.0
 
 -- the parts stand from low on, each behind the one before: sections and items no later than last, and bodies before it. Items
 -- stand behind what was read before them
 abbrev pub AreOrdered : ℕ → ℕ → List Part → Type 0
 AreOrdered low last [] = Unit {0}
 AreOrdered low last (Section at id ∷ parts) = (low ≤ at) × (at ≤ last) × AreOrdered (suc at) last parts
-AreOrdered low last (Listed x ∷ parts) = StartStands low last (started x) × AreOrdered (behind_start low (started x)) last parts
+AreOrdered low last (Listed x ∷ parts) = UseStands low last (use_of x) × AreOrdered (behind_use low (use_of x)) last parts
 AreOrdered low last (Coded b ∷ parts) = BodyStands low last b × AreOrdered (end_of b) last parts
 
 -- the parts are cut from the module's bytes: a section's id is the byte at its offset, and a body's bytes are those from the

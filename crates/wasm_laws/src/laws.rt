@@ -19,7 +19,7 @@ ghost use Rattle.wasm_laws.specs.Behind.{AreValidIn, StandBehind};
 ghost use Rattle.wasm_laws.specs.BodyOrder.{IsSpelledIn};
 ghost use Rattle.wasm_laws.specs.Completing.{Completes, CompletesOrPasses};
 ghost use Rattle.wasm_laws.specs.Counts.{AreDeclared};
-ghost use Rattle.wasm_laws.specs.Kept.{AreThere, BodiesAreSmall, ConstantsFit, IsThere, LocalsAreFew, SpacesAreSmall, TakesNothing, TypesAreSmall};
+ghost use Rattle.wasm_laws.specs.Kept.{AreThere, BodiesAreSmall, ConstantsFit, ImportsReturnOne, IsThere, LocalsAreFew, SpacesAreSmall, TakesNothing, TypesAreSmall};
 ghost use Rattle.wasm_laws.specs.Order.{AreCutFrom, AreOrdered, BodyStands, end_of, first_section};
 ghost use Rattle.wasm_laws.specs.Runs.{deciding_length, GoesOn, IsRefused};
 ghost use Rattle.wasm_laws.specs.Sections.{AreBytes};
@@ -130,7 +130,7 @@ pub fn immediates_are_in_range()
     ensures count { (first : ℕ) (bytes : List ℕ) → length (body_read first bytes).code.tokens ≤ length bytes }
 {}
 
-/// Types keep to their limits (Core 3.2.2): each has so many parameters at most, and one result at most.
+/// Types keep to their limits: each has so many parameters at most, and so many results.
 pub fn types_keep_limits()
     ensures { (bytes : List ℕ) → TypesAreSmall (types_of (items_of (module_read bytes).parts)) }
 {}
@@ -161,4 +161,9 @@ pub fn exports_are_there()
 pub fn start_functions_take_nothing()
     ensures { (bytes : List ℕ) (m : Module) (f : ℕ) → IsModule bytes m → start_of m.items ≡ Some f
         → (t : FuncType) × (function_type (context_of m.items) f ≡ Some t) × TakesNothing t }
+{}
+
+/// The type of each import of a module has one result at most.
+pub fn imports_return_one()
+    ensures { (bytes : List ℕ) (m : Module) → IsModule bytes m → ImportsReturnOne (types_of m.items) m.items }
 {}

@@ -37,6 +37,6 @@ returns-in_default-clause-takes c = λ bytes more t.
     let f = c.args.self.now.front in
     let apart = not_bodies c.args.item.now f (λ count end e. c.in_default.not-Code _ _ e) t.follows in
     record {
-      going = going_reading bytes _ more t.outside (item_reading bytes c.args.self.now c.args.item.now more t c.add.new.self c.in-Ok.ensures.starts c.in-Ok.ensures.ok apart);
+      going = going_reading bytes _ more t.outside (item_reading bytes c.args.self.now c.args.item.now more t c.add.new.self c.in-Ok.ensures.uses c.in-Ok.ensures.ok apart);
       same = λ later. rw t.outside refl;
     }
