@@ -50,8 +50,25 @@ const BLOCK: &str = "01 06 01 60 01 7F 01 7F 03 02 01 00 07 05 01 01 66 00 00 \
 const LOOP: &str = "01 06 01 60 01 7F 01 7F 03 02 01 00 07 05 01 01 66 00 00 \
                     0A 16 01 14 00 20 00 03 00 21 00 20 00 41 7F 6A 22 00 20 00 0D 00 0B 0B";
 
+/// `s` has two results: its arguments in the other order.
+const SWAP: &str =
+    "01 08 01 60 02 7F 7F 02 7F 7F 03 02 01 00 07 05 01 01 73 00 00 0A 08 01 06 00 20 01 20 00 0B";
+
+/// `g` subtracts the second result of such a call from the first.
+const SWAPPED: &str =
+    "01 0E 02 60 02 7F 7F 02 7F 7F 60 02 7F 7F 01 7F 03 03 02 00 01 07 05 01 01 67 00 01 \
+                       0A 12 02 06 00 20 01 20 00 0B 09 00 20 00 20 01 10 00 6B 0B";
+
+/// `f` leaves a block with both arguments where the first isn't zero, and else with 7 and 8.
+const PAIRS: &str = "01 08 01 60 02 7F 7F 02 7F 7F 03 02 01 00 07 05 01 01 66 00 00 \
+                     0A 15 01 13 00 20 00 20 01 02 00 20 00 0D 00 1A 1A 41 07 41 08 0B 0B";
+
 /// Modules, what they are asked for, and the answers.
-const ROWS: [(&str, &str, &str); 20] = [
+const ROWS: [(&str, &str, &str); 24] = [
+    (SWAP, "s i32:1 i32:2", "0 i32 2\ni32 1\n"),
+    (SWAPPED, "g i32:3 i32:10", "0 i32 7\n"),
+    (PAIRS, "f i32:3 i32:5", "0 i32 3\ni32 5\n"),
+    (PAIRS, "f i32:0 i32:5", "0 i32 7\ni32 8\n"),
     (BLOCK, "f i32:41", "0 i32 42\n"),
     (LOOP, "f i32:5", "0 i32 0\n"),
     (COUNTDOWN, "f i32:0", "0 ok\n"),

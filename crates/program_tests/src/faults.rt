@@ -10,7 +10,7 @@ use std::thread::Threads;
 const LINE: &str = "wstream check";
 
 /// What follows the header of a faulty module, and its fault. Offsets count from the header's first byte.
-const FAULTS: [(&str, &str); 49] = [
+const FAULTS: [(&str, &str); 50] = [
     // A name is one field, refused as soon as no more bytes can complete it.
     ("00 03 85", "malformed at 10"),
     ("00 04 02 E2", "malformed at 10"),
@@ -33,11 +33,15 @@ const FAULTS: [(&str, &str); 49] = [
     // Imports come out of order; and of a section that is left out the id comes before its size.
     ("03 01 00 02 01 00", "malformed at 11"),
     ("0C FF FF FF FF 0F", "unsupported at 8"),
-    // Types: more than there may be, a value type that is left out, one of none, and two results.
+    // Types: more than there may be, a value type that is left out, one of none, more results than there may be, and an import of two.
     ("01 04 A1 8D 06", "limit at 10"),
     ("01 05 01 60 01 7D 00", "unsupported at 13"),
     ("01 05 01 60 01 7B 00", "malformed at 13"),
-    ("01 06 01 60 00 02 7F 7F", "invalid at 13"),
+    ("01 05 01 60 00 E9 07", "limit at 13"),
+    (
+        "01 06 01 60 00 02 7F 7F 02 07 01 01 61 01 62 00 00",
+        "unsupported at 24",
+    ),
     // Functions: more than there may be, of a type that isn't there, without their bodies, and with too few of them.
     ("03 03 A1 8D 06", "limit at 10"),
     ("03 02 01 00", "invalid at 11"),

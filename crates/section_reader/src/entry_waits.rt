@@ -62,7 +62,7 @@ fn list_wait(fields: &Fields<'_>, now: &Fields<'_>, owed: u32, element: Element)
     }
 }
 
-/// A type's parameters; its results are too few to be waited for.
+/// A type's parameters. Its results are not waited for, so what comes of them in small pieces is read again with each.
 fn signature_wait(fields: &Fields<'_>, seen: &Seen) -> Wait
     ensures awaits { Awaits (signature seen.now) fields.now result }
     ensures placed { IsPlaced result fields.now }
