@@ -15,3 +15,4 @@ pub mod PrintedRuns
 pub mod PrintingHosts
 pub mod SignatureLaws
 pub mod ResultLaws
+pub mod RoomLaws

@@ -188,3 +188,20 @@ fn replies_that_do_not_fit_stop_the_run(rt: HostRuntime) -> Result<(), Fail> {
     }
     Ok(())
 }
+
+#[test]
+fn several_results_come_in_order(rt: HostRuntime) -> Result<(), Fail> {
+    let image = image(rt.alloc(), &plain(&[RETURN]))?;
+    let arguments = [Value::I64(-1), Value::I32(42)];
+    if call_checks(&image, "s", &arguments).is_some() {
+        return Err(Fail::from("not to be called"));
+    }
+    let mut instance = Instance::load(rt.alloc(), &image)?;
+    let outcome = instance.start_and_run("s", &arguments, &mut replying(&[]), 100);
+    let results = match outcome {
+        Outcome::Returned(2) => Some([instance.result(0), instance.result(1)]),
+        _ => None,
+    };
+    assert_eq!(rt; results, Some(arguments));
+    Ok(())
+}

@@ -41,17 +41,16 @@ fn put(bytes: &mut Vec<u8>, numbers: &[u32]) -> Result<(), AllocError> {
     Ok(())
 }
 
-fn put_signature(bytes: &mut Vec<u8>, params: &[u8], res: u8) -> Result<(), AllocError> {
+fn put_signature(bytes: &mut Vec<u8>, params: &[u8], results: &[u8]) -> Result<(), AllocError> {
     put(bytes, &[count(params.len())])?;
     bytes.extend_from_slice(params)?;
-    bytes.push(res)?;
-    Ok(())
+    bytes.extend_from_slice(results)
 }
 
-fn put_export(bytes: &mut Vec<u8>, name: u8, params: &[u8], res: u8) -> Result<(), AllocError> {
+fn put_export(bytes: &mut Vec<u8>, name: u8, results: &[u8]) -> Result<(), AllocError> {
     put(bytes, &[1])?;
     bytes.push(name)?;
-    put_signature(bytes, params, res)?;
+    put_signature(bytes, &[0x7E, 0x7F], results)?;
     put(bytes, &[8])
 }
 
@@ -62,14 +61,14 @@ fn put_imports(bytes: &mut Vec<u8>, imports: &[(&str, &[u8], u8)]) -> Result<(),
         bytes.extend_from_slice(b"host")?;
         put(bytes, &[count(name.len())])?;
         bytes.extend_from_slice(name.as_bytes())?;
-        put_signature(bytes, params, *res)?;
+        put_signature(bytes, params, &[*res])?;
     }
     Ok(())
 }
 
 /// An image of the exit stub and these words, with two globals, a row of the table, a page of memory of two, and two segments
 /// of which the second is written over the first. All its exports are the function behind the stub: `f` of an i64 and an i32 to an
-/// i64, `n` of the same to an i32, and `e` to nothing.
+/// i64, `n` of the same to an i32, `e` to nothing, and `s` to an i64 and an i32.
 pub(crate) fn image(alloc: Global, parts: &Parts) -> Result<Image, Fail> {
     let mut bytes = Vec::new(alloc);
     bytes.extend_from_slice(b"WRVI")?;
@@ -91,10 +90,11 @@ pub(crate) fn image(alloc: Global, parts: &Parts) -> Result<Image, Fail> {
     put(&mut bytes, &[3, 1])?;
     bytes.extend_from_slice(&[9])?;
     put_imports(&mut bytes, parts.imports)?;
-    put(&mut bytes, &[3])?;
-    put_export(&mut bytes, b'f', &[0x7E, 0x7F], 0x7E)?;
-    put_export(&mut bytes, b'n', &[0x7E, 0x7F], 0x7F)?;
-    put_export(&mut bytes, b'e', &[0x7E, 0x7F], 0x40)?;
+    put(&mut bytes, &[4])?;
+    put_export(&mut bytes, b'f', &[0x7E])?;
+    put_export(&mut bytes, b'n', &[0x7F])?;
+    put_export(&mut bytes, b'e', &[0x40])?;
+    put_export(&mut bytes, b's', &[0x60, 2, 0, 0, 0, 0x7E, 0x7F])?;
     put(&mut bytes, &[parts.start, u32::from(parts.unlinkable)])?;
     Ok(read_image(alloc, &bytes)?)
 }

@@ -4,11 +4,13 @@ use Rattle.wasm_defs.specs.declared.types.FuncType.{FuncType}
 use Rattle.wasm_defs.specs.declared.types.ValType.{ValType}
 use Rattle.wasm_defs.specs.Values.{type_of, value_of}
 use Rattle.wasm_defs.specs.Memory.{page}
+use Rattle.image_format.specs.declared.limits.TheConstants.{PARAMS}
 use Rattle.image_run.specs.Checks.{export_named, unfit}
 use Rattle.image_run.specs.States.{Contents}
 use Rattle.image_run.proofs.RunLaws.{of_image}
 use Rattle.image_run.proofs.SignatureLaws.{few_arguments, few_results}
 use Rattle.image_run.proofs.ResultLaws.{tells_count}
+use Rattle.image_run.proofs.RoomLaws.{room_kept}
 use Rattle.image_run.proofs.StartLaws.{over_at_start, over_then, returns_then}
 use Rattle.image_run.proofs.instance.Instance.start_and_run.Goals as goal
 
@@ -65,3 +67,20 @@ returns-in-Some-run_function-clause-count g c =
 
 pub returns-clause-count : goal.returns-clause-count
 returns-clause-count g c = (returns-clause-run g c).2.end.0
+
+pub overflow_cast-result : goal.overflow_cast-result
+overflow_cast-result g c =
+    let e = c.in-Some.export.now in
+    let few = few_results c.self.inside.image.now c.args.export.now e c.self.invariant.bounds (sym c.in-Some.ensures) in
+    let types = c.as_slice.ensures ∙ ap (λ (f : FuncType). f.results) c.deref.ensures in
+    omega (arith, few, ap (λ (l : List ValType). length l) types)
+
+pub invariant_of-self-2 : goal.invariant_of-self-2
+invariant_of-self-2 g c = record {
+  bounds = c.self.invariant.bounds;
+  machine = c.in_default-run_function.ensures.machine;
+  fits = room_kept PARAMS c.self.inside.room.len c.run_start.new.room c.run_function.new.room c.self.inside.room.items (omega (arith, c.self.inside.room.ok.0)) c.self.invariant.fits;
+  bytes = λ not_run. absurd cc;
+  first_pages = λ not_run. absurd cc;
+  few_results = few_results c.self.inside.image.now c.args.export.now c.in-Some.export.now c.self.invariant.bounds (sym c.in-Some.ensures);
+}
