@@ -1,10 +1,10 @@
 -- Runs whose host prints to a sink.
 use Rattle.std.proofs.Common.{◌≡◌, ℕ, zero, suc, ◌+◌, ◌-◌, ◌^◌, ◌≤◌, ◌<◌, ◌⊎◌, inl, inr, ◌==◌, if◌then◌else◌, Bool, true, false, List, [], ◌∷◌, ◌++◌, take, drop, length, replicate, Option, Some, not, ◌&&◌, ◌||◌, is_some, codes, slice_get, nat_lt, refl, sym, ap, ◌∙◌, subst, append_assoc, length-append, arith}
 use Rattle.std.proofs.lemmas.Bool.{cases_Bool, lt-ltb, le-ltb, ltb-false}
-use Rattle.std.proofs.lemmas.List.{append-nil, replicate-append-replicate, length-replicate, take_at, take-append-le, take-append-drop}
+use Rattle.std.proofs.lemmas.List.{replicate-append-replicate, length-replicate, take_at, take-append-le, take-append-drop}
 use Rattle.std.specs.Io.KnownBytes.{append_known}
 use Rattle.wasm_defs.specs.Values.{Value}
-use Rattle.wasm_defs.specs.Host.{HostCall, Reply, Answer, Stop}
+use Rattle.wasm_defs.specs.Host.{HostCall, Reply, Stop}
 use Rattle.io_edges.specs.Causes.{Rose}
 use Rattle.io_edges.specs.Streams.{WritesText}
 use Rattle.io_edges.proofs.Known.{append_more, append_nothing}

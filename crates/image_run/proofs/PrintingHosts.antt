@@ -1,5 +1,5 @@
 -- Runs whose host is the program's.
-use Rattle.std.proofs.Common.{◌≡◌, ℕ, ◌<◌, ◌^◌, ◌-◌, true, false, List, Option, nat_lt, refl, sym, ap, ◌∙◌, subst}
+use Rattle.std.proofs.Common.{◌≡◌, ℕ, ◌<◌, ◌^◌, ◌-◌, true, false, List, Option, nat_lt, refl, ap, ◌∙◌, subst}
 use Rattle.wasm_defs.specs.Values.{Value}
 use Rattle.wasm_defs.specs.Host.{HostCall, Reply}
 use Rattle.image_format.specs.Contents.{Image}

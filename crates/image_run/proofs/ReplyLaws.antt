@@ -1,6 +1,6 @@
 -- Runs of images under other replies: what they have in common.
 use Rattle.std.proofs.Common.{◌≡◌, ℕ, zero, suc, ◌+◌, ◌-◌, ◌*◌, ◌%◌, ◌^◌, ◌==◌, ◌<◌, ◌≤◌, Bool, true, false, nat_le, max, if◌then◌else◌, List, [], ◌∷◌, ◌++◌, take, drop, length, replicate, Option, None, Some, slice_get, refl, sym, ap, ◌∙◌, subst, append_assoc, length-append, arith}
-use Rattle.std.proofs.lemmas.List.{append-nil, take_at, take-append-le}
+use Rattle.std.proofs.lemmas.List.{append-nil, take_at}
 use Rattle.rv_isa.specs.declared.stepping.FaultKind.TheVariants as fault
 use Rattle.rv_isa.specs.Steps.{State, Registers, Stepped, Next, step, reg, set_reg}
 use Rattle.rv_isa.specs.Steps as machine

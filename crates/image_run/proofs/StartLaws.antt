@@ -8,11 +8,10 @@ use Rattle.wasm_defs.specs.declared.types.ValType.{ValType}
 use Rattle.wasm_defs.specs.Values.{Value}
 use Rattle.wasm_defs.specs.Memory.{page}
 use Rattle.wasm_defs.specs.Host.{HostCall, Reply}
-use Rattle.wasm_defs.specs.ModuleRun.{Returns}
 use Rattle.image_format.specs.Contents.{Image}
 use Rattle.image_format.specs.declared.image.Export.{Export}
 use Rattle.image_format.specs.Environment.{Entry, entered}
-use Rattle.image_format.specs.ImageRun.{Running, Stepping, As, steps, run_of, begin, results_at, globals_of}
+use Rattle.image_format.specs.ImageRun.{Running, Stepping, steps, run_of, begin, results_at, globals_of}
 use Rattle.image_run.specs.declared.outcome.Outcome.{Outcome}
 use Rattle.image_run.specs.declared.outcome.Outcome.TheVariants.{Returned}
 use Rattle.image_run.specs.Hosts.{Leads}

@@ -1,7 +1,6 @@
-use Rattle.std.proofs.Common.{◌≡◌, ◌<◌, ◌-◌, ◌^◌, false, sym, ap, ◌∙◌, subst}
+use Rattle.std.proofs.Common.{◌≡◌, ◌<◌, ◌-◌, ◌^◌, false, sym, ap, ◌∙◌}
 use Rattle.std.specs.Prelude.{nat_lt, map}
 use Rattle.wasm_defs.specs.Values.{type_of, value_of}
-use Rattle.image_run.specs.Printing.{PrintsRun, printing_run}
 use Rattle.image_run.specs.States.{Contents}
 use Rattle.image_run.proofs.PrintingHosts.{prints, calm, still}
 use Rattle.image_run.proofs.SignatureLaws.{all_known}
