@@ -11,6 +11,7 @@ pub mod Known
 pub mod Lows
 pub mod Tying
 pub mod Opening
+pub mod BlockTypes
 pub mod Growing
 pub mod Beginning
 pub mod Whole
