@@ -1,18 +1,19 @@
 -- Bytes that may come before an entry is read again.
 use Rattle.std.proofs.Common.{◌≡◌, ℕ, ◌+◌, ◌-◌, ◌<◌, ◌≤◌, List, [], ◌++◌, length, refl, sym, ap, ◌∙◌, arith, length-take, length-append}
 use Rattle.std.proofs.lemmas.Bool.{lt-ltb, le-ltb, lt-leb}
+use Rattle.wasm_defs.specs.declared.types.ValType.{ValType}
 use Rattle.wasm_defs.specs.declared.types.ValType.TheVariants.{I32}
 use Rattle.wasm_defs.specs.declared.item.Constant.{Constant}
-use Rattle.wasm_defs.specs.Limits.{max_params}
+use Rattle.wasm_defs.specs.Limits.{max_params, max_results}
 use Rattle.wasm_defs.specs.Fields.{Cursor, Read, Got, Wants, Reader, then_go, ◌>>=◌, done, repeated, window, room_of, past, byte, u32, count, vector, room, run, counted_bytes, name}
 use Rattle.wasm_defs.specs.Entries.{Seen, sole, constant, listed_type, listed_index, signature, imported, exported, element, segment}
 use Rattle.wasm_defs.specs.Outside.{Nothing, custom_name}
 use Rattle.wasm_laws.specs.Steadiness.{with_more, Advance}
-use Rattle.wasm_laws.proofs.Steady.{field_steady, advance_then}
-use Rattle.wasm_laws.proofs.FieldLaws.{u32_field, count_steady}
+use Rattle.wasm_laws.proofs.Steady.{field_steady, advance_then, repeated_steady}
+use Rattle.wasm_laws.proofs.FieldLaws.{u32_field, count_steady, vector_steady}
 use Rattle.wasm_laws.proofs.Windows.{byte_field}
 use Rattle.wasm_laws.proofs.Names.{name_field}
-use Rattle.wasm_laws.proofs.EntryLaws.{sole_steady, constant_steady}
+use Rattle.wasm_laws.proofs.EntryLaws.{sole_steady, constant_steady, listed_type_steady}
 use Rattle.section_reader.specs.declared.stage.Stage.{Stage}
 use Rattle.section_reader.specs.declared.stage.Stage.TheVariants.{Contents}
 use Rattle.section_reader.specs.declared.wait.Element.{Element}
@@ -30,6 +31,10 @@ use Rattle.section_reader.proofs.Skimming.{past_is, types_want, indices_want}
 abbrev WantsIf : {A : Type 0} → Reader A → Cursor → (List ℕ → Type 0) → Type 0
 WantsIf p c P = (more : List ℕ) → P more → p (with_more c more) ≡ Wants
 
+vector_got : {A : Type 0} (counted : Reader (ℕ × ℕ)) (p : Reader A) (c d e : Cursor) (n : ℕ × ℕ) (xs : List A) → counted c ≡ Got n d → repeated n.1 p d ≡ Got xs e → vector counted p c ≡ Got (n.0, xs) e
+unfolding vector
+vector_got counted p c d e n xs first second = rw (first, second) refl
+
 module _ (P : List ℕ → Type 0) where
   then_awaits : {A B : Type 0} (p : Reader A) (f : A → Reader B) (c d : Cursor) (x : A) → Stable p → p c ≡ Got x d → WantsIf (f x) d P → WantsIf (p >>= f) c P
   then_awaits p f c d x stable e h = λ more passes. ap (λ (r : Read _). then_go r f) (more_got p stable c d x e more) ∙ h more passes
@@ -37,12 +42,22 @@ module _ (P : List ℕ → Type 0) where
   on_awaits : {A B : Type 0} (p : Reader A) (f : A → Reader B) (c : Cursor) → WantsIf p c P → WantsIf (p >>= f) c P
   on_awaits p f c h = λ more passes. ap (λ (r : Read _). then_go r f) (h more passes)
 
-  signature_wants : (seen : Seen) (c d e : Cursor) (form n : ℕ × ℕ) → byte c ≡ Got form d → form.1 ≡ 0x60 → count max_params d ≡ Got n e → WantsIf (repeated n.1 listed_type) e P → WantsIf (signature seen) c P
+  params_want : (seen : Seen) (c d e : Cursor) (form n : ℕ × ℕ) → byte c ≡ Got form d → form.1 ≡ 0x60 → count max_params d ≡ Got n e → WantsIf (repeated n.1 listed_type) e P → WantsIf (signature seen) c P
   unfolding signature vector
-  signature_wants seen c d e form n first is second h =
+  params_want seen c d e form n first is second h =
       then_awaits byte _ c d form (field_steady [] byte byte_field).by first
       (rw is (on_awaits (vector (count max_params) listed_type) _ d
       (then_awaits (count max_params) _ d e n (count_steady [] max_params).by second (on_awaits (repeated n.1 listed_type) _ e h))))
+
+  -- the parameters are there
+  results_want : (seen : Seen) (c d e f g : Cursor) (form m : ℕ × ℕ) (types : List ValType) (n : ℕ × ℕ) → byte c ≡ Got form d → form.1 ≡ 0x60 → count max_params d ≡ Got m e → repeated m.1 listed_type e ≡ Got types f → count max_results f ≡ Got n g
+      → WantsIf (repeated n.1 listed_type) g P → WantsIf (signature seen) c P
+  unfolding signature vector
+  results_want seen c d e f g form m types n first is second third fourth h =
+      then_awaits byte _ c d form (field_steady [] byte byte_field).by first
+      (rw is (then_awaits (vector (count max_params) listed_type) _ d f (m.0, types) (vector_steady [] (count max_params) listed_type (count_steady [] max_params) (listed_type_steady [])).by (vector_got (count max_params) listed_type d e f m types second third)
+      (on_awaits (vector (count max_results) listed_type) _ f
+      (then_awaits (count max_results) _ f g n (count_steady [] max_results).by fourth (on_awaits (repeated n.1 listed_type) _ g h)))))
 
   element_wants : (seen : Seen) (c d e f : Cursor) (i : ℕ × ℕ) (place : Constant) (n : ℕ × ℕ) → sole seen.tables c ≡ Got i d → constant I32 d ≡ Got place e → u32 e ≡ Got n f
       → WantsIf (repeated n.1 (listed_index seen.functions)) f P → WantsIf (element seen) c P
@@ -102,10 +117,21 @@ module _ (seen : Seen) (c d e : Cursor) where
     params_advance =
         advance_then c d e (got_is (λ x f. Advance c f) (byte c) form d first ((field_steady [] byte byte_field).moves c)) (got_is (λ x f. Advance d f) (count max_params d) n e second ((count_steady [] max_params).moves d))
 
-    pub signature_awaits : form.1 ≡ 0x60 → Awaits (signature seen) c (wait.List (length c.rest - length e.rest) n.1 ValueType)
-    signature_awaits is =
-        signature_wants (Passes (wait.List (length c.rest - length e.rest) n.1 ValueType) c) seen c d e form n first is second
+    pub params_await : form.1 ≡ 0x60 → Awaits (signature seen) c (wait.List (length c.rest - length e.rest) n.1 ValueType)
+    params_await is =
+        params_want (Passes (wait.List (length c.rest - length e.rest) n.1 ValueType) c) seen c d e form n first is second
         (λ more h. types_want n.1 (with_more e more) (list_at c e n.1 (element_of ValueType) params_advance more h))
+
+  module _ (f g : Cursor) (form m : ℕ × ℕ) (types : List ValType) (n : ℕ × ℕ) (first : byte c ≡ Got form d) (second : count max_params d ≡ Got m e) (third : repeated m.1 listed_type e ≡ Got types f) (fourth : count max_results f ≡ Got n g) where
+    pub results_advance : Advance c g
+    results_advance =
+        advance_then c e g (params_advance form m first second)
+        (advance_then e f g (got_is (λ x h. Advance e h) (repeated m.1 listed_type e) types f third ((repeated_steady [] m.1 listed_type (listed_type_steady [])).moves e)) (got_is (λ x h. Advance f h) (count max_results f) n g fourth ((count_steady [] max_results).moves f)))
+
+    pub results_await : form.1 ≡ 0x60 → Awaits (signature seen) c (wait.List (length c.rest - length g.rest) n.1 ValueType)
+    results_await is =
+        results_want (Passes (wait.List (length c.rest - length g.rest) n.1 ValueType) c) seen c d e f g form m types n first is second third fourth
+        (λ more h. types_want n.1 (with_more g more) (list_at c g n.1 (element_of ValueType) results_advance more h))
 
   module _ (f : Cursor) (i : ℕ × ℕ) (place : Constant) (n : ℕ × ℕ) (there : ℕ) (first : sole there c ≡ Got i d) (second : constant I32 d ≡ Got place e) (third : u32 e ≡ Got n f) where
     pub indices_advance : Advance c f

@@ -6,12 +6,12 @@ ghost use Rattle.wasm_defs.specs.Entries.{signature, imported, exported, element
 ghost use Rattle.section_reader.specs.Outline.{outline_row};
 ghost use Rattle.section_reader.specs.Waits.{Awaits, AwaitsAt, IsPlaced, resumes_at};
 
-use crate::entry_fields::{constant, sole};
+use crate::entry_fields::{constant, sole, value_types};
 use crate::seen::Seen;
 use crate::wait::{Element, Wait};
 use leb_feed::{Fields, between, state_after};
 use std::alloc::Global;
-use wasm_defs::{MAX_PARAMS, ValType};
+use wasm_defs::{MAX_PARAMS, MAX_RESULTS, ValType};
 
 /// What an entry of a section waits for.
 pub fn entry_wait(fields: &Fields<'_>, alloc: Global, id: u8, seen: &Seen) -> Wait
@@ -19,7 +19,7 @@ pub fn entry_wait(fields: &Fields<'_>, alloc: Global, id: u8, seen: &Seen) -> Wa
     ensures placed { IsPlaced result fields.now }
 {
     match id {
-        1 => signature_wait(fields, seen),
+        1 => signature_wait(fields, alloc, seen),
         2 => imported_wait(fields, alloc, seen),
         7 => exported_wait(fields, seen),
         9 => element_wait(fields, seen),
@@ -62,8 +62,8 @@ fn list_wait(fields: &Fields<'_>, now: &Fields<'_>, owed: u32, element: Element)
     }
 }
 
-/// A type's parameters. Its results are not waited for, so what comes of them in small pieces is read again with each.
-fn signature_wait(fields: &Fields<'_>, seen: &Seen) -> Wait
+/// A type's parameters, and behind them its results.
+fn signature_wait(fields: &Fields<'_>, alloc: Global, seen: &Seen) -> Wait
     ensures awaits { Awaits (signature seen.now) fields.now result }
     ensures placed { IsPlaced result fields.now }
 {
@@ -77,7 +77,14 @@ fn signature_wait(fields: &Fields<'_>, seen: &Seen) -> Wait
     let Ok(params) = next.count(MAX_PARAMS) else {
         return Wait::Nothing;
     };
-    list_wait(fields, &next, params.1, Element::ValueType)
+    let first = next.fork();
+    let Ok(_) = value_types(&mut next, alloc, params.1) else {
+        return list_wait(fields, &first, params.1, Element::ValueType);
+    };
+    let Ok(results) = next.count(MAX_RESULTS) else {
+        return Wait::Nothing;
+    };
+    list_wait(fields, &next, results.1, Element::ValueType)
 }
 
 /// An import's names.

@@ -192,14 +192,13 @@ fn items_come_in_order(rt: HostRuntime) -> Result<(), Fail> {
 #[test]
 fn long_entries_come_byte_by_byte(rt: HostRuntime) -> Result<(), Fail> {
     let alloc = rt.alloc();
-    // A type with 1,000 parameters.
-    let mut bytes = bytes_of(alloc, &[HEADER, "01 ED 07 01 60 E8 07"])?;
+    // A type with 1,000 parameters and 1,000 results.
+    let mut bytes = bytes_of(alloc, &[HEADER, "01 D6 0F 01 60 E8 07"])?;
     repeat(&mut bytes, &[0x7F], 1000)?;
+    bytes.extend_from_slice(&[0xE8, 0x07])?;
+    repeat(&mut bytes, &[0x7E], 1000)?;
     // A function of it, a table, and an export whose name has 5,000 bytes: 2,500 characters of two.
-    let export = bytes_of(
-        alloc,
-        &["00 03 02 01 00 04 04 01 70 00 01 07 8D 27 01 88 27"],
-    )?;
+    let export = bytes_of(alloc, &["03 02 01 00 04 04 01 70 00 01 07 8D 27 01 88 27"])?;
     bytes.extend_from_slice(&export)?;
     repeat(&mut bytes, &[0xC3, 0xA9], 2500)?;
     // An element segment with 3,000 indices of two bytes.
@@ -240,7 +239,7 @@ fn bytes_that_end_too_soon_are_refused_at_their_number(rt: HostRuntime) -> Resul
 
 #[test]
 fn the_first_fault_is_told(rt: HostRuntime) -> Result<(), Fail> {
-    let rows: [(&str, u64, Kind); 39] = [
+    let rows: [(&str, u64, Kind); 42] = [
         // A name is one field, refused as soon as no more bytes can complete it.
         ("00 03 85", 10, Kind::Malformed),
         ("00 04 02 E2", 10, Kind::Malformed),
@@ -261,16 +260,20 @@ fn the_first_fault_is_told(rt: HostRuntime) -> Result<(), Fail> {
         // What the tables of 1.0 don't list.
         ("01 05 01 60 01 7B 00", 13, Kind::Malformed),
         ("01 05 01 60 01 7D 00", 13, Kind::Unsupported),
-        ("01 06 01 60 00 02 7F 7F", 13, Kind::Invalid),
         ("02 05 01 00 00 03 00", 13, Kind::Unsupported),
         ("02 05 01 00 00 04 00", 13, Kind::Malformed),
         ("05 03 01 03 00", 11, Kind::Malformed),
+        // Types have so many parameters and results at most.
+        ("01 05 01 60 E9 07 00", 12, Kind::Limit),
+        ("01 05 01 60 00 E9 07", 13, Kind::Limit),
         // Constant expressions.
         ("06 05 01 7F 00 43 00", 13, Kind::Unsupported),
         ("06 05 01 7F 00 8B 00", 13, Kind::Invalid),
         ("06 05 01 7F 00 05 00", 13, Kind::Invalid),
         ("06 05 01 7F 00 0B 00", 13, Kind::Invalid),
         ("06 05 01 7F 00 06 00", 13, Kind::Malformed),
+        ("06 05 01 7F 00 C4 00", 13, Kind::Invalid),
+        ("06 05 01 7F 00 C5 00", 13, Kind::Malformed),
         ("06 06 01 7F 00 41 00 42", 15, Kind::Invalid),
         ("06 06 01 7F 02 41 00 0B", 12, Kind::Malformed),
         // Memories and tables.

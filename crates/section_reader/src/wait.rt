@@ -1,8 +1,8 @@
 //! What a push reader waits for.
 //!
 //! An entry that isn't whole is read from its start with each piece that comes in its short fields, but not while a long one
-//! goes on: a name, the parameters of a type, the indices of an element segment, the bytes of a data segment. Of these
-//! only what came is looked at. So each byte costs a constant, whatever the pieces are.
+//! goes on: a name, the parameters or the results of a type, the indices of an element segment, the bytes of a data segment.
+//! Of these only what came is looked at. So each byte costs a constant, whatever the pieces are.
 
 ghost use Rattle.std.specs.Prelude.{◌≡◌, ◌≤◌, ◌<◌, ◌+◌, ◌-◌, ◌^◌, ℕ, List, ◌++◌, length, IfSome};
 ghost use Rattle.wasm_defs.specs.Fields.{Cursor};
