@@ -1,29 +1,38 @@
 -- What a run is made of: the module's instance, the store, frames and labels (WebAssembly Core 1.0, 4.2). Operands are listed
 -- topmost first.
-use Rattle.std.specs.Prelude.{ℕ, ◌+◌, List, [], ◌∷◌, ◌++◌, length, Option}
+use Rattle.std.specs.Prelude.{ℕ, ◌+◌, ◌-◌, List, [], ◌∷◌, ◌++◌, length, Option, slice_index}
 use Rattle.wasm_defs.specs.declared.types.FuncType.{FuncType}
 use Rattle.wasm_defs.specs.declared.value.TrapKind.{TrapKind}
-use Rattle.wasm_defs.specs.Trees.{Seq}
+use Rattle.wasm_defs.specs.declared.place.Place.{Place}
+use Rattle.wasm_defs.specs.Trees.{Seq, tokens_in}
 use Rattle.wasm_defs.specs.Typing.{Types, Context}
 use Rattle.wasm_defs.specs.Values.{Value}
 use Rattle.wasm_defs.specs.Host.{HostCall, Reply}
 
 -- ---- what doesn't change in a run (4.2.5 to 4.2.7)
 
--- a declared function: its type, the types of its declared locals, its greatest live height, and its body
+-- where a declared function stands in the module: its index, the offset of its body's first byte, and those of its tokens
+pub record Origin : Type 0 where
+  pub index : ℕ
+  pub first : ℕ
+  pub offsets : List ℕ
+
+-- a declared function: where it stands, its type, the types of its declared locals, its greatest live height, and its body
 pub record Func : Type 0 where
+  pub origin : Origin
   pub ty : FuncType
   pub locals : Types
   pub greatest : ℕ
   pub body : Seq
 
--- a function: imported, with its number among the imports, or declared
+-- a function: imported, with its number among the imports, which is its index too, and the offset of the import's first byte; or
+-- declared
 pub data Function : Type 0 where
-  Imported : (number : ℕ) (ty : FuncType) → Function
+  Imported : (number : ℕ) (ty : FuncType) (first : ℕ) → Function
   Declared : (f : Func) → Function
 
 abbrev pub type_of : Function → FuncType
-type_of (Imported number ty) = ty
+type_of (Imported number ty first) = ty
 type_of (Declared f) = f.ty
 
 -- the module's types and what else its code may name; the functions by their indices; the table's rows, each a function's
@@ -45,13 +54,14 @@ pub record Store : Type 0 where
   pub calls : List HostCall
   pub replies : List Reply
 
--- an open label (4.2.12): how many values a branch to it takes, where the branch leads, and what stands below and after the
--- block
+-- an open label (4.2.12): how many values a branch to it takes, where the branch leads, what stands below and after the block, and
+-- how many tokens stand between the instructions inside and those after it
 pub record Label : Type 0 where
   pub arity : ℕ
   pub target : Seq
   pub below : List Value
   pub after : Seq
+  pub between : ℕ
 
 -- an active function (4.2.12): its locals, the parameters first, the operands of the innermost block, what is left of that
 -- block, and the open labels, the innermost first
@@ -86,13 +96,38 @@ pub data Step : Type 0 where
   To : (s : State) → Step
   -- the last function that was invoked has returned
   Returned : (store : Store) (values : List Value) → Step
-  Trapped : (store : Store) (kind : TrapKind) → Step
+  Trapped : (store : Store) (kind : TrapKind) (place : Place) → Step
   -- the host stopped the run
   Stopped : (store : Store) → Step
   -- a call has no reply yet
   Waiting : (store : Store) → Step
   -- no rule applies: in a valid module it doesn't come
   Stuck : Step
+
+-- ---- places of the module, at which a run may trap
+
+-- how many tokens stand behind the code of the innermost block: those of the open blocks, and the function's last `end`
+abbrev pub tokens_behind : List Label → ℕ
+tokens_behind [] = 1
+tokens_behind (label ∷ labels) = label.between + tokens_in label.after + tokens_behind labels
+
+-- the offset of the token from which on so many of a function's tokens are left
+abbrev pub offset_of : Origin → (left : ℕ) → ℕ
+offset_of o left = slice_index o.offsets (length o.offsets - left)
+
+-- the first instruction of those that are left of a frame's innermost block
+abbrev pub place_left : Origin → (left : ℕ) → Place
+place_left o left = record { function = o.index; offset = offset_of o left }
+
+abbrev pub place_of : Frame → Seq → Place
+place_of f code = place_left f.function.origin (tokens_in code + tokens_behind f.labels)
+
+-- a function's body, and an import
+abbrev pub place_of_body : Origin → Place
+place_of_body o = record { function = o.index; offset = o.first }
+
+abbrev pub place_of_import : (number first : ℕ) → Place
+place_of_import number first = record { function = number; offset = first }
 
 -- ---- the stack that a run uses, in slots of a value each (appendix "Implementation Limitations")
 

@@ -85,6 +85,10 @@ abbrev pub tokens_of : List (ℕ × Token) → List Token
 tokens_of [] = []
 tokens_of (t ∷ ts) = t.1 ∷ tokens_of ts
 
+abbrev pub offsets_of : List (ℕ × Token) → List ℕ
+offsets_of [] = []
+offsets_of (t ∷ ts) = t.0 ∷ offsets_of ts
+
 -- the first token that no others complete to a valid body
 pub record IsTokenFault (c : Context) (tokens : List (ℕ × Token)) (r : Refusal) : Type 0 where
   pub before : List (ℕ × Token)

@@ -14,7 +14,7 @@ use Rattle.wasm_defs.specs.Trees.{Seq}
 use Rattle.wasm_defs.specs.Typing.{Context}
 use Rattle.wasm_defs.specs.Places.{places_of, greatest}
 use Rattle.wasm_defs.specs.Context.{context_of, import_count, tables_of, memories_of, declared_types, type_of_function, type_or_empty}
-use Rattle.wasm_defs.specs.Faults.{read_of, context_at, Module}
+use Rattle.wasm_defs.specs.Faults.{read_of, offsets_of, context_at, Module}
 use Rattle.wasm_defs.specs.Values.{Value, unsigned}
 use Rattle.wasm_defs.specs.Memory.{page}
 use Rattle.wasm_defs.specs.Host.{Reply}
@@ -22,16 +22,25 @@ use Rattle.wasm_defs.specs.Configurations as run
 
 -- ---- functions
 
+-- where the k-th declared function stands
+abbrev pub origin_of : List Item → ℕ → Body → run.Origin
+origin_of items k b = record {
+  index = import_count items + k;
+  first = b.first;
+  offsets = offsets_of (read_of b).code.tokens;
+}
+
 -- the imported functions, after so many
 abbrev pub imports_from : Context → ℕ → List Item → List run.Function
 imports_from c number [] = []
 imports_from c number (Imported from what kind type_index ∷ xs) =
-    run.Imported number (type_or_empty (slice_get c.types type_index.1)) ∷ imports_from c (suc number) xs
+    run.Imported number (type_or_empty (slice_get c.types type_index.1)) from.0 ∷ imports_from c (suc number) xs
 imports_from c number (_ ∷ xs) = imports_from c number xs
 
 -- the k-th declared function
 abbrev pub function_of : List Item → ℕ → Body → Seq → run.Func
 function_of items k b tree = record {
+  origin = origin_of items k b;
   ty = type_of_function (context_of items) (import_count items + k);
   locals = declared_types (read_of b).groups;
   greatest = greatest (places_of (context_at items k b) tree);

@@ -2,6 +2,7 @@
 -- exported function.
 use Rattle.std.specs.Prelude.{ℕ, List, [], ◌∷◌, Option, None, Some}
 use Rattle.wasm_defs.specs.declared.value.TrapKind.{TrapKind}
+use Rattle.wasm_defs.specs.declared.place.Place.{Place}
 use Rattle.wasm_defs.specs.Values.{Value, words_of}
 use Rattle.wasm_defs.specs.Host.{HostCall, Reply}
 use Rattle.wasm_defs.specs.Faults.{Module}
@@ -9,10 +10,11 @@ use Rattle.wasm_defs.specs.Configurations.{Store, Invocation, State, Outside, In
 use Rattle.wasm_defs.specs.Reductions.{run}
 use Rattle.wasm_defs.specs.Instances.{instance_of, store_of, start_of}
 
--- how a run ends, with the memory and the globals behind it; each global as the word that holds it
+-- how a run ends, with the memory and the globals behind it; each global as the word that holds it. A trap of a module's run has its
+-- place in the module; that of an image's has the one that the image tells, if it tells one.
 pub data End : Type 0 where
   Returns : (values : List Value) (memory globals : List ℕ) → End
-  Traps : (kind : TrapKind) (memory globals : List ℕ) → End
+  Traps : (kind : TrapKind) (place : Option Place) (memory globals : List ℕ) → End
   -- the host stopped it
   Stops : End
   -- it hasn't ended
@@ -37,7 +39,7 @@ store_in (Carrying store owed values later) = store
 abbrev pub run_of : Step → Run
 run_of (To s) = ended (store_in s) Going
 run_of (Returned store values) = ended store (Returns values store.memory (words_of store.globals))
-run_of (Trapped store kind) = ended store (Traps kind store.memory (words_of store.globals))
+run_of (Trapped store kind place) = ended store (Traps kind (Some place) store.memory (words_of store.globals))
 run_of (Stopped store) = ended store Stops
 run_of (Waiting store) = ended store Going
 run_of Stuck = record { calls = []; end = Fails }

@@ -3,17 +3,21 @@
 -- A weight is one reduction, or one constant that is moved to the operands. A call and the entry of the declared function that it
 -- leads to are one together, and owe one more for each declared local. A branch or a return that carries several values, and the
 -- end of a function that does, owe one more for each of them.
+--
+-- A trap has its place in the module: the function and the offset of the instruction's first byte. Where the stack has no room, it is
+-- the callee and the first byte of its body, or of the import.
 use Rattle.std.specs.Prelude.{ℕ, zero, suc, ◌+◌, List, [], ◌∷◌, ◌++◌, map, take, drop, reverse, length, Option, Some, None, nat_lt, if◌then◌else◌, slice_get, slice_index_or}
 use Rattle.wasm_defs.specs.declared.types.FuncType.{FuncType}
 use Rattle.wasm_defs.specs.declared.value.TrapKind.TheVariants as trap
+use Rattle.wasm_defs.specs.declared.place.Place.{Place}
 use Rattle.wasm_defs.specs.declared.token.Plain.{Plain}
 use Rattle.wasm_defs.specs.declared.token.Plain.TheVariants.{Unreachable, Br, BrIf, BrTable, Return, Call, CallIndirect}
-use Rattle.wasm_defs.specs.Trees.{Seq, Nothing, Simple, Block, Loop, If, IfElse}
+use Rattle.wasm_defs.specs.Trees.{Seq, Nothing, Simple, Block, Loop, If, IfElse, tokens_in}
 use Rattle.wasm_defs.specs.Typing.{Types, Signature, same_function_types}
 use Rattle.wasm_defs.specs.Places.{shape}
 use Rattle.wasm_defs.specs.Values.{Value, zero_of}
 use Rattle.wasm_defs.specs.Host.{Reply, Taken, Goes, Stops, taken}
-use Rattle.wasm_defs.specs.Configurations.{Func, Function, Imported, Declared, type_of, Instance, Store, Label, Frame, Invocation, Config, State, Outside, Inside, Carrying, Step, To, Returned, Trapped, Stopped, Waiting, Stuck, used, need_of, need, max_slots}
+use Rattle.wasm_defs.specs.Configurations.{Func, Function, Imported, Declared, type_of, Instance, Store, Label, Frame, Invocation, Config, State, Outside, Inside, Carrying, Step, To, Returned, Trapped, Stopped, Waiting, Stuck, place_of, place_of_body, place_of_import, used, need_of, need, max_slots}
 use Rattle.wasm_defs.specs.Effects.{Effect, Gives, Traps, Fails, effect}
 
 -- ---- returns and entries (4.4.7)
@@ -40,7 +44,7 @@ finish store owed values [] later = hand_out store owed values later
 abbrev pub enter : Store → Func → List Value → List Frame → List Invocation → Step
 enter store f arguments callers later =
     if nat_lt max_slots (used callers + need f)
-    then Trapped store trap.StackExhausted
+    then Trapped store trap.StackExhausted (place_of_body f.origin)
     else To (Inside (record {
       store = store;
       frame = record { function = f; locals = arguments ++ map zero_of f.locals; operands = []; code = f.body; labels = [] };
@@ -58,17 +62,17 @@ abbrev pub await_reply : Types → Store → List Reply → List Frame → List 
 await_reply results store [] callers later = Waiting store
 await_reply results store (r ∷ rs) callers later = replied store rs callers later (taken results store.memory r)
 
-abbrev pub ask : (number : ℕ) → FuncType → Store → List Value → List Frame → List Invocation → Step
-ask number ty store arguments callers later =
+abbrev pub ask : (number : ℕ) → FuncType → (first : ℕ) → Store → List Value → List Frame → List Invocation → Step
+ask number ty first store arguments callers later =
     if nat_lt max_slots (used callers + need_of (length ty.params) 0 0)
-    then Trapped store trap.StackExhausted
+    then Trapped store trap.StackExhausted (place_of_import number first)
     else await_reply ty.results
     (record store { calls = store.calls ++ record { number = number; arguments = arguments; memory = store.memory } ∷ [] })
     store.replies callers later
 
 abbrev pub start_function : Store → Option Function → List Value → List Frame → List Invocation → Step
 start_function store None arguments callers later = Stuck
-start_function store (Some (Imported number ty)) arguments callers later = ask number ty store arguments callers later
+start_function store (Some (Imported number ty first)) arguments callers later = ask number ty first store arguments callers later
 start_function store (Some (Declared f)) arguments callers later = enter store f arguments callers later
 
 -- ---- the running frame
@@ -82,10 +86,11 @@ goes_on c store locals operands code labels =
 abbrev pub proceeds : Config → List Value → Seq → Step
 proceeds c operands code = goes_on c c.store c.frame.locals operands code c.frame.labels
 
-abbrev pub applied : Config → Seq → Effect → Step
-applied c rest (Gives store locals operands) = goes_on c store locals operands rest c.frame.labels
-applied c rest (Traps kind) = Trapped c.store kind
-applied c rest Fails = Stuck
+-- an instruction of a place
+abbrev pub applied : Config → Place → Seq → Effect → Step
+applied c here rest (Gives store locals operands) = goes_on c store locals operands rest c.frame.labels
+applied c here rest (Traps kind) = Trapped c.store kind here
+applied c here rest Fails = Stuck
 
 -- the function returns (4.4.5.9, 4.4.7.2)
 abbrev pub returns : Config → List Value → Step
@@ -122,11 +127,11 @@ call c rest operands (Some f) =
     let count = length (type_of f).params in
     start_function c.store (Some f) (reverse (take count operands)) (record c.frame { operands = drop count operands; code = rest } ∷ c.callers) c.later
 
-abbrev pub call_typed : Config → Seq → List Value → Option FuncType → Option Function → Step
-call_typed c rest operands None f = Stuck
-call_typed c rest operands (Some ty) None = Stuck
-call_typed c rest operands (Some ty) (Some f) =
-    if same_function_types ty (type_of f) then call c rest operands (Some f) else Trapped c.store trap.TypeMismatch
+abbrev pub call_typed : Config → Place → Seq → List Value → Option FuncType → Option Function → Step
+call_typed c here rest operands None f = Stuck
+call_typed c here rest operands (Some ty) None = Stuck
+call_typed c here rest operands (Some ty) (Some f) =
+    if same_function_types ty (type_of f) then call c rest operands (Some f) else Trapped c.store trap.TypeMismatch here
 
 -- the block's end (4.4.6.2), or the function's
 abbrev pub leave : Config → List Label → Step
@@ -134,41 +139,42 @@ leave c [] = returns c c.frame.operands
 leave c (label ∷ labels) = goes_on c c.store c.frame.locals (c.frame.operands ++ label.below) label.after labels
 
 -- the entry of a block (4.4.5.3 to 4.4.5.5, 4.4.6.1), which takes operands along; a branch to it takes so many, and leads to
--- its target
-abbrev pub within : Config → List Value → Signature → (arity : ℕ) → (target body rest : Seq) → Step
-within c operands s arity target body rest =
+-- its target; so many tokens stand between its body and what follows it
+abbrev pub within : Config → List Value → Signature → (arity : ℕ) → (target body : Seq) → (between : ℕ) → (rest : Seq) → Step
+within c operands s arity target body between rest =
     let count = length s.params in
     goes_on c c.store c.frame.locals (take count operands) body
-    (record { arity = arity; target = target; below = drop count operands; after = rest } ∷ c.frame.labels)
+    (record { arity = arity; target = target; below = drop count operands; after = rest; between = between } ∷ c.frame.labels)
 
-abbrev pub choose : Config → Signature → (body other rest : Seq) → List Value → Step
-choose c s body other rest [] = Stuck
-choose c s body other rest (x ∷ below) = choose_by x.number
+-- between the first branch and what follows the `if` stand so many tokens, and behind the second one its `end`
+abbrev pub choose : Config → Signature → (body : Seq) → (between : ℕ) → (other rest : Seq) → List Value → Step
+choose c s body between other rest [] = Stuck
+choose c s body between other rest (x ∷ below) = choose_by x.number
   where
     choose_by : ℕ → Step
-    choose_by zero = within c below s (length s.results) rest other rest
-    choose_by (suc n) = within c below s (length s.results) rest body rest
+    choose_by zero = within c below s (length s.results) rest other 1 rest
+    choose_by (suc n) = within c below s (length s.results) rest body between rest
 
 module _ (i : Instance) where
   -- an indirect call (4.4.5.11) by a row of the table, of which there is one at most
-  abbrev pub call_row : Config → Seq → (type : ℕ) → List Value → Option (Option ℕ) → Step
-  call_row c rest type operands None = Trapped c.store trap.UndefinedElement
-  call_row c rest type operands (Some None) = Trapped c.store trap.UninitializedElement
-  call_row c rest type operands (Some (Some f)) = call_typed c rest operands (slice_get i.context.types type) (slice_get i.functions f)
+  abbrev pub call_row : Config → Place → Seq → (type : ℕ) → List Value → Option (Option ℕ) → Step
+  call_row c here rest type operands None = Trapped c.store trap.UndefinedElement here
+  call_row c here rest type operands (Some None) = Trapped c.store trap.UninitializedElement here
+  call_row c here rest type operands (Some (Some f)) = call_typed c here rest operands (slice_get i.context.types type) (slice_get i.functions f)
 
-  abbrev pub call_indirect : Config → Seq → (type : ℕ) → List Value → Step
-  call_indirect c rest type [] = Stuck
-  call_indirect c rest type (x ∷ below) = call_row c rest type below (slice_get i.table x.number)
+  abbrev pub call_indirect : Config → Place → Seq → (type : ℕ) → List Value → Step
+  call_indirect c here rest type [] = Stuck
+  call_indirect c here rest type (x ∷ below) = call_row c here rest type below (slice_get i.table x.number)
 
   abbrev pub simple : Config → Plain → Seq → Step
-  simple c Unreachable rest = Trapped c.store trap.Unreachable
+  simple c Unreachable rest = Trapped c.store trap.Unreachable (place_of c.frame (Simple Unreachable rest))
   simple c (Br l) rest = branch c c.frame.operands l c.frame.labels
   simple c (BrIf l) rest = branch_if c l rest c.frame.operands
   simple c (BrTable ls l) rest = branch_table c ls l c.frame.operands
   simple c Return rest = returns c c.frame.operands
   simple c (Call f) rest = call c rest c.frame.operands (slice_get i.functions f)
-  simple c (CallIndirect type table) rest = call_indirect c rest type c.frame.operands
-  simple c p rest = applied c rest (effect c.store c.frame.locals i.cap p c.frame.operands)
+  simple c (CallIndirect type table) rest = call_indirect c (place_of c.frame (Simple (CallIndirect type table) rest)) rest type c.frame.operands
+  simple c p rest = applied c (place_of c.frame (Simple p rest)) rest (effect c.store c.frame.locals i.cap p c.frame.operands)
 
   -- a rule for each instruction, and for the end of a sequence
   abbrev pub reduce : Config → Seq → Step
@@ -176,12 +182,13 @@ module _ (i : Instance) where
   reduce c (Simple p rest) = simple c p rest
   reduce c (Block type body rest) =
       let s = shape i.context type in
-      within c c.frame.operands s (length s.results) rest body rest
+      within c c.frame.operands s (length s.results) rest body 1 rest
   reduce c (Loop type body rest) =
       let s = shape i.context type in
-      within c c.frame.operands s (length s.params) (Loop type body rest) body rest
-  reduce c (If type body rest) = choose c (shape i.context type) body Nothing rest c.frame.operands
-  reduce c (IfElse type body other rest) = choose c (shape i.context type) body other rest c.frame.operands
+      within c c.frame.operands s (length s.params) (Loop type body rest) body 1 rest
+  reduce c (If type body rest) = choose c (shape i.context type) body 1 Nothing rest c.frame.operands
+  -- `else`, the second branch, and `end`
+  reduce c (IfElse type body other rest) = choose c (shape i.context type) body (2 + tokens_in other) other rest c.frame.operands
 
   -- ---- one weight
 
@@ -198,7 +205,7 @@ module _ (i : Instance) where
   abbrev pub on : Step → (State → Step) → Step
   on (To s) go = go s
   on (Returned store values) go = Returned store values
-  on (Trapped store kind) go = Trapped store kind
+  on (Trapped store kind place) go = Trapped store kind place
   on (Stopped store) go = Stopped store
   on (Waiting store) go = Waiting store
   on Stuck go = Stuck

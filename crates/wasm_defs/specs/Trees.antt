@@ -1,5 +1,5 @@
 -- Structured instructions, and the tokens that spell them (Core 2.4 and 5.4).
-use Rattle.std.specs.Prelude.{◌≡◌, List, [], ◌∷◌}
+use Rattle.std.specs.Prelude.{◌≡◌, ℕ, List, [], ◌∷◌, length}
 use Rattle.wasm_defs.specs.declared.token.BlockType.{BlockType}
 use Rattle.wasm_defs.specs.declared.token.Plain.{Plain}
 use Rattle.wasm_defs.specs.declared.token.Token.{Token}
@@ -23,6 +23,10 @@ spelled (Loop type body rest) after = token.Loop type ∷ spelled body (token.En
 spelled (If type body rest) after = token.If type ∷ spelled body (token.End ∷ spelled rest after)
 spelled (IfElse type body other rest) after =
     token.If type ∷ spelled body (token.Else ∷ spelled other (token.End ∷ spelled rest after))
+
+-- how many these are
+abbrev pub tokens_in : Seq → ℕ
+tokens_in tree = length (spelled tree [])
 
 -- the tokens of a whole body: a sequence and its `end`
 abbrev pub Tree : List Token → Seq → Type 0

@@ -10,6 +10,7 @@ mod laws;
 mod limits;
 mod lists;
 mod operation;
+mod place;
 mod text;
 mod token;
 mod types;
@@ -28,6 +29,7 @@ pub use lists::{Bytes, Indices, Labels, Name, Sequence, ValTypes};
 pub use operation::{
     Access, BinaryOp, CompareOp, ConvertOp, ExtendOp, LoadOp, Operation, StoreOp, UnaryOp,
 };
+pub use place::Place;
 pub use text::Inside;
 pub use token::{BlockType, MemArg, Plain, Token};
 pub use types::{FuncType, ValType};
