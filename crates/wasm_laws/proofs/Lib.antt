@@ -57,3 +57,4 @@ pub mod PartOrder
 pub mod Held
 pub mod Starts
 pub mod ImportTypes
+pub mod ShortOffsets

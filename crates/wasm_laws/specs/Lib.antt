@@ -10,3 +10,4 @@ pub mod Immediates
 pub mod Kept
 pub mod Completing
 pub mod Held
+pub mod Short

@@ -26,6 +26,7 @@ ghost use Rattle.wasm_laws.specs.Sections.{AreBytes};
 ghost use Rattle.wasm_laws.specs.Steadiness.{Steady, SteadyEnd, SteadyRow, Takes, token};
 ghost use Rattle.wasm_laws.specs.Immediates.{TreeIsInRange};
 ghost use Rattle.wasm_laws.specs.Typed.{AreTyped};
+ghost use Rattle.wasm_laws.specs.Short.{AreShortBodies, AreShortImports};
 
 /// The fields outside bodies are steady (Core 5.5): the preamble, the header of each section, what each section holds, and
 /// its end. A header takes a byte at least.
@@ -166,4 +167,9 @@ pub fn start_functions_take_nothing()
 /// The type of each import of a module has one result at most.
 pub fn imports_return_one()
     ensures { (bytes : List ℕ) (m : Module) → IsModule bytes m → ImportsReturnOne (types_of m.items) m.items }
+{}
+
+/// What traps are told by stands at offsets of 32 bits: a module's imports, its bodies, and the tokens of these.
+pub fn offsets_are_short()
+    ensures { (bytes : List ℕ) (m : Module) → AreBytes bytes → IsModule bytes m → AreShortImports m.items × AreShortBodies m.bodies }
 {}
