@@ -101,6 +101,60 @@ impl Relocations {
     }
 }
 
+/// A trap of a code, and where in the module it comes from.
+#[derive(Clone, Copy, Debug, PartialEq, Eq)]
+pub struct TrapSite {
+    /// The place of the trap's ECALL among the words of its code.
+    pub place: usize,
+    /// The offset in the module of what traps: an instruction, or the body.
+    pub offset: u64,
+}
+
+/// A list of traps, which contracts see as that list.
+#[derive(Debug, Drop)]
+pub struct TrapSites {
+    sites: Vec<TrapSite>,
+}
+
+impl Model for TrapSites {
+    ghost use Rattle.std.specs.Prelude.{List};
+    ghost use Rattle.rv_isa.specs.declared.compiled.TrapSite.{TrapSite};
+
+    ghost Value = { List TrapSite };
+
+    ghost view = { λ t. t.sites.items };
+}
+
+impl TrapSites {
+    /// The traps of a `Vec`. It takes no memory.
+    pub fn from_vec(sites: Vec<TrapSite>) -> Self
+        ensures { result ≡ sites.items }
+    {
+        TrapSites { sites }
+    }
+
+    /// The traps as a `Vec`. It takes no memory.
+    pub fn into_vec(self) -> Vec<TrapSite>
+        ensures { result.items ≡ self }
+    {
+        self.sites
+    }
+
+    /// The traps.
+    pub fn as_slice(&self) -> &[TrapSite]
+        ensures { result.now ≡ self.now }
+    {
+        self.sites.as_slice()
+    }
+
+    /// Whether both are the same list.
+    fn is_same(&self, other: &TrapSites) -> bool
+        ensures { IsTrue result ↔ (self.now ≡ other.now) }
+    {
+        self.as_slice() == other.as_slice()
+    }
+}
+
 /// The code of a function.
 #[derive(Debug, Drop)]
 pub struct Code {
@@ -108,6 +162,8 @@ pub struct Code {
     pub words: Words,
     /// Its calls, in the order of their places.
     pub relocations: Relocations,
+    /// Its traps, in the order of their places.
+    pub traps: TrapSites,
     /// How many slots of the stack it needs, of eight bytes each.
     pub need: u32,
 }
@@ -119,6 +175,7 @@ impl Code {
     {
         self.words.is_same(&other.words)
             && self.relocations.is_same(&other.relocations)
+            && self.traps.is_same(&other.traps)
             && self.need == other.need
     }
 }

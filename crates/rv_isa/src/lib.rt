@@ -19,7 +19,7 @@ mod table;
 mod tests;
 
 pub use buffer::WordBuffer;
-pub use compiled::{Code, Relocation, Relocations, Words};
+pub use compiled::{Code, Relocation, Relocations, TrapSite, TrapSites, Words};
 pub use decoding::decode;
 pub use encoding::{
     encode, encode_branch, encode_ecall, encode_imm, encode_jalr, encode_load, encode_lui,

@@ -1,7 +1,8 @@
 //! Words of the GNU assembler and linker for RISC-V (binutils 2.40, `-march=rv64im`), and words that none of RV64IM has.
 use crate::{
     BranchOp, Code, Imm12, Imm20, ImmOp, LoadOp, Op, RegOp, RegOpW, Register, Relocation,
-    Relocations, Shamt5, Shamt6, ShiftOp, ShiftOpW, StoreOp, WordBuffer, decode, encode,
+    Relocations, Shamt5, Shamt6, ShiftOp, ShiftOpW, StoreOp, TrapSite, TrapSites, WordBuffer,
+    decode, encode,
 };
 use std::process::Abort;
 use std::test::Fail;
@@ -371,14 +372,22 @@ fn buffers(rt: HostRuntime) -> Result<(), Fail> {
         place: 1,
         function: 4,
     })?;
+    let mut traps = Vec::new(rt.alloc());
+    traps.push(TrapSite {
+        place: 2,
+        offset: 31,
+    })?;
     let code = Code {
         words: buffer.finish(),
         relocations: Relocations::from_vec(calls),
+        traps: TrapSites::from_vec(traps),
         need: 2,
     };
     assert!(rt; code.is_same(&code));
     assert_eq!(rt; code.relocations.as_slice().len(), 1);
     assert_eq!(rt; code.words.into_vec().as_slice(), [7, 5, 9].as_slice());
     assert_eq!(rt; code.relocations.into_vec().len(), 1);
+    assert_eq!(rt; code.traps.as_slice().len(), 1);
+    assert_eq!(rt; code.traps.into_vec().len(), 1);
     Ok(())
 }
