@@ -8,3 +8,5 @@ pub mod Endings
 pub mod Zeroing
 pub mod Beginnings
 pub mod Imports
+pub mod TrapWords
+pub mod Spaced

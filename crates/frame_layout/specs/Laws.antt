@@ -1,6 +1,7 @@
 -- What the machine does where the words of a template stand: how many steps it makes, and which slots and registers change.
-use Rattle.std.specs.Prelude.{◌≡◌, ℕ, zero, suc, ◌+◌, ◌-◌, ◌*◌, ◌^◌, ◌<◌, ◌≤◌, ◌==◌, ◌||◌, ◌%◌, Bool, false, List, length, Option}
+use Rattle.std.specs.Prelude.{◌≡◌, ℕ, zero, suc, ◌+◌, ◌-◌, ◌*◌, ◌^◌, ◌<◌, ◌≤◌, ◌==◌, ◌||◌, ◌%◌, Bool, false, List, map, length, Option}
 use Rattle.rv_isa.specs.declared.operations.Op.{Op}
+use Rattle.rv_isa.specs.declared.compiled.TrapSite.{TrapSite}
 use Rattle.rv_isa.specs.declared.stepping.Region.TheVariants.{Stack}
 use Rattle.rv_isa.specs.Steps.{reg, Bytes, State, le_bytes, value_at, put, region_base, exec, Called}
 use Rattle.rv_isa.specs.Runs.{place, HasAt, Reaches, FitWindows}
@@ -8,13 +9,18 @@ use Rattle.wasm_defs.specs.declared.types.ValType.{ValType}
 use Rattle.wasm_defs.specs.declared.types.ValType.TheVariants.{I32}
 use Rattle.wasm_defs.specs.declared.operation.Operation.TheVariants.{Binary}
 use Rattle.wasm_defs.specs.declared.operation.BinaryOp.TheVariants.{Add}
+use Rattle.wasm_defs.specs.declared.token.Plain.{Plain}
+use Rattle.wasm_defs.specs.Trees.{Seq}
+use Rattle.wasm_defs.specs.Typing.{Context}
 use Rattle.wasm_defs.specs.Values.{modulus, word}
 use Rattle.wasm_defs.specs.Integers.{iadd}
-use Rattle.wasm_defs.specs.Configurations.{max_slots}
+use Rattle.wasm_defs.specs.Configurations.{Origin, max_slots}
 use Rattle.frame_layout.specs.declared.layout.Layout.{Layout}
 use Rattle.frame_layout.specs.Slots.{link, operand, need}
 use Rattle.frame_layout.specs.Macros.{ra, t0, t1, t2, t3, s0, s5, a0, a7}
-use Rattle.frame_layout.specs.Templates.{Around, const_words, local_get_words, operate_words, prologue, epilogue, import_stub, exit_stub}
+use Rattle.frame_layout.specs.Templates.{Label, Around, const_words, local_get_words, operate_words, words, prologue, epilogue, import_stub, exit_stub}
+use Rattle.frame_layout.specs.Traps.{traps_in, trap_places, AreSpaced}
+use Rattle.frame_layout.specs.Functions.{sites_of, function_size}
 
 -- ---- slots of the stack, counted from its beginning
 
@@ -63,6 +69,16 @@ pub record Asks (code : List (Option Op)) (steps words number : ℕ) (s : State)
 pub record TrapsAt (code : List (Option Op)) (steps words kind : ℕ) (s : State) : Type 0 where
   pub asks : Asks code steps words 1 s
   pub kind_is : reg asks.end.registers a0 ≡ kind
+
+-- ---- traps
+
+-- the traps of an instruction stand where the table says, wherever its words do, and no others do
+abbrev pub TrapsLaw : Type 0
+TrapsLaw = (w : Around) (c : Context) (labels : List Label) (h here : ℕ) (p : Plain) → traps_in (words w c labels h here p) ≡ trap_places p
+
+-- the traps of a function stand apart, inside it
+abbrev pub SpacedLaw : Type 0
+SpacedLaw = (w : Around) (o : Origin) (c : Context) (tree : Seq) → AreSpaced 0 (map (λ (t : TrapSite). t.place) (sites_of w o c tree)) (function_size w c tree)
 
 -- ---- instructions
 

@@ -1,6 +1,6 @@
 //! Laws of the templates, for the proofs of other crates. Each function does nothing: its contract is the law, which
 //! `specs/Laws.antt` states.
-ghost use Rattle.frame_layout.specs.Laws.{ConstLaw, LocalGetLaw, AddLaw, PrologueLaw, ExhaustionLaw, EpilogueLaw, ExitLaw, ImportLaw, ImportExhaustionLaw, ImportReturnLaw};
+ghost use Rattle.frame_layout.specs.Laws.{ConstLaw, LocalGetLaw, AddLaw, PrologueLaw, ExhaustionLaw, EpilogueLaw, ExitLaw, ImportLaw, ImportExhaustionLaw, ImportReturnLaw, TrapsLaw, SpacedLaw};
 
 /// A constant's words put it into the operand above those on the stack.
 pub fn const_law()
@@ -50,4 +50,14 @@ pub fn import_exhaustion_law()
 /// Behind the call it leads to the place to return to.
 pub fn import_return_law()
     ensures { ImportReturnLaw }
+{}
+
+/// The traps of an instruction stand where its table says, wherever its words do.
+pub fn traps_law()
+    ensures { TrapsLaw }
+{}
+
+/// The traps of a function stand apart, inside it.
+pub fn spaced_law()
+    ensures { SpacedLaw }
 {}

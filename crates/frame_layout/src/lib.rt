@@ -11,11 +11,13 @@ pub mod macros;
 mod slots;
 #[cfg(test)]
 mod tests;
+mod traps;
 pub mod words;
 
 pub use laws::{
     add_law, const_law, epilogue_law, exhaustion_law, exit_law, import_exhaustion_law, import_law,
-    import_return_law, local_get_law, prologue_law,
+    import_return_law, local_get_law, prologue_law, spaced_law, traps_law,
 };
 pub use layout::Layout;
 pub use slots::{load_slot, store_slot};
+pub use traps::note_traps;

@@ -1,0 +1,183 @@
+-- The traps among the words of each instruction are those of the table.
+use Rattle.std.proofs.Common.{◌≡◌, ℕ, zero, suc, ◌+◌, ◌-◌, Bool, true, false, List, [], ◌∷◌, ◌++◌, map, length, refl, sym, ap, ◌∙◌}
+use Rattle.std.specs.Prelude.{◌&&◌, not, nat_le, if◌then◌else◌}
+use Rattle.rv_isa.specs.declared.operations.Op.{Op}
+use Rattle.rv_isa.specs.declared.operations.Op.TheVariants.{Ecall}
+use Rattle.wasm_defs.specs.declared.types.ValType.{ValType}
+use Rattle.wasm_defs.specs.declared.types.ValType.TheVariants.{I32, I64}
+use Rattle.wasm_defs.specs.declared.operation.Operation.{Operation}
+use Rattle.wasm_defs.specs.declared.operation.Operation.TheVariants.{Unary, Test, Binary, Compare, Convert, Extend}
+use Rattle.wasm_defs.specs.declared.operation.UnaryOp.{UnaryOp}
+use Rattle.wasm_defs.specs.declared.operation.UnaryOp.TheVariants.{Clz, Ctz, Popcnt}
+use Rattle.wasm_defs.specs.declared.operation.BinaryOp.{BinaryOp}
+use Rattle.wasm_defs.specs.declared.operation.BinaryOp.TheVariants as binary
+use Rattle.wasm_defs.specs.declared.operation.CompareOp.{CompareOp}
+use Rattle.wasm_defs.specs.declared.operation.CompareOp.TheVariants as compare
+use Rattle.wasm_defs.specs.declared.operation.ConvertOp.TheVariants.{Wrap, ExtendS, ExtendU}
+use Rattle.wasm_defs.specs.declared.operation.ExtendOp.TheVariants.{I32Extend8S, I32Extend16S, I64Extend8S, I64Extend16S, I64Extend32S}
+use Rattle.wasm_defs.specs.declared.token.Plain.{Plain}
+use Rattle.wasm_defs.specs.declared.token.Plain.TheVariants.{Unreachable, Nop, Br, BrIf, BrTable, Return, Call, CallIndirect, Discard, Select, LocalGet, LocalSet, LocalTee, GlobalGet, GlobalSet, Load, Store, MemorySize, MemoryGrow, Const, Operate}
+use Rattle.wasm_defs.specs.Typing.{Context}
+use Rattle.wasm_defs.specs.Values.{unsigned}
+use Rattle.frame_layout.specs.Macros.{x0, t0, t1, distance, far}
+use Rattle.frame_layout.specs.Templates.{Label, Around, load_operand, move_words, jump_words, unless_words, jump_if_words, jumps, scale_words, table_front, jump_table_words, label_at, last_label, operate_words, const_words, words}
+use Rattle.frame_layout.specs.Traps.{is_number, is_call, found, traps_in, trap_places, operation_places}
+use Rattle.frame_layout.specs.Laws.{TrapsLaw}
+
+-- ---- where no environment is called, nothing traps
+
+abbrev calls_none : List Op → Bool
+calls_none [] = true
+calls_none (op ∷ ops) = not (is_call op) && calls_none ops
+
+none_more : (c : Bool) (a b : List Op) → (calls_none a ≡ true → calls_none (a ++ b) ≡ true) → (not c && calls_none a) ≡ true → (not c && calls_none (a ++ b)) ≡ true
+none_more true a b more h = absurd cc
+none_more false a b more h = more h
+
+calls_none-both : (a b : List Op) → calls_none a ≡ true → calls_none b ≡ true → calls_none (a ++ b) ≡ true
+calls_none-both [] b h k = k
+calls_none-both (op ∷ a) b h k = none_more (is_call op) a b (λ rest. calls_none-both a b rest k) h
+
+first_none : (asks c : Bool) (here : ℕ) (more : List ℕ) (ops : List Op) → (calls_none ops ≡ true → more ≡ []) → (not c && calls_none ops) ≡ true → (if asks && c then here ∷ more else more) ≡ []
+first_none asks true here more ops rest h = absurd cc
+first_none true false here more ops rest h = rest h
+first_none false false here more ops rest h = rest h
+
+found-none : (asks : Bool) (here : ℕ) (ops : List Op) → calls_none ops ≡ true → found asks here ops ≡ []
+found-none asks here [] h = refl
+found-none asks here (op ∷ ops) h = first_none asks (is_call op) here (found (is_number op) (here + 1) ops) ops (λ none. found-none (is_number op) (here + 1) ops none) h
+
+module _ (w : Around) where
+  moves_none : (takes j base : ℕ) → calls_none (move_words w takes j base) ≡ true
+  moves_none zero j base = refl
+  moves_none (suc n) j base = moves_none n (j + 1) (base + 1)
+
+  jump_none : (height here : ℕ) (l : Label) → calls_none (jump_words w height here l) ≡ true
+  jump_none height here l =
+      let moves = move_words w l.takes (height - l.takes) l.base in
+      calls_none-both moves (far (distance (here + length moves) l.place)) (moves_none l.takes (height - l.takes) l.base) refl
+
+  jumps_none : (height here : ℕ) (ls : List Label) → calls_none (jumps w height here ls) ≡ true
+  jumps_none height here [] = refl
+  jumps_none height here (l ∷ ls) =
+      let first = jump_words w height here l in
+      calls_none-both first (jumps w height (here + length first) ls) (jump_none height here l) (jumps_none height (here + length first) ls)
+
+  unless_none : (here takes : ℕ) → calls_none (unless_words w here takes) ≡ true
+  unless_none here takes = by (nat_le takes 170) refl
+    where
+      by : (b : Bool) → nat_le takes 170 ≡ b → calls_none (unless_words w here takes) ≡ true
+      by true e = rw e refl
+      by false e = rw e refl
+
+  jump_if_none : (h here : ℕ) (l : Label) → calls_none (jump_if_words w h here l) ≡ true
+  jump_if_none h here l =
+      let skip = unless_words w (here + 3) l.takes in
+      let jump = jump_words w (h - 1) (here + 3 + length skip) l in
+      calls_none-both (load_operand w t0 (h - 1)) (skip ++ jump) refl (calls_none-both skip jump (unless_none (here + 3) l.takes) (jump_none (h - 1) (here + 3 + length skip) l))
+
+  front_none : (h count takes : ℕ) → calls_none (table_front w h count takes) ≡ true
+  front_none h count zero = refl
+  front_none h count (suc zero) = refl
+  front_none h count (suc (suc n)) = refl
+
+  jump_table_none : (h here : ℕ) (ls : List Label) (last : Label) → calls_none (jump_table_words w h here ls last) ≡ true
+  jump_table_none h here ls last =
+      let front = table_front w h (length ls) last.takes in
+      let more = jumps w (h - 1) (here + length front) (ls ++ last ∷ []) in
+      calls_none-both front more (front_none h (length ls) last.takes) (jumps_none (h - 1) (here + length front) (ls ++ last ∷ []))
+
+  const_none : (h : ℕ) (t : ValType) (n : ℕ) → calls_none (const_words w h t n) ≡ true
+  const_none h I32 n = refl
+  const_none h I64 n = refl
+
+  unary_none : (h : ℕ) (t : ValType) (op : UnaryOp) → calls_none (operate_words w h (Unary t op)) ≡ true
+  unary_none h I32 Clz = refl
+  unary_none h I64 Clz = refl
+  unary_none h I32 Ctz = refl
+  unary_none h I64 Ctz = refl
+  unary_none h I32 Popcnt = refl
+  unary_none h I64 Popcnt = refl
+
+  compare_none : (h : ℕ) (t : ValType) (op : CompareOp) → calls_none (operate_words w h (Compare t op)) ≡ true
+  compare_none h t compare.Eq = refl
+  compare_none h t compare.Ne = refl
+  compare_none h t compare.LtS = refl
+  compare_none h t compare.LtU = refl
+  compare_none h t compare.GtS = refl
+  compare_none h t compare.GtU = refl
+  compare_none h t compare.LeS = refl
+  compare_none h t compare.LeU = refl
+  compare_none h t compare.GeS = refl
+  compare_none h t compare.GeU = refl
+
+  -- ---- divisions trap, and nothing else that computes
+
+  binary_found : (h : ℕ) (t : ValType) (op : BinaryOp) → traps_in (operate_words w h (Binary t op)) ≡ operation_places (Binary t op)
+  binary_found h I32 binary.Add = refl
+  binary_found h I64 binary.Add = refl
+  binary_found h I32 binary.Sub = refl
+  binary_found h I64 binary.Sub = refl
+  binary_found h I32 binary.Mul = refl
+  binary_found h I64 binary.Mul = refl
+  binary_found h I32 binary.DivS = refl
+  binary_found h I64 binary.DivS = refl
+  binary_found h I32 binary.DivU = refl
+  binary_found h I64 binary.DivU = refl
+  binary_found h I32 binary.RemS = refl
+  binary_found h I64 binary.RemS = refl
+  binary_found h I32 binary.RemU = refl
+  binary_found h I64 binary.RemU = refl
+  binary_found h t binary.And = refl
+  binary_found h t binary.Or = refl
+  binary_found h t binary.Xor = refl
+  binary_found h I32 binary.Shl = refl
+  binary_found h I64 binary.Shl = refl
+  binary_found h I32 binary.ShrS = refl
+  binary_found h I64 binary.ShrS = refl
+  binary_found h I32 binary.ShrU = refl
+  binary_found h I64 binary.ShrU = refl
+  binary_found h I32 binary.Rotl = refl
+  binary_found h I64 binary.Rotl = refl
+  binary_found h I32 binary.Rotr = refl
+  binary_found h I64 binary.Rotr = refl
+
+  operation_found : (h : ℕ) (op : Operation) → traps_in (operate_words w h op) ≡ operation_places op
+  operation_found h (Unary t op) = found-none false 0 (operate_words w h (Unary t op)) (unary_none h t op)
+  operation_found h (Test t) = refl
+  operation_found h (Binary t op) = binary_found h t op
+  operation_found h (Compare t op) = found-none false 0 (operate_words w h (Compare t op)) (compare_none h t op)
+  operation_found h (Convert Wrap) = refl
+  operation_found h (Convert ExtendS) = refl
+  operation_found h (Convert ExtendU) = refl
+  operation_found h (Extend I32Extend8S) = refl
+  operation_found h (Extend I32Extend16S) = refl
+  operation_found h (Extend I64Extend8S) = refl
+  operation_found h (Extend I64Extend16S) = refl
+  operation_found h (Extend I64Extend32S) = refl
+
+  plain_found : (c : Context) (labels : List Label) (h here : ℕ) (p : Plain) → traps_in (words w c labels h here p) ≡ trap_places p
+  plain_found c labels h here Unreachable = refl
+  plain_found c labels h here Nop = refl
+  plain_found c labels h here (Br l) = found-none false 0 (words w c labels h here (Br l)) (jump_none h here (label_at w labels l))
+  plain_found c labels h here (BrIf l) = found-none false 0 (words w c labels h here (BrIf l)) (jump_if_none h here (label_at w labels l))
+  plain_found c labels h here (BrTable ls l) = found-none false 0 (words w c labels h here (BrTable ls l)) (jump_table_none h here (map (label_at w labels) ls) (label_at w labels l))
+  plain_found c labels h here Return = found-none false 0 (words w c labels h here Return) (jump_none h here (last_label w labels))
+  plain_found c labels h here (Call f) = refl
+  plain_found c labels h here (CallIndirect i table) = refl
+  plain_found c labels h here Discard = refl
+  plain_found c labels h here Select = refl
+  plain_found c labels h here (LocalGet x) = refl
+  plain_found c labels h here (LocalSet x) = refl
+  plain_found c labels h here (LocalTee x) = refl
+  plain_found c labels h here (GlobalGet x) = refl
+  plain_found c labels h here (GlobalSet x) = refl
+  plain_found c labels h here (Load o m) = refl
+  plain_found c labels h here (Store o m) = refl
+  plain_found c labels h here MemorySize = refl
+  plain_found c labels h here MemoryGrow = refl
+  plain_found c labels h here (Const t n) = found-none false 0 (words w c labels h here (Const t n)) (const_none h t (unsigned t n))
+  plain_found c labels h here (Operate op) = operation_found h op
+
+pub traps_are_found : TrapsLaw
+traps_are_found w c labels h here p = plain_found w c labels h here p

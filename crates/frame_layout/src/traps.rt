@@ -1,0 +1,65 @@
+//! Where the traps of an instruction stand among its words.
+
+ghost use Rattle.std.specs.Prelude.{◌≡◌, ◌+◌, [], ◌∷◌, ◌++◌, map, length, OnOk};
+ghost use Rattle.frame_layout.specs.Traps.{division_places, trap_places, site_at};
+
+use rv_isa::TrapSite;
+use std::alloc::AllocError;
+use wasm_defs::{BinaryOp, Operation, Plain, ValType};
+
+/// Notes a trap.
+fn note(sites: &mut Vec<TrapSite>, place: usize, offset: u64) -> Result<(), AllocError>
+    ensures { OnOk result (sites.new.items ≡ sites.old.items ++ record { place = place; offset = offset } ∷ []) }
+{
+    sites.push(TrapSite { place, offset })?;
+    Ok(())
+}
+
+/// Notes the traps of a division, or that other operations have none.
+fn note_division(
+    sites: &mut Vec<TrapSite>,
+    words: &[u32],
+    offset: u64,
+    ty: ValType,
+    op: BinaryOp,
+) -> Result<(), AllocError>
+    ensures { OnOk result (sites.new.items ≡ sites.old.items ++ map (site_at (length words.now) offset) (division_places ty op)) }
+{
+    let here = words.len();
+    match op {
+        BinaryOp::DivS => {
+            let overflow = match ty {
+                ValType::I32 => 16,
+                ValType::I64 => 17,
+            };
+            note(sites, here + 9, offset)?;
+            note(sites, here + overflow, offset)
+        }
+        BinaryOp::DivU | BinaryOp::RemS | BinaryOp::RemU => note(sites, here + 9, offset),
+        _ => Ok(()),
+    }
+}
+
+/// Notes the traps of an instruction at a live place, whose words stand behind these: where each one's ECALL stands, and the offset of
+/// the instruction in the module.
+pub fn note_traps(
+    sites: &mut Vec<TrapSite>,
+    words: &[u32],
+    offset: u64,
+    plain: &Plain,
+) -> Result<(), AllocError>
+    ensures { OnOk result (sites.new.items ≡ sites.old.items ++ map (site_at (length words.now) offset) (trap_places plain.now)) }
+{
+    let here = words.len();
+    match plain {
+        Plain::Unreachable => note(sites, here + 2, offset),
+        Plain::Load(_, _) | Plain::Store(_, _) => note(sites, here + 15, offset),
+        Plain::CallIndirect(_, _) => {
+            note(sites, here + 13, offset)?;
+            note(sites, here + 20, offset)?;
+            note(sites, here + 30, offset)
+        }
+        Plain::Operate(Operation::Binary(ty, op)) => note_division(sites, words, offset, *ty, *op),
+        _ => Ok(()),
+    }
+}
