@@ -11,10 +11,13 @@ use Rattle.image_format.specs.declared.image.Row.{Row}
 use Rattle.image_format.specs.declared.image.Segment.{Segment}
 use Rattle.image_format.specs.declared.image.Import.{Import}
 use Rattle.image_format.specs.declared.image.Export.{Export}
+use Rattle.image_format.specs.declared.image.TrapPlace.{TrapPlace}
+use Rattle.image_format.specs.declared.version.Version.{Version}
+use Rattle.image_format.specs.declared.version.Version.TheVariants.{One, Two}
 use Rattle.image_format.specs.Versions.{number_of}
 use Rattle.image_format.specs.Contents.{Image}
-use Rattle.image_format.specs.ImageBytes.{◌·◌, u32, u64, listed, text, value_type, results, signature, row, segment, import, export, flag, version, spelling}
-use Rattle.image_format.specs.Sizes.{results_size, signature_size, segment_size, import_size, export_size, size_of}
+use Rattle.image_format.specs.ImageBytes.{◌·◌, u32, u64, listed, text, value_type, results, signature, row, segment, import, export, flag, version, place, places, spelling}
+use Rattle.image_format.specs.Sizes.{results_size, signature_size, segment_size, import_size, export_size, places_size, size_of}
 
 u32_size : (n : ℕ) → length (u32 n) ≡ 4
 unfolding u32
@@ -87,19 +90,31 @@ globals_size xs = listed_size u64 (λ n. 8) u64_size xs ∙ ap (λ n. 4 + n) (li
 rows_size : (xs : List Row) → length (listed row xs) ≡ 4 + 16 * length xs
 rows_size xs = listed_size row (λ r. 16) row_is xs ∙ ap (λ n. 4 + n) (listed_same row (λ r. 16) row_is 16 (λ k. 16 * k) refl (λ k. omega arith) (λ r. refl) xs)
 
-module _ (i : Image) where
-  ends : length (u32 i.start · u32 (flag i.unlinkable)) ≡ 8
-  ends = joined (u32 i.start) (u32 (flag i.unlinkable)) 4 4 (u32_size i.start) (u32_size (flag i.unlinkable))
+place_is : (p : TrapPlace) → length (place p) ≡ 12
+place_is p =
+    joined (u32 p.offset) (u32 p.function · u32 p.module_offset) 4 8 (u32_size p.offset)
+    (joined (u32 p.function) (u32 p.module_offset) 4 4 (u32_size p.function) (u32_size p.module_offset))
 
-  lists : length (listed segment i.segments · listed import i.imports · listed export i.exports · u32 i.start · u32 (flag i.unlinkable))
-      ≡ (4 + sum_by segment_size i.segments) + ((4 + sum_by import_size i.imports) + ((4 + sum_by export_size i.exports) + 8))
+places_are : (v : Version) (xs : List TrapPlace) → length (places v xs) ≡ places_size v xs
+places_are One xs = refl
+places_are Two xs = listed_size place (λ p. 12) place_is xs ∙ ap (λ n. 4 + n) (listed_same place (λ p. 12) place_is 12 (λ k. 12 * k) refl (λ k. omega arith) (λ p. refl) xs)
+
+module _ (i : Image) where
+  ends : length (u32 i.start · u32 (flag i.unlinkable) · places i.version i.places) ≡ 8 + places_size i.version i.places
+  ends =
+      let all = joined (u32 i.start) (u32 (flag i.unlinkable) · places i.version i.places) 4 (4 + places_size i.version i.places) (u32_size i.start)
+      (joined (u32 (flag i.unlinkable)) (places i.version i.places) 4 (places_size i.version i.places) (u32_size (flag i.unlinkable)) (places_are i.version i.places)) in
+      omega (arith, all)
+
+  lists : length (listed segment i.segments · listed import i.imports · listed export i.exports · u32 i.start · u32 (flag i.unlinkable) · places i.version i.places)
+      ≡ (4 + sum_by segment_size i.segments) + ((4 + sum_by import_size i.imports) + ((4 + sum_by export_size i.exports) + (8 + places_size i.version i.places)))
   lists =
       joined (listed segment i.segments) _ _ _ (listed_size segment segment_size segment_is i.segments)
       (joined (listed import i.imports) _ _ _ (listed_size import import_size import_is i.imports)
       (joined (listed export i.exports) _ _ _ (listed_size export export_size export_is i.exports) ends))
 
   front : length (spelling i) ≡ 4 + (4 + ((4 + 4 * length i.text) + ((4 + 8 * length i.globals) + ((4 + 16 * length i.table) + (4 + (4
-      + ((4 + sum_by segment_size i.segments) + ((4 + sum_by import_size i.imports) + ((4 + sum_by export_size i.exports) + 8)))))))))
+      + ((4 + sum_by segment_size i.segments) + ((4 + sum_by import_size i.imports) + ((4 + sum_by export_size i.exports) + (8 + places_size i.version i.places))))))))))
   unfolding spelling
   front =
       joined (u32 MAGIC) _ _ _ (u32_size MAGIC)

@@ -5,6 +5,9 @@ use Rattle.wasm_defs.specs.declared.types.FuncType.{FuncType}
 use Rattle.image_format.specs.declared.image.Segment.{Segment}
 use Rattle.image_format.specs.declared.image.Import.{Import}
 use Rattle.image_format.specs.declared.image.Export.{Export}
+use Rattle.image_format.specs.declared.image.TrapPlace.{TrapPlace}
+use Rattle.image_format.specs.declared.version.Version.{Version}
+use Rattle.image_format.specs.declared.version.Version.TheVariants.{One, Two}
 use Rattle.image_format.specs.Contents.{Image}
 
 abbrev pub results_size : List ValType → ℕ
@@ -24,6 +27,13 @@ import_size i = 8 + length i.module + length i.name + signature_size i.signature
 abbrev pub export_size : Export → ℕ
 export_size e = 8 + length e.name + signature_size e.signature
 
--- twelve numbers of four bytes, among them the lists' lengths; and the elements of each list
+-- those of the first version have no bytes
+abbrev pub places_size : Version → List TrapPlace → ℕ
+places_size One places = 0
+places_size Two places = 4 + 12 * length places
+
+-- twelve numbers of four bytes, among them the lists' lengths; the elements of each list; and the places of traps
 abbrev pub size_of : Image → ℕ
-size_of i = 48 + 4 * length i.text + 8 * length i.globals + 16 * length i.table + sum_by segment_size i.segments + sum_by import_size i.imports + sum_by export_size i.exports
+size_of i =
+    48 + 4 * length i.text + 8 * length i.globals + 16 * length i.table + sum_by segment_size i.segments + sum_by import_size i.imports + sum_by export_size i.exports
+    + places_size i.version i.places
