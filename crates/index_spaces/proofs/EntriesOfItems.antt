@@ -19,7 +19,7 @@ imports_are_counted (_ ∷ xs) = imports_are_counted xs
 pub imports_are_functions : (items : List Item) (c : Context) (number : ℕ) → imported_functions c number (imports_of items) ≡ imports_from c number items
 imports_are_functions [] c number = refl
 imports_are_functions (Imported from what kind type_index ∷ xs) c number =
-    ap (λ (l : List run.Function). run.Imported number (type_or_empty (slice_get c.types type_index.1)) ∷ l) (imports_are_functions xs c (suc number))
+    ap (λ (l : List run.Function). run.Imported number (type_or_empty (slice_get c.types type_index.1)) from.0 ∷ l) (imports_are_functions xs c (suc number))
 imports_are_functions (_ ∷ xs) c number = imports_are_functions xs c number
 
 pub exports_are_of_items : (items : List Item) → function_exports (all_exports_of items) ≡ exports_of items

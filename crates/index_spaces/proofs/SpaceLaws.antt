@@ -48,7 +48,7 @@ declared_count-append (_ ∷ xs) ys = declared_count-append xs ys
 
 imports_of-append : (xs ys : List Item) → imports_of (xs ++ ys) ≡ imports_of xs ++ imports_of ys
 imports_of-append [] ys = refl
-imports_of-append (Imported from what kind type_index ∷ xs) ys = ap (λ l. record { «module» = from.1; name = what.1; type_index = type_index.1 } ∷ l) (imports_of-append xs ys)
+imports_of-append (Imported from what kind type_index ∷ xs) ys = ap (λ l. record { offset = from.0; «module» = from.1; name = what.1; type_index = type_index.1 } ∷ l) (imports_of-append xs ys)
 imports_of-append (_ ∷ xs) ys = imports_of-append xs ys
 
 all_exports_of-append : (xs ys : List Item) → all_exports_of (xs ++ ys) ≡ all_exports_of xs ++ all_exports_of ys

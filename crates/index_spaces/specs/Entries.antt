@@ -18,7 +18,7 @@ use Rattle.index_spaces.specs.declared.entries.DataRow.{DataRow}
 
 abbrev pub imports_of : List Item → List Import
 imports_of [] = []
-imports_of (Imported from what kind type_index ∷ xs) = record { «module» = from.1; name = what.1; type_index = type_index.1 } ∷ imports_of xs
+imports_of (Imported from what kind type_index ∷ xs) = record { offset = from.0; «module» = from.1; name = what.1; type_index = type_index.1 } ∷ imports_of xs
 imports_of (_ ∷ xs) = imports_of xs
 
 -- the exports of every sort
@@ -49,7 +49,7 @@ initials_of (_ ∷ xs) = initials_of xs
 abbrev pub imported_functions : Context → ℕ → List Import → List run.Function
 imported_functions c number [] = []
 imported_functions c number (i ∷ imports) =
-    run.Imported number (type_or_empty (slice_get c.types i.type_index)) ∷ imported_functions c (suc number) imports
+    run.Imported number (type_or_empty (slice_get c.types i.type_index)) i.offset ∷ imported_functions c (suc number) imports
 
 abbrev pub is_function : Extern → Bool
 is_function extern.Function = true

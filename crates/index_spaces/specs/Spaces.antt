@@ -100,7 +100,7 @@ with_start s index = record s { start = option_or s.start (Some index) }
 -- one more item
 abbrev pub with_item : Spaces → Item → Spaces
 with_item s (Signature form params results ty) = with_type s ty
-with_item s (Imported from what kind type_index) = with_import s (record { «module» = from.1; name = what.1; type_index = type_index.1 })
+with_item s (Imported from what kind type_index) = with_import s (record { offset = from.0; «module» = from.1; name = what.1; type_index = type_index.1 })
 with_item s (Function type_index) = with_function s type_index.1
 with_item s (Table element limits) = with_table s limits
 with_item s (Memory limits) = with_memory s limits

@@ -41,15 +41,17 @@ pub fn copy_of_name(alloc: Global, name: &Name) -> Result<Name, AllocError>
 
 fn import_of(
     alloc: Global,
-    module: &Name,
+    module: &(u64, Name),
     name: &Name,
     type_index: u32,
 ) -> Result<Import, AllocError>
-    ensures { IfOk result (λ i. i ≡ record { «module» = «module».now; name = name.now; type_index = type_index }) }
+    ensures { IfOk result (λ i. i ≡ record { offset = «module».now.0; «module» = «module».now.1; name = name.now; type_index = type_index }) }
 {
-    let module = copy_of_name(alloc, module)?;
+    let offset = module.0;
+    let module = copy_of_name(alloc, &module.1)?;
     let name = copy_of_name(alloc, name)?;
     Ok(Import {
+        offset,
         module,
         name,
         type_index,
@@ -137,15 +139,16 @@ fn may_import(context: &Context, type_index: u32) -> bool
     }
 }
 
-/// Adds an import: the names of its module and of its own, and the offset of its type's index with the index.
+/// Adds an import: the name of its module, with the offset of its first byte, its own name, and the offset of its type's index with
+/// the index.
 fn add_import(
     context: &mut Context,
     alloc: Global,
-    module: &Name,
+    module: &(u64, Name),
     name: &Name,
     type_index: (u64, u32),
 ) -> Result<(), AddStop>
-    ensures ok { OnOk result (context.new ≡ with_import context.old (record { «module» = «module».now; name = name.now; type_index = type_index.1 })) }
+    ensures ok { OnOk result (context.new ≡ with_import context.old (record { offset = «module».now.0; «module» = «module».now.1; name = name.now; type_index = type_index.1 })) }
     ensures uses { OnOk result (may_import (context_in context.old) type_index.1 ≡ true) }
     ensures refused { (r : Refused) → result ≡ Err (AddStop.Refused r) → IsUseFault (context_in context.old) (Some (type_index.0, type_index.1, false)) r }
     ensures err { OnErr result (context.new ≡ context.old) }
@@ -209,7 +212,7 @@ impl ContextBuilder {
                 name,
                 type_index,
                 ..
-            } => return add_import(context, alloc, &module.1, &name.1, *type_index),
+            } => return add_import(context, alloc, module, &name.1, *type_index),
             Item::Function { type_index } => context.add_function(type_index.1),
             Item::Table { limits, .. } => context.add_table(*limits),
             Item::Memory { limits } => context.add_memory(*limits),

@@ -1,6 +1,6 @@
 //! The context of a module.
 
-ghost use Rattle.std.specs.Prelude.{◌≡◌, ◌^◌, ◌<◌, ◌↔◌, [], length, IsTrue, IsSome, is_some, Some, OnOk, OnErr, slice_get};
+ghost use Rattle.std.specs.Prelude.{◌≡◌, ◌^◌, ◌<◌, ◌↔◌, [], length, IsTrue, IsSome, IfSome, is_some, Some, OnOk, OnErr, slice_get};
 ghost use Rattle.wasm_defs.specs.Typing.{function_type};
 ghost use Rattle.wasm_defs.specs.Context.{like};
 ghost use Rattle.wasm_laws.specs.Kept.{TypeIsSmall, TypesAreSmall};
@@ -217,6 +217,14 @@ impl Context {
         ensures { result.now ≡ self.now.imports }
     {
         self.imports.as_slice()
+    }
+
+    /// The offset of an import's first byte in the module.
+    pub fn import_offset(&self, index: u32) -> u64
+        requires { index < length self.now.imports }
+        ensures { IfSome (slice_get self.now.imports index) (λ i. result ≡ i.offset) }
+    {
+        self.imports[index as usize].offset
     }
 
     /// The exports in order (Core 2.5.10), those of all sorts.

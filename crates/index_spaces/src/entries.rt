@@ -2,9 +2,11 @@
 
 use wasm_defs::{Bytes, Extern, Indices, Name};
 
-/// An imported function (Core 2.5.11): the two parts of its name, and the index of its type.
+/// An imported function (Core 2.5.11): the offset of its first byte in the module, the two parts of its name, and the index of its
+/// type.
 #[derive(Debug, Drop)]
 pub struct Import {
+    pub offset: u64,
     pub module: Name,
     pub name: Name,
     pub type_index: u32,

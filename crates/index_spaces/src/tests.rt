@@ -167,6 +167,7 @@ fn imports_and_exports_keep_their_order(rt: HostRuntime) -> Result<(), Fail> {
         return Err("one import".into());
     };
     assert_eq!(rt; import.module.as_slice(), b"env".as_slice());
+    assert_eq!(rt; (import.offset, context.import_offset(0)), (18, 18));
     assert_eq!(rt;
         (import.name.as_slice(), import.type_index),
         (b"log".as_slice(), 0)
