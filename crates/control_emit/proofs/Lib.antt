@@ -3,6 +3,7 @@ pub mod Moves
 pub mod Composing
 pub mod Sizes
 pub mod Trees
+pub mod Sites
 pub mod Bases
 pub mod Chains
 pub mod Views

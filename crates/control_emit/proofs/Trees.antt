@@ -11,13 +11,13 @@ use Rattle.wasm_defs.specs.declared.token.Token.TheVariants as token
 use Rattle.wasm_defs.specs.declared.token.BlockType.{BlockType}
 use Rattle.wasm_defs.specs.declared.token.BlockType.TheVariants.{Empty, Value, Index}
 use Rattle.wasm_defs.specs.Places.{Place, moved, shape, after_rule, after_block, after_if, end_of, places, places_of}
-use Rattle.wasm_defs.specs.Trees.{Seq, Nothing, Simple, Block, Loop, If, IfElse, spelled}
+use Rattle.wasm_defs.specs.Trees.{Seq, Nothing, Simple, Block, Loop, If, IfElse, Tree, spelled, tokens_in}
 use Rattle.wasm_defs.specs.Typing.{Types, Signature, Context, Rule, Untyped, Fixed, Stops, Discards, Selects, inside, rule_of}
 use Rattle.frame_layout.specs.Templates.{Label, Around, words}
-use Rattle.frame_layout.specs.Functions.{label, over, test_words, size, code, call_of, calls, body_place, body_size}
+use Rattle.frame_layout.specs.Functions.{label, over, test_words, size, code, call_of, calls, Trap, traps_of, traps, body_place, body_size, body_traps}
 use Rattle.control_emit.specs.Pending.{Pending, Shape, shape_of, shapes, Ends, named, meaning}
 use Rattle.control_emit.specs.Emits.{Draft, IsHeld, Emits, Opens, Turns, Closes}
-use Rattle.control_emit.specs.Walks.{end_shape, start_shape, OpensDead, Step, Walk, token_calls, walk_calls, Calling, begun, WordsLaw, CallsLaw}
+use Rattle.control_emit.specs.Walks.{end_shape, start_shape, OpensDead, Step, Walk, token_calls, walk_calls, Calling, token_traps, walk_traps, begun, WordsLaw, CallsLaw}
 use Rattle.control_emit.proofs.Composing.{longer, longer-opens, longer-turns, emits-nothing, emits-as, emits-both, ends_there, enclosed, enclosed-size, closed-shapes, both-enclosed, count-more, count-shapes}
 use Rattle.control_emit.proofs.Sizes.{AreAlike, alike-same, words_size, size_is, code_dead, over_size}
 
@@ -105,16 +105,51 @@ calls_at : (w : Around) (c : Context) (q : Place) (t : Seq) (ls ms : List Label)
 calls_at w c q t ls ms i j e f = ap (λ (l : List Label). calls w c l q i t) e ∙ ap (λ (n : ℕ). calls w c ms q n t) f
 
 -- one run behind the other, and what follows
-both_calls : (all first then_all second rest own next : List Relocation) → all ≡ first ++ then_all → first ≡ own → then_all ≡ second ++ rest → second ≡ next → all ≡ (own ++ next) ++ rest
-both_calls all first then_all second rest own next e f g h =
-    e ∙ ap (λ (l : List Relocation). l ++ then_all) f ∙ ap (λ (l : List Relocation). own ++ l) (g ∙ ap (λ (l : List Relocation). l ++ rest) h) ∙ sym (append_assoc own next rest)
+both_lists : {A : Type 0} (all first then_all second rest own next : List A) → all ≡ first ++ then_all → first ≡ own → then_all ≡ second ++ rest → second ≡ next → all ≡ (own ++ next) ++ rest
+both_lists {A} all first then_all second rest own next e f g h =
+    e ∙ ap (λ (l : List A). l ++ then_all) f ∙ ap (λ (l : List A). own ++ l) (g ∙ ap (λ (l : List A). l ++ rest) h) ∙ sym (append_assoc own next rest)
 
--- the tokens of a sequence, whose calls and all behind them are given, lead through a draft in the middle
-record Through (w : Around) (c : Context) (more : List Token) (after : List Place) (old new : Draft) (ops : List Ends → List Op) (all own : List Relocation) : Type 0 where
+-- ---- traps
+
+traps_dead : (w : Around) (c : Context) (ls : List Label) (here behind : ℕ) (t : Seq) → traps w c ls None here behind t ≡ []
+traps_dead w c ls here behind Nothing = refl
+traps_dead w c ls here behind (Simple p rest) = refl
+traps_dead w c ls here behind (Block type body rest) = refl
+traps_dead w c ls here behind (Loop type body rest) = refl
+traps_dead w c ls here behind (If type body rest) = refl
+traps_dead w c ls here behind (IfElse type body other rest) = refl
+
+traps_at : (w : Around) (c : Context) (q : Place) (t : Seq) (ls ms : List Label) (i j m n : ℕ) → ls ≡ ms → i ≡ j → m ≡ n → traps w c ls q i m t ≡ traps w c ms q j n t
+traps_at w c q t ls ms i j m n e f g = ap (λ (l : List Label). traps w c l q i m t) e ∙ ap (λ (k : ℕ). traps w c ms q k m t) f ∙ ap (λ (k : ℕ). traps w c ms q j k t) g
+
+-- how many tokens there are with others behind them
+pub spelled_length : (t : Seq) (more : List Token) → length (spelled t more) ≡ tokens_in t + length more
+spelled_length Nothing more = omega arith
+spelled_length (Simple p rest) more = omega (arith, spelled_length rest more)
+spelled_length (Block type body rest) more =
+    omega (arith, spelled_length body (token.End ∷ spelled rest more), spelled_length rest more, spelled_length body (token.End ∷ spelled rest []))
+spelled_length (Loop type body rest) more =
+    omega (arith, spelled_length body (token.End ∷ spelled rest more), spelled_length rest more, spelled_length body (token.End ∷ spelled rest []))
+spelled_length (If type body rest) more =
+    omega (arith, spelled_length body (token.End ∷ spelled rest more), spelled_length rest more, spelled_length body (token.End ∷ spelled rest []))
+spelled_length (IfElse type body other rest) more =
+    let behind = token.End ∷ spelled rest more in
+    let alone : List Token = token.End ∷ spelled rest [] in
+    omega (arith, spelled_length body (token.Else ∷ spelled other behind), spelled_length other behind, spelled_length rest more, spelled_length body (token.Else ∷ spelled other alone), spelled_length other alone)
+
+-- behind a block's body its `end`, and behind the first branch of an `if` also `else` and the second one
+behind_body : (rest : Seq) (more : List Token) → length (token.End ∷ spelled rest more) ≡ 1 + tokens_in rest + length more
+behind_body rest more = omega (arith, spelled_length rest more)
+
+behind_first : (other rest : Seq) (more : List Token) → length (token.Else ∷ spelled other (token.End ∷ spelled rest more)) ≡ 2 + tokens_in other + tokens_in rest + length more
+behind_first other rest more = omega (arith, spelled_length other (token.End ∷ spelled rest more), spelled_length rest more)
+
+-- the tokens of a sequence, whose calls and traps and all behind them are given, lead through a draft in the middle
+record Through (w : Around) (c : Context) (more : List Token) (after : List Place) (old new : Draft) (ops : List Ends → List Op) (all own : List Relocation) (all_traps own_traps : List Trap) : Type 0 where
   mid : Draft
   emits : Emits old mid ops
   walk : Walk w c more after mid new
-  called : all ≡ own ++ walk_calls w c more after mid new walk
+  noted : (all ≡ own ++ walk_calls w c more after mid new walk) × (all_traps ≡ own_traps ++ walk_traps w c more after mid new walk)
 
 none_both : (a b c : Draft) → Emits a b (λ es. []) → Emits b c (λ es. []) → Emits a c (λ es. [])
 none_both a b c x y = emits-both a b c (λ es. []) (λ es. []) x y
@@ -145,17 +180,21 @@ none_more a b c s x y =
     }
 
 dead : (w : Around) (c d : Context) (t : Seq) (q : Place) → q ≡ None → (more : List Token) (after : List Place) (old new : Draft) → IsHeld old → (x : Walk w c (spelled t more) (places d t q after) old new)
-    → Through w c more after old new (λ es. []) (walk_calls w c (spelled t more) (places d t q after) old new x) []
-dead w c d Nothing q none more after old new held x = record { mid = old; emits = emits-nothing old held; walk = x; called = refl }
+    → Through w c more after old new (λ es. []) (walk_calls w c (spelled t more) (places d t q after) old new x) [] (walk_traps w c (spelled t more) (places d t q after) old new x) []
+dead w c d Nothing q none more after old new held x = record { mid = old; emits = emits-nothing old held; walk = x; noted = (refl, refl) }
 dead w c d (Simple p rest) q none more after old new held x =
     let same : x.0 ≡ old = subst (λ (r : Place). Step w c (token.Plain p) r old x.0) none x.1 in
     let r = dead w c d rest (after_rule (rule_of d p) q) (ap (after_rule (rule_of d p)) none ∙ after_dead (rule_of d p)) more after x.0 new (subst IsHeld (sym same) held) x.2 in
     let behind = walk_calls w c (spelled rest more) (places d rest (after_rule (rule_of d p) q) after) x.0 new x.2 in
+    let traps_behind = walk_traps w c (spelled rest more) (places d rest (after_rule (rule_of d p) q) after) x.0 new x.2 in
     record {
       mid = r.mid;
       emits = subst (λ (y : Draft). Emits y r.mid (λ es. [])) same r.emits;
       walk = r.walk;
-      called = ap (λ (r : Place). token_calls w (token.Plain p) r (length old.words) ++ behind) none ∙ r.called;
+      noted = (
+        ap (λ (r : Place). token_calls w (token.Plain p) r (length old.words) ++ behind) none ∙ r.noted.0,
+        ap (λ (r : Place). token_traps (length (token.Plain p ∷ spelled rest more)) (token.Plain p) r (length old.words) ++ traps_behind) none ∙ r.noted.1,
+      );
     }
 dead w c d (Block type body rest) q none more after old new held x =
     let s = shape d type in
@@ -163,21 +202,21 @@ dead w c d (Block type body rest) q none more after old new held x =
     let opens : OpensDead old x.0 = subst (λ (r : Place). Step w c (token.Block type) r old x.0) none x.1 in
     let i = dead w c within body q none (token.End ∷ spelled rest more) (end_of within body q ∷ places d rest (after_block s q) after) x.0 new opens.opens.held x.2 in
     let r = dead w c d rest (after_block s q) (ap (after_block s) none) more after i.walk.0 new i.walk.1.held i.walk.2 in
-    record { mid = r.mid; emits = none_both old i.walk.0 r.mid (none_enclosed old x.0 i.mid i.walk.0 opens.shape opens.opens i.emits i.walk.1) r.emits; walk = r.walk; called = i.called ∙ r.called }
+    record { mid = r.mid; emits = none_both old i.walk.0 r.mid (none_enclosed old x.0 i.mid i.walk.0 opens.shape opens.opens i.emits i.walk.1) r.emits; walk = r.walk; noted = (i.noted.0 ∙ r.noted.0, i.noted.1 ∙ r.noted.1) }
 dead w c d (Loop type body rest) q none more after old new held x =
     let s = shape d type in
     let within = inside d s.params in
     let opens : OpensDead old x.0 = subst (λ (r : Place). Step w c (token.Loop type) r old x.0) none x.1 in
     let i = dead w c within body q none (token.End ∷ spelled rest more) (end_of within body q ∷ places d rest (after_block s q) after) x.0 new opens.opens.held x.2 in
     let r = dead w c d rest (after_block s q) (ap (after_block s) none) more after i.walk.0 new i.walk.1.held i.walk.2 in
-    record { mid = r.mid; emits = none_both old i.walk.0 r.mid (none_enclosed old x.0 i.mid i.walk.0 opens.shape opens.opens i.emits i.walk.1) r.emits; walk = r.walk; called = i.called ∙ r.called }
+    record { mid = r.mid; emits = none_both old i.walk.0 r.mid (none_enclosed old x.0 i.mid i.walk.0 opens.shape opens.opens i.emits i.walk.1) r.emits; walk = r.walk; noted = (i.noted.0 ∙ r.noted.0, i.noted.1 ∙ r.noted.1) }
 dead w c d (If type body rest) q none more after old new held x =
     let s = shape d type in
     let within = inside d s.results in
     let opens : OpensDead old x.0 = subst (λ (r : Place). Step w c (token.If type) r old x.0) none x.1 in
     let i = dead w c within body (moved 1 0 q) (ap (moved 1 0) none) (token.End ∷ spelled rest more) (end_of within body (moved 1 0 q) ∷ places d rest (after_if s q) after) x.0 new opens.opens.held x.2 in
     let r = dead w c d rest (after_if s q) (ap (after_if s) none) more after i.walk.0 new i.walk.1.held i.walk.2 in
-    record { mid = r.mid; emits = none_both old i.walk.0 r.mid (none_enclosed old x.0 i.mid i.walk.0 opens.shape opens.opens i.emits i.walk.1) r.emits; walk = r.walk; called = i.called ∙ r.called }
+    record { mid = r.mid; emits = none_both old i.walk.0 r.mid (none_enclosed old x.0 i.mid i.walk.0 opens.shape opens.opens i.emits i.walk.1) r.emits; walk = r.walk; noted = (i.noted.0 ∙ r.noted.0, i.noted.1 ∙ r.noted.1) }
 dead w c d (IfElse type body other rest) q none more after old new held x =
     let s = shape d type in
     let within = inside d s.results in
@@ -188,7 +227,7 @@ dead w c d (IfElse type body other rest) q none more after old new held x =
     let j = dead w c within other first (ap (moved 1 0) none) (token.End ∷ spelled rest more) (end_of within other first ∷ places d rest (after_if s q) after) i.walk.0 new turn.held i.walk.2 in
     let r = dead w c d rest (after_if s q) (ap (after_if s) none) more after j.walk.0 new j.walk.1.held j.walk.2 in
     let o = none_turned old i.mid i.walk.0 opens.shape (none_more old x.0 i.mid opens.shape opens.opens i.emits) turn in
-    record { mid = r.mid; emits = none_both old j.walk.0 r.mid (none_enclosed old i.walk.0 j.mid j.walk.0 opens.shape o j.emits j.walk.1) r.emits; walk = r.walk; called = i.called ∙ j.called ∙ r.called }
+    record { mid = r.mid; emits = none_both old j.walk.0 r.mid (none_enclosed old i.walk.0 j.mid j.walk.0 opens.shape o j.emits j.walk.1) r.emits; walk = r.walk; noted = (i.noted.0 ∙ j.noted.0 ∙ r.noted.0, i.noted.1 ∙ j.noted.1 ∙ r.noted.1) }
 
 -- ---- what is live
 
@@ -203,15 +242,19 @@ behind a b d f g k rest x y same =
 live : (w : Around) (c : Context) (ls : List Types) (t : Seq) (q : Place) (more : List Token) (after : List Place) (old new : Draft) → IsHeld old → (x : Walk w c (spelled t more) (places (labelled c ls) t q after) old new)
     → Through w c more after old new (λ es. code w (labelled c ls) (named (shapes old.labels) es) q (length old.words) t)
     (walk_calls w c (spelled t more) (places (labelled c ls) t q after) old new x) (calls w (labelled c ls) (counted (shapes old.labels)) q (length old.words) t)
+    (walk_traps w c (spelled t more) (places (labelled c ls) t q after) old new x) (traps w (labelled c ls) (counted (shapes old.labels)) q (length old.words) (length more) t)
 live w c ls t None more after old new held x =
     let r = dead w c (labelled c ls) t None refl more after old new held x in
     record {
       mid = r.mid;
       emits = emits-as old r.mid _ _ r.emits (λ es is. sym (code_dead w (labelled c ls) (named (shapes old.labels) es) (length old.words) t));
       walk = r.walk;
-      called = r.called ∙ ap (λ (l : List Relocation). l ++ walk_calls w c more after r.mid new r.walk) (sym (calls_dead w (labelled c ls) (counted (shapes old.labels)) (length old.words) t));
+      noted = (
+        r.noted.0 ∙ ap (λ (l : List Relocation). l ++ walk_calls w c more after r.mid new r.walk) (sym (calls_dead w (labelled c ls) (counted (shapes old.labels)) (length old.words) t)),
+        r.noted.1 ∙ ap (λ (l : List Trap). l ++ walk_traps w c more after r.mid new r.walk) (sym (traps_dead w (labelled c ls) (counted (shapes old.labels)) (length old.words) (length more) t)),
+      );
     }
-live w c ls Nothing (Some h) more after old new held x = record { mid = old; emits = emits-nothing old held; walk = x; called = refl }
+live w c ls Nothing (Some h) more after old new held x = record { mid = old; emits = emits-nothing old held; walk = x; noted = (refl, refl) }
 live w c ls (Simple p rest) (Some h) more after old new held x =
     let d = labelled c ls in
     let next = after_rule (rule_of d p) (Some h) in
@@ -226,7 +269,7 @@ live w c ls (Simple p rest) (Some h) more after old new held x =
           ap (λ (k : ℕ). words w c labels h (length old.words) p ++ code w d labels next k rest) n
           ∙ ap (λ (ops : List Op). ops ++ code w d labels next (length old.words + length ops) rest) first);
       walk = r.walk;
-      called =
+      noted =
           let here = length old.words in
           let labels = counted (shapes old.labels) in
           let es = ends_of (shapes old.labels) in
@@ -234,7 +277,11 @@ live w c ls (Simple p rest) (Some h) more after old new held x =
           let same = words_size w c labels (named (shapes old.labels) es) h 0 here p (counted_alike (shapes old.labels)) in
           let first = ap (λ (ops : List Op). length ops) (words_labelled w c ls labels h 0 p) in
           let out : length x.0.words ≡ here + length (words w d labels h 0 p) = omega arith in
-          both_calls _ (call_of w here p) _ _ _ (call_of w here p) _ refl refl r.called (calls_at w d next rest _ _ _ _ (ap counted x.1.shapes_are) out);
+          let left = ap (λ (m : ℕ). traps_of here m p) (spelled_length (Simple p rest) more) in (
+            both_lists _ (call_of w here p) _ _ _ (call_of w here p) _ refl refl r.noted.0 (calls_at w d next rest _ _ _ _ (ap counted x.1.shapes_are) out),
+            both_lists _ (traps_of here (length (token.Plain p ∷ spelled rest more)) p) _ _ _ (traps_of here (tokens_in (Simple p rest) + length more) p) _ refl left r.noted.1
+                (traps_at w d next rest _ _ _ _ (length more) (length more) (ap counted x.1.shapes_are) out refl),
+          );
     }
 live w c ls (Block type body rest) (Some h) more after old new held x =
     let d = labelled c ls in
@@ -265,7 +312,7 @@ live w c ls (Block type body rest) (Some h) more after old new held x =
           ∙ ap (λ (m : ℕ). f (inner m) here ++ code w d labels next (length i.walk.0.words) rest) end
           ∙ ap (λ (m : ℕ). f (inner (here + size w within (inner 0) (Some h) body)) here ++ code w d labels next m rest) out);
       walk = r.walk;
-      called =
+      noted =
           let here = length old.words in
           let labels = counted (shapes old.labels) in
           let es = ends_of (shapes old.labels) in
@@ -275,7 +322,11 @@ live w c ls (Block type body rest) (Some h) more after old new held x =
           let z = size_is w within inner (label base takes n ∷ named (shapes old.labels) es) (Some h) (here + 0) body (refl, counted_alike (shapes old.labels)) in
           let out : length i.walk.0.words ≡ here + size w within inner (Some h) body = let s = i.walk.1.size in omega arith in
           let same = closed-shapes old x.0 i.mid i.walk.0 sh i.walk.1.shape step.shapes_are i.emits.shapes_are i.walk.1.shapes_are in
-          both_calls _ _ _ _ _ _ _ i.called (calls_at w within (Some h) body _ inner _ here (ap counted step.shapes_are) begins) r.called (calls_at w d next rest _ labels _ _ (ap counted same) out);
+          let behind = 1 + tokens_in rest + length more in (
+            both_lists _ _ _ _ _ _ _ i.noted.0 (calls_at w within (Some h) body _ inner _ here (ap counted step.shapes_are) begins) r.noted.0 (calls_at w d next rest _ labels _ _ (ap counted same) out),
+            both_lists _ _ _ _ _ _ _ i.noted.1 (traps_at w within (Some h) body _ inner _ here _ behind (ap counted step.shapes_are) begins (behind_body rest more)) r.noted.1
+                (traps_at w d next rest _ labels _ _ (length more) (length more) (ap counted same) out refl),
+          );
     }
 live w c ls (Loop type body rest) (Some h) more after old new held x =
     let d = labelled c ls in
@@ -305,7 +356,7 @@ live w c ls (Loop type body rest) (Some h) more after old new held x =
           ap (λ (m : ℕ). f inner m ++ code w d labels next (length i.walk.0.words) rest) zero
           ∙ ap (λ (m : ℕ). f inner here ++ code w d labels next m rest) out);
       walk = r.walk;
-      called =
+      noted =
           let here = length old.words in
           let labels = counted (shapes old.labels) in
           let es = ends_of (shapes old.labels) in
@@ -315,7 +366,11 @@ live w c ls (Loop type body rest) (Some h) more after old new held x =
           let z = size_is w within inner (label base takes here ∷ named (shapes old.labels) es) (Some h) (here + 0) body (refl, counted_alike (shapes old.labels)) in
           let out : length i.walk.0.words ≡ here + size w within inner (Some h) body = let s = i.walk.1.size in omega arith in
           let same = closed-shapes old x.0 i.mid i.walk.0 sh i.walk.1.shape step.shapes_are i.emits.shapes_are i.walk.1.shapes_are in
-          both_calls _ _ _ _ _ _ _ i.called (calls_at w within (Some h) body _ inner _ here (ap counted step.shapes_are) begins) r.called (calls_at w d next rest _ labels _ _ (ap counted same) out);
+          let behind = 1 + tokens_in rest + length more in (
+            both_lists _ _ _ _ _ _ _ i.noted.0 (calls_at w within (Some h) body _ inner _ here (ap counted step.shapes_are) begins) r.noted.0 (calls_at w d next rest _ labels _ _ (ap counted same) out),
+            both_lists _ _ _ _ _ _ _ i.noted.1 (traps_at w within (Some h) body _ inner _ here _ behind (ap counted step.shapes_are) begins (behind_body rest more)) r.noted.1
+                (traps_at w d next rest _ labels _ _ (length more) (length more) (ap counted same) out refl),
+          );
     }
 live w c ls (If type body rest) (Some h) more after old new held x =
     let d = labelled c ls in
@@ -351,7 +406,7 @@ live w c ls (If type body rest) (Some h) more after old new held x =
           ∙ ap (λ (m : ℕ). (test_words w h here there ++ f (inner there) (here + 6)) ++ code w d labels next m rest) out
           ∙ append_assoc (test_words w h here there) (f (inner there) (here + 6)) (code w d labels next there rest));
       walk = r.walk;
-      called =
+      noted =
           let labels = counted (shapes old.labels) in
           let es = ends_of (shapes old.labels) in
           let inner = label base takes 0 ∷ labels in
@@ -361,7 +416,11 @@ live w c ls (If type body rest) (Some h) more after old new held x =
           let out : length i.walk.0.words ≡ here + 6 + size w within inner (Some below) body = let s = i.walk.1.size in omega arith in
           let same = closed-shapes old x.0 i.mid i.walk.0 sh i.walk.1.shape step.shapes_are i.emits.shapes_are i.walk.1.shapes_are in
           let own = calls_at w within q body _ inner _ (here + 6) (ap counted step.shapes_are) begins ∙ ap (λ (r : Place). calls w within inner r (here + 6) body) from in
-          both_calls _ _ _ _ _ _ _ i.called own r.called (calls_at w d next rest _ labels _ _ (ap counted same) out);
+          let behind = 1 + tokens_in rest + length more in
+          let own_traps = traps_at w within q body _ inner _ (here + 6) _ behind (ap counted step.shapes_are) begins (behind_body rest more) ∙ ap (λ (r : Place). traps w within inner r (here + 6) behind body) from in (
+            both_lists _ _ _ _ _ _ _ i.noted.0 own r.noted.0 (calls_at w d next rest _ labels _ _ (ap counted same) out),
+            both_lists _ _ _ _ _ _ _ i.noted.1 own_traps r.noted.1 (traps_at w d next rest _ labels _ _ (length more) (length more) (ap counted same) out refl),
+          );
     }
 live w c ls (IfElse type body other rest) (Some h) more after old new held x =
     let d = labelled c ls in
@@ -431,7 +490,7 @@ live w c ls (IfElse type body other rest) (Some h) more after old new held x =
           (append_assoc (f (inner end) (here + 6)) (over first_live first_end end ++ g (inner end) second) (rest_words end)
           ∙ ap (λ (l : List Op). f (inner end) (here + 6) ++ l) (append_assoc (over first_live first_end end) (g (inner end) second) (rest_words end))));
       walk = r.walk;
-      called =
+      noted =
           let labels = counted (shapes old.labels) in
           let es = ends_of (shapes old.labels) in
           let is = ends_count old.labels in
@@ -464,7 +523,15 @@ live w c ls (IfElse type body other rest) (Some h) more after old new held x =
           let own_other = calls_at w within q other _ inner _ second (ap counted shapes_same) second_is ∙ ap (λ (r : Place). calls w within inner r second other) from in
           let last = calls_at w d next rest _ labels _ _ (ap counted same) out in
           let behind = walk_calls w c more after r.mid new r.walk in
-          both_calls _ _ _ _ behind _ _ i.called own (both_calls _ _ _ _ behind _ _ j.called own_other r.called last) refl;
+          let left = 2 + tokens_in other + tokens_in rest + length more in
+          let left_other = 1 + tokens_in rest + length more in
+          let own_traps = traps_at w within q body _ inner _ (here + 6) _ left (ap counted step.shapes_are) begins (behind_first other rest more) ∙ ap (λ (r : Place). traps w within inner r (here + 6) left body) from in
+          let other_traps = traps_at w within q other _ inner _ second _ left_other (ap counted shapes_same) second_is (behind_body rest more) ∙ ap (λ (r : Place). traps w within inner r second left_other other) from in
+          let last_traps = traps_at w d next rest _ labels _ _ (length more) (length more) (ap counted same) out refl in
+          let traps_behind = walk_traps w c more after r.mid new r.walk in (
+            both_lists _ _ _ _ behind _ _ i.noted.0 own (both_lists _ _ _ _ behind _ _ j.noted.0 own_other r.noted.0 last) refl,
+            both_lists _ _ _ _ traps_behind _ _ i.noted.1 own_traps (both_lists _ _ _ _ traps_behind _ _ j.noted.1 other_traps r.noted.1 last_traps) refl,
+          );
     }
 
 -- ---- a body
@@ -508,4 +575,19 @@ calls_are_those w c tokens tree front last rs spells at x =
     let end = end_of within tree (Some 0) in
     let y : Calling w c (spelled tree (token.End ∷ [])) (places_of c tree) old last rs = subst (λ (ts : List Token). Calling w c ts (places_of c tree) old last rs) spells x in
     let i = live w c (c.results ∷ c.labels) tree (Some 0) (token.End ∷ []) (end ∷ []) old last ((tt, tt), tt) y.0 in
-    sym y.1 ∙ i.called ∙ append-nil _ ∙ ap (λ (m : ℕ). calls w within (label 0 n 0 ∷ []) (Some 0) m tree) at
+    sym y.1 ∙ i.noted.0 ∙ append-nil _ ∙ ap (λ (m : ℕ). calls w within (label 0 n 0 ∷ []) (Some 0) m tree) at
+
+-- the traps of a walk are those of the body
+abbrev pub Trapping : Around → Context → List Token → List Place → Draft → Draft → List Trap → Type 0
+Trapping w c tokens places old new ts = (walk : Walk w c tokens places old new) × (walk_traps w c tokens places old new walk ≡ ts)
+
+pub traps_are_those : (w : Around) (c : Context) (tokens : List Token) (tree : Seq) (front : List ℕ) (last : Draft) (ts : List Trap) → Tree tokens tree → length front ≡ body_place w
+    → Trapping w c tokens (places_of c tree) (begun (length c.results) front) last ts → ts ≡ body_traps w c tree
+traps_are_those w c tokens tree front last all spells at x =
+    let n = length c.results in
+    let within = inside c c.results in
+    let old = begun n front in
+    let end = end_of within tree (Some 0) in
+    let y : Trapping w c (spelled tree (token.End ∷ [])) (places_of c tree) old last all = subst (λ (ts : List Token). Trapping w c ts (places_of c tree) old last all) spells x in
+    let i = live w c (c.results ∷ c.labels) tree (Some 0) (token.End ∷ []) (end ∷ []) old last ((tt, tt), tt) y.0 in
+    sym y.1 ∙ i.noted.1 ∙ append-nil _ ∙ ap (λ (m : ℕ). traps w within (label 0 n 0 ∷ []) (Some 0) m 1 tree) at

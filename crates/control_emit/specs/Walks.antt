@@ -1,14 +1,17 @@
 -- How tokens, each at its place, lead from one draft of a function's words to another.
 use Rattle.std.specs.Prelude.{◌≡◌, ℕ, ◌-◌, Bool, true, false, List, [], ◌∷◌, ◌++◌, length, map, None, Some}
 use Rattle.rv_isa.specs.declared.compiled.Relocation.{Relocation}
+use Rattle.rv_isa.specs.declared.compiled.TrapSite.{TrapSite}
 use Rattle.rv_isa.specs.Words.{word_of}
 use Rattle.wasm_defs.specs.declared.token.Token.{Token}
 use Rattle.wasm_defs.specs.declared.token.Token.TheVariants as token
+use Rattle.wasm_defs.specs.Configurations.{Origin}
 use Rattle.wasm_defs.specs.Places.{Place, shape, places_of}
 use Rattle.wasm_defs.specs.Trees.{Seq, Tree}
 use Rattle.wasm_defs.specs.Typing.{Context, Signature}
 use Rattle.frame_layout.specs.Templates.{Around, words}
-use Rattle.frame_layout.specs.Functions.{over, test_words, call_of, body_place, body_code, calls_of}
+use Rattle.frame_layout.specs.Traps.{trap_places, site_at}
+use Rattle.frame_layout.specs.Functions.{over, test_words, call_of, Trap, traps_of, site_of, body_place, body_code, calls_of, body_traps}
 use Rattle.control_emit.specs.Pending.{Pending, Shape, shapes, named}
 use Rattle.control_emit.specs.Emits.{Draft, Emits, Opens, Turns, Closes}
 
@@ -68,6 +71,41 @@ walk_calls w c (t ∷ ts) (q ∷ qs) old new walk = token_calls w t q (length ol
 abbrev pub Calling : Around → Context → List Token → List Place → Draft → Draft → List Relocation → Type 0
 Calling w c tokens places old new calls = (walk : Walk w c tokens places old new) × (walk_calls w c tokens places old new walk ≡ calls)
 
+-- the traps among them: a token has its own where its place is live, and with it so many tokens are left
+abbrev pub token_traps : (left : ℕ) → Token → Place → (here : ℕ) → List Trap
+token_traps left (token.Plain p) None here = []
+token_traps left (token.Plain p) (Some h) here = traps_of here left p
+token_traps left (token.Block t) place here = []
+token_traps left (token.Loop t) place here = []
+token_traps left (token.If t) place here = []
+token_traps left token.Else place here = []
+token_traps left token.End place here = []
+
+abbrev pub walk_traps : (w : Around) (c : Context) (tokens : List Token) (places : List Place) (old new : Draft) → Walk w c tokens places old new → List Trap
+walk_traps w c [] places old new walk = []
+walk_traps w c (t ∷ ts) [] old new walk = []
+walk_traps w c (t ∷ ts) (q ∷ qs) old new walk = token_traps (length (t ∷ ts)) t q (length old.words) ++ walk_traps w c ts qs walk.0 new walk.2
+
+-- and as they are noted, where each token has its offset
+abbrev pub token_sites : Token → Place → (here offset : ℕ) → List TrapSite
+token_sites (token.Plain p) None here offset = []
+token_sites (token.Plain p) (Some h) here offset = map (site_at here offset) (trap_places p)
+token_sites (token.Block t) place here offset = []
+token_sites (token.Loop t) place here offset = []
+token_sites (token.If t) place here offset = []
+token_sites token.Else place here offset = []
+token_sites token.End place here offset = []
+
+abbrev pub walk_sites : (w : Around) (c : Context) (tokens : List Token) (offsets : List ℕ) (places : List Place) (old new : Draft) → Walk w c tokens places old new → List TrapSite
+walk_sites w c [] offsets places old new walk = []
+walk_sites w c (t ∷ ts) [] places old new walk = []
+walk_sites w c (t ∷ ts) (o ∷ os) [] old new walk = []
+walk_sites w c (t ∷ ts) (o ∷ os) (q ∷ qs) old new walk = token_sites t q (length old.words) o ++ walk_sites w c ts os qs walk.0 new walk.2
+
+-- the tokens lead there, and these are their traps
+abbrev pub Siting : Around → Context → List Token → (offsets : List ℕ) → List Place → Draft → Draft → List TrapSite → Type 0
+Siting w c tokens offsets places old new sites = (walk : Walk w c tokens places old new) × (walk_sites w c tokens offsets places old new walk ≡ sites)
+
 -- a body's own label
 abbrev pub body_label : (results : ℕ) → Pending
 body_label results = record { base = 0; takes = results; start = None; test = None; jumps = [] }
@@ -92,3 +130,9 @@ abbrev pub CallsLaw : Type 0
 CallsLaw =
     (w : Around) (c : Context) (tokens : List Token) (tree : Seq) (front : List ℕ) (last : Draft) (calls : List Relocation) → Tree tokens tree → length front ≡ body_place w
     → Calling w c tokens (places_of c tree) (begun (length c.results) front) last calls → calls ≡ calls_of w c tree
+
+-- and their traps
+abbrev pub SitesLaw : Type 0
+SitesLaw =
+    (w : Around) (o : Origin) (c : Context) (tokens : List Token) (tree : Seq) (front : List ℕ) (last : Draft) (sites : List TrapSite) → Tree tokens tree → length o.offsets ≡ length tokens
+    → length front ≡ body_place w → Siting w c tokens o.offsets (places_of c tree) (begun (length c.results) front) last sites → sites ≡ map (site_of o) (body_traps w c tree)
