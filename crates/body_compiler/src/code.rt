@@ -13,8 +13,10 @@ ghost use Rattle.control_emit.specs.Emits.{draft as drafted, IsHeld};
 
 use crate::draft::{Draft, take_step};
 use crate::instructions::instruction;
+use crate::noting::note_token;
 use body_validator::{Check, TokenStop};
 use leb_feed::{Fields, Stop};
+use rv_isa::TrapSite;
 use std::alloc::Global;
 use thiserror::Error;
 use wasm_defs::{Kind, Refusal};
@@ -51,13 +53,15 @@ pub(crate) fn stop_of(stop: Stop, last: u64) -> BodyStop
     }
 }
 
-/// Reads, checks and compiles the instruction behind an opcode at an offset, in a body whose last byte has the offset `last`.
+/// Reads, checks and compiles the instruction behind an opcode at an offset, in a body whose last byte has the offset `last`, and notes
+/// where it traps.
 #[inline(always)]
 fn take_instruction(
     alloc: Global,
     fields: &mut Fields<'_>,
     check: &mut Check<'_>,
     draft: &mut Draft,
+    sites: &mut Vec<TrapSite>,
     last: u64,
     at: u64,
     opcode: u8,
@@ -74,7 +78,7 @@ fn take_instruction(
     ensures bytes { OnOk result (AreBytes fields.new.rest) }
     ensures tied { OnOk result (AreTied draft.new.labels check.new (length fields.new.rest)) }
     ensures grows { OnOk result (length draft.old.words ≤ length draft.new.words) }
-    ensures goes { (c : ContextGiven) (code : SpelledGiven) (before : CursorGiven) (front : List ℕ) → IsCompiling c last before check.old code draft.old.layout front (calling draft.old.labels draft.old.words draft.old.calls.items draft.old.rows) → byte before ≡ Got (at, opcode) fields.old → check.old.checker.frames ≢ [] → Goes c last code draft.old.layout front result fields.new check.new (calling draft.new.labels draft.new.words draft.new.calls.items draft.new.rows) }
+    ensures goes { (c : ContextGiven) (code : SpelledGiven) (before : CursorGiven) (front : List ℕ) → IsCompiling c last before check.old code draft.old.layout front (calling draft.old.labels draft.old.words draft.old.calls.items draft.old.rows sites.old.items) → byte before ≡ Got (at, opcode) fields.old → check.old.checker.frames ≢ [] → Goes c last code draft.old.layout front result fields.new check.new (calling draft.new.labels draft.new.words draft.new.calls.items draft.new.rows sites.new.items) }
 {
     let token = match instruction(fields, alloc, at, opcode) {
         Ok(token) => token,
@@ -85,18 +89,23 @@ fn take_instruction(
         Err(TokenStop::Refused(refusal)) => return Err(BodyStop::Refused(refusal)),
         Err(TokenStop::NoMemory) => return Err(BodyStop::NoMemory),
     };
+    match note_token(sites, draft.words(), step.live, at, &token) {
+        Ok(()) => {}
+        Err(_) => return Err(BodyStop::NoMemory),
+    }
     match take_step(draft, check.context(), &step, &token) {
         Ok(()) => Ok(()),
         Err(_) => Err(BodyStop::NoMemory),
     }
 }
 
-/// Judges and compiles the code of a body whose last byte has the offset `last`.
+/// Judges and compiles the code of a body whose last byte has the offset `last`, and notes where it traps.
 pub fn judge_code(
     alloc: Global,
     fields: &mut Fields<'_>,
     check: &mut Check<'_>,
     draft: &mut Draft,
+    sites: &mut Vec<TrapSite>,
     last: u64,
 ) -> Result<(), BodyStop>
     requires held { IsHeld (drafted draft.old.labels draft.old.words) }
@@ -109,12 +118,12 @@ pub fn judge_code(
     ensures over { OnOk result (check.new.checker.frames ≡ []) }
     ensures most { OnOk result (check.new.checker.greatest ≤ max_lift * max_body) }
     ensures grows { OnOk result (length draft.old.words ≤ length draft.new.words) }
-    ensures judges { (c : ContextGiven) (code : SpelledGiven) (front : List ℕ) → IsCompiling c last fields.old check.old code draft.old.layout front (calling draft.old.labels draft.old.words draft.old.calls.items draft.old.rows) → Judges c code draft.old.layout front result check.new (calling draft.new.labels draft.new.words draft.new.calls.items draft.new.rows) }
+    ensures judges { (c : ContextGiven) (code : SpelledGiven) (front : List ℕ) → IsCompiling c last fields.old check.old code draft.old.layout front (calling draft.old.labels draft.old.words draft.old.calls.items draft.old.rows sites.old.items) → Judges c code draft.old.layout front result check.new (calling draft.new.labels draft.new.words draft.new.calls.items draft.new.rows sites.new.items) }
 {
     while !check.is_over() {
         match fields.byte() {
             Ok((at, opcode)) => {
-                match take_instruction(alloc, fields, check, draft, last, at, opcode) {
+                match take_instruction(alloc, fields, check, draft, sites, last, at, opcode) {
                     Ok(()) => {}
                     Err(stop) => return Err(stop),
                 }

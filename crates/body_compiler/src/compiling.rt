@@ -26,8 +26,8 @@ use rv_isa::Code;
 use std::alloc::Global;
 use wasm_defs::FuncType;
 
-/// Compiles the code of a body whose last byte has the offset `last`, of a function of that type with so many declared locals, in a
-/// module whose table has so many rows at first.
+/// Compiles the code of a body whose first byte has the offset `first` and whose last one `last`, of a function of that type with so many
+/// declared locals, in a module whose table has so many rows at first.
 fn compile_code(
     alloc: Global,
     rows: u32,
@@ -35,6 +35,7 @@ fn compile_code(
     locals: u32,
     fields: &mut Fields<'_>,
     mut check: Check<'_>,
+    first: u64,
     last: u64,
 ) -> Result<Code, BodyStop>
     requires small { TypeIsSmall function.now }
@@ -45,7 +46,7 @@ fn compile_code(
     requires unlabelled { check.context.labels ≡ [] }
     requires functions { FunctionsAreSmall check.context }
     requires results { length check.context.results ≡ length function.now.results }
-    ensures { (c : ContextGiven) (code : SpelledGiven) (g : IsGoing c last fields.old check.entry code) → g.tokens ≡ [] → length c.results ≡ length function.now.results → Makes rows c code (record { params = length function.now.params; locals = locals; greatest = 0 }) (length function.now.results) result }
+    ensures { (c : ContextGiven) (code : SpelledGiven) (g : IsGoing c last fields.old check.entry code) → g.tokens ≡ [] → length c.results ≡ length function.now.results → Makes rows first c code (record { params = length function.now.params; locals = locals; greatest = 0 }) (length function.now.results) result }
 {
     let layout = Layout {
         params: function.params.as_slice().len() as u32,
@@ -57,12 +58,13 @@ fn compile_code(
     let Ok(mut draft) = begin(alloc, layout, rows, results, bytes) else {
         return Err(BodyStop::NoMemory);
     };
-    match judge_code(alloc, fields, &mut check, &mut draft, last) {
+    let mut sites = Vec::new(alloc);
+    match judge_code(alloc, fields, &mut check, &mut draft, &mut sites, last) {
         Ok(()) => {}
         Err(stop) => return Err(stop),
     }
     let greatest = check.end().greatest;
-    match finish(draft, greatest as u32, results) {
+    match finish(draft, sites, first, greatest as u32, results) {
         Ok(code) => Ok(code),
         Err(_) => Err(BodyStop::NoMemory),
     }
@@ -81,8 +83,8 @@ fn rows_of(context: &Context) -> u32
 /// Compiles the body of a function: its bytes are all there, and the first one has the offset.
 ///
 /// A body that is spelled rightly to its end (Core 5.4 and 5.5.13) and valid in the context (Core 3.4.1) becomes the words of its
-/// function (`Functions` of `frame_layout`), whose calls have no distances yet, the places of these calls, and the number of slots
-/// that it needs.
+/// function (`Functions` of `frame_layout`), whose calls have no distances yet, the places of these calls, where its traps stand and what
+/// of the module traps there, and the number of slots that it needs.
 /// Any other body is refused with its first fault. Where memory is wanting it is neither.
 pub fn compile(
     alloc: Global,
@@ -94,7 +96,7 @@ pub fn compile(
     requires function { IsSome (function_type (context_in context.now) index) }
     requires most { length bytes.now ≤ max_body }
     requires fits { offset + length bytes.now < 2 ^ 63 }
-    ensures { Compiles (first_minimum context.now.tables) (context_in context.now) index (body_read offset bytes.now) result }
+    ensures { Compiles (first_minimum context.now.tables) offset (context_in context.now) index (body_read offset bytes.now) result }
 {
     context.keeps_limits();
     let len = bytes.len() as u64;
@@ -107,7 +109,16 @@ pub fn compile(
         Ok(locals) => {
             let function = context.type_of_function(index);
             let rows = rows_of(context);
-            compile_code(alloc, rows, function, locals, &mut fields, check, last)
+            compile_code(
+                alloc,
+                rows,
+                function,
+                locals,
+                &mut fields,
+                check,
+                offset,
+                last,
+            )
         }
         Err(stop) => Err(stop_of(stop, last)),
     }

@@ -2,9 +2,9 @@
 
 ghost use Rattle.std.specs.Prelude.{◌≡◌};
 
-use rv_isa::{Code, Relocations, Words};
+use rv_isa::{Code, Relocations, TrapSites, Words};
 
-/// The same code, in no more room than its words and its relocations need: for a code that is kept. What can't be moved, for want of
+/// The same code, in no more room than its words, its relocations and its traps need: for a code that is kept. What can't be moved, for want of
 /// memory, stays where it is.
 pub fn fitted(code: Code) -> Code
     ensures { result ≡ code }
@@ -12,15 +12,19 @@ pub fn fitted(code: Code) -> Code
     let Code {
         words,
         relocations,
+        traps,
         need,
     } = code;
     let mut words = words.into_vec();
     words.shrink_to_fit();
     let mut relocations = relocations.into_vec();
     relocations.shrink_to_fit();
+    let mut traps = traps.into_vec();
+    traps.shrink_to_fit();
     Code {
         words: Words::from_vec(words),
         relocations: Relocations::from_vec(relocations),
+        traps: TrapSites::from_vec(traps),
         need,
     }
 }

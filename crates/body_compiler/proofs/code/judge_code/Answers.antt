@@ -39,25 +39,25 @@ loop-alloc-preserved c =
       grows = omega (arith, e.grows, i.grows);
       bytes = e.bytes;
       goes = λ c' code front k.
-          let before = subst (λ (l : Layout). IsCompiling c' c.args.last c.loop-alloc.fields c.loop-alloc.check code l front (calling c.loop-alloc.draft.labels c.loop-alloc.draft.words c.loop-alloc.draft.calls.items c.loop-alloc.draft.rows)) (sym i.layout) (i.goes c' code front k) in
+          let before = subst (λ (l : Layout). IsCompiling c' c.args.last c.loop-alloc.fields c.loop-alloc.check code l front (calling c.loop-alloc.draft.labels c.loop-alloc.draft.words c.loop-alloc.draft.calls.items c.loop-alloc.draft.rows c.loop-alloc.sites.items)) (sym i.layout) (i.goes c' code front k) in
           let after = e.goes c' code c.loop-alloc.fields front before c.in-Ok.ensures.read (isnt_over c.is_over.result c.loop-alloc-test.true c.is_over.ensures) in
-          subst (λ (l : Layout). IsCompiling c' c.args.last c.take_instruction.new.fields c.take_instruction.new.check code l front (calling c.take_instruction.new.draft.labels c.take_instruction.new.draft.words c.take_instruction.new.draft.calls.items c.take_instruction.new.draft.rows)) i.layout after;
+          subst (λ (l : Layout). IsCompiling c' c.args.last c.take_instruction.new.fields c.take_instruction.new.check code l front (calling c.take_instruction.new.draft.labels c.take_instruction.new.draft.words c.take_instruction.new.draft.calls.items c.take_instruction.new.draft.rows c.take_instruction.new.sites.items)) i.layout after;
     }
 
 pub returns-in-Err-take_instruction-clause-judges : goal.returns-in-Err-take_instruction-clause-judges
 returns-in-Err-take_instruction-clause-judges c = λ c' code front k.
     let i = c.loop-alloc.invariant in
-    let before = subst (λ (l : Layout). IsCompiling c' c.args.last c.loop-alloc.fields c.loop-alloc.check code l front (calling c.loop-alloc.draft.labels c.loop-alloc.draft.words c.loop-alloc.draft.calls.items c.loop-alloc.draft.rows)) (sym i.layout) (i.goes c' code front k) in
-    goes_judges c' c.args.last c.take_instruction.new.fields c.take_instruction.new.check code c.loop-alloc.draft.layout c.args.draft.now.layout front (calling c.take_instruction.new.draft.labels c.take_instruction.new.draft.words c.take_instruction.new.draft.calls.items c.take_instruction.new.draft.rows) c.in-Err-take_instruction.stop
+    let before = subst (λ (l : Layout). IsCompiling c' c.args.last c.loop-alloc.fields c.loop-alloc.check code l front (calling c.loop-alloc.draft.labels c.loop-alloc.draft.words c.loop-alloc.draft.calls.items c.loop-alloc.draft.rows c.loop-alloc.sites.items)) (sym i.layout) (i.goes c' code front k) in
+    goes_judges c' c.args.last c.take_instruction.new.fields c.take_instruction.new.check code c.loop-alloc.draft.layout c.args.draft.now.layout front (calling c.take_instruction.new.draft.labels c.take_instruction.new.draft.words c.take_instruction.new.draft.calls.items c.take_instruction.new.draft.rows c.take_instruction.new.sites.items) c.in-Err-take_instruction.stop
     (c.in-Err-take_instruction.ensures.goes c' code c.loop-alloc.fields front before c.in-Ok.ensures.read (isnt_over c.is_over.result c.loop-alloc-test.true c.is_over.ensures))
 
 pub returns-in-Err-clause-judges : goal.returns-in-Err-clause-judges
 returns-in-Err-clause-judges c = λ c' code front k.
-    rw c.stop_of.ensures (stop_judges c' c.args.last c.loop-alloc.fields c.loop-alloc.check code c.args.draft.now.layout front (calling c.loop-alloc.draft.labels c.loop-alloc.draft.words c.loop-alloc.draft.calls.items c.loop-alloc.draft.rows) c.in-Err.stop (c.loop-alloc.invariant.goes c' code front k).going (isnt_over c.is_over.result c.loop-alloc-test.true c.is_over.ensures) c.in-Err.ensures.read)
+    rw c.stop_of.ensures (stop_judges c' c.args.last c.loop-alloc.fields c.loop-alloc.check code c.args.draft.now.layout front (calling c.loop-alloc.draft.labels c.loop-alloc.draft.words c.loop-alloc.draft.calls.items c.loop-alloc.draft.rows c.loop-alloc.sites.items) c.in-Err.stop (c.loop-alloc.invariant.goes c' code front k).going (isnt_over c.is_over.result c.loop-alloc-test.true c.is_over.ensures) c.in-Err.ensures.read)
 
 pub returns-then-is_empty-clause-judges : goal.returns-then-is_empty-clause-judges
 returns-then-is_empty-clause-judges c = λ c' code front k.
-    judged c' c.args.last c.loop-alloc.fields c.loop-alloc.check code c.args.draft.now.layout front (calling c.loop-alloc.draft.labels c.loop-alloc.draft.words c.loop-alloc.draft.calls.items c.loop-alloc.draft.rows) (c.loop-alloc.invariant.goes c' code front k) (is_over c.is_over.result c.loop-alloc-test.false c.is_over.ensures)
+    judged c' c.args.last c.loop-alloc.fields c.loop-alloc.check code c.args.draft.now.layout front (calling c.loop-alloc.draft.labels c.loop-alloc.draft.words c.loop-alloc.draft.calls.items c.loop-alloc.draft.rows c.loop-alloc.sites.items) (c.loop-alloc.invariant.goes c' code front k) (is_over c.is_over.result c.loop-alloc-test.false c.is_over.ensures)
     (tested_empty c.loop-alloc.fields.rest c.rest.result.now c.is_empty.result c.rest.ensures c.is_empty.ensures c.if-is_empty.true)
 
 pub returns-clause-judges : goal.returns-clause-judges

@@ -1,8 +1,9 @@
-use Rattle.std.proofs.Common.{◌+◌, ◌∙◌, length, refl, sym, ap, subst, arith}
+use Rattle.std.proofs.Common.{◌≡◌, ℕ, ◌+◌, ◌++◌, ◌∙◌, List, length, refl, sym, ap, subst, arith}
 use Rattle.wasm_defs.specs.Faults.{tokens_of}
 use Rattle.body_compiler.proofs.Going.{instruction_shrinks, refused_token, stop_behind}
 use Rattle.body_validator.specs.Checking.{guarded}
 use Rattle.control_emit.specs.Emits.{draft}
+use Rattle.control_emit.specs.Walks.{token_sites}
 use Rattle.body_compiler.proofs.Spelled.{token_in_range, bytes_later}
 use Rattle.wasm_defs.specs.Typing.{Context}
 use Rattle.index_spaces.specs.Spaces.{context_in}
@@ -85,8 +86,10 @@ returns-in-Ok-take_step-clause-goes c = λ c' code before front k h more.
     let d = context_in c.context.result.now in
     let same = same_functions c.args.check.now.context d (c.context.ensures.types ∙ ap (λ (x : Context). x.types) steps.1) (c.context.ensures.functions ∙ ap (λ (x : Context). x.functions) steps.1) in
     compiles_behind c' d c.args.last c.args.at c.args.opcode before c.args.fields.now c.instruction.new.fields c.in-Ok.token c.in-Ok-token.step c.args.check.now c.token.new.self code c.args.draft.now.layout front
-    (calling c.args.draft.now.labels c.args.draft.now.words c.args.draft.now.calls.items c.args.draft.now.rows) (calling c.take_step.new.draft.labels c.take_step.new.draft.words c.take_step.new.draft.calls.items c.take_step.new.draft.rows) k h more
-    c.in-Ok.ensures steps.0 steps.1 exact.0 (c.in-Ok-token.ensures.places (tokens_of k.going.tokens) k.going.reached) same c.in-Ok-take_step.ensures.words c.in-Ok-take_step.ensures.calls c.in-Ok-take_step.ensures.rows
+    (calling c.args.draft.now.labels c.args.draft.now.words c.args.draft.now.calls.items c.args.draft.now.rows c.args.sites.now.items) (calling c.take_step.new.draft.labels c.take_step.new.draft.words c.take_step.new.draft.calls.items c.take_step.new.draft.rows c.note_token.new.sites.items) k h more
+    c.in-Ok.ensures steps.0 steps.1 exact.0 (c.in-Ok-token.ensures.places (tokens_of k.going.tokens) k.going.reached) same c.in-Ok-take_step.ensures.words c.in-Ok-take_step.ensures.calls
+    (subst (λ (l : List ℕ). c.note_token.new.sites.items ≡ c.args.sites.now.items ++ token_sites c.in-Ok.token (guarded c.in-Ok-token.step.live c.in-Ok-token.step.height_before) (length l) c.args.at) c.words.ensures (c.in-Ok-note_token.ensures c.in-Ok-token.step.height_before))
+    c.in-Ok-take_step.ensures.rows
 
 pub returns-in-Err-Refused-clause-goes : goal.returns-in-Err-Refused-clause-goes
 returns-in-Err-Refused-clause-goes c = λ c' code before front k h more.
@@ -96,4 +99,4 @@ returns-in-Err-Refused-clause-goes c = λ c' code before front k h more.
 
 pub returns-in-Err-clause-goes : goal.returns-in-Err-clause-goes
 returns-in-Err-clause-goes c = λ c' code before front k h more.
-    rw c.stop_of.ensures (stop_behind c' c.args.last c.args.at c.args.opcode before c.args.fields.now c.args.check.now code c.args.draft.now.layout front (calling c.args.draft.now.labels c.args.draft.now.words c.args.draft.now.calls.items c.args.draft.now.rows) c.instruction.new.fields c.args.check.now c.in-Err.stop k.going h more c.in-Err.ensures)
+    rw c.stop_of.ensures (stop_behind c' c.args.last c.args.at c.args.opcode before c.args.fields.now c.args.check.now code c.args.draft.now.layout front (calling c.args.draft.now.labels c.args.draft.now.words c.args.draft.now.calls.items c.args.draft.now.rows c.args.sites.now.items) c.instruction.new.fields c.args.check.now c.in-Err.stop k.going h more c.in-Err.ensures)
