@@ -12,18 +12,18 @@ use Rattle.wasm_defs.specs.declared.token.Plain.TheVariants.{Call}
 use Rattle.wasm_defs.specs.Trees.{Seq, Nothing, Simple}
 use Rattle.wasm_defs.specs.Values.{Value, modulus, unsigned}
 use Rattle.wasm_defs.specs.Effects.{value}
-use Rattle.wasm_defs.specs.Configurations.{Declared, Frame, Func, Inside, Instance, Outside, Returned, State, Store, To}
+use Rattle.wasm_defs.specs.Configurations.{Declared, Frame, Func, Inside, Instance, Origin, Outside, Returned, State, Store, To}
 use Rattle.wasm_defs.specs.Reductions.{enter, next, on, run}
 use Rattle.drill_laws.specs.Functions.{DrillsReturn, IsFunction, adder_tree, adder_type, calls_from, runner_tree, runner_type, sum_below}
 
 -- a function whose other parts are known
-abbrev made : (ty : FuncType) (greatest : ℕ) (tree : Seq) → Func
-made ty greatest tree = record { ty = ty; locals = []; greatest = greatest; body = tree }
+abbrev made : Origin → (ty : FuncType) (greatest : ℕ) (tree : Seq) → Func
+made o ty greatest tree = record { origin = o; ty = ty; locals = []; greatest = greatest; body = tree }
 
-made_is : (ty : FuncType) (tree : Seq) (f : Func) → IsFunction ty tree f → f ≡ made ty f.greatest tree
+made_is : (ty : FuncType) (tree : Seq) (f : Func) → IsFunction ty tree f → f ≡ made f.origin ty f.greatest tree
 made_is ty tree f is = go f.ty f.locals f.body is.ty_is is.locals_are is.body_is
   where
-    go : (t : FuncType) (l : List ValType) (b : Seq) → t ≡ ty → l ≡ [] → b ≡ tree → ◌≡◌ {A = Func} (record { ty = t; locals = l; greatest = f.greatest; body = b }) (made ty f.greatest tree)
+    go : (t : FuncType) (l : List ValType) (b : Seq) → t ≡ ty → l ≡ [] → b ≡ tree → ◌≡◌ {A = Func} (record { origin = f.origin; ty = t; locals = l; greatest = f.greatest; body = b }) (made f.origin ty f.greatest tree)
     go t l b e g h = rw (e, g, h) refl
 
 -- ---- the running frame of the last function, and of one that it calls
@@ -43,15 +43,15 @@ i32 n = value I32 n
 small : (n : ℕ) → n < 2 ^ 32 → unsigned I32 (pos n) ≡ n
 small n below = refl
 
-module _ (i : Instance) (store : Store) (g : ℕ) (few : g ≤ 2) (runner : Seq) where
+module _ (i : Instance) (store : Store) (o : Origin) (g : ℕ) (few : g ≤ 2) (runner : Seq) where
   abbrev outer : Func
-  outer = made runner_type g runner
+  outer = made o runner_type g runner
 
   -- ---- one call, which adds j
 
-  module _ (j h : ℕ) (low : h ≤ 2) (there : slice_get i.functions j ≡ Some (Declared (made adder_type h (adder_tree j)))) (rest : Seq) where
+  module _ (p : Origin) (j h : ℕ) (low : h ≤ 2) (there : slice_get i.functions j ≡ Some (Declared (made p adder_type h (adder_tree j)))) (rest : Seq) where
     abbrev inner : Func
-    inner = made adder_type h (adder_tree j)
+    inner = made p adder_type h (adder_tree j)
 
     -- behind the call
     abbrev behind : Frame
@@ -100,10 +100,10 @@ module _ (i : Instance) (store : Store) (g : ℕ) (few : g ≤ 2) (runner : Seq)
       ends v more ∙ ap (λ x. Returned store (i32 x ∷ [])) e
   all_calls first (suc c) v more adders short low =
       let (f, there, is) = adders first (omega arith) in
-      let there_is : slice_get i.functions first ≡ Some (Declared (made adder_type f.greatest (adder_tree first))) = there ∙ ap (λ x. Some (Declared x)) (made_is adder_type (adder_tree first) f is) in
+      let there_is : slice_get i.functions first ≡ Some (Declared (made f.origin adder_type f.greatest (adder_tree first))) = there ∙ ap (λ x. Some (Declared x)) (made_is adder_type (adder_tree first) f is) in
       let more_is : sum (range_with_len first (suc c)) ≡ first + sum (range_with_len (first + 1) c) = sum_by-cons (λ x. x) first (range_with_len (first + 1) c) in
       let e : v + first + sum (range_with_len (first + 1) c) ≡ v + sum (range_with_len first (suc c)) = omega (arith, more_is) in
-      one_call first f.greatest is.greatest_is there_is (calls_from (first + 1) c) v (weight c more) (omega (arith, short, low))
+      one_call f.origin first f.greatest is.greatest_is there_is (calls_from (first + 1) c) v (weight c more) (omega (arith, short, low))
       ∙ all_calls (first + 1) c (v + first) more (λ j below. adders j (omega (arith, below))) (omega (arith, short)) (omega (arith, short, low))
       ∙ ap (λ x. Returned store (i32 x ∷ [])) e
 
@@ -127,12 +127,12 @@ pub drill_returns : DrillsReturn
 drill_returns n i store short drill more =
     let (f, there, is) = drill.runner in
     let g = f.greatest in
-    let there_is : slice_get i.functions n ≡ Some (Declared (made runner_type g (runner_tree n))) = there ∙ ap (λ x. Some (Declared x)) (made_is runner_type (runner_tree n) f is) in
-    let weight_is_all : 5 * n + 3 + more ≡ suc (suc (weight i store g is.greatest_is (runner_tree n) n more)) = let e = weight_is i store g is.greatest_is (runner_tree n) n more in omega (arith, e) in
+    let there_is : slice_get i.functions n ≡ Some (Declared (made f.origin runner_type g (runner_tree n))) = there ∙ ap (λ x. Some (Declared x)) (made_is runner_type (runner_tree n) f is) in
+    let weight_is_all : 5 * n + 3 + more ≡ suc (suc (weight i store f.origin g is.greatest_is (runner_tree n) n more)) = let e = weight_is i store f.origin g is.greatest_is (runner_tree n) n more in omega (arith, e) in
     let nothing : 0 + sum (range_with_len 0 n) ≡ sum_below n = omega arith in
     let zero_is : unsigned I32 (pos 0) ≡ 0 = refl in
     ap (λ k. run i k (Outside store (record { function = n; arguments = [] }) [])) weight_is_all
-    ∙ begun i store g is.greatest_is (runner_tree n) n n there_is refl (weight i store g is.greatest_is (runner_tree n) n more)
-    ∙ ap (λ x. run i (weight i store g is.greatest_is (runner_tree n) n more) (alone store (frame (made runner_type g (runner_tree n)) [] (i32 x ∷ []) (calls_from 0 n)))) zero_is
-    ∙ all_calls i store g is.greatest_is (runner_tree n) 0 n 0 more (λ j below. drill.adders j (omega (arith, below))) (omega (arith, short)) (omega arith)
+    ∙ begun i store f.origin g is.greatest_is (runner_tree n) n n there_is refl (weight i store f.origin g is.greatest_is (runner_tree n) n more)
+    ∙ ap (λ x. run i (weight i store f.origin g is.greatest_is (runner_tree n) n more) (alone store (frame (made f.origin runner_type g (runner_tree n)) [] (i32 x ∷ []) (calls_from 0 n)))) zero_is
+    ∙ all_calls i store f.origin g is.greatest_is (runner_tree n) 0 n 0 more (λ j below. drill.adders j (omega (arith, below))) (omega (arith, short)) (omega arith)
     ∙ ap (λ x. Returned store (i32 x ∷ [])) nothing
