@@ -15,7 +15,7 @@ use Rattle.image_format.specs.Contents.{Image}
 use Rattle.image_format.specs.Environment.{Entry, entered, words_at, word_at, with_words}
 use Rattle.image_format.specs.ImageRun.{Running, To, finish, environment}
 use Rattle.sim_memory.specs.StoreStands.{StoreStands}
-use Rattle.sim_frames.specs.Functions.{global_types}
+use Rattle.sim_frames.specs.Functions.{TextPlaces, global_types}
 use Rattle.sim_frames.proofs.Rules.{types_length}
 use Rattle.sim_frames.proofs.Values.{SameBeside}
 use Rattle.sim_frames.proofs.Words.{word_small}
@@ -27,7 +27,7 @@ use Rattle.simulation.proofs.FirstSlots.{stack_is, slots_are}
 use Rattle.simulation.proofs.Steps.{with_machine}
 
 -- the table's rows stand where its bytes stay
-pub table_kept : (inst : Instance) (places : ℕ → ℕ) (b c : Bytes) → c.table ≡ b.table → TableHolds inst places b → TableHolds inst places c
+pub table_kept : (inst : Instance) (places : TextPlaces) (b c : Bytes) → c.table ≡ b.table → TableHolds inst places b → TableHolds inst places c
 table_kept inst places b c same h = record {
   rows = record {
     size = ap length same ∙ h.rows.size;
@@ -39,12 +39,12 @@ table_kept inst places b c same h = record {
   few_types = h.few_types;
 }
 
-module _ (image : Image) (inst : Instance) (places : ℕ → ℕ) where
+module _ (image : Image) (inst : Instance) (places : TextPlaces) where
   -- a function is called from outside next, and others afterwards
   pub record Enters (store : Store) (next : Invocation) (later : List Invocation) (r : Running) : Type 0 where
     pub function : Function
     pub is : slice_get inst.functions next.function ≡ Some function
-    pub invoked : IsInvoked (type_of function) (places next.function) image.cap store next.arguments r
+    pub invoked : IsInvoked (type_of function) (places.function next.function) image.cap store next.arguments r
     pub types : global_types inst.context.globals ≡ types_of_values store.globals
     pub table : TableHolds inst places r.machine.bytes
     pub entries : AreEntries inst places later r.later

@@ -7,7 +7,7 @@ use Rattle.wasm_defs.specs.declared.token.Plain.{Plain}
 use Rattle.wasm_defs.specs.Trees.{Seq, Simple}
 use Rattle.wasm_defs.specs.Typing.{Types, Context, Moves, Typed, rule_of}
 use Rattle.wasm_defs.specs.Values.{Value, types_of_values, trap_number}
-use Rattle.wasm_defs.specs.Configurations.{Instance, Store, Config, Step, Trapped, belows, used}
+use Rattle.wasm_defs.specs.Configurations.{Instance, Store, Config, Step, Trapped, place_of, belows, used}
 use Rattle.wasm_defs.specs.Reductions.{applied, simple}
 use Rattle.wasm_defs.specs.Effects.{Effect, Gives, Traps, Fails, effect}
 use Rattle.frame_layout.specs.Laws.{TrapsAt}
@@ -16,7 +16,7 @@ use Rattle.image_format.specs.Contents.{Image}
 use Rattle.image_format.specs.Environment.{code_of_image}
 use Rattle.image_format.specs.ImageRun.{Running}
 use Rattle.sim_frames.specs.Covered.{IsStraightStep}
-use Rattle.sim_frames.specs.Functions.{global_types}
+use Rattle.sim_frames.specs.Functions.{TextPlaces, global_types}
 use Rattle.sim_frames.proofs.Frames.{labels_of, under, Compiled, SitsAt, FramesStay}
 use Rattle.sim_frames.proofs.Follows.{matches_now, stands_on, ahead, labels_ahead, halts_at}
 use Rattle.sim_frames.proofs.Rules.{types_append}
@@ -28,9 +28,9 @@ use Rattle.simulation.proofs.Entering.{table_kept}
 use Rattle.simulation.proofs.Matching.{StoreStays, Matches, Leads, lifted}
 use Rattle.simulation.proofs.Straight.Effects.{above, enough, effect_above}
 use Rattle.simulation.proofs.Straight.Instructions as one
-use Rattle.simulation.proofs.Straight.Lifts.{simple_applied, behind, moves_all, low_now, has_now, size_now}
+use Rattle.simulation.proofs.Straight.Lifts.{simple_applied, behind, moves_all, low_now, has_now, told_now, size_now}
 
-module _ (im : Image) (near : length (code_of_image im) ≤ 2 ^ 26) (inst : Instance) (places : ℕ → ℕ) (outer : Types) (environment : EnvironmentStands inst im) (c : Config) (r : Running) (x : Matches im inst places outer c r)
+module _ (im : Image) (near : length (code_of_image im) ≤ 2 ^ 26) (inst : Instance) (places : TextPlaces) (outer : Types) (environment : EnvironmentStands inst im places) (c : Config) (r : Running) (x : Matches im inst places outer c r)
     (p : Plain) (rest : Seq) (step : IsStraightStep p) (changes : ChangesStore p) (m : FramesStay (code_of_image im) inst places outer (record c.frame { code = Simple p rest }) c.callers r.machine) where
   abbrev text : List (Option Op)
   text = code_of_image im
@@ -67,7 +67,7 @@ module _ (im : Image) (near : length (code_of_image im) ≤ 2 ^ 26) (inst : Inst
         (matches_now text inst places outer (record c.frame { code = Simple p rest }) c.callers r.machine m)
 
     abbrev Goal : Effect → Type 0
-    Goal e = Leads im inst places outer 128 size r (applied c rest e)
+    Goal e = Leads im inst places outer 128 size r (applied c (place_of c.frame (Simple p rest)) rest e)
 
     by_effect : (e : Effect) → Whole (above (belows c.frame.labels) e) → Goes mid ⊎ Stops → Goal e
     by_effect (Gives store locals operands) whole_is (inl y) =
@@ -96,7 +96,7 @@ module _ (im : Image) (near : length (code_of_image im) ≤ 2 ^ 26) (inst : Inst
                 (subst (λ (ts : Types). SitsAt text inst places k m.running.os (Some (length ts + length lower)) ts here rest m.running.to m.running.there) (sym types_are) sits)
                 m.running.fit;
             store = subst (λ (st : Store). StoreStays im inst places st y.last) store_is
-                (record { calls = y.calls ∙ x.store.calls ∙ sym y.calls_stay; replies = y.replies ∙ x.store.replies ∙ sym y.replies_stay; stands = y.stands; types = x.store.types ∙ sym y.globals_stay; table = table_kept inst places r.machine.bytes y.last.machine.bytes y.table_stays x.store.table });
+                (record { calls = y.calls ∙ x.store.calls ∙ sym y.calls_stay; replies = y.replies ∙ x.store.replies ∙ sym y.replies_stay; stands = y.stands; types = x.store.types ∙ sym y.globals_stay; table = table_kept inst places r.machine.bytes y.last.machine.bytes y.table_stays x.store.table; told = x.store.told });
             results = y.results ∙ x.results;
             later = subst (AreEntries inst places c.later) (sym y.later) x.later;
           };
@@ -106,8 +106,9 @@ module _ (im : Image) (near : length (code_of_image im) ≤ 2 ^ 26) (inst : Inst
     by_effect (Traps kind) whole_is (inr y) =
         let same : Traps kind ≡ Traps y.kind = sym whole_is ∙ y.gives in
         let kind_is : y.kind ≡ kind = cc in
-        lifted im inst places outer c.store c.later r x.store x.results x.later 128 size (Trapped c.store kind)
-        (refl, halts_at text inst places outer c.store c.later 128 y.steps r.machine kind y.short (subst (λ (t : TrapKind). TrapsAt text y.steps y.behind (trap_number t) r.machine) kind_is y.traps))
+        lifted im inst places outer c.store c.later r x.store x.results x.later 128 size (Trapped c.store kind (place_of c.frame (Simple p rest)))
+        (refl, halts_at text inst places outer c.store c.later 128 y.steps r.machine kind (k.begin + m.here) (k.begin + (m.here + y.word)) (place_of c.frame (Simple p rest)) m.at (omega (arith, y.ends))
+        (told_now text near inst places outer c r.machine p rest step m y.word y.among) y.short (subst (λ (t : TrapKind). TrapsAt text y.steps y.behind (trap_number t) r.machine) kind_is y.traps))
     by_effect Fails whole_is (inl y) = let wrong = sym whole_is ∙ y.gives in absurd cc
     by_effect Fails whole_is (inr y) = let wrong = sym whole_is ∙ y.gives in absurd cc
 
@@ -116,7 +117,7 @@ module _ (im : Image) (near : length (code_of_image im) ≤ 2 ^ 26) (inst : Inst
       let typed = m.running.sits.typed in
       let mid = typed.0 in
       let moves = typed.1 in
-      let same_cap = ap (λ (n : ℕ). applied c rest (effect c.store c.frame.locals n p c.frame.operands)) (sym environment.cap) in
+      let same_cap = ap (λ (n : ℕ). applied c (place_of c.frame (Simple p rest)) rest (effect c.store c.frame.locals n p c.frame.operands)) (sym environment.cap) in
       subst (λ (next : Step). Leads im inst places outer 128 size r next) (sym (simple_applied inst c p rest step ∙ same_cap))
       (by_effect mid moves typed.2 (effect c.store c.frame.locals im.cap p c.frame.operands)
       (effect_above c.store c.frame.locals lower im.cap p c.frame.operands step (enough at p c.frame.operands mid step moves)) (comes mid moves typed.2))

@@ -5,13 +5,14 @@ use Rattle.wasm_defs.specs.Limits.{max_params}
 use Rattle.wasm_defs.specs.Host.{are_of}
 use Rattle.wasm_defs.specs.Configurations.{Function, type_of, Instance, Invocation}
 use Rattle.image_format.specs.Environment.{Entry}
+use Rattle.sim_frames.specs.Functions.{TextPlaces}
 
-module _ (inst : Instance) (places : ℕ → ℕ) where
+module _ (inst : Instance) (places : TextPlaces) where
   -- an image's entry calls the function that is invoked, with the same arguments
   pub record IsEntry (i : Invocation) (e : Entry × List ValType) : Type 0 where
     pub function : Function
     pub is : slice_get inst.functions i.function ≡ Some function
-    pub offset : e.0.offset ≡ 4 * places i.function
+    pub offset : e.0.offset ≡ 4 * places.function i.function
     pub arguments : e.0.arguments ≡ i.arguments
     pub are_of_types : are_of (type_of function).params i.arguments ≡ true
     pub few : length (type_of function).params ≤ max_params

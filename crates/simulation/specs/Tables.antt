@@ -5,6 +5,7 @@ use Rattle.wasm_defs.specs.declared.types.FuncType.{FuncType}
 use Rattle.wasm_defs.specs.Context.{first_like}
 use Rattle.wasm_defs.specs.Configurations.{Function, type_of, Instance}
 use Rattle.sim_memory.specs.TableLaws.{TableStands}
+use Rattle.sim_frames.specs.Functions.{TextPlaces}
 
 -- a function that isn't there is taken to have no parameters and no result
 abbrev pub type_in : Option Function → FuncType
@@ -17,7 +18,7 @@ like_in inst f = first_like inst.context.types (type_in (slice_get inst.function
 
 -- The rows stand in the table's region, each with its function's place and the index that its type has. Their functions are there,
 -- and indices of types have 32 bits.
-pub record TableHolds (inst : Instance) (places : ℕ → ℕ) (b : Bytes) : Type 0 where
-  pub rows : TableStands inst.table places (like_in inst) b
+pub record TableHolds (inst : Instance) (places : TextPlaces) (b : Bytes) : Type 0 where
+  pub rows : TableStands inst.table places.function (like_in inst) b
   pub functions : (a f : ℕ) → slice_get inst.table a ≡ Some (Some f) → (h : Function) × (slice_get inst.functions f ≡ Some h)
   pub few_types : length inst.context.types < 2 ^ 32

@@ -23,7 +23,7 @@ use Rattle.frame_layout.specs.Slots.{operand}
 use Rattle.frame_layout.specs.Templates.{exit_stub}
 use Rattle.frame_layout.specs.Laws.{IsFrame}
 use Rattle.frame_layout.proofs.Standing.{has_first, has_rest}
-use Rattle.sim_frames.specs.Functions.{Known}
+use Rattle.sim_frames.specs.Functions.{TextPlaces, Known}
 use Rattle.sim_frames.proofs.Frames.{under, Compiled, SitsAt, Returns, CallersStay, FramesStay, KeepsRegisters}
 use Rattle.sim_frames.proofs.Follows.{same_beside, ahead, labels_ahead, Follows, owed_of}
 use Rattle.sim_frames.proofs.Heights.{peak_here}
@@ -48,7 +48,7 @@ called_at None from mid m = absurd m.allowed
 called_at (Some t) from mid m =
     record { ty = t; is = refl; moves = moves_fixed (reverse t.params) (reverse t.results) from mid m; height = λ n. rule_height (called [] t) from mid n tt m }
 
-module _ (text : List (Option Op)) (near : length text ≤ 2 ^ 26) (inst : Instance) (places : ℕ → ℕ) (outer : Types) (stub : HasAt text 0 exit_stub) where
+module _ (text : List (Option Op)) (near : length text ≤ 2 ^ 26) (inst : Instance) (places : TextPlaces) (outer : Types) (stub : HasAt text 0 exit_stub) where
   module _ (c : Config) (s : State) (g : ℕ) (rest : Seq) (m : FramesStay text inst places outer (record c.frame { code = Simple (Call g) rest }) c.callers s) where
     abbrev k : Compiled text inst places c.frame.function
     k = m.running.compiled
@@ -72,7 +72,7 @@ module _ (text : List (Option Op)) (near : length text ≤ 2 ^ 26) (inst : Insta
     x = called_at (function_type at g) (types_of_values ops) m.running.sits.typed.0 m.running.sits.typed.1
 
     -- to a function of some type, at its place
-    module _ (ty : FuncType) (ty_is : ty ≡ x.ty) (target : places g ≤ length text) where
+    module _ (ty : FuncType) (ty_is : ty ≡ x.ty) (target : places.function g ≤ length text) where
       abbrev count : ℕ
       count = length ty.params
 
@@ -109,13 +109,13 @@ module _ (text : List (Option Op)) (near : length text ≤ 2 ^ 26) (inst : Insta
           let peak_is = peak_here at (Simple (Call g) rest) h in
           (omega (arith, slots_are), omega arith)
 
-      d_is : k.around.distance_to (m.here + 6) g ≡ distance (k.begin + (m.here + 6)) (places g)
+      d_is : k.around.distance_to (m.here + 6) g ≡ distance (k.begin + (m.here + 6)) (places.function g)
       d_is = k.distances (m.here + 6) g
 
       abbrev Words : (slots d : ℕ) → List Op
       Words slots d = shift slots ++ (Auipc ra (hi d) ∷ Jalr ra ra (lo d) ∷ back slots)
 
-      has : HasAt text (k.begin + m.here) (Words (part (record c.frame { operands = drop (length ty.params) c.frame.operands; code = rest })) (distance (k.begin + (m.here + 6)) (places g)))
+      has : HasAt text (k.begin + m.here) (Words (part (record c.frame { operands = drop (length ty.params) c.frame.operands; code = rest })) (distance (k.begin + (m.here + 6)) (places.function g)))
       has =
           subst (λ (d : ℕ). HasAt text (k.begin + m.here) (Words (part caller) d)) d_is
           (subst (λ (i : ℕ). HasAt text (k.begin + m.here) (Words i (k.around.distance_to (m.here + 6) g))) slots_are
@@ -138,7 +138,7 @@ module _ (text : List (Option Op)) (near : length text ≤ 2 ^ 26) (inst : Insta
 
       returns : Returns text inst places outer s.bytes (used c.callers) (reverse ty.results) (place (k.begin + (m.here + 8))) m.address caller
       returns =
-          let behind = has_rest text (k.begin + m.here) (shift (part caller)) (Auipc ra (hi (distance (k.begin + (m.here + 6)) (places g))) ∷ Jalr ra ra (lo (distance (k.begin + (m.here + 6)) (places g))) ∷ back (part caller)) has in
+          let behind = has_rest text (k.begin + m.here) (shift (part caller)) (Auipc ra (hi (distance (k.begin + (m.here + 6)) (places.function g))) ∷ Jalr ra ra (lo (distance (k.begin + (m.here + 6)) (places.function g))) ∷ back (part caller)) has in
           record {
             at = k.begin + (m.here + 8);
             here = m.here + 14;
@@ -167,7 +167,7 @@ module _ (text : List (Option Op)) (near : length text ≤ 2 ^ 26) (inst : Insta
         pub reaches : Reaches text 8 s end
         pub bytes_are : end.bytes ≡ s.bytes
         pub registers : KeepsRegisters s end
-        pub at : end.pc ≡ place (places g)
+        pub at : end.pc ≡ place (places.function g)
         pub frame : IsFrame (used (record c.frame { operands = drop (length ty.params) c.frame.operands; code = rest } ∷ c.callers)) end
         pub link_is : reg end.registers ra ≡ place (m.running.compiled.begin + (m.here + 8))
         pub types : types_of_values (reverse (take (length ty.params) c.frame.operands)) ≡ ty.params
@@ -177,14 +177,14 @@ module _ (text : List (Option Op)) (near : length text ≤ 2 ^ 26) (inst : Insta
       pub begins : Begun
       begins =
           let slots = part caller in
-          let d = distance (k.begin + (m.here + 6)) (places g) in
+          let d = distance (k.begin + (m.here + 6)) (places.function g) in
           let calls = Auipc ra (hi d) ∷ Jalr ra ra (lo d) ∷ back slots in
           let behind = has_rest text (k.begin + m.here) (shift slots) calls has in
           let inside = m.running.sits.inside in
           let one = shift_moves text s (k.begin + m.here) slots m.at small.0 (used c.callers) (has_first text (k.begin + m.here) (shift slots) calls has) m.frame.first small.1 in
           let pc_one = one.pc_is in
           let here_is = m.at in
-          let two = linked_lands text one.end (k.begin + m.here + 6) (k.begin + (m.here + 6)) (places g) (behind.0, (behind.1.0, tt)) (omega arith) (omega arith) (omega arith) (omega arith) in
+          let two = linked_lands text one.end (k.begin + m.here + 6) (k.begin + (m.here + 6)) (places.function g) (behind.0, (behind.1.0, tt)) (omega arith) (omega arith) (omega arith) (omega arith) in
           let bytes : two.end.bytes ≡ s.bytes = two.bytes_are ∙ one.bytes_are in
           let link = two.link_is in
           let base_is : used c.callers + operand k.around.layout 0 + length (drop count ops ++ belows c.frame.labels) ≡ used (caller ∷ c.callers) = omega (arith, m.running.width) in
@@ -214,7 +214,7 @@ module _ (text : List (Option Op)) (near : length text ≤ 2 ^ 26) (inst : Insta
     Pays step = Follows text inst places outer c.store c.later (128 + 128 * owed_of step) size s step
 
     -- a declared function
-    enters : (f : Func) (callee : Compiled text inst places f) → callee.begin ≡ places g → f.ty ≡ x.ty
+    enters : (f : Func) (callee : Compiled text inst places f) → callee.begin ≡ places.function g → f.ty ≡ x.ty
         → Pays (enter c.store f (reverse (take (length f.ty.params) c.frame.operands)) (record c.frame { operands = drop (length f.ty.params) c.frame.operands; code = rest } ∷ c.callers) c.later)
     enters f callee begin_is ty_is =
         let inside = callee.inside in

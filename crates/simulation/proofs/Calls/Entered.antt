@@ -12,7 +12,7 @@ use Rattle.wasm_defs.specs.declared.types.ValType.{ValType}
 use Rattle.wasm_defs.specs.declared.value.TrapKind.TheVariants.{StackExhausted}
 use Rattle.wasm_defs.specs.Typing.{Types, Context, Typed, inside}
 use Rattle.wasm_defs.specs.Places.{Place, end_of}
-use Rattle.wasm_defs.specs.Configurations.{Func, Instance, Store, Invocation, Frame, Config, Inside, Step, To, Trapped, belows, part, used, max_slots}
+use Rattle.wasm_defs.specs.Configurations.{Func, Instance, Store, Invocation, Frame, Config, Inside, Step, To, Trapped, place_of_body, belows, part, used, max_slots}
 use Rattle.wasm_defs.specs.Configurations as config
 use Rattle.wasm_defs.specs.Reductions.{enter}
 use Rattle.wasm_defs.specs.Values.{Value, zero_of, types_of_values}
@@ -20,15 +20,18 @@ use Rattle.frame_layout.specs.declared.layout.Layout.{Layout}
 use Rattle.frame_layout.specs.Macros.{ra, s0, s5}
 use Rattle.frame_layout.specs.Slots.{link, need}
 use Rattle.frame_layout.specs.Templates.{prologue, epilogue, exit_stub}
-use Rattle.frame_layout.specs.Functions.{label, code, body_place, body_size, body_code}
+use Rattle.frame_layout.specs.Traps.{room_trap}
+use Rattle.frame_layout.specs.Functions.{label, code, traps, body_place, body_size, body_code}
 use Rattle.frame_layout.specs.Laws.{slot_at, IsFrame, Enters}
 use Rattle.frame_layout.proofs.Beginnings.{prologue_does, exhaustion_does}
 use Rattle.frame_layout.proofs.Standing.{has_first, has_rest}
-use Rattle.sim_frames.proofs.Frames.{labels_of, under, Compiled, own, Ending, SitsAt, CallersStay, FramesStay}
+use Rattle.sim_frames.specs.Functions.{TextPlaces}
+use Rattle.sim_frames.proofs.Frames.{labels_of, under, AreSited, Compiled, own, Ending, SitsAt, CallersStay, FramesStay}
 use Rattle.sim_frames.proofs.Follows.{callers_kept, Reached, halts_at, Follows, owed_of}
 use Rattle.sim_frames.proofs.Heights.{peak, peak_here}
 use Rattle.sim_frames.proofs.Leaving.{address_fits}
 use Rattle.sim_frames.proofs.Rules.{types_length, types_append}
+use Rattle.sim_frames.proofs.Sited.{traps_alike}
 use Rattle.sim_frames.proofs.Sizes.{code_size}
 use Rattle.sim_frames.proofs.Values.{Holds, holds_as, Locals, Agree, SameBeside}
 use Rattle.sim_frames.proofs.Words.{zero_word, modulus_positive}
@@ -70,7 +73,7 @@ module _ (code : List (Option Op)) (l : Layout) (f : Func) (base : ℕ) (argumen
 
 -- ---- the body
 
-module _ (text : List (Option Op)) (near : length text ≤ 2 ^ 26) (inst : Instance) (places : ℕ → ℕ) (outer : Types) (stub : HasAt text 0 exit_stub) where
+module _ (text : List (Option Op)) (near : length text ≤ 2 ^ 26) (inst : Instance) (places : TextPlaces) (outer : Types) (stub : HasAt text 0 exit_stub) where
   module _ {f : Func} (k : Compiled text inst places f) where
     abbrev rs : Types
     rs = k.context.results
@@ -108,6 +111,10 @@ module _ (text : List (Option Op)) (near : length text ≤ 2 ^ 26) (inst : Insta
           has = subst (HasAt text (k.begin + length front)) body_is (has_first text (k.begin + length front) old end (has_rest text k.begin front (old ++ end) k.has));
           inside = omega (arith, k.inside, length-append front (old ++ end), length-append old end);
           ending = inl_falls (end_of inner f.body (Some 0)) (omega arith);
+          sited = subst (AreSited places.trap k.begin f.origin)
+              (traps_alike w w.distance_to (inside k.context k.context.results) (label 0 (length k.context.results) 0 ∷ []) (labels_of (own text inst places k ∷ [])) refl f.body (Some 0) (body_place w) 1
+              ∙ ap (λ (c : Context). traps w c (labels_of (own text inst places k ∷ [])) (Some 0) (body_place w) 1 f.body) same)
+              k.sited;
         }
       where
         inl_falls : (p : Place) → body_place k.around + length body ≡ (own text inst places k).place → Ending text inst places k p (body_place k.around + length body) (own text inst places k).place
@@ -215,7 +222,7 @@ module _ (text : List (Option Op)) (near : length text ≤ 2 ^ 26) (inst : Insta
     exhausted full =
         let x = exhaustion_does text s k.begin (used callers) l has_prologue at frame (used_fits s.bytes address (reverse f.ty.results) callers stay) k.fits full in
         subst Pays (sym (cond-true _ _ _ (lt-ltb max_slots (used callers + config.need f) (omega (arith, needs)))))
-        (refl, halts_at text inst places outer store later (24 + 128 * 0) 10 s StackExhausted (omega arith) x)
+        (refl, halts_at text inst places outer store later (24 + 128 * 0) 10 s StackExhausted k.begin (k.begin + room_trap) (place_of_body f.origin) at (omega arith) k.room (omega arith) x)
 
     pub enters_follow : Follows text inst places outer store later (24 + 128 * owed_of (enter store f arguments callers later)) size s (enter store f arguments callers later)
     enters_follow = ⊎_elim exhausted entered (cases_lt max_slots (used callers + need k.around.layout))

@@ -28,6 +28,7 @@ use Rattle.frame_layout.proofs.Standing.{has_rest}
 use Rattle.sim_memory.specs.Regions.{HasRegions}
 use Rattle.sim_memory.specs.TableLaws.{Begins, BeginsRow}
 use Rattle.sim_memory.proofs.Tables.{indirect_does}
+use Rattle.sim_frames.specs.Functions.{TextPlaces}
 use Rattle.sim_frames.proofs.Frames.{under, Compiled, SitsAt, Returns, CallersStay, FramesStay, KeepsRegisters}
 use Rattle.sim_frames.proofs.Heights.{peak_here}
 use Rattle.sim_frames.proofs.Leaving.{operands_below}
@@ -52,7 +53,7 @@ called_by true None from mid m = absurd m.allowed
 called_by true (Some t) from mid m =
     record { ty = t; is = refl; moves = moves_fixed (I32 ∷ reverse t.params) (reverse t.results) from mid m; height = λ n. rule_height (called (I32 ∷ []) t) from mid n tt m }
 
-module _ (text : List (Option Op)) (near : length text ≤ 2 ^ 26) (inst : Instance) (places : ℕ → ℕ) (outer : Types) (start : Config) (s : State) (type table_index : ℕ) (rest : Seq) (v : Value) (below : List Value)
+module _ (text : List (Option Op)) (near : length text ≤ 2 ^ 26) (inst : Instance) (places : TextPlaces) (outer : Types) (start : Config) (s : State) (type table_index : ℕ) (rest : Seq) (v : Value) (below : List Value)
     (m : FramesStay text inst places outer (record start.frame { operands = v ∷ below; code = Simple (CallIndirect type table_index) rest }) start.callers s) where
   abbrev k : Compiled text inst places start.frame.function
   k = m.running.compiled
@@ -101,8 +102,8 @@ module _ (text : List (Option Op)) (near : length text ≤ 2 ^ 26) (inst : Insta
       let peak_is = peak_here at (Simple (CallIndirect type table_index) rest) h in
       omega arith
 
-  pub by_row : (pages : ℕ) → HasRegions pages s → TableHolds inst places s.bytes → ((f : ℕ) → slice_get inst.table v.number ≡ Some (Some f) → places f ≤ length text)
-      → BeginsRow text (operand m.running.compiled.around.layout (length (types_of_values (v ∷ below)) + length (belows start.frame.labels) - 1 - length (type_or_empty (slice_get (under m.running.compiled.context m.running.os).types type)).params)) (m.running.compiled.around.like type) places (like_in inst) s (slice_get inst.table v.number)
+  pub by_row : (pages : ℕ) → HasRegions pages s → TableHolds inst places s.bytes → ((f : ℕ) → slice_get inst.table v.number ≡ Some (Some f) → places.function f ≤ length text)
+      → BeginsRow text (operand m.running.compiled.around.layout (length (types_of_values (v ∷ below)) + length (belows start.frame.labels) - 1 - length (type_or_empty (slice_get (under m.running.compiled.context m.running.os).types type)).params)) (m.running.compiled.around.like type) places.function (like_in inst) s (slice_get inst.table v.number)
   by_row pages regions table fit =
       let there_is : used start.callers + operand k.around.layout (h - 1) ≡ used start.callers + operand k.around.layout 0 + length (below ++ lower) = omega (arith, types_length (v ∷ below), length-append below lower) in
       let slot = slot_at s.bytes (used start.callers + operand k.around.layout 0 + length (below ++ lower)) in
@@ -111,7 +112,7 @@ module _ (text : List (Option Op)) (near : length text ≤ 2 ^ 26) (inst : Insta
       let like_is : k.around.like type ≡ _ = ap (λ (f : ℕ → ℕ). f type) k.like_is in
       let within = like_within inst.context.types type x.ty type_is in
       let few = table.few_types in
-      indirect_does k.around text s (k.begin + m.here) (used start.callers) h type (length (type_or_empty (slice_get at.types type)).params) v.number pages inst.table places (like_in inst)
+      indirect_does k.around text s (k.begin + m.here) (used start.callers) h type (length (type_or_empty (slice_get at.types type)).params) v.number pages inst.table places.function (like_in inst)
       has_here m.at m.frame regions table.rows k.rows_are (omega arith) high word_is small near fit
 
   -- ---- to a function of the type, at its place

@@ -15,6 +15,7 @@ use Rattle.wasm_defs.specs.Reductions.{simple, branch, branch_if, proceeds}
 use Rattle.frame_layout.specs.Macros.{s0, s5}
 use Rattle.frame_layout.specs.Slots.{operand}
 use Rattle.frame_layout.specs.Templates.{Label, label_at, jump_if_words, words, exit_stub, unless_words, jump_words}
+use Rattle.sim_frames.specs.Functions.{TextPlaces}
 use Rattle.sim_frames.proofs.Frames.{Open, labels_of, under, Compiled, SitsAt, FramesStay}
 use Rattle.sim_frames.proofs.Follows.{same_beside, registers_of, ahead, labels_ahead, Follows, owed_of}
 use Rattle.sim_frames.proofs.Holding.{Held, held_after, held_less, arrives, follows_less, follows_after}
@@ -26,7 +27,7 @@ use Rattle.simulation.proofs.Control.Entries.{still}
 use Rattle.simulation.proofs.Control.Steps.{IfLabel, if_label, held_here, has_here, inside_here, high_here, stand_here, rest_sits}
 use Rattle.simulation.proofs.Control.Tests.{has_jump, branch_holds, branch_fails}
 
-module _ (text : List (Option Op)) (near : length text ≤ 2 ^ 26) (inst : Instance) (places : ℕ → ℕ) (outer : Types) (stub : HasAt text 0 exit_stub) where
+module _ (text : List (Option Op)) (near : length text ≤ 2 ^ 26) (inst : Instance) (places : TextPlaces) (outer : Types) (stub : HasAt text 0 exit_stub) where
   module _ (start : Config) (s : State) (l : ℕ) (rest : Seq) where
     abbrev at : List Value → Config
     at ops = record start { frame = record start.frame { operands = ops } }

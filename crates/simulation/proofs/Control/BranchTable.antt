@@ -19,6 +19,7 @@ use Rattle.frame_layout.specs.Macros.{s0, s5}
 use Rattle.frame_layout.specs.Slots.{operand}
 use Rattle.frame_layout.specs.Templates.{Label, Around, label_at, jump_words, jumps, table_front, exit_stub}
 use Rattle.frame_layout.proofs.Standing.{has_first, has_rest}
+use Rattle.sim_frames.specs.Functions.{TextPlaces}
 use Rattle.sim_frames.proofs.Frames.{Open, labels_of, Compiled, FramesStay}
 use Rattle.sim_frames.proofs.Follows.{same_beside, registers_of, ahead, labels_ahead, Follows, owed_of}
 use Rattle.sim_frames.proofs.Holding.{Held, held_after, held_less, follows_less, follows_after}
@@ -124,7 +125,7 @@ module _ (text : List (Option Op)) (w : Around) (begin j n : ℕ) where
       let size : length (jump_words w j (here + suc i * jump_count n) l) ≡ length (jump_words w j (here + length first + i * jump_count n) l) = ap (λ (m : ℕ). length (jump_words w j m l)) (sym there) in
       (subst (λ (m : ℕ). HasAt text (begin + m) (jump_words w j m l)) there rest.0, omega (arith, rest.1, size, count, suc-mul i (jump_count n), length-append first more))
 
-module _ (text : List (Option Op)) (near : length text ≤ 2 ^ 26) (inst : Instance) (places : ℕ → ℕ) (outer : Types) (stub : HasAt text 0 exit_stub) (start : Config) (s : State) (ls : List ℕ) (l : ℕ) (rest : Seq) where
+module _ (text : List (Option Op)) (near : length text ≤ 2 ^ 26) (inst : Instance) (places : TextPlaces) (outer : Types) (stub : HasAt text 0 exit_stub) (start : Config) (s : State) (ls : List ℕ) (l : ℕ) (rest : Seq) where
   abbrev at : List Value → Config
   at ops = record start { frame = record start.frame { operands = ops } }
 

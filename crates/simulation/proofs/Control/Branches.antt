@@ -13,6 +13,7 @@ use Rattle.wasm_defs.specs.Configurations as config
 use Rattle.wasm_defs.specs.Reductions.{returns, branch, carried, hand_out, finish}
 use Rattle.frame_layout.specs.Slots.{operand}
 use Rattle.frame_layout.specs.Templates.{label_at, jump_words, exit_stub}
+use Rattle.sim_frames.specs.Functions.{TextPlaces}
 use Rattle.sim_frames.proofs.Frames.{Open, label_of, labels_of, Compiled, own, Opened, SitsAt, Fit}
 use Rattle.sim_frames.proofs.Follows.{callers_kept, Follows, owed_of}
 use Rattle.sim_frames.proofs.Holding.{Held, arrives, follows_less, follows_after}
@@ -37,7 +38,7 @@ pub finish_owes : (store : Store) (owed : ℕ) (values : List Value) (callers : 
 finish_owes store owed values [] later = hand_out_owes store owed values later
 finish_owes store owed values (f ∷ fs) later = refl
 
-module _ (text : List (Option Op)) (near : length text ≤ 2 ^ 26) (inst : Instance) (places : ℕ → ℕ) (outer : Types) (stub : HasAt text 0 exit_stub)
+module _ (text : List (Option Op)) (near : length text ≤ 2 ^ 26) (inst : Instance) (places : TextPlaces) (outer : Types) (stub : HasAt text 0 exit_stub)
     (c : Config) (k : Compiled text inst places c.frame.function) (address here j : ℕ) (s : State) (ops : List Value) (held : Held text inst places outer c.frame c.callers k address ops s)
     (at : s.pc ≡ place (k.begin + here)) (top : j ≡ length (ops ++ belows c.frame.labels)) (high : length (ops ++ belows c.frame.labels) ≤ k.around.layout.greatest) where
   abbrev Words : Open → Type 0

@@ -5,31 +5,33 @@ use Rattle.rv_isa.specs.declared.operations.Op.{Op}
 use Rattle.rv_isa.specs.Runs.{HasAt}
 use Rattle.wasm_defs.specs.declared.token.BlockType.{BlockType}
 use Rattle.wasm_defs.specs.declared.types.ValType.TheVariants.{I32}
-use Rattle.wasm_defs.specs.Trees.{Seq, Nothing, If, IfElse}
+use Rattle.wasm_defs.specs.Trees.{Seq, Nothing, If, IfElse, tokens_in}
 use Rattle.wasm_defs.specs.Typing.{Types, Context, Signature, Typed, inside}
 use Rattle.wasm_defs.specs.Places.{Place, end_of, shape, after_if}
 use Rattle.wasm_defs.specs.Configurations.{Func, Instance}
 use Rattle.frame_layout.specs.Templates.{Label}
-use Rattle.frame_layout.specs.Functions.{label, size, code, over, test_words}
+use Rattle.frame_layout.specs.Functions.{label, size, code, over, test_words, traps}
 use Rattle.frame_layout.proofs.Standing.{has_first, has_rest}
+use Rattle.sim_frames.specs.Functions.{TextPlaces}
 use Rattle.sim_frames.specs.Covered.{IsCovered}
-use Rattle.sim_frames.proofs.Frames.{Open, labels_of, under, Compiled, Ending, SitsAt}
+use Rattle.sim_frames.proofs.Frames.{Open, labels_of, behind_of, under, AreSited, Compiled, Ending, SitsAt}
 use Rattle.sim_frames.proofs.Heights.{peak, peak_nothing, peak_here, peak_if, peak_if_else, of_if, of_if_else}
+use Rattle.sim_frames.proofs.Sited.{sited_first, sited_rest, traps_alike}
 use Rattle.sim_frames.proofs.Sitting.{has_at, ending_at}
 use Rattle.sim_frames.proofs.Sizes.{code_size, over_size}
 use Rattle.simulation.proofs.Control.Blocks.{Pieces, ending_falls}
 
-module _ (text : List (Option Op)) (inst : Instance) (places : ℕ → ℕ) {f : Func} (k : Compiled text inst places f) (os : List Open) where
-  -- a test leads on to the first sequence, or to the second one at its place
-  pub record Choice (s : Signature) (h : ℕ) (below : Types) (here : ℕ) (body other rest : Seq) (to : Types) (there : ℕ) : Type 0 where
+module _ (text : List (Option Op)) (inst : Instance) (places : TextPlaces) {f : Func} (k : Compiled text inst places f) (os : List Open) where
+  -- a test leads on to the first sequence, which so many tokens are between and what follows, or to the second one at its place
+  pub record Choice (s : Signature) (h : ℕ) (below : Types) (here : ℕ) (body other rest : Seq) (between : ℕ) (to : Types) (there : ℕ) : Type 0 where
     pub second : ℕ
     pub stop : ℕ
     pub test : HasAt text (k.begin + here) (test_words k.around h here second)
     pub test_inside : k.begin + (here + 6) ≤ length text
     pub second_near : k.begin + second ≤ length text
     pub near : k.begin + stop ≤ length text
-    pub first_pieces : Pieces text inst places k os s s.results (h - 1) below (here + 6) body rest stop stop to there
-    pub second_pieces : Pieces text inst places k os s s.results (h - 1) below second other rest stop stop to there
+    pub first_pieces : Pieces text inst places k os s s.results (h - 1) below (here + 6) body rest stop stop between to there
+    pub second_pieces : Pieces text inst places k os s s.results (h - 1) below second other rest stop stop 1 to there
 
   abbrev at : Context
   at = under k.context os
@@ -51,23 +53,23 @@ module _ (text : List (Option Op)) (inst : Instance) (places : ℕ → ℕ) {f :
     n = length s.results
 
     abbrev opened : ℕ → Open
-    opened end = record { takes = s.results; base = h - 1 - length s.params; place = end }
+    opened end = record { takes = s.results; base = h - 1 - length s.params; place = end; behind = 1 + tokens_in rest + behind_of os }
 
     -- what follows
     behind_sits : (below : Types) (end : ℕ) → IsCovered rest → Typed at rest (s.results ++ below) to → peak at rest (after_if s (Some h)) ≤ k.around.layout.greatest → HasAt text (k.begin + end) (code k.around at labels (after_if s (Some h)) end rest)
         → k.begin + (end + length (code k.around at labels (after_if s (Some h)) end rest)) ≤ length text → Ending text inst places k (end_of at rest (after_if s (Some h))) (end + length (code k.around at labels (after_if s (Some h)) end rest)) there
-        → SitsAt text inst places k os (Some (h - 1 - length s.params + length s.results)) (s.results ++ below) end rest to there
-    behind_sits below end covered typed low has inside_text ending =
+        → AreSited places.trap k.begin f.origin (traps k.around at labels (after_if s (Some h)) end (behind_of os) rest) → SitsAt text inst places k os (Some (h - 1 - length s.params + length s.results)) (s.results ++ below) end rest to there
+    behind_sits below end covered typed low has inside_text ending sited =
         let e : h - suc (length s.params) + length s.results ≡ h - 1 - length s.params + length s.results = omega arith in
         subst (λ (i : ℕ). SitsAt text inst places k os (Some i) (s.results ++ below) end rest to there) e
-        (record { covered = covered; typed = typed; low = low; has = has; inside = inside_text; ending = ending })
+        (record { covered = covered; typed = typed; low = low; has = has; inside = inside_text; ending = ending; sited = sited })
 
     inner_low : (tree : Seq) (m : ℕ) → peak within tree (Some (h - 1 + 0)) ≤ m → peak within tree (Some (h - 1)) ≤ m
     inner_low tree m low =
         let e : h - 1 + 0 ≡ h - 1 = omega arith in
         subst (λ (i : ℕ). peak within tree (Some i) ≤ m) e low
 
-    pub if_choice : 1 ≤ h → (x : SitsAt text inst places k os (Some h) from here (If type body rest) to there) → (below : Types) × (from ≡ I32 ∷ (shape (under k.context os) type).params ++ below) × Choice (shape (under k.context os) type) h below here body Nothing rest to there
+    pub if_choice : 1 ≤ h → (x : SitsAt text inst places k os (Some h) from here (If type body rest) to there) → (below : Types) × (from ≡ I32 ∷ (shape (under k.context os) type).params ++ below) × Choice (shape (under k.context os) type) h below here body Nothing rest 1 to there
     if_choice one x =
         let b = of_if at type body rest from to x.typed in
         let low = peak_if at type body rest (Some h) in
@@ -78,10 +80,14 @@ module _ (text : List (Option Op)) (inst : Instance) (places : ℕ → ℕ) {f :
         let split = length-append inner behind in
         let all = x.inside in
         let test = test_words k.around h here end in
+        let held = 1 + tokens_in rest + behind_of os in
+        let one_traps = traps k.around within (label base n 0 ∷ labels) (Some (h - 1)) (here + 6) held body in
+        let more_traps = traps k.around at labels (after_if s (Some h)) end (behind_of os) rest in
         let has_both = has_rest text (k.begin + here) test (inner ++ behind) x.has in
         let after = behind_sits b.below end x.covered.1 b.outer (omega (arith, low.1, x.low))
         (has_at text (k.begin + here + 6 + length inner) (k.begin + end) behind (omega arith) (has_rest text (k.begin + here + 6) inner behind has_both)) (omega arith)
-        (ending_at text inst places k os (end_of at rest (after_if s (Some h))) (here + length (test ++ (inner ++ behind))) (end + length behind) there (omega arith) x.ending) in
+        (ending_at text inst places k os (end_of at rest (after_if s (Some h))) (here + length (test ++ (inner ++ behind))) (end + length behind) there (omega arith) x.ending)
+        (sited_rest places.trap k.begin f.origin one_traps more_traps x.sited) in
         let near : k.begin + end ≤ length text = omega arith in (
           b.below,
           b.before,
@@ -103,6 +109,8 @@ module _ (text : List (Option Op)) (inst : Instance) (places : ℕ → ℕ) {f :
                 has = has_first text (k.begin + (here + 6)) inner behind (has_at text (k.begin + here + 6) (k.begin + (here + 6)) (inner ++ behind) (omega arith) has_both);
                 inside = omega arith;
                 ending = ending_falls text inst places k (end_of within body (Some (h - 1))) (here + 6 + length inner) end (omega arith);
+                sited = subst (AreSited places.trap k.begin f.origin) (traps_alike k.around k.around.distance_to within (label base n 0 ∷ labels) (label base n end ∷ labels) refl body (Some (h - 1)) (here + 6) held)
+                    (sited_first places.trap k.begin f.origin one_traps more_traps x.sited);
               };
               after = after;
             };
@@ -117,6 +125,7 @@ module _ (text : List (Option Op)) (inst : Instance) (places : ℕ → ℕ) {f :
                 has = tt;
                 inside = omega arith;
                 ending = inl (omega arith);
+                sited = tt;
               };
               after = after;
             };
@@ -124,7 +133,7 @@ module _ (text : List (Option Op)) (inst : Instance) (places : ℕ → ℕ) {f :
         )
 
     module _ (other : Seq) where
-      pub if_else_choice : (x : SitsAt text inst places k os (Some h) from here (IfElse type body other rest) to there) → (below : Types) × (from ≡ I32 ∷ (shape (under k.context os) type).params ++ below) × Choice (shape (under k.context os) type) h below here body other rest to there
+      pub if_else_choice : (x : SitsAt text inst places k os (Some h) from here (IfElse type body other rest) to there) → (below : Types) × (from ≡ I32 ∷ (shape (under k.context os) type).params ++ below) × Choice (shape (under k.context os) type) h below here body other rest (2 + tokens_in other) to there
       if_else_choice x =
           let b = of_if_else at type body rest from to other x.typed in
           let low = peak_if_else at type body rest (Some h) other in
@@ -146,12 +155,19 @@ module _ (text : List (Option Op)) (inst : Instance) (places : ℕ → ℕ) {f :
           let split_jump = length-append jump (two ++ behind) in
           let split_two = length-append two behind in
           let all = x.inside in
+          let held = 2 + tokens_in other + tokens_in rest + behind_of os in
+          let held' = 1 + tokens_in rest + behind_of os in
+          let one_traps = traps k.around within counted (Some (h - 1)) (here + 6) held body in
+          let two_traps = traps k.around within counted (Some (h - 1)) second held' other in
+          let more_traps = traps k.around at labels (after_if s (Some h)) end (behind_of os) rest in
+          let sited_more = sited_rest places.trap k.begin f.origin one_traps (two_traps ++ more_traps) x.sited in
           let has_one = has_at text (k.begin + here + 6) (k.begin + (here + 6)) (one ++ (jump ++ (two ++ behind))) (omega arith) (has_rest text (k.begin + here) test (one ++ (jump ++ (two ++ behind))) x.has) in
           let has_jump = has_at text (k.begin + (here + 6) + length one) (k.begin + first_end) (jump ++ (two ++ behind)) (omega arith) (has_rest text (k.begin + (here + 6)) one (jump ++ (two ++ behind)) has_one) in
           let has_two = has_at text (k.begin + first_end + length jump) (k.begin + second) (two ++ behind) (omega arith) (has_rest text (k.begin + first_end) jump (two ++ behind) has_jump) in
           let after = behind_sits b.below end x.covered.2 b.outer (omega (arith, low.2, x.low))
           (has_at text (k.begin + second + length two) (k.begin + end) behind (omega arith) (has_rest text (k.begin + second) two behind has_two)) (omega arith)
-          (ending_at text inst places k os (end_of at rest (after_if s (Some h))) (here + length (test ++ (one ++ (jump ++ (two ++ behind))))) (end + length behind) there (omega arith) x.ending) in
+          (ending_at text inst places k os (end_of at rest (after_if s (Some h))) (here + length (test ++ (one ++ (jump ++ (two ++ behind))))) (end + length behind) there (omega arith) x.ending)
+          (sited_rest places.trap k.begin f.origin two_traps more_traps sited_more) in
           let near : k.begin + end ≤ length text = omega arith in (
             b.below,
             b.before,
@@ -173,6 +189,8 @@ module _ (text : List (Option Op)) (inst : Instance) (places : ℕ → ℕ) {f :
                   has = has_first text (k.begin + (here + 6)) one (jump ++ (two ++ behind)) has_one;
                   inside = omega arith;
                   ending = ending_at text inst places k os live first_end (here + 6 + length one) end (omega arith) (over_leads live first_end end (has_first text (k.begin + first_end) jump (two ++ behind) has_jump));
+                  sited = subst (AreSited places.trap k.begin f.origin) (traps_alike k.around k.around.distance_to within counted inner refl body (Some (h - 1)) (here + 6) held)
+                      (sited_first places.trap k.begin f.origin one_traps (two_traps ++ more_traps) x.sited);
                 };
                 after = after;
               };
@@ -187,6 +205,8 @@ module _ (text : List (Option Op)) (inst : Instance) (places : ℕ → ℕ) {f :
                   has = has_first text (k.begin + second) two behind has_two;
                   inside = omega arith;
                   ending = ending_falls text inst places k (end_of within other (Some (h - 1))) (second + length two) end (omega arith);
+                  sited = subst (AreSited places.trap k.begin f.origin) (traps_alike k.around k.around.distance_to within counted inner refl other (Some (h - 1)) second held')
+                      (sited_first places.trap k.begin f.origin two_traps more_traps sited_more);
                 };
                 after = after;
               };

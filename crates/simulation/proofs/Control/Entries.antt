@@ -15,6 +15,7 @@ use Rattle.wasm_defs.specs.Configurations as config
 use Rattle.wasm_defs.specs.Reductions.{within, leave, returns, reduce, carried}
 use Rattle.frame_layout.specs.Macros.{distance, far}
 use Rattle.frame_layout.specs.Templates.{exit_stub}
+use Rattle.sim_frames.specs.Functions.{TextPlaces}
 use Rattle.sim_frames.proofs.Frames.{Open, under, Compiled, own, Opened, SitsAt, Fit, FramesStay, KeepsRegisters}
 use Rattle.sim_frames.proofs.Follows.{same_beside, callers_kept, ahead, labels_ahead, Reached, Follows, owed_of}
 use Rattle.sim_frames.proofs.Heights.{peak_here, shape_by_types}
@@ -26,7 +27,7 @@ use Rattle.simulation.proofs.Control.Blocks.{block_stop, loop_stop, block_pieces
 use Rattle.simulation.proofs.Control.Branches.{carried_pays, finish_owes}
 use Rattle.simulation.proofs.Control.Moves.{far_jumps}
 
-module _ (text : List (Option Op)) (near : length text ≤ 2 ^ 26) (inst : Instance) (places : ℕ → ℕ) (outer : Types) (stub : HasAt text 0 exit_stub) (c : Config) (s : State) where
+module _ (text : List (Option Op)) (near : length text ≤ 2 ^ 26) (inst : Instance) (places : TextPlaces) (outer : Types) (stub : HasAt text 0 exit_stub) (c : Config) (s : State) where
   abbrev Here : Seq → Type 0
   Here tree = FramesStay text inst places outer (record c.frame { code = tree }) c.callers s
 
@@ -65,11 +66,11 @@ module _ (text : List (Option Op)) (near : length text ≤ 2 ^ 26) (inst : Insta
       let p = block_pieces text inst places k os type body rest h m.here (types_of_values ops) m.running.to m.running.there (sits_whole (Block type body rest) m) in
       let stop = block_stop text inst places k os type body h m.here in
       let held = held_now text inst places outer (record c.frame { code = Block type body rest }) c.callers s m in
-      let aims = behind_sits text inst places outer (record c.frame { code = Block type body rest }) c.callers k m.address os ops s s held sig sig.results p.0 m.here stop stop body rest m.running.to m.running.there p.1 p.2 in
-      subst (λ (g : Signature). Goal (Block type body rest) (within c ops g (length g.results) rest body rest)) same
-      (still (record c.frame { operands = take (length sig.params) ops; code = body; labels = record { arity = length sig.results; target = rest; below = drop (length sig.params) ops; after = rest } ∷ c.frame.labels })
+      let aims = behind_sits text inst places outer (record c.frame { code = Block type body rest }) c.callers k m.address os ops s s held sig sig.results p.0 m.here stop stop 1 body rest m.running.to m.running.there p.1 p.2 in
+      subst (λ (g : Signature). Goal (Block type body rest) (within c ops g (length g.results) rest body 1 rest)) same
+      (still (record c.frame { operands = take (length sig.params) ops; code = body; labels = record { arity = length sig.results; target = rest; below = drop (length sig.params) ops; after = rest; between = 1 } ∷ c.frame.labels })
       (ahead (Block type body rest) + labels_ahead c.frame.labels)
-      (enters text inst places outer (record c.frame { code = Block type body rest }) c.callers k m.address os ops s s held sig sig.results p.0 m.here stop stop body rest m.running.to m.running.there p.1 p.2 rest aims p.2.near held.matches m.at m.running.fit)
+      (enters text inst places outer (record c.frame { code = Block type body rest }) c.callers k m.address os ops s s held sig sig.results p.0 m.here stop stop 1 body rest m.running.to m.running.there p.1 p.2 rest aims p.2.near held.matches m.at m.running.fit)
       (omega arith))
 
   pub loop_follows : (type : BlockType) (body rest : Seq) → Here (Loop type body rest) → Goal (Loop type body rest) (reduce inst c (Loop type body rest))
@@ -87,10 +88,10 @@ module _ (text : List (Option Op)) (near : length text ≤ 2 ^ 26) (inst : Insta
       let types : types_of_values ops ≡ sig.params ++ types_of_values (drop (length sig.params) ops) = p.1 ∙ ap (λ (ts : Types). sig.params ++ ts) (sym split.1) in
       let inside = m.running.sits.inside in
       let aims = subst (λ (ts : Types). SitsAt text inst places k os (Some (length ts + length (belows c.frame.labels))) ts m.here (Loop type body rest) m.running.to m.running.there) types m.running.sits in
-      subst (λ (g : Signature). Goal (Loop type body rest) (within c ops g (length g.params) (Loop type body rest) body rest)) same
-      (still (record c.frame { operands = take (length sig.params) ops; code = body; labels = record { arity = length sig.params; target = Loop type body rest; below = drop (length sig.params) ops; after = rest } ∷ c.frame.labels })
+      subst (λ (g : Signature). Goal (Loop type body rest) (within c ops g (length g.params) (Loop type body rest) body 1 rest)) same
+      (still (record c.frame { operands = take (length sig.params) ops; code = body; labels = record { arity = length sig.params; target = Loop type body rest; below = drop (length sig.params) ops; after = rest; between = 1 } ∷ c.frame.labels })
       (ahead (Loop type body rest) + labels_ahead c.frame.labels)
-      (enters text inst places outer (record c.frame { code = Loop type body rest }) c.callers k m.address os ops s s held sig sig.params p.0 m.here stop m.here body rest m.running.to m.running.there p.1 p.2 (Loop type body rest) aims (omega arith) held.matches m.at m.running.fit)
+      (enters text inst places outer (record c.frame { code = Loop type body rest }) c.callers k m.address os ops s s held sig sig.params p.0 m.here stop m.here 1 body rest m.running.to m.running.there p.1 p.2 (Loop type body rest) aims (omega arith) held.matches m.at m.running.fit)
       (omega arith))
 
   -- ---- the end of a sequence

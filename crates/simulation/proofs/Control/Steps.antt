@@ -1,5 +1,5 @@
 -- The rules of `unreachable`, `br`, `br_if` and `return`.
-use Rattle.std.proofs.Common.{◌≡◌, ℕ, ◌+◌, ◌^◌, ◌≤◌, List, [], ◌∷◌, ◌++◌, length, map, Option, Some, None, refl, ap, ◌∙◌, subst, append_assoc, arith, ◌*◌}
+use Rattle.std.proofs.Common.{◌≡◌, ℕ, ◌+◌, ◌^◌, ◌≤◌, inl, List, [], ◌∷◌, ◌++◌, length, map, Option, Some, None, refl, ap, ◌∙◌, subst, append_assoc, arith, ◌*◌}
 use Rattle.std.specs.Prelude.{slice_get}
 use Rattle.std.proofs.lemmas.List.{length-append}
 use Rattle.rv_isa.specs.declared.operations.Op.{Op}
@@ -13,20 +13,23 @@ use Rattle.wasm_defs.specs.Trees.{Seq, Simple}
 use Rattle.wasm_defs.specs.Typing.{Types, Stops, Fixed, Moves, with_type, rule_of, Typed}
 use Rattle.wasm_defs.specs.Places.{Place, after_rule}
 use Rattle.wasm_defs.specs.Values.{types_of_values}
-use Rattle.wasm_defs.specs.Configurations.{Func, Instance, Frame, Config, Step, To, Trapped, belows, whole, used}
+use Rattle.wasm_defs.specs.Configurations.{Func, Instance, Frame, Config, Step, To, Trapped, place_of, belows, whole, used}
 use Rattle.wasm_defs.specs.Configurations as config
 use Rattle.wasm_defs.specs.Reductions.{simple, branch, returns}
 use Rattle.frame_layout.specs.Slots.{operand}
+use Rattle.frame_layout.specs.Traps.{trap_places}
 use Rattle.frame_layout.specs.Templates.{Label, Around, last_label, jump_words, words, exit_stub}
 use Rattle.frame_layout.specs.Functions.{code}
 use Rattle.frame_layout.proofs.Jumps.{trap_traps}
+use Rattle.sim_frames.specs.Functions.{TextPlaces}
 use Rattle.sim_frames.proofs.Frames.{Open, label_of, labels_of, under, Compiled, own, SitsAt, Fit, FramesStay}
 use Rattle.sim_frames.proofs.Follows.{ahead, labels_ahead, halts_at, Follows, owed_of}
 use Rattle.sim_frames.proofs.Heights.{peak_here}
 use Rattle.sim_frames.proofs.Holding.{Held, held_now, follows_less}
 use Rattle.sim_frames.proofs.Leaving.{operands_below}
 use Rattle.sim_frames.proofs.Rules.{types_length, MovesFixed, moves_fixed, rule_height}
-use Rattle.sim_frames.proofs.Sitting.{has_words, sits_rest}
+use Rattle.sim_frames.proofs.Sited.{IsIn}
+use Rattle.sim_frames.proofs.Sitting.{has_words, trap_told, sits_rest}
 use Rattle.sim_frames.proofs.Values.{Operands}
 use Rattle.simulation.proofs.Control.Branches.{branch_follows, returns_follow, carried_pays}
 use Rattle.simulation.proofs.Control.Entries.{sits_whole}
@@ -66,7 +69,7 @@ last_is [] o w = refl
 last_is (x ∷ []) o w = refl
 last_is (x ∷ y ∷ os) o w = last_is (y ∷ os) o w
 
-module _ (text : List (Option Op)) (near : length text ≤ 2 ^ 26) (inst : Instance) (places : ℕ → ℕ) (outer : Types) (stub : HasAt text 0 exit_stub) where
+module _ (text : List (Option Op)) (near : length text ≤ 2 ^ 26) (inst : Instance) (places : TextPlaces) (outer : Types) (stub : HasAt text 0 exit_stub) where
   -- the open labels end with the function's own one
   own_is_last : {f : Func} (k : Compiled text inst places f) (labels : List config.Label) (os : List Open) (to : Types) (there : ℕ) → Fit text inst places k labels os to there
       → last_label k.around (labels_of os) ≡ label_of (own text inst places k)
@@ -104,6 +107,10 @@ module _ (text : List (Option Op)) (near : length text ≤ 2 ^ 26) (inst : Insta
       pub has_here : HasAt text (m.running.compiled.begin + m.here) (words m.running.compiled.around (under m.running.compiled.context m.running.os) (labels_of m.running.os) (length (c.frame.operands ++ belows c.frame.labels)) m.here p)
       has_here = has_words text inst places k os p rest h m.here (types_of_values c.frame.operands) m.running.to m.running.there (sits_whole text near inst places outer stub c s (Simple p rest) m)
 
+      pub told_here : (word : ℕ) → IsIn word (trap_places p) → places.trap (m.running.compiled.begin + (m.here + word)) ≡ Some (place_of c.frame (Simple p rest))
+      told_here word among =
+          trap_told text inst places k os p rest h m.here (types_of_values c.frame.operands) m.running.to m.running.there (sits_whole text near inst places outer stub c s (Simple p rest) m) c.frame.labels m.running.fit word among
+
       pub inside_here : m.running.compiled.begin + (m.here + length (words m.running.compiled.around (under m.running.compiled.context m.running.os) (labels_of m.running.os) (length (c.frame.operands ++ belows c.frame.labels)) m.here p)) ≤ length text
       inside_here =
           let x = sits_whole text near inst places outer stub c s (Simple p rest) m in
@@ -131,7 +138,8 @@ module _ (text : List (Option Op)) (near : length text ≤ 2 ^ 26) (inst : Insta
 
     pub unreachable_follows : (rest : Seq) → Here Unreachable rest → Goal Unreachable rest (simple inst c Unreachable rest)
     unreachable_follows rest m =
-        (refl, halts_at text inst places outer c.store c.later 128 3 s trap.Unreachable (omega arith) (trap_traps text s (m.running.compiled.begin + m.here) 1 (has_here Unreachable rest m) m.at (omega arith)))
+        (refl, halts_at text inst places outer c.store c.later 128 3 s trap.Unreachable (m.running.compiled.begin + m.here) (m.running.compiled.begin + (m.here + 2)) (place_of c.frame (Simple Unreachable rest)) m.at (omega arith) (told_here Unreachable rest m 2 (inl refl)) (omega arith)
+        (trap_traps text s (m.running.compiled.begin + m.here) 1 (has_here Unreachable rest m) m.at (omega arith)))
 
     -- what a branch owes is paid
     abbrev Pays : Plain → Seq → Step → Type 0

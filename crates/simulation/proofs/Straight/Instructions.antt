@@ -10,10 +10,12 @@ use Rattle.wasm_defs.specs.Configurations.{Store}
 use Rattle.wasm_defs.specs.Values.{Value, InRange, word_of, types_of_values, trap_number}
 use Rattle.wasm_defs.specs.Effects.{Gives, Traps, effect}
 use Rattle.frame_layout.specs.Slots.{operand}
+use Rattle.frame_layout.specs.Traps.{trap_places}
 use Rattle.frame_layout.specs.Templates.{Label, Around, words}
 use Rattle.frame_layout.specs.Laws.{with_slot, is_scratch, Does, TrapsAt}
 use Rattle.sim_frames.proofs.Values.{Operands, Matches}
 use Rattle.sim_frames.proofs.Puts.{put_matches}
+use Rattle.sim_frames.proofs.Sited.{IsIn}
 use Rattle.sim_frames.proofs.Stores.{kept_matches}
 
 -- the most steps that one instruction takes
@@ -40,8 +42,12 @@ pub record Halts (code : List (Option Op)) (store : Store) (cap : ℕ) (locals o
   pub gives : effect store locals cap p operands ≡ Traps kind
   pub steps : ℕ
   pub short : steps ≤ most_steps
+  -- behind the word that asks for it, which is among the places of the instruction's traps
   pub behind : ℕ
   pub traps : TrapsAt code steps behind (trap_number kind) s
+  pub word : ℕ
+  pub ends : word + 1 ≡ behind
+  pub among : IsIn word (trap_places p)
 
 module _ (code : List (Option Op)) (c : Context) (labels : List Label) (w : Around) (base there : ℕ) (b : Bytes) (store : Store) (cap : ℕ) (locals : List Value) (here : ℕ) (s : State) where
   -- what an instruction comes to

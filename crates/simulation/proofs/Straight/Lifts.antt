@@ -12,9 +12,10 @@ use Rattle.wasm_defs.specs.Places.{Place, after_rule}
 use Rattle.wasm_defs.specs.Values.{Value, types_of_values, trap_number}
 use Rattle.wasm_defs.specs.declared.value.TrapKind.{TrapKind}
 use Rattle.frame_layout.specs.Laws.{TrapsAt}
-use Rattle.wasm_defs.specs.Configurations.{Instance, Config, Step, belows, used}
+use Rattle.wasm_defs.specs.Configurations.{Instance, Config, Step, place_of, belows, used}
 use Rattle.wasm_defs.specs.Reductions.{applied, simple}
 use Rattle.wasm_defs.specs.Effects.{Effect, Gives, Traps, Fails, effect}
+use Rattle.frame_layout.specs.Traps.{trap_places}
 use Rattle.frame_layout.specs.Templates.{Label, words}
 use Rattle.sim_frames.specs.Covered.{IsStraightStep}
 use Rattle.sim_frames.proofs.Frames.{labels_of, under, Compiled, SitsAt, FramesStay}
@@ -22,14 +23,15 @@ use Rattle.sim_frames.proofs.Follows.{registers_of, matches_now, proceeds, leads
 use Rattle.sim_frames.proofs.Heights.{peak_here}
 use Rattle.sim_frames.proofs.Rules.{types_length, types_append, moves_above, height_after}
 use Rattle.sim_frames.proofs.Values.{Matches}
-use Rattle.sim_frames.proofs.Sitting.{has_words, sits_rest}
+use Rattle.sim_frames.proofs.Sited.{IsIn}
+use Rattle.sim_frames.proofs.Sitting.{has_words, trap_told, sits_rest}
 use Rattle.simulation.proofs.Straight.Effects.{above, enough, effect_above}
 use Rattle.simulation.proofs.Straight.Instructions as one
 use Rattle.simulation.proofs.Straight.Outcomes.{KeepsStore, outcome}
 use Rattle.sim_memory.specs.StoreStands.{StoreStands}
-use Rattle.sim_frames.specs.Functions.{global_types}
+use Rattle.sim_frames.specs.Functions.{TextPlaces, global_types}
 
-pub simple_applied : (inst : Instance) (c : Config) (p : Plain) (rest : Seq) → IsStraightStep p → simple inst c p rest ≡ applied c rest (effect c.store c.frame.locals inst.cap p c.frame.operands)
+pub simple_applied : (inst : Instance) (c : Config) (p : Plain) (rest : Seq) → IsStraightStep p → simple inst c p rest ≡ applied c (place_of c.frame (Simple p rest)) rest (effect c.store c.frame.locals inst.cap p c.frame.operands)
 simple_applied inst c Nop rest h = refl
 simple_applied inst c Discard rest h = refl
 simple_applied inst c Select rest h = refl
@@ -46,7 +48,7 @@ simple_applied inst c (Const t n) rest h = refl
 simple_applied inst c (Operate op) rest h = refl
 simple_applied inst c p rest h = absurd h
 
-module _ (text : List (Option Op)) (near : length text ≤ 2 ^ 26) (inst : Instance) (places : ℕ → ℕ) (outer : Types) (c : Config) (s : State) (p : Plain) (rest : Seq) (step : IsStraightStep p)
+module _ (text : List (Option Op)) (near : length text ≤ 2 ^ 26) (inst : Instance) (places : TextPlaces) (outer : Types) (c : Config) (s : State) (p : Plain) (rest : Seq) (step : IsStraightStep p)
     (m : FramesStay text inst places outer (record c.frame { code = Simple p rest }) c.callers s) where
   abbrev k : Compiled text inst places c.frame.function
   k = m.running.compiled
@@ -103,6 +105,11 @@ module _ (text : List (Option Op)) (near : length text ≤ 2 ^ 26) (inst : Insta
       subst (λ (h : ℕ). HasAt text (k.begin + m.here) (words k.around at labels h m.here p)) height
       (has_words text inst places k m.running.os p rest (length types + n) m.here types m.running.to m.running.there m.running.sits)
 
+  -- a trap of the instruction comes from its place
+  pub told_now : (word : ℕ) → IsIn word (trap_places p) → places.trap (m.running.compiled.begin + (m.here + word)) ≡ Some (place_of c.frame (Simple p rest))
+  told_now word among =
+      trap_told text inst places k m.running.os p rest (length types + n) m.here types m.running.to m.running.there m.running.sits c.frame.labels m.running.fit word among
+
   pub size_now : length (words m.running.compiled.around (under m.running.compiled.context m.running.os) (labels_of m.running.os) (length (c.frame.operands ++ belows c.frame.labels)) m.here p)
       ≡ length (words m.running.compiled.around (under m.running.compiled.context m.running.os) (labels_of m.running.os) (length (types_of_values c.frame.operands) + length (belows c.frame.labels)) m.here p)
   size_now = ap (λ (h : ℕ). length (words k.around at labels h m.here p)) (sym height)
@@ -125,7 +132,7 @@ module _ (text : List (Option Op)) (near : length text ≤ 2 ^ 26) (inst : Insta
           (matches_now text inst places outer (record c.frame { code = Simple p rest }) c.callers s m)
 
       abbrev Goal : Effect → Type 0
-      Goal e = Follows text inst places outer c.store c.later 128 (ahead (Simple p rest) + labels_ahead c.frame.labels) s (applied c rest e)
+      Goal e = Follows text inst places outer c.store c.later 128 (ahead (Simple p rest) + labels_ahead c.frame.labels) s (applied c (place_of c.frame (Simple p rest)) rest e)
 
       by_effect : Typed at rest mid m.running.to → (e : Effect) → Whole (above (belows c.frame.labels) e) → Goes mid ⊎ Stops → Goal e
       by_effect typed (Gives store locals operands) whole_is (inl x) =
@@ -157,7 +164,8 @@ module _ (text : List (Option Op)) (near : length text ≤ 2 ^ 26) (inst : Insta
       by_effect typed (Traps kind) whole_is (inr x) =
           let same : Traps kind ≡ Traps x.kind = sym whole_is ∙ x.gives in
           let kind_is : x.kind ≡ kind = cc in
-          (refl, halts_at text inst places outer c.store c.later 128 x.steps s kind x.short (subst (λ (t : TrapKind). TrapsAt text x.steps x.behind (trap_number t) s) kind_is x.traps))
+          (refl, halts_at text inst places outer c.store c.later 128 x.steps s kind (k.begin + m.here) (k.begin + (m.here + x.word)) (place_of c.frame (Simple p rest)) m.at (omega (arith, x.ends)) (told_now x.word x.among) x.short
+          (subst (λ (t : TrapKind). TrapsAt text x.steps x.behind (trap_number t) s) kind_is x.traps))
       by_effect typed Fails whole_is (inl x) = let wrong = sym whole_is ∙ x.gives in absurd cc
       by_effect typed Fails whole_is (inr x) = let wrong = sym whole_is ∙ x.gives in absurd cc
 

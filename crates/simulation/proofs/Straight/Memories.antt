@@ -76,7 +76,7 @@ module _ (code : List (Option Op)) (c : Context) (labels : List Label) (w : Arou
   module _ (x : Value) (below : List Value) (o : LoadOp) (mem : MemArg) (x_ty : x.ty ≡ I32) (high : suc (length below) ≤ w.layout.greatest) (m : Holding (x ∷ below)) where
     loaded_outcome : (mid : Types) (r : Option (List ℕ)) → load_type o ∷ types_of_values below ≡ mid → bytes_at store.memory (x.number + mem.offset) (load_count o) ≡ r
         → Loaded code s (base + operand w.layout (length below)) o r → Outcome code c labels w base there b store cap locals here s (x ∷ below) (Load o mem) mid
-    loaded_outcome mid None types e traps = inr (record { kind = MemoryBounds; gives = ap (loaded store locals o below) e; steps = 16; short = omega arith; behind = 16; traps = traps })
+    loaded_outcome mid None types e traps = inr (record { kind = MemoryBounds; gives = ap (loaded store locals o below) e; steps = 16; short = omega arith; behind = 16; traps = traps; word = 15; ends = refl; among = inl refl })
     loaded_outcome mid (Some bytes) types e d =
         let sound = subst AreBytes holds.memory (All-take (λ (n : ℕ). n < 256) (page * pages) s.bytes.memory holds.are_bytes) in
         inl (put_follows code c labels w base there b store cap locals here s (Load o mem) (x ∷ below) below mid (value (load_type o) (extended o (number_of bytes))) 18 (ap (loaded store locals o below) e) types (omega arith)
@@ -194,7 +194,7 @@ module _ (code : List (Option Op)) (c : Context) (labels : List Label) (w : Arou
     fits memory small fit Memory = small
 
     stored_comes : (mid : Types) (r : Option (List ℕ)) → types_of_values below ≡ mid → written_at store.memory (x.number + mem.offset) (bytes_of (store_count o) y.number) ≡ r → Stored code s r → Comes mid
-    stored_comes mid None types e traps = inr (record { kind = MemoryBounds; gives = ap (stored store locals below) e; steps = 16; short = omega arith; behind = 16; traps = traps })
+    stored_comes mid None types e traps = inr (record { kind = MemoryBounds; gives = ap (stored store locals below) e; steps = 16; short = omega arith; behind = 16; traps = traps; word = 15; ends = refl; among = inl refl })
     stored_comes mid (Some memory) types e d =
         let there = ap (λ (l : List ℕ). written_at l (x.number + mem.offset) (bytes_of (store_count o) y.number)) holds.memory ∙ e in
         let now = written_stands s.bytes pages (x.number + mem.offset) (bytes_of (store_count o) y.number) memory holds.regions.whole there in

@@ -1,5 +1,6 @@
 -- Numeric instructions, with the traps of division.
-use Rattle.std.proofs.Common.{◌≡◌, ℕ, suc, ◌+◌, ◌-◌, ◌^◌, ◌<◌, ◌≤◌, inl, inr, List, [], ◌∷◌, length, Option, refl, sym, ap, ◌∙◌, subst, arith}
+use Rattle.std.proofs.Common.{◌≡◌, ℕ, suc, ◌+◌, ◌-◌, ◌^◌, ◌<◌, ◌≤◌, inl, inr, Bool, true, false, List, [], ◌∷◌, length, Option, refl, sym, ap, ◌∙◌, subst, arith}
+use Rattle.std.specs.Prelude.{◌==◌, ◌/◌, ◌%◌, int_rem, if◌then◌else◌}
 use Rattle.rv_isa.specs.declared.operations.Op.{Op}
 use Rattle.rv_isa.specs.Steps.{State, Bytes}
 use Rattle.rv_isa.specs.Runs.{place, HasAt}
@@ -10,6 +11,7 @@ use Rattle.wasm_defs.specs.declared.operation.Operation.{Operation}
 use Rattle.wasm_defs.specs.declared.operation.Operation.TheVariants.{Unary, Test, Binary, Compare, Convert, Extend}
 use Rattle.wasm_defs.specs.declared.operation.UnaryOp.{UnaryOp}
 use Rattle.wasm_defs.specs.declared.operation.BinaryOp.{BinaryOp}
+use Rattle.wasm_defs.specs.declared.operation.BinaryOp.TheVariants.{Add, Sub, Mul, DivS, DivU, RemS, RemU, And, Or, Xor, Shl, ShrS, ShrU, Rotl, Rotr}
 use Rattle.wasm_defs.specs.declared.operation.CompareOp.{CompareOp}
 use Rattle.wasm_defs.specs.declared.operation.ConvertOp.{ConvertOp}
 use Rattle.wasm_defs.specs.declared.operation.ConvertOp.TheVariants.{Wrap, ExtendS, ExtendU}
@@ -17,10 +19,11 @@ use Rattle.wasm_defs.specs.declared.operation.ExtendOp.{ExtendOp}
 use Rattle.wasm_defs.specs.declared.token.Plain.TheVariants.{Operate}
 use Rattle.wasm_defs.specs.Typing.{Types, Context, operated, extend_type}
 use Rattle.wasm_defs.specs.Configurations.{Store, max_slots}
-use Rattle.wasm_defs.specs.Values.{Value, modulus, word, types_of_values}
+use Rattle.wasm_defs.specs.Values.{Value, modulus, word, signed, unsigned, types_of_values}
 use Rattle.wasm_defs.specs.Integers.{Computed, Number, DividesByZero, Overflows, binary, compare, unary, ieqz, converted, converted_type, sign_extended}
 use Rattle.wasm_defs.specs.Effects.{Gives, computed, effect, value}
 use Rattle.frame_layout.specs.Slots.{operand}
+use Rattle.frame_layout.specs.Traps.{trap_places, overflow_place}
 use Rattle.frame_layout.specs.Templates.{Label, Around, operate_words}
 use Rattle.frame_layout.specs.Laws.{slot_at, with_slot, Does}
 use Rattle.frame_layout.proofs.Steps.{does_nothing}
@@ -34,6 +37,7 @@ use Rattle.sim_integer.proofs.Ranges.{binary_is_below, compare_is_below, unary_i
 use Rattle.sim_integer.proofs.Lengths.{lengths_are_bounded}
 use Rattle.sim_frames.proofs.Values.{Holds, Matches}
 use Rattle.sim_frames.proofs.Rules.{MovesFixed}
+use Rattle.sim_frames.proofs.Sited.{IsIn}
 use Rattle.sim_frames.proofs.Stores.{other_operands}
 use Rattle.simulation.proofs.Straight.Instructions.{most_steps, Follows, Outcome, kept_follows, put_follows}
 
@@ -43,6 +47,51 @@ typed_word x v t e h = h.is ∙ ap (λ (u : ValType). word u v.number) e
 
 pub typed_range : (x : ℕ) (v : Value) (t : ValType) → v.ty ≡ t → Holds x v → v.number < modulus t
 typed_range x v t e h = subst (λ (u : ValType). v.number < modulus u) e h.range
+
+-- ---- the traps of divisions are among their places
+
+zero_among : (op : BinaryOp) (t : ValType) (a b : ℕ) → binary op t a b ≡ DividesByZero → IsIn 9 (trap_places (Operate (Binary t op)))
+zero_among DivS t a b e = inl refl
+zero_among DivU t a b e = inl refl
+zero_among RemS t a b e = inl refl
+zero_among RemU t a b e = inl refl
+zero_among Add t a b e = absurd cc
+zero_among Sub t a b e = absurd cc
+zero_among Mul t a b e = absurd cc
+zero_among And t a b e = absurd cc
+zero_among Or t a b e = absurd cc
+zero_among Xor t a b e = absurd cc
+zero_among Shl t a b e = absurd cc
+zero_among ShrS t a b e = absurd cc
+zero_among ShrU t a b e = absurd cc
+zero_among Rotl t a b e = absurd cc
+zero_among Rotr t a b e = absurd cc
+
+-- where the divisor is another one there is a number
+never_overflows : (b : Bool) (n : ℕ) → (if b then DividesByZero else Number n) ≡ Overflows → ⊥
+never_overflows true n e = absurd cc
+never_overflows false n e = absurd cc
+
+overflow_among : (op : BinaryOp) (t : ValType) (a b : ℕ) → binary op t a b ≡ Overflows → IsIn (overflow_place t) (trap_places (Operate (Binary t op)))
+overflow_among DivS t a b e = inr (inl refl)
+overflow_among DivU t a b e = absurd (never_overflows (b == 0) (a / b) e)
+overflow_among RemS t a b e = absurd (never_overflows (b == 0) (unsigned t (int_rem (signed t a) (signed t b))) e)
+overflow_among RemU t a b e = absurd (never_overflows (b == 0) (a % b) e)
+overflow_among Add t a b e = absurd cc
+overflow_among Sub t a b e = absurd cc
+overflow_among Mul t a b e = absurd cc
+overflow_among And t a b e = absurd cc
+overflow_among Or t a b e = absurd cc
+overflow_among Xor t a b e = absurd cc
+overflow_among Shl t a b e = absurd cc
+overflow_among ShrS t a b e = absurd cc
+overflow_among ShrU t a b e = absurd cc
+overflow_among Rotl t a b e = absurd cc
+overflow_among Rotr t a b e = absurd cc
+
+overflow_ends : (t : ValType) → overflow_place t + 1 ≡ overflow_words t
+overflow_ends I32 = refl
+overflow_ends I64 = refl
 
 module _ (code : List (Option Op)) (c : Context) (labels : List Label) (w : Around) (base there : ℕ) (b : Bytes) (store : Store)
     (cap : ℕ) (locals : List Value) (here : ℕ) (s : State) (i : ℕ) (at : s.pc ≡ place i) where
@@ -94,10 +143,10 @@ module _ (code : List (Option Op)) (c : Context) (labels : List Label) (w : Arou
         (omega (arith, comes.1)) comes.2 (binary_is_below t op x.number y.number n x_small y_small e) (omega arith) m m.live.1.1)
     computed_outcome op mid DividesByZero is e comes =
         let size = short two (Binary t op) in
-        inr (record { kind = DivideByZero; gives = ap (computed store locals t below) e; steps = comes.0; short = omega (arith, comes.1); behind = 10; traps = comes.2 })
+        inr (record { kind = DivideByZero; gives = ap (computed store locals t below) e; steps = comes.0; short = omega (arith, comes.1); behind = 10; traps = comes.2; word = 9; ends = refl; among = zero_among op t x.number y.number e })
     computed_outcome op mid Overflows is e comes =
         let size = short two (Binary t op) in
-        inr (record { kind = Overflow; gives = ap (computed store locals t below) e; steps = comes.0; short = omega (arith, comes.1); behind = overflow_words t; traps = comes.2 })
+        inr (record { kind = Overflow; gives = ap (computed store locals t below) e; steps = comes.0; short = omega (arith, comes.1); behind = overflow_words t; traps = comes.2; word = overflow_place t; ends = overflow_ends t; among = overflow_among op t x.number y.number e })
 
     binary_comes : (op : BinaryOp) (mid : Types) → t ∷ types_of_values below ≡ mid → HasAt code i (operate_words w (suc (suc (length below))) (Binary t op)) → length code ≤ 2 ^ 26
         → ComesTo (y ∷ x ∷ below) (Binary t op) mid
