@@ -3,15 +3,16 @@ use Rattle.std.proofs.Common.{◌≡◌, ℕ, ◌-◌, ◌%◌, ◌^◌, List, [
 use Rattle.std.specs.Prelude.{◌≢◌}
 use Rattle.std.proofs.lemmas.List.{append-nil}
 use Rattle.std.proofs.lemmas.Bool.{ne_eqb}
-use Rattle.rv_isa.specs.Steps.{State, reg}
+use Rattle.rv_isa.specs.Steps.{State, reg, text_base}
 use Rattle.rv_isa.specs.declared.stepping.FaultKind.TheVariants.{Call}
 use Rattle.wasm_defs.specs.declared.types.ValType.{ValType}
+use Rattle.wasm_defs.specs.declared.place.Place.{Place}
 use Rattle.wasm_defs.specs.declared.value.TrapKind.{TrapKind}
 use Rattle.wasm_defs.specs.Values.{trap_of}
 use Rattle.wasm_defs.specs.Host.{HostCall, Reply}
 use Rattle.image_format.specs.Contents.{Image}
 use Rattle.image_format.specs.Environment.{Entry}
-use Rattle.image_format.specs.ImageRun.{Running, environment, trapped}
+use Rattle.image_format.specs.ImageRun.{Running, environment, place_told, trapped}
 use Rattle.image_run.specs.declared.answer.Answer.{Answer}
 use Rattle.image_run.specs.declared.answer.Answer.TheVariants.{GoesOn, Ended, Over}
 use Rattle.image_run.specs.declared.outcome.Outcome.TheVariants.{Trapped, Fault}
@@ -35,16 +36,18 @@ module _ (H : Type 0) (Calls : H → HostCall → Reply → H → Type 0) (i : I
   pub finishes : (pages : ℕ) → reg old.registers 17 ≡ 0 → Answered Calls i host host old old pages pages Ended
   finishes pages is = quiet old pages pages Ended (λ calls replies results later. rw is refl)
 
-  traps_say : (r : Running) (kind : TrapKind) (o : Option TrapKind) → o ≡ Some kind → Says (Over (Trapped kind)) r (trapped r (old.pc - 4) o)
-  traps_say r kind None e = absurd (cc)
-  traps_say r kind (Some k) e = rw (same_kind k kind e) (tt, refl, (_, refl))
+  traps_say : (r : Running) (kind : TrapKind) (place : Option Place) (o : Option TrapKind) → o ≡ Some kind → place_told i.places (r.machine.pc - 4 - text_base) ≡ place
+      → Says (Over (Trapped kind place)) r (trapped i.places r (old.pc - 4) o)
+  traps_say r kind place None e told = absurd (cc)
+  traps_say r kind place (Some k) e told = rw (same_kind k kind e, told) (tt, refl, (_, refl))
     where
       same_kind : (a b : TrapKind) → Some a ≡ Some b → a ≡ b
       same_kind a b e = cc
 
-  pub traps : (pages : ℕ) (kind : TrapKind) → reg old.registers 17 ≡ 1 → trap_of (reg old.registers 10) ≡ Some kind → Answered Calls i host host old old pages pages (Over (Trapped kind))
-  traps pages kind is e = quiet old pages pages (Over (Trapped kind)) (λ calls replies results later.
-      rw is (traps_say (at old pages calls replies results later) kind (trap_of (reg old.registers 10)) e))
+  pub traps : (pages : ℕ) (kind : TrapKind) (place : Option Place) → reg old.registers 17 ≡ 1 → trap_of (reg old.registers 10) ≡ Some kind → place_told i.places (old.pc - 4 - text_base) ≡ place
+      → Answered Calls i host host old old pages pages (Over (Trapped kind place))
+  traps pages kind place is e told = quiet old pages pages (Over (Trapped kind place)) (λ calls replies results later.
+      rw is (traps_say (at old pages calls replies results later) kind place (trap_of (reg old.registers 10)) e told))
 
   pub traps_unknown : (pages : ℕ) → reg old.registers 17 ≡ 1 → trap_of (reg old.registers 10) ≡ None → Answered Calls i host host old old pages pages (Over (Fault Call (old.pc - 4)))
   traps_unknown pages is e = quiet old pages pages (Over (Fault Call (old.pc - 4))) (λ calls replies results later. rw (is, e) (tt, refl, refl))

@@ -126,7 +126,7 @@ known_at (x ∷ is) (suc number) import known there = known_at is number import 
 
 stopped_by : (outcome : Outcome) (memory : List ℕ) (results : List Value) (end : Ending) → IsEnd outcome memory results end → end ≡ As Stops → outcome ≡ HostStopped
 stopped_by (outcome.Returned n) memory results end h e = absurd (let t : As Stops ≡ As (Returns results memory h.1) = sym e ∙ h.2 in cc)
-stopped_by (outcome.Trapped kind) memory results end h e = absurd (let t : As Stops ≡ As (Traps kind memory h.0) = sym e ∙ h.1 in cc)
+stopped_by (outcome.Trapped kind place) memory results end h e = absurd (let t : As Stops ≡ As (Traps kind place memory h.0) = sym e ∙ h.1 in cc)
 stopped_by outcome.StepsSpent memory results end h e = absurd (let t : As Stops ≡ As Going = sym e ∙ h in cc)
 stopped_by outcome.HostStopped memory results end h e = refl
 stopped_by (outcome.Fault kind pc) memory results end h e = absurd (let t : As Stops ≡ Fault kind pc = sym e ∙ h in cc)

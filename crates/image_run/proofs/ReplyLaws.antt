@@ -24,7 +24,7 @@ with_replies r rs = record r { replies = rs }
 -- how a run may end that no reply stops
 abbrev pub IsUnstopped : Ending → Type 0
 IsUnstopped (As (run.Returns values memory globals)) = Unit {0}
-IsUnstopped (As (run.Traps kind memory globals)) = Unit {0}
+IsUnstopped (As (run.Traps kind place memory globals)) = Unit {0}
 IsUnstopped (As run.Stops) = ⊥
 IsUnstopped (As run.Going) = Unit {0}
 IsUnstopped (As run.Fails) = ⊥
@@ -56,9 +56,9 @@ module _ (i : Image) where
     finish_turn [] = Ends (run_of (finish r [])) refl tt (λ rs. tt) (λ rs. refl)
     finish_turn (e ∷ later) = GoesOn (record r { machine = entered r.pages r.machine.bytes e.0; results = e.1; later = later }) refl (λ rs. refl)
 
-    trapped_turn : (pc : ℕ) (kind : Option TrapKind) → Turn i r.calls (λ rs. trapped (with_replies r rs) pc kind)
-    trapped_turn pc None = Ends (run_of (trapped r pc None)) refl tt (λ rs. tt) (λ rs. refl)
-    trapped_turn pc (Some kind) = Ends (run_of (trapped r pc (Some kind))) refl tt (λ rs. tt) (λ rs. refl)
+    trapped_turn : (pc : ℕ) (kind : Option TrapKind) → Turn i r.calls (λ rs. trapped i.places (with_replies r rs) pc kind)
+    trapped_turn pc None = Ends (run_of (trapped i.places r pc None)) refl tt (λ rs. tt) (λ rs. refl)
+    trapped_turn pc (Some kind) = Ends (run_of (trapped i.places r pc (Some kind))) refl tt (λ rs. tt) (λ rs. refl)
 
     unknown_turn : (pc : ℕ) → Turn i r.calls (λ rs. Faulted (with_replies r rs) fault.Call pc)
     unknown_turn pc = Ends (record { calls = r.calls; end = image.Fault fault.Call pc }) refl tt (λ rs. tt) (λ rs. refl)

@@ -47,7 +47,7 @@ results_are stack left e results h is = sym h ∙ ap (λ (o : Option Export). re
 
 pub tells_count : (outcome : Outcome) (memory : List ℕ) (results : List Value) (end : Ending) → IsEnd outcome memory results end → TellsCount outcome results
 tells_count (Returned n) memory results end h = h.0
-tells_count (Trapped kind) memory results end h = tt
+tells_count (Trapped kind place) memory results end h = tt
 tells_count StepsSpent memory results end h = tt
 tells_count HostStopped memory results end h = tt
 tells_count (Fault kind pc) memory results end h = tt

@@ -15,7 +15,7 @@ use Rattle.image_run.specs.declared.outcome.Outcome.TheVariants.{Returned, Trapp
 -- globals are
 abbrev pub IsEnd : Outcome → (memory : List ℕ) → (results : List Value) → Ending → Type 0
 IsEnd (Returned n) memory results end = (n ≡ length results) × (globals : List ℕ) × (end ≡ As (Returns results memory globals))
-IsEnd (Trapped kind) memory results end = (globals : List ℕ) × (end ≡ As (Traps kind memory globals))
+IsEnd (Trapped kind place) memory results end = (globals : List ℕ) × (end ≡ As (Traps kind place memory globals))
 IsEnd StepsSpent memory results end = end ≡ As Going
 IsEnd HostStopped memory results end = end ≡ As Stops
 IsEnd (Fault kind pc) memory results end = end ≡ image.Fault kind pc

@@ -9,7 +9,7 @@ ghost use Rattle.image_run.specs.States.{RunsImage};
 use crate::answer::Answer;
 use crate::host::Host;
 use crate::imports::call_import;
-use crate::layout::{A0, A7, PAGE, S2};
+use crate::layout::{A0, A7, PAGE, S2, TEXT};
 use crate::outcome::Outcome;
 use image_format::Image;
 use rv64im_machine::{FaultKind, Machine};
@@ -49,12 +49,16 @@ pub(crate) fn answer<H: Host>(
     ensures host { H.is_ready host.new ≡ true }
     ensures answer { Answered H.answers image.now host.old host.new (state_of machine.old) (state_of machine.new) pages.old pages.new result }
 {
-    let unknown = Answer::Over(Outcome::Fault(FaultKind::Call, machine.pc() - 4));
+    let place = machine.pc() - 4;
+    let unknown = Answer::Over(Outcome::Fault(FaultKind::Call, place));
     let a0 = machine.register(A0);
     match machine.register(A7) {
         0 => Answer::Ended,
         1 => match TrapKind::of_number(a0) {
-            Some(kind) => Answer::Over(Outcome::Trapped(kind)),
+            Some(kind) => {
+                let told = image.place_told(place.saturating_sub(TEXT));
+                Answer::Over(Outcome::Trapped(kind, told))
+            }
             None => unknown,
         },
         2 => {

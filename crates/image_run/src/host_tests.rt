@@ -6,7 +6,7 @@ use crate::{Host, Instance, Outcome, Patch, Reply, call_checks};
 use image_format::Image;
 use std::alloc::Global;
 use std::test::Fail;
-use wasm_defs::Value;
+use wasm_defs::{Place, TrapKind, Value};
 
 /// What a call of the environment is about: ADDI a7,x0,N for growth and for an import.
 const GROW: u32 = 0x0020_0893;
@@ -113,6 +113,40 @@ fn memories_grow_up_to_their_cap(rt: HostRuntime) -> Result<(), Fail> {
             result: Some(Value::I64(answer)),
             first: LOADED,
             size,
+        };
+        assert_eq!(rt; found, wanted);
+    }
+    Ok(())
+}
+
+/// ADDI a0,x0,1 and ADDI a7,x0,1: a trap of the first kind.
+const TRAP: [u32; 3] = [0x0010_0513, 0x0010_0893, ECALL];
+
+#[test]
+fn traps_come_from_their_places(rt: HostRuntime) -> Result<(), Fail> {
+    let told = Place {
+        function: 2,
+        offset: 74,
+    };
+    // the ECALL stands at 16; none, one of another word, and three among which it is
+    let rows: [(Option<&[u32]>, Option<Place>); 4] = [
+        (None, None),
+        (Some(&[]), None),
+        (Some(&[12, 2, 74]), None),
+        (Some(&[0, 0, 31, 12, 1, 33, 16, 2, 74]), Some(told)),
+    ];
+    for (places, place) in rows {
+        let parts = Parts {
+            places,
+            ..plain(&TRAP)
+        };
+        let trapping = image(rt.alloc(), &parts)?;
+        let found = called(rt.alloc(), &trapping, &mut replying(&[]))?;
+        let wanted = Seen {
+            outcome: Outcome::Trapped(TrapKind::Unreachable, place),
+            result: None,
+            first: LOADED,
+            size: 65_536,
         };
         assert_eq!(rt; found, wanted);
     }

@@ -10,13 +10,15 @@ pub(crate) const ECALL: u32 = 0x0000_0073;
 pub(crate) const RETURN: u32 = 0x0000_8067;
 
 /// What differs from image to image: the words behind the exit stub, the imports of the module `host` with their names, the types of
-/// their parameters and that of their result, the start function's offset, and whether it can be linked.
+/// their parameters and that of their result, the start function's offset, whether it can be linked, and the
+/// numbers of the places of traps, where it is of the second version.
 #[derive(Clone, Copy)]
 pub(crate) struct Parts<'a> {
     pub(crate) words: &'a [u32],
     pub(crate) imports: &'a [(&'a str, &'a [u8], u8)],
     pub(crate) start: u32,
     pub(crate) unlinkable: bool,
+    pub(crate) places: Option<&'a [u32]>,
 }
 
 /// An image without imports and without a start function.
@@ -26,6 +28,7 @@ pub(crate) fn plain<'a>(words: &'a [u32]) -> Parts<'a> {
         imports: &[],
         start: 0,
         unlinkable: false,
+        places: None,
     }
 }
 
@@ -75,7 +78,7 @@ pub(crate) fn image(alloc: Global, parts: &Parts) -> Result<Image, Fail> {
     put(
         &mut bytes,
         &[
-            1,
+            if parts.places.is_some() { 2 } else { 1 },
             count(parts.words.len()).saturating_add(2),
             0x0000_0893,
             ECALL,
@@ -96,5 +99,9 @@ pub(crate) fn image(alloc: Global, parts: &Parts) -> Result<Image, Fail> {
     put_export(&mut bytes, b'e', &[0x40])?;
     put_export(&mut bytes, b's', &[0x60, 2, 0, 0, 0, 0x7E, 0x7F])?;
     put(&mut bytes, &[parts.start, u32::from(parts.unlinkable)])?;
+    if let Some(places) = parts.places {
+        put(&mut bytes, &[count(places.len() / 3)])?;
+        put(&mut bytes, places)?;
+    }
     Ok(read_image(alloc, &bytes)?)
 }

@@ -1,8 +1,9 @@
-use Rattle.std.proofs.Common.{◌≡◌, ℕ, ◌%◌, ◌^◌, None, Some, sym, ap, ◌∙◌, subst, arith}
-use Rattle.rv_isa.specs.Steps.{reg}
+use Rattle.std.proofs.Common.{◌≡◌, ℕ, ◌-◌, ◌%◌, ◌^◌, None, Some, sym, ap, ◌∙◌, subst, arith}
+use Rattle.rv_isa.specs.Steps.{reg, text_base}
 use Rattle.rv64im_machine.specs.Contents.{state_of}
 use Rattle.wasm_defs.specs.Values.{trap_of}
 use Rattle.image_format.specs.Contents.{Image}
+use Rattle.image_format.specs.ImageRun.{place_told}
 use Rattle.image_run.specs.Answers.{Grows}
 use Rattle.image_run.proofs.EnvironmentLaws.{finishes, traps, traps_unknown, grows, unknown}
 use Rattle.image_run.proofs.environment.answer.Goals as goal
@@ -15,7 +16,9 @@ pub returns-in-Some-clause-answer : goal.returns-in-Some-clause-answer
 returns-in-Some-clause-answer g c =
     let s = state_of c.args.machine.now in
     let kind : trap_of (reg s.registers 10) ≡ Some c.in-Some.kind = ap trap_of (sym c.register-a0.ensures) ∙ sym c.of_number.ensures ∙ c.in-Some.is in
-    traps g.row.H.Denot g.H.Host.answers c.args.image.now c.args.host.now s c.args.pages.now c.in-Some.kind (sym c.register.ensures ∙ c.in-1.is) kind
+    let offset : c.saturating_sub.result ≡ s.pc - 4 - text_base = omega (arith, c.saturating_sub.ensures, c.pc.ensures) in
+    let told : place_told c.args.image.now.places (s.pc - 4 - text_base) ≡ c.place_told.result = sym (c.place_told.ensures ∙ ap (place_told c.args.image.now.places) offset) in
+    traps g.row.H.Denot g.H.Host.answers c.args.image.now c.args.host.now s c.args.pages.now c.in-Some.kind c.place_told.result (sym c.register.ensures ∙ c.in-1.is) kind told
 
 pub returns-in-None-clause-answer : goal.returns-in-None-clause-answer
 returns-in-None-clause-answer g c =
