@@ -23,10 +23,11 @@ use Rattle.wasm_laws.proofs.Described.{module_is_described}
 use Rattle.wasm_laws.proofs.Exports.{exports_are_there}
 use Rattle.wasm_defs.specs.Rules.{AllKeep}
 use Rattle.image_format.specs.Contents.{IsImage}
-use Rattle.image_format.specs.Bounds.{IsText, IsOffset, AreGlobals, IsRow, IsTable, Each, SegmentFits, AreSegments, bytes_of, AreImports, AreExports}
+use Rattle.image_format.specs.Bounds.{IsText, IsOffset, AreGlobals, IsRow, IsTable, Each, SegmentFits, AreSegments, bytes_of, AreImports, AreExports, PlaceFits, ArePlaces}
+use Rattle.image_format.specs.declared.version.Version.TheVariants.{Two}
 use Rattle.image_format.specs.declared.image.Segment.{Segment}
-use Rattle.image_linker.specs.ImageOf.{text_of, offset_of, row_of, table_of, segment_of, placed_segments, imports_of, export_of, start_offset, image_of}
-use Rattle.image_linker.specs.Judging.{IsModuleOf}
+use Rattle.image_linker.specs.ImageOf.{text_of, offset_of, row_of, table_of, segment_of, placed_segments, imports_of, export_of, start_offset, image_of, front_size, places_of_traps}
+use Rattle.image_linker.specs.Judging.{IsModuleOf, sizes}
 use Rattle.image_linker.specs.Linking.{empty_row}
 use Rattle.image_linker.specs.Laws.{ImagesKeepBounds}
 use Rattle.image_linker.proofs.CoveredModules.{IsCoveredModule}
@@ -38,6 +39,7 @@ use Rattle.image_linker.proofs.Modules.{function_offset, rows_fit}
 use Rattle.image_linker.proofs.TableRows.{RowFits, table_has_rows}
 use Rattle.image_linker.proofs.Placed.{text_length, text_in_range}
 use Rattle.image_linker.proofs.Regions.{AreWords}
+use Rattle.image_linker.proofs.Spread.{Stand, places_fit, traps_stand}
 use Rattle.image_linker.proofs.SegmentFacts.{bytes_in}
 use Rattle.image_linker.proofs.WordRanges.{words_are_short}
 
@@ -145,6 +147,16 @@ module _ (bytes : List ℕ) (m : Module) (fits : AreBytes bytes) (is : IsModuleO
       let each = exports_fit m (length (map word_of (text_of m))) (length (functions_of m.items)) types places nothing m.items [] named keep there (λ name h. refl) in
       (few, each)
 
+  -- a third of the words at most are traps, and their offsets rise
+  spread : (3 * length (places_of_traps m) ≤ length (map word_of (text_of m))) × Each (PlaceFits (length (map word_of (text_of m)))) [] (places_of_traps m)
+  spread =
+      let words : front_size m.items + sizes m.items 0 m.bodies m.trees ≡ length (map word_of (text_of m)) = omega (arith, text_length m good, length-map (text_of m) word_of) in
+      places_fit (length (map word_of (text_of m))) (places_of_traps m) text_words
+      (subst (Stand 0 (places_of_traps m)) words (traps_stand m good.few_functions good.short_imports good.short_bodies))
+
+  traps : ArePlaces Two (length (map word_of (text_of m))) (places_of_traps m)
+  traps = (omega (arith, spread.0), spread.1)
+
   bounds : IsImage (image_of m)
   bounds = record {
     text = text;
@@ -156,7 +168,12 @@ module _ (bytes : List ℕ) (m : Module) (fits : AreBytes bytes) (is : IsModuleO
     imports = imports;
     exports = exports;
     start = start;
+    places = traps;
   }
+
+  -- a third of the words at most are traps
+  pub traps_are_few : 3 * length (places_of_traps m) ≤ length (map word_of (text_of m))
+  traps_are_few = spread.0
 
 pub images_keep_bounds : ImagesKeepBounds
 images_keep_bounds bytes m fits is = bounds bytes m fits is

@@ -1,6 +1,7 @@
 -- The modules that verdicts accept are of covered instructions.
 use Rattle.std.proofs.Common.{◌≡◌, ℕ, zero, suc, ◌+◌, ◌<◌, ◌≤◌, Option, List, [], ◌∷◌, length, None, Some, refl, sym, ap, subst, arith}
 use Rattle.wasm_defs.specs.declared.item.Item.{Item}
+use Rattle.wasm_defs.specs.declared.item.Item.TheVariants as item
 use Rattle.wasm_defs.specs.declared.types.ValType.TheVariants.{I32, I64}
 use Rattle.wasm_defs.specs.declared.token.Plain.{Plain}
 use Rattle.wasm_defs.specs.declared.token.Plain.TheVariants.{Unreachable, Br, BrIf, BrTable, Return, Call, CallIndirect, Nop, Discard, Select, LocalGet, LocalSet, LocalTee, GlobalGet, GlobalSet, Load, Store, MemorySize, MemoryGrow, Const, Operate}
@@ -41,6 +42,7 @@ use Rattle.wasm_defs.specs.declared.token.Token.{Token}
 use Rattle.wasm_defs.specs.declared.token.Token.TheVariants as token
 use Rattle.sim_frames.proofs.Lows.{max_lift, TakesFew, IsFew, FewIn, body_low, tokens_spelled}
 use Rattle.image_linker.proofs.CoveredModules.{IsCoveredBody, AreCoveredBodies, IsCoveredModule}
+use Rattle.wasm_laws.proofs.ShortOffsets.{offsets_are_short}
 use Rattle.image_linker.proofs.Imported.{ImportsFirst, imports_come_first}
 use Rattle.image_linker.proofs.SegmentFacts.{segments_are_held}
 use Rattle.image_linker.proofs.TableRows.{types_are_few}
@@ -172,6 +174,12 @@ no_fault len (Whole seen) e = (seen, refl)
 no_fault len (Refused r) e = absurd cc
 no_fault len Owed e = absurd cc
 
+functions_are_few : (items : List Item) → length (functions_of items) ≤ entries_in 2 items + entries_in 3 items
+functions_are_few [] = omega arith
+functions_are_few (item.Imported from what kind type_index ∷ items) = omega (arith, functions_are_few items)
+functions_are_few (item.Function type_index ∷ items) = omega (arith, functions_are_few items)
+functions_are_few (x ∷ items) = functions_are_few items
+
 module _ (bytes : List ℕ) (m : Module) (fits : AreBytes bytes) (is : IsModule bytes m) where
   -- as many declared functions as bodies
   functions_match : length (functions_of m.items) ≡ import_count m.items + length m.bodies
@@ -212,6 +220,12 @@ module _ (bytes : List ℕ) (m : Module) (fits : AreBytes bytes) (is : IsModule 
       let listed : entries_in 1 m.items ≤ max_entries = subst (λ (items : List Item). entries_in 1 items ≤ max_entries) (sym is.items) (entries_are_few 1 (λ ten. absurd cc) bytes) in
       omega (arith, types_are_few m.items)
 
+  few_functions : import_count m.items + length m.bodies < 2 ^ 32
+  few_functions =
+      let two : entries_in 2 m.items ≤ max_entries = subst (λ (items : List Item). entries_in 2 items ≤ max_entries) (sym is.items) (entries_are_few 2 (λ ten. absurd cc) bytes) in
+      let three : entries_in 3 m.items ≤ max_entries = subst (λ (items : List Item). entries_in 3 items ≤ max_entries) (sym is.items) (entries_are_few 3 (λ ten. absurd cc) bytes) in
+      omega (arith, functions_match, functions_are_few m.items, two, three)
+
   pub module_is_covered : IsCoveredModule m
   module_is_covered = record {
     spaces = subst SpacesAreSmall (sym is.items) (spaces_are_small bytes);
@@ -228,4 +242,7 @@ module _ (bytes : List ℕ) (m : Module) (fits : AreBytes bytes) (is : IsModule 
     start = started;
     types = small_types;
     returns = imports_return_one bytes m is;
+    short_imports = (offsets_are_short bytes m fits is).0;
+    short_bodies = (offsets_are_short bytes m fits is).1;
+    few_functions = few_functions;
   }

@@ -14,6 +14,7 @@ use Rattle.sim_frames.specs.Covered.{IsCovered}
 use Rattle.wasm_defs.specs.Context.{context_of, types_of, functions_of, import_count, type_of_function}
 use Rattle.image_linker.specs.ImageOf.{layout_of}
 use Rattle.image_linker.proofs.Imported.{ImportsFirst}
+use Rattle.wasm_laws.specs.Short.{AreShortImports, AreShortBodies}
 use Rattle.image_linker.proofs.SegmentFacts.{AreHeld}
 
 -- the k-th body
@@ -46,3 +47,7 @@ pub record IsCoveredModule (m : Module) : Type 0 where
   pub start : (f : ℕ) → start_of m.items ≡ Some f → (f < length (functions_of m.items)) × TakesNothing (type_of_function (context_of m.items) f)
   pub types : TypesAreSmall (context_of m.items).types
   pub returns : ImportsReturnOne (context_of m.items).types m.items
+  -- offsets in the module have 32 bits
+  pub short_imports : AreShortImports m.items
+  pub short_bodies : AreShortBodies m.bodies
+  pub few_functions : import_count m.items + length m.bodies < 2 ^ 32

@@ -21,7 +21,10 @@ use Rattle.frame_layout.proofs.Standing.{has_first, has_rest}
 use Rattle.simulation.proofs.MacroRanges.{both_in_range}
 use Rattle.simulation.proofs.Ranges.{stub_in_range}
 use Rattle.image_format.specs.declared.image.Import.{Import}
-use Rattle.image_linker.specs.ImageOf.{stub_size, stubs_from, stub_places, imports_of}
+use Rattle.frame_layout.specs.Traps.{room_trap, site_at}
+use Rattle.image_format.specs.declared.image.TrapPlace.{TrapPlace}
+use Rattle.image_linker.specs.ImageOf.{stub_size, stubs_from, stub_places, imports_of, place_at, stub_traps}
+use Rattle.image_linker.proofs.Spread.{IsAmong}
 
 -- ---- one list behind another
 
@@ -65,10 +68,13 @@ stub_place here zero i p ys less e = absurd (omega arith)
 stub_place here (suc n) zero p ys less e = omega (arith, e)
 stub_place here (suc n) (suc i) p ys less e = stub_place (here + stub_size) n i p ys (omega arith) (omega (arith, e))
 
--- the i-th imported function, which has a number: its stub stands at a place of the text, and the image has an import of its type
-pub record IsStub (code : List (Option Op)) (c : Context) (items : List Item) (i place number : ℕ) (h : run.Function) : Type 0 where
+-- the i-th imported function, which has a number: its stub stands at a place of the text, the image has an import of its type, and
+-- among these places of traps is that of its stub
+pub record IsStub (code : List (Option Op)) (c : Context) (items : List Item) (traps : List TrapPlace) (i place number : ℕ) (h : run.Function) : Type 0 where
   pub ty : FuncType
-  pub is : h ≡ run.Imported number ty
+  pub from : ℕ
+  pub is : h ≡ run.Imported number ty from
+  pub among : IsAmong (place_at place number (site_at 0 from room_trap)) traps
   pub has : HasAt code place (import_stub (length ty.params) number)
   pub small : TypeIsSmall ty
   pub one_result : length ty.results ≤ 1
@@ -83,17 +89,19 @@ small_at (t ∷ types) (suc i) h = small_at types i h.1
 
 module _ (code : List (Option Op)) (c : Context) (types : TypesAreSmall c.types) where
   pub stub_stands : (items : List Item) (here first i place number : ℕ) (h : run.Function) → ImportsReturnOne c.types items → place ≡ here + stub_size * i → number ≡ first + i → HasAt code here (stubs_from c first items)
-      → slice_get (imports_from c first items) i ≡ Some h → IsStub code c items i place number h
+      → slice_get (imports_from c first items) i ≡ Some h → IsStub code c items (stub_traps here first items) i place number h
   stub_stands [] here first i place number h one p n has e = absurd cc
   stub_stands (Imported from what kind type_index ∷ items) here first zero place number h one p n has e =
       let ty = type_or_empty (slice_get c.types type_index.1) in
-      let same : run.Imported first ty ≡ h = cc in
+      let same : run.Imported first ty from.0 ≡ h = cc in
       let number_is : first ≡ number = omega (arith, n) in
       let place_is : here ≡ place = omega (arith, p) in
       let stub = has_first code here (import_stub (length ty.params) first) (stubs_from c (suc first) items) has in
       record {
         ty = ty;
-        is = sym same ∙ ap (λ (k : ℕ). run.Imported k ty) number_is;
+        from = from.0;
+        is = sym same ∙ ap (λ (k : ℕ). run.Imported k ty from.0) number_is;
+        among = inl (ap (λ (q : ℕ). place_at q number (site_at 0 from.0 room_trap)) (sym place_is) ∙ ap (λ (k : ℕ). place_at here k (site_at 0 from.0 room_trap)) (sym number_is));
         has = subst (λ (q : ℕ). HasAt code q (import_stub (length ty.params) number)) place_is (subst (λ (k : ℕ). HasAt code here (import_stub (length ty.params) k)) number_is stub);
         small = small_at c.types type_index.1 types;
         one_result = one.0;
@@ -105,10 +113,10 @@ module _ (code : List (Option Op)) (c : Context) (types : TypesAreSmall c.types)
       let ty = type_or_empty (slice_get c.types type_index.1) in
       let stub = import_stub (length ty.params) first in
       let x = stub_stands items (here + length stub) (suc first) i place number h one.1 (omega (arith, p)) (omega (arith, n)) (has_rest code here stub (stubs_from c (suc first) items) has) e in
-      record { ty = x.ty; is = x.is; has = x.has; small = x.small; one_result = x.one_result; import = x.import; found = x.found; signature = x.signature }
+      record { ty = x.ty; from = x.from; is = x.is; among = inr x.among; has = x.has; small = x.small; one_result = x.one_result; import = x.import; found = x.found; signature = x.signature }
   stub_stands (x ∷ items) here first i place number h one p n has e =
       let y = stub_stands items here first i place number h one p n has e in
-      record { ty = y.ty; is = y.is; has = y.has; small = y.small; one_result = y.one_result; import = y.import; found = y.found; signature = y.signature }
+      record { ty = y.ty; from = y.from; is = y.is; among = y.among; has = y.has; small = y.small; one_result = y.one_result; import = y.import; found = y.found; signature = y.signature }
 
 -- the fields of their words fit
 pub each_stub_in_range : (c : Context) (number : ℕ) (items : List Item) → AllInRange (stubs_from c number items)
@@ -152,7 +160,7 @@ type_by c (Some index) = type_or_empty (slice_get c.types index)
 pub imports_typed : (c : Context) (number : ℕ) (items : List Item) (i : ℕ) (h : run.Function) → ImportsFirst items → slice_get (imports_from c number items) i ≡ Some h → type_of h ≡ type_by c (slice_get (functions_of items) i)
 imports_typed c number [] i h first e = absurd cc
 imports_typed c number (Imported from what kind type_index ∷ items) zero h first e =
-    let same : run.Imported number (type_or_empty (slice_get c.types type_index.1)) ≡ h = cc in ap type_of (sym same)
+    let same : run.Imported number (type_or_empty (slice_get c.types type_index.1)) from.0 ≡ h = cc in ap type_of (sym same)
 imports_typed c number (Imported from what kind type_index ∷ items) (suc i) h first e = imports_typed c (suc number) items i h first e
 imports_typed c number (Function type_index ∷ items) i h first e =
     let none : length (imports_from c number items) ≡ 0 = imports_length c number items ∙ first in absurd (nothing_there (imports_from c number items) none e)

@@ -4,6 +4,9 @@ pub mod Coded
 pub mod Leading
 pub mod Fronts
 pub mod Fields
+pub mod Offsets
+pub mod Spread
+pub mod TrapLoops
 pub mod Imported
 pub mod CoveredModules
 pub mod Regions

@@ -6,6 +6,7 @@ use Rattle.std.proofs.lemmas.List.{length-append, length-map}
 use Rattle.std.proofs.lemmas.Option.{slice_get-map, slice_get_within}
 use Rattle.rv_isa.specs.Words.{word_of, decoded}
 use Rattle.rv_isa.specs.Steps.{code_of}
+use Rattle.wasm_defs.specs.declared.place.Place.{Place}
 use Rattle.wasm_defs.specs.declared.types.FuncType.{FuncType}
 use Rattle.wasm_defs.specs.declared.types.ValType.{ValType}
 use Rattle.wasm_defs.specs.Limits.{max_params}
@@ -24,21 +25,26 @@ use Rattle.wasm_defs.specs.Configurations.{Func, Function, Imported, Declared, I
 use Rattle.wasm_defs.specs.Reductions.{run}
 use Rattle.wasm_defs.specs.ModuleRun.{first_state, module_run}
 use Rattle.wasm_defs.specs.ModuleRun as module_run
-use Rattle.wasm_defs.specs.Instances.{Written, imports_from, rows_of, pages_of, cap_of, all_over, all_fit, elements_of, data_of, is_linkable, instance_of, store_of, start_of, values_of, function_of, declared_from, declared_functions, functions_of}
+use Rattle.wasm_defs.specs.Instances.{Written, imports_from, rows_of, pages_of, cap_of, all_over, all_fit, elements_of, data_of, is_linkable, instance_of, store_of, start_of, values_of, origin_of, function_of, declared_from, declared_functions, functions_of}
 use Rattle.wasm_laws.proofs.Exports.{function_is_small}
+use Rattle.frame_layout.specs.Traps.{room_trap, site_at}
+use Rattle.frame_layout.specs.Functions.{no_distance, body_traps}
 use Rattle.frame_layout.specs.Templates.{import_stub, exit_stub}
 use Rattle.image_format.specs.declared.image.Import.{Import}
+use Rattle.image_format.specs.declared.image.TrapPlace.{TrapPlace}
 use Rattle.image_format.specs.Bounds.{IsOffset}
 use Rattle.image_format.specs.Environment.{Entry, segments_of as image_segments, loaded}
-use Rattle.image_format.specs.ImageRun.{Running, begin, steps, image_run}
+use Rattle.image_format.specs.ImageRun.{Running, begin, place_told, steps, image_run}
 use Rattle.image_format.specs.ImageRun as image_run
 use Rattle.simulation.specs.SameRuns.{SameRuns}
-use Rattle.sim_frames.specs.Functions.{Compiled, Known, Placed as IsPlaced}
+use Rattle.sim_frames.specs.Functions.{TextPlaces, AreSited, Compiled, Known, Placed as IsPlaced}
+use Rattle.sim_frames.proofs.Sited.{body_traps_alike}
 use Rattle.simulation.specs.Entries.{IsEntry}
 use Rattle.simulation.specs.Tables.{TableHolds}
 use Rattle.simulation.specs.Laws.{IsInvoked, ImportsStand, EnvironmentStands}
 use Rattle.simulation.proofs.Alike.{functions_run_alike}
-use Rattle.image_linker.specs.ImageOf.{around, distances, code_of_function, stub_places, places_from, front_size, places_of_functions, offset_of, row_of, table_of, segment_of, placed_segments, imports_of, stub_size, start_offset, text_of, image_of}
+use Rattle.image_linker.specs.ImageOf.{around, distances, code_of_function, stub_places, places_from, front_size, places_of_functions, offset_of, row_of, table_of, segment_of, placed_segments, imports_of, stub_size, start_offset, text_of, image_of, place_at as trap_place, stub_traps, traps_of_function, traps_from, places_of_traps}
+use Rattle.image_linker.specs.Judging.{sizes}
 use Rattle.image_linker.specs.Laws.{ImagesBehaveAlike}
 use Rattle.image_linker.specs.Same.{Same}
 use Rattle.image_linker.proofs.CoveredModules.{AreCoveredBodies, IsCoveredModule}
@@ -48,6 +54,7 @@ use Rattle.image_linker.proofs.LoadedMemory.{HaveBytes}
 use Rattle.image_linker.proofs.TableRows.{RowFits, fits, table_has_rows, table_stands, table_called}
 use Rattle.image_linker.proofs.Imported.{IsStub, get_left, get_right, index_right, imports_length, places_length, stub_place, stub_stands, type_by, imports_typed}
 use Rattle.image_linker.proofs.Placed.{Placed, code_is_short, text_length, exit_stands, stubs_stand, function_stands}
+use Rattle.image_linker.proofs.Spread.{IsAmong, among_left, among_right, place_in, told_among, all_sited, traps_stand}
 use Rattle.image_linker.proofs.Called.{IsSmall, IsFirst, is_called}
 
 -- words that stand in a text lie in it
@@ -100,6 +107,18 @@ module _ (m : Module) (good : IsCoveredModule m) (short : length (text_of m) ≤
   abbrev places : ℕ → ℕ
   places i = slice_index (places_of_functions m) i
 
+  -- what the image tells of the text's words
+  abbrev told : ℕ → Option Place
+  told word = place_told (places_of_traps m) (4 * word)
+
+  abbrev text_places : TextPlaces
+  text_places = record { function = places; trap = told }
+
+  -- of each of its places that place
+  told_of : (q : TrapPlace) → IsAmong q (places_of_traps m) → place_told (places_of_traps m) q.offset ≡ Some (place_in q)
+  told_of q among =
+      told_among 0 (front_size m.items + sizes m.items 0 m.bodies m.trees) (places_of_traps m) q (traps_stand m good.few_functions good.short_imports good.short_bodies) among
+
   abbrev imported : ℕ
   imported = import_count m.items
 
@@ -124,7 +143,7 @@ module _ (m : Module) (good : IsCoveredModule m) (short : length (text_of m) ≤
 
   -- ---- an imported one
 
-  asked : (i : ℕ) (h : Function) → i < import_count m.items → slice_get (functions_of m) i ≡ Some h → IsStub (code_of (map word_of (text_of m))) (context_of m.items) m.items i (slice_index (places_of_functions m) i) i h
+  asked : (i : ℕ) (h : Function) → i < import_count m.items → slice_get (functions_of m) i ≡ Some h → IsStub (code_of (map word_of (text_of m))) (context_of m.items) m.items (stub_traps (length exit_stub) 0 m.items) i (slice_index (places_of_functions m) i) i h
   asked i h less is =
       let c = context_of m.items in
       let stubs = imports_from c 0 m.items in
@@ -189,7 +208,12 @@ module _ (m : Module) (good : IsCoveredModule m) (short : length (text_of m) ≤
       let h = function_at g (typed_within g t e) in
       (h.0, h.1, is_typed g h.0 h.1 ∙ ap type_or_empty e)
 
-  compiled : is_linkable m ≡ true → (k : ℕ) (within : k < length m.bodies) → Compiled text (instance_of m) places (func k within)
+  -- of a declared function's traps it is told where they come from
+  told_function : (k : ℕ) (within : k < length m.bodies) (q : TrapPlace) → IsAmong q (traps_of_function m.items (there k within).begin k (there k within).body (there k within).tree) → place_told (places_of_traps m) q.offset ≡ Some (place_in q)
+  told_function k within q among =
+      told_of q (among_right q (stub_traps (length exit_stub) 0 m.items) (traps_from m.items (front_size m.items) 0 m.bodies m.trees) ((there k within).traps q among))
+
+  compiled : is_linkable m ≡ true → (k : ℕ) (within : k < length m.bodies) → Compiled text (instance_of m) text_places (func k within)
   compiled can_link k within =
       let x = there k within in
       record {
@@ -212,11 +236,16 @@ module _ (m : Module) (good : IsCoveredModule m) (short : length (text_of m) ≤
         fits = x.good.fits;
         has = x.has;
         inside = has_inside text x.begin (code_of_function m.items (places_of_functions m) x.begin k x.body x.tree) (omega arith) x.has;
+        room = told_function k within (trap_place x.begin (imported + k) (site_at 0 (origin_of m.items k x.body).first room_trap)) (inl refl);
+        sited = subst (AreSited told x.begin (origin_of m.items k x.body))
+            (body_traps_alike (around m.items k x.body x.tree no_distance) (distances (places_of_functions m) x.begin) (context_at m.items k x.body) x.tree)
+            (all_sited (place_told (places_of_traps m)) x.begin (origin_of m.items k x.body) (body_traps (around m.items k x.body x.tree no_distance) (context_at m.items k x.body) x.tree)
+            (λ q more. told_function k within q (inr more)));
         distances = λ here g. refl;
         functions = functions_typed;
       }
 
-  known : is_linkable m ≡ true → (i k : ℕ) (within : k < length m.bodies) → i ≡ import_count m.items + k → (h : Function) → slice_get (functions_of m) i ≡ Some h → Known text (instance_of m) places i h
+  known : is_linkable m ≡ true → (i k : ℕ) (within : k < length m.bodies) → i ≡ import_count m.items + k → (h : Function) → slice_get (functions_of m) i ≡ Some h → Known text (instance_of m) text_places i h
   unfolding compiled
   known can_link i k within index h is =
       let same : Some h ≡ Some (Declared (func k within)) = sym is ∙ ap (slice_get (functions_of m)) index ∙ declared k within in
@@ -226,17 +255,18 @@ module _ (m : Module) (good : IsCoveredModule m) (short : length (text_of m) ≤
   few_imports = omega (arith, short, text_length m good)
 
   -- each has its place
-  all_placed : is_linkable m ≡ true → (i : ℕ) (h : Function) → slice_get (functions_of m) i ≡ Some h → IsPlaced text (instance_of m) places i h
+  all_placed : is_linkable m ≡ true → (i : ℕ) (h : Function) → slice_get (functions_of m) i ≡ Some h → IsPlaced text (instance_of m) text_places i h
   all_placed can_link i h is = ⊎_elim first later (cases_lt i imported)
     where
-      first : i < import_count m.items → IsPlaced text (instance_of m) places i h
+      first : i < import_count m.items → IsPlaced text (instance_of m) text_places i h
       first less =
           let x = asked i h less is in
           let small = x.small in
           let few = few_imports in
-          inr (record { number = i; ty = x.ty; is = x.is; has = x.has; few = omega (arith, small.params); small = omega (arith, less, few); one_result = x.one_result })
+          let room = told_of (trap_place (places i) i (site_at 0 x.from room_trap)) (among_left _ (stub_traps (length exit_stub) 0 m.items) (traps_from m.items (front_size m.items) 0 m.bodies m.trees) x.among) in
+          inr (record { number = i; ty = x.ty; first = x.from; is = x.is; has = x.has; room = room; few = omega (arith, small.params); small = omega (arith, less, few); one_result = x.one_result })
 
-      later : import_count m.items ≤ i → IsPlaced text (instance_of m) places i h
+      later : import_count m.items ≤ i → IsPlaced text (instance_of m) text_places i h
       later le =
           let k = i - imported in
           inl (known can_link i k (omega (arith, slice_get_within (functions_of m) i h is, functions_length)) (omega arith) h is)
@@ -272,11 +302,11 @@ module _ (m : Module) (good : IsCoveredModule m) (short : length (text_of m) ≤
       (omega (arith, at.1, few), omega arith, omega (arith, at.1, count))
 
   imports_stand : ImportsStand (instance_of m) (image_of m)
-  imports_stand index number ty is = ⊎_elim first later (cases_lt index imported)
+  imports_stand index number ty from is = ⊎_elim first later (cases_lt index imported)
     where
       first : index < import_count m.items → (i : Import) × (slice_get (imports_of (context_of m.items) m.items) number ≡ Some i) × (i.signature ≡ ty)
       first less =
-          let x = asked index (Imported number ty) less is in
+          let x = asked index (Imported number ty from) less is in
           let same = x.is in
           let number_is : index ≡ number = cc in
           let type_is : x.ty ≡ ty = cc in
@@ -286,12 +316,12 @@ module _ (m : Module) (good : IsCoveredModule m) (short : length (text_of m) ≤
       later le =
           let k = index - imported in
           let at : index ≡ imported + k = omega arith in
-          let within : k < length m.bodies = omega (arith, slice_get_within (functions_of m) index (Imported number ty) is, functions_length) in
-          let wrong : Some (Imported number ty) ≡ Some (Declared (func k within)) = sym is ∙ ap (slice_get (functions_of m)) at ∙ declared k within in
+          let within : k < length m.bodies = omega (arith, slice_get_within (functions_of m) index (Imported number ty from) is, functions_length) in
+          let wrong : Some (Imported number ty from) ≡ Some (Declared (func k within)) = sym is ∙ ap (slice_get (functions_of m)) at ∙ declared k within in
           absurd cc
 
-  environment : EnvironmentStands (instance_of m) (image_of m)
-  environment = record { imports = imports_stand; cap = refl; few = omega (arith, good.spaces.cap) }
+  environment : EnvironmentStands (instance_of m) (image_of m) text_places
+  environment = record { imports = imports_stand; cap = refl; few = omega (arith, good.spaces.cap); told = λ word. refl }
 
   -- a row's function is there, and its place lies in the text
   in_row : (a f : ℕ) → slice_get (instance_of m).table a ≡ Some (Some f) → (h : Function) × (slice_get (functions_of m) f ≡ Some h) × (type_of h ≡ type_of_function (context_of m.items) f)
@@ -308,8 +338,8 @@ module _ (m : Module) (good : IsCoveredModule m) (short : length (text_of m) ≤
   pub rows_fit : (a : ℕ) (o : Option ℕ) → slice_get (instance_of m).table a ≡ Some o → RowFits m o
   rows_fit = fits m (omega (arith, good.few_types)) places (λ f. refl) place_is_near
 
-  table_now : is_linkable m ≡ true → TableHolds (instance_of m) places (loaded (image_of m))
-  table_now can_link = table_stands m can_link (omega (arith, good.few_types)) places (λ f. refl) place_is_near in_row
+  table_now : is_linkable m ≡ true → TableHolds (instance_of m) text_places (loaded (image_of m))
+  table_now can_link = table_stands m can_link (omega (arith, good.few_types)) text_places (λ f. refl) place_is_near in_row
 
   -- ---- runs: the start function, if there is one, and then an exported one
 
@@ -333,7 +363,7 @@ module _ (m : Module) (good : IsCoveredModule m) (short : length (text_of m) ≤
       abbrev entry : Entry × List ValType
       entry = (record { offset = offset_of m f; arguments = arguments }, (type_of_function (context_of m.items) f).results)
 
-      is_entry : IsEntry (instance_of m) places (record { function = f; arguments = arguments }) (record { offset = offset_of m f; arguments = arguments }, (type_of_function (context_of m.items) f).results)
+      is_entry : IsEntry (instance_of m) text_places (record { function = f; arguments = arguments }) (record { offset = offset_of m f; arguments = arguments }, (type_of_function (context_of m.items) f).results)
       is_entry = record {
         function = h;
         is = is;
@@ -357,8 +387,8 @@ module _ (m : Module) (good : IsCoveredModule m) (short : length (text_of m) ≤
 
       by_start : (start : Option ℕ) → start_of m.items ≡ start → Alike start
       by_start None e =
-          functions_run_alike (instance_of m) (image_of m) places h exported [] (store_of m replies) (begin (image_of m) replies entry []) (all_placed can_link) environment is
-          (invoked f h is arguments [] are) tt (globals_typed m.items) (table_called (instance_of m) places (image_of m) replies entry [] (table_now can_link)) (exit_stands m good) (code_is_short m short)
+          functions_run_alike (instance_of m) (image_of m) text_places h exported [] (store_of m replies) (begin (image_of m) replies entry []) (all_placed can_link) environment is
+          (invoked f h is arguments [] are) tt (globals_typed m.items) (table_called (instance_of m) text_places (image_of m) replies entry [] (table_now can_link)) (exit_stands m good) (code_is_short m short)
       by_start (Some s) e =
           let right = good.start s e in
           let takes = right.1 in
@@ -370,7 +400,7 @@ module _ (m : Module) (good : IsCoveredModule m) (short : length (text_of m) ≤
           let first_invoked : IsInvoked (type_of g.0) (places s) (cap_of m.items) (store_of m replies) [] r =
           subst (λ (results : List ValType). IsInvoked (type_of g.0) (places s) (cap_of m.items) (store_of m replies) [] (begin (image_of m) replies (record { offset = offset_of m s; arguments = [] }, results) (entry ∷ []))) takes.results
           (invoked s g.0 g.1 [] (entry ∷ []) none_given) in
-          let same = functions_run_alike (instance_of m) (image_of m) places g.0 (record { function = s; arguments = [] }) (exported ∷ []) (store_of m replies) r (all_placed can_link) environment g.1 first_invoked (is_entry, tt) (globals_typed m.items) (table_called (instance_of m) places (image_of m) replies (record { offset = start_offset m (Some s); arguments = [] }, []) (entry ∷ []) (table_now can_link)) (exit_stands m good) (code_is_short m short) in
+          let same = functions_run_alike (instance_of m) (image_of m) text_places g.0 (record { function = s; arguments = [] }) (exported ∷ []) (store_of m replies) r (all_placed can_link) environment g.1 first_invoked (is_entry, tt) (globals_typed m.items) (table_called (instance_of m) text_places (image_of m) replies (record { offset = start_offset m (Some s); arguments = [] }, []) (entry ∷ []) (table_now can_link)) (exit_stands m good) (code_is_short m short) in
           subst (λ (q : Running). SameRuns (λ k. module_run.run_of (run (instance_of m) k (first_state (Some s) (store_of m replies) exported))) (λ n. image_run.run_of (steps (image_of m) n q)))
           (sym (cond-false (start_offset m (Some s) == 0) (begin (image_of m) replies entry []) r (ne_eqb (start_offset m (Some s)) 0 some))) same
 

@@ -20,10 +20,12 @@ use Rattle.sim_frames.proofs.Sitting.{has_at}
 use Rattle.sim_frames.proofs.Sizes.{function_length}
 use Rattle.simulation.proofs.MacroRanges.{both_in_range}
 use Rattle.simulation.proofs.Ranges.{exit_in_range, function_in_range}
-use Rattle.image_linker.specs.ImageOf.{around, distances, size_of, front_size, places_from, code_of_function, code_from, stubs_from, places_of_functions, text_of}
+use Rattle.image_format.specs.declared.image.TrapPlace.{TrapPlace}
+use Rattle.image_linker.specs.ImageOf.{around, distances, size_of, front_size, places_from, code_of_function, code_from, stubs_from, places_of_functions, text_of, traps_of_function, traps_from}
 use Rattle.image_linker.specs.Judging.{sizes}
 use Rattle.image_linker.proofs.CoveredModules.{IsCoveredBody, AreCoveredBodies, IsCoveredModule}
 use Rattle.image_linker.proofs.Imported.{stubs_length, each_stub_in_range}
+use Rattle.image_linker.proofs.Spread.{IsAmong, among_left, among_right}
 
 -- ---- one function among those from a place on
 
@@ -37,6 +39,7 @@ pub record Placed (code : List (Option Op)) (items : List Item) (places : List �
   pub has : HasAt code begin (code_of_function items places begin number body tree)
   pub declared : slice_get (declared_from items k bodies trees) j ≡ Some (function_of items number body tree)
   pub good : IsCoveredBody items number body tree
+  pub traps : (q : TrapPlace) → IsAmong q (traps_of_function items begin number body tree) → IsAmong q (traps_from items here k bodies trees)
 
 -- a function's words are as many, whatever the distances
 function_size_is : (items : List Item) (places : List ℕ) (here k : ℕ) (b : Body) (tree : Seq) → IsCoveredBody items k b tree → length (code_of_function items places here k b tree) ≡ size_of items k b tree
@@ -49,7 +52,7 @@ module _ (code : List (Option Op)) (items : List Item) (places : List ℕ) where
       → HasAt code here (code_of_function items places here k b tree) → Placed code items places here k (b ∷ bodies) (tree ∷ trees) 0 number
   first_placed here k number b bodies tree trees e good has =
       let same : k ≡ number = omega (arith, e) in
-      let at_k : Placed code items places here k (b ∷ bodies) (tree ∷ trees) 0 k = record { body = b; tree = tree; begin = here; behind = omega arith; place_is = refl; has = has; declared = refl; good = good } in
+      let at_k : Placed code items places here k (b ∷ bodies) (tree ∷ trees) 0 k = record { body = b; tree = tree; begin = here; behind = omega arith; place_is = refl; has = has; declared = refl; good = good; traps = λ q x. among_left q (traps_of_function items here k b tree) (traps_from items (here + size_of items k b tree) (suc k) bodies trees) x } in
       subst (λ (n : ℕ). Placed code items places here k (b ∷ bodies) (tree ∷ trees) 0 n) same at_k
 
   pub placed : (here k : ℕ) (bodies : List Body) (trees : List Seq) (j number : ℕ) → k + j ≡ number → AreCoveredBodies items k bodies trees → HasAt code here (code_from items places here k bodies trees) → j < length bodies
@@ -64,7 +67,7 @@ module _ (code : List (Option Op)) (items : List Item) (places : List ℕ) where
       let there : here + length words ≡ here + size_of items k b tree = omega (arith, function_size_is items places here k b tree good.0) in
       let rest = placed (here + size_of items k b tree) (suc k) bodies trees j number (omega (arith, e)) good.1
       (has_at code (here + length words) (here + size_of items k b tree) behind there (has_second code here words behind has)) (omega arith) in
-      record { body = rest.body; tree = rest.tree; begin = rest.begin; behind = omega (arith, rest.behind); place_is = rest.place_is; has = rest.has; declared = rest.declared; good = rest.good }
+      record { body = rest.body; tree = rest.tree; begin = rest.begin; behind = omega (arith, rest.behind); place_is = rest.place_is; has = rest.has; declared = rest.declared; good = rest.good; traps = λ q x. among_right q (traps_of_function items here k b tree) (traps_from items (here + size_of items k b tree) (suc k) bodies trees) (rest.traps q x) }
 
 code_in_range : (items : List Item) (places : List ℕ) (here k : ℕ) (bodies : List Body) (trees : List Seq) → AreCoveredBodies items k bodies trees → AllInRange (code_from items places here k bodies trees)
 code_in_range items places here k [] [] good = tt

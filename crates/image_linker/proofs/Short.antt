@@ -19,13 +19,16 @@ use Rattle.wasm_laws.proofs.Held.{module_holds}
 use Rattle.image_format.specs.declared.image.Segment.{Segment as Placed}
 use Rattle.image_format.specs.declared.image.Import.{Import}
 use Rattle.image_format.specs.declared.image.Export.{Export}
+use Rattle.image_format.specs.declared.image.TrapPlace.{TrapPlace}
+use Rattle.image_format.specs.declared.version.Version.{Version}
+use Rattle.image_format.specs.declared.version.Version.TheVariants.{One, Two}
 use Rattle.image_format.specs.Bounds.{Each, IsImport, ExportFits}
 use Rattle.image_format.specs.Contents.{Image, IsImage}
-use Rattle.image_format.specs.Sizes.{results_size, segment_size, import_size, export_size, size_of}
+use Rattle.image_format.specs.Sizes.{results_size, segment_size, import_size, export_size, places_size, size_of}
 use Rattle.image_format.proofs.Sizes.{spelling_size}
 use Rattle.image_linker.specs.ImageOf.{segment_of, placed_segments, imports_of, export_of, image_of}
 use Rattle.image_linker.specs.Laws.{ImagesAreShort}
-use Rattle.image_linker.proofs.Bounded.{images_keep_bounds}
+use Rattle.image_linker.proofs.Bounded.{images_keep_bounds, traps_are_few}
 
 -- ---- what the lists of an image keep of a module's items
 
@@ -108,8 +111,12 @@ exports_size words front (x ∷ xs) h =
     let rest = exports_size words (front ++ x ∷ []) xs h.1 in
     omega (arith, small, few, bounded, a, b, rest)
 
-size_is_bounded : (i : Image) → IsImage i → sum_by data_bytes i.segments + sum_by import_names i.imports + sum_by export_name i.exports ≤ 67108864 → size_of i ≤ 1073741824
-size_is_bounded i bounded held =
+places_bounded : (v : Version) (ps : List TrapPlace) → places_size v ps ≤ 4 + 12 * length ps
+places_bounded One ps = omega arith
+places_bounded Two ps = omega arith
+
+size_is_bounded : (i : Image) → IsImage i → 3 * length i.places ≤ length i.text → sum_by data_bytes i.segments + sum_by import_names i.imports + sum_by export_name i.exports ≤ 67108864 → size_of i ≤ 1073741824
+size_is_bounded i bounded traps held =
     let words = bounded.text.most in
     let globals = bounded.globals.0 in
     let rows = bounded.table.0 in
@@ -119,7 +126,8 @@ size_is_bounded i bounded held =
     let a = segments_size i.segments in
     let b = imports_size i.imports bounded.imports.1 in
     let c = exports_size (length i.text) [] i.exports bounded.exports.1 in
-    omega (arith, words, globals, rows, segments, imports, exports, a, b, c, held)
+    let d = places_bounded i.version i.places in
+    omega (arith, words, globals, rows, segments, imports, exports, a, b, c, d, traps, held)
 
 pub images_are_short : ImagesAreShort
 images_are_short bytes m fits is =
@@ -129,5 +137,5 @@ images_are_short bytes m fits is =
     let short = d.1.kept.short in
     let held = kept_is_held m (context_of m.items) m.items in
     let placed = placed_is_less m (is_linkable m) in
-    let size = size_is_bounded (image_of m) bounded (omega (arith, all, short, held, placed)) in
+    let size = size_is_bounded (image_of m) bounded (traps_are_few bytes m fits is) (omega (arith, all, short, held, placed)) in
     omega (arith, spelling_size (image_of m), size)

@@ -20,6 +20,7 @@ use Rattle.image_format.specs.Contents.{Image}
 use Rattle.wasm_defs.specs.Host.{Reply}
 use Rattle.wasm_defs.specs.declared.types.ValType.{ValType}
 use Rattle.sim_memory.specs.Regions.{row_code, row_like}
+use Rattle.sim_frames.specs.Functions.{TextPlaces}
 use Rattle.simulation.specs.Tables.{type_in, TableHolds}
 use Rattle.simulation.proofs.Entering.{table_kept}
 use Rattle.image_linker.specs.ImageOf.{places_of_functions, row_of, table_of, image_of}
@@ -84,11 +85,11 @@ module _ (m : Module) (few_types : length (context_of m.items).types < 2 ^ 32)
 
 -- the rows stand in the region of the image that is loaded
 module _ (m : Module) (linkable : is_linkable m ≡ true) (few_types : length (context_of m.items).types < 2 ^ 32)
-    (places : ℕ → ℕ) (places_are : (f : ℕ) → places f ≡ slice_index (places_of_functions m) f)
-    (near : (a f : ℕ) → slice_get (instance_of m).table a ≡ Some (Some f) → places f < 2 ^ 60)
+    (places : TextPlaces) (places_are : (f : ℕ) → places.function f ≡ slice_index (places_of_functions m) f)
+    (near : (a f : ℕ) → slice_get (instance_of m).table a ≡ Some (Some f) → places.function f < 2 ^ 60)
     (functions : (a f : ℕ) → slice_get (instance_of m).table a ≡ Some (Some f) → (h : Function) × (slice_get (functions_of m) f ≡ Some h) × (type_of h ≡ type_of_function (context_of m.items) f)) where
   own : (a : ℕ) (o : Option ℕ) → slice_get (instance_of m).table a ≡ Some o → RowFits m o
-  own = fits m few_types places places_are near
+  own = fits m few_types places.function places_are near
 
   holds : TableHolds (instance_of m) places (record (loaded (image_of m)) { table = word_bytes (row_words (map (row_of m) (instance_of m).table)) })
   holds =
@@ -112,5 +113,5 @@ module _ (m : Module) (linkable : is_linkable m ≡ true) (few_types : length (c
       subst (λ (b : Bool). TableHolds (instance_of m) places (record (loaded (image_of m)) { table = word_bytes (row_words (table_of m b)) })) (sym linkable) holds
 
 -- and where a function of it is called from outside
-pub table_called : (inst : Instance) (places : ℕ → ℕ) (i : Image) (replies : List Reply) (e : Entry × List ValType) (later : List (Entry × List ValType)) → TableHolds inst places (loaded i) → TableHolds inst places (begin i replies e later).machine.bytes
+pub table_called : (inst : Instance) (places : TextPlaces) (i : Image) (replies : List Reply) (e : Entry × List ValType) (later : List (Entry × List ValType)) → TableHolds inst places (loaded i) → TableHolds inst places (begin i replies e later).machine.bytes
 table_called inst places i replies e later h = table_kept inst places (loaded i) (begin i replies e later).machine.bytes refl h

@@ -1,5 +1,6 @@
 -- The image of a module.
 use Rattle.std.specs.Prelude.{ℕ, zero, suc, ◌+◌, ◌*◌, Bool, true, false, not, List, [], ◌∷◌, ◌++◌, map, length, replicate, Option, None, Some, slice_get, slice_index}
+use Rattle.rv_isa.specs.declared.compiled.TrapSite.{TrapSite}
 use Rattle.rv_isa.specs.declared.operations.Op.{Op}
 use Rattle.rv_isa.specs.Words.{word_of}
 use Rattle.rv_isa.specs.Steps.{text_base}
@@ -12,17 +13,19 @@ use Rattle.wasm_defs.specs.Context.{context_of, import_count, type_or_empty, typ
 use Rattle.wasm_defs.specs.Faults.{read_of, context_at, Module}
 use Rattle.wasm_defs.specs.Values.{words_of}
 use Rattle.wasm_defs.specs.Places.{places_of, greatest}
-use Rattle.wasm_defs.specs.Instances.{rows_of, pages_of, cap_of, values_of, data_of, is_linkable, instance_of, start_of, exports_of}
+use Rattle.wasm_defs.specs.Instances.{rows_of, pages_of, cap_of, values_of, data_of, is_linkable, instance_of, start_of, exports_of, origin_of}
 use Rattle.frame_layout.specs.declared.layout.Layout.{Layout}
 use Rattle.frame_layout.specs.Macros.{distance}
 use Rattle.frame_layout.specs.Templates.{Around, import_stub, exit_stub}
-use Rattle.frame_layout.specs.Functions.{no_distance, function_code}
-use Rattle.image_format.specs.declared.version.Version.TheVariants.{One}
+use Rattle.frame_layout.specs.Traps.{room_trap, site_at}
+use Rattle.frame_layout.specs.Functions.{no_distance, function_code, sites_of}
+use Rattle.image_format.specs.declared.version.Version.TheVariants.{Two}
 use Rattle.image_format.specs.Contents.{Image}
 use Rattle.image_format.specs.declared.image.Row.{Row}
 use Rattle.image_format.specs.declared.image.Segment.{Segment}
 use Rattle.image_format.specs.declared.image.Import.{Import}
 use Rattle.image_format.specs.declared.image.Export.{Export}
+use Rattle.image_format.specs.declared.image.TrapPlace.{TrapPlace}
 
 -- ---- the text: the exit stub, the import stubs, and the functions in the order of their indices
 
@@ -95,6 +98,31 @@ text_of m =
     exit_stub ++ (stubs_from (context_of m.items) 0 m.items
     ++ code_from m.items (places_of_functions m) (front_size m.items) 0 m.bodies m.trees)
 
+-- ---- where the text's traps come from
+
+-- one of the function with this index, whose first word is at a place of the text
+abbrev pub place_at : (here function : ℕ) → TrapSite → TrapPlace
+place_at here function s = record { offset = 4 * (here + s.place); function = function; module_offset = s.offset }
+
+-- those of the stubs of imports, after so many: where the stack has no room, from the import as a whole
+abbrev pub stub_traps : (here number : ℕ) → List Item → List TrapPlace
+stub_traps here number [] = []
+stub_traps here number (Imported from what kind type_index ∷ xs) = place_at here number (site_at 0 from.0 room_trap) ∷ stub_traps (here + stub_size) (suc number) xs
+stub_traps here number (_ ∷ xs) = stub_traps here number xs
+
+-- those of the k-th declared function
+abbrev pub traps_of_function : List Item → (here k : ℕ) → Body → Seq → List TrapPlace
+traps_of_function items here k b tree =
+    map (place_at here (import_count items + k)) (sites_of (around items k b tree no_distance) (origin_of items k b) (context_at items k b) tree)
+
+abbrev pub traps_from : List Item → (here k : ℕ) → List Body → List Seq → List TrapPlace
+traps_from items here k (b ∷ bodies) (tree ∷ trees) =
+    traps_of_function items here k b tree ++ traps_from items (here + size_of items k b tree) (suc k) bodies trees
+traps_from items here k bodies trees = []
+
+abbrev pub places_of_traps : Module → List TrapPlace
+places_of_traps m = stub_traps (length exit_stub) 0 m.items ++ traps_from m.items (front_size m.items) 0 m.bodies m.trees
+
 -- ---- what else an image has
 
 -- the offset of a function's first byte in the text
@@ -133,7 +161,7 @@ placed_segments m false = []
 
 abbrev pub image_of : Module → Image
 image_of m = record {
-  version = One;
+  version = Two;
   text = map word_of (text_of m);
   globals = words_of (values_of m.items);
   table = table_of m (is_linkable m);
@@ -144,4 +172,5 @@ image_of m = record {
   exports = map (export_of m) (exports_of m.items);
   start = start_offset m (start_of m.items);
   unlinkable = not (is_linkable m);
+  places = places_of_traps m;
 }

@@ -12,19 +12,21 @@ use Rattle.wasm_defs.specs.Memory.{page}
 use Rattle.wasm_defs.specs.Values as value
 use Rattle.wasm_laws.specs.Kept.{FitsType}
 use Rattle.frame_layout.specs.Templates.{import_stub, exit_stub}
+use Rattle.frame_layout.specs.Traps.{room_trap, site_at}
 use Rattle.frame_layout.specs.Functions.{with_distances}
-use Rattle.image_format.specs.declared.version.Version.TheVariants.{One}
+use Rattle.image_format.specs.declared.version.Version.TheVariants.{Two}
 use Rattle.image_format.specs.Contents.{Image}
 use Rattle.image_format.specs.declared.image.Row.{Row}
 use Rattle.image_format.specs.declared.image.Import.{Import as Imported}
 use Rattle.image_format.specs.declared.image.Export.{Export}
 use Rattle.image_format.specs.declared.image.Segment.{Segment}
+use Rattle.image_format.specs.declared.image.TrapPlace.{TrapPlace}
 use Rattle.index_spaces.specs.declared.entries.Import.{Import}
 use Rattle.index_spaces.specs.declared.entries.ElementRow.{ElementRow}
 use Rattle.index_spaces.specs.declared.entries.DataRow.{DataRow}
 use Rattle.index_spaces.specs.Entries.{function_exports, initial_values, written_rows, written_segments}
 use Rattle.index_spaces.specs.Spaces.{Spaces, context_in}
-use Rattle.image_linker.specs.ImageOf.{front_of, stub_places, distances}
+use Rattle.image_linker.specs.ImageOf.{stub_size, front_of, stub_places, distances, place_at}
 
 -- the words of the codes, one behind the other
 abbrev pub words_of : List Code → List ℕ
@@ -61,6 +63,25 @@ words_at places here c = with_distances (distances places here) c.relocations c.
 abbrev pub words_from : (places : List ℕ) (here : ℕ) → List Code → List ℕ
 words_from places here [] = []
 words_from places here (c ∷ cs) = words_at places here c ++ words_from places (here + length c.words) cs
+
+-- where the traps of imports' stubs come from, of which so many came before
+abbrev pub import_traps : (here number : ℕ) → List Import → List TrapPlace
+import_traps here number [] = []
+import_traps here number (i ∷ imports) = place_at here number (site_at 0 i.offset room_trap) ∷ import_traps (here + stub_size) (suc number) imports
+
+-- and those of codes, of which the first is the function with this index
+abbrev pub code_traps : (here function : ℕ) → List Code → List TrapPlace
+code_traps here function [] = []
+code_traps here function (c ∷ cs) = map (place_at here function) c.traps ++ code_traps (here + length c.words) (suc function) cs
+
+abbrev pub linked_traps : Spaces → List Code → List TrapPlace
+linked_traps s codes = import_traps (length exit_stub) 0 s.imports ++ code_traps (front_of (length s.imports)) (length s.imports) codes
+
+-- the numbers of a place have 32 bits
+pub record IsShort (p : TrapPlace) : Type 0 where
+  pub offset : p.offset < 2 ^ 32
+  pub function : p.function < 2 ^ 32
+  pub module_offset : p.module_offset < 2 ^ 32
 
 -- an import has the type of its index
 abbrev pub linked_import : List FuncType → Import → Imported
@@ -129,7 +150,7 @@ NumbersFit globals numbers = ⊥
 -- the image of a module
 abbrev pub linked : Spaces → List Code → Image
 linked s codes = record {
-  version = One;
+  version = Two;
   text = front_words s ++ words_from (starts_of s codes) (front_of (length s.imports)) codes;
   globals = global_words s;
   table = linked_rows s (starts_of s codes) (has_room s);
@@ -140,4 +161,5 @@ linked s codes = record {
   exports = map (linked_export s (starts_of s codes)) (function_exports s.exports);
   start = linked_start (starts_of s codes) s.start;
   unlinkable = not (has_room s);
+  places = linked_traps s codes;
 }

@@ -11,6 +11,7 @@ mod segments;
 mod signatures;
 mod spaces;
 mod tables;
+mod trap_places;
 
 pub use codes::{BodyCode, text_limit};
 pub use linking::link;

@@ -16,9 +16,10 @@ use crate::segments::{have_room, placed_segments};
 use crate::signatures::{no_copies, signature_of};
 use crate::spaces::{first_cap, first_minimum, global_words};
 use crate::tables::{have_rows, rows_of};
+use crate::trap_places::places_of;
 use frame_layout::macros::{call, distance};
 use image_format::{
-    Export, Exports, Globals, Image, Imports, Segments, SharedType, Table, Text, Version,
+    Export, Exports, Globals, Image, Imports, Segments, SharedType, Table, Text, TrapPlaces, Version,
 };
 use index_spaces::{Context, DataRow, copy_of_name};
 use rv_isa::{Relocation, encode};
@@ -158,7 +159,8 @@ fn start_of(starts: &[u32], start: Option<u32>) -> u32
 
 /// Links the codes of a module's declared functions, in the order of their indices, and its data segments to the module's image.
 ///
-/// Each call leads to its function, or to the stub of an imported one, and so do the rows of the table. The text has at most 268,435,456
+/// Each call leads to its function, or to the stub of an imported one, and so do the rows of the table. The image tells of each trap
+/// in which function it comes from which offset. The text has at most 268,435,456
 /// bytes, what is linked keeps the bounds of images, and the numbers of the globals' constants are of the globals' types. All segments
 /// are looked at before any is written: where one has no place in the table or the memory, the image has no row with a function and no
 /// data segment, and is marked as one that can't be instantiated.
@@ -182,8 +184,9 @@ pub fn link(
     let linkable = is_linkable(context, segments);
     let table = rows_of(alloc, context, &starts, linkable)?;
     let placed = placed_segments(alloc, linkable, segments)?;
+    let traps = places_of(alloc, context, codes)?;
     Ok(Image {
-        version: Version::One,
+        version: Version::Two,
         text: Text::new(text),
         globals: Globals::new(globals),
         table: Table::new(table),
@@ -194,5 +197,6 @@ pub fn link(
         exports: Exports::new(exports),
         start: start_of(&starts, context.start()),
         unlinkable: !linkable,
+        places: TrapPlaces::new(traps),
     })
 }

@@ -1,4 +1,4 @@
-use Rattle.std.proofs.Common.{◌≡◌, ◌∙◌, sym, ap, subst, ℕ, ◌*◌, ◌<◌, ◌^◌, arith, List, ◌++◌, map, length}
+use Rattle.std.proofs.Common.{◌≡◌, ◌∙◌, sym, ap, subst, ℕ, ◌*◌, ◌<◌, ◌^◌, arith, List, [], ◌++◌, map, length}
 use Rattle.wasm_defs.specs.Memory.{page}
 use Rattle.std.proofs.lemmas.Bool.{and_parts}
 use Rattle.wasm_defs.specs.Instances.{first_minimum, first_cap, all_fit}
@@ -6,16 +6,28 @@ use Rattle.image_format.specs.Contents.{IsImage}
 use Rattle.index_spaces.specs.Entries.{function_exports, written_rows, written_segments}
 use Rattle.image_linker.specs.Bodies.{codes_of}
 use Rattle.image_linker.specs.ImageOf.{front_of}
-use Rattle.image_linker.specs.Linking.{with_segments, words_from, front_words, starts_behind, starts_of, linked_rows, linked_export, linked_start}
+use Rattle.image_linker.specs.Linking.{with_segments, words_from, front_words, starts_behind, starts_of, linked_rows, linked_export, linked_start, linked_traps, linked}
 use Rattle.image_linker.proofs.DataRows.{placed_where}
 use Rattle.image_linker.proofs.Fields.{linked_fields}
 use Rattle.image_linker.proofs.Fronts.{words_are_few, starts_small}
+use Rattle.image_linker.proofs.TrapLoops.{each_short}
 use Rattle.image_linker.proofs.linking.link.Goals as goal
 
 pub starts_of-requires : goal.starts_of-requires
 starts_of-requires c =
     let few = words_are_few (with_segments c.args.context.now c.args.segments.now) (codes_of c.args.codes.now) c.requires.bounded in
     omega (arith, few, ap (λ l. length l) c.imports.ensures)
+
+pub places_of-requires-clause-words : goal.places_of-requires-clause-words
+places_of-requires-clause-words c =
+    let few = words_are_few (with_segments c.args.context.now c.args.segments.now) (codes_of c.args.codes.now) c.requires.bounded in
+    omega (arith, few)
+
+pub places_of-requires-clause-places : goal.places_of-requires-clause-places
+places_of-requires-clause-places c =
+    let s = with_segments c.args.context.now c.args.segments.now in
+    let codes = codes_of c.args.codes.now in
+    each_short (length (linked s codes).text) [] (linked_traps s codes) c.requires.bounded.places.1
 
 pub text_of-requires : goal.text_of-requires
 text_of-requires c = c.requires.bounded.imports
@@ -55,8 +67,8 @@ invariant_of-result c =
     let exports = c.new-6.ensures ∙ c.in_ok-exports.ensures.exports ∙ ap (λ (l : List ℕ). map (linked_export s l) (function_exports s.exports)) c.deref-2.ensures.value in
     let start = c.start_of.ensures ∙ ap (λ (l : List ℕ). linked_start l c.start.result) c.deref-4.ensures.value ∙ ap (linked_start starts) c.start.ensures in
     subst IsImage (sym (
-    linked_fields s codes starts room places c.is_linkable-linkable.ensures _ _ _ _ _ _ _ _ _ text (c.new-2.ensures.list ∙ c.in_ok-globals.ensures) table (c.first_minimum-pages.ensures ∙ ap first_minimum c.memories.ensures)
-    (c.first_cap.ensures ∙ ap first_cap c.memories-2.ensures) (c.new-4.ensures ∙ c.in_ok-placed.ensures) (c.new-5.ensures ∙ c.in_ok-imports.ensures) exports start)) c.requires.bounded
+    linked_fields s codes starts room places c.is_linkable-linkable.ensures _ _ _ _ _ _ _ _ _ _ text (c.new-2.ensures.list ∙ c.in_ok-globals.ensures) table (c.first_minimum-pages.ensures ∙ ap first_minimum c.memories.ensures)
+    (c.first_cap.ensures ∙ ap first_cap c.memories-2.ensures) (c.new-4.ensures ∙ c.in_ok-placed.ensures) (c.new-5.ensures ∙ c.in_ok-imports.ensures) exports start (c.new-7.ensures ∙ c.in_ok-traps.ensures))) c.requires.bounded
 
 pub returns : goal.returns
 returns c =
@@ -69,5 +81,5 @@ returns c =
     let table = c.new-3.ensures ∙ c.in_ok-table.ensures ∙ ap (λ (l : List ℕ). linked_rows s l room) c.deref-3.ensures.value in
     let exports = c.new-6.ensures ∙ c.in_ok-exports.ensures.exports ∙ ap (λ (l : List ℕ). map (linked_export s l) (function_exports s.exports)) c.deref-2.ensures.value in
     let start = c.start_of.ensures ∙ ap (λ (l : List ℕ). linked_start l c.start.result) c.deref-4.ensures.value ∙ ap (linked_start starts) c.start.ensures in
-    linked_fields s codes starts room places c.is_linkable-linkable.ensures _ _ _ _ _ _ _ _ _ text (c.new-2.ensures.list ∙ c.in_ok-globals.ensures) table (c.first_minimum-pages.ensures ∙ ap first_minimum c.memories.ensures)
-    (c.first_cap.ensures ∙ ap first_cap c.memories-2.ensures) (c.new-4.ensures ∙ c.in_ok-placed.ensures) (c.new-5.ensures ∙ c.in_ok-imports.ensures) exports start
+    linked_fields s codes starts room places c.is_linkable-linkable.ensures _ _ _ _ _ _ _ _ _ _ text (c.new-2.ensures.list ∙ c.in_ok-globals.ensures) table (c.first_minimum-pages.ensures ∙ ap first_minimum c.memories.ensures)
+    (c.first_cap.ensures ∙ ap first_cap c.memories-2.ensures) (c.new-4.ensures ∙ c.in_ok-placed.ensures) (c.new-5.ensures ∙ c.in_ok-imports.ensures) exports start (c.new-7.ensures ∙ c.in_ok-traps.ensures)
