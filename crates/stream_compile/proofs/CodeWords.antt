@@ -10,12 +10,13 @@ use Rattle.wasm_defs.specs.Typing.{Context}
 use Rattle.wasm_defs.specs.declared.item.Limits.{Limits}
 use Rattle.wasm_defs.specs.Context.{context_of, import_count, tables_of, body_context, type_of_function, declared_types, like}
 use Rattle.wasm_defs.specs.Places.{places_of, greatest}
-use Rattle.wasm_defs.specs.Instances.{first_minimum}
+use Rattle.wasm_defs.specs.Configurations.{Origin}
+use Rattle.wasm_defs.specs.Instances.{first_minimum, origin_of}
 use Rattle.frame_layout.specs.Templates.{Around}
-use Rattle.frame_layout.specs.Functions.{no_distance, function_code, calls_of}
+use Rattle.frame_layout.specs.Functions.{no_distance, function_code, calls_of, sites_of}
 use Rattle.rv_isa.specs.Words.{word_of}
 use Rattle.rv_isa.specs.declared.operations.Op.{Op}
-use Rattle.wasm_defs.specs.Faults.{items_of, bodies_of, read_of, context_at}
+use Rattle.wasm_defs.specs.Faults.{items_of, bodies_of, read_of, context_at, offsets_of}
 use Rattle.wasm_laws.specs.Behind.{SayTheSame}
 use Rattle.wasm_laws.proofs.Behind.{bodies_stand_behind}
 use Rattle.image_linker.specs.ImageOf.{size_of, around}
@@ -80,6 +81,9 @@ module _ (all first : List Item) (same : SayTheSame all first) (k : ℕ) (b : Bo
     distance_to = no_distance;
   }
 
+  abbrev origin_by : ℕ → Origin
+  origin_by n = record { index = n + k; first = b.first; offsets = offsets_of (read_of b).code.tokens }
+
   pub same_size : size_of all k b tree ≡ size_of first k b tree
   same_size = by_three (λ c n t. length (function_code (around_by c n t) (context_by c n) tree))
 
@@ -89,10 +93,14 @@ module _ (all first : List Item) (same : SayTheSame all first) (k : ℕ) (b : Bo
   same_calls : calls_of (around all k b tree no_distance) (context_at all k b) tree ≡ calls_of (around first k b tree no_distance) (context_at first k b) tree
   same_calls = by_three (λ c n t. calls_of (around_by c n t) (context_by c n) tree)
 
+  same_sites : sites_of (around all k b tree no_distance) (origin_of all k b) (context_at all k b) tree ≡ sites_of (around first k b tree no_distance) (origin_of first k b) (context_at first k b) tree
+  same_sites = by_three (λ c n t. sites_of (around_by c n t) (origin_by n) (context_by c n) tree)
+
   pub same_code : (code : Code) → IsCodeOf first k b tree code → IsCodeOf all k b tree code
   same_code code h = record {
     words = h.words ∙ ap (λ (ops : List Op). map word_of ops) (sym same_words);
     relocations = h.relocations ∙ sym same_calls;
+    traps = h.traps ∙ sym same_sites;
     size = h.size ∙ sym same_size;
   }
 

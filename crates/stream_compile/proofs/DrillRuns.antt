@@ -93,8 +93,8 @@ module _ (n : ℕ) (m : Module) (most : n ≤ 50000) (drill : IsDrill n m) (i : 
   before few j memory globals (As (Returns values other words)) less most there is =
       let later = image_stays i offset results [] replies few j (Returns values other words) (omega (arith, less)) tt is in
       inl (memory, globals, sym later ∙ there)
-  before few j memory globals (As (Traps kind other words)) less most there is =
-      let later = image_stays i offset results [] replies few j (Traps kind other words) (omega (arith, less)) tt is in
+  before few j memory globals (As (Traps kind place other words)) less most there is =
+      let later = image_stays i offset results [] replies few j (Traps kind place other words) (omega (arith, less)) tt is in
       inl (memory, globals, sym later ∙ there)
   before few j memory globals (As Stops) less most there is =
       let later = image_stays i offset results [] replies few j Stops (omega (arith, less)) tt is in

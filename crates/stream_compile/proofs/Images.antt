@@ -1,5 +1,5 @@
 -- What is linked of a whole module's codes is its image.
-use Rattle.std.proofs.Common.{◌≡◌, ℕ, ◌+◌, ◌*◌, ◌<◌, Bool, true, false, List, [], ◌∷◌, ◌++◌, map, length, Option, None, Some, refl, sym, ap, ◌∙◌, append_assoc}
+use Rattle.std.proofs.Common.{◌≡◌, ℕ, ◌+◌, ◌*◌, ◌<◌, Bool, true, false, List, [], ◌∷◌, ◌++◌, map, length, Option, None, Some, refl, sym, ap, ◌∙◌, append_assoc, arith}
 use Rattle.std.specs.Prelude.{◌&&◌, IsSome, not, slice_index}
 use Rattle.std.proofs.lemmas.List.{map-append}
 use Rattle.rv_isa.specs.Words.{word_of}
@@ -11,28 +11,29 @@ use Rattle.wasm_defs.specs.Instances.{Written, is_linkable, exports_of, rows_of,
 use Rattle.wasm_defs.specs.Memory.{page}
 use Rattle.wasm_defs.specs.Values.{Value, words_of as value_words}
 use Rattle.frame_layout.specs.Templates.{exit_stub}
-use Rattle.image_format.specs.declared.version.Version.TheVariants.{One}
+use Rattle.image_format.specs.declared.version.Version.TheVariants.{Two}
 use Rattle.image_format.specs.Contents.{Image}
 use Rattle.image_format.specs.declared.image.Row.{Row}
 use Rattle.image_format.specs.declared.image.Segment.{Segment}
 use Rattle.image_format.specs.declared.image.Import.{Import}
 use Rattle.image_format.specs.declared.image.Export.{Export}
+use Rattle.image_format.specs.declared.image.TrapPlace.{TrapPlace}
 use Rattle.index_spaces.specs.declared.entries.DataRow.{DataRow}
 use Rattle.index_spaces.specs.Entries.{imports_of, function_exports, all_exports_of, data_rows_of, initials_of, initial_values, written_segments}
 use Rattle.index_spaces.specs.Spaces.{spaces_of}
 use Rattle.index_spaces.proofs.EntriesOfItems.{imports_are_counted, exports_are_of_items, elements_are_of_items, segments_are_of_items, values_are_of_items}
-use Rattle.image_linker.specs.ImageOf.{front_of, image_of, text_of, stubs_from, code_from, places_of_functions, stub_places, front_size, export_of, table_of, segment_of, placed_segments, start_offset}
+use Rattle.image_linker.specs.ImageOf.{front_of, image_of, text_of, stubs_from, code_from, places_of_functions, stub_places, front_size, export_of, table_of, segment_of, placed_segments, start_offset, stub_traps, places_of_traps}
 use Rattle.image_linker.specs.Codes.{AreCodesOf}
-use Rattle.image_linker.specs.Linking.{words_from, stub_words, starts_behind, starts_of, front_words, linked_rows, has_room, placed_row, linked_segments, linked, linked_import, linked_export, linked_start}
+use Rattle.image_linker.specs.Linking.{words_from, stub_words, starts_behind, starts_of, front_words, linked_rows, has_room, placed_row, linked_segments, linked, linked_import, linked_export, linked_start, import_traps, code_traps, linked_traps}
 use Rattle.image_linker.proofs.ElementFacts.{AreBelow}
 use Rattle.image_linker.proofs.LinkedRows.{rows_linked}
-use Rattle.image_linker.proofs.Linked.{words_linked, places_linked, stubs_linked, imports_linked}
+use Rattle.image_linker.proofs.Linked.{words_linked, places_linked, traps_linked, stubs_linked, stub_traps_linked, imports_linked}
 
 -- ---- the image, field by field
 
-abbrev image_by : List ℕ → List ℕ → List Row → ℕ → ℕ → List Segment → List Import → List Export → ℕ → Bool → Image
-image_by text globals table pages cap segments imports exports start unlinkable =
-    record { version = One; text = text; globals = globals; table = table; pages = pages; cap = cap; segments = segments; imports = imports; exports = exports; start = start; unlinkable = unlinkable }
+abbrev image_by : List ℕ → List ℕ → List Row → ℕ → ℕ → List Segment → List Import → List Export → ℕ → Bool → List TrapPlace → Image
+image_by text globals table pages cap segments imports exports start unlinkable traps =
+    record { version = Two; text = text; globals = globals; table = table; pages = pages; cap = cap; segments = segments; imports = imports; exports = exports; start = start; unlinkable = unlinkable; places = traps }
 
 module _ (m : Module) (codes : List Code) (below : AreBelow (length (context_of m.items).functions) (elements_of m.items))
     (typed : (f : ℕ) → f < length (context_of m.items).functions → IsSome (function_type (context_of m.items) f)) (coded : AreCodesOf m.items 0 m.bodies m.trees codes) where
@@ -99,6 +100,9 @@ module _ (m : Module) (codes : List Code) (below : AreBelow (length (context_of 
   abbrev words : List ℕ
   words = map word_of (text_of m)
 
+  abbrev linked_places : List TrapPlace
+  linked_places = linked_traps (spaces_of m.items) codes
+
   abbrev starts : ℕ
   starts = linked_start (starts_of (spaces_of m.items) codes) (start_of m.items)
 
@@ -106,13 +110,24 @@ module _ (m : Module) (codes : List Code) (below : AreBelow (length (context_of 
   start_is None = refl
   start_is (Some f) = ap (λ (l : List ℕ). 4 * slice_index l f) places_are
 
+  traps_are : linked_traps (spaces_of m.items) codes ≡ places_of_traps m
+  traps_are =
+      ap (λ (n : ℕ). import_traps (length exit_stub) 0 (imports_of m.items) ++ code_traps (front_of n) n codes) counted
+      ∙ ap (λ (l : List TrapPlace). l ++ code_traps (front_size m.items) (import_count m.items) codes) (stub_traps_linked (length exit_stub) 0 m.items)
+      ∙ ap (λ (l : List TrapPlace). stub_traps (length exit_stub) 0 m.items ++ l)
+          (ap (λ (n : ℕ). code_traps (front_size m.items) n codes) none_before ∙ sym (traps_linked m.items (front_size m.items) 0 m.bodies m.trees codes coded))
+    where
+      none_before : import_count m.items ≡ import_count m.items + 0
+      none_before = omega arith
+
   pub linked_is_image : linked (spaces_of m.items) codes ≡ image_of m
   linked_is_image =
-      ap (λ (b : Bool). image_by (front_words (spaces_of m.items) ++ words_from (starts_of (spaces_of m.items) codes) (front_of (length (imports_of m.items))) codes) (value_words (initial_values (globals_of m.items) (initials_of m.items))) (linked_rows (spaces_of m.items) (starts_of (spaces_of m.items) codes) b) (pages_of m.items) (cap_of m.items) (linked_segments b (data_rows_of m.items)) linked_imports linked_exports starts (not b)) room_is
-      ∙ ap (λ (l : List ℕ). image_by l (value_words (initial_values (globals_of m.items) (initials_of m.items))) (linked_rows (spaces_of m.items) (starts_of (spaces_of m.items) codes) L) (pages_of m.items) (cap_of m.items) (linked_segments L (data_rows_of m.items)) linked_imports linked_exports starts (not L)) text_is
-      ∙ ap (λ (l : List Value). image_by words (value_words l) (linked_rows (spaces_of m.items) (starts_of (spaces_of m.items) codes) L) (pages_of m.items) (cap_of m.items) (linked_segments L (data_rows_of m.items)) linked_imports linked_exports starts (not L)) (values_are_of_items m.items)
-      ∙ ap (λ (l : List Row). image_by words values l (pages_of m.items) (cap_of m.items) (linked_segments L (data_rows_of m.items)) linked_imports linked_exports starts (not L)) (rows_are L)
-      ∙ ap (λ (l : List Segment). image_by words values (table_of m L) (pages_of m.items) (cap_of m.items) l linked_imports linked_exports starts (not L)) (segments_are L)
-      ∙ ap (λ (l : List Import). image_by words values (table_of m L) (pages_of m.items) (cap_of m.items) (placed_segments m L) l linked_exports starts (not L)) (imports_linked (context_of m.items) m.items)
-      ∙ ap (λ (l : List Export). image_by words values (table_of m L) (pages_of m.items) (cap_of m.items) (placed_segments m L) (image_of m).imports l starts (not L)) exports_are
-      ∙ ap (λ (n : ℕ). image_by words values (table_of m L) (pages_of m.items) (cap_of m.items) (placed_segments m L) (image_of m).imports (image_of m).exports n (not L)) (start_is (start_of m.items))
+      ap (λ (b : Bool). image_by (front_words (spaces_of m.items) ++ words_from (starts_of (spaces_of m.items) codes) (front_of (length (imports_of m.items))) codes) (value_words (initial_values (globals_of m.items) (initials_of m.items))) (linked_rows (spaces_of m.items) (starts_of (spaces_of m.items) codes) b) (pages_of m.items) (cap_of m.items) (linked_segments b (data_rows_of m.items)) linked_imports linked_exports starts (not b) linked_places) room_is
+      ∙ ap (λ (l : List ℕ). image_by l (value_words (initial_values (globals_of m.items) (initials_of m.items))) (linked_rows (spaces_of m.items) (starts_of (spaces_of m.items) codes) L) (pages_of m.items) (cap_of m.items) (linked_segments L (data_rows_of m.items)) linked_imports linked_exports starts (not L) linked_places) text_is
+      ∙ ap (λ (l : List Value). image_by words (value_words l) (linked_rows (spaces_of m.items) (starts_of (spaces_of m.items) codes) L) (pages_of m.items) (cap_of m.items) (linked_segments L (data_rows_of m.items)) linked_imports linked_exports starts (not L) linked_places) (values_are_of_items m.items)
+      ∙ ap (λ (l : List Row). image_by words values l (pages_of m.items) (cap_of m.items) (linked_segments L (data_rows_of m.items)) linked_imports linked_exports starts (not L) linked_places) (rows_are L)
+      ∙ ap (λ (l : List Segment). image_by words values (table_of m L) (pages_of m.items) (cap_of m.items) l linked_imports linked_exports starts (not L) linked_places) (segments_are L)
+      ∙ ap (λ (l : List Import). image_by words values (table_of m L) (pages_of m.items) (cap_of m.items) (placed_segments m L) l linked_exports starts (not L) linked_places) (imports_linked (context_of m.items) m.items)
+      ∙ ap (λ (l : List Export). image_by words values (table_of m L) (pages_of m.items) (cap_of m.items) (placed_segments m L) (image_of m).imports l starts (not L) linked_places) exports_are
+      ∙ ap (λ (n : ℕ). image_by words values (table_of m L) (pages_of m.items) (cap_of m.items) (placed_segments m L) (image_of m).imports (image_of m).exports n (not L) linked_places) (start_is (start_of m.items))
+      ∙ ap (λ (l : List TrapPlace). image_by words values (table_of m L) (pages_of m.items) (cap_of m.items) (placed_segments m L) (image_of m).imports (image_of m).exports (image_of m).start (not L) l) traps_are

@@ -32,7 +32,7 @@ use Rattle.stream_compile.proofs.ImageCalls.{Begun, runs_as}
 -- the line of an end
 some_line : (drill : Option ℕ) (peek : Option Peek) (end : Ending) → IsUnstopped end → (line : Outcome) × EndsAs drill peek end line
 some_line drill peek (As (Returns values memory globals)) h = (showing peek memory (returned_by drill values), refl)
-some_line drill peek (As (Traps kind memory globals)) h = (showing peek memory (trapped kind), refl)
+some_line drill peek (As (Traps kind place memory globals)) h = (showing peek memory (trapped kind place), refl)
 some_line drill peek (As Stops) h = absurd h
 some_line drill peek (As Going) h = (steps_spent, refl)
 some_line drill peek (As Fails) h = absurd h
@@ -41,7 +41,7 @@ some_line drill peek (Fault kind pc) h = (machine_fault kind pc, refl)
 -- the line of an outcome is that of its end
 line_ends : (drill : Option ℕ) (peek : Option Peek) (outcome : Ran) (memory : List ℕ) (results : List Value) (end : Ending) → outcome ≢ ran.HostStopped → IsEnd outcome memory results end → EndsAs drill peek end (lines_of drill peek outcome memory results)
 line_ends drill peek (ran.Returned n) memory results end going h = subst (λ (e : Ending). EndsAs drill peek e (lines_of drill peek (ran.Returned n) memory results)) (sym h.2) refl
-line_ends drill peek (ran.Trapped kind) memory results end going h = subst (λ (e : Ending). EndsAs drill peek e (lines_of drill peek (ran.Trapped kind) memory results)) (sym h.1) refl
+line_ends drill peek (ran.Trapped kind place) memory results end going h = subst (λ (e : Ending). EndsAs drill peek e (lines_of drill peek (ran.Trapped kind place) memory results)) (sym h.1) refl
 line_ends drill peek ran.StepsSpent memory results end going h = subst (λ (e : Ending). EndsAs drill peek e steps_spent) (sym h) refl
 line_ends drill peek ran.HostStopped memory results end going h = absurd (going refl)
 line_ends drill peek (ran.Fault kind pc) memory results end going h = subst (λ (e : Ending). EndsAs drill peek e (lines_of drill peek (ran.Fault kind pc) memory results)) (sym h) refl

@@ -69,7 +69,7 @@ pub made_for : (spaces : Spaces) (cells : List ℕ) (n index : ℕ) (body : Body
 made_for spaces cells n index body k is same made = (
   made.code,
   subst (λ (m : ℕ). Stores cells m k.stored made.code) same made.is,
-  subst (λ (m : ℕ). Compiles (first_minimum spaces.tables) (context_in spaces) m (body_read body.first body.bytes) (Ok made.code)) (same ∙ is) made.compiled,
+  subst (λ (m : ℕ). Compiles (first_minimum spaces.tables) body.first (context_in spaces) m (body_read body.first body.bytes) (Ok made.code)) (same ∙ is) made.compiled,
 )
 
 -- a body with a code of so many words

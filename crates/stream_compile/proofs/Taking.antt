@@ -20,7 +20,7 @@ use Rattle.index_spaces.specs.ItemLimits.{HasSmallType}
 use Rattle.index_spaces.specs.Spaces.{Spaces, spaces_of, context_in}
 use Rattle.body_compiler.specs.declared.code.BodyStop.{BodyStop}
 use Rattle.body_compiler.specs.declared.code.BodyStop.TheVariants as body
-use Rattle.wasm_defs.specs.Instances.{first_minimum, rows_of}
+use Rattle.wasm_defs.specs.Instances.{first_minimum, rows_of, origin_of}
 use Rattle.body_compiler.specs.Unlinked.{IsUnlinked}
 use Rattle.body_compiler.specs.Compiling.{Compiles, IsFunctionCode}
 use Rattle.body_cutter.specs.declared.body.Body.{Body as GivenBody}
@@ -41,25 +41,26 @@ abbrev pub given_body : GivenBody → Body
 given_body b = record { size = b.size; first = b.first; bytes = b.bytes }
 
 -- by the index spaces that the code has
-pub moved_body : (spaces context : Spaces) (bodies imported : ℕ) (read : BodyRead) (r : Result Code BodyStop) → context ≡ spaces → imported ≡ context.imported
-    → Compiles (first_minimum context.tables) (context_in context) (imported + bodies) read r → Compiles (first_minimum spaces.tables) (context_in spaces) (spaces.imported + bodies) read r
-moved_body spaces context bodies imported read r same count h =
+pub moved_body : (spaces context : Spaces) (bodies imported first : ℕ) (read : BodyRead) (r : Result Code BodyStop) → context ≡ spaces → imported ≡ context.imported
+    → Compiles (first_minimum context.tables) first (context_in context) (imported + bodies) read r → Compiles (first_minimum spaces.tables) first (context_in spaces) (spaces.imported + bodies) read r
+moved_body spaces context bodies imported first read r same count h =
     let k : imported ≡ spaces.imported = count ∙ ap (λ (x : Spaces). x.imported) same in
-    let g = subst (λ (x : Spaces). Compiles (first_minimum x.tables) (context_in x) (imported + bodies) read r) same h in
-    subst (λ (n : ℕ). Compiles (first_minimum spaces.tables) (context_in spaces) (n + bodies) read r) k g
+    let g = subst (λ (x : Spaces). Compiles (first_minimum x.tables) first (context_in x) (imported + bodies) read r) same h in
+    subst (λ (n : ℕ). Compiles (first_minimum spaces.tables) first (context_in spaces) (n + bodies) read r) k g
 
-pub stops_as : (spaces : Spaces) (bodies : ℕ) (b : GivenBody) (s : BodyStop) → Compiles (first_minimum spaces.tables) (context_in spaces) (spaces.imported + bodies) (body_read b.first b.bytes) (Err s) → TakesBody spaces bodies b (Err (front_stop s))
+pub stops_as : (spaces : Spaces) (bodies : ℕ) (b : GivenBody) (s : BodyStop) → Compiles (first_minimum spaces.tables) b.first (context_in spaces) (spaces.imported + bodies) (body_read b.first b.bytes) (Err s) → TakesBody spaces bodies b (Err (front_stop s))
 stops_as spaces bodies b (body.Refused r) h = h
 stops_as spaces bodies b body.NoMemory h = tt
 
 -- the code is that of the body behind these items and so many bodies
 code_of_body : (items : List Item) (k : ℕ) (b : Body) (tree : Seq) (code : Code)
-    → ((w : Around) → w.layout ≡ (around items k b tree no_distance).layout → IsUnlinked (rows_of items) (context_of items).types w → IsFunctionCode w (context_at items k b) tree code) → IsCodeOf items k b tree code
+    → ((w : Around) → w.layout ≡ (around items k b tree no_distance).layout → IsUnlinked (rows_of items) (context_of items).types w → IsFunctionCode w (origin_of items k b) (context_at items k b) tree code) → IsCodeOf items k b tree code
 code_of_body items k b tree code is =
     let here = is (around items k b tree no_distance) refl (record { near = refl; rows_are = refl; likes_are = refl }) in
     record {
       words = here.words;
       relocations = here.relocations;
+      traps = here.traps;
       size = ap (λ (l : List ℕ). length l) here.words ∙ length-map (function_code (around items k b tree no_distance) (context_at items k b) tree) word_of;
     }
 
@@ -70,12 +71,12 @@ pub record HasCode (s : Spaces) (n : ℕ) (items : List Item) (k : ℕ) (b : Bod
   pub is_code : IsCodeOf items k b tree code
 
 has_code : (s : Spaces) (n : ℕ) (items : List Item) (k : ℕ) (b : Body) (code : Code) → s ≡ spaces_of items → n ≡ k
-    → Compiles (first_minimum s.tables) (context_in s) (s.imported + n) (read_of b) (Ok code) → HasCode s n items k b code
+    → Compiles (first_minimum s.tables) b.first (context_in s) (s.imported + n) (read_of b) (Ok code) → HasCode s n items k b code
 has_code s n items k b code same count =
-    let here : Compiles (first_minimum (spaces_of items).tables) (context_in (spaces_of items)) ((spaces_of items).imported + k) (read_of b) (Ok code) → HasCode (spaces_of items) k items k b code =
+    let here : Compiles (first_minimum (spaces_of items).tables) b.first (context_in (spaces_of items)) ((spaces_of items).imported + k) (read_of b) (Ok code) → HasCode (spaces_of items) k items k b code =
     λ h. record { tree = h.0; valid = h.1; is_code = code_of_body items k b h.0 code h.2 } in
-    let counted = subst (λ (m : ℕ). Compiles (first_minimum (spaces_of items).tables) (context_in (spaces_of items)) ((spaces_of items).imported + m) (read_of b) (Ok code) → HasCode (spaces_of items) m items k b code) (sym count) here in
-    subst (λ (x : Spaces). Compiles (first_minimum x.tables) (context_in x) (x.imported + n) (read_of b) (Ok code) → HasCode x n items k b code) (sym same) counted
+    let counted = subst (λ (m : ℕ). Compiles (first_minimum (spaces_of items).tables) b.first (context_in (spaces_of items)) ((spaces_of items).imported + m) (read_of b) (Ok code) → HasCode (spaces_of items) m items k b code) (sym count) here in
+    subst (λ (x : Spaces). Compiles (first_minimum x.tables) b.first (context_in x) (x.imported + n) (read_of b) (Ok code) → HasCode x n items k b code) (sym same) counted
 
 module _ (bytes : List ℕ) (left : Run) (spaces : Spaces) (codes : Coding) (b : GivenBody) (j : IsJudging bytes (after_part (outside.Coded (given_body b)) left) spaces codes) where
   coded : (code : Code) → TakesBody spaces codes.count b (Ok code) → HasCode spaces codes.count (items_of j.judged.front) (length (bodies_of j.judged.front)) (given_body b) code

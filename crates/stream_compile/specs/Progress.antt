@@ -91,8 +91,8 @@ front_stop body.NoMemory = NoMemory
 
 -- a body's code, or its first fault
 abbrev pub TakesBody : Spaces → ℕ → GivenBody → Result Code FrontStop → Type 0
-TakesBody spaces bodies b (Ok code) = Compiles (first_minimum spaces.tables) (context_in spaces) (spaces.imported + bodies) (body_read b.first b.bytes) (Ok code)
-TakesBody spaces bodies b (Err (Refused r)) = Compiles (first_minimum spaces.tables) (context_in spaces) (spaces.imported + bodies) (body_read b.first b.bytes) (Err (body.Refused r))
+TakesBody spaces bodies b (Ok code) = Compiles (first_minimum spaces.tables) b.first (context_in spaces) (spaces.imported + bodies) (body_read b.first b.bytes) (Ok code)
+TakesBody spaces bodies b (Err (Refused r)) = Compiles (first_minimum spaces.tables) b.first (context_in spaces) (spaces.imported + bodies) (body_read b.first b.bytes) (Err (body.Refused r))
 TakesBody spaces bodies b (Err NoMemory) = Unit {0}
 
 -- a body was taken: its code stands behind the others; or the body has a fault, or with it the text passes its limit

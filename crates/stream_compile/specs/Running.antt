@@ -16,7 +16,7 @@ use Rattle.stream_compile.specs.Texts.{Outcome, Told, arguments_of, machine_faul
 -- the lines of an outcome of a run that no host stopped, with its results
 abbrev pub line_of : (drill : Option ℕ) → Given → (results : List Value) → Outcome
 line_of drill (given.Returned n) results = returned_by drill results
-line_of drill (given.Trapped kind) results = trapped kind
+line_of drill (given.Trapped kind place) results = trapped kind place
 line_of drill given.StepsSpent results = steps_spent
 line_of drill given.HostStopped results = record { status = 7; text = [] }
 line_of drill (given.Fault kind pc) results = machine_fault kind pc
@@ -24,7 +24,7 @@ line_of drill (given.Fault kind pc) results = machine_fault kind pc
 -- bytes are shown behind a value and behind a trap
 abbrev pub shown_behind : Given → Option Peek → Option Peek
 shown_behind (given.Returned n) peek = peek
-shown_behind (given.Trapped kind) peek = peek
+shown_behind (given.Trapped kind place) peek = peek
 shown_behind given.StepsSpent peek = None
 shown_behind given.HostStopped peek = None
 shown_behind (given.Fault kind pc) peek = None

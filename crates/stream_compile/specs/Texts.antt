@@ -17,6 +17,7 @@ use Rattle.wasm_defs.specs.declared.fault.Kind.TheVariants.{Malformed, Unsupport
 use Rattle.wasm_defs.specs.declared.fault.Refusal.{Refusal}
 use Rattle.wasm_defs.specs.declared.types.ValType.{ValType}
 use Rattle.wasm_defs.specs.declared.types.ValType.TheVariants.{I32, I64}
+use Rattle.wasm_defs.specs.declared.place.Place.{Place}
 use Rattle.wasm_defs.specs.declared.value.TrapKind.{TrapKind}
 use Rattle.wasm_defs.specs.declared.value.Value.{Value as GivenValue}
 use Rattle.wasm_defs.specs.declared.value.Value.TheVariants as given
@@ -110,8 +111,13 @@ abbrev pub drilled : (functions : ℕ) → List Value → Outcome
 drilled functions [] = returned []
 drilled functions (v ∷ vs) = drill_line functions (signed v.ty v.number)
 
-abbrev pub trapped : TrapKind → Outcome
-trapped kind = record { status = 4; text = codes "trap " ++ trap_text kind ++ codes "\n" }
+-- where in the module a trap comes from, if it is told: the function's index, and the offset of the byte
+abbrev pub trap_place : Option Place → List ℕ
+trap_place None = codes "\n"
+trap_place (Some p) = codes " in function " ++ (decimal p.function ++ codes " at " ++ decimal p.offset ++ codes "\n")
+
+abbrev pub trapped : TrapKind → Option Place → Outcome
+trapped kind place = record { status = 4; text = codes "trap " ++ (trap_text kind ++ trap_place place) }
 
 -- the machine made all its steps, and the run hadn't ended
 abbrev pub steps_spent : Outcome
@@ -175,7 +181,7 @@ showing peek memory line = record line { text = with_peek peek memory line.text 
 -- the lines of a run of an image that ended so, where the host stopped none
 abbrev pub EndsAs : (drill : Option ℕ) → Option Peek → Ending → Outcome → Type 0
 EndsAs drill peek (As (Returns values memory globals)) o = o ≡ showing peek memory (returned_by drill values)
-EndsAs drill peek (As (Traps kind memory globals)) o = o ≡ showing peek memory (trapped kind)
+EndsAs drill peek (As (Traps kind place memory globals)) o = o ≡ showing peek memory (trapped kind place)
 EndsAs drill peek (As Going) o = o ≡ steps_spent
 EndsAs drill peek (As Stops) o = ⊥
 EndsAs drill peek (As Fails) o = ⊥
@@ -208,7 +214,7 @@ GoesOn steps runs = (k : ℕ) → 128 * k + 64 ≤ steps → (runs k).end ≡ Go
 -- of the module's for some weight, and the module's run goes on at each weight that the steps were enough for.
 abbrev pub TellsEnd : (drill : Option ℕ) → Option Peek → (steps : ℕ) → List HostCall → Ending → (ℕ → module_runs.Run) → Outcome → Type 0
 TellsEnd drill peek steps calls (As (Returns values memory globals)) runs o = (k : ℕ) × (runs k ≡ record { calls = calls; end = Returns values memory globals }) × (o ≡ showing peek memory (returned_by drill values))
-TellsEnd drill peek steps calls (As (Traps kind memory globals)) runs o = (k : ℕ) × (runs k ≡ record { calls = calls; end = Traps kind memory globals }) × (o ≡ showing peek memory (trapped kind))
+TellsEnd drill peek steps calls (As (Traps kind place memory globals)) runs o = (k : ℕ) × (runs k ≡ record { calls = calls; end = Traps kind place memory globals }) × (o ≡ showing peek memory (trapped kind place))
 TellsEnd drill peek steps calls (As Going) runs o = (k : ℕ) × BeginsWith (runs k).calls calls × GoesOn steps runs × (o ≡ steps_spent)
 TellsEnd drill peek steps calls (As Stops) runs o = ⊥
 TellsEnd drill peek steps calls (As Fails) runs o = ⊥

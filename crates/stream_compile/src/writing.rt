@@ -3,13 +3,13 @@
 ghost use Rattle.std.specs.Prelude.{ℕ, Option, ◌≡◌, ◌≢◌, ◌<◌, ◌^◌, ◌-◌, ◌∷◌, ◌++◌, [], List, length, true, codes, nat_lt};
 ghost use Rattle.std.specs.Fmt.{decimal, signed_decimal};
 ghost use Rattle.std.specs.List.{flat_map};
-ghost use Rattle.wasm_defs.specs.Values.{Value as ModuleValue, value_of};
+ghost use Rattle.wasm_defs.specs.Values.{Value as ModuleValue, trap_text, value_of};
 ghost use Rattle.io_edges.specs.Streams.{WritesText};
 ghost use Rattle.image_run.specs.Ends.{TellsCount};
 ghost use Rattle.image_run.specs.declared.outcome.Outcome.TheVariants.{HostStopped};
 ghost use Rattle.stream_compile.specs.Reading.{view};
 ghost use Rattle.stream_compile.specs.Running.{line_of, lines_of, shown_behind};
-ghost use Rattle.stream_compile.specs.Texts.{drill_line, drilled, fault_name, machine_fault, peeked, returned, returned_by, Told, value_line};
+ghost use Rattle.stream_compile.specs.Texts.{drill_line, drilled, fault_name, machine_fault, peeked, returned, returned_by, Told, trap_place, trapped, value_line};
 
 use crate::output::Output;
 use crate::shown::write_shown;
@@ -18,7 +18,7 @@ use image_run::{Instance, Outcome};
 use io_edges::{Sink, write_all};
 use itoa::Buffer;
 use rv64im_machine::FaultKind;
-use wasm_defs::{TrapKind, Value};
+use wasm_defs::{Place, TrapKind, Value};
 
 /// The status where the sink failed.
 const SINK_FAILED: u8 = 7;
@@ -204,6 +204,58 @@ fn write_fault<O: Sink>(out: &mut O, kind: FaultKind, pc: u64) -> bool
     }
 }
 
+/// Writes in which function a run trapped, and at which offset of the module.
+fn write_told<O: Sink>(out: &mut O, function: u32, offset: u64) -> bool
+    requires { O.is_open out.old ≡ true }
+    ensures text { WritesText result (codes " in function " ++ (decimal function ++ codes " at " ++ decimal offset ++ codes "\n")) (O.written out.old) (O.written out.new) (O.faults out.old) (O.faults out.new) }
+    ensures open { result ≡ true → O.is_open out.new ≡ true }
+{
+    let mut number = Buffer::new();
+    if write_all(out, b" in function ") {
+        write_place(out, number.format(function).as_bytes(), offset)
+    } else {
+        false
+    }
+}
+
+/// Writes where a run trapped, if it is told, and a newline.
+fn write_trap_place<O: Sink>(out: &mut O, place: Option<Place>) -> bool
+    requires { O.is_open out.old ≡ true }
+    ensures text { WritesText result (trap_place place) (O.written out.old) (O.written out.new) (O.faults out.old) (O.faults out.new) }
+    ensures open { result ≡ true → O.is_open out.new ≡ true }
+{
+    match place {
+        None => write_all(out, b"\n"),
+        Some(told) => write_told(out, told.function, told.offset),
+    }
+}
+
+/// Writes why a run trapped, and where.
+fn write_kind<O: Sink>(out: &mut O, kind: TrapKind, place: Option<Place>) -> bool
+    requires { O.is_open out.old ≡ true }
+    ensures text { WritesText result (trap_text kind ++ trap_place place) (O.written out.old) (O.written out.new) (O.faults out.old) (O.faults out.new) }
+    ensures open { result ≡ true → O.is_open out.new ≡ true }
+{
+    if write_all(out, kind.text().as_bytes()) {
+        write_trap_place(out, place)
+    } else {
+        false
+    }
+}
+
+/// Writes that a run trapped.
+fn write_trap<O: Sink>(out: &mut O, kind: TrapKind, place: Option<Place>) -> bool
+    requires { O.is_open out.old ≡ true }
+    ensures text { WritesText result (trapped kind place).text (O.written out.old) (O.written out.new) (O.faults out.old) (O.faults out.new) }
+    ensures open { result ≡ true → O.is_open out.new ≡ true }
+{
+    if write_all(out, b"trap ") {
+        write_kind(out, kind, place)
+    } else {
+        false
+    }
+}
+
 /// Writes how a run ended that no host stopped.
 fn write_line<O: Sink>(
     out: &mut O,
@@ -219,7 +271,7 @@ fn write_line<O: Sink>(
 {
     match outcome {
         Outcome::Returned(count) => write_returned_by(out, drill, instance, count),
-        Outcome::Trapped(kind) => write_number(out, b"trap ", kind.text().as_bytes()),
+        Outcome::Trapped(kind, place) => write_trap(out, kind, place),
         Outcome::StepsSpent => write_all(out, b"steps spent\n"),
         Outcome::Fault(kind, pc) => write_fault(out, kind, pc),
         Outcome::HostStopped => unreachable!(),
@@ -251,7 +303,7 @@ fn shown_behind(outcome: Outcome, peek: Option<Peek>) -> Option<Peek>
     ensures { result ≡ shown_behind outcome peek }
 {
     match outcome {
-        Outcome::Returned(_) | Outcome::Trapped(_) => peek,
+        Outcome::Returned(_) | Outcome::Trapped(_, _) => peek,
         Outcome::StepsSpent | Outcome::HostStopped | Outcome::Fault(_, _) => None,
     }
 }
@@ -282,7 +334,7 @@ fn status_of(outcome: Outcome) -> u8
 {
     match outcome {
         Outcome::Returned(_) => 0,
-        Outcome::Trapped(_) => 4,
+        Outcome::Trapped(_, _) => 4,
         Outcome::StepsSpent => 5,
         Outcome::HostStopped => SINK_FAILED,
         Outcome::Fault(_, _) => 9,
