@@ -42,7 +42,10 @@ const SIZE: u64 = 0x1_0000;
 /// Offsets, each with its bytes in a body.
 const OFFSETS: [(u64, &str); 3] = [(0, "00"), (1, "01"), (0xFFFF_FFFF, "FF FF FF FF 0F")];
 
-const TRAP: &str = "4 trap out of bounds memory access\n";
+/// Where a load and a store trap, by the lengths of their modules' fronts.
+const LOAD_TRAP: &str = "4 trap out of bounds memory access in function 0 at 40\n";
+
+const STORE_TRAP: &str = "4 trap out of bounds memory access in function 0 at 43\n";
 
 /// A byte of the memory before the run.
 fn byte_at(place: u64) -> u8 {
@@ -194,7 +197,7 @@ fn load_difference<R: Threads + Wait + Sync>(
                 row.4,
                 value_of(row, number_at(place, row.2, 0, 0, 0)),
             )?,
-            None => String::from_str(alloc, TRAP)?,
+            None => String::from_str(alloc, LOAD_TRAP)?,
         };
         if got != want {
             return Ok(format!(in alloc; "{} offset {}: {call}: {got}", row.0, offset.0)?);
@@ -238,7 +241,7 @@ fn store_difference<R: Threads + Wait + Sync>(
                 let number = number_at(shown.0, 8, place, row.2, STORED);
                 line_of(alloc, ValType::I64, number.cast_signed())?
             }
-            None => String::from_str(alloc, TRAP)?,
+            None => String::from_str(alloc, STORE_TRAP)?,
         };
         if got != want {
             return Ok(format!(in alloc; "{} offset {}: {call}: {got}", row.0, offset.0)?);

@@ -1,7 +1,7 @@
 //! Answers that were worked out by hand.
 
 use crate::program::{
-    ADD, EMPTY_IMAGE, FAULTY_BODIES, HEADER, answer, answer_to_line, bytes_of,
+    ADD, EMPTY_IMAGE_2, FAULTY_BODIES, HEADER, answer, answer_to_line, bytes_of,
     difference_in_images, difference_in_rows, image_of,
 };
 use io_edges::{Flat, OpenGate};
@@ -110,10 +110,10 @@ fn images_are_written(rt: HostRuntime) -> Result<(), Fail> {
     let alloc = rt.alloc();
     let line = "wstream compile";
     let empty = image_of(&rt, alloc, line, &bytes_of(alloc, &[HEADER])?)?;
-    assert!(rt; empty == bytes_of(alloc, &[EMPTY_IMAGE])?);
+    assert!(rt; empty == bytes_of(alloc, &[EMPTY_IMAGE_2])?);
     let mut module = bytes_of(alloc, &[HEADER, ADD])?;
     let image = image_of(&rt, alloc, line, &module)?;
-    assert_eq!(rt; image.len(), 254);
+    assert_eq!(rt; image.len(), 270);
     for batch in ["1", "7", "1048576"] {
         let line = format!(in alloc; "wstream compile --batch {batch}")?;
         let again = image_of(&rt, alloc, line.as_str(), &module)?;

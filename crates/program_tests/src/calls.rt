@@ -73,14 +73,27 @@ const ROWS: [(&str, &str, &str); 24] = [
     (LOOP, "f i32:5", "0 i32 0\n"),
     (COUNTDOWN, "f i32:0", "0 ok\n"),
     (COUNTDOWN, "f i32:65534", "0 ok\n"),
-    (COUNTDOWN, "f i32:65535", "4 trap call stack exhausted\n"),
-    (COUNTDOWN, "f i32:-1", "4 trap call stack exhausted\n"),
+    (
+        COUNTDOWN,
+        "f i32:65535",
+        "4 trap call stack exhausted in function 0 at 30\n",
+    ),
+    (
+        COUNTDOWN,
+        "f i32:-1",
+        "4 trap call stack exhausted in function 0 at 30\n",
+    ),
     (EVEN_ODD, "even i32:10", "0 i32 1\n"),
     (EVEN_ODD, "even i32:7", "0 i32 0\n"),
     (EVEN_ODD, "odd i32:7", "0 i32 1\n"),
     (EVEN_ODD, "odd i32:1000", "0 i32 0\n"),
     (EVEN_ODD, "even i32:65534", "0 i32 1\n"),
-    (EVEN_ODD, "odd i32:65535", "4 trap call stack exhausted\n"),
+    // The last call is one of `even`.
+    (
+        EVEN_ODD,
+        "odd i32:65535",
+        "4 trap call stack exhausted in function 0 at 41\n",
+    ),
     (ORDER, "f i32:1 i32:2 i32:3", "0 i32 317\n"),
     (ORDER, "f i32:-1 i32:0 i32:0", "0 i32 -5\n"),
     (MIXED, "f i32:4", "0 i64 50\n"),
@@ -88,7 +101,11 @@ const ROWS: [(&str, &str, &str); 24] = [
     (SQUARES, "f i32:10", "0 i32 385\n"),
     (FIBONACCI, "f i32:20", "0 i32 6765\n"),
     (DIVIDING, "f i32:3", "0 i32 4\n"),
-    (DIVIDING, "f i32:0", "4 trap integer divide by zero\n"),
+    (
+        DIVIDING,
+        "f i32:0",
+        "4 trap integer divide by zero in function 1 at 50\n",
+    ),
 ];
 
 #[test]

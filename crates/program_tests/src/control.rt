@@ -54,11 +54,25 @@ fn module_of(alloc: Global, tokens: &[Token]) -> Result<Vec<u8>, Fail> {
     Ok(module)
 }
 
-/// The program's answer where the run ends so.
-fn line_of(alloc: Global, end: End) -> Result<String, Fail> {
+/// The offset of a token in its module: behind a front of 33 bytes and the declaration of the locals.
+fn offset_of(alloc: Global, tokens: &[Token], at: usize) -> Result<usize, Fail> {
+    let mut bytes = Vec::new(alloc);
+    for (i, token) in tokens.iter().enumerate() {
+        if i < at {
+            push_token(&mut bytes, *token)?;
+        }
+    }
+    Ok(bytes.len().saturating_add(36))
+}
+
+/// The program's answer where the run of a body ends so.
+fn line_of(alloc: Global, tokens: &[Token], end: End) -> Result<String, Fail> {
     Ok(match end {
         End::Returned(value) => format!(in alloc; "0 i32 {value}\n")?,
-        End::Trapped => String::from_str(alloc, "4 trap unreachable\n")?,
+        End::Trapped(at) => {
+            let offset = offset_of(alloc, tokens, at)?;
+            format!(in alloc; "4 trap unreachable in function 0 at {offset}\n")?
+        }
         End::Lost(why) => return Err(Fail::new(why)),
     })
 }
@@ -71,7 +85,11 @@ fn difference<R: Threads + Wait + Sync>(
 ) -> Result<String, Fail> {
     let module = module_of(alloc, tokens)?;
     for argument in ARGUMENTS {
-        let want = line_of(alloc, run_of(alloc, tokens, argument, MOST_STEPS)?)?;
+        let want = line_of(
+            alloc,
+            tokens,
+            run_of(alloc, tokens, argument, MOST_STEPS)?,
+        )?;
         let line = format!(in alloc; "wstream run f i32:{argument}")?;
         let told = answer_to_line(rt, alloc, line.as_str(), &module)?;
         if told.as_str() != want.as_str() {

@@ -2,7 +2,7 @@
 //! sinks that fail after each number of bytes, and images that no compiler made. Their answers were worked out by hand.
 
 use crate::program::{
-    ADD, EMPTY_IMAGE, FAULTY_BODIES, HEADER, answer_bytewise, answer_to_line, bytes_of,
+    ADD, EMPTY_IMAGE, EMPTY_IMAGE_2, FAULTY_BODIES, HEADER, answer_bytewise, answer_to_line, bytes_of,
     difference_in_sinks,
 };
 use std::alloc::Global;
@@ -49,12 +49,14 @@ fn difference_in_image_fronts<R: Threads + Wait + Sync>(
     rt: &R,
     alloc: Global,
 ) -> Result<String, Fail> {
-    let image = bytes_of(alloc, &[EMPTY_IMAGE])?;
-    for len in 0..image.len() {
-        let want = format!(in alloc; "10 bad image at {len}\n")?;
-        let told = answer_to_line(rt, alloc, "wstream exec x", &image[..len])?;
-        if told != want {
-            return Ok(format!(in alloc; "{len} bytes: {told}")?);
+    for text in [EMPTY_IMAGE, EMPTY_IMAGE_2] {
+        let image = bytes_of(alloc, &[text])?;
+        for len in 0..image.len() {
+            let want = format!(in alloc; "10 bad image at {len}\n")?;
+            let told = answer_to_line(rt, alloc, "wstream exec x", &image[..len])?;
+            if told != want {
+                return Ok(format!(in alloc; "{len} bytes: {told}")?);
+            }
         }
     }
     Ok(String::new(alloc))
@@ -168,7 +170,7 @@ fn sinks_that_fail_are_told(rt: HostRuntime) -> Result<(), Fail> {
         assert_eq!(rt; difference.as_str(), "");
     }
     let module = bytes_of(alloc, &[HEADER])?;
-    let image = bytes_of(alloc, &[EMPTY_IMAGE])?;
+    let image = bytes_of(alloc, &[EMPTY_IMAGE_2])?;
     let difference = difference_in_sinks(&rt, alloc, "wstream compile", &module, 0, &image)?;
     assert_eq!(rt; difference.as_str(), "");
     Ok(())

@@ -49,7 +49,11 @@ const ROWS: [(&str, &str, &str); 14] = [
     (BYTE, "p i32:322", "0 Bok\n"),
     (BYTE, "p i32:-189", "0 Cok\n"),
     (BYTE, "p i64:65", "3 not runnable wrong arguments\n"),
-    (TRAPPING, "p i32:68", "4 Dtrap unreachable\n"),
+    (
+        TRAPPING,
+        "p i32:68",
+        "4 Dtrap unreachable in function 1 at 49\n",
+    ),
     (PRINTING, "m", "0 7\nA-5\nok\n"),
     // Only the start function has its steps.
     (PRINTING, "m --steps 80", "5 7\nsteps spent\n"),

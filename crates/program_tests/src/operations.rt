@@ -322,13 +322,15 @@ fn wanted_64(opcode: u8, a: i64, b: i64) -> Wanted {
     }
 }
 
-/// The status and the line that belong to it.
+/// The status and the line that belong to it; a division stands behind 37 bytes.
 fn wanted_line(alloc: Global, wanted: Wanted) -> Result<String, AllocError> {
     match wanted {
         Wanted::I32(n) => format!(in alloc; "0 i32 {n}\n"),
         Wanted::I64(n) => format!(in alloc; "0 i64 {n}\n"),
-        Wanted::DividesByZero => String::from_str(alloc, "4 trap integer divide by zero\n"),
-        Wanted::Overflows => String::from_str(alloc, "4 trap integer overflow\n"),
+        Wanted::DividesByZero => {
+            String::from_str(alloc, "4 trap integer divide by zero in function 0 at 37\n")
+        }
+        Wanted::Overflows => String::from_str(alloc, "4 trap integer overflow in function 0 at 37\n"),
     }
 }
 

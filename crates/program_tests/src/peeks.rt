@@ -42,12 +42,12 @@ const ROWS: [(&str, &str, &str); 21] = [
     (
         TRAPPING,
         "f --peek 16:4",
-        "4 trap unreachable\npeek 02010000\n",
+        "4 trap unreachable in function 0 at 43\npeek 02010000\n",
     ),
     (
         TRAPPING,
         "f --peek 65536:1",
-        "4 trap unreachable\npeek out of range\n",
+        "4 trap unreachable in function 0 at 43\npeek out of range\n",
     ),
     (DATA, "f --peek 0:8", "0 ok\npeek 00090a0f109fa0ff\n"),
     // The size is that behind the call.
@@ -112,7 +112,7 @@ fn a_front_is_written_where_the_sink_is_full(rt: HostRuntime) -> Result<(), Fail
     let alloc = rt.alloc();
     let bytes = bytes_of(alloc, &[HEADER, TRAPPING])?;
     let line = "wstream run f --peek 16:4";
-    let text = "trap unreachable\npeek 02010000\n".as_bytes();
+    let text = "trap unreachable in function 0 at 43\npeek 02010000\n".as_bytes();
     let difference = difference_in_sinks(&rt, alloc, line, &bytes, 4, text)?;
     assert_eq!(rt; difference.as_str(), "");
     Ok(())

@@ -28,13 +28,21 @@ const IMPORTED: &str =
 /// Modules, what they are asked for, and the answers.
 const ROWS: [(&str, &str, &str); 14] = [
     (SETTING, "run f", "0 i32 7\n"),
-    (TRAPPING, "run f", "4 trap unreachable\n"),
+    (
+        TRAPPING,
+        "run f",
+        "4 trap unreachable in function 0 at 33\n",
+    ),
     (TRAPPING, "check", "0 ok 1 functions 35 bytes\n"),
     (EMPTY, "run f --steps 16", "0 ok\n"),
     (EMPTY, "run f --steps 15", "5 steps spent\n"),
     (TWICE, "run f --steps 32", "0 ok\n"),
     (TWICE, "run f --steps 31", "5 steps spent\n"),
-    (ENDLESS, "run f", "4 trap call stack exhausted\n"),
+    (
+        ENDLESS,
+        "run f",
+        "4 trap call stack exhausted in function 0 at 33\n",
+    ),
     (IMPORTED, "check", "0 ok 1 functions 43 bytes\n"),
     (IMPORTED, "run f", "3 not runnable unknown import\n"),
     // No function; a parameter; a result; and a function that is declared behind the start section's index.

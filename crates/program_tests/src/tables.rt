@@ -9,7 +9,7 @@ use std::sync::Wait;
 use std::test::Fail;
 use std::thread::Threads;
 use stream_compile::{Answer, Settings, stream_compile};
-use wasm_defs::TrapKind;
+use wasm_defs::{Place, TrapKind};
 
 /// What follows the header of a module: `c` calls the function of a row, which is to give an i32. Row 0 has such a function, of an
 /// equal type with another index, row 1 one that gives an i64, and row 2 none.
@@ -88,18 +88,38 @@ const ROWS: [(&str, &str, &str); 18] = [
     (
         ROWS_OF_TYPES,
         "c i32:1",
-        "4 trap indirect call type mismatch\n",
+        "4 trap indirect call type mismatch in function 2 at 74\n",
     ),
-    (ROWS_OF_TYPES, "c i32:2", "4 trap uninitialized element\n"),
-    (ROWS_OF_TYPES, "c i32:3", "4 trap undefined element\n"),
-    (ROWS_OF_TYPES, "c i32:-1", "4 trap undefined element\n"),
+    (
+        ROWS_OF_TYPES,
+        "c i32:2",
+        "4 trap uninitialized element in function 2 at 74\n",
+    ),
+    (
+        ROWS_OF_TYPES,
+        "c i32:3",
+        "4 trap undefined element in function 2 at 74\n",
+    ),
+    (
+        ROWS_OF_TYPES,
+        "c i32:-1",
+        "4 trap undefined element in function 2 at 74\n",
+    ),
     (PADDED, "c i32:0", "0 i32 7\n"),
     (LATER, "f", "0 i32 5\n"),
     (ARGUMENTS, "f i32:7 i32:2", "0 i32 105\n"),
-    (ENDLESS, "f", "4 trap call stack exhausted\n"),
+    (
+        ENDLESS,
+        "f",
+        "4 trap call stack exhausted in function 0 at 44\n",
+    ),
     (OVERWRITTEN, "f i32:0", "0 i32 2\n"),
     (OVERWRITTEN, "f i32:1", "0 i32 1\n"),
-    (OVERWRITTEN, "f i32:2", "4 trap undefined element\n"),
+    (
+        OVERWRITTEN,
+        "f i32:2",
+        "4 trap undefined element in function 0 at 62\n",
+    ),
     (AT_0, "f", "0 ok\n"),
     (AT_1, "f", "3 not runnable unlinkable\n"),
     (AT_MINUS_1, "f", "3 not runnable unlinkable\n"),
@@ -157,7 +177,10 @@ fn tables_are_full(rt: HostRuntime) -> Result<(), Fail> {
         ("wstream run f i32:0", "0 i32 1\n"),
         ("wstream run f i32:99998", "0 i32 1\n"),
         ("wstream run f i32:99999", "0 i32 2\n"),
-        ("wstream run f i32:100000", "4 trap undefined element\n"),
+        (
+            "wstream run f i32:100000",
+            "4 trap undefined element in function 0 at 100067\n",
+        ),
         ("wstream run g i32:0", "0 i32 1\n"),
         ("wstream run g i32:99999", "0 i32 2\n"),
         ("wstream run g i32:100000", "0 i32 -1\n"),
@@ -228,7 +251,11 @@ fn rows_lead_to_imports(rt: HostRuntime) -> Result<(), Fail> {
     assert!(rt; page.bytes() == "-5\n".as_bytes());
     let mut page = Page::new(alloc, 64)?;
     let outcome = printed(alloc, &image, "w", &mut page)?;
-    assert_eq!(rt; outcome, Outcome::Trapped(TrapKind::TypeMismatch));
+    let place = Place {
+        function: 2,
+        offset: 80,
+    };
+    assert_eq!(rt; outcome, Outcome::Trapped(TrapKind::TypeMismatch, Some(place)));
     assert!(rt; page.bytes().is_empty());
     Ok(())
 }

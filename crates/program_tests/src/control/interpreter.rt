@@ -3,10 +3,10 @@
 use crate::control::tokens::{Token, number_of};
 use std::alloc::{AllocError, Global};
 
-/// How a run ends. `Lost` is for bodies that no validation passes, and for runs of too many reductions.
+/// How a run ends; where it traps, at which of the tokens. `Lost` is for bodies that no validation passes, and for runs of too many reductions.
 pub enum End {
     Returned(i32),
-    Trapped,
+    Trapped(usize),
     Lost(&'static str),
 }
 
@@ -183,7 +183,10 @@ impl Machine<'_> {
         };
         self.next = self.next.saturating_add(1);
         let went = match token {
-            Token::Unreachable => return Ok(Some(Step::Ends(End::Trapped))),
+            Token::Unreachable => {
+                let at = self.next.saturating_sub(1);
+                return Ok(Some(Step::Ends(End::Trapped(at))));
+            }
             Token::Discard => self.pop().map(|_| ()),
             Token::Set(local) => match self.pop() {
                 Some(value) => {
