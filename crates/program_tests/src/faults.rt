@@ -176,7 +176,7 @@ const FURTHER_FAULTS: [(&str, &str); 44] = [
     ("04 05 01 70 01 02 01", "invalid at 14"),
     ("04 07 02 70 00 00 70 00 00", "invalid at 10"),
     // Memories: more pages than there may be, a maximum above 65,536, and two of them.
-    ("05 04 01 00 81 08", "limit at 12"),
+    ("05 04 01 00 81 20", "limit at 12"),
     ("05 06 01 01 00 81 80 04", "invalid at 13"),
     ("05 05 02 00 00 00 00", "invalid at 10"),
     // Globals: another mutability; a constant of another type, of floats, no constant, no opcode, a sign extension, and one constant too

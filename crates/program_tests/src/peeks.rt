@@ -23,7 +23,7 @@ const GROWING: &str = "01 06 01 60 01 7F 01 7F 03 02 01 00 05 03 01 00 01 07 05 
                        0A 08 01 06 00 20 00 40 00 0B";
 
 /// Modules, what `run` and `exec` are asked for, and the answers.
-const ROWS: [(&str, &str, &str); 21] = [
+const ROWS: [(&str, &str, &str); 23] = [
     (STORE, "f --peek 16:4", "0 ok\npeek 02010000\n"),
     (STORE, "--peek=16:2 f", "0 ok\npeek 0201\n"),
     (STORE, "f --peek 15:3", "0 ok\npeek 000201\n"),
@@ -63,6 +63,9 @@ const ROWS: [(&str, &str, &str); 21] = [
         "g i32:1 --peek 131071:2",
         "0 i32 1\npeek out of range\n",
     ),
+    // Up to 4,096 pages, and not past them.
+    (GROWING, "g i32:4095", "0 i32 1\n"),
+    (GROWING, "g i32:4096", "0 i32 -1\n"),
     // There is no memory.
     (
         ADD,

@@ -278,7 +278,7 @@ fn the_first_fault_is_told(rt: HostRuntime) -> Result<(), Fail> {
         ("06 06 01 7F 02 41 00 0B", 12, Kind::Malformed),
         // Memories and tables.
         ("05 04 01 01 02 01", 13, Kind::Invalid),
-        ("05 04 01 00 81 08", 12, Kind::Limit),
+        ("05 04 01 00 81 20", 12, Kind::Limit),
         ("05 05 01 00 81 80 04", 12, Kind::Limit),
         ("05 06 01 01 00 81 80 04", 13, Kind::Invalid),
         ("05 03 02 00 00", 10, Kind::Invalid),

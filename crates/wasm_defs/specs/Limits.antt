@@ -35,7 +35,7 @@ max_table = 100000
 
 -- the minimum of a memory, in pages
 abbrev pub max_pages : ℕ
-max_pages = 1024
+max_pages = 4096
 
 -- bytes of a compiled module's text: a region of the machine holds them
 abbrev pub max_text : ℕ

@@ -25,8 +25,8 @@ pub const MAX_NAME: u32 = 100_000;
 /// The least number of rows that a table may ask for.
 pub const MAX_TABLE: u32 = 100_000;
 
-/// The least number of pages that a memory may ask for: 64 MiB.
-pub const MAX_PAGES: u32 = 1_024;
+/// The least number of pages that a memory may ask for: 256 MiB.
+pub const MAX_PAGES: u32 = 4_096;
 
 /// Bytes of a compiled module's text: a region of the machine holds them.
 pub const MAX_TEXT: u32 = 268_435_456;
