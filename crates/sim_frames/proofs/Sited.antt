@@ -1,5 +1,5 @@
 -- Traps of sequences: what is told of them, and that they depend on no distance, and on no label's place.
-use Rattle.std.proofs.Common.{◌≡◌, ℕ, ◌+◌, ◌-◌, ◌⊎◌, ⊎_elim, List, [], ◌∷◌, ◌++◌, length, map, Option, Some, None, refl, sym, ap, ◌∙◌, subst, absurd}
+use Rattle.std.proofs.Common.{◌≡◌, ℕ, ◌+◌, ◌-◌, ◌⊎◌, ⊎_elim, List, [], ◌∷◌, ◌++◌, length, map, Option, Some, None, refl, sym, ap, ◌∙◌, subst}
 use Rattle.wasm_defs.specs.declared.place.Place as told
 use Rattle.wasm_defs.specs.declared.token.Plain.{Plain}
 use Rattle.wasm_defs.specs.Trees.{Seq, Nothing, Simple, Block, Loop, If, IfElse, tokens_in}
@@ -41,8 +41,8 @@ module _ (trap : ℕ → Option told.Place) (begin : ℕ) (o : Origin) where
 
 -- ---- what they depend on
 
-joined : (as bs cs ds : List Trap) → as ≡ bs → cs ≡ ds → as ++ cs ≡ bs ++ ds
-joined as bs cs ds e f = ap (λ (xs : List Trap). xs ++ cs) e ∙ ap (λ (xs : List Trap). bs ++ xs) f
+joined : (ts us vs ws : List Trap) → ts ≡ us → vs ≡ ws → ts ++ vs ≡ us ++ ws
+joined ts us vs ws e f = ap (λ (xs : List Trap). xs ++ vs) e ∙ ap (λ (xs : List Trap). us ++ xs) f
 
 module _ (w : Around) (distance_to : ℕ → ℕ → ℕ) where
   abbrev away : Around
