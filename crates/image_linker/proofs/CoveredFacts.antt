@@ -1,5 +1,5 @@
 -- The modules that verdicts accept are of covered instructions.
-use Rattle.std.proofs.Common.{◌≡◌, ℕ, zero, suc, ◌+◌, ◌<◌, ◌≤◌, Option, List, [], ◌∷◌, length, None, Some, refl, sym, ap, subst, arith}
+use Rattle.std.proofs.Common.{◌≡◌, ℕ, zero, suc, ◌+◌, ◌^◌, ◌<◌, ◌≤◌, Option, List, [], ◌∷◌, length, None, Some, refl, sym, ap, subst, arith}
 use Rattle.wasm_defs.specs.declared.item.Item.{Item}
 use Rattle.wasm_defs.specs.declared.item.Item.TheVariants as item
 use Rattle.wasm_defs.specs.declared.types.ValType.TheVariants.{I32, I64}
@@ -220,8 +220,8 @@ module _ (bytes : List ℕ) (m : Module) (fits : AreBytes bytes) (is : IsModule 
       let listed : entries_in 1 m.items ≤ max_entries = subst (λ (items : List Item). entries_in 1 items ≤ max_entries) (sym is.items) (entries_are_few 1 (λ ten. absurd cc) bytes) in
       omega (arith, types_are_few m.items)
 
-  few_functions : import_count m.items + length m.bodies < 2 ^ 32
-  few_functions =
+  count_fits : import_count m.items + length m.bodies < 2 ^ 32
+  count_fits =
       let two : entries_in 2 m.items ≤ max_entries = subst (λ (items : List Item). entries_in 2 items ≤ max_entries) (sym is.items) (entries_are_few 2 (λ ten. absurd cc) bytes) in
       let three : entries_in 3 m.items ≤ max_entries = subst (λ (items : List Item). entries_in 3 items ≤ max_entries) (sym is.items) (entries_are_few 3 (λ ten. absurd cc) bytes) in
       omega (arith, functions_match, functions_are_few m.items, two, three)
@@ -244,5 +244,5 @@ module _ (bytes : List ℕ) (m : Module) (fits : AreBytes bytes) (is : IsModule 
     returns = imports_return_one bytes m is;
     short_imports = (offsets_are_short bytes m fits is).0;
     short_bodies = (offsets_are_short bytes m fits is).1;
-    few_functions = few_functions;
+    few_functions = count_fits;
   }

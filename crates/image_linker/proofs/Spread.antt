@@ -1,13 +1,12 @@
 -- The traps of an image stand one behind the other in its text, and each is told its place.
-use Rattle.std.proofs.Common.{◌≡◌, ℕ, zero, suc, ◌+◌, ◌*◌, ◌%◌, ◌^◌, ◌<◌, ◌≤◌, ◌⊎◌, inl, inr, ⊎_elim, ◌==◌, List, [], ◌∷◌, ◌++◌, map, length, Option, Some, refl, sym, ap, ◌∙◌, subst, absurd, arith}
+use Rattle.std.proofs.Common.{◌≡◌, ℕ, suc, ◌+◌, ◌*◌, ◌^◌, ◌<◌, ◌≤◌, ◌⊎◌, inl, inr, ⊎_elim, ◌==◌, List, [], ◌∷◌, ◌++◌, map, length, Option, Some, refl, sym, ap, ◌∙◌, subst, arith}
 use Rattle.std.proofs.lemmas.Bool.{cond-true, cond-false, eq-eqb, ne_eqb}
-use Rattle.std.proofs.lemmas.List.{length-append, length-map}
 use Rattle.std.proofs.lemmas.List.Sums.{fold_push}
 use Rattle.rv_isa.specs.declared.compiled.TrapSite.{TrapSite}
 use Rattle.wasm_defs.specs.declared.item.Item.{Item}
 use Rattle.wasm_defs.specs.declared.item.Item.TheVariants.{Imported}
 use Rattle.wasm_defs.specs.declared.place.Place.{Place}
-use Rattle.wasm_defs.specs.Configurations.{Origin, place_left}
+use Rattle.wasm_defs.specs.Configurations.{Origin}
 use Rattle.wasm_defs.specs.Context.{import_count}
 use Rattle.wasm_defs.specs.Faults.{context_at, Module}
 use Rattle.wasm_defs.specs.Instances.{origin_of}
@@ -71,7 +70,7 @@ each_fits words from to front (p ∷ ps) low high few h =
     )
 
 pub places_fit : (words : ℕ) (ps : List TrapPlace) → words ≤ 2 ^ 26 → Stand 0 ps words → (3 * length ps ≤ words) × Each (PlaceFits words) [] ps
-places_fit words ps few h = (stand_within 0 words ps h, each_fits words 0 words [] ps (omega arith) (omega arith) few h)
+places_fit words ps few h = (omega (arith, stand_within 0 words ps h), each_fits words 0 words [] ps (omega arith) (omega arith) few h)
 
 -- ---- each is told
 
@@ -143,7 +142,7 @@ stand_functions items here k (b ∷ bodies) (tree ∷ trees) few short =
     let all : next + sizes items (suc k) bodies trees ≡ here + (size_of items k b tree + sizes items (suc k) bodies trees) = omega arith in
     subst (Stand here (traps_of_function items here k b tree ++ traps_from items next (suc k) bodies trees)) all
     (stand_both here next (next + sizes items (suc k) bodies trees) (traps_of_function items here k b tree) (traps_from items next (suc k) bodies trees)
-    (stand_function items here k b tree (omega arith) (short.0, (short.1, tt)))
+    (stand_function items here k b tree (omega arith) (short.0, short.1, tt))
     (stand_functions items next (suc k) bodies trees (omega arith) short.2))
 
 -- those of the stubs
@@ -151,7 +150,7 @@ stand_stubs : (here number : ℕ) (items : List Item) → number + import_count 
 stand_stubs here number [] few short = omega arith
 stand_stubs here number (Imported from what kind type_index ∷ items) few short =
     let next = stand_stubs (here + stub_size) (suc number) items (omega arith) short.1 in
-    let all : here + stub_size + stub_size * import_count items ≡ here + stub_size * suc (import_count items) = omega arith in (
+    let all : here + stub_size + stub_size * import_count items ≡ here + stub_size * (import_count items + 1) = omega arith in (
       here + room_trap,
       record { behind = omega arith; offset = refl; function = omega arith; module_offset = short.0 },
       subst (Stand (here + room_trap + 1) (stub_traps (here + stub_size) (suc number) items)) all
