@@ -22,8 +22,8 @@ put_stubs-requires-clause-places c =
     subst (λ imports. All IsShort (import_traps (length exit_stub) 0 imports)) (sym c.imports-imports.ensures)
     (all_left (import_traps (length exit_stub) 0 c.args.context.now.imports) (code_traps (front_of (length c.args.context.now.imports)) (length c.args.context.now.imports) (codes_of c.args.codes.now)) c.requires.places)
 
-pub front_of-requires : goal.front_of-requires
-front_of-requires c = omega (arith, c.requires.words, ap (λ imports. length imports) c.imports-imports.ensures)
+pub front_of-here-requires : goal.front_of-here-requires
+front_of-here-requires c = omega (arith, c.requires.words, ap (λ imports. length imports) c.imports-imports.ensures)
 
 -- the words with one more code are no more than all
 pub overflow_add-here : goal.overflow_add-here
@@ -84,7 +84,7 @@ loop-body-preserved c =
     let short = code_short (front_of (length imports)) (length imports) codes i here (length imports + i) code c.loop-body.invariant.0 refl less is all in
     let same = same_function here function (length imports + i) code.traps c.loop-body.invariant.1 short in (
       omega (arith, ap (λ (l : List ℕ). length l) next, more, words, c.loop-body.invariant.0),
-      (λ (few : length imports + (i + 1) < 2 ^ 32). let before = c.loop-body.invariant.1 (omega (arith, few)) in omega (arith, before, few, c.saturating_add.ensures)),
+      (λ (few : length imports + (i + 1) < 2 ^ 32). let before = c.loop-body.invariant.1 (omega (arith, few)) in omega (arith, before, few, c.saturating_add-function.ensures)),
       c.in_ok-put_sites.ensures
           ∙ ap (λ (ss : List TrapSite). c.loop-body.places.items ++ map (place_at here function) ss) sites
           ∙ ap (λ (l : List TrapPlace). c.loop-body.places.items ++ l) same

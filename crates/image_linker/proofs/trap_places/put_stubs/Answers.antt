@@ -16,13 +16,13 @@ front_of-requires c = omega (arith, c.requires.stubs, c.loop-import-test.true, c
 pub place_at-requires-clause-place : goal.place_at-requires-clause-place
 place_at-requires-clause-place c =
     let i = c.loop-import.import-index in
-    let short = import_at (length exit_stub) 0 c.args.imports.now i (length exit_stub + stub_size * i) i c.import-item.result refl refl (omega (arith, c.loop-import-test.true)) c.import-item.is c.requires.places in
+    let short = import_at (length exit_stub) 0 c.args.imports.now i (length exit_stub + stub_size * i) i c.import-item.result refl (omega arith) (omega (arith, c.loop-import-test.true)) c.import-item.is c.requires.places in
     omega (arith, short.offset, c.front_of.ensures, c.loop-import.invariant.1)
 
 pub place_at-requires-clause-offset : goal.place_at-requires-clause-offset
 place_at-requires-clause-offset c =
     let i = c.loop-import.import-index in
-    (import_at (length exit_stub) 0 c.args.imports.now i (length exit_stub + stub_size * i) i c.import-item.result refl refl (omega (arith, c.loop-import-test.true)) c.import-item.is c.requires.places).module_offset
+    (import_at (length exit_stub) 0 c.args.imports.now i (length exit_stub + stub_size * i) i c.import-item.result refl (omega arith) (omega (arith, c.loop-import-test.true)) c.import-item.is c.requires.places).module_offset
 
 pub overflow_add-number : goal.overflow_add-number
 overflow_add-number c = omega (arith, c.requires.stubs, c.loop-import-test.true, c.loop-import.invariant.1)
@@ -40,6 +40,6 @@ loop-import-preserved c =
           ∙ ap (λ (p : TrapPlace). c.loop-import.places.items ++ p ∷ []) place
           ∙ ap (λ (l : List TrapPlace). l ++ place_at at i site ∷ []) c.loop-import.invariant.0
           ∙ append_assoc c.args.places.now.items _ (place_at at i site ∷ [])
-          ∙ ap (λ (l : List TrapPlace). c.args.places.now.items ++ l) (sym (imports_taken (length exit_stub) 0 c.args.imports.now i at i x refl refl (omega (arith, c.loop-import-test.true)) c.import-item.is)),
+          ∙ ap (λ (l : List TrapPlace). c.args.places.now.items ++ l) (sym (imports_taken (length exit_stub) 0 c.args.imports.now i at i x refl (omega arith) (omega (arith, c.loop-import-test.true)) c.import-item.is)),
       omega (arith, c.loop-import.invariant.1),
     )
