@@ -58,7 +58,7 @@ fn write_segment(memory: &mut [u8], segment: &Segment)
 
 /// The memory up to its cap, with the segments in their places and zeros elsewhere.
 fn memory_of(alloc: Global, size: usize, segments: &[Segment]) -> Result<Vec<u8>, AllocError>
-    requires size { size ≤ 2 ^ 26 }
+    requires size { size ≤ 2 ^ 28 }
     requires fit { IsTrue (all_fit size (segments_of segments.now)) }
     ensures items { IfOk result (λ v. v.items ≡ all_over (zeros size) (segments_of segments.now)) }
     ensures size { IfOk result (λ v. length v.items ≡ size) }

@@ -16,15 +16,15 @@ pub returns-in-Some-clause-answer : goal.returns-in-Some-clause-answer
 returns-in-Some-clause-answer g c =
     let s = state_of c.args.machine.now in
     let kind : trap_of (reg s.registers 10) ≡ Some c.in-Some.kind = ap trap_of (sym c.register-a0.ensures) ∙ sym c.of_number.ensures ∙ c.in-Some.is in
-    let offset : c.saturating_sub.result ≡ s.pc - 4 - text_base = omega (arith, c.saturating_sub.ensures, c.pc.ensures) in
-    let told : place_told c.args.image.now.places (s.pc - 4 - text_base) ≡ c.place_told.result = sym (c.place_told.ensures ∙ ap (place_told c.args.image.now.places) offset) in
-    traps g.row.H.Denot g.H.Host.answers c.args.image.now c.args.host.now s c.args.pages.now c.in-Some.kind c.place_told.result (sym c.register.ensures ∙ c.in-1.is) kind told
+    let offset : c.saturating_sub.result ≡ s.pc - 4 - text_base = omega (arith, c.saturating_sub.ensures, c.pc-place.ensures) in
+    let told : place_told c.args.image.now.places (s.pc - 4 - text_base) ≡ c.place_told-told.result = sym (c.place_told-told.ensures ∙ ap (place_told c.args.image.now.places) offset) in
+    traps g.row.H.Denot g.H.Host.answers c.args.image.now c.args.host.now s c.args.pages.now c.in-Some.kind c.place_told-told.result (sym c.register.ensures ∙ c.in-1.is) kind told
 
 pub returns-in-None-clause-answer : goal.returns-in-None-clause-answer
 returns-in-None-clause-answer g c =
     let s = state_of c.args.machine.now in
     let none : trap_of (reg s.registers 10) ≡ None = ap trap_of (sym c.register-a0.ensures) ∙ sym c.of_number.ensures ∙ c.in-None.is in
-    rw c.pc.ensures (traps_unknown g.row.H.Denot g.H.Host.answers c.args.image.now c.args.host.now s c.args.pages.now (sym c.register.ensures ∙ c.in-1.is) none)
+    rw c.pc-place.ensures (traps_unknown g.row.H.Denot g.H.Host.answers c.args.image.now c.args.host.now s c.args.pages.now (sym c.register.ensures ∙ c.in-1.is) none)
 
 pub returns-in-2-clause-answer : goal.returns-in-2-clause-answer
 returns-in-2-clause-answer g c =
@@ -38,7 +38,7 @@ returns-in-2-clause-answer g c =
 pub returns-in_default-clause-answer : goal.returns-in_default-clause-answer
 returns-in_default-clause-answer g c =
     let s = state_of c.args.machine.now in
-    rw c.pc.ensures
+    rw c.pc-place.ensures
     (
     unknown g.row.H.Denot g.H.Host.answers c.args.image.now c.args.host.now s c.args.pages.now (λ e. omega (arith, e, c.register.ensures)) (λ e. omega (arith, e, c.register.ensures)) (λ e. omega (arith, e, c.register.ensures))
     (λ e. omega (arith, e, c.register.ensures))
