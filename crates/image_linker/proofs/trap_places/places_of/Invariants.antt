@@ -1,4 +1,4 @@
-use Rattle.std.proofs.Common.{◌≡◌, ℕ, ◌+◌, ◌^◌, ◌<◌, ◌++◌, take, length}
+use Rattle.std.proofs.Common.{◌≡◌, ◌+◌, ◌^◌, ◌<◌, ◌++◌, take, length}
 use Rattle.frame_layout.specs.Templates.{exit_stub}
 use Rattle.image_linker.specs.Bodies.{codes_of}
 use Rattle.image_linker.specs.ImageOf.{front_of}
