@@ -68,7 +68,7 @@ traps_linked items here k (b ∷ bodies) (tree ∷ trees) (code ∷ codes) h =
     ap (λ (ss : List TrapSite). map (place_at here (import_count items + k)) ss ++ traps_from items (here + size_of items k b tree) (suc k) bodies trees) (sym h.0.traps)
     ∙ ap (λ (n : ℕ). map (place_at here (import_count items + k)) code.traps ++ traps_from items (here + n) (suc k) bodies trees) (sym h.0.size)
     ∙ ap (λ (ps : List TrapPlace). map (place_at here (import_count items + k)) code.traps ++ ps)
-        (traps_linked items (here + length code.words) (suc k) bodies trees codes h.1 ∙ ap (λ (n : ℕ). code_traps (here + length code.words) n codes) next)
+    (traps_linked items (here + length code.words) (suc k) bodies trees codes h.1 ∙ ap (λ (n : ℕ). code_traps (here + length code.words) n codes) next)
 traps_linked items here k [] [] (code ∷ codes) h = absurd h
 traps_linked items here k [] (tree ∷ trees) codes h = absurd h
 traps_linked items here k (b ∷ bodies) [] codes h = absurd h

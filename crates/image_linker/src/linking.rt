@@ -19,7 +19,8 @@ use crate::tables::{have_rows, rows_of};
 use crate::trap_places::places_of;
 use frame_layout::macros::{call, distance};
 use image_format::{
-    Export, Exports, Globals, Image, Imports, Segments, SharedType, Table, Text, TrapPlaces, Version,
+    Export, Exports, Globals, Image, Imports, Segments, SharedType, Table, Text, TrapPlaces,
+    Version,
 };
 use index_spaces::{Context, DataRow, copy_of_name};
 use rv_isa::{Relocation, encode};
@@ -160,10 +161,10 @@ fn start_of(starts: &[u32], start: Option<u32>) -> u32
 /// Links the codes of a module's declared functions, in the order of their indices, and its data segments to the module's image.
 ///
 /// Each call leads to its function, or to the stub of an imported one, and so do the rows of the table. The image tells of each trap
-/// in which function it comes from which offset. The text has at most 268,435,456
-/// bytes, what is linked keeps the bounds of images, and the numbers of the globals' constants are of the globals' types. All segments
-/// are looked at before any is written: where one has no place in the table or the memory, the image has no row with a function and no
-/// data segment, and is marked as one that can't be instantiated.
+/// in which function it comes from which offset. The text has at most 268,435,456 bytes, what is linked keeps the bounds of images, and
+/// the numbers of the globals' constants are of the globals' types. All segments are looked at before any is written: where one has no
+/// place in the table or the memory, the image has no row with a function and no data segment, and is marked as one that can't be
+/// instantiated.
 pub fn link(
     alloc: Global,
     context: &Context,

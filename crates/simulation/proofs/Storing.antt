@@ -106,9 +106,11 @@ module _ (im : Image) (near : length (code_of_image im) ≤ 2 ^ 26) (inst : Inst
     by_effect (Traps kind) whole_is (inr y) =
         let same : Traps kind ≡ Traps y.kind = sym whole_is ∙ y.gives in
         let kind_is : y.kind ≡ kind = cc in
-        lifted im inst places outer c.store c.later r x.store x.results x.later 128 size (Trapped c.store kind (place_of c.frame (Simple p rest)))
-        (refl, halts_at text inst places outer c.store c.later 128 y.steps r.machine kind (k.begin + m.here) (k.begin + (m.here + y.word)) (place_of c.frame (Simple p rest)) m.at (omega (arith, y.ends))
-        (told_now text near inst places outer c r.machine p rest step m y.word y.among) y.short (subst (λ (t : TrapKind). TrapsAt text y.steps y.behind (trap_number t) r.machine) kind_is y.traps))
+        lifted im inst places outer c.store c.later r x.store x.results x.later 128 size (Trapped c.store kind (place_of c.frame (Simple p rest))) (
+          refl,
+          halts_at text inst places outer c.store c.later 128 y.steps r.machine kind (k.begin + m.here) (k.begin + (m.here + y.word)) (place_of c.frame (Simple p rest)) m.at (omega (arith, y.ends))
+              (told_now text near inst places outer c r.machine p rest step m y.word y.among) y.short (subst (λ (t : TrapKind). TrapsAt text y.steps y.behind (trap_number t) r.machine) kind_is y.traps),
+        )
     by_effect Fails whole_is (inl y) = let wrong = sym whole_is ∙ y.gives in absurd cc
     by_effect Fails whole_is (inr y) = let wrong = sym whole_is ∙ y.gives in absurd cc
 

@@ -137,9 +137,11 @@ module _ (text : List (Option Op)) (near : length text ≤ 2 ^ 26) (inst : Insta
           (sits_rest text inst places k os p rest h m.here (types_of_values c.frame.operands) m.running.to m.running.there (sits_whole text near inst places outer stub c s (Simple p rest) m) mid typed)
 
     pub unreachable_follows : (rest : Seq) → Here Unreachable rest → Goal Unreachable rest (simple inst c Unreachable rest)
-    unreachable_follows rest m =
-        (refl, halts_at text inst places outer c.store c.later 128 3 s trap.Unreachable (m.running.compiled.begin + m.here) (m.running.compiled.begin + (m.here + 2)) (place_of c.frame (Simple Unreachable rest)) m.at (omega arith) (told_here Unreachable rest m 2 (inl refl)) (omega arith)
-        (trap_traps text s (m.running.compiled.begin + m.here) 1 (has_here Unreachable rest m) m.at (omega arith)))
+    unreachable_follows rest m = (
+      refl,
+      halts_at text inst places outer c.store c.later 128 3 s trap.Unreachable (m.running.compiled.begin + m.here) (m.running.compiled.begin + (m.here + 2)) (place_of c.frame (Simple Unreachable rest)) m.at (omega arith) (told_here Unreachable rest m 2 (inl refl)) (omega arith)
+          (trap_traps text s (m.running.compiled.begin + m.here) 1 (has_here Unreachable rest m) m.at (omega arith)),
+    )
 
     -- what a branch owes is paid
     abbrev Pays : Plain → Seq → Step → Type 0

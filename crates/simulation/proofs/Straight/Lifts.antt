@@ -163,9 +163,11 @@ module _ (text : List (Option Op)) (near : length text ≤ 2 ^ 26) (inst : Insta
       by_effect typed (Traps kind) whole_is (inl x) = let wrong = sym whole_is ∙ x.gives in absurd cc
       by_effect typed (Traps kind) whole_is (inr x) =
           let same : Traps kind ≡ Traps x.kind = sym whole_is ∙ x.gives in
-          let kind_is : x.kind ≡ kind = cc in
-          (refl, halts_at text inst places outer c.store c.later 128 x.steps s kind (k.begin + m.here) (k.begin + (m.here + x.word)) (place_of c.frame (Simple p rest)) m.at (omega (arith, x.ends)) (told_now x.word x.among) x.short
-          (subst (λ (t : TrapKind). TrapsAt text x.steps x.behind (trap_number t) s) kind_is x.traps))
+          let kind_is : x.kind ≡ kind = cc in (
+            refl,
+            halts_at text inst places outer c.store c.later 128 x.steps s kind (k.begin + m.here) (k.begin + (m.here + x.word)) (place_of c.frame (Simple p rest)) m.at (omega (arith, x.ends)) (told_now x.word x.among) x.short
+                (subst (λ (t : TrapKind). TrapsAt text x.steps x.behind (trap_number t) s) kind_is x.traps),
+          )
       by_effect typed Fails whole_is (inl x) = let wrong = sym whole_is ∙ x.gives in absurd cc
       by_effect typed Fails whole_is (inr x) = let wrong = sym whole_is ∙ x.gives in absurd cc
 

@@ -12,8 +12,6 @@ use Rattle.image_linker.proofs.Loops.{words_taken, words_within}
 use Rattle.image_linker.proofs.TrapLoops.{all_left, all_right, code_short, codes_taken, same_function}
 use Rattle.image_linker.proofs.trap_places.places_of.Goals as goal
 
--- the names of the goals of this loop are those of `starts_of` and `text_of`, whose loops go over the same codes
-
 pub put_stubs-requires-clause-stubs : goal.put_stubs-requires-clause-stubs
 put_stubs-requires-clause-stubs c = omega (arith, c.requires.words, ap (λ imports. length imports) c.imports-imports.ensures)
 
