@@ -85,11 +85,7 @@ fn difference<R: Threads + Wait + Sync>(
 ) -> Result<String, Fail> {
     let module = module_of(alloc, tokens)?;
     for argument in ARGUMENTS {
-        let want = line_of(
-            alloc,
-            tokens,
-            run_of(alloc, tokens, argument, MOST_STEPS)?,
-        )?;
+        let want = line_of(alloc, tokens, run_of(alloc, tokens, argument, MOST_STEPS)?)?;
         let line = format!(in alloc; "wstream run f i32:{argument}")?;
         let told = answer_to_line(rt, alloc, line.as_str(), &module)?;
         if told.as_str() != want.as_str() {

@@ -2,8 +2,8 @@
 //! sinks that fail after each number of bytes, and images that no compiler made. Their answers were worked out by hand.
 
 use crate::program::{
-    ADD, EMPTY_IMAGE, EMPTY_IMAGE_2, FAULTY_BODIES, HEADER, answer_bytewise, answer_to_line, bytes_of,
-    difference_in_sinks,
+    ADD, EMPTY_IMAGE, EMPTY_IMAGE_2, FAULTY_BODIES, HEADER, answer_bytewise, answer_to_line,
+    bytes_of, difference_in_sinks,
 };
 use std::alloc::Global;
 use std::sync::Wait;

@@ -330,7 +330,10 @@ fn wanted_line(alloc: Global, wanted: Wanted) -> Result<String, AllocError> {
         Wanted::DividesByZero => {
             String::from_str(alloc, "4 trap integer divide by zero in function 0 at 37\n")
         }
-        Wanted::Overflows => String::from_str(alloc, "4 trap integer overflow in function 0 at 37\n"),
+        Wanted::Overflows => String::from_str(
+            alloc,
+            "4 trap integer overflow in function 0 at 37\n",
+        ),
     }
 }
 

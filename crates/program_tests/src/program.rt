@@ -21,7 +21,8 @@ pub(crate) const FAULTY_BODIES: &str =
     "01 05 01 60 00 01 7F 03 03 02 00 00 0A 08 02 03 00 6A 0B 02 00 0B";
 
 /// The image of a module without functions, and the same in the first version.
-pub(crate) const EMPTY_IMAGE_2: &str = "57 52 56 49 02 00 00 00 02 00 00 00 93 08 00 00 73 00 00 00 \
+pub(crate) const EMPTY_IMAGE_2: &str =
+    "57 52 56 49 02 00 00 00 02 00 00 00 93 08 00 00 73 00 00 00 \
                                         00 00 00 00 00 00 00 00 00 00 00 00 00 00 00 00 00 00 00 00 \
                                         00 00 00 00 00 00 00 00 00 00 00 00 00 00 00 00 00 00 00 00";
 

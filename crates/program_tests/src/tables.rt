@@ -255,7 +255,10 @@ fn rows_lead_to_imports(rt: HostRuntime) -> Result<(), Fail> {
         function: 2,
         offset: 80,
     };
-    assert_eq!(rt; outcome, Outcome::Trapped(TrapKind::TypeMismatch, Some(place)));
+    assert_eq!(rt;
+        outcome,
+        Outcome::Trapped(TrapKind::TypeMismatch, Some(place))
+    );
     assert!(rt; page.bytes().is_empty());
     Ok(())
 }
