@@ -54,6 +54,16 @@ small_byte true bits place bytes b lt is low wide =
     let fits : b < 2 ^ (bits - 1) = omega (arith, p) in
     rw (cut, lt-ltb b 128 below, lt-ltb b 64 low, lt-ltb b (2 ^ (bits - 1)) fits) refl
 
+pub small_negative : (bits place : ℕ) (bytes : List ℕ) (b : ℕ) → place < length bytes → b ≡ get_or bytes place 0 → 64 ≤ b → b < 128 → 7 ≤ bits
+    → answers.Number (negsuc (127 - b)) (place + 1) ≡ answer place (number_at true bits (drop place bytes))
+unfolding number_at
+small_negative bits place bytes b lt is high below wide =
+    let cut : drop place bytes ≡ b ∷ drop (place + 1) bytes = rw is (drop_more bytes place 0 lt) in
+    let fewer : 6 ≤ bits - 1 = omega arith in
+    let p : 2 ^ 6 ≤ 2 ^ (bits - 1) = pow_mono fewer in
+    let fits : 128 ≤ b + 2 ^ (bits - 1) = omega (arith, p) in
+    rw (cut, lt-ltb b 128 below, le-ltb b 64 high, le-ltb (b + 2 ^ (bits - 1)) 128 fits) refl
+
 -- ---- bytes behind others, which come to a number below 2 ^ k
 
 adds : (a b : ℕ) (n : ℤ) → pos (a + b) *ℤ n ≡ (pos a *ℤ n) +ℤ (pos b *ℤ n)

@@ -43,6 +43,9 @@ fn number_from(bytes: &[u8], place: usize, bits: u32, signed: bool) -> ReadAt
         if byte < 64 {
             return ReadAt::Number(i128::from(byte), place + 1);
         }
+        if signed && byte < 128 {
+            return ReadAt::Number(i128::from(byte) - 128, place + 1);
+        }
     }
     number_of_bytes(bytes, place, bits, signed)
 }
