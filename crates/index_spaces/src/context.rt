@@ -312,13 +312,6 @@ impl Context {
         }
     }
 
-    /// Whether there is a table.
-    pub fn has_table(&self) -> bool
-        ensures { IsTrue result ↔ (0 < length self.now.tables) }
-    {
-        !self.tables.is_empty()
-    }
-
     /// Whether there is a memory.
     pub fn has_memory(&self) -> bool
         ensures { IsTrue result ↔ (0 < length self.now.memories) }

@@ -149,7 +149,7 @@ fn memories_and_globals_have_their_indices(rt: HostRuntime) -> Result<(), Fail> 
     let context = context_of(rt.alloc())?;
     assert_eq!(rt; context.memories(), [LIMITS].as_slice());
     assert!(rt; context.tables().is_empty());
-    assert!(rt; context.has_memory() && !context.has_table() && !context.has_global(1));
+    assert!(rt; context.has_memory() && !context.has_global(1));
     assert!(rt; context.has_global(0));
     let expected = GlobalType {
         ty: ValType::I64,
