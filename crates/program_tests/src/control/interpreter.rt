@@ -3,7 +3,8 @@
 use crate::control::tokens::{Token, number_of};
 use std::alloc::{AllocError, Global};
 
-/// How a run ends; where it traps, at which of the tokens. `Lost` is for bodies that no validation passes, and for runs of too many reductions.
+/// How a run ends; where it traps, at which of the tokens. `Lost` is for bodies that no validation passes, and for runs of too
+/// many reductions.
 pub enum End {
     Returned(i32),
     Trapped(usize),
