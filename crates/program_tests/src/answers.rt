@@ -1,10 +1,10 @@
 //! Answers that were worked out by hand.
 
-use crate::program::{
+use io_edges::{Flat, OpenGate};
+use program_calls::{
     ADD, EMPTY_IMAGE_2, FAULTY_BODIES, HEADER, answer, answer_to_line, bytes_of,
     difference_in_images, difference_in_rows, image_of,
 };
-use io_edges::{Flat, OpenGate};
 use std::alloc::Global;
 use std::sync::Wait;
 use std::test::Fail;

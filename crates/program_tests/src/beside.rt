@@ -2,8 +2,8 @@
 
 ghost use Rattle.std.specs.Prelude.{None, true};
 
-use crate::program::{ADD, HEADER, answer, bytes_of};
 use io_edges::{Flat, Gate, Go, Got, OpenGate, Source};
+use program_calls::{ADD, HEADER, answer, bytes_of, push_number};
 use std::alloc::Global;
 use std::sync::Wait;
 use std::sync::atomic::Ordering::SeqCst;
@@ -19,17 +19,6 @@ const GOOD: &[u8] = &[0x00, 0x01, 0x0B];
 
 /// A body that adds where there is nothing: the fault stands at its second byte.
 const FAULTY: &[u8] = &[0x00, 0x6A, 0x0B];
-
-/// A number as the binary format writes it, with five bytes.
-fn push_number(bytes: &mut Vec<u8>, number: u32) -> Result<(), Fail> {
-    let mut rest = number;
-    for _ in 0..4 {
-        bytes.push((rest % 128) as u8 | 0x80)?;
-        rest /= 128;
-    }
-    bytes.push((rest % 128) as u8)?;
-    Ok(())
-}
 
 /// A module of so many functions without parameters and results, of which those that are named have faulty bodies.
 fn module_of(alloc: Global, count: u32, faulty: &[u32]) -> Result<Vec<u8>, Fail> {

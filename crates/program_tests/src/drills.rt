@@ -1,6 +1,6 @@
 //! The command `drill`.
 
-use crate::program::answer;
+use program_calls::answer;
 use std::test::Fail;
 
 /// Bytes that are no module: the command reads none of them.

@@ -1,6 +1,6 @@
 //! Faults of modules, each with its kind and its byte, as they were worked out by hand.
 
-use crate::program::{HEADER, answer_bytewise, answer_in_two, answer_to_line, bytes_of};
+use program_calls::{HEADER, answer_bytewise, answer_in_two, answer_to_line, bytes_of};
 use std::alloc::Global;
 use std::sync::Wait;
 use std::test::Fail;

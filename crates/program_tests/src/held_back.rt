@@ -1,7 +1,7 @@
 //! Sources that hold bytes back: a fault is told before another byte comes, where none can mend it.
 
-use crate::program::{HEADER, bytes_of};
 use io_edges::{Got, OpenGate, Pieces, Source};
+use program_calls::{HEADER, bytes_of};
 use std::test::Fail;
 use stream_compile::{CheckAnswer, Settings, stream_check};
 use wasm_defs::{Kind, Refusal};

@@ -1,7 +1,7 @@
 //! Bytes that somebody else has chosen, and ends that fail: modules and images that are cut off after each number of bytes, sources and
 //! sinks that fail after each number of bytes, and images that no compiler made. Their answers were worked out by hand.
 
-use crate::program::{
+use program_calls::{
     ADD, EMPTY_IMAGE, EMPTY_IMAGE_2, FAULTY_BODIES, HEADER, answer_bytewise, answer_to_line,
     bytes_of, difference_in_sinks,
 };

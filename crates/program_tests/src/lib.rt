@@ -1,17 +1,11 @@
-//! Tests of the whole program, by its one call: answers that were worked out by hand, and answers that others give. They stand in a
-//! crate of their own, so that a change of a test proves nothing else again.
+//! Tests of the program's answers, by its one call: how inputs are read, judged and told, with any workers. Answers that were worked out
+//! by hand. They stand in crates of their own, so that a change of a test proves nothing else again.
 #![tactic(auto)]
 
-#[cfg(test)]
-mod accesses;
 #[cfg(test)]
 mod answers;
 #[cfg(test)]
 mod beside;
-#[cfg(test)]
-mod calls;
-#[cfg(test)]
-mod control;
 #[cfg(test)]
 mod drills;
 #[cfg(test)]
@@ -20,15 +14,3 @@ mod faults;
 mod held_back;
 #[cfg(test)]
 mod hostile;
-#[cfg(test)]
-mod hosts;
-#[cfg(test)]
-mod operations;
-#[cfg(test)]
-mod peeks;
-#[cfg(test)]
-mod program;
-#[cfg(test)]
-mod starts;
-#[cfg(test)]
-mod tables;

@@ -1,6 +1,6 @@
 //! The bytes of a memory that `run` and `exec` show behind a call, with answers that were worked out by hand.
 
-use crate::program::{
+use program_calls::{
     ADD, HEADER, answer_to_line, bytes_of, difference_in_images, difference_in_rows,
     difference_in_sinks,
 };

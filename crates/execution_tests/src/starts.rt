@@ -1,6 +1,6 @@
 //! Start functions (WebAssembly Core 1.0, 2.5.9, 4.5.4), with answers that were worked out by hand.
 
-use crate::program::difference_in_rows;
+use program_calls::difference_in_rows;
 use std::test::Fail;
 
 /// What follows the header of a module: `f` gives a global, which begins with 5, and which the start function sets to 7.

@@ -5,9 +5,9 @@ mod generator;
 mod interpreter;
 mod tokens;
 
-use crate::program::{HEADER, answer_to_line};
 use generator::body_of;
 use interpreter::{End, run_of};
+use program_calls::{HEADER, answer_to_line, bytes_of};
 use std::alloc::{AllocError, Global};
 use std::sync::Wait;
 use std::test::Fail;
@@ -38,7 +38,7 @@ fn module_of(alloc: Global, tokens: &[Token]) -> Result<Vec<u8>, Fail> {
     for token in tokens {
         push_token(&mut code, *token)?;
     }
-    let mut module = crate::program::bytes_of(
+    let mut module = bytes_of(
         alloc,
         &[
             HEADER,

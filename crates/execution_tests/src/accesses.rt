@@ -1,7 +1,7 @@
 //! Every load and store at the edges of a memory, against values that are worked out from its bytes. The rules are those of
 //! WebAssembly Core 1.0, 4.4.4.
 
-use crate::program::{HEADER, answer_to_line, bytes_of};
+use program_calls::{HEADER, answer_to_line, bytes_of};
 use std::alloc::{AllocError, Global};
 use std::sync::Wait;
 use std::test::Fail;

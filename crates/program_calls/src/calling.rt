@@ -1,4 +1,4 @@
-//! Calls of the program over sources and sinks in memory: what the tests of this crate share.
+//! The calls, and what they are compared with.
 
 ghost use Rattle.std.specs.Prelude.{◌≡◌, ◌<◌, ◌^◌, ◌-◌, true};
 
@@ -10,23 +10,21 @@ use std::thread::Threads;
 use stream_compile::top;
 
 /// The magic bytes and the version.
-pub(crate) const HEADER: &str = "00 61 73 6D 01 00 00 00";
+pub const HEADER: &str = "00 61 73 6D 01 00 00 00";
 
 /// What follows the header of a module that exports `add`, the sum of its two parameters.
-pub(crate) const ADD: &str =
+pub const ADD: &str =
     "01 07 01 60 02 7F 7F 01 7F 03 02 01 00 07 07 01 03 61 64 64 00 00 0A 09 01 07 00 20 00 20 01 6A 0B";
 
 /// What follows the header of a module of two bodies, the first of which has a fault at 25, and the second at 29.
-pub(crate) const FAULTY_BODIES: &str =
-    "01 05 01 60 00 01 7F 03 03 02 00 00 0A 08 02 03 00 6A 0B 02 00 0B";
+pub const FAULTY_BODIES: &str = "01 05 01 60 00 01 7F 03 03 02 00 00 0A 08 02 03 00 6A 0B 02 00 0B";
 
 /// The image of a module without functions, and the same in the first version.
-pub(crate) const EMPTY_IMAGE_2: &str =
-    "57 52 56 49 02 00 00 00 02 00 00 00 93 08 00 00 73 00 00 00 \
+pub const EMPTY_IMAGE_2: &str = "57 52 56 49 02 00 00 00 02 00 00 00 93 08 00 00 73 00 00 00 \
                                         00 00 00 00 00 00 00 00 00 00 00 00 00 00 00 00 00 00 00 00 \
                                         00 00 00 00 00 00 00 00 00 00 00 00 00 00 00 00 00 00 00 00";
 
-pub(crate) const EMPTY_IMAGE: &str = "57 52 56 49 01 00 00 00 02 00 00 00 93 08 00 00 73 00 00 00 \
+pub const EMPTY_IMAGE: &str = "57 52 56 49 01 00 00 00 02 00 00 00 93 08 00 00 73 00 00 00 \
                                       00 00 00 00 00 00 00 00 00 00 00 00 00 00 00 00 00 00 00 00 \
                                       00 00 00 00 00 00 00 00 00 00 00 00 00 00 00 00";
 
@@ -34,7 +32,7 @@ pub(crate) const EMPTY_IMAGE: &str = "57 52 56 49 01 00 00 00 02 00 00 00 93 08 
 const ROOM: usize = 65_536;
 
 /// The bytes that stand there in hexadecimal digits, one after the other.
-pub(crate) fn bytes_of(alloc: Global, texts: &[&str]) -> Result<Vec<u8>, Fail> {
+pub fn bytes_of(alloc: Global, texts: &[&str]) -> Result<Vec<u8>, Fail> {
     let mut bytes = Vec::new(alloc);
     for text in texts {
         for digits in text.split(' ') {
@@ -46,7 +44,18 @@ pub(crate) fn bytes_of(alloc: Global, texts: &[&str]) -> Result<Vec<u8>, Fail> {
     Ok(bytes)
 }
 
-pub(crate) fn words_of(alloc: Global, texts: &[&str]) -> Result<Vec<String>, AllocError> {
+/// A number as the binary format writes it, with five bytes.
+pub fn push_number(bytes: &mut Vec<u8>, number: u32) -> Result<(), Fail> {
+    let mut rest = number;
+    for _ in 0..4 {
+        bytes.push((rest % 128) as u8 | 0x80)?;
+        rest /= 128;
+    }
+    bytes.push((rest % 128) as u8)?;
+    Ok(())
+}
+
+pub fn words_of(alloc: Global, texts: &[&str]) -> Result<Vec<String>, AllocError> {
     let mut words = Vec::new(alloc);
     for text in texts {
         words.push(String::from_str(alloc, text)?)?;
@@ -64,7 +73,7 @@ fn words_in(alloc: Global, line: &str) -> Result<Vec<String>, AllocError> {
 }
 
 /// Calls the program, with a sink that takes so many bytes: the status, and what was written.
-pub(crate) fn call<R: Threads + Wait + Sync, S: Source>(
+pub fn call<R: Threads + Wait + Sync, S: Source>(
     rt: &R,
     alloc: Global,
     words: &Vec<String>,
@@ -87,7 +96,7 @@ fn told(alloc: Global, status: u8, written: &[u8]) -> Result<String, Fail> {
 }
 
 /// The answer to the words, where the source gives the bytes at once: the status, and what was written.
-pub(crate) fn answer<R: Threads + Wait + Sync>(
+pub fn answer<R: Threads + Wait + Sync>(
     rt: &R,
     alloc: Global,
     words: &[&str],
@@ -99,7 +108,7 @@ pub(crate) fn answer<R: Threads + Wait + Sync>(
 }
 
 /// The answer to the words of a line.
-pub(crate) fn answer_to_line<R: Threads + Wait + Sync>(
+pub fn answer_to_line<R: Threads + Wait + Sync>(
     rt: &R,
     alloc: Global,
     line: &str,
@@ -125,7 +134,7 @@ fn answer_in_pieces<R: Threads + Wait + Sync>(
 }
 
 /// The answer to the words of a line, where the source gives a byte at a time, and fails after so many.
-pub(crate) fn answer_bytewise<R: Threads + Wait + Sync>(
+pub fn answer_bytewise<R: Threads + Wait + Sync>(
     rt: &R,
     alloc: Global,
     line: &str,
@@ -140,7 +149,7 @@ pub(crate) fn answer_bytewise<R: Threads + Wait + Sync>(
 }
 
 /// The answer to the words of a line, where the source gives so many bytes, and then the others.
-pub(crate) fn answer_in_two<R: Threads + Wait + Sync>(
+pub fn answer_in_two<R: Threads + Wait + Sync>(
     rt: &R,
     alloc: Global,
     line: &str,
@@ -158,7 +167,7 @@ pub(crate) fn answer_in_two<R: Threads + Wait + Sync>(
 }
 
 /// The bytes that the words of a line write for a module, where they make its image.
-pub(crate) fn image_of<R: Threads + Wait + Sync>(
+pub fn image_of<R: Threads + Wait + Sync>(
     rt: &R,
     alloc: Global,
     line: &str,
@@ -174,7 +183,7 @@ pub(crate) fn image_of<R: Threads + Wait + Sync>(
 
 /// The first answer that isn't the wanted one among rows of a module, by what follows its header, words, which stand behind the first
 /// ones, and the answer; else nothing.
-pub(crate) fn difference_in_rows<R: Threads + Wait + Sync>(
+pub fn difference_in_rows<R: Threads + Wait + Sync>(
     rt: &R,
     alloc: Global,
     front: &str,
@@ -192,7 +201,7 @@ pub(crate) fn difference_in_rows<R: Threads + Wait + Sync>(
 }
 
 /// The like of the modules' images, which `exec` runs.
-pub(crate) fn difference_in_images<R: Threads + Wait + Sync>(
+pub fn difference_in_images<R: Threads + Wait + Sync>(
     rt: &R,
     alloc: Global,
     rows: &[(&str, &str, &str)],
@@ -211,7 +220,7 @@ pub(crate) fn difference_in_images<R: Threads + Wait + Sync>(
 
 /// The first sink that takes fewer bytes than are to be written, and into which not just those are written with the status 7, or whether
 /// one that takes all of them is told another status or text; else nothing.
-pub(crate) fn difference_in_sinks<R: Threads + Wait + Sync>(
+pub fn difference_in_sinks<R: Threads + Wait + Sync>(
     rt: &R,
     alloc: Global,
     line: &str,

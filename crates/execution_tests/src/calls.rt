@@ -1,6 +1,6 @@
 //! Calls of functions by their indices (WebAssembly Core 1.0, 4.4.5.10), with answers that were worked out by hand.
 
-use crate::program::{HEADER, answer_to_line, bytes_of, difference_in_rows};
+use program_calls::{HEADER, answer_to_line, bytes_of, difference_in_rows};
 use std::alloc::{AllocError, Global};
 use std::sync::Wait;
 use std::test::Fail;

@@ -1,6 +1,6 @@
 //! Imports (WebAssembly Core 1.0, 2.5.11) and the host functions of `run` and `exec`, with answers that were worked out by hand.
 
-use crate::program::{
+use program_calls::{
     HEADER, bytes_of, difference_in_images, difference_in_rows, difference_in_sinks,
 };
 use std::test::Fail;

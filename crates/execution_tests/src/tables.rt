@@ -1,9 +1,9 @@
 //! Calls by the table and element segments (WebAssembly Core 1.0, 4.4.5.11 and 4.5.4), with answers that were worked out by hand.
 
-use crate::program::{HEADER, answer_to_line, bytes_of, difference_in_rows};
 use image_format::{Image, Row};
 use image_run::{Instance, Outcome, SinkHost, call_checks};
 use io_edges::{Flat, OpenGate, Page};
+use program_calls::{HEADER, answer_to_line, bytes_of, difference_in_rows};
 use std::alloc::Global;
 use std::sync::Wait;
 use std::test::Fail;
