@@ -14,6 +14,8 @@ mod row;
 mod rule;
 mod serving;
 #[cfg(test)]
+mod store_tests;
+#[cfg(test)]
 mod tests;
 mod thief;
 mod ticket;

@@ -80,7 +80,7 @@ const FIRST_FAULT: Refusal = Refusal {
 fn what_lies_behind_a_fault_is_drained(rt: HostRuntime) -> Result<(), Fail> {
     let alloc: Global = rt.alloc();
     let context = two_functions(alloc)?;
-    let cells = Cells::new(alloc, 2)?;
+    let cells = Cells::new(alloc, 2, 1_000)?;
     let (board, mut seat) = Board::new(alloc, 2, 1)?;
     let (mut feeder, mut hands) = Pool::new(alloc, 1)?;
     board.publish(&mut seat, 0, 23);
@@ -135,7 +135,7 @@ impl Gate for SecondFirst {
 fn batches_run_beside_each_other(rt: HostRuntime) -> Result<(), Fail> {
     let alloc: Global = rt.alloc();
     let context = two_functions(alloc)?;
-    let cells = Cells::new(alloc, 2)?;
+    let cells = Cells::new(alloc, 2, 1_000)?;
     let (board, mut seat) = Board::new(alloc, 2, 2)?;
     let (mut feeder, mut hands) = Pool::new(alloc, 2)?;
     let mut one = hands.pop().expect(&rt, "two hands");

@@ -5,6 +5,7 @@ pub mod Going
 pub mod Overwriting
 pub mod Framing
 pub mod Walking
+pub mod Lengths
 pub mod Tokens
 pub mod Spelled
 pub mod Known

@@ -1,6 +1,6 @@
 //! A body's code: its tokens are read one after the other, checked, and compiled.
 
-ghost use Rattle.std.specs.Prelude.{◌≡◌, ◌≢◌, ◌≤◌, ℕ, ◌+◌, ◌*◌, List, [], length, OnOk};
+ghost use Rattle.std.specs.Prelude.{◌≡◌, ◌≢◌, ◌≤◌, false, ℕ, ◌+◌, ◌*◌, List, [], length, OnOk};
 ghost use Rattle.wasm_defs.specs.Bodies.{Spelled as SpelledGiven};
 ghost use Rattle.wasm_defs.specs.Fields.{Cursor as CursorGiven, Got, byte};
 ghost use Rattle.wasm_defs.specs.Limits.{max_body};
@@ -8,7 +8,7 @@ ghost use Rattle.wasm_defs.specs.Typing.{Context as ContextGiven};
 ghost use Rattle.frame_layout.specs.Slots.{link};
 ghost use Rattle.wasm_laws.specs.Sections.{AreBytes};
 ghost use Rattle.body_compiler.specs.Steps.{max_lift, AreTied};
-ghost use Rattle.body_compiler.specs.Going.{IsCompiling, calling, Goes, Judges, reading_stop};
+ghost use Rattle.body_compiler.specs.Going.{IsCompiling, IsTaking, calling, Goes, Judges, reading_stop};
 ghost use Rattle.control_emit.specs.Emits.{draft as drafted, IsHeld};
 
 use crate::draft::{Draft, take_step};
@@ -27,6 +27,9 @@ pub enum BodyStop {
     /// Its first fault.
     #[error("{:?} at byte {}", .0.kind, .0.offset)]
     Refused(Refusal),
+    /// It is valid, but the words of its function are more than a text may have. They aren't made.
+    #[error("more words than a text may have")]
+    TooLong,
     /// Memory was wanting.
     #[error("out of memory")]
     NoMemory,
@@ -54,7 +57,7 @@ pub(crate) fn stop_of(stop: Stop, last: u64) -> BodyStop
 }
 
 /// Reads, checks and compiles the instruction behind an opcode at an offset, in a body whose last byte has the offset `last`, and notes
-/// where it traps.
+/// where it traps. Once its code is too long, branches are only checked.
 #[inline(always)]
 fn take_instruction(
     alloc: Global,
@@ -78,7 +81,7 @@ fn take_instruction(
     ensures bytes { OnOk result (AreBytes fields.new.rest) }
     ensures tied { OnOk result (AreTied draft.new.labels check.new (length fields.new.rest)) }
     ensures grows { OnOk result (length draft.old.words ≤ length draft.new.words) }
-    ensures goes { (c : ContextGiven) (code : SpelledGiven) (before : CursorGiven) (front : List ℕ) → IsCompiling c last before check.old code draft.old.layout front (calling draft.old.labels draft.old.words draft.old.calls.items draft.old.rows sites.old.items) → byte before ≡ Got (at, opcode) fields.old → check.old.checker.frames ≢ [] → Goes c last code draft.old.layout front result fields.new check.new (calling draft.new.labels draft.new.words draft.new.calls.items draft.new.rows sites.new.items) }
+    ensures goes { (c : ContextGiven) (code : SpelledGiven) (before : CursorGiven) (front : List ℕ) → IsTaking draft.old.too_long c last before check.old code draft.old.layout front (calling draft.old.labels draft.old.words draft.old.calls.items draft.old.rows sites.old.items) → byte before ≡ Got (at, opcode) fields.old → check.old.checker.frames ≢ [] → Goes c last code draft.old.layout front result draft.new.too_long fields.new check.new (calling draft.new.labels draft.new.words draft.new.calls.items draft.new.rows sites.new.items) }
 {
     let token = match instruction(fields, alloc, at, opcode) {
         Ok(token) => token,
@@ -99,7 +102,8 @@ fn take_instruction(
     }
 }
 
-/// Judges and compiles the code of a body whose last byte has the offset `last`, and notes where it traps.
+/// Judges and compiles the code of a body whose last byte has the offset `last`, and notes where it traps. Where its words are more
+/// than a text may have, it is judged to its end all the same, and not all of them are made.
 pub fn judge_code(
     alloc: Global,
     fields: &mut Fields<'_>,
@@ -112,6 +116,7 @@ pub fn judge_code(
     requires bytes { AreBytes fields.old.rest }
     requires tied { AreTied draft.old.labels check.old (length fields.old.rest) }
     requires slots { link draft.old.layout ≤ 51000 }
+    requires short { draft.old.too_long ≡ false }
     ensures layout { draft.new.layout ≡ draft.old.layout }
     ensures rows { draft.new.rows ≡ draft.old.rows }
     ensures held { OnOk result (IsHeld (drafted draft.new.labels draft.new.words)) }
@@ -131,8 +136,11 @@ pub fn judge_code(
             Err(stop) => return Err(stop_of(stop, last)),
         }
     }
-    if fields.rest().is_empty() {
-        return Ok(());
+    if !fields.rest().is_empty() {
+        return Err(BodyStop::Refused(malformed(fields.offset())));
     }
-    Err(BodyStop::Refused(malformed(fields.offset())))
+    if draft.is_too_long() {
+        return Err(BodyStop::TooLong);
+    }
+    Ok(())
 }

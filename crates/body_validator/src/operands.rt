@@ -23,21 +23,20 @@ fn is_same(t: ValType, u: ValType) -> bool
     }
 }
 
-/// Whether two lists of types are the same.
+/// Whether two lists of types are the same. All are compared, wherever they differ, so that a processor compares many at once.
 pub fn are_same(left: &[ValType], right: &[ValType]) -> bool
     ensures { result ≡ same_types (reverse left.now) (reverse right.now) }
 {
     if left.len() != right.len() {
         return false;
     }
+    let mut same = true;
     let mut owed = left.len();
     while 0 < owed {
         owed -= 1;
-        if !is_same(left[owed], right[owed]) {
-            return false;
-        }
+        same &= is_same(left[owed], right[owed]);
     }
-    true
+    same
 }
 
 #[inline(always)]

@@ -3,6 +3,7 @@ pub mod Moves
 pub mod Composing
 pub mod Sizes
 pub mod Trees
+pub mod Partly
 pub mod Sites
 pub mod Bases
 pub mod Chains
@@ -10,3 +11,4 @@ pub mod Views
 pub mod Calls
 pub mod Fronts
 pub mod Undoing
+pub mod Counts

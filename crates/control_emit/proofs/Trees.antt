@@ -25,7 +25,7 @@ use Rattle.control_emit.proofs.Sizes.{AreAlike, alike-same, words_size, size_is,
 abbrev pub labelled : Context → List Types → Context
 labelled c ls = record c { labels = ls }
 
-words_labelled : (w : Around) (c : Context) (ls : List Types) (labels : List Label) (h here : ℕ) (p : Plain) → words w c labels h here p ≡ words w (labelled c ls) labels h here p
+pub words_labelled : (w : Around) (c : Context) (ls : List Types) (labels : List Label) (h here : ℕ) (p : Plain) → words w c labels h here p ≡ words w (labelled c ls) labels h here p
 words_labelled w c ls labels h here Unreachable = refl
 words_labelled w c ls labels h here Nop = refl
 words_labelled w c ls labels h here (Br l) = refl
@@ -48,21 +48,21 @@ words_labelled w c ls labels h here MemoryGrow = refl
 words_labelled w c ls labels h here (Const t n) = refl
 words_labelled w c ls labels h here (Operate o) = refl
 
-shape_labelled : (c : Context) (ls : List Types) (t : BlockType) → shape (labelled c ls) t ≡ shape c t
+pub shape_labelled : (c : Context) (ls : List Types) (t : BlockType) → shape (labelled c ls) t ≡ shape c t
 shape_labelled c ls Empty = refl
 shape_labelled c ls (Value t) = refl
 shape_labelled c ls (Index i) = refl
 
 -- ---- what isn't live
 
-after_dead : (r : Rule) → after_rule r None ≡ None
+pub after_dead : (r : Rule) → after_rule r None ≡ None
 after_dead Untyped = refl
 after_dead (Fixed from to) = refl
 after_dead (Stops from) = refl
 after_dead Discards = refl
 after_dead Selects = refl
 
-end_dead : (c : Context) (t : Seq) → end_of c t None ≡ None
+pub end_dead : (c : Context) (t : Seq) → end_of c t None ≡ None
 end_dead c Nothing = refl
 end_dead c (Simple p rest) = ap (end_of c rest) (after_dead (rule_of c p)) ∙ end_dead c rest
 end_dead c (Block type body rest) = end_dead c rest
@@ -72,23 +72,23 @@ end_dead c (IfElse type body other rest) = end_dead c rest
 
 -- ---- labels where only lengths are counted
 
-abbrev counted : List Shape → List Label
+abbrev pub counted : List Shape → List Label
 counted [] = []
 counted (s ∷ ss) = label s.base s.takes 0 ∷ counted ss
 
-abbrev ends_of : List Shape → List Ends
+abbrev pub ends_of : List Shape → List Ends
 ends_of [] = []
 ends_of (s ∷ ss) = ends_there 0 ∷ ends_of ss
 
-counted_alike : (ss : List Shape) → AreAlike (counted ss) (named ss (ends_of ss))
+pub counted_alike : (ss : List Shape) → AreAlike (counted ss) (named ss (ends_of ss))
 counted_alike [] = tt
 counted_alike (s ∷ ss) = (refl, counted_alike ss)
 
-length-ends : (ss : List Shape) → length (ends_of ss) ≡ length ss
+pub length-ends : (ss : List Shape) → length (ends_of ss) ≡ length ss
 length-ends [] = refl
 length-ends (s ∷ ss) = ap suc (length-ends ss)
 
-ends_count : (ls : List Pending) → length (ends_of (shapes ls)) ≡ length ls
+pub ends_count : (ls : List Pending) → length (ends_of (shapes ls)) ≡ length ls
 ends_count ls = length-ends (shapes ls) ∙ length-map ls shape_of
 
 -- ---- calls

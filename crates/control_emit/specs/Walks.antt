@@ -1,5 +1,5 @@
 -- How tokens, each at its place, lead from one draft of a function's words to another.
-use Rattle.std.specs.Prelude.{◌≡◌, ℕ, ◌-◌, Bool, true, false, List, [], ◌∷◌, ◌++◌, length, map, None, Some}
+use Rattle.std.specs.Prelude.{◌≡◌, ◌≤◌, ℕ, ◌+◌, ◌-◌, Bool, true, false, List, [], ◌∷◌, ◌++◌, length, map, None, Some}
 use Rattle.rv_isa.specs.declared.compiled.Relocation.{Relocation}
 use Rattle.rv_isa.specs.declared.compiled.TrapSite.{TrapSite}
 use Rattle.rv_isa.specs.Words.{word_of}
@@ -12,7 +12,7 @@ use Rattle.wasm_defs.specs.Typing.{Context, Signature}
 use Rattle.frame_layout.specs.Templates.{Around, words}
 use Rattle.frame_layout.specs.Traps.{trap_places, site_at}
 use Rattle.frame_layout.specs.Functions.{over, test_words, call_of, Trap, traps_of, site_of, body_place, body_code, calls_of, body_traps}
-use Rattle.control_emit.specs.Pending.{Pending, Shape, shapes, named}
+use Rattle.control_emit.specs.Pending.{Pending, Shape, shapes, Ends, named}
 use Rattle.control_emit.specs.Emits.{Draft, Emits, Opens, Turns, Closes}
 
 abbrev pub end_shape : (base takes : ℕ) → Shape
@@ -136,3 +136,20 @@ abbrev pub SitesLaw : Type 0
 SitesLaw =
     (w : Around) (o : Origin) (c : Context) (tokens : List Token) (tree : Seq) (front : List ℕ) (last : Draft) (sites : List TrapSite) → Tree tokens tree → length o.offsets ≡ length tokens
     → length front ≡ body_place w → Siting w c tokens o.offsets (places_of c tree) (begun (length c.results) front) last sites → sites ≡ map (site_of o) (body_traps w c tree)
+
+-- how many words a token has by itself, wherever the open blocks end; those of an `if` and an `else` aren't counted
+abbrev pub count_of : Around → Context → Token → Place → Draft → List Ends → ℕ
+count_of w c (token.Plain p) None d ends = 0
+count_of w c (token.Plain p) (Some h) d ends = length (words w c (named (shapes d.labels) ends) h (length d.words) p)
+count_of w c (token.Block t) place d ends = 0
+count_of w c (token.Loop t) place d ends = 0
+count_of w c (token.If t) place d ends = 0
+count_of w c token.Else place d ends = 0
+count_of w c token.End place d ends = 0
+
+-- the words of a front of a body's tokens, with those of the token behind it, are no more than the whole body's
+abbrev pub NextLaw : Type 0
+NextLaw =
+    (w : Around) (c : Context) (tokens more : List Token) (t : Token) (places rest : List Place) (place : Place) (tree : Seq) (front : List ℕ) (last : Draft) (ends : List Ends) → Tree (tokens ++ t ∷ more) tree
+    → places_of c tree ≡ places ++ place ∷ rest → length places ≡ length tokens → length ends ≡ length last.labels → Walk w c tokens places (begun (length c.results) front) last
+    → length last.words + count_of w c t place last ends ≤ length front + length (body_code w c tree)

@@ -1,12 +1,12 @@
 //! The labels of a function that are open.
 
-ghost use Rattle.std.specs.Prelude.{◌≡◌, ◌<◌, ◌≤◌, ◌+◌, ◌-◌, ℕ, [], ◌∷◌, ◌++◌, length, map, take, OnOk, OnErr, IfOk, slice_index_or};
+ghost use Rattle.std.specs.Prelude.{◌≡◌, ◌<◌, ◌≤◌, ◌+◌, ◌-◌, ℕ, List, [], ◌∷◌, ◌++◌, length, map, take, OnOk, OnErr, IfOk, slice_index_or};
 ghost use Rattle.rv_isa.specs.Words.{word_of};
 ghost use Rattle.frame_layout.specs.Slots.{link};
 ghost use Rattle.wasm_defs.specs.Places.{Place};
 ghost use Rattle.frame_layout.specs.Templates.{Around, label_at, jump_words, jump_if_words, jumps, jump_table_words};
 ghost use Rattle.frame_layout.specs.Functions.{over, test_words};
-ghost use Rattle.control_emit.specs.Pending.{shapes, named, patched, all_patched, test_patched, AreWithin, IsTestWithin, AreBelow, TakesTest, jumping, fewer, unjumped, all_unjumped, end_at, chain, IsBefore, AreLinked, AreKept};
+ghost use Rattle.control_emit.specs.Pending.{Ends, shapes, named, patched, all_patched, test_patched, AreWithin, IsTestWithin, AreBelow, TakesTest, jumping, fewer, unjumped, all_unjumped, end_at, chain, IsBefore, AreLinked, AreKept};
 ghost use Rattle.frame_layout.specs.Macros.{distance, far};
 ghost use Rattle.control_emit.specs.Emits.{draft, IsFront, IsHeld, Emits, Opens, Turns, Closes};
 ghost use Rattle.control_emit.specs.Begins.{IsOpening, Begins};
@@ -329,6 +329,19 @@ impl Labels {
             takes: open.takes,
             start: open.start,
         }
+    }
+
+    /// How many words the jumps to these labels have, one behind the other, wherever the open blocks end: two a jump, and six for each
+    /// value that it takes along.
+    pub fn jump_words(&self, labels: &[u32]) -> u128
+        requires { AreBelow (length self.now) labels.now }
+        ensures { (w : Around) (height here : ℕ) (ends : List Ends) → length ends ≡ length self.now → result ≡ length (jumps w height here (map (label_at w (named (shapes self.now) ends)) labels.now)) }
+    {
+        let mut count = 0;
+        for label in labels {
+            count += 2 + 6 * u128::from(self.goal(*label).takes);
+        }
+        count
     }
 
     /// Notes where a jump to the end of a label's block stands.

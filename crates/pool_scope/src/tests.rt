@@ -115,7 +115,7 @@ fn run<R: Threads + Wait + Sync>(
     ensures states { IfOk result (λ o. length o.closed.states ≡ 200) }
     ensures rows { IfOk result (λ o. length o.rows.items ≡ 200) }
 {
-    let cells = Cells::new(alloc, 1)?;
+    let cells = Cells::new(alloc, 1, 1_000_000)?;
     let (board, seat) = Board::new(alloc, BATCHES, u64::from(workers) + 1)?;
     let (feeder, hands) = Pool::new(alloc, workers)?;
     let reading = HandsAll {

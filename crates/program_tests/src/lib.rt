@@ -14,3 +14,5 @@ mod faults;
 mod held_back;
 #[cfg(test)]
 mod hostile;
+#[cfg(test)]
+mod long_bodies;

@@ -1,5 +1,5 @@
 -- What taking a part comes to.
-use Rattle.std.proofs.Common.{◌≡◌, ◌≤◌, ◌+◌, inl, inr, ℕ, List, [], ◌∷◌, ◌++◌, map, length, Result, Ok, Err, refl, sym, ap, ◌∙◌, subst, arith}
+use Rattle.std.proofs.Common.{◌≡◌, ◌<◌, ◌≤◌, ◌+◌, ◌*◌, inl, inr, ℕ, List, [], ◌∷◌, ◌++◌, length, Result, Ok, Err, refl, sym, ap, ◌∙◌, subst, arith}
 use Rattle.std.proofs.lemmas.List.{length-map}
 use Rattle.rv_isa.specs.Words.{word_of}
 use Rattle.rv_isa.specs.declared.compiled.Code.{Code}
@@ -8,8 +8,9 @@ use Rattle.wasm_defs.specs.declared.item.Item.TheVariants.{Signature}
 use Rattle.wasm_laws.specs.Kept.{TypesAreSmall}
 use Rattle.wasm_laws.proofs.Exports.{types_are_small}
 use Rattle.wasm_laws.proofs.PartLists.{items_of-append}
+use Rattle.wasm_defs.specs.Limits.{max_text}
 use Rattle.wasm_defs.specs.Trees.{Seq}
-use Rattle.wasm_defs.specs.Bodies.{BodyRead, body_read}
+use Rattle.wasm_defs.specs.Bodies.{BodyRead}
 use Rattle.wasm_defs.specs.Context.{context_of, types_of}
 use Rattle.wasm_defs.specs.Outside.{Body, Run, Part, after_part}
 use Rattle.wasm_defs.specs.Outside as outside
@@ -28,10 +29,11 @@ use Rattle.wasm_defs.specs.declared.front_stop.FrontStop.{FrontStop}
 use Rattle.wasm_defs.specs.declared.front_stop.FrontStop.TheVariants.{Refused, NoMemory}
 use Rattle.image_linker.specs.ImageOf.{around, front_of, front_size}
 use Rattle.image_linker.specs.Codes.{IsCodeOf}
+use Rattle.image_linker.specs.Judging.{limit_at}
 use Rattle.wasm_laws.specs.Order.{first_section}
 use Rattle.wasm_laws.proofs.Order.{around_body, parts_in_module}
 use Rattle.stream_compile.specs.Codes.{Coding}
-use Rattle.stream_compile.specs.Progress.{IsJudged, IsJudging, CanTakeNext, TakesPart, TakesBody, TakesCode, front_stop, body_of_spaces}
+use Rattle.stream_compile.specs.Progress.{IsJudged, IsJudging, CanTakeNext, TakesPart, TakesBody, TakesCode, stop_at, body_of_spaces}
 use Rattle.stream_compile.proofs.Judging.{typed_there, few_functions, few_bodies, few_imports}
 use Rattle.stream_compile.proofs.Compiled.{after_body, text_passes, body_refused}
 
@@ -47,10 +49,6 @@ moved_body spaces context bodies imported first read r same count h =
     let k : imported ≡ spaces.imported = count ∙ ap (λ (x : Spaces). x.imported) same in
     let g = subst (λ (x : Spaces). Compiles (first_minimum x.tables) first (context_in x) (imported + bodies) read r) same h in
     subst (λ (n : ℕ). Compiles (first_minimum spaces.tables) first (context_in spaces) (n + bodies) read r) k g
-
-pub stops_as : (spaces : Spaces) (bodies : ℕ) (b : GivenBody) (s : BodyStop) → Compiles (first_minimum spaces.tables) b.first (context_in spaces) (spaces.imported + bodies) (body_read b.first b.bytes) (Err s) → TakesBody spaces bodies b (Err (front_stop s))
-stops_as spaces bodies b (body.Refused r) h = h
-stops_as spaces bodies b body.NoMemory h = tt
 
 -- the code is that of the body behind these items and so many bodies
 code_of_body : (items : List Item) (k : ℕ) (b : Body) (tree : Seq) (code : Code)
@@ -126,10 +124,15 @@ can_take bytes left spaces codes b few j =
 pub judging_on : (bytes : List ℕ) (run next : Run) (spaces : Spaces) (codes : Coding) → run ≡ next → IsJudging bytes run spaces codes → IsJudging bytes next spaces codes
 judging_on bytes run next spaces codes e j = subst (λ (r : Run). IsJudging bytes r spaces codes) e j
 
+-- a body whose code alone is longer than a text
+pub long_taken : (spaces : Spaces) (codes new : Coding) (b : GivenBody) (code : Code) → max_text < 4 * length code.words → TakesBody spaces codes.count b (Ok code) → TakesCode spaces codes b (Err (Refused (limit_at b.size))) new
+long_taken spaces codes new b code long compiled = inr (code, compiled, omega arith, refl)
+
 -- a body's stop
-pub stop_taken : (spaces : Spaces) (codes new : Coding) (b : GivenBody) (s : FrontStop) → TakesBody spaces codes.count b (Err s) → TakesCode spaces codes b (Err s) new
-stop_taken spaces codes new b (Refused r) h = inl h
-stop_taken spaces codes new b NoMemory h = tt
+pub stop_taken : (spaces : Spaces) (codes new : Coding) (b : GivenBody) (s : BodyStop) → TakesBody spaces codes.count b (Err s) → TakesCode spaces codes b (Err (stop_at b s)) new
+stop_taken spaces codes new b (body.Refused r) h = inl h
+stop_taken spaces codes new b body.TooLong h = long_taken spaces codes new b h.0 h.2 h.1
+stop_taken spaces codes new b body.NoMemory h = tt
 
 -- a fault is one of the module, whatever was left
 pub fault_taken : (bytes : List ℕ) (s : FrontStop) (run next : Run) (spaces later : Spaces) (codes new : Coding) → TakesPart bytes (Err s) run spaces codes → TakesPart bytes (Err s) next later new

@@ -85,22 +85,22 @@ TakesPart bytes (Ok done) run spaces codes = IsJudging bytes run spaces codes
 TakesPart bytes (Err (Refused r)) run spaces codes = IsVerdictOf bytes (Rejected r)
 TakesPart bytes (Err NoMemory) run spaces codes = Unit {0}
 
-abbrev pub front_stop : BodyStop → FrontStop
-front_stop (body.Refused r) = Refused r
-front_stop body.NoMemory = NoMemory
+-- the compiling of a body, before which so many bodies stand, comes to this
+abbrev pub TakesBody : Spaces → ℕ → GivenBody → Result Code BodyStop → Type 0
+TakesBody spaces bodies b made = Compiles (first_minimum spaces.tables) b.first (context_in spaces) (spaces.imported + bodies) (body_read b.first b.bytes) made
 
--- a body's code, or its first fault
-abbrev pub TakesBody : Spaces → ℕ → GivenBody → Result Code FrontStop → Type 0
-TakesBody spaces bodies b (Ok code) = Compiles (first_minimum spaces.tables) b.first (context_in spaces) (spaces.imported + bodies) (body_read b.first b.bytes) (Ok code)
-TakesBody spaces bodies b (Err (Refused r)) = Compiles (first_minimum spaces.tables) b.first (context_in spaces) (spaces.imported + bodies) (body_read b.first b.bytes) (Err (body.Refused r))
-TakesBody spaces bodies b (Err NoMemory) = Unit {0}
+-- why nothing is taken behind this body, which isn't compiled
+abbrev pub stop_at : GivenBody → BodyStop → FrontStop
+stop_at b (body.Refused r) = Refused r
+stop_at b body.TooLong = Refused (limit_at b.size)
+stop_at b body.NoMemory = NoMemory
 
 -- a body was taken: its code stands behind the others; or the body has a fault, or with it the text passes its limit
 abbrev pub TakesCode : Spaces → Coding → GivenBody → Result (Unit {0}) FrontStop → Coding → Type 0
 TakesCode spaces codes b (Ok done) new =
     (code : Code) × TakesBody spaces codes.count b (Ok code) × (new ≡ with_code codes code) × (4 * (front_of spaces.imported + new.words) ≤ max_text)
 TakesCode spaces codes b (Err (Refused r)) new =
-    TakesBody spaces codes.count b (Err (Refused r))
+    TakesBody spaces codes.count b (Err (body.Refused r))
     ⊎ ((code : Code) × TakesBody spaces codes.count b (Ok code) × (max_text < 4 * (front_of spaces.imported + (codes.words + length code.words))) × (r ≡ limit_at b.size))
 TakesCode spaces codes b (Err NoMemory) new = Unit {0}
 

@@ -21,7 +21,7 @@ use result_cells::Cells;
 use std::alloc::{AllocError, Global};
 use std::sync::Wait;
 use std::thread::Threads;
-use wasm_defs::FrontStop;
+use wasm_defs::{FrontStop, MAX_TEXT};
 
 /// Reads the bodies of a source.
 #[derive(Drop)]
@@ -172,7 +172,8 @@ fn read_with_workers<R: Threads + Wait + Sync, S: Source, G: Gate>(
     } else {
         0
     };
-    let cells = Cells::new(alloc, stored)?;
+    // Codes that are linked have no more words together than a text may have.
+    let cells = Cells::new(alloc, stored, u64::from(MAX_TEXT) / 4)?;
     let (board, seat) = Board::new(alloc, functions, u64::from(workers) + 1)?;
     let (feeder, hands) = Pool::new(alloc, workers)?;
     let Some(gathered) = read_in_scope(

@@ -7,9 +7,10 @@ ghost use Rattle.wasm_defs.specs.Limits.{max_text};
 ghost use Rattle.wasm_defs.specs.Outside.{Run as RunGiven};
 ghost use Rattle.section_reader.specs.Onward.{after_parts};
 ghost use Rattle.image_linker.specs.ImageOf.{front_of};
+ghost use Rattle.image_linker.specs.Judging.{limit_at};
 ghost use Rattle.stream_compile.specs.Codes.{KeepsAlike};
 ghost use Rattle.stream_compile.specs.CutBodies.{coded_all};
-ghost use Rattle.stream_compile.specs.Progress.{IsJudging, CanTake, CanTakeNext, CanTakeAll, front_stop, TakesBody, TakesCode, TakesPart, KeepsLimit};
+ghost use Rattle.stream_compile.specs.Progress.{IsJudging, CanTake, CanTakeNext, CanTakeAll, stop_at, TakesBody, TakesCode, TakesPart, KeepsLimit};
 
 use crate::codes::Codes;
 use body_compiler::{BodyStop, compile};
@@ -20,11 +21,23 @@ use std::alloc::Global;
 use std::sync::Arc;
 use wasm_defs::{FrontStop, Kind, MAX_TEXT, Refusal};
 
-fn front_stop(stop: BodyStop) -> FrontStop
-    ensures { result ≡ front_stop stop }
+/// The fault of a body with whose words the text passes its limit.
+pub fn limit_at(body: &Body) -> Refusal
+    ensures { result ≡ limit_at body.now.size }
+{
+    Refusal {
+        offset: body.size,
+        kind: Kind::Limit,
+    }
+}
+
+/// Why nothing is taken behind a body that isn't compiled.
+fn stop_at(body: &Body, stop: BodyStop) -> FrontStop
+    ensures { result ≡ stop_at body.now stop }
 {
     match stop {
         BodyStop::Refused(refusal) => FrontStop::Refused(refusal),
+        BodyStop::TooLong => FrontStop::Refused(limit_at(body)),
         BodyStop::NoMemory => FrontStop::NoMemory,
     }
 }
@@ -35,16 +48,13 @@ fn take_body(
     spaces: &ContextBuilder,
     bodies: u32,
     body: &Body,
-) -> Result<Code, FrontStop>
+) -> Result<Code, BodyStop>
     requires { CanTake spaces.now bodies body.now }
     ensures { TakesBody spaces.now bodies body.now result }
 {
     let context = spaces.context();
     let index = context.imported() + bodies;
-    match compile(alloc, context, index, body.bytes.as_slice(), body.first) {
-        Ok(code) => Ok(code),
-        Err(stop) => Err(front_stop(stop)),
-    }
+    compile(alloc, context, index, body.bytes.as_slice(), body.first)
 }
 
 /// Whether a text with so many words of functions passes the limit. In front of them stand the exit stub, of two words, and the
@@ -68,10 +78,7 @@ fn keep_limit(
 {
     let words = u128::from(codes.words()) + u128::from(more);
     if passes_limit(spaces.context().imported(), words) {
-        return Err(FrontStop::Refused(Refusal {
-            offset: body.size,
-            kind: Kind::Limit,
-        }));
+        return Err(FrontStop::Refused(limit_at(body)));
     }
     Ok(())
 }
@@ -155,7 +162,7 @@ pub fn take_code(
 {
     match take_body(alloc, spaces, codes.count(), body) {
         Ok(code) => add_code(alloc, spaces, codes, body, code),
-        Err(stop) => Err(stop),
+        Err(stop) => Err(stop_at(body, stop)),
     }
 }
 

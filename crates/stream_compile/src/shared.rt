@@ -11,7 +11,7 @@ ghost use Rattle.pool_scope.specs.Gathering.{IsRowIf};
 ghost use Rattle.stream_compile.specs.Kept.{kept_bodies, AreFront};
 ghost use Rattle.stream_compile.specs.Progress.{IsJudging, CanTakeNext, CanTakeAll, TakesBody, TakesCode, TakesPart};
 
-use crate::bodies::{count_code, share_code, take_code};
+use crate::bodies::{count_code, limit_at, share_code, take_code};
 use crate::codes::Codes;
 use batch_pool::{Row, RowCode, Stored};
 use body_cutter::{Batch, Body};
@@ -81,6 +81,7 @@ fn take_stored(
             },
             None => unreachable!(),
         },
+        Stored::TooLong => Err(FrontStop::Refused(limit_at(body))),
     }
 }
 

@@ -4,7 +4,7 @@ use Rattle.wasm_defs.specs.Typing.{Context}
 use Rattle.control_emit.specs.Emits.{draft, IsHeld}
 use Rattle.body_compiler.specs.Steps.{AreTied}
 use Rattle.wasm_laws.specs.Sections.{AreBytes}
-use Rattle.body_compiler.specs.Going.{calling, IsCompiling}
+use Rattle.body_compiler.specs.Going.{calling, IsCompiling, IsTaking}
 use Rattle.body_compiler.proofs.code.judge_code.Given as goal
 
 abbrev pub invariant-loop-alloc : goal.invariant-loop-alloc
@@ -16,7 +16,7 @@ invariant-loop-alloc l = record {
   grows : length l.fn.draft.words ≤ length l.draft.words;
   bytes : AreBytes l.fields.rest;
   goes : (c : Context) (code : Spelled) (front : List ℕ) → IsCompiling c l.last l.fn.fields l.fn.check code l.fn.draft.layout front (calling l.fn.draft.labels l.fn.draft.words l.fn.draft.calls.items l.fn.draft.rows l.fn.sites.items)
-      → IsCompiling c l.last l.fields l.check code l.fn.draft.layout front (calling l.draft.labels l.draft.words l.draft.calls.items l.draft.rows l.sites.items);
+      → IsTaking l.draft.too_long c l.last l.fields l.check code l.fn.draft.layout front (calling l.draft.labels l.draft.words l.draft.calls.items l.draft.rows l.sites.items);
 }
 
 abbrev pub decreases-loop-alloc : goal.decreases-loop-alloc

@@ -1,5 +1,7 @@
-use Rattle.std.proofs.Common.{reverse, ◌∙◌, sym, true, arith}
+use Rattle.std.proofs.Common.{◌&&◌, ◌-◌, ap, reverse, refl, ◌∙◌, sym, take, Bool, arith}
+use Rattle.std.proofs.Math.Bool.{and_assoc}
 use Rattle.std.proofs.lemmas.List.{length-reverse}
+use Rattle.wasm_defs.specs.Typing.{same_types}
 use Rattle.body_validator.proofs.Flat.{lengths_differ, next_same}
 use Rattle.body_validator.proofs.operands.are_same.Goals as goal
 
@@ -12,9 +14,11 @@ returns-then-left-right c =
 pub loop-owed-preserved : goal.loop-owed-preserved
 loop-owed-preserved c =
     let l = c.loop-owed in
+    let left = c.args.left.now in
+    let right = c.args.right.now in
+    let next = next_same left right l.owed _ _ c.is_same-same.result _ c.is_same-same.ensures refl (omega arith) l.invariant.left_within l.invariant.right_within in
     record {
       left_within = omega arith;
       right_within = omega arith;
-      same = l.invariant.same ∙ next_same c.args.left.now c.args.right.now l.owed _ _ c.is_same.result true c.is_same.ensures c.if-not-is_same.false
-          (omega arith) l.invariant.left_within l.invariant.right_within;
+      is_same = l.invariant.is_same ∙ ap (λ (b : Bool). l.same && b) next ∙ sym (and_assoc l.same c.is_same-same.result (same_types (reverse (take (l.owed - 1) left)) (reverse (take (l.owed - 1) right))));
     }

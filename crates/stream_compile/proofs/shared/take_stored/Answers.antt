@@ -5,6 +5,7 @@ use Rattle.batch_pool.specs.declared.row.Stored.{Stored}
 use Rattle.batch_pool.specs.Working.{Stores}
 use Rattle.stream_compile.specs.Progress.{TakesBody}
 use Rattle.stream_compile.proofs.Sharing.{not_kept, known_code, not_unknown}
+use Rattle.stream_compile.proofs.Taking.{long_taken}
 use Rattle.stream_compile.proofs.shared.take_stored.Goals as goal
 
 pub count_code-requires-clause-none : goal.count_code-requires-clause-none
@@ -43,3 +44,8 @@ unreachable-requires c =
     let r = c.requires.code in
     let here = subst (λ (s : Stored). Stores c.args.cells.now c.args.index s r.0) c.in-Cell.is r.1 in
     not_unknown c.in-Cell.note.known r.0 here.2 c.in-None.ensures.value.0
+
+pub returns-clause-takes : goal.returns-clause-takes
+returns-clause-takes c =
+    let r = c.requires.code in
+    rw c.limit_at.ensures (long_taken c.args.spaces.now c.args.codes.now c.args.codes.now c.args.body.now r.0 (subst (λ (s : Stored). Stores c.args.cells.now c.args.index s r.0) c.in-TooLong.is r.1) r.2)
