@@ -27,7 +27,7 @@ pub enum BodyStop {
     /// Its first fault.
     #[error("{:?} at byte {}", .0.kind, .0.offset)]
     Refused(Refusal),
-    /// It is valid, but the words of its function are more than a text may have. They aren't made.
+    /// It is valid, but the words of its function are more than a text may have. Not all of them were made.
     #[error("more words than a text may have")]
     TooLong,
     /// Memory was wanting.

@@ -19,11 +19,12 @@ pub const ADD: &str =
 /// What follows the header of a module of two bodies, the first of which has a fault at 25, and the second at 29.
 pub const FAULTY_BODIES: &str = "01 05 01 60 00 01 7F 03 03 02 00 00 0A 08 02 03 00 6A 0B 02 00 0B";
 
-/// The image of a module without functions, and the same in the first version.
+/// The image of a module without functions.
 pub const EMPTY_IMAGE_2: &str = "57 52 56 49 02 00 00 00 02 00 00 00 93 08 00 00 73 00 00 00 \
                                         00 00 00 00 00 00 00 00 00 00 00 00 00 00 00 00 00 00 00 00 \
                                         00 00 00 00 00 00 00 00 00 00 00 00 00 00 00 00 00 00 00 00";
 
+/// The same image in the first version.
 pub const EMPTY_IMAGE: &str = "57 52 56 49 01 00 00 00 02 00 00 00 93 08 00 00 73 00 00 00 \
                                       00 00 00 00 00 00 00 00 00 00 00 00 00 00 00 00 00 00 00 00 \
                                       00 00 00 00 00 00 00 00 00 00 00 00 00 00 00 00";
@@ -55,6 +56,7 @@ pub fn push_number(bytes: &mut Vec<u8>, number: u32) -> Result<(), Fail> {
     Ok(())
 }
 
+/// Each text as a word of a command line.
 pub fn words_of(alloc: Global, texts: &[&str]) -> Result<Vec<String>, AllocError> {
     let mut words = Vec::new(alloc);
     for text in texts {

@@ -1,5 +1,5 @@
-//! Bodies whose words are more than a text may have, with answers that were worked out by hand: they are judged to their end, and none of
-//! those words are made.
+//! Bodies whose words are more than a text may have, with answers that were worked out by hand: they are judged to their end, though their
+//! branches' words aren't made.
 
 use program_calls::{HEADER, answer_to_line, bytes_of, push_number};
 use std::alloc::Global;
