@@ -1,6 +1,6 @@
 -- Instructions are read as they are spelled.
-use Rattle.std.proofs.Common.{◌≡◌, ◌≤◌, ℕ, ◌-◌, ℤ, true, eqb, nat_lt, nat_le, ◌||◌, List, [], ◌∷◌, length, Option, Some, None, refl, sym, ap, subst, ◌∙◌, suc, ◌+◌, pos, negsuc, inl, inr, arith, false}
-use Rattle.std.specs.Prelude.{slice_get}
+use Rattle.std.proofs.Common.{◌≡◌, ◌≤◌, ℕ, ◌-◌, ℤ, Bool, true, not, eqb, nat_lt, nat_le, ◌||◌, List, [], ◌∷◌, length, Option, Some, None, refl, sym, ap, subst, ◌∙◌, suc, ◌+◌, pos, negsuc, inl, inr, arith, false}
+use Rattle.std.specs.Prelude.{slice_get, ◌==◌}
 use Rattle.std.specs.List.{All}
 use Rattle.std.proofs.lemmas.Bool.{eqb-true, ltb-false, le-ltb}
 use Rattle.wasm_defs.specs.declared.types.ValType.{ValType}
@@ -40,6 +40,7 @@ use Rattle.wasm_laws.proofs.SpeltFields.{Always, byte_spelt, number_spelt, u32_s
 use Rattle.wasm_laws.proofs.SpeltLists.{vector_spelt}
 use Rattle.wasm_laws.proofs.SpeltParts.{placed_spelt, ruled_spelt}
 use Rattle.body_laws.proofs.Rows.{operation_at, access_code, access_at}
+use Rattle.wasm_defs.proofs.EachOperation.{each_operation, operation_row}
 
 -- ---- fields whose offset their place tells
 
@@ -364,74 +365,20 @@ stores I64Store8 o = refl
 stores I64Store16 o = refl
 stores I64Store32 o = refl
 
+not_true : (b : Bool) → not b ≡ true → b ≡ false
+not_true false e = refl
+not_true true e = absurd cc
+
 operates : (op : Operation) (o : ℕ) → instruction o (operation_code op) ≡ plain (Operate op)
 unfolding instruction numeric
-operates (Test I32) o = refl
-operates (Compare I32 Eq) o = refl
-operates (Compare I32 Ne) o = refl
-operates (Compare I32 LtS) o = refl
-operates (Compare I32 LtU) o = refl
-operates (Compare I32 GtS) o = refl
-operates (Compare I32 GtU) o = refl
-operates (Compare I32 LeS) o = refl
-operates (Compare I32 LeU) o = refl
-operates (Compare I32 GeS) o = refl
-operates (Compare I32 GeU) o = refl
-operates (Test I64) o = refl
-operates (Compare I64 Eq) o = refl
-operates (Compare I64 Ne) o = refl
-operates (Compare I64 LtS) o = refl
-operates (Compare I64 LtU) o = refl
-operates (Compare I64 GtS) o = refl
-operates (Compare I64 GtU) o = refl
-operates (Compare I64 LeS) o = refl
-operates (Compare I64 LeU) o = refl
-operates (Compare I64 GeS) o = refl
-operates (Compare I64 GeU) o = refl
-operates (Unary I32 Clz) o = refl
-operates (Unary I32 Ctz) o = refl
-operates (Unary I32 Popcnt) o = refl
-operates (Binary I32 Add) o = refl
-operates (Binary I32 Sub) o = refl
-operates (Binary I32 Mul) o = refl
-operates (Binary I32 DivS) o = refl
-operates (Binary I32 DivU) o = refl
-operates (Binary I32 RemS) o = refl
-operates (Binary I32 RemU) o = refl
-operates (Binary I32 And) o = refl
-operates (Binary I32 Or) o = refl
-operates (Binary I32 Xor) o = refl
-operates (Binary I32 Shl) o = refl
-operates (Binary I32 ShrS) o = refl
-operates (Binary I32 ShrU) o = refl
-operates (Binary I32 Rotl) o = refl
-operates (Binary I32 Rotr) o = refl
-operates (Unary I64 Clz) o = refl
-operates (Unary I64 Ctz) o = refl
-operates (Unary I64 Popcnt) o = refl
-operates (Binary I64 Add) o = refl
-operates (Binary I64 Sub) o = refl
-operates (Binary I64 Mul) o = refl
-operates (Binary I64 DivS) o = refl
-operates (Binary I64 DivU) o = refl
-operates (Binary I64 RemS) o = refl
-operates (Binary I64 RemU) o = refl
-operates (Binary I64 And) o = refl
-operates (Binary I64 Or) o = refl
-operates (Binary I64 Xor) o = refl
-operates (Binary I64 Shl) o = refl
-operates (Binary I64 ShrS) o = refl
-operates (Binary I64 ShrU) o = refl
-operates (Binary I64 Rotl) o = refl
-operates (Binary I64 Rotr) o = refl
-operates (Convert Wrap) o = refl
-operates (Convert ExtendS) o = refl
-operates (Convert ExtendU) o = refl
-operates (Extend I32Extend8S) o = refl
-operates (Extend I32Extend16S) o = refl
-operates (Extend I64Extend8S) o = refl
-operates (Extend I64Extend16S) o = refl
-operates (Extend I64Extend32S) o = refl
+operates op o =
+    let low = not_true _ (each_operation (λ (x : Operation). not (nat_lt (operation_code x) 0x20)) refl op) in
+    let variables = not_true _ (each_operation (λ (x : Operation). not (nat_lt (operation_code x) 0x28)) refl op) in
+    let memories = not_true _ (each_operation (λ (x : Operation). not (nat_lt (operation_code x) 0x41)) refl op) in
+    let i32 = not_true _ (each_operation (λ (x : Operation). not (operation_code x == 0x41)) refl op) in
+    let i64 = not_true _ (each_operation (λ (x : Operation). not (operation_code x == 0x42)) refl op) in
+    let floats = not_true _ (each_operation (λ (x : Operation). not (nat_lt (operation_code x) 0x45)) refl op) in
+    rw (low, variables, memories, i32, i64, floats, operation_row op) refl
 
 as_reads : (p q : Reader Token) (t : Token) (s : Spelling) → p ≡ q → Reads q t s → Reads p t s
 as_reads p q t s e h = subst (λ (r : Reader Token). Reads r t s) (sym e) h

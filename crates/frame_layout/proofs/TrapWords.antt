@@ -23,6 +23,7 @@ use Rattle.frame_layout.specs.Macros.{x0, t0, t1, distance, far}
 use Rattle.frame_layout.specs.Templates.{Label, Around, load_operand, move_words, jump_words, unless_words, jump_if_words, jumps, scale_words, table_front, jump_table_words, label_at, last_label, operate_words, const_words, words}
 use Rattle.frame_layout.specs.Traps.{is_number, is_call, found, traps_in, trap_places, operation_places}
 use Rattle.frame_layout.specs.Laws.{TrapsLaw}
+use Rattle.wasm_defs.proofs.EachOperation.{each_same}
 
 -- ---- where no environment is called, nothing traps
 
@@ -91,93 +92,20 @@ module _ (w : Around) where
   const_none h I32 n = refl
   const_none h I64 n = refl
 
-  unary_none : (h : ℕ) (t : ValType) (op : UnaryOp) → calls_none (operate_words w h (Unary t op)) ≡ true
-  unary_none h I32 Clz = refl
-  unary_none h I64 Clz = refl
-  unary_none h I32 Ctz = refl
-  unary_none h I64 Ctz = refl
-  unary_none h I32 Popcnt = refl
-  unary_none h I64 Popcnt = refl
-
-  compare_none : (h : ℕ) (t : ValType) (op : CompareOp) → calls_none (operate_words w h (Compare t op)) ≡ true
-  compare_none h t compare.Eq = refl
-  compare_none h t compare.Ne = refl
-  compare_none h t compare.LtS = refl
-  compare_none h t compare.LtU = refl
-  compare_none h t compare.GtS = refl
-  compare_none h t compare.GtU = refl
-  compare_none h t compare.LeS = refl
-  compare_none h t compare.LeU = refl
-  compare_none h t compare.GeS = refl
-  compare_none h t compare.GeU = refl
-
   -- ---- divisions trap, and nothing else that computes
 
-  binary_found : (h : ℕ) (t : ValType) (op : BinaryOp) → traps_in (operate_words w h (Binary t op)) ≡ operation_places (Binary t op)
-  binary_found h I32 binary.Add = refl
-  binary_found h I64 binary.Add = refl
-  binary_found h I32 binary.Sub = refl
-  binary_found h I64 binary.Sub = refl
-  binary_found h I32 binary.Mul = refl
-  binary_found h I64 binary.Mul = refl
-  binary_found h I32 binary.DivS = refl
-  binary_found h I64 binary.DivS = refl
-  binary_found h I32 binary.DivU = refl
-  binary_found h I64 binary.DivU = refl
-  binary_found h I32 binary.RemS = refl
-  binary_found h I64 binary.RemS = refl
-  binary_found h I32 binary.RemU = refl
-  binary_found h I64 binary.RemU = refl
-  binary_found h t binary.And = refl
-  binary_found h t binary.Or = refl
-  binary_found h t binary.Xor = refl
-  binary_found h I32 binary.Shl = refl
-  binary_found h I64 binary.Shl = refl
-  binary_found h I32 binary.ShrS = refl
-  binary_found h I64 binary.ShrS = refl
-  binary_found h I32 binary.ShrU = refl
-  binary_found h I64 binary.ShrU = refl
-  binary_found h I32 binary.Rotl = refl
-  binary_found h I64 binary.Rotl = refl
-  binary_found h I32 binary.Rotr = refl
-  binary_found h I64 binary.Rotr = refl
-
   operation_found : (h : ℕ) (op : Operation) → traps_in (operate_words w h op) ≡ operation_places op
-  operation_found h (Unary t op) = found-none false 0 (operate_words w h (Unary t op)) (unary_none h t op)
-  operation_found h (Test t) = refl
-  operation_found h (Binary t op) = binary_found h t op
-  operation_found h (Compare t op) = found-none false 0 (operate_words w h (Compare t op)) (compare_none h t op)
-  operation_found h (Convert Wrap) = refl
-  operation_found h (Convert ExtendS) = refl
-  operation_found h (Convert ExtendU) = refl
-  operation_found h (Extend I32Extend8S) = refl
-  operation_found h (Extend I32Extend16S) = refl
-  operation_found h (Extend I64Extend8S) = refl
-  operation_found h (Extend I64Extend16S) = refl
-  operation_found h (Extend I64Extend32S) = refl
+  operation_found h op = each_same (λ (o : Operation). traps_in (operate_words w h o)) operation_places refl op
 
   plain_found : (c : Context) (labels : List Label) (h here : ℕ) (p : Plain) → traps_in (words w c labels h here p) ≡ trap_places p
   plain_found c labels h here Unreachable = refl
-  plain_found c labels h here Nop = refl
   plain_found c labels h here (Br l) = found-none false 0 (words w c labels h here (Br l)) (jump_none h here (label_at w labels l))
   plain_found c labels h here (BrIf l) = found-none false 0 (words w c labels h here (BrIf l)) (jump_if_none h here (label_at w labels l))
   plain_found c labels h here (BrTable ls l) = found-none false 0 (words w c labels h here (BrTable ls l)) (jump_table_none h here (map (label_at w labels) ls) (label_at w labels l))
   plain_found c labels h here Return = found-none false 0 (words w c labels h here Return) (jump_none h here (last_label w labels))
-  plain_found c labels h here (Call f) = refl
-  plain_found c labels h here (CallIndirect i table) = refl
-  plain_found c labels h here Discard = refl
-  plain_found c labels h here Select = refl
-  plain_found c labels h here (LocalGet x) = refl
-  plain_found c labels h here (LocalSet x) = refl
-  plain_found c labels h here (LocalTee x) = refl
-  plain_found c labels h here (GlobalGet x) = refl
-  plain_found c labels h here (GlobalSet x) = refl
-  plain_found c labels h here (Load o m) = refl
-  plain_found c labels h here (Store o m) = refl
-  plain_found c labels h here MemorySize = refl
-  plain_found c labels h here MemoryGrow = refl
   plain_found c labels h here (Const t n) = found-none false 0 (words w c labels h here (Const t n)) (const_none h t (unsigned t n))
   plain_found c labels h here (Operate op) = operation_found h op
+  plain_found c labels h here p = refl
 
 pub traps_are_found : TrapsLaw
 traps_are_found w c labels h here p = plain_found w c labels h here p

@@ -116,7 +116,7 @@ pub enum Access {
 }
 
 /// The operations by their opcodes, from 0x45 to 0xC4 (Core 2.0, 5.4.7). Those on floats are left out.
-pub(crate) const OPERATIONS: [Option<Operation>; 128] = [
+pub const OPERATIONS: [Option<Operation>; 128] = [
     Some(Operation::Test(ValType::I32)),
     Some(Operation::Compare(ValType::I32, CompareOp::Eq)),
     Some(Operation::Compare(ValType::I32, CompareOp::Ne)),

@@ -2,7 +2,8 @@ use Rattle.std.proofs.Common.{◌≡◌, ℕ, ◌-◌, Some, subst}
 use Rattle.std.specs.Prelude.{slice_get}
 use Rattle.wasm_defs.specs.declared.operation.Access.TheVariants.{Load, Store}
 use Rattle.wasm_defs.specs.Opcodes.{accesses, operations}
-use Rattle.body_laws.proofs.Rows.{operation_row, operation_at, load_row, store_row, access_at}
+use Rattle.wasm_defs.proofs.EachOperation.{operation_row}
+use Rattle.body_laws.proofs.Rows.{operation_at, load_row, store_row, access_at}
 use Rattle.body_laws.proofs.spelling.opcodes_are_rows.Goals as goal
 
 pub returns : goal.returns
