@@ -32,19 +32,7 @@ others Return a b c d e n m = absurd (e refl)
 others (Call f) a b c d e n m = absurd cc
 others (CallIndirect i table) a b c d e n m = absurd cc
 others Nop a b c d e n m = refl
-others Discard a b c d e n m = refl
-others Select a b c d e n m = refl
-others (LocalGet x) a b c d e n m = refl
-others (LocalSet x) a b c d e n m = refl
-others (LocalTee x) a b c d e n m = refl
-others (GlobalGet x) a b c d e n m = refl
-others (GlobalSet x) a b c d e n m = refl
-others (Load op o) a b c d e n m = refl
-others (Store op o) a b c d e n m = refl
-others MemorySize a b c d e n m = refl
-others MemoryGrow a b c d e n m = refl
-others (Const t k) a b c d e n m = refl
-others (Operate op) a b c d e n m = refl
+others p a b c d e n m = refl
 
 -- ---- bytes
 

@@ -61,23 +61,7 @@ plain_names c (BrTable ls l) gs f fs e =
     let x = table_there (slice_get c.labels l) (λ ts. are_labels c.labels ts ls) f fs gs e in
     (all_below c.labels x.0 ls x.2, there_below l c.labels x.0 x.1)
 plain_names c Unreachable gs f fs e = tt
-plain_names c Nop gs f fs e = tt
-plain_names c Return gs f fs e = tt
-plain_names c (Call n) gs f fs e = tt
-plain_names c (CallIndirect i table) gs f fs e = tt
-plain_names c Discard gs f fs e = tt
-plain_names c Select gs f fs e = tt
-plain_names c (LocalGet x) gs f fs e = tt
-plain_names c (LocalSet x) gs f fs e = tt
-plain_names c (LocalTee x) gs f fs e = tt
-plain_names c (GlobalGet x) gs f fs e = tt
-plain_names c (GlobalSet x) gs f fs e = tt
-plain_names c (Load o m) gs f fs e = tt
-plain_names c (Store o m) gs f fs e = tt
-plain_names c MemorySize gs f fs e = tt
-plain_names c MemoryGrow gs f fs e = tt
-plain_names c (Const t n) gs f fs e = tt
-plain_names c (Operate o) gs f fs e = tt
+plain_names c p gs f fs e = tt
 
 -- in the frames the labels are theirs and those of the context
 labels_at : (c : Context) (fs : Frames) → c.labels ≡ [] → length (at c fs).labels ≡ length fs
@@ -88,10 +72,7 @@ step_names : (c : Context) (t : Token) (fs gs : Frames) → c.labels ≡ [] → 
 step_names c t [] gs none e = absurd cc
 step_names c (token.Plain p) (f ∷ fs) gs none e = subst (λ (n : ℕ). NamesPlain n p) (labels_at c (f ∷ fs) none) (plain_names (at c (f ∷ fs)) p gs f fs e)
 step_names c (token.Block t) (f ∷ fs) gs none e = tt
-step_names c (token.Loop t) (f ∷ fs) gs none e = tt
-step_names c (token.If t) (f ∷ fs) gs none e = tt
-step_names c token.Else (f ∷ fs) gs none e = tt
-step_names c token.End (f ∷ fs) gs none e = tt
+step_names c p (f ∷ fs) gs none e = tt
 
 pub names : (labels : List Pending) (check later : Checked) (t : Token) (left : ℕ) → AreTied labels check left → step_checker check.context t check.checker ≡ Some later.checker → NamesOpen (length labels) t
 names labels check later t left tied e =
@@ -114,11 +95,7 @@ step_count w c token.End q a b s = let n = count-more a.labels b.labels s.shape 
 
 depth_rises : (t : Token) (n : ℕ) → depth_after t n ≤ n + 1
 depth_rises (token.Plain p) n = omega arith
-depth_rises (token.Block t) n = omega arith
-depth_rises (token.Loop t) n = omega arith
-depth_rises (token.If t) n = omega arith
-depth_rises token.Else n = omega arith
-depth_rises token.End n = omega arith
+depth_rises p n = omega arith
 
 pub tied-after : (w : Around) (c : Context) (t : Token) (q : Place) (a b : Draft) (check later : Checked) (left fewer : ℕ) → fewer + 1 ≤ left → AreTied a.labels check left → Step w c t q a b
     → step_checker check.context t check.checker ≡ Some later.checker → later.context ≡ check.context → AreTied b.labels later fewer

@@ -125,10 +125,7 @@ own-count w c (token.Plain p) None d ends e = refl
 own-count w c (token.Plain p) (Some h) d ends e =
     words_size w c (counted (shapes d.labels)) (named (shapes d.labels) ends) h 0 (length d.words) p (alike-named (shapes d.labels) ends (e ∙ sym (length-map d.labels shape_of)))
 own-count w c (token.Block t) q d ends e = refl
-own-count w c (token.Loop t) q d ends e = refl
-own-count w c (token.If t) q d ends e = refl
-own-count w c token.Else q d ends e = refl
-own-count w c token.End q d ends e = refl
+own-count w c p q d ends e = refl
 
 -- behind a block its label is gone
 closed-behind : (b d : Draft) (s t : Shape) (ss : List Shape) → shapes b.labels ≡ s ∷ ss → shapes b.labels ≡ t ∷ shapes d.labels → shapes d.labels ≡ ss

@@ -38,10 +38,7 @@ token_sited : (o : Origin) (here left a : ℕ) (t : Token) (q : Place) → offse
 token_sited o here left a (token.Plain p) None e = refl
 token_sited o here left a (token.Plain p) (Some h) e = words_sited o here left a (trap_places p) e
 token_sited o here left a (token.Block t) q e = refl
-token_sited o here left a (token.Loop t) q e = refl
-token_sited o here left a (token.If t) q e = refl
-token_sited o here left a token.Else q e = refl
-token_sited o here left a token.End q e = refl
+token_sited o here left a p q e = refl
 
 -- behind some tokens
 walk_sited : (o : Origin) (front os : List ℕ) (w : Around) (c : Context) (ts : List Token) (qs : List Place) (old new : Draft) (x : Walk w c ts qs old new) → o.offsets ≡ front ++ os → length os ≡ length ts

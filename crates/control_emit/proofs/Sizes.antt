@@ -106,20 +106,7 @@ module _ (w : Around) where
       omega arith
   words_size c ls ms h here there Return a = jump_size h h here there (last_label w ls) (last_label w ms) (last_size ls ms a)
   words_size c ls ms h here there (Call f) a = refl
-  words_size c ls ms h here there (CallIndirect i table) a = refl
-  words_size c ls ms h here there Discard a = refl
-  words_size c ls ms h here there Select a = refl
-  words_size c ls ms h here there (LocalGet x) a = refl
-  words_size c ls ms h here there (LocalSet x) a = refl
-  words_size c ls ms h here there (LocalTee x) a = refl
-  words_size c ls ms h here there (GlobalGet x) a = refl
-  words_size c ls ms h here there (GlobalSet x) a = refl
-  words_size c ls ms h here there (Load o m) a = refl
-  words_size c ls ms h here there (Store o m) a = refl
-  words_size c ls ms h here there MemorySize a = refl
-  words_size c ls ms h here there MemoryGrow a = refl
-  words_size c ls ms h here there (Const t n) a = refl
-  words_size c ls ms h here there (Operate o) a = refl
+  words_size c ls ms h here there p a = refl
 
   -- ---- sequences
 
@@ -129,19 +116,11 @@ module _ (w : Around) where
 
   pub code_dead : (c : Context) (ls : List Label) (here : ℕ) (t : Seq) → code w c ls None here t ≡ []
   code_dead c ls here Nothing = refl
-  code_dead c ls here (Simple p rest) = refl
-  code_dead c ls here (Block type body rest) = refl
-  code_dead c ls here (Loop type body rest) = refl
-  code_dead c ls here (If type body rest) = refl
-  code_dead c ls here (IfElse type body other rest) = refl
+  code_dead c ls here p = refl
 
   pub size_dead : (c : Context) (ls : List Label) (t : Seq) → size w c ls None t ≡ 0
   size_dead c ls Nothing = refl
-  size_dead c ls (Simple p rest) = refl
-  size_dead c ls (Block type body rest) = refl
-  size_dead c ls (Loop type body rest) = refl
-  size_dead c ls (If type body rest) = refl
-  size_dead c ls (IfElse type body other rest) = refl
+  size_dead c ls p = refl
 
   pub size_is : (c : Context) (ls ms : List Label) (q : Place) (here : ℕ) (t : Seq) → AreAlike ls ms → size w c ls q t ≡ length (code w c ms q here t)
   size_is c ls ms None here t a = size_dead c ls t ∙ ap length (sym (code_dead c ms here t))

@@ -27,26 +27,7 @@ labelled c ls = record c { labels = ls }
 
 pub words_labelled : (w : Around) (c : Context) (ls : List Types) (labels : List Label) (h here : ℕ) (p : Plain) → words w c labels h here p ≡ words w (labelled c ls) labels h here p
 words_labelled w c ls labels h here Unreachable = refl
-words_labelled w c ls labels h here Nop = refl
-words_labelled w c ls labels h here (Br l) = refl
-words_labelled w c ls labels h here (BrIf l) = refl
-words_labelled w c ls labels h here (BrTable is l) = refl
-words_labelled w c ls labels h here Return = refl
-words_labelled w c ls labels h here (Call f) = refl
-words_labelled w c ls labels h here (CallIndirect i table) = refl
-words_labelled w c ls labels h here Discard = refl
-words_labelled w c ls labels h here Select = refl
-words_labelled w c ls labels h here (LocalGet x) = refl
-words_labelled w c ls labels h here (LocalSet x) = refl
-words_labelled w c ls labels h here (LocalTee x) = refl
-words_labelled w c ls labels h here (GlobalGet x) = refl
-words_labelled w c ls labels h here (GlobalSet x) = refl
-words_labelled w c ls labels h here (Load o m) = refl
-words_labelled w c ls labels h here (Store o m) = refl
-words_labelled w c ls labels h here MemorySize = refl
-words_labelled w c ls labels h here MemoryGrow = refl
-words_labelled w c ls labels h here (Const t n) = refl
-words_labelled w c ls labels h here (Operate o) = refl
+words_labelled w c ls labels h here p = refl
 
 pub shape_labelled : (c : Context) (ls : List Types) (t : BlockType) → shape (labelled c ls) t ≡ shape c t
 shape_labelled c ls Empty = refl
@@ -57,10 +38,7 @@ shape_labelled c ls (Index i) = refl
 
 pub after_dead : (r : Rule) → after_rule r None ≡ None
 after_dead Untyped = refl
-after_dead (Fixed from to) = refl
-after_dead (Stops from) = refl
-after_dead Discards = refl
-after_dead Selects = refl
+after_dead p = refl
 
 pub end_dead : (c : Context) (t : Seq) → end_of c t None ≡ None
 end_dead c Nothing = refl
@@ -95,11 +73,7 @@ ends_count ls = length-ends (shapes ls) ∙ length-map ls shape_of
 
 calls_dead : (w : Around) (c : Context) (ls : List Label) (here : ℕ) (t : Seq) → calls w c ls None here t ≡ []
 calls_dead w c ls here Nothing = refl
-calls_dead w c ls here (Simple p rest) = refl
-calls_dead w c ls here (Block type body rest) = refl
-calls_dead w c ls here (Loop type body rest) = refl
-calls_dead w c ls here (If type body rest) = refl
-calls_dead w c ls here (IfElse type body other rest) = refl
+calls_dead w c ls here p = refl
 
 calls_at : (w : Around) (c : Context) (q : Place) (t : Seq) (ls ms : List Label) (i j : ℕ) → ls ≡ ms → i ≡ j → calls w c ls q i t ≡ calls w c ms q j t
 calls_at w c q t ls ms i j e f = ap (λ (l : List Label). calls w c l q i t) e ∙ ap (λ (n : ℕ). calls w c ms q n t) f
@@ -113,11 +87,7 @@ both_lists {A} all first then_all second rest own next e f g h =
 
 traps_dead : (w : Around) (c : Context) (ls : List Label) (here behind : ℕ) (t : Seq) → traps w c ls None here behind t ≡ []
 traps_dead w c ls here behind Nothing = refl
-traps_dead w c ls here behind (Simple p rest) = refl
-traps_dead w c ls here behind (Block type body rest) = refl
-traps_dead w c ls here behind (Loop type body rest) = refl
-traps_dead w c ls here behind (If type body rest) = refl
-traps_dead w c ls here behind (IfElse type body other rest) = refl
+traps_dead w c ls here behind p = refl
 
 traps_at : (w : Around) (c : Context) (q : Place) (t : Seq) (ls ms : List Label) (i j m n : ℕ) → ls ≡ ms → i ≡ j → m ≡ n → traps w c ls q i m t ≡ traps w c ms q j n t
 traps_at w c q t ls ms i j m n e f g = ap (λ (l : List Label). traps w c l q i m t) e ∙ ap (λ (k : ℕ). traps w c ms q k m t) f ∙ ap (λ (k : ℕ). traps w c ms q j k t) g

@@ -95,13 +95,7 @@ module _ (w : Around) where
 
   operate_near : (h : ℕ) (op : Operation) → operate_words (near w) h op ≡ operate_words w h op
   operate_near h (Unary t op) = refl
-  operate_near h (Test t) = refl
-  operate_near h (Binary t op) = refl
-  operate_near h (Compare t op) = refl
-  operate_near h (Convert Wrap) = refl
-  operate_near h (Convert ExtendS) = refl
-  operate_near h (Convert ExtendU) = refl
-  operate_near h (Extend op) = refl
+  operate_near h p = refl
 
   -- a call's words
   call_fills : (h here function arguments : ℕ) → Fills w.distance_to here (record { place = here + 6; function = function } ∷ []) (call_words (near w) h here function arguments) (call_words w h here function arguments)

@@ -58,26 +58,11 @@ stores_in_range o = ((omega arith, omega arith, omega arith), tt)
 
 few_loaded : (o : LoadOp) → load_count o < 2 ^ 12
 few_loaded I32Load = omega arith
-few_loaded I64Load = omega arith
-few_loaded I32Load8S = omega arith
-few_loaded I32Load8U = omega arith
-few_loaded I32Load16S = omega arith
-few_loaded I32Load16U = omega arith
-few_loaded I64Load8S = omega arith
-few_loaded I64Load8U = omega arith
-few_loaded I64Load16S = omega arith
-few_loaded I64Load16U = omega arith
-few_loaded I64Load32S = omega arith
-few_loaded I64Load32U = omega arith
+few_loaded p = omega arith
 
 few_stored : (o : StoreOp) → store_count o < 2 ^ 12
 few_stored I32Store = omega arith
-few_stored I64Store = omega arith
-few_stored I32Store8 = omega arith
-few_stored I32Store16 = omega arith
-few_stored I64Store8 = omega arith
-few_stored I64Store16 = omega arith
-few_stored I64Store32 = omega arith
+few_stored p = omega arith
 
 shifted_in_range : AllInRange (Shift Srli t0 s2 16 ∷ [])
 unfolding IsInRange

@@ -76,15 +76,7 @@ global_got seen c fits =
 other_fits : (k : ℕ) (x : Item) → k ≢ 6 → section_of x ≡ k → ItemFits x
 other_fits k (Global ty mutable init) other e = absurd (other (sym e))
 other_fits k (Signature form params results ty) other e = tt
-other_fits k (Imported from what kind i) other e = tt
-other_fits k (Function i) other e = tt
-other_fits k (Table element limits) other e = tt
-other_fits k (Memory limits) other e = tt
-other_fits k (Exported name kind index) other e = tt
-other_fits k (Start index) other e = tt
-other_fits k (Element table place functions) other e = tt
-other_fits k (Code count end) other e = tt
-other_fits k (Segment memory place bytes) other e = tt
+other_fits k p other e = tt
 
 -- ---- entries
 

@@ -14,9 +14,7 @@ use Rattle.wasm_laws.proofs.Sorts.{notes, count_cons}
 
 space_last : (s : Seen) (l : ℕ) (kind : Extern) → space (record s { last = l }) kind ≡ space s kind
 space_last s l extern.Function = refl
-space_last s l extern.Table = refl
-space_last s l extern.Memory = refl
-space_last s l extern.Global = refl
+space_last s l p = refl
 
 keeps_last : (s : Seen) (l : ℕ) (x : Item) → Keeps s x → Keeps (record s { last = l }) x
 keeps_last s l (Signature form params results ty) h = h
@@ -33,16 +31,7 @@ keeps_last s l (Segment memory place bytes) h = h
 
 note_last : (s : Seen) (l : ℕ) (x : Item) → note (record s { last = l }) x ≡ record (note s x) { last = l }
 note_last s l (Signature form params results ty) = refl
-note_last s l (Imported from what kind type_index) = refl
-note_last s l (Function type_index) = refl
-note_last s l (Table element limits) = refl
-note_last s l (Memory limits) = refl
-note_last s l (Global ty mutable init) = refl
-note_last s l (Exported label kind index) = refl
-note_last s l (Start index) = refl
-note_last s l (Element table place functions) = refl
-note_last s l (Code count end) = refl
-note_last s l (Segment memory place bytes) = refl
+note_last s l p = refl
 
 pub all_keep_last : (s : Seen) (l : ℕ) (xs : List Item) → AllKeep s xs → AllKeep (record s { last = l }) xs
 all_keep_last s l [] h = tt

@@ -60,16 +60,7 @@ functions_are_few (Listed x ∷ parts) = one_item x (functions_are_few parts)
   where
     one_item : (x : Item) → length (functions_of (items_of parts)) ≤ length parts → length (functions_of (x ∷ items_of parts)) ≤ suc (length parts)
     one_item (Imported from what kind type_index) h = omega arith
-    one_item (Function type_index) h = omega arith
-    one_item (Signature form params results ty) h = omega arith
-    one_item (Table element limits) h = omega arith
-    one_item (Memory limits) h = omega arith
-    one_item (Global ty mutable init) h = omega arith
-    one_item (Exported label kind index) h = omega arith
-    one_item (Start index) h = omega arith
-    one_item (Element table place functions) h = omega arith
-    one_item (Code count end) h = omega arith
-    one_item (Segment memory place bytes) h = omega arith
+    one_item p h = omega arith
 functions_are_few (Coded b ∷ parts) = omega (arith, functions_are_few parts)
 
 pub bodies_are_few : (parts : List Part) → length (bodies_of parts) ≤ length parts

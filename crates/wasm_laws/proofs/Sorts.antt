@@ -162,16 +162,7 @@ row_is_plain id not_functions not_code =
 
 pub count_cons : (x : Item) (xs : List Item) → declared_count (x ∷ xs) ≡ declared_count (x ∷ []) + declared_count xs
 count_cons (Signature form params results ty) xs = omega arith
-count_cons (Imported from what kind type_index) xs = omega arith
-count_cons (Function type_index) xs = omega arith
-count_cons (Table element limits) xs = omega arith
-count_cons (Memory limits) xs = omega arith
-count_cons (Global ty mutable init) xs = omega arith
-count_cons (Exported label kind index) xs = omega arith
-count_cons (Start index) xs = omega arith
-count_cons (Element table place functions) xs = omega arith
-count_cons (Code count end) xs = omega arith
-count_cons (Segment memory place bytes) xs = omega arith
+count_cons p xs = omega arith
 
 -- what is seen with an item
 pub record Notes (s : Seen) (x : Item) : Type 0 where

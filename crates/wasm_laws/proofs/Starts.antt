@@ -67,16 +67,7 @@ from_use (Some u) later = from_index u.2 u.1 later
 
 start_by : (x : Item) (xs : List Item) → start_of (x ∷ xs) ≡ from_use (use_of x) (start_of xs)
 start_by (Signature form params results ty) xs = refl
-start_by (Imported from what kind type_index) xs = refl
-start_by (Function type_index) xs = refl
-start_by (Table element limits) xs = refl
-start_by (Memory limits) xs = refl
-start_by (Global ty mutable init) xs = refl
-start_by (Exported label kind index) xs = refl
-start_by (Start index) xs = refl
-start_by (Element table place functions) xs = refl
-start_by (Code count end) xs = refl
-start_by (Segment memory place bytes) xs = refl
+start_by p xs = refl
 
 abbrev IsRight : List Item → ℕ → Type 0
 IsRight items f = (t : FuncType) × (function_type (context_of items) f ≡ Some t) × TakesNothing t

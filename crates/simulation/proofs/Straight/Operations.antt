@@ -56,16 +56,7 @@ zero_among DivU t a b e = inl refl
 zero_among RemS t a b e = inl refl
 zero_among RemU t a b e = inl refl
 zero_among Add t a b e = absurd cc
-zero_among Sub t a b e = absurd cc
-zero_among Mul t a b e = absurd cc
-zero_among And t a b e = absurd cc
-zero_among Or t a b e = absurd cc
-zero_among Xor t a b e = absurd cc
-zero_among Shl t a b e = absurd cc
-zero_among ShrS t a b e = absurd cc
-zero_among ShrU t a b e = absurd cc
-zero_among Rotl t a b e = absurd cc
-zero_among Rotr t a b e = absurd cc
+zero_among p t a b e = absurd cc
 
 -- where the divisor is another one there is a number
 never_overflows : (b : Bool) (n : ℕ) → (if b then DividesByZero else Number n) ≡ Overflows → ⊥
@@ -78,16 +69,7 @@ overflow_among DivU t a b e = absurd (never_overflows (b == 0) (a / b) e)
 overflow_among RemS t a b e = absurd (never_overflows (b == 0) (unsigned t (int_rem (signed t a) (signed t b))) e)
 overflow_among RemU t a b e = absurd (never_overflows (b == 0) (a % b) e)
 overflow_among Add t a b e = absurd cc
-overflow_among Sub t a b e = absurd cc
-overflow_among Mul t a b e = absurd cc
-overflow_among And t a b e = absurd cc
-overflow_among Or t a b e = absurd cc
-overflow_among Xor t a b e = absurd cc
-overflow_among Shl t a b e = absurd cc
-overflow_among ShrS t a b e = absurd cc
-overflow_among ShrU t a b e = absurd cc
-overflow_among Rotl t a b e = absurd cc
-overflow_among Rotr t a b e = absurd cc
+overflow_among p t a b e = absurd cc
 
 overflow_ends : (t : ValType) → overflow_place t + 1 ≡ overflow_words t
 overflow_ends I32 = refl
