@@ -3,6 +3,11 @@ pub mod Flows
 pub mod Instructions
 pub mod Outcomes
 pub mod Lending
+pub mod Stretches
+pub mod StretchWords
+pub mod Keeping
+pub mod Machines
+pub mod Going
 pub use Rattle.rv_isa.specs.Words
 pub use Rattle.rv_isa.specs.Values
 pub use Rattle.rv_isa.specs.Steps

@@ -4,14 +4,22 @@
 mod arithmetic;
 mod bytes;
 mod execution;
+mod finding;
+mod going;
 mod immediate;
 mod instruction;
+mod kept;
 mod machine;
 mod outcome;
+mod pieces;
 mod regions;
 mod rows;
+mod single;
+mod stretch;
+mod templates;
 #[cfg(test)]
 mod tests;
+mod walk;
 
 pub use machine::Machine;
 pub use outcome::{Ran, Stepped};
