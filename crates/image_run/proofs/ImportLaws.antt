@@ -10,7 +10,8 @@ use Rattle.wasm_defs.specs.Host.{HostCall, Reply, Taken, Goes, Stops, taken}
 use Rattle.image_format.specs.Contents.{Image}
 use Rattle.image_format.specs.declared.image.Import.{Import}
 use Rattle.image_format.specs.Environment.{Entry}
-use Rattle.image_format.specs.ImageRun.{To, answered, slots_at, values_at}
+use Rattle.wasm_defs.specs.ModuleRun as run
+use Rattle.image_format.specs.ImageRun.{As, To, answered, slots_at, values_at}
 use Rattle.image_run.specs.declared.answer.Answer.TheVariants.{GoesOn, Over}
 use Rattle.image_run.specs.declared.outcome.Outcome.TheVariants.{HostStopped, Fault}
 use Rattle.image_run.specs.States.{at}
@@ -31,7 +32,7 @@ goes Stops slot pages old new calls replies more results later h = absurd h
 stops : (t : Taken) (slot pages : ℕ) (old new : Machine) (calls : List HostCall) (replies more : List Reply) (results : List ValType) (later : List (Entry × List ValType)) → Takes false t slot old new
     → Says (Over HostStopped) (at (state_of new) pages calls more results later) (answered (at (state_of old) pages calls replies results later) more slot t)
 stops (Goes values memory) slot pages old new calls replies more results later h = absurd h
-stops Stops slot pages old new calls replies more results later h = (tt, refl, refl)
+stops Stops slot pages old new calls replies more results later h = (tt, refl, ap (λ (m : Machine). As (run.Stops (take (page * pages) m.bytes.memory))) (sym h))
 
 module _ (H : Type 0) (Calls : H → HostCall → Reply → H → Type 0) (i : Image) (from : H) (old : Machine) (pages : ℕ) (is : reg (state_of old).registers 17 ≡ 3) where
   abbrev number : ℕ

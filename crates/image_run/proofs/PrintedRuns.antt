@@ -124,12 +124,12 @@ known_at (x ∷ is) (suc number) import known there = known_at is number import 
     behind true b e = e
     behind false b e = absurd cc
 
-stopped_by : (outcome : Outcome) (memory : List ℕ) (results : List Value) (end : Ending) → IsEnd outcome memory results end → end ≡ As Stops → outcome ≡ HostStopped
-stopped_by (outcome.Returned n) memory results end h e = absurd (let t : As Stops ≡ As (Returns results memory h.1) = sym e ∙ h.2 in cc)
-stopped_by (outcome.Trapped kind place) memory results end h e = absurd (let t : As Stops ≡ As (Traps kind place memory h.0) = sym e ∙ h.1 in cc)
-stopped_by outcome.StepsSpent memory results end h e = absurd (let t : As Stops ≡ As Going = sym e ∙ h in cc)
-stopped_by outcome.HostStopped memory results end h e = refl
-stopped_by (outcome.Fault kind pc) memory results end h e = absurd (let t : As Stops ≡ Fault kind pc = sym e ∙ h in cc)
+stopped_by : (outcome : Outcome) (memory at_call : List ℕ) (results : List Value) (end : Ending) → IsEnd outcome memory results end → end ≡ As (Stops at_call) → outcome ≡ HostStopped
+stopped_by (outcome.Returned n) memory at_call results end h e = absurd (let t : As (Stops at_call) ≡ As (Returns results memory h.1) = sym e ∙ h.2 in cc)
+stopped_by (outcome.Trapped kind place) memory at_call results end h e = absurd (let t : As (Stops at_call) ≡ As (Traps kind place memory h.0) = sym e ∙ h.1 in cc)
+stopped_by outcome.StepsSpent memory at_call results end h e = absurd (let t : As (Stops at_call) ≡ As Going = sym e ∙ h in cc)
+stopped_by outcome.HostStopped memory at_call results end h e = refl
+stopped_by (outcome.Fault kind pc) memory at_call results end h e = absurd (let t : As (Stops at_call) ≡ Fault kind pc = sym e ∙ h in cc)
 
 -- a run of an image with known imports alone ends in no other way
 pub printing_ends : (i : Image) (e : Export) (arguments : List Value) (n : ℕ) → has_unknown_import i.imports ≡ false → IsUnstopped (printing_run i e.offset e.signature.results arguments n).end
@@ -139,7 +139,7 @@ printing_ends i e arguments n known =
 unstopped : (i : Image) (e : Export) (arguments : List Value) (n : ℕ) (outcome : Outcome) (memory : List ℕ) (results : List Value) → has_unknown_import i.imports ≡ false
     → IsEnd outcome memory results (printing_run i e.offset e.signature.results arguments n).end → outcome ≢ HostStopped
 unstopped i e arguments n outcome memory results known h is =
-    let end : (printing_run i e.offset e.signature.results arguments n).end ≡ As Stops = subst (λ (o : Outcome). IsEnd o memory results (printing_run i e.offset e.signature.results arguments n).end) is h in
+    let end : (printing_run i e.offset e.signature.results arguments n).end ≡ As (Stops memory) = subst (λ (o : Outcome). IsEnd o memory results (printing_run i e.offset e.signature.results arguments n).end) is h in
     subst IsUnstopped end (printing_ends i e arguments n known)
 
 module _ (H : Type 0) (Answers : H → HostCall → Reply → H → Type 0) (imports : List Import) (IsOf : H → Type 0) (is_open : H → Bool) (written : H → Option (List ℕ)) (faults : H → ℕ)
@@ -306,9 +306,9 @@ module _ (H : Type 0) (Answers : H → HostCall → Reply → H → Type 0) (imp
           sym (take-append-drop (k + 1) ideal.calls) ∙ ap (λ (l : List HostCall). l ++ drop (k + 1) ideal.calls) (sym same ∙ front) in
           let printed_parts : printed imports ideal.calls ≡ printed imports q.front ++ (text ++ printed imports (drop (k + 1) ideal.calls)) = front_printed imports q.front q.call ideal.calls (drop (k + 1) ideal.calls) parts in
           let cut = front_cut (printed imports q.front) text (printed imports (drop (k + 1) ideal.calls)) q.count (omega (arith, q.inside)) in
-          let over : (run_of (goes i n (first i e arguments) (replicate k replied ++ Stop ∷ q.stops))).end ≡ As Stops =
+          let over : (m : List ℕ) × ((run_of (goes i n (first i e arguments) (replicate k replied ++ Stop ∷ q.stops))).end ≡ As (Stops m)) =
           stops_end i n (first i e arguments) (replicate k replied) q.stops (omega (arith, ap (λ (x : ImageRun). length x.calls) is_real, made, length-replicate k replied, ap length (first_calls i e arguments))) in
-          let stopped : outcome ≡ HostStopped = stopped_by outcome memory results real.end h.end (ap (λ (x : ImageRun). x.end) (sym is_real) ∙ over) in
+          let stopped : outcome ≡ HostStopped = stopped_by outcome memory over.0 results real.end h.end (ap (λ (x : ImageRun). x.end) (sym is_real) ∙ over.1) in
           rw rose (stopped, length (printed imports q.front) + q.count, q.written_is ∙ ap (append_known (written from)) (sym (ap (take (length (printed imports q.front) + q.count)) printed_parts ∙ cut)))
 
       pub prints_run : PrintsRun (nat_lt (faults from) (faults to)) imports ideal outcome memory results (written from) (written to)

@@ -25,23 +25,24 @@ with_replies r rs = record r { replies = rs }
 abbrev pub IsUnstopped : Ending → Type 0
 IsUnstopped (As (run.Returns values memory globals)) = Unit {0}
 IsUnstopped (As (run.Traps kind place memory globals)) = Unit {0}
-IsUnstopped (As run.Stops) = ⊥
+IsUnstopped (As (run.Stops memory)) = ⊥
 IsUnstopped (As run.Going) = Unit {0}
 IsUnstopped (As run.Fails) = ⊥
 IsUnstopped (image.Fault kind pc) = Unit {0}
 
 -- what a step comes to, behind these calls, whatever the replies are: the run goes on, or it ends, or it asks for a reply
-data Turn (i : Image) (calls : List HostCall) (f : List Reply → Stepping) : Type 0 where
+pub data Turn (i : Image) (calls : List HostCall) (f : List Reply → Stepping) : Type 0 where
   GoesOn : (r : Running) → r.calls ≡ calls → ((rs : List Reply) → f rs ≡ To (with_replies r rs)) → Turn i calls f
   Ends : (o : ImageRun) → o.calls ≡ calls → IsUnstopped o.end → ((rs : List Reply) → IsOver (f rs)) → ((rs : List Reply) → run_of (f rs) ≡ o) → Turn i calls f
   Asks : (r : Running) (made : HostCall) (number at : ℕ) (import : Import) → r.calls ≡ calls ++ made ∷ [] → slice_get i.imports number ≡ Some import
+      → made ≡ record { number = number; arguments = values_at r.machine.bytes.stack at import.signature.params; memory = memory_of r }
       → ((rs : List Reply) → f rs ≡ await_reply (with_replies r rs) import.signature.results at rs) → Turn i calls f
 
 abbrev grown_registers : Running → (more : ℕ) → Registers
 grown_registers r more = set_reg (set_reg r.machine.registers 10 r.pages) 18 (page * (r.pages + more))
 
 -- the machine behind a reply
-abbrev machine_behind : Running → (at : ℕ) → List Value → List ℕ → State
+abbrev pub machine_behind : Running → (at : ℕ) → List Value → List ℕ → State
 machine_behind r at values memory =
     let bytes = r.machine.bytes in
     record r.machine { bytes = record bytes { stack = with_results bytes.stack at values; memory = memory ++ drop (length memory) bytes.memory } }
@@ -73,7 +74,7 @@ module _ (i : Image) where
     asked_turn pc number import is None = unknown_turn pc
     asked_turn pc number import is (Some at) =
         let made : HostCall = record { number = number; arguments = values_at r.machine.bytes.stack at import.signature.params; memory = memory_of r } in
-        Asks (record r { calls = r.calls ++ made ∷ [] }) made number at import refl is (λ rs. refl)
+        Asks (record r { calls = r.calls ++ made ∷ [] }) made number at import refl is refl (λ rs. refl)
 
     import_turn : (pc number : ℕ) (import : Option Import) → slice_get i.imports number ≡ import → Turn i r.calls (λ rs. call_import (with_replies r rs) pc number import)
     import_turn pc number None is = unknown_turn pc
@@ -93,7 +94,7 @@ module _ (i : Image) where
   stepped_turn r (machine.Call s) = environment_turn (record r { machine = s }) r.machine.pc
   stepped_turn r (machine.Fault kind) = Ends (record { calls = r.calls; end = image.Fault kind r.machine.pc }) refl tt (λ rs. tt) (λ rs. refl)
 
-  next_turn : (r : Running) → Turn i r.calls (λ rs. next i (with_replies r rs))
+  pub next_turn : (r : Running) → Turn i r.calls (λ rs. next i (with_replies r rs))
   next_turn r = stepped_turn r (step (code_of_image i) r.machine)
 
   -- ---- the calls of a run begin with those that were made before
@@ -108,7 +109,7 @@ module _ (i : Image) where
   abbrev pub goes : ℕ → Running → List Reply → Stepping
   goes n r rs = steps i n (with_replies r rs)
 
-  over_on : (done : Stepping) (go : Running → Stepping) → IsOver done → on done go ≡ done
+  pub over_on : (done : Stepping) (go : Running → Stepping) → IsOver done → on done go ≡ done
   over_on (To r) go h = absurd h
   over_on (Ended r end) go h = refl
   over_on (Faulted r kind pc) go h = refl
@@ -121,7 +122,7 @@ module _ (i : Image) where
   taken_grows n r rs before at Stops all = ([], sym (append-nil r.calls))
   taken_grows n r rs before at (Goes values memory) all = all (record r { machine = machine_behind r at values memory }) rs
 
-  reply_grows : (n : ℕ) (r : Running) (results : List ValType) (at : ℕ) (rs before : List Reply) → GrowAll n → BeginWith r.calls (on (await_reply (with_replies r before) results at rs) (steps i n))
+  pub reply_grows : (n : ℕ) (r : Running) (results : List ValType) (at : ℕ) (rs before : List Reply) → GrowAll n → BeginWith r.calls (on (await_reply (with_replies r before) results at rs) (steps i n))
   reply_grows n r results at [] before all = ([], sym (append-nil r.calls))
   reply_grows n r results at (q ∷ qs) before all = taken_grows n r qs before at (taken results (memory_of r) q) all
 
@@ -129,7 +130,7 @@ module _ (i : Image) where
   turn_grows n calls f rs (GoesOn r same is) all = rw (is rs) (subst (λ (l : List HostCall). BeginWith l (goes n r rs)) same (all r rs))
   turn_grows n calls f rs (Ends o same end over is) all =
       rw (over_on (f rs) (steps i n) (over rs)) ([], ap (λ (x : ImageRun). x.calls) (is rs) ∙ same ∙ sym (append-nil calls))
-  turn_grows n calls f rs (Asks r made number at import same there is) all =
+  turn_grows n calls f rs (Asks r made number at import same there asks is) all =
       let b = reply_grows n r import.signature.results at rs rs all in
       rw (is rs) (made ∷ b.0, b.1 ∙ ap (λ (l : List HostCall). l ++ b.0) same ∙ append_assoc calls (made ∷ []) b.0)
 
@@ -177,7 +178,7 @@ module _ (i : Image) where
   turn_alike n k calls f p x y (Ends o same end over is) e all =
       rw (over_on (f (p ++ x)) (steps i n) (over (p ++ x))) (rw (over_on (f (p ++ y)) (steps i n) (over (p ++ y)))
       (ap (λ (z : ImageRun). take k z.calls) (is (p ++ x) ∙ sym (is (p ++ y)))))
-  turn_alike n k calls f p x y (Asks r made number at import same there is) e all =
+  turn_alike n k calls f p x y (Asks r made number at import same there asks is) e all =
       let size : length r.calls ≡ length calls + 1 = ap length same ∙ length-append calls (made ∷ []) in
       rw (is (p ++ x)) (rw (is (p ++ y)) (reply_alike n k r import.signature.results at p x y (p ++ x) (p ++ y) (omega (arith, e, size)) all))
 
@@ -216,7 +217,7 @@ module _ (i : Image) where
       rw (is p) (rw (is (p ++ y)) (all r p y here))
   turn_enough n calls f p y (Ends o same end over is) all few =
       rw (over_on (f p) (steps i n) (over p)) (rw (over_on (f (p ++ y)) (steps i n) (over (p ++ y))) (is (p ++ y) ∙ sym (is p)))
-  turn_enough n calls f p y (Asks r made number at import same there is) all few =
+  turn_enough n calls f p y (Asks r made number at import same there asks is) all few =
       let size : length r.calls ≡ length calls + 1 = ap length same ∙ length-append calls (made ∷ []) in
       let here = subst (λ (z : Stepping). length (calls_of (on z (steps i n))) ≤ length calls + length p) (is p) few in
       rw (is p) (rw (is (p ++ y)) (reply_enough n r import.signature.results at p y p (p ++ y) all (omega (arith, here, size))))
@@ -246,7 +247,7 @@ module _ (i : Image) where
       rw (is rs) (omega (arith, all r rs, ap length same))
   turn_few n calls f rs (Ends o same end over is) all =
       rw (over_on (f rs) (steps i n) (over rs)) (omega (arith, ap (λ (x : ImageRun). length x.calls) (is rs), ap length same))
-  turn_few n calls f rs (Asks r made number at import same there is) all =
+  turn_few n calls f rs (Asks r made number at import same there asks is) all =
       let size : length r.calls ≡ length calls + 1 = ap length same ∙ length-append calls (made ∷ []) in
       rw (is rs) (omega (arith, reply_few n r import.signature.results at rs rs all, size))
 
@@ -257,7 +258,7 @@ module _ (i : Image) where
   -- ---- a reply that stops the run, where it was asked for, ends it
 
   abbrev pub IsStopped : Stepping → Type 0
-  IsStopped done = (run_of done).end ≡ As run.Stops
+  IsStopped done = (memory : List ℕ) × ((run_of done).end ≡ As (run.Stops memory))
 
   abbrev pub StoppedAll : ℕ → Type 0
   StoppedAll n = (r : Running) (p x : List Reply) → length r.calls + length p < length (calls_of (goes n r (p ++ Stop ∷ x))) → IsStopped (goes n r (p ++ Stop ∷ x))
@@ -265,13 +266,13 @@ module _ (i : Image) where
   taken_stopped : (n : ℕ) (r : Running) (p x before : List Reply) (at : ℕ) (t : Taken) → StoppedAll n
       → length r.calls + length p < length (calls_of (on (answered (with_replies r before) (p ++ Stop ∷ x) at t) (steps i n)))
       → IsStopped (on (answered (with_replies r before) (p ++ Stop ∷ x) at t) (steps i n))
-  taken_stopped n r p x before at Stops all more = refl
+  taken_stopped n r p x before at Stops all more = (memory_of r, refl)
   taken_stopped n r p x before at (Goes values memory) all more = all (record r { machine = machine_behind r at values memory }) p x more
 
   reply_stopped : (n : ℕ) (r : Running) (results : List ValType) (at : ℕ) (p x before : List Reply) → StoppedAll n
       → length r.calls + length p ≤ length (calls_of (on (await_reply (with_replies r before) results at (p ++ Stop ∷ x)) (steps i n)))
       → IsStopped (on (await_reply (with_replies r before) results at (p ++ Stop ∷ x)) (steps i n))
-  reply_stopped n r results at [] x before all more = refl
+  reply_stopped n r results at [] x before all more = (memory_of r, refl)
   reply_stopped n r results at (q ∷ p) x before all more = taken_stopped n r p x before at (taken results (memory_of r) q) all (omega (arith, more))
 
   turn_stopped : (n : ℕ) (calls : List HostCall) (f : List Reply → Stepping) (p x : List Reply) → Turn i calls f → StoppedAll n
@@ -285,7 +286,7 @@ module _ (i : Image) where
       let here : length calls + length p < length (calls_of (f (p ++ Stop ∷ x))) =
       subst (λ (z : Stepping). length calls + length p < length (calls_of z)) (over_on (f (p ++ Stop ∷ x)) (steps i n) (over (p ++ Stop ∷ x))) more in
       absurd (omega (arith, here, ap (λ (z : ImageRun). length z.calls) (is (p ++ Stop ∷ x)), ap length same))
-  turn_stopped n calls f p x (Asks r made number at import same there is) all more =
+  turn_stopped n calls f p x (Asks r made number at import same there asks is) all more =
       let size : length r.calls ≡ length calls + 1 = ap length same ∙ length-append calls (made ∷ []) in
       let here = subst (λ (z : Stepping). length calls + length p < length (calls_of (on z (steps i n)))) (is (p ++ Stop ∷ x)) more in
       rw (is (p ++ Stop ∷ x)) (reply_stopped n r import.signature.results at p x (p ++ Stop ∷ x) all (omega (arith, here, size)))
@@ -313,7 +314,7 @@ module _ (i : Image) where
     turn_unstopped n calls f k (GoesOn r same is) all = rw (is (replicate k replied)) (all r k)
     turn_unstopped n calls f k (Ends o same end over is) all =
         rw (over_on (f (replicate k replied)) (steps i n) (over (replicate k replied))) (subst (λ (x : ImageRun). IsUnstopped x.end) (sym (is (replicate k replied))) end)
-    turn_unstopped n calls f k (Asks r made number at import same there is) all =
+    turn_unstopped n calls f k (Asks r made number at import same there asks is) all =
         rw (is (replicate k replied)) (reply_unstopped n r import.signature.results at k (replicate k replied) (none number import there) all)
 
     pub never_stopped : (n : ℕ) → UnstoppedAll n

@@ -17,7 +17,7 @@ abbrev pub IsEnd : Outcome → (memory : List ℕ) → (results : List Value) �
 IsEnd (Returned n) memory results end = (n ≡ length results) × (globals : List ℕ) × (end ≡ As (Returns results memory globals))
 IsEnd (Trapped kind place) memory results end = (globals : List ℕ) × (end ≡ As (Traps kind place memory globals))
 IsEnd StepsSpent memory results end = end ≡ As Going
-IsEnd HostStopped memory results end = end ≡ As Stops
+IsEnd HostStopped memory results end = end ≡ As (Stops memory)
 IsEnd (Fault kind pc) memory results end = end ≡ image.Fault kind pc
 
 -- an outcome tells how many results there are

@@ -35,7 +35,7 @@ pub fn find_export<'a>(image: &'a Image, name: &str) -> Option<&'a Export>
 }
 
 /// Whether the arguments are of these types, in order.
-pub(crate) fn are_of(arguments: &[Value], types: &[ValType]) -> bool
+pub fn are_of(arguments: &[Value], types: &[ValType]) -> bool
     ensures { result ≡ same_types (map type_of arguments.now) types.now }
 {
     if arguments.len() != types.len() {

@@ -21,8 +21,8 @@ mod test_images;
 mod tests;
 mod words;
 
-pub use checks::{NotRunnable, call_checks, find_export, run_checks};
+pub use checks::{NotRunnable, are_of, call_checks, find_export, run_checks};
 pub use host::{Host, Patch, Reply};
 pub use instance::Instance;
 pub use outcome::Outcome;
-pub use sink_host::{HostFunction, SinkHost};
+pub use sink_host::{HostFunction, SinkHost, function_at, print};

@@ -46,7 +46,7 @@ pub(crate) fn function_of(import: &Import) -> Option<HostFunction>
 }
 
 /// The function that the import of a number is, if there is one and it is one of these.
-fn function_at(image: &Image, number: u32) -> Option<HostFunction>
+pub fn function_at(image: &Image, number: u32) -> Option<HostFunction>
     ensures { result ≡ function_at image.now.imports number }
 {
     let import = image.imports.as_slice().get(number as usize)?;
@@ -68,7 +68,7 @@ fn print_number<O: Sink>(out: &mut O, number: i64) -> bool
 }
 
 /// Writes what a call of a function prints, and says whether the sink took it.
-fn print<O: Sink>(out: &mut O, function: Option<HostFunction>, arguments: &[Value]) -> bool
+pub fn print<O: Sink>(out: &mut O, function: Option<HostFunction>, arguments: &[Value]) -> bool
     requires { O.is_open out.old ≡ true }
     ensures text { WritesText result (text_of function (map value_of arguments.now)) (O.written out.old) (O.written out.new) (O.faults out.old) (O.faults out.new) }
     ensures on { result ≡ true → O.is_open out.new ≡ true }

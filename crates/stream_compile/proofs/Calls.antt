@@ -147,7 +147,7 @@ module _ (runs : ℕ → module_runs.Run) (image : ℕ → ImageRun) (n : ℕ) (
       by_end : (end : End) → (runs k).end ≡ end → (runs k).end ≡ Going
       by_end (Returns values memory globals) is = absurd (not_over k enough (subst IsOver (sym is) tt))
       by_end (Traps kind place memory globals) is = absurd (not_over k enough (subst IsOver (sym is) tt))
-      by_end Stops is = absurd (not_over k enough (subst IsOver (sym is) tt))
+      by_end (Stops memory) is = absurd (not_over k enough (subst IsOver (sym is) tt))
       by_end Going is = is
       by_end Fails is = absurd (alike.never_fails k is)
 
@@ -159,7 +159,7 @@ tells_end drill peek runs image n calls (As (Returns values memory globals)) o a
 tells_end drill peek runs image n calls (As (Traps kind place memory globals)) o alike stays is tells =
     let k = alike.ends_only n (Traps kind place memory globals) (ap (λ (r : ImageRun). r.end) is) tt in
     (k.0, same_run (runs k.0) calls (Traps kind place memory globals) (sym k.1 ∙ is), tells)
-tells_end drill peek runs image n calls (As Stops) o alike stays is tells = tells
+tells_end drill peek runs image n calls (As (Stops memory)) o alike stays is tells = tells
 tells_end drill peek runs image n calls (As Going) o alike stays is tells =
     let going = ap (λ (r : ImageRun). r.end) is in
     let k = alike.calls_lead n going in

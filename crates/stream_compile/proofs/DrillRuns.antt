@@ -96,8 +96,8 @@ module _ (n : ℕ) (m : Module) (most : n ≤ 50000) (drill : IsDrill n m) (i : 
   before few j memory globals (As (Traps kind place other words)) less most there is =
       let later = image_stays i offset results [] replies few j (Traps kind place other words) (omega (arith, less)) tt is in
       inl (memory, globals, sym later ∙ there)
-  before few j memory globals (As Stops) less most there is =
-      let later = image_stays i offset results [] replies few j Stops (omega (arith, less)) tt is in
+  before few j memory globals (As (Stops at_call)) less most there is =
+      let later = image_stays i offset results [] replies few j (Stops at_call) (omega (arith, less)) tt is in
       inl (memory, globals, sym later ∙ there)
   before few j memory globals (As Going) less most there is = inr (omega (arith, less, most), refl)
   before few j memory globals (As Fails) less most there is = absurd (alike.is_module_end few is)

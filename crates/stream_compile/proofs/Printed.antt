@@ -33,7 +33,7 @@ use Rattle.stream_compile.proofs.ImageCalls.{Begun, runs_as}
 some_line : (drill : Option ℕ) (peek : Option Peek) (end : Ending) → IsUnstopped end → (line : Outcome) × EndsAs drill peek end line
 some_line drill peek (As (Returns values memory globals)) h = (showing peek memory (returned_by drill values), refl)
 some_line drill peek (As (Traps kind place memory globals)) h = (showing peek memory (trapped kind place), refl)
-some_line drill peek (As Stops) h = absurd h
+some_line drill peek (As (Stops memory)) h = absurd h
 some_line drill peek (As Going) h = (steps_spent, refl)
 some_line drill peek (As Fails) h = absurd h
 some_line drill peek (Fault kind pc) h = (machine_fault kind pc, refl)

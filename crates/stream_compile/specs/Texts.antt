@@ -183,7 +183,7 @@ abbrev pub EndsAs : (drill : Option ℕ) → Option Peek → Ending → Outcome 
 EndsAs drill peek (As (Returns values memory globals)) o = o ≡ showing peek memory (returned_by drill values)
 EndsAs drill peek (As (Traps kind place memory globals)) o = o ≡ showing peek memory (trapped kind place)
 EndsAs drill peek (As Going) o = o ≡ steps_spent
-EndsAs drill peek (As Stops) o = ⊥
+EndsAs drill peek (As (Stops memory)) o = ⊥
 EndsAs drill peek (As Fails) o = ⊥
 EndsAs drill peek (Fault kind pc) o = o ≡ machine_fault kind pc
 
@@ -216,7 +216,7 @@ abbrev pub TellsEnd : (drill : Option ℕ) → Option Peek → (steps : ℕ) →
 TellsEnd drill peek steps calls (As (Returns values memory globals)) runs o = (k : ℕ) × (runs k ≡ record { calls = calls; end = Returns values memory globals }) × (o ≡ showing peek memory (returned_by drill values))
 TellsEnd drill peek steps calls (As (Traps kind place memory globals)) runs o = (k : ℕ) × (runs k ≡ record { calls = calls; end = Traps kind place memory globals }) × (o ≡ showing peek memory (trapped kind place))
 TellsEnd drill peek steps calls (As Going) runs o = (k : ℕ) × BeginsWith (runs k).calls calls × GoesOn steps runs × (o ≡ steps_spent)
-TellsEnd drill peek steps calls (As Stops) runs o = ⊥
+TellsEnd drill peek steps calls (As (Stops memory)) runs o = ⊥
 TellsEnd drill peek steps calls (As Fails) runs o = ⊥
 TellsEnd drill peek steps calls (Fault kind pc) runs o = ⊥
 

@@ -15,8 +15,8 @@ use Rattle.wasm_defs.specs.Instances.{instance_of, store_of, start_of}
 pub data End : Type 0 where
   Returns : (values : List Value) (memory globals : List ℕ) → End
   Traps : (kind : TrapKind) (place : Option Place) (memory globals : List ℕ) → End
-  -- the host stopped it
-  Stops : End
+  -- the host stopped it, at a call with this memory
+  Stops : (memory : List ℕ) → End
   -- it hasn't ended
   Going : End
   -- no rule applies
@@ -40,7 +40,7 @@ abbrev pub run_of : Step → Run
 run_of (To s) = ended (store_in s) Going
 run_of (Returned store values) = ended store (Returns values store.memory (words_of store.globals))
 run_of (Trapped store kind place) = ended store (Traps kind (Some place) store.memory (words_of store.globals))
-run_of (Stopped store) = ended store Stops
+run_of (Stopped store) = ended store (Stops store.memory)
 run_of (Waiting store) = ended store Going
 run_of Stuck = record { calls = []; end = Fails }
 
