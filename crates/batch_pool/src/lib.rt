@@ -1,7 +1,7 @@
 //! Tickets of batches, in queues from which idle workers steal.
 //!
-//! The feeder has a queue, and so has each hand. A hand takes from its own queue first, and then from the others:
-//! what it steals beside the ticket that it answers goes into its own queue. A worker has a hand, and serves what it takes.
+//! The feeder has a queue, and so has each hand. A hand takes from its own queue first, and then from the others: what it
+//! steals besides the ticket that it returns goes into its own queue. A worker has a hand, and serves what it takes.
 #![tactic(auto)]
 
 mod bodies;

@@ -42,7 +42,7 @@ fn fit_all(context: &Context, bodies: &LinkedList<Body>) -> bool
     true
 }
 
-/// Whether the board has a place for a batch, and its bodies fit.
+/// Whether the board has an entry for a batch, and its bodies fit.
 pub fn fits(board: &Board, context: &Context, ticket: &Ticket) -> bool
     ensures { IsTrue result ↔ Fits context.now board.now.functions ticket.now }
 {
@@ -59,7 +59,7 @@ fn enter<G: Gate>(gate: &G, number: u32) {
     }
 }
 
-/// Drains the batch where a fault before it was reported, or else claims it: whether it is this seat's to run.
+/// Drains the batch where an error before it was reported, or else claims it: whether it is this seat's to run.
 fn try_claim(board: &Board, seat: &mut BoardSeat, number: u32, start: u64) -> bool
     requires table { seat.old.table ≡ board.now.table }
     requires number { number < board.now.functions }
@@ -75,7 +75,7 @@ fn try_claim(board: &Board, seat: &mut BoardSeat, number: u32, start: u64) -> bo
     }
 }
 
-/// Reports a fault, if there is one.
+/// Reports an error, if there is one.
 fn report(board: &Board, seat: &mut BoardSeat, fault: Option<Refusal>)
     requires table { seat.old.table ≡ board.now.table }
     requires low { IfSome fault (λ r. r.offset < 2 ^ 60) }
@@ -113,8 +113,8 @@ fn run(
     Ok(row)
 }
 
-/// Takes a ticket that fits out of the work: its batch is drained where a fault before it was reported, or else run, unless another
-/// seat was first.
+/// Takes a ticket that fits out of the work: its batch is drained where an error before it was reported, or else run, unless
+/// another seat was first.
 pub fn serve_fitting<G: Gate>(
     alloc: Global,
     board: &Board,

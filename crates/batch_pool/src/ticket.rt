@@ -14,7 +14,7 @@ const FAR: u64 = 1 << 60;
 /// A batch that waits for a worker.
 #[derive(Drop)]
 pub struct Ticket {
-    /// How many batches stand before it.
+    /// How many batches come before it.
     pub number: u32,
     /// The offset of its first body's size, below 2^60.
     pub start: u64,
@@ -25,7 +25,7 @@ pub struct Ticket {
     ghost low: { IsLow (arc_value batch) },
 }
 
-// Whether a body has bytes, and its size and its end stand below 2^60.
+// Whether a body has bytes, and its size and its end are below 2^60.
 fn is_low_body(body: &Body) -> bool
     ensures { IsTrue result ↔ IsLowBody body.now }
 {

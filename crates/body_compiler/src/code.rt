@@ -24,13 +24,13 @@ use wasm_defs::{Kind, Refusal};
 /// Why a body isn't compiled.
 #[derive(Clone, Copy, Debug, PartialEq, Eq, Error)]
 pub enum BodyStop {
-    /// Its first fault.
+    /// Its first error.
     #[error("{:?} at byte {}", .0.kind, .0.offset)]
     Refused(Refusal),
-    /// It is valid, but the words of its function are more than a text may have. Not all of them were made.
+    /// It is valid, but the instruction words of its function are more than a text may have. Not all of them were made.
     #[error("more words than a text may have")]
     TooLong,
-    /// Memory was wanting.
+    /// Out of memory.
     #[error("out of memory")]
     NoMemory,
 }
@@ -56,8 +56,8 @@ pub(crate) fn stop_of(stop: Stop, last: u64) -> BodyStop
     }
 }
 
-/// Reads, checks and compiles the instruction behind an opcode at an offset, in a body whose last byte has the offset `last`, and notes
-/// where it traps. Once its code is too long, branches are only checked.
+/// Reads, checks and compiles the instruction after an opcode at an offset, in a body whose last byte has the offset `last`, and
+/// notes where it traps. Once its code is too long, branches are only checked.
 #[inline(always)]
 fn take_instruction(
     alloc: Global,
@@ -102,8 +102,8 @@ fn take_instruction(
     }
 }
 
-/// Judges and compiles the code of a body whose last byte has the offset `last`, and notes where it traps. Where its words are more
-/// than a text may have, it is judged to its end all the same, and not all of them are made.
+/// Validates and compiles the code of a body whose last byte has the offset `last`, and notes where it traps. Where its instruction
+/// words are more than a text may have, it is validated to its end all the same, and not all of them are made.
 pub fn judge_code(
     alloc: Global,
     fields: &mut Fields<'_>,

@@ -82,10 +82,10 @@ fn rows_of(context: &Context) -> u32
 
 /// Compiles the body of a function: its bytes are all there, and the first one has the offset.
 ///
-/// A body that is spelled rightly to its end (Core 5.4 and 5.5.13) and valid in the context (Core 3.4.1) becomes the words of its
-/// function (`Functions` of `frame_layout`), whose calls have no distances yet, the places of these calls, where its traps stand and what
-/// of the module traps there, and the number of slots that it needs.
-/// Any other body is refused with its first fault. Where memory is wanting it is neither.
+/// A body that is encoded correctly to its end (Core 5.4 and 5.5.13) and valid in the context (Core 3.4.1) becomes the instruction
+/// words of its function (`Functions` of `frame_layout`), whose calls have no distances yet, the indices of these calls, where its
+/// traps are and what of the module traps there, and the number of slots that it needs. Any other body is refused with its first
+/// error. Where memory runs out it is neither.
 pub fn compile(
     alloc: Global,
     context: &Context,

@@ -9,7 +9,8 @@ use rv_isa::TrapSite;
 use std::alloc::AllocError;
 use wasm_defs::Token;
 
-/// Notes the traps of a token of an offset, whose words stand behind these, at a place that is live or not.
+/// Notes the traps of a token with this offset, whose instruction words follow these, at a point that is
+/// reachable or not.
 pub fn note_token(
     sites: &mut Vec<TrapSite>,
     words: &[u32],

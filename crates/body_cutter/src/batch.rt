@@ -44,10 +44,10 @@ impl Bodies {
     }
 }
 
-/// Bodies that stand one behind another in the code section. It has one at least.
+/// Bodies that follow one another in the code section. There is at least one.
 #[derive(Drop)]
 pub struct Batch {
-    /// How many batches stand before it.
+    /// How many batches come before it.
     pub number: u32,
     /// The offset of its first body's size.
     pub start: u64,

@@ -56,6 +56,6 @@ pub struct Body {
     pub size: u64,
     /// The offset of the body's first byte.
     pub first: u64,
-    /// The body: its locals, its instructions and its `end`. They aren't judged.
+    /// The body: its locals, its instructions and its `end`. They aren't validated.
     pub bytes: BodyBytes,
 }

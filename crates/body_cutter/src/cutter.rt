@@ -11,7 +11,7 @@ use std::alloc::{AllocError, Global};
 use std::marker::Model;
 use wasm_defs::{FrontStop, Kind, Refusal};
 
-/// Cuts a code section into bodies, behind its count. Contracts see of it what it still hands over (`left`).
+/// Cuts a code section into bodies, after its count. Contracts see of it what it still hands over (`left`).
 #[derive(Drop)]
 pub struct Cutter {
     walk: Walk,
@@ -55,11 +55,11 @@ impl Cutter {
         }
     }
 
-    /// The next bytes. All that lie in the section are taken; it says how many. What they decide is told at once, and with no
-    /// bytes what is decided before the first one: that a section which has no room left owes a body.
+    /// The next bytes. All that are in the section are taken; it says how many. What they decide is reported at once, and with
+    /// no bytes what is decided before the first one: that a section with no room left lacks a body.
     ///
     /// # Errors
-    /// `Refused` where a size or the section's end is at fault (Core 5.5.13), and from then on, without taking memory, by each
+    /// `Refused` where a size or the section's end is wrong (Core 5.5.13), and from then on, without taking memory, by each
     /// later `feed` and `end`. `NoMemory` leaves the cutter as it was.
     pub fn feed(&mut self, bytes: &[u8]) -> Result<usize, FrontStop>
         ensures { Feeds self.old bytes.now result self.new }
@@ -77,7 +77,7 @@ impl Cutter {
         Ok(taken.len())
     }
 
-    /// Bytes that lie in the section.
+    /// Bytes that are in the section.
     fn take_in(&mut self, piece: &[u8]) -> Result<(), AllocError>
         requires going { self.old.place.stop ≡ None }
         requires inside { self.old.place.at + length piece.now ≤ self.old.place.end }
@@ -97,8 +97,8 @@ impl Cutter {
         Ok(())
     }
 
-    /// Whether the section is whole: all its bytes came, and it has no fault. Then no body is to come, and no bytes change
-    /// that. Where it has no fault and isn't whole, bytes of it are owed.
+    /// Whether the section is whole: all its bytes came, and it has no error. Then no body is to come, and no bytes change
+    /// that. Where it has no error and isn't whole, bytes of it are missing.
     pub fn is_whole(&self) -> bool
         ensures is { result ≡ is_whole self.now }
         ensures whole { result ≡ true → (more : List ℕ) → left self.now more ≡ record { queue = self.now.queue; ending = Whole } }
@@ -124,7 +124,7 @@ impl Cutter {
     /// The bytes ended, or their source failed. It takes no memory.
     ///
     /// # Errors
-    /// `Refused` where the section isn't whole: the fault that was told before, or else `Ended` at the number of bytes.
+    /// `Refused` where the section isn't whole: the error that was reported before, or else `Ended` at the number of bytes.
     pub fn end(&mut self) -> Result<(), FrontStop>
         ensures { Ends self.old result self.new }
     {

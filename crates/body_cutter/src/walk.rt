@@ -16,11 +16,11 @@ use std::collections::LinkedList;
 use std::mem::replace;
 use wasm_defs::{Kind, MAX_BODY, Refusal};
 
-/// Where reading stands in the section, and the bodies that were completed on the way.
+/// Where reading is in the section, and the bodies that were completed on the way.
 #[derive(Drop)]
 pub struct Walk {
     pub alloc: Global,
-    /// The index of the function behind the last body's.
+    /// The index of the function after the last body's.
     pub behind: u32,
     /// The offset where the section ends.
     pub end: u64,
@@ -40,7 +40,7 @@ pub struct Walk {
     pub bytes: Vec<u8>,
     /// The bodies that were completed.
     pub done: LinkedList<Body>,
-    /// The first fault.
+    /// The first error.
     pub stop: Option<Refusal>,
 }
 
@@ -60,7 +60,7 @@ fn natural(n: i128) -> u32
     n as u32
 }
 
-/// What is wrong with a size behind which the section has so many bytes.
+/// What is wrong with a size after which the section has so many bytes.
 fn size_fault(size: u32, room: u64) -> Option<Kind>
     ensures exact { result ≡ size_fault size room }
     ensures right { IfNone result ((2 ≤ size) × (size ≤ room) × (size ≤ 1048576)) }
@@ -87,7 +87,7 @@ pub struct Saved {
 }
 
 impl Walk {
-    /// Where the walk stands, to be put back where memory runs out on the way.
+    /// The state of the walk, to be put back where memory runs out on the way.
     pub fn save(&self) -> Saved
         ensures { result ≡ record { count = self.now.count; at = self.now.at; size_at = self.now.size_at; leb = self.now.leb; sized = self.now.sized; len = self.now.len; kept = length self.now.bytes.items } }
     {
@@ -102,7 +102,7 @@ impl Walk {
         }
     }
 
-    /// Puts the walk back where it stood, without copying bytes: those of the body in hand are the first ones that came.
+    /// Puts the walk back to a saved state, without copying bytes: those of the body in hand are the first ones that came.
     pub fn restore(&mut self, saved: Saved)
         ensures place { (self.new.count ≡ saved.count) × (self.new.at ≡ saved.at) × (self.new.size_at ≡ saved.size_at) × (self.new.leb ≡ saved.leb) × (self.new.sized ≡ saved.sized) × (self.new.len ≡ saved.len) }
         ensures bytes { self.new.bytes.items ≡ take saved.kept (first_bytes self.old.done self.old.bytes.items) }
@@ -131,7 +131,7 @@ impl Walk {
         self.bytes.truncate(kept);
     }
 
-    /// Whether no byte of the section can follow: it is whole, or has a fault.
+    /// Whether no byte of the section can follow: it is whole, or has an error.
     pub fn is_over(&self) -> bool
         requires { IsSound self.now }
         ensures { result ≡ is_over self.now }
@@ -139,7 +139,7 @@ impl Walk {
         self.stop.is_some() || (self.count == 0 && self.at == self.end)
     }
 
-    /// Before the first of so many bodies, whose size has the offset `at`. The index of the function behind the last body's
+    /// Before the first of so many bodies, whose size has the offset `at`. The index of the function after the last body's
     /// is `behind`.
     pub fn new(alloc: Global, behind: u32, count: u32, at: u64, end: u64) -> Self
         requires counted { count ≤ behind }
@@ -167,7 +167,7 @@ impl Walk {
         walk
     }
 
-    /// The next byte of a size, or one behind the last body.
+    /// The next byte of a size, or one after the last body.
     pub fn size_byte(&mut self, byte: u8)
         requires sound { IsSound self.old }
         requires in_size { self.old.sized ≡ false }
@@ -221,7 +221,7 @@ impl Walk {
         }
     }
 
-    /// Between two bodies: a size that is owed where the section has no byte left is malformed there.
+    /// Between two bodies: a size that is missing where the section has no byte left is malformed there.
     pub fn settle(&mut self)
         requires { IsBetween self.old }
         ensures same { (more : List ℕ) → given self.old more ≡ given self.new more }
@@ -314,7 +314,7 @@ impl Walk {
         Ok(rest)
     }
 
-    /// The next bytes, which lie in the section; those behind a fault change nothing. Where memory runs out, the bytes that
+    /// The next bytes, which are in the section; those after an error change nothing. Where memory runs out, the bytes that
     /// came before of the body in hand are still there.
     pub fn run(&mut self, bytes: &[u8]) -> Result<(), AllocError>
         requires sound { IsSound self.old }

@@ -1,5 +1,5 @@
-//! Laws of how a body's bytes are spelled (WebAssembly Core 1.0, 5.4 and 5.5.13): the reader reads what the grammar of
-//! `wasm_defs` spells, and the grammar has one reading of any bytes.
+//! Laws of the encoding of bodies (WebAssembly Core 1.0, 5.4 and 5.5.13): the reader reads what the grammar of
+//! `wasm_defs` encodes, and the grammar has one reading of any bytes.
 #![tactic(auto)]
 
 mod spelling;

@@ -29,39 +29,39 @@ pub fn opcodes_are_rows()
         (slice_get accesses (b - 0x28) ≡ Some (Some (Store op))) ↔ (store_code op ≡ b) }
 {}
 
-/// Bodies are what the grammar spells: of some tokens that nest, bytes are read whole as these groups and tokens, exactly
-/// where they spell them and the locals keep their limit.
+/// Bodies are what the grammar encodes: where tokens nest, bytes are read whole as some groups and these tokens exactly if the
+/// bytes are their encoding and the locals keep their limit.
 pub fn bodies_are_spelled()
     ensures { (first : ℕ) (bytes : List ℕ) (groups : List Group) (tokens : List (ℕ × Token)) (tree : Seq) →
         AreBytes bytes → Tree (tokens_of tokens) tree →
         IsReadAs groups tokens first bytes ↔ (Code groups tokens first bytes × LocalsAreFew groups) }
 {}
 
-/// The grammar has one reading of any bytes: groups and tokens that spell the same ones are the same.
+/// The grammar has one reading of any bytes: groups and tokens with the same encoding are the same.
 pub fn codes_are_one()
     ensures { (first : ℕ) (bytes : List ℕ) (gs hs : List Group) (ts us : List (ℕ × Token)) →
         Code gs ts first bytes → Code hs us first bytes → (gs ≡ hs) × (ts ≡ us) }
 {}
 
-/// Of wrong bytes the longest front is read: behind groups of locals that keep their limit, the tokens are those of a front
-/// that they spell, and what follows begins with no token, unless the body is closed before it. There the fault stands: at the
-/// opcode, or behind it at the first field that isn't spelled; or, where the bytes end before that field does, at the last one.
+/// Of wrong bytes the longest prefix is read: after groups of locals that keep their limit, the tokens are those that a prefix
+/// encodes, and what follows begins with no token, unless the body is closed before it. The error is there: at the opcode, or after
+/// it at the first field that isn't encoded; or, where the bytes end before that field does, at the last one.
 pub fn fronts_are_read()
     ensures { (first : ℕ) (front back : List ℕ) (groups : List Group) →
         AreBytes (front ++ back) → listed_vector_is group_is groups first front → LocalsAreFew groups →
         IsReadThrough groups (first + length front) back (last_of first (front ++ back)) (body_read first (front ++ back)) }
 {}
 
-/// Of bytes at whose front no groups of locals are spelled that keep their limit, nothing is read. Behind the fields of groups that
-/// are spelled stands one that isn't, and there stands the fault; or the bytes end in it, and it stands at the last one; or a count
-/// is spelled with which the locals pass their limit, and it stands at that count.
+/// Of bytes that don't begin with the encoding of groups of locals that keep their limit, nothing is read. After the fields of
+/// groups that are encoded comes one that isn't, and the error is there; or the bytes end in it, and the error is at the last one;
+/// or a count is encoded with which the locals pass their limit, and the error is at that count.
 pub fn wrong_locals_are_told()
     ensures { (first : ℕ) (bytes : List ℕ) → AreBytes bytes → BeginNoLocals first bytes →
         (r : Refusal) × (body_read first bytes ≡ no_code (stops (Some r))) × AreLocalsWrong first bytes (last_of first bytes) r }
 {}
 
-/// A module is what is spelled, its bodies too: the sections keep the grammar and the rules, and the bytes of each body spell
-/// the tokens of its tree, which is typed.
+/// A module is what is encoded, its bodies too: the sections keep the grammar and the rules, and the bytes of each body encode the
+/// tokens of its tree, which is typed.
 pub fn modules_have_spelled_bodies()
     ensures { (bytes : List ℕ) (m : Module) → AreBytes bytes →
         IsModule bytes m ↔ ((sections : List Section) × IsSpelledModule bytes m sections) }

@@ -24,8 +24,8 @@ use std::marker::Model;
 use thiserror::Error;
 use wasm_defs::{Kind, MAX_LOCALS, Refusal, Token, ValType};
 
-/// Where a token stands: whether the place before it is live, and the numbers of operands before and after it, those of the
-/// enclosing blocks among them. They count where their places are live: what follows `unreachable`, `br`, `br_table` or
+/// Where a token is: whether the point before it is reachable, and the numbers of operands before and after it, those of the
+/// enclosing blocks among them. They count where their points are reachable: what follows `unreachable`, `br`, `br_table` or
 /// `return` in a block is not.
 #[derive(Clone, Copy, Debug, PartialEq, Eq)]
 pub struct Step {
@@ -37,10 +37,10 @@ pub struct Step {
 /// Why a token or a group of locals isn't taken.
 #[derive(Clone, Copy, Debug, PartialEq, Eq, Error)]
 pub enum TokenStop {
-    /// No tokens behind it make a valid body, or the locals pass their limit.
+    /// No tokens after it make a valid body, or the locals pass their limit.
     #[error("{:?} at byte {}", .0.kind, .0.offset)]
     Refused(Refusal),
-    /// Memory was wanting.
+    /// Out of memory.
     #[error("out of memory")]
     NoMemory,
 }
@@ -61,7 +61,7 @@ impl<T: Drop> From<AllocFailed<T>> for TokenStop {
     }
 }
 
-/// What a body needs: its greatest live number of operands, and how many parameters and declared locals it has.
+/// What a body needs: its greatest number of operands at a reachable point, and how many parameters and declared locals it has.
 #[derive(Clone, Copy, Debug, PartialEq, Eq)]
 pub struct Shape {
     pub greatest: usize,
@@ -120,8 +120,8 @@ impl<'a> Check<'a> {
         })
     }
 
-    /// Takes a group of declared locals of one type, whose count stands at the offset, before the first token. It is refused
-    /// where the declared locals pass their limit. The check is then as before, as it is where memory is wanting.
+    /// Takes a group of declared locals of one type, whose count is at the offset, before the first token. It is refused where
+    /// the declared locals pass their limit. The check is then as before, as it is where memory runs out.
     pub fn local_group(&mut self, offset: u64, count: u32, t: ValType) -> Result<(), TokenStop>
         requires { self.old.checker ≡ start_checker self.old.context }
         ensures answer { IsGrouped offset count t result self.old self.new }
@@ -150,9 +150,9 @@ impl<'a> Check<'a> {
         }
     }
 
-    /// Takes the next token, which stands at the offset. It is refused exactly where no tokens behind it make a valid
-    /// body: as malformed where none make a grammatical one, and else as invalid. The check is then as before, as it is where
-    /// memory is wanting.
+    /// Takes the next token, which is at the offset. It is refused exactly where no tokens after it make a valid body: as
+    /// malformed where none make a grammatical one, and else as invalid. The check is then as before, as it is where memory
+    /// runs out.
     pub fn token(&mut self, offset: u64, token: &Token) -> Result<Step, TokenStop>
         ensures steps { Answered offset token.now result self.old self.new }
         ensures exact { (tokens : List TokenGiven) → IsReached tokens self.old

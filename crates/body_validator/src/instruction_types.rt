@@ -20,7 +20,7 @@ use wasm_defs::{
 #[derive(Clone, Copy)]
 pub enum Rule<'a> {
     Fixed(Taken<'a>, &'a [ValType]),
-    /// What follows is not live.
+    /// What follows is not reachable.
     Stops(Taken<'a>),
     Discards,
     Selects,

@@ -24,17 +24,17 @@ pub fn bodies_are_accepted()
     ensures { BodiesAreAccepted }
 {}
 
-/// Tokens spell one tree at most.
+/// Tokens are those of one tree at most.
 pub fn trees_are_one()
     ensures { TreesAreOne }
 {}
 
-/// It knows where a valid body is live, and how many operands lie there.
+/// It knows where a valid body is reachable, and how many operands it has there.
 pub fn places_are_kept()
     ensures { PlacesAreKept }
 {}
 
-/// It ends with the greatest live height of a valid body.
+/// It ends with the greatest reachable height of a valid body.
 pub fn heights_are_measured()
     ensures { HeightsAreMeasured }
 {}

@@ -14,7 +14,7 @@ pub struct Run {
     pub ty: ValType,
 }
 
-/// The locals of a function: its parameters, and behind them the declared ones in runs of one type, so that what a body declares
+/// The locals of a function: its parameters, and after them the declared ones in runs of one type, so that what a body declares
 /// takes room and time for each group and not for each local.
 #[derive(Drop)]
 pub struct Locals<'a> {
@@ -34,7 +34,7 @@ impl<'a> Model for Locals<'a> {
     ghost invariant = { λ l. AreRising (length l.params.now) l.runs.items };
 }
 
-/// Where the last run ends behind so many locals.
+/// Where the last run ends after so many locals.
 #[tactic(auto, using(crate::proofs::RunLaws::end_last))]
 fn end_of_last(start: usize, runs: &[Run]) -> usize
     ensures { result ≡ end_of start runs.now }
@@ -43,7 +43,7 @@ fn end_of_last(start: usize, runs: &[Run]) -> usize
     if n == 0 { start } else { runs[n - 1].end }
 }
 
-/// The type of a local, by the first run that ends behind it.
+/// The type of a local, by the first run that ends after it.
 fn type_in_runs(runs: &[Run], index: usize) -> Option<ValType>
     ensures { (start : ℕ) → AreRising start runs.now → start ≤ index
         → result ≡ slice_get (run_types start runs.now) (index - start) }

@@ -49,7 +49,7 @@ fn is_of_type(operand: Operand, t: ValType) -> bool
     }
 }
 
-/// Whether the topmost operands are of the types; where that is unknown, any others may lie below these.
+/// Whether the topmost operands are of the types; where that is unknown, any others may be below these.
 #[inline(always)]
 pub fn fits(own: &[Operand], unknown: bool, types: &[ValType]) -> bool
     ensures { result ≡ is_some (take_all unknown (reverse types.now) (reverse own.now)) }
@@ -69,7 +69,7 @@ pub fn fits(own: &[Operand], unknown: bool, types: &[ValType]) -> bool
     true
 }
 
-/// Takes so many operands, or all that lie above the base.
+/// Takes so many operands, or all that are above the base.
 #[inline(always)]
 pub fn remove(operands: &mut Vec<Operand>, base: usize, count: usize)
     requires { base ≤ vec_len operands.old }

@@ -63,7 +63,7 @@ fn push_frame<'a>(frames: &mut Vec<Frame<'a>>, frame: Frame<'a>)
     }
 }
 
-/// Whether what begins inside these frames is live.
+/// Whether what begins inside these frames is reachable.
 fn is_live_inside(frames: &[Frame<'_>]) -> bool
     ensures { result ≡ is_live_in (reverse frames.now) }
 {
@@ -175,7 +175,7 @@ impl<'a> Stack<'a> {
         }
     }
 
-    /// Whether the place here is live.
+    /// Whether this point is reachable.
     pub fn is_live(&self) -> bool
         ensures { result ≡ is_live self.now }
     {
@@ -220,7 +220,7 @@ impl<'a> Stack<'a> {
         exchange(&mut self.operands, frame.base, frame.unknown, taken, given)
     }
 
-    /// Takes operands, after which the place isn't live.
+    /// Takes operands, after which the point isn't reachable.
     pub fn stop(&mut self, taken: Taken<'_>) -> Result<(), Stop>
         ensures { Steps (applied (Stops (taken_types taken.entry)) self.old) result self.old self.new }
     {

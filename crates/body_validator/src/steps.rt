@@ -142,7 +142,7 @@ pub fn take<'a>(scope: &Scope<'a>, stack: &mut Stack<'a>, token: &Token) -> Resu
     }
 }
 
-/// The kind of the fault of a token that isn't taken: no tokens make an `else` that closes no `if`, or anything behind
+/// The kind of the error of a token that isn't taken: no tokens make an `else` that closes no `if`, or anything after
 /// the body's own `end`, grammatical.
 pub fn kind_of_fault(stack: &Stack<'_>, token: &Token) -> Kind
     ensures { result ≡ fault_kind token.now stack.now }

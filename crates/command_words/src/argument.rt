@@ -1,4 +1,4 @@
-//! Words that are arguments of a function.
+//! Arguments of a function, as the command line gives them.
 
 ghost use mir.Syntax.{w32, w64};
 ghost use Rattle.std.specs.Prelude.{◌≡◌};
@@ -16,7 +16,7 @@ pub enum Argument {
 /// The most digits that a number is written with.
 const MOST_DIGITS: usize = 20;
 
-/// Whether the text has no plus, and after a minus no more digits than may be.
+/// Whether the string has no plus, and after a minus no more digits than may be.
 fn is_plain(text: &str) -> bool
     ensures { result ≡ is_plain text.now }
 {
@@ -49,7 +49,7 @@ fn i64_of(text: &str) -> Option<i64>
 
 /// Reads `i32:N` or `i64:N`, where N is an optional minus and from 1 to 20 decimal digits, and a number of that signed type.
 ///
-/// `None` for any other word.
+/// `None` for any other string.
 pub fn argument_of(word: &str) -> Option<Argument>
     ensures reads { ReadsArgument word.now result }
     ensures value { result ≡ argument_in word.now }

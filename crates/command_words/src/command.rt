@@ -10,22 +10,24 @@ use std::alloc::{AllocError, AllocFailed};
 /// The options of each command on a module.
 #[derive(Clone, Copy, Debug, PartialEq, Eq)]
 pub struct Options {
-    /// The worker threads, from 0 to 64: 4 where the words say none.
+    /// The worker threads, from 0 to 64: 4 where the command line says none.
     pub workers: u64,
-    /// The most bytes of bodies that a worker is handed at a time, from 1 to 1,048,576: 4,096 where the words say none.
+    /// The most bytes of bodies that a worker is handed at a time, from 1 to 1,048,576: 4,096 where the command line
+    /// says none.
     pub batch: u64,
 }
 
 /// A call of an exported function.
 #[derive(Debug, Drop)]
 pub struct Call {
-    /// The name under which the function is exported: any text, also the empty one.
+    /// The name under which the function is exported: any string, also the empty one.
     pub export: Export,
-    /// What the function is called with, in the order of the words.
+    /// What the function is called with, in the order of the command line.
     pub arguments: Arguments,
-    /// The most steps that the call may take, from 0 to 1,000,000,000,000: 100,000,000 where the words say none.
+    /// The most steps that the call may take, from 0 to 1,000,000,000,000: 100,000,000 where the command line says
+    /// none.
     pub steps: u64,
-    /// Which bytes of the memory are shown behind the call, if any.
+    /// Which bytes of the memory are shown after the call, if any.
     pub peek: Option<Peek>,
 }
 
@@ -45,14 +47,14 @@ pub struct Drill {
     pub options: Options,
     /// How many functions the module has that each add a number, from 1 to 50,000.
     pub count: u64,
-    /// The most steps that the run may take, from 0 to 1,000,000,000,000: 100,000,000 where the words say none.
+    /// The most steps that the run may take, from 0 to 1,000,000,000,000: 100,000,000 where the command line says none.
     pub steps: u64,
 }
 
 /// A command of the program.
 #[derive(Debug, Drop)]
 pub enum Command {
-    /// `check`: judge the module.
+    /// `check`: validate the module.
     Check(Options),
     /// `compile`: compile the module to its image.
     Compile(Options),
@@ -64,10 +66,10 @@ pub enum Command {
     Drill(Drill),
 }
 
-/// Why words give no command.
+/// Why a command line gives no command.
 #[derive(Clone, Copy, Debug, PartialEq, Eq)]
 pub enum WordsStop {
-    /// The words are outside the command grammar.
+    /// The command line is outside the command grammar.
     Outside,
     /// Memory ran out.
     NoMemory,

@@ -1,4 +1,4 @@
-//! What the grammar says of any words.
+//! What the grammar says of any command line.
 
 ghost use Rattle.std.specs.Prelude.{◌≡◌, ◌⊎◌, ◌↔◌, ℕ, List, Some};
 ghost use Rattle.clap.specs.Walk.{Text};
@@ -11,8 +11,8 @@ ghost use Rattle.command_words.specs.declared.command.Command.{Command as Named}
 ghost use Rattle.command_words.specs.declared.command.Command.TheVariants as command;
 ghost use Rattle.command_words.specs.declared.command.Run.{Run};
 
-/// Any words are a command or outside the grammar, and not both; a command that they give is one, its numbers are in their
-/// ranges, and the arguments of a call are those that its words say.
+/// Any command line is a command or outside the grammar, and not both; the command that it gives is one, its numbers are
+/// in their ranges, and the arguments of a call are those that it says.
 pub fn commands_are_one()
     ensures total { (words : List Text) → ((c : Named) × IsCommand words c) ⊎ IsOutside words }
     ensures apart { (words : List Text) (c : Named) → IsCommand words c → IsOutside words → ⊥ }
@@ -24,7 +24,7 @@ pub fn commands_are_one()
         → AreArguments (call_words (subcommand_of program words)) c.arguments }
 {}
 
-/// A word is at most one argument, and `argument_in` computes which.
+/// A string is at most one argument, and `argument_in` computes which.
 pub fn arguments_are_one()
     ensures one { (word : List ℕ) (a b : Value) → IsArgument word a → IsArgument word b → a ≡ b }
     ensures computed { (word : List ℕ) (a : Value) → (argument_in word ≡ Some a) ↔ IsArgument word a }

@@ -1,4 +1,4 @@
-//! The words that the program is called with: its commands with their options, and the arguments of a function.
+//! The program's command line: its commands with their options, and the arguments of a function.
 #![tactic(auto)]
 
 mod argument;

@@ -1,4 +1,4 @@
-//! What a command keeps of its words, which contracts see as lists.
+//! What a command keeps of the command line, which contracts see as lists.
 
 ghost use Rattle.std.specs.Prelude.{◌≡◌, string_bytes};
 
@@ -58,21 +58,21 @@ impl Model for Export {
 }
 
 impl Export {
-    /// The list of the text's bytes.
+    /// The list of the string's bytes.
     pub fn new(name: String) -> Self
         ensures { result ≡ string_bytes name }
     {
         Export { name }
     }
 
-    /// The name as text.
+    /// The name as a string.
     pub fn as_str(&self) -> &str
         ensures { result.now ≡ self.now }
     {
         self.name.as_str()
     }
 
-    /// Gives the text back, without taking memory.
+    /// Gives the string back, without taking memory.
     pub fn into_string(self) -> String
         ensures { string_bytes result ≡ self }
     {

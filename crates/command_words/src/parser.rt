@@ -1,4 +1,4 @@
-//! The grammar of the words, as a parser of clap's.
+//! The grammar of the command line, as a parser of clap's.
 
 ghost use Rattle.std.specs.Prelude.{◌≡◌, IfOk, false};
 ghost use Rattle.clap.specs.Words.{app_of, rule_of};
@@ -99,7 +99,7 @@ fn compile<'a>(alloc: Global) -> Result<Parser<'a>, AllocError>
     with_options(alloc, Parser::new(alloc, "compile"))
 }
 
-/// The parser with the words of a call and its options.
+/// The parser with the arguments of a call and its options.
 fn with_words<'a>(alloc: Global, parser: Parser<'a>) -> Result<Parser<'a>, AllocError>
     ensures app { IfOk result (λ p. app_of p ≡ with_words (app_of parser.entry)) }
     ensures local { (out-Command parser.entry).has_globals ≡ false → IfOk result (λ p. (out-Command p).has_globals ≡ false) }

@@ -1,4 +1,4 @@
-//! The word that says which bytes of a memory are shown.
+//! The argument that says which bytes of a memory are shown.
 
 ghost use Rattle.std.specs.Prelude.{◌≡◌};
 ghost use Rattle.command_words.specs.Grammar.{is_short, peek_in, short_number};
@@ -8,7 +8,7 @@ use crate::reading::in_range;
 /// Which bytes of a memory are shown: from an address on, so many.
 #[derive(Clone, Copy, Debug, PartialEq, Eq)]
 pub struct Peek {
-    /// Where the first byte stands, from 0 to 4,294,967,295.
+    /// The address of the first byte, from 0 to 4,294,967,295.
     pub address: u64,
     /// How many bytes, from 1 to 4,096.
     pub count: u64,
@@ -17,7 +17,7 @@ pub struct Peek {
 /// The most digits that a number is written with.
 const MOST_DIGITS: usize = 10;
 
-/// Whether the text has no plus, and no more digits than may be.
+/// Whether the string has no plus, and no more digits than may be.
 fn is_short(text: &str) -> bool
     ensures { result ≡ is_short text.now }
 {
@@ -42,7 +42,7 @@ fn short_number(text: &str, least: u64, most: u64) -> Option<u64>
 
 /// Reads `A:N`, where A and N are from 1 to 10 decimal digits, A from 0 to 4,294,967,295 and N from 1 to 4,096.
 ///
-/// `None` for any other word.
+/// `None` for any other string.
 pub fn peek_of(word: &str) -> Option<Peek>
     ensures { result ≡ peek_in word.now }
 {

@@ -1,4 +1,4 @@
-//! What the words say, from what the parser found in them.
+//! What the command line says, from what the parser found in it.
 
 ghost use Rattle.std.specs.Prelude.{◌≡◌, codes, map, option_and_then, option_map, string_bytes};
 ghost use Rattle.clap.specs.Words.{first_of, found_of, one_of, rows_of, subcommand_rows_of};
@@ -46,7 +46,7 @@ fn options_in(matches: &ArgMatches<'_>) -> Option<Options>
     })
 }
 
-/// The arguments that the words are: `Outside` where one is none.
+/// The function's arguments that these strings are: `Outside` where one is none.
 fn arguments_of(alloc: Global, words: &[&str]) -> Result<Arguments, WordsStop>
     ensures { Gives (arguments_in (map (λ w. w.now) words.now)) result }
 {
@@ -82,7 +82,7 @@ fn found_peek<'a>(matches: &ArgMatches<'a>) -> Option<&'a str>
     matches.get_str("peek")
 }
 
-/// What the word of `--peek` says: `Outside` where it says nothing.
+/// What the argument of `--peek` says: `Outside` where it says nothing.
 fn peek_in(matches: &ArgMatches<'_>) -> Result<Option<Peek>, WordsStop>
     ensures { Gives (peek_said (found_peek (rows_of (found_of matches.now)))) result }
 {
@@ -142,16 +142,17 @@ fn command_in(alloc: Global, matches: &ArgMatches<'_>) -> Result<Command, WordsS
     }
 }
 
-/// Reads the command that the words give, of which the first is the program's name.
+/// Reads the command that a command line gives, whose first argument is the program's name.
 ///
-/// After it comes a subcommand: `check`, `compile`, `run EXPORT ARGS`, `exec EXPORT ARGS`, or `drill N`. EXPORT is one word of any
-/// text, and ARGS are any number of words, each `i32:N` or `i64:N` as `argument_of` reads them. `check`, `compile`, `run` and `drill`
-/// have the options `--workers N` and `--batch N`; `run`, `exec` and `drill` have `--steps N`; and `run` and `exec` have `--peek A:N`,
-/// which `peek_of` reads. An option may be written `--workers=N`, and comes once at most, before, between or behind the other words of
-/// its subcommand. N is decimal digits, before which a plus may stand. All words that follow a word `--` belong to EXPORT and ARGS, or
-/// are the N of `drill`. Words that ask for help are outside the grammar.
+/// After it comes a subcommand: `check`, `compile`, `run EXPORT ARGS`, `exec EXPORT ARGS`, or `drill N`. EXPORT is one argument,
+/// any string, and ARGS are any number of arguments, each `i32:N` or `i64:N` as `argument_of` reads them. `check`, `compile`, `run`
+/// and `drill` have the options `--workers N` and `--batch N`; `run`, `exec` and `drill` have `--steps N`; and `run` and `exec`
+/// have `--peek A:N`, which `peek_of` reads. An option may be written `--workers=N`, and comes once at most, before, between or
+/// after the other arguments of its subcommand. N is decimal digits, before which a plus may be. All arguments that follow a `--`
+/// belong to EXPORT and ARGS, or are the N of `drill`. A request for help is outside the grammar.
 ///
-/// `Outside` says that the words are outside the grammar, and `NoMemory`, which may come at any words, that memory ran out.
+/// `Outside` says that the command line is outside the grammar, and `NoMemory`, which may come with any command line, that memory
+/// ran out.
 pub fn command_of(alloc: Global, words: &Vec<String>) -> Result<Command, WordsStop>
     ensures reads { Reads (map string_bytes words.now.items) result }
     ensures value { Gives (command_in (map string_bytes words.now.items)) result }

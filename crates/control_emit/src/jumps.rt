@@ -1,4 +1,4 @@
-//! Runs of words of branches.
+//! Runs of instruction words of branches.
 
 ghost use Rattle.std.specs.Prelude.{◌≡◌, ◌+◌, ◌-◌, ◌*◌, ◌^◌, ◌<◌, ◌≤◌, ◌++◌, ◌∷◌, [], map, length, OnOk, OnErr};
 ghost use Rattle.rv_isa.specs.declared.operations.Op.TheVariants.{Branch as BranchGiven};
@@ -22,7 +22,7 @@ use std::alloc::AllocError;
 /// So many values are the most that one branch passes over, with the jump that takes them along.
 const MOST_PASSED: u32 = 170;
 
-/// The place of the word that is appended next.
+/// The index of the instruction word that is appended next.
 pub fn place_in(buffer: &WordBuffer) -> usize
     ensures is { result ≡ length buffer.now }
     ensures small { result < 2 ^ 62 }
@@ -30,7 +30,7 @@ pub fn place_in(buffer: &WordBuffer) -> usize
     buffer.as_slice().len()
 }
 
-/// Appends the words that move a value from one operand's slot to another's.
+/// Appends the instruction words that move a value from one operand's slot to another's.
 fn append_move(
     buffer: &mut WordBuffer,
     layout: &Layout,
@@ -47,8 +47,8 @@ fn append_move(
     buffer.append(&[a, b, c, d, e, f])
 }
 
-/// Appends the words that move so many values, from operand j upward to a label's base and upward, or for want of memory those of
-/// some.
+/// Appends the instruction words that move so many values, from operand j upward to a label's base and upward, or, if memory runs
+/// out, those of some.
 pub fn append_moves(
     buffer: &mut WordBuffer,
     layout: &Layout,
@@ -67,7 +67,7 @@ pub fn append_moves(
     Ok(())
 }
 
-/// Appends the words that bring the topmost of so many operands into t0.
+/// Appends the instruction words that bring the topmost of so many operands into t0.
 pub fn append_topmost(
     buffer: &mut WordBuffer,
     layout: &Layout,
@@ -80,7 +80,7 @@ pub fn append_topmost(
     buffer.append(&slot_load(Register::T0, layout.operand(height.saturating_sub(1))))
 }
 
-/// Appends the words that pass over a jump, which takes so many values along, where t0 is zero.
+/// Appends the instruction words that pass over a jump, which takes so many values along, where t0 is zero.
 pub fn append_unless(buffer: &mut WordBuffer, takes: u32) -> Result<(), AllocError>
     ensures ok { (w : Around) → OnOk result (buffer.new ≡ buffer.old ++ map word_of (unless_words w (length buffer.old) takes)) }
     ensures err { OnErr result (buffer.new ≡ buffer.old) }
@@ -98,7 +98,7 @@ pub fn append_unless(buffer: &mut WordBuffer, takes: u32) -> Result<(), AllocErr
     buffer.append(&[over, upper, lower])
 }
 
-/// Appends the words that pass over a jump where the topmost operand isn't zero, and a jump that leads to itself.
+/// Appends the instruction words that pass over a jump where the topmost operand isn't zero, and a jump that leads to itself.
 pub fn append_test(buffer: &mut WordBuffer, layout: &Layout, height: u32) -> Result<(), AllocError>
     requires { operand layout.now height < 2 ^ 32 }
     ensures ok { (w : Around) → w.layout ≡ layout.now → OnOk result (
@@ -113,7 +113,7 @@ pub fn append_test(buffer: &mut WordBuffer, layout: &Layout, height: u32) -> Res
     buffer.append(&[a, b, c, over, upper, lower])
 }
 
-/// Appends the words that make of an index in t0 the count, where it is no less.
+/// Appends the instruction words that make of an index in t0 the count, where it is no less.
 fn append_count(buffer: &mut WordBuffer, count: usize) -> Result<(), AllocError>
     ensures ok { OnOk result (buffer.new ≡ buffer.old ++ map word_of (count_words count)) }
     ensures err { OnErr result (buffer.new ≡ buffer.old) }
@@ -128,7 +128,8 @@ fn append_count(buffer: &mut WordBuffer, count: usize) -> Result<(), AllocError>
     ])
 }
 
-/// Appends the words that make of an index in t0 the bytes of so many jumps, each of which takes so many values along.
+/// Appends the instruction words that make of an index in t0 the bytes of so many jumps, each of which takes so many values
+/// along.
 fn append_scale(buffer: &mut WordBuffer, takes: u32) -> Result<(), AllocError>
     ensures ok { (w : Around) → OnOk result (buffer.new ≡ buffer.old ++ map word_of (scale_words w takes)) }
     ensures err { OnErr result (buffer.new ≡ buffer.old) }
@@ -143,7 +144,7 @@ fn append_scale(buffer: &mut WordBuffer, takes: u32) -> Result<(), AllocError>
     }
 }
 
-/// Appends the words that go so many bytes on from what stands behind them.
+/// Appends the instruction words that go so many bytes on from what follows them.
 fn append_choice(buffer: &mut WordBuffer) -> Result<(), AllocError>
     ensures ok { OnOk result (buffer.new ≡ buffer.old ++ map word_of choice_words) }
     ensures err { OnErr result (buffer.new ≡ buffer.old) }
@@ -162,7 +163,8 @@ fn append_choice(buffer: &mut WordBuffer) -> Result<(), AllocError>
     ]])
 }
 
-/// Appends the words that choose one of so many jumps, which take so many values along, or for want of memory those in front.
+/// Appends the instruction words that choose one of so many jumps, which take so many values along, or, if memory runs out, the
+/// first of them.
 pub fn append_front(
     buffer: &mut WordBuffer,
     layout: &Layout,

@@ -22,7 +22,7 @@ use std::alloc::{AllocError, Global};
 use std::marker::Model;
 use wasm_defs::Token;
 
-/// A label that is open. Places are in words from the function's first one.
+/// A label that is open. Indices count instruction words from the function's first one.
 #[derive(Clone, Copy)]
 pub struct Open {
     /// The height below the block.
@@ -31,7 +31,7 @@ pub struct Open {
     takes: u32,
     /// Where a loop begins.
     start: Option<u32>,
-    /// Where the jump of an `if` stands that had no `else` yet.
+    /// The index of the jump of an `if` that had no `else` yet.
     test: Option<u32>,
     /// The last of the jumps to the block's end, by its number among all jumps.
     last_jump: Option<u32>,
@@ -40,7 +40,7 @@ pub struct Open {
 /// A jump to a block's end, which isn't known yet.
 #[derive(Clone, Copy)]
 pub struct Jump {
-    /// Where it stands.
+    /// Its index.
     place: u32,
     /// The jump before it to the same end, by its number among all jumps.
     before: Option<u32>,
@@ -54,10 +54,10 @@ struct Goal {
     start: Option<u32>,
 }
 
-/// The labels of a function that are open, over the words so far, which all calls of one value take. Where the jumps stand whose
-/// place isn't known yet is kept in one list: there are no more of them than jumps to blocks' ends.
+/// The open labels of a function, over the instruction words so far, which all calls of one value take. The indices of the jumps
+/// whose target isn't known yet are kept in one list: there are no more of them than jumps to blocks' ends.
 ///
-/// Where a call answers that memory is wanting, the words and the labels are as they were.
+/// Where a call answers that memory ran out, the instruction words and the labels are as they were.
 #[derive(Drop)]
 pub struct Labels {
     labels: Vec<Open>,
@@ -75,7 +75,7 @@ impl Model for Labels {
     ghost invariant = { λ l. AreKept (length l.jumps.items) l.labels.items × AreLinked l.jumps.items };
 }
 
-/// A place or a number in 32 bits. Words that need more take 16 GiB, which counts as want of memory.
+/// An index or a number in 32 bits. Instruction words that need more take 16 GiB, which counts as out of memory.
 fn short(number: usize) -> Result<u32, AllocError>
     ensures { IfOk result (λ n. n ≡ number) }
 {
@@ -85,7 +85,7 @@ fn short(number: usize) -> Result<u32, AllocError>
     Ok(number as u32)
 }
 
-/// The jump at a place leads there.
+/// Lets the jump at an index lead there.
 fn patch(words: &mut WordBuffer, place: u32, there: usize)
     requires { place + 2 ≤ length words.old }
     ensures { words.new ≡ patched there place words.old }
@@ -161,7 +161,7 @@ fn count_named(labels: &[Open]) -> usize
     count
 }
 
-/// Appends a jump to a place that is known.
+/// Appends a jump to an index that is known.
 fn lead_back(buffer: &mut WordBuffer, place: usize) -> Result<(), AllocError>
     ensures ok { OnOk result (buffer.new ≡ buffer.old ++ map word_of (far (distance (length buffer.old) place))) }
     ensures err { OnErr result (buffer.new ≡ buffer.old) }
@@ -170,7 +170,7 @@ fn lead_back(buffer: &mut WordBuffer, place: usize) -> Result<(), AllocError>
     buffer.append(&far(here, place))
 }
 
-/// What a call came to: where memory was wanting, only so many words stay.
+/// What a call came to: where memory ran out, only so many instruction words stay.
 fn settled(
     buffer: &mut WordBuffer,
     start: usize,
@@ -250,7 +250,7 @@ impl Labels {
         Ok(())
     }
 
-    /// Opens the label of an `if` whose condition is the topmost of so many operands, and appends its words.
+    /// Opens the label of an `if` whose condition is the topmost of so many operands, and appends its instruction words.
     fn open_if(
         &mut self,
         buffer: &mut WordBuffer,
@@ -280,9 +280,9 @@ impl Labels {
         Ok(())
     }
 
-    /// Opens the block, loop or `if` of a token, where so many operands lie. Its label's base is the height below its
-    /// parameters, and a branch to it takes so many values along. The words of an `if` are appended where it is live. Where memory
-    /// is wanting the words and the labels are as they were.
+    /// Opens the block, loop or `if` of a token, with so many operands on the stack. Its label's base is the height below its
+    /// parameters, and a branch to it takes so many values along. The instruction words of an `if` are appended where it is
+    /// reachable. Where memory runs out the words and the labels are as they were.
     pub fn begin(
         &mut self,
         buffer: &mut WordBuffer,
@@ -331,8 +331,8 @@ impl Labels {
         }
     }
 
-    /// How many words the jumps to these labels have, one behind the other, wherever the open blocks end: two a jump, and six for each
-    /// value that it takes along.
+    /// How many instruction words the jumps to these labels have, one after the other, wherever the open blocks end: two a jump,
+    /// and six for each value that it takes along.
     pub fn jump_words(&self, labels: &[u32]) -> u128
         requires { AreBelow (length self.now) labels.now }
         ensures { (w : Around) (height here : ℕ) (ends : List Ends) → length ends ≡ length self.now → result ≡ length (jumps w height here (map (label_at w (named (shapes self.now) ends)) labels.now)) }
@@ -344,7 +344,7 @@ impl Labels {
         count
     }
 
-    /// Notes where a jump to the end of a label's block stands.
+    /// Notes the index of a jump to the end of a label's block.
     fn wait(&mut self, label: u32, place: usize) -> Result<(), AllocError>
         requires { label < length self.old }
         ensures ok { OnOk result (self.new ≡ jumping place label self.old) }
@@ -376,7 +376,7 @@ impl Labels {
         self.labels[index] = Open { last_jump, ..open };
     }
 
-    /// Lets go of the jumps behind the last one that a label names.
+    /// Lets go of the jumps after the last one that a label names.
     fn trim(&mut self)
         ensures { self.new ≡ self.old }
     {
@@ -395,7 +395,7 @@ impl Labels {
         self.trim();
     }
 
-    /// Takes the place where the jump of the innermost `if` stands, if it had no `else` yet.
+    /// Takes the index of the jump of the innermost `if`, if it had no `else` yet.
     fn take_test(&mut self) -> Option<u32>
         requires { 0 < length self.old }
         ensures { TakesTest result self.old self.new }
@@ -422,7 +422,7 @@ impl Labels {
         settled(buffer, here, outcome)
     }
 
-    /// Appends a jump to a label, or for want of memory some of its words.
+    /// Appends a jump to a label, or, if memory runs out, some of its instruction words.
     fn append_jump(
         &mut self,
         buffer: &mut WordBuffer,
@@ -448,8 +448,8 @@ impl Labels {
         }
     }
 
-    /// Appends a jump to a label, 0 being the innermost, where so many operands lie: `br`. Its values are the topmost ones. Where
-    /// memory is wanting the words and the labels are as they were.
+    /// Appends a jump to a label, 0 being the innermost, with so many operands on the stack: `br`. Its values are the topmost ones.
+    /// Where memory runs out the instruction words and the labels are as they were.
     pub fn jump(
         &mut self,
         buffer: &mut WordBuffer,
@@ -470,7 +470,7 @@ impl Labels {
         settled(buffer, start, outcome)
     }
 
-    /// Appends a jump that is made where the topmost operand isn't zero, or for want of memory some of its words.
+    /// Appends a jump that is made where the topmost operand isn't zero, or, if memory runs out, some of its instruction words.
     fn append_jump_if(
         &mut self,
         buffer: &mut WordBuffer,
@@ -492,8 +492,8 @@ impl Labels {
         self.append_jump(buffer, layout, height.saturating_sub(1), label)
     }
 
-    /// Appends a jump that is made where the topmost operand isn't zero: `br_if`. Where memory is wanting the words and the
-    /// labels are as they were.
+    /// Appends a jump that is made where the topmost operand isn't zero: `br_if`. Where memory runs out the instruction words and
+    /// the labels are as they were.
     pub fn jump_if(
         &mut self,
         buffer: &mut WordBuffer,
@@ -514,8 +514,8 @@ impl Labels {
         settled(buffer, start, outcome)
     }
 
-    /// Appends a jump to a label behind those to others, or for want of memory some of its words. The jumps to the others are taken
-    /// back then.
+    /// Appends a jump to a label after those to others, or, if memory runs out, some of its instruction words. The jumps to the
+    /// others are taken back then.
     fn append_next(
         &mut self,
         buffer: &mut WordBuffer,
@@ -543,7 +543,7 @@ impl Labels {
         }
     }
 
-    /// Appends jumps to labels, one behind the other, or for want of memory some of their words.
+    /// Appends jumps to labels, one after the other, or, if memory runs out, some of their instruction words.
     fn append_jumps(
         &mut self,
         buffer: &mut WordBuffer,
@@ -566,7 +566,7 @@ impl Labels {
         Ok(())
     }
 
-    /// Appends jumps to labels by an index, or for want of memory some of their words.
+    /// Appends jumps to labels by an index, or, if memory runs out, some of their instruction words.
     fn append_jump_table(
         &mut self,
         buffer: &mut WordBuffer,
@@ -591,7 +591,7 @@ impl Labels {
         self.append_next(buffer, layout, below, labels, last)
     }
 
-    /// Appends jumps to labels by an index, the topmost operand: `br_table`. Where memory is wanting the words and the
+    /// Appends jumps to labels by an index, the topmost operand: `br_table`. Where memory runs out the instruction words and the
     /// labels are as they were.
     pub fn jump_table(
         &mut self,
@@ -615,7 +615,7 @@ impl Labels {
         settled(buffer, start, outcome)
     }
 
-    /// Appends the jump past the second branch of the innermost `if`, where the end of its first one is live.
+    /// Appends the jump past the second branch of the innermost `if`, where the end of its first one is reachable.
     fn pass_over(&mut self, buffer: &mut WordBuffer, live: bool) -> Result<(), AllocError>
         requires held { IsHeld (draft self.old buffer.old) }
         requires some { 0 < length self.old }
@@ -629,8 +629,8 @@ impl Labels {
         Ok(())
     }
 
-    /// Goes over to the `else` of the innermost `if`. Where the end of its first branch is live, a jump to the block's end is appended.
-    /// Where memory is wanting the words and the labels are as they were.
+    /// Goes over to the `else` of the innermost `if`. Where the end of its first branch is reachable, a jump to the block's end is
+    /// appended. Where memory runs out the instruction words and the labels are as they were.
     pub fn otherwise(&mut self, buffer: &mut WordBuffer, live: bool) -> Result<(), AllocError>
         requires held { IsHeld (draft self.old buffer.old) }
         requires some { 0 < length self.old }

@@ -1,4 +1,4 @@
-//! The words of a jump, appended or patched where the place that it leads to is known.
+//! The instruction words of a jump, appended or patched where its target is known.
 
 ghost use Rattle.std.specs.Prelude.{◌≡◌, map};
 ghost use Rattle.rv_isa.specs.declared.operations.Op.TheVariants.{Auipc as AuipcGiven};
@@ -18,7 +18,7 @@ fn upper(distance: u64) -> Imm20
     Imm20::new(((low + 2048) / 4096 % 0x10_0000) as u32)
 }
 
-/// The word of AUIPC: that of LUI but for the opcode.
+/// The instruction word of AUIPC: that of LUI but for the opcode.
 #[inline(always)]
 #[tactic(auto, unfolding(rv_isa::specs::Words::word_of))]
 fn encode_auipc(rd: Register, imm: Imm20) -> u32
@@ -27,7 +27,7 @@ fn encode_auipc(rd: Register, imm: Imm20) -> u32
     encode_lui(rd, imm) - 0x20
 }
 
-/// A jump from one place to another.
+/// A jump from one index to another.
 #[inline(always)]
 pub fn far(here: usize, there: usize) -> [u32; 2]
     ensures { result ≡ map word_of (far (distance here there)) }

@@ -10,9 +10,9 @@ pub fn drills_return()
     ensures { DrillsReturn }
 {}
 
-/// The bytes of a drill are a module that is valid and keeps all limits: its functions are those
-/// that `drills_return` speaks of, it can be instantiated, and it exports the last of them alone, as `run` (Core 3.4.10 and 5.5).
-/// Its functions have 76 n + 46 words at most, far fewer than a text may have.
+/// The bytes of a drill are a module that is valid and keeps all limits: its functions are those that `drills_return` speaks of, it
+/// can be instantiated, and it exports the last of them alone, as `run` (Core 3.4.10 and 5.5). Its functions have 76 n + 46
+/// instruction words at most, far fewer than a text may have.
 pub fn drills_are_modules()
     ensures { DrillsAreModules }
 {}

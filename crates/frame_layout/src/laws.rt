@@ -2,22 +2,23 @@
 //! `specs/Laws.antt` states.
 ghost use Rattle.frame_layout.specs.Laws.{ConstLaw, LocalGetLaw, AddLaw, PrologueLaw, ExhaustionLaw, EpilogueLaw, ExitLaw, ImportLaw, ImportExhaustionLaw, ImportReturnLaw, TrapsLaw, SpacedLaw};
 
-/// A constant's words put it into the operand above those on the stack.
+/// A constant's instruction words put it into the operand above those on the stack.
 pub fn const_law()
     ensures { ConstLaw }
 {}
 
-/// The words of `local.get` copy a parameter or declared local into the operand above those on the stack.
+/// The instruction words of `local.get` copy a parameter or declared local into the operand above those on the stack.
 pub fn local_get_law()
     ensures { LocalGetLaw }
 {}
 
-/// The words of `i32.add` put the sum of the two uppermost operands in the place of the lower one.
+/// The instruction words of `i32.add` put the sum of the two uppermost operands in the place of the lower one.
 pub fn add_law()
     ensures { AddLaw }
 {}
 
-/// Where there is room for a function's slots, its first words keep the place to return to and clear the declared locals.
+/// Where there is room for a function's slots, its first instruction words keep the return address and clear the declared
+/// locals.
 pub fn prologue_law()
     ensures { PrologueLaw }
 {}
@@ -27,7 +28,8 @@ pub fn exhaustion_law()
     ensures { ExhaustionLaw }
 {}
 
-/// A function's last words bring its result, if there is one, to the frame's first slot, and lead to the place to return to.
+/// A function's last instruction words bring its result, if there is one, to the frame's first slot, and lead to the return
+/// address.
 pub fn epilogue_law()
     ensures { EpilogueLaw }
 {}
@@ -47,17 +49,17 @@ pub fn import_exhaustion_law()
     ensures { ImportExhaustionLaw }
 {}
 
-/// Behind the call it leads to the place to return to.
+/// After the call it leads to the return address.
 pub fn import_return_law()
     ensures { ImportReturnLaw }
 {}
 
-/// The traps of an instruction stand where its table says, wherever its words do.
+/// The traps of an instruction are where its table says, wherever its instruction words are.
 pub fn traps_law()
     ensures { TrapsLaw }
 {}
 
-/// The traps of a function stand apart, inside it.
+/// The traps of a function are apart, inside it.
 pub fn spaced_law()
     ensures { SpacedLaw }
 {}

@@ -1,8 +1,8 @@
-//! Where a function's values lie on the stack, and the words of each instruction.
+//! Where a function's values are on the stack, and the instruction words of each instruction.
 //!
-//! A frame's slots have eight bytes each: first the parameters and the declared locals, then the place to return to, then the
-//! operands. Register s0 has the address of the first slot. `specs/Templates.antt` has the words of the instructions, and
-//! `specs/Functions.antt` those of a function.
+//! A frame's slots have eight bytes each: first the parameters and the declared locals, then the return address, then the
+//! operands. Register s0 has the address of the first slot. `specs/Templates.antt` has the instruction words of the
+//! instructions, and `specs/Functions.antt` those of a function.
 #![tactic(auto)]
 
 mod laws;

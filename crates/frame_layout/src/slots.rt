@@ -1,4 +1,4 @@
-//! The words that move a slot of the frame.
+//! The instruction words that move a slot of the frame.
 
 ghost use Rattle.std.specs.Prelude.{◌≡◌, ◌<◌, ◌++◌, map, OnOk, OnErr};
 ghost use Rattle.rv_isa.specs.Words.{word_of};
@@ -8,7 +8,7 @@ use crate::macros::{slot_load, slot_store};
 use rv_isa::{Register, WordBuffer};
 use std::alloc::AllocError;
 
-/// Appends the words that load a slot into a register, or none for want of memory.
+/// Appends the instruction words that load a slot into a register, or none if memory runs out.
 pub fn load_slot(buffer: &mut WordBuffer, register: u8, slot: u32) -> Result<(), AllocError>
     requires { register < 32 }
     ensures ok { OnOk result (buffer.new ≡ buffer.old ++ map word_of (load_slot register slot)) }
@@ -17,7 +17,8 @@ pub fn load_slot(buffer: &mut WordBuffer, register: u8, slot: u32) -> Result<(),
     buffer.append_ops(&[&slot_load(Register::new(register), slot)])
 }
 
-/// Appends the words that store a register into a slot, or none for want of memory. They use t3.
+/// Appends the instruction words that store a register into a slot, or none if memory runs out.
+/// They use t3.
 pub fn store_slot(buffer: &mut WordBuffer, register: u8, slot: u32) -> Result<(), AllocError>
     requires { register < 32 }
     ensures ok { OnOk result (buffer.new ≡ buffer.old ++ map word_of (store_slot register slot)) }

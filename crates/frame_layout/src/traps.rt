@@ -1,4 +1,4 @@
-//! Where the traps of an instruction stand among its words.
+//! Where the traps of an instruction are among its instruction words.
 
 ghost use Rattle.std.specs.Prelude.{◌≡◌, ◌+◌, [], ◌∷◌, ◌++◌, map, length, OnOk};
 ghost use Rattle.frame_layout.specs.Traps.{division_places, trap_places, site_at};
@@ -40,8 +40,8 @@ fn note_division(
     }
 }
 
-/// Notes the traps of an instruction at a live place, whose words stand behind these: where each one's ECALL stands, and the offset of
-/// the instruction in the module.
+/// Notes the traps of an instruction at a reachable point, whose instruction words follow these: the index of each one's ECALL, and
+/// the offset of the instruction in the module.
 pub fn note_traps(
     sites: &mut Vec<TrapSite>,
     words: &[u32],

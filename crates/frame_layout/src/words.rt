@@ -1,5 +1,5 @@
-//! The words of runs of operations, for templates that are appended by one `WordBuffer::append`. Where the registers are known, a
-//! word is a constant and the bits of an offset.
+//! The instruction words of runs of operations, for templates that are appended by one `WordBuffer::append`. Where the registers
+//! are known, a word is a constant and the bits of an offset.
 
 ghost use Rattle.std.specs.Prelude.{◌≡◌, ◌/◌, ◌%◌, ◌*◌, ◌^◌, ◌<◌, map};
 ghost use Rattle.rv_isa.specs.Words.{word_of};
@@ -14,7 +14,7 @@ use rv_isa::{
 };
 use wasm_defs::TrapKind;
 
-/// A doubleword that stands at an offset behind the base comes into a register.
+/// A doubleword at an offset from the base comes into a register.
 #[inline(always)]
 #[tactic(auto, unfolding(rv_isa::specs::Words::word_of))]
 pub fn load_behind(rd: Register, base: Register, offset: u64) -> [u32; 3]
@@ -28,7 +28,7 @@ pub fn load_behind(rd: Register, base: Register, offset: u64) -> [u32; 3]
     ]
 }
 
-/// A register is stored as a doubleword at an offset behind the base. The address is made in another register.
+/// A register is stored as a doubleword at an offset from the base. The address is made in another register.
 #[inline(always)]
 #[tactic(auto, unfolding(rv_isa::specs::Words::word_of))]
 pub fn store_behind(rs2: Register, address: Register, base: Register, offset: u64) -> [u32; 3]

@@ -26,10 +26,10 @@ impl BodyCode {
     }
 }
 
-/// The fault of the text limit, where the codes of a module's declared functions, in the order of their indices, pass it.
+/// The error of the text limit, where the codes of a module's declared functions, in the order of their indices, pass it.
 ///
-/// In front of the codes stand the exit stub and the stubs of the imports. The fault is `Limit`, and stands at the size of the first
-/// body with whose code the text has more than 268,435,456 bytes.
+/// Before the codes come the exit stub and the stubs of the imports. The error is `Limit`, at the size of the first body with whose
+/// code the text has more than 268,435,456 bytes.
 pub fn text_limit(context: &Context, codes: &[BodyCode]) -> Option<Refusal>
     ensures { IsTextLimit context.now codes.now result }
 {

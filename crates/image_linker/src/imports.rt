@@ -1,4 +1,4 @@
-//! The imports of a module: their stubs, which stand in front of its functions, and the imports of its image.
+//! The imports of a module: their stubs, which come before its functions, and the imports of its image.
 
 ghost use Rattle.std.specs.Prelude.{◌≡◌, ◌≤◌, ◌<◌, ◌+◌, ◌*◌, ◌^◌, length, map, slice_get, IfOk};
 ghost use Rattle.wasm_defs.specs.Context.{type_or_empty};
@@ -16,10 +16,10 @@ use rv_isa::{Imm12, ImmOp, Op, Register, WordBuffer, encode};
 use std::alloc::{AllocError, Global};
 use table_calls::emit_import_stub;
 
-/// Words of the exit stub.
+/// Instruction words of the exit stub.
 const EXIT_WORDS: u32 = 2;
 
-/// Words of an import's stub.
+/// Instruction words of an import's stub.
 const STUB_WORDS: u32 = 18;
 
 /// The exit stub: a7 becomes 0, and the environment is called.
@@ -37,7 +37,7 @@ fn exit_stub() -> [u32; 2]
     ]
 }
 
-/// The number of words in front of the functions' codes, where so many functions are imported.
+/// The number of instruction words before the functions' codes, where so many functions are imported.
 pub(crate) fn front_of(imported: usize) -> u32
     requires { front_of imported < 2 ^ 32 }
     ensures { result ≡ front_of imported }
@@ -45,7 +45,7 @@ pub(crate) fn front_of(imported: usize) -> u32
     EXIT_WORDS + STUB_WORDS * imported as u32
 }
 
-/// The places of so many stubs, in words.
+/// The indices of so many stubs, in instruction words.
 pub(crate) fn stub_places(alloc: Global, imported: usize) -> Result<Vec<u32>, AllocError>
     requires { front_of imported < 2 ^ 32 }
     ensures { IfOk result (λ places. places.items ≡ stub_places (length exit_stub) imported) }
@@ -69,7 +69,7 @@ fn params_of(context: &Context, type_index: u32) -> u32
     }
 }
 
-/// The words in front of the functions' codes: the exit stub, and a stub for each import.
+/// The instruction words before the functions' codes: the exit stub, and a stub for each import.
 pub(crate) fn front(alloc: Global, context: &Context) -> Result<Vec<u32>, AllocError>
     requires { AreImports (map (linked_import context.now.types) context.now.imports) }
     ensures { IfOk result (λ text. text.items ≡ front_words context.now) }

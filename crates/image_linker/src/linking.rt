@@ -27,7 +27,7 @@ use rv_isa::{Relocation, encode};
 use std::alloc::{AllocError, Global};
 use wasm_defs::Extern;
 
-/// The place of a function, or 0 where it has none.
+/// The index of a function's first instruction word, or 0 where it has none.
 pub(crate) fn start_at(starts: &[u32], function: u32) -> u32
     ensures { result ≡ slice_index starts.now function }
 {
@@ -37,7 +37,7 @@ pub(crate) fn start_at(starts: &[u32], function: u32) -> u32
     }
 }
 
-/// Replaces the word at a place, if there is one.
+/// Replaces the instruction word at an index, if there is one.
 fn replace(words: &mut [u32], place: usize, word: u32)
     ensures { words.new ≡ slice_set words.old place word }
 {
@@ -46,7 +46,8 @@ fn replace(words: &mut [u32], place: usize, word: u32)
     }
 }
 
-/// Lets a call of a code, whose words begin at a place of the text, lead to its function, where functions begin at these places.
+/// Lets a call of a code, whose instruction words begin at an index of the text, lead to its function, where functions begin at
+/// these indices.
 fn lead(words: &mut [u32], call_to: &Relocation, starts: &[u32], here: usize)
     requires { here < 2 ^ 62 }
     ensures { words.new ≡ with_distance (distances starts.now here call_to.now.place call_to.now.function) call_to.now.place words.old }
@@ -61,7 +62,7 @@ fn lead(words: &mut [u32], call_to: &Relocation, starts: &[u32], here: usize)
     replace(words, place + 1, encode(lower));
 }
 
-/// Lets the calls of a code, whose words begin at a place of the text, lead to their functions.
+/// Lets the calls of a code, whose instruction words begin at an index of the text, lead to their functions.
 fn lead_all(words: &mut [u32], calls: &[Relocation], starts: &[u32], here: usize)
     requires { here < 2 ^ 62 }
     ensures { words.new ≡ with_distances (distances starts.now here) calls.now words.old }
@@ -71,7 +72,7 @@ fn lead_all(words: &mut [u32], calls: &[Relocation], starts: &[u32], here: usize
     }
 }
 
-/// Lets the calls of the code whose words stand in a text from a place on, to its end, lead to their functions.
+/// Lets the calls of the code whose instruction words are in a text from an index on, to its end, lead to their functions.
 fn lead_from(text: &mut [u32], calls: &[Relocation], starts: &[u32], here: usize)
     requires within { here ≤ length text.old }
     requires few { here < 2 ^ 62 }
@@ -80,7 +81,7 @@ fn lead_from(text: &mut [u32], calls: &[Relocation], starts: &[u32], here: usize
     lead_all(&mut text[here..], calls, starts, here);
 }
 
-/// The words of a text with the stubs and these codes, in order, where functions begin at these places.
+/// The instruction words of a text with the stubs and these codes, in order, where functions begin at these indices.
 fn text_of(
     alloc: Global,
     context: &Context,
@@ -100,7 +101,7 @@ fn text_of(
     Ok(text)
 }
 
-/// Where all functions begin in their text, in words: so many that are imported, and those of the codes.
+/// Where all functions begin in their text, in instruction words: so many that are imported, and those of the codes.
 fn starts_of(alloc: Global, imported: usize, codes: &[BodyCode]) -> Result<Vec<u32>, AllocError>
     requires { front_of imported + length (words_of (codes_of codes.now)) < 2 ^ 32 }
     ensures { IfOk result (λ starts. starts.items ≡ starts_behind imported (codes_of codes.now)) }
@@ -114,7 +115,7 @@ fn starts_of(alloc: Global, imported: usize, codes: &[BodyCode]) -> Result<Vec<u
     Ok(starts)
 }
 
-/// The exported functions, which have the places of their codes. Those of one type share it.
+/// The exported functions, which begin where their codes do. Those of one type share it.
 fn exports_of(
     alloc: Global,
     context: &Context,
@@ -147,7 +148,7 @@ fn is_linkable(context: &Context, segments: &[DataRow]) -> bool
         && have_room(first_minimum(context.memories()), segments)
 }
 
-/// The offset of the start function's first word, or 0 where there is none.
+/// The offset of the start function's first instruction word, or 0 where there is none.
 fn start_of(starts: &[u32], start: Option<u32>) -> u32
     requires { (i : ℕ) → slice_index starts.now i < 2 ^ 27 }
     ensures { result ≡ linked_start starts.now start }
@@ -160,11 +161,11 @@ fn start_of(starts: &[u32], start: Option<u32>) -> u32
 
 /// Links the codes of a module's declared functions, in the order of their indices, and its data segments to the module's image.
 ///
-/// Each call leads to its function, or to the stub of an imported one, and so do the rows of the table. The image tells of each trap
-/// in which function it comes from which offset. The text has at most 268,435,456 bytes, what is linked keeps the bounds of images, and
-/// the numbers of the globals' constants are of the globals' types. All segments are looked at before any is written: where one has no
-/// place in the table or the memory, the image has no row with a function and no data segment, and is marked as one that can't be
-/// instantiated.
+/// Each call leads to its function, or to the stub of an imported one, and so do the rows of the table. The image says of each trap
+/// from which function and which offset it comes. The text has at most 268,435,456 bytes, what is linked keeps the bounds of
+/// images, and the numbers of the globals' constants are of the globals' types. All segments are looked at before any is written:
+/// where one is out of bounds in the table or the memory, the image has no row with a function and no data segment, and is marked
+/// as one that can't be instantiated.
 pub fn link(
     alloc: Global,
     context: &Context,

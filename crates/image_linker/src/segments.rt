@@ -35,7 +35,7 @@ pub(crate) fn have_room(pages: u32, rows: &[DataRow]) -> bool
     true
 }
 
-/// The segments of an image: copies of the data segments where all have their places, and else none.
+/// The segments of an image: copies of the data segments where all are in bounds, and else none.
 pub(crate) fn placed_segments(
     alloc: Global,
     linkable: bool,

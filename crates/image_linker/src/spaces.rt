@@ -31,7 +31,7 @@ pub(crate) fn first_cap(memories: &[Limits]) -> u32
     }
 }
 
-/// The words of the values that the globals begin with: a number of 32 bits is extended by its sign.
+/// The 64-bit values that the globals begin with: a number of 32 bits is extended by its sign.
 pub(crate) fn global_words(alloc: Global, context: &Context) -> Result<Vec<u64>, AllocError>
     requires { NumbersFit context.now.globals context.now.initials }
     ensures { IfOk result (λ words. words.items ≡ global_words context.now) }

@@ -11,7 +11,7 @@ use image_format::Row;
 use index_spaces::{Context, ElementRow};
 use std::alloc::{AllocError, Global};
 
-/// The address of a text's first word.
+/// The address of a text's first instruction word.
 const TEXT_BASE: u64 = 0x1000_0000;
 
 /// Whether a table of so many rows has room for an element segment.
@@ -50,7 +50,7 @@ fn like_of(context: &Context, function: u32) -> u32
     }
 }
 
-/// The row of a function, where functions begin at these places of the text.
+/// The row of a function, where functions begin at these indices of the text.
 fn row_of(context: &Context, starts: &[u32], function: u32) -> Row
     ensures { result ≡ linked_row context.now starts.now function }
 {
@@ -68,7 +68,7 @@ fn set(rows: &mut [Row], at: usize, row: Row)
     rows[at] = row;
 }
 
-/// Writes the rows of functions over others, from a place on.
+/// Writes the rows of functions over others, from an index on.
 fn write(rows: &mut [Row], place: usize, functions: &[u32], context: &Context, starts: &[u32])
     requires { place + length functions.now ≤ length rows.old }
     ensures { rows.new ≡ over rows.old (place, map (linked_row context.now starts.now) functions.now) }
@@ -89,7 +89,7 @@ fn write_all(rows: &mut [Row], segments: &[ElementRow], context: &Context, start
     }
 }
 
-/// The rows of the table: those that element segments write where all segments of the module have their places, and else none has a
+/// The rows of the table: those that element segments write where all segments of the module are in bounds, and else none has a
 /// function.
 pub(crate) fn rows_of(
     alloc: Global,

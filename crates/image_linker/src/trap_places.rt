@@ -14,10 +14,10 @@ use index_spaces::{Context, Import};
 use rv_isa::TrapSite;
 use std::alloc::{AllocError, Global};
 
-/// The word at which a stub traps, behind its first one.
+/// The index of the instruction word at which a stub traps.
 const ROOM_TRAP: usize = 9;
 
-/// Where a trap comes from, of a function whose first word is at a place of the text.
+/// Where a trap comes from, of a function whose first instruction word is at an index of the text.
 fn place_at(here: u32, function: u32, site: &TrapSite) -> TrapPlace
     requires place { 4 * (here + site.now.place) < 2 ^ 32 }
     requires offset { site.now.offset < 2 ^ 32 }
@@ -30,7 +30,7 @@ fn place_at(here: u32, function: u32, site: &TrapSite) -> TrapPlace
     }
 }
 
-/// Puts where a function's traps come from behind other places.
+/// Appends where a function's traps come from to other places.
 fn put_sites(
     places: &mut Vec<TrapPlace>,
     here: u32,
@@ -46,7 +46,7 @@ fn put_sites(
     Ok(())
 }
 
-/// Puts where the traps of imports' stubs come from behind other places.
+/// Appends where the traps of imports' stubs come from to other places.
 fn put_stubs(places: &mut Vec<TrapPlace>, imports: &[Import]) -> Result<(), AllocError>
     requires stubs { front_of (length imports.now) < 2 ^ 32 }
     requires places { All IsShort (import_traps (length exit_stub) 0 imports.now) }

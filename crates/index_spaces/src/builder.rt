@@ -190,11 +190,11 @@ impl ContextBuilder {
         }
     }
 
-    /// Adds an item, which stands behind those that were added before. The code section's count changes nothing. A type has at most
-    /// 1,000 parameters and at most 1,000 results, as those of the items that were read of a module do.
+    /// Adds an item, which follows those that were added before. The code section's count changes nothing. A type has at most 1,000
+    /// parameters and at most 1,000 results, as those of the items that were read of a module do.
     ///
     /// `Refused` comes exactly where the item names a start function that isn't among the functions so far, or has parameters or
-    /// results, and where it is an import whose type isn't among the types so far, or has several results. Behind an `Err` the
+    /// results, and where it is an import whose type isn't among the types so far, or has several results. After an `Err` the
     /// context is as before.
     pub fn add(&mut self, item: &Item) -> Result<(), AddStop>
         requires { HasSmallType item.now }

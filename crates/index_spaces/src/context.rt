@@ -12,10 +12,10 @@ use std::alloc::{AllocError, Global};
 use std::marker::Model;
 use wasm_defs::{FuncType, GlobalType, Limits};
 
-/// A module's index spaces: its types, and what its functions may name of functions, tables, memories and globals, imported
-/// ones first (Core 3.1). An index is the place in its space, from 0 on. And what the module imports and exports, what its
-/// globals, its table and its memory begin with, and its start function (Core 2.5). Each type has at most 1,000 parameters and at
-/// most 1,000 results.
+/// A module's index spaces: its types, and what its functions may name of functions, tables, memories and globals, imported ones
+/// first (Core 3.1). An index is the position in its space, from 0 on. And what the module imports and exports, what its globals,
+/// its table and its memory begin with, and its start function (Core 2.5). Each type has at most 1,000 parameters and at most
+/// 1,000 results.
 #[derive(Drop)]
 pub struct Context {
     types: TypeSpace,
@@ -86,7 +86,7 @@ impl Context {
         Ok(())
     }
 
-    /// An imported function stands behind the functions that were added before, which are imported ones in a module.
+    /// An imported function follows the functions that were added before, which are imported ones in a module.
     pub(crate) fn add_import(&mut self, import: Import) -> Result<(), AllocError>
         ensures ok { OnOk result (self.new ≡ with_import self.old import) }
         ensures err { OnErr result (self.new ≡ self.old) }
@@ -212,7 +212,7 @@ impl Context {
         self.initials.as_slice()
     }
 
-    /// The imports in order (Core 2.5.11): an import's place is the index of its function.
+    /// The imports in order (Core 2.5.11): an import's position is the index of its function.
     pub fn imports(&self) -> &[Import]
         ensures { result.now ≡ self.now.imports }
     {

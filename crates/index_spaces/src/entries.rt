@@ -28,8 +28,8 @@ pub struct ElementRow {
     pub functions: Indices,
 }
 
-/// A data segment (Core 2.5.8): the byte of the memory that it begins at, and the bytes that it writes from there on. The place is
-/// the value of an `i32` constant as an unsigned number, so it is below 2^32 wherever the constant has that type's range.
+/// A data segment (Core 2.5.8): the byte of the memory that it begins at, and the bytes that it writes from there on. The address
+/// is the value of an `i32` constant as an unsigned number, so it is below 2^32 wherever the constant has that type's range.
 #[derive(Debug, Drop)]
 pub struct DataRow {
     pub place: u64,

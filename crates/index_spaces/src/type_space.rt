@@ -11,7 +11,7 @@ use std::collections::BTreeMap;
 use std::marker::Model;
 use wasm_defs::{FuncType, ValType};
 
-/// The byte that spells a value type (Core 5.3.1).
+/// The byte that encodes a value type (Core 5.3.1).
 fn type_code(ty: ValType) -> u8
     ensures { result ≡ type_code ty }
 {
@@ -30,7 +30,8 @@ fn push_codes(key: &mut Vec<u8>, types: &[ValType]) -> Result<(), AllocError>
     Ok(())
 }
 
-/// What tells a type from every other: the bytes of its parameters and of its results, with a zero between them.
+/// What distinguishes a type from every other: the bytes of its parameters and of its results, with a zero
+/// between them.
 fn key_of(alloc: Global, ty: &FuncType) -> Result<Vec<u8>, AllocError>
     ensures { IfOk result (λ key. key.items ≡ key_of ty.now) }
 {
@@ -62,7 +63,7 @@ impl Model for TypeSpace {
     ghost invariant = { λ s. AreFirst s.types.items s.likes.items s.firsts };
 }
 
-/// The least index of the key, which is the place if it had none.
+/// The least index of the key, which is `place` if it had none.
 fn first_at(
     firsts: &mut BTreeMap<Vec<u8>, usize>,
     key: Vec<u8>,
@@ -92,7 +93,7 @@ impl TypeSpace {
         }
     }
 
-    /// Adds a type, which stands behind the others.
+    /// Adds a type after the others.
     pub(crate) fn push(&mut self, ty: FuncType) -> Result<(), AllocError>
         ensures ok { OnOk result (self.new ≡ self.old ++ ty ∷ []) }
         ensures err { OnErr result (self.new ≡ self.old) }

@@ -25,7 +25,8 @@ fn extended(n: i32) -> u64
     }
 }
 
-/// Appends the words that put a constant behind so many operands, or none for want of memory.
+/// Appends the instruction words that put a constant on top of so many operands, or none if memory
+/// runs out.
 pub fn emit_const(
     buffer: &mut WordBuffer,
     layout: &Layout,

@@ -13,7 +13,8 @@ use rv_isa::{Imm12, Op, Register, WordBuffer};
 use std::alloc::AllocError;
 use wasm_defs::{ConvertOp, Operation, Plain, Token};
 
-/// The table of the conversions. An i32 stands extended by its sign, so that extension has no words.
+/// The table of the conversions. An i32 is kept extended by its sign, so that extension has no
+/// instruction words.
 fn convert(
     buffer: &mut WordBuffer,
     layout: &Layout,
@@ -37,7 +38,7 @@ fn convert(
     }
 }
 
-/// Appends the words of a conversion, or none for want of memory.
+/// Appends the instruction words of a conversion, or none if memory runs out.
 pub fn emit_convert(
     buffer: &mut WordBuffer,
     layout: &Layout,

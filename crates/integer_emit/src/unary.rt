@@ -20,7 +20,7 @@ use rv_isa::{ImmOp, Op, RegOp, Register, ShiftOp, WordBuffer};
 use std::alloc::AllocError;
 use wasm_defs::{Operation, Plain, Token, UnaryOp, ValType};
 
-/// t1 gets the bits of t0 that stand so many places higher.
+/// t1 gets the bits of t0 that are so many positions higher.
 fn higher(amount: u8) -> Op
     requires { amount < 2 ^ 6 }
     ensures { result ≡ ShiftGiven Srli t1 t0 amount }
@@ -49,7 +49,7 @@ fn masked() -> Op
     reg(RegOp::And, Register::T1, Register::T1, Register::T2)
 }
 
-/// Each bit is copied onto one that stands so many places lower.
+/// Each bit is copied onto the one that is so many positions lower.
 fn smear(amount: u8) -> [Op; 2]
     requires { amount < 2 ^ 6 }
     ensures { result ≡ smear amount }
@@ -57,7 +57,7 @@ fn smear(amount: u8) -> [Op; 2]
     [higher(amount), with_t1(RegOp::Or)]
 }
 
-/// Every bit below the uppermost one becomes a one: the number has as many zeros as stood before it.
+/// Every bit below the uppermost one becomes a one: the number has as many zeros as there were before it.
 fn smeared() -> [Op; 10]
     ensures { result ≡ smear 1 ++ (smear 2 ++ (smear 4 ++ (smear 8 ++ smear 16))) }
 {
@@ -115,8 +115,8 @@ fn trailing_32() -> [Op; 5]
     [a, b, c, x, y]
 }
 
-/// Appends a count of ones of the topmost operand, with other words before it and after it. Pairs of bits, then fours, then
-/// bytes become the numbers of their ones, and a product adds the bytes.
+/// Appends a count of ones of the topmost operand, with other instruction words before it and after it. Pairs of bits, then
+/// fours, then bytes become the numbers of their ones, and a product adds the bytes.
 fn count_ones(
     buffer: &mut WordBuffer,
     layout: &Layout,
@@ -182,7 +182,7 @@ fn count(
     }
 }
 
-/// Appends the words of a count of bits or of a sign extension, or none for want of memory.
+/// Appends the instruction words of a count of bits or of a sign extension, or none if memory runs out.
 pub fn emit_unary(
     buffer: &mut WordBuffer,
     layout: &Layout,

@@ -15,8 +15,9 @@ use std::marker::Model;
 
 /// A source over a reader, as standard input is.
 ///
-/// It counts the reader's errors. A read that a signal interrupted is no fault: it is made again, as
-/// std's own calls do. As a source it tells no bytes. A contract sees the reader and the count.
+/// It counts the reader's errors. A read that a signal interrupted is no error: it is made again, as
+/// std's own calls do. As a source it shows contracts no bytes. A contract sees the reader and the
+/// count.
 #[derive(Debug, Drop)]
 pub struct InputEdge<R> {
     inner: R,
@@ -32,7 +33,7 @@ impl<R> Model for InputEdge<R> {
 }
 
 impl<R: Read> InputEdge<R> {
-    /// A source over this reader. Its count of faults is 0.
+    /// A source over this reader. Its count of errors is 0.
     pub fn new(inner: R) -> Self
         ensures { result ≡ record { inner = inner; faults = 0 } }
     {
@@ -53,7 +54,7 @@ impl<R: Read> Source for InputEdge<R> {
         ensures cause { ReadCounts result self.old.faults self.new.faults }
         ensures never_falls { self.old.faults ≤ self.new.faults }
 
-        // A fault counts as one, until the end of the count's type.
+        // An error counts as one, until the end of the count's type.
         ensures once { result ≡ Got.Failed → self.new.faults ≡ one_more self.old.faults }
 
         // Where the reader's bytes are known, they are passed on.
@@ -89,9 +90,9 @@ fn read_uninterrupted<R: Read>(reader: &mut R, buf: &mut [u8]) -> io::Result<usi
 /// A sink over a writer, as standard output is.
 ///
 /// It counts the writer's errors, and a write that takes nothing as one. A write that a signal
-/// interrupted is no fault: it is made again, as std's own calls do. Nothing is flushed, so a writer
-/// with a buffer of its own holds bytes back. As a sink it tells no bytes. A contract sees the writer
-/// and the count.
+/// interrupted is no error: it is made again, as std's own calls do. Nothing is flushed, so a writer
+/// with a buffer of its own holds bytes back. As a sink it shows contracts no bytes. A contract sees
+/// the writer and the count.
 #[derive(Debug, Drop)]
 pub struct OutputEdge<W> {
     inner: W,
@@ -107,7 +108,7 @@ impl<W> Model for OutputEdge<W> {
 }
 
 impl<W: Write> OutputEdge<W> {
-    /// A sink over this writer. Its count of faults is 0.
+    /// A sink over this writer. Its count of errors is 0.
     pub fn new(inner: W) -> Self
         ensures { result ≡ record { inner = inner; faults = 0 } }
     {
@@ -128,7 +129,7 @@ impl<W: Write> Sink for OutputEdge<W> {
         ensures cause { WriteCounts result self.old.faults self.new.faults }
         ensures never_falls { self.old.faults ≤ self.new.faults }
 
-        // A fault counts as one, until the end of the count's type.
+        // An error counts as one, until the end of the count's type.
         ensures once { result ≡ Put.Failed → self.new.faults ≡ one_more self.old.faults }
 
         // Where the writer's bytes are known, they are passed on.

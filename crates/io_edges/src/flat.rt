@@ -4,7 +4,7 @@ ghost use Rattle.io_edges.specs.Streams.{Reads};
 use crate::source::{Got, Source};
 use std::marker::Model;
 
-/// A source over a slice. It never fails: its count of faults is always 0.
+/// A source over a slice. It never fails: its count of errors is always 0.
 ///
 /// A contract sees it as the list of the bytes left.
 #[derive(Debug, Drop)]

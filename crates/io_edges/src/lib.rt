@@ -1,15 +1,15 @@
 //! Where bytes come from and where they go.
 //!
-//! A [`Source`] is read and a [`Sink`] is written. Each keeps a count of its faults, so that a caller
-//! can tell whether a call ended by a fault: the count **rose** in the call where it is greater at
-//! the call's end than at its start, or stands at 2^64 - 1, the end of its type.
+//! A [`Source`] is read and a [`Sink`] is written. Each keeps a count of its errors, so that a caller
+//! can tell whether a call ended by an error: the count **rose** in the call where it is greater at
+//! the call's end than at its start, or is 2^64 - 1, the end of its type.
 //!
 //! - In memory: [`Flat`] and [`Pieces`] are sources whose bytes a contract knows, and [`Page`] is a
 //!   sink that keeps what was written.
-//! - Real: [`InputEdge`] and [`OutputEdge`] stand over a reader and a writer, as standard input and
+//! - Real: [`InputEdge`] and [`OutputEdge`] are over a reader and a writer, as standard input and
 //!   output are. No contract knows their bytes.
 //! - A [`Gate`] lets a caller hold workers back, and [`OpenGate`] never does.
-//! - [`read_all`] and [`write_all`] read and write whole inputs and texts.
+//! - [`read_all`] and [`write_all`] read and write whole inputs and outputs.
 #![tactic(auto)]
 
 mod edges;

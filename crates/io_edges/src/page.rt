@@ -6,7 +6,7 @@ use std::marker::Model;
 
 /// A sink that keeps what was written, up to a number of bytes.
 ///
-/// A contract sees the bytes, how many there can be, and its count of faults.
+/// A contract sees the bytes, how many there can be, and its count of errors.
 #[derive(Debug, Drop)]
 pub struct Page {
     bytes: Vec<u8>,
@@ -26,9 +26,9 @@ impl Model for Page {
 }
 
 impl Page {
-    /// An empty page, on which a write fails exactly where `fails_at` bytes stand.
+    /// An empty page, on which a write fails exactly where it holds `fails_at` bytes.
     ///
-    /// It takes the memory for that many bytes, so no write wants any.
+    /// It takes the memory for that many bytes, so no write takes any.
     pub fn new(alloc: Global, fails_at: usize) -> Result<Self, AllocError>
         ensures { IfOk result (λ page. page ≡ record { bytes = []; limit = fails_at; faults = 0 }) }
     {
@@ -63,7 +63,7 @@ impl Sink for Page {
         ensures cause { WriteCounts result self.old.faults self.new.faults }
         ensures never_falls { self.old.faults ≤ self.new.faults }
 
-        // Nothing changes but the bytes, or at `Failed` the count of faults.
+        // Nothing changes but the bytes, or at `Failed` the count of errors.
         ensures after { self.new ≡ after_write result piece.now self.old }
         ensures fails { (result ≡ Put.Failed) ↔ (length self.old.bytes ≡ self.old.limit) }
         ensures limit { length self.new.bytes ≤ self.new.limit }

@@ -9,8 +9,8 @@ use std::marker::Model;
 /// A read gives bytes of one piece at most, so the pieces say how an input is cut. An empty piece
 /// gives nothing, and the read goes on to the next one.
 ///
-/// A contract sees all the bytes, where each piece ends in them, how many were given, after how
-/// many it fails, and its count of faults.
+/// A contract sees all the bytes, where each piece ends in them, how many were given, after how many
+/// it fails, and its count of errors.
 #[derive(Debug, Drop)]
 pub struct Pieces {
     whole: Vec<u8>,
@@ -84,7 +84,7 @@ impl Source for Pieces {
         ensures cause { ReadCounts result self.old.faults self.new.faults }
         ensures never_falls { self.old.faults ≤ self.new.faults }
 
-        // Nothing changes but the number of bytes given, or at `Failed` the count of faults.
+        // Nothing changes but the number of bytes given, or at `Failed` the count of errors.
         ensures after { self.new ≡ after_read result self.old }
         ensures fails { (result ≡ Got.Failed) ↔ (self.old.fails_at ≡ Some self.old.given) }
         ensures limit { IfSome self.new.fails_at (λ most. self.new.given ≤ most) }
@@ -109,7 +109,7 @@ impl Source for Pieces {
     }
 }
 
-// The first piece, from this one on, that ends behind a place; else the number of pieces.
+// The first piece, from this one on, that ends after an offset; else the number of pieces.
 fn piece_behind(ends: &[usize], first: usize, place: usize) -> usize
     ensures passed { (i : ℕ) → first ≤ i → i < result → slice_index ends.now i ≤ place }
     ensures behind { result < length ends.now → place < slice_index ends.now result }

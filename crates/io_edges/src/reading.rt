@@ -29,11 +29,12 @@ pub struct Input {
 /// How many bytes are asked for at a time.
 const CHUNK: usize = 65_536;
 
-/// Reads to the source's end, to its fault, or to `limit` bytes, whichever comes first.
+/// Reads to the source's end, to its error, or to `limit` bytes, whichever comes first.
 ///
-/// It asks for no byte beyond the limit, so at `Full` the source may be at its end. It doesn't read on after the end or a fault.
+/// It asks for no byte beyond the limit, so at `Full` the source may be at its end. It doesn't read on after the end or an
+/// error.
 ///
-/// After an `Err` the bytes that came are lost, the count of faults hasn't changed, and the source may be read on.
+/// After an `Err` the bytes that came are lost, the count of errors hasn't changed, and the source may be read on.
 #[tactic(auto, using(crate::proofs::Known::prepend_more, crate::proofs::Known::prepend_nothing))]
 pub fn read_all<S: Source>(alloc: Global, source: &mut S, limit: usize) -> Result<Input, AllocError>
     requires { S.is_open source.old ≡ true }

@@ -6,16 +6,16 @@ ghost use Rattle.io_edges.specs.Streams.{Writes, WriteCounts, WritesOn};
 pub enum Put {
     /// The first so many bytes of the piece are written: from 1 to the piece's length.
     Took(usize),
-    /// The sink failed, and its count of faults rose. No write follows this answer.
+    /// The sink failed, and its count of errors rose. No write follows this answer.
     Failed,
 }
 
 /// A sink of bytes.
 ///
-/// It has a count of faults, which begins at 0 and never falls, and the bytes that were written. A
-/// sink in memory tells which bytes these are; one over the outside world doesn't.
+/// It has a count of errors, which begins at 0 and never falls, and the bytes that were written.
+/// Contracts see which bytes these are of a sink in memory, and not of one over the outside world.
 pub trait Sink {
-    /// The bytes written, where they are told.
+    /// The bytes written, where they are observable.
     ghost written: { Self → Option (List ℕ) };
 
     /// How often it has failed.
@@ -26,7 +26,7 @@ pub trait Sink {
 
     /// Writes some bytes of a piece that isn't empty.
     ///
-    /// `Took(n)` appends the first n bytes of the piece and leaves the count of faults as it is.
+    /// `Took(n)` appends the first n bytes of the piece and leaves the count of errors as it is.
     /// `Failed` comes only where that count rose, and appends nothing.
     ///
     /// A caller doesn't write on after `Failed`: only `Took` leaves the sink open.

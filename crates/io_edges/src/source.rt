@@ -4,20 +4,20 @@ ghost use Rattle.io_edges.specs.Streams.{Reads, ReadCounts, ReadsOn};
 /// What a read gave.
 #[derive(Debug, Clone, Copy, PartialEq, Eq)]
 pub enum Got {
-    /// So many bytes, which stand at the buffer's start: from 1 to the buffer's length.
+    /// So many bytes, which are at the buffer's start: from 1 to the buffer's length.
     Bytes(usize),
     /// Nothing is left. No read follows this answer.
     End,
-    /// The source failed, and its count of faults rose. No read follows this answer.
+    /// The source failed, and its count of errors rose. No read follows this answer.
     Failed,
 }
 
 /// A source of bytes.
 ///
-/// It has a count of faults, which begins at 0 and never falls, and bytes that are left. A source
-/// in memory tells which bytes these are; one over the outside world doesn't.
+/// It has a count of errors, which begins at 0 and never falls, and bytes that are left. Contracts
+/// see which bytes these are of a source in memory, and not of one over the outside world.
 pub trait Source {
-    /// The bytes left, where they are told.
+    /// The bytes left, where they are observable.
     ghost left: { Self → Option (List ℕ) };
 
     /// How often it has failed.
@@ -29,8 +29,8 @@ pub trait Source {
     /// Reads some bytes into a buffer that isn't empty.
     ///
     /// `Bytes(n)` hands over the first n bytes left, `End` comes only where nothing is left, and
-    /// `Failed` only where the count of faults rose; the bytes left stay then. Any other answer
-    /// leaves the count as it is. What stands in the buffer after the bytes handed over is open.
+    /// `Failed` only where the count of errors rose; the bytes left stay then. Any other answer
+    /// leaves the count as it is. What is in the buffer after the bytes handed over is open.
     ///
     /// A caller doesn't read on after `End` or `Failed`: only `Bytes` leaves the source open.
     fn read(&mut self, buf: &mut [u8]) -> Got

@@ -3,9 +3,9 @@ ghost use Rattle.io_edges.specs.Streams.{WritesText};
 
 use crate::sink::{Put, Sink};
 
-/// Writes all of a text, and says whether the sink took it.
+/// Writes all of some bytes, and says whether the sink took them.
 ///
-/// Where it is false, the sink failed, its count of faults rose, and only a front of the text is
+/// Where it is false, the sink failed, its count of errors rose, and only a prefix of them is
 /// written.
 #[tactic(auto, using(crate::proofs::Known::append_more, crate::proofs::Known::append_nothing, crate::proofs::Known::take_step))]
 pub fn write_all<O: Sink>(out: &mut O, text: &[u8]) -> bool

@@ -1,6 +1,6 @@
 //! Fields, read from a slice of a module's bytes. A field's value comes with its offset. Each method does what the reader of
-//! the same name in `wasm_defs` defines: a field that isn't whole stops reading as malformed where its section's end cuts
-//! it off, and else wants more bytes. Where a method stops, the reader stands where it stood.
+//! the same name in `wasm_defs` defines: a field that isn't whole stops reading as malformed where its section's end cuts it
+//! off, and else wants more bytes. Where a method stops, the reader stays where it was.
 
 ghost use Rattle.std.specs.Prelude.{◌≡◌, ◌≤◌, ◌<◌, ◌+◌, ◌-◌, ◌*◌, ◌^◌, ◌≤ℤ◌, ◌<ℤ◌, neg_ℤ, pos, ℕ, length, false, true, IfOk, List, drop, take, OnErr};
 ghost use Rattle.wasm_defs.specs.Numbers.{Spells};
@@ -17,13 +17,13 @@ use std::alloc::Global;
 use std::marker::Model;
 use wasm_defs::{Bytes, Kind, MAX_NAME, Name, Refusal, ValType};
 
-/// Where reading stands in a slice whose first byte has the offset `base`; the section ends at the offset `end`.
+/// Where reading is in a slice whose first byte has the offset `base`; the section ends at the offset `end`.
 #[derive(Drop)]
 pub struct Fields<'a> {
     bytes: &'a [u8],
     base: u64,
     place: usize,
-    /// The place behind the bytes of the section that are there.
+    /// The index after the bytes of the section that are there.
     limit: usize,
     end: u64,
 }
@@ -55,7 +55,7 @@ impl<'a> Fields<'a> {
         }
     }
 
-    /// A second reader at the same place: what one of them reads leaves the other where it is.
+    /// A second reader at the same offset: what one of them reads leaves the other where it is.
     pub fn fork(&self) -> Self
         ensures { result ≡ self.now }
     {
@@ -109,7 +109,7 @@ impl<'a> Fields<'a> {
         self.end - (self.base + self.place as u64)
     }
 
-    /// The bytes that aren't read yet, those behind the section's end too.
+    /// The bytes that aren't read yet, those after the section's end too.
     #[inline(always)]
     pub fn rest(&self) -> &'a [u8]
         ensures { result.now ≡ self.now.rest }
@@ -133,7 +133,7 @@ impl<'a> Fields<'a> {
         self.place += len;
     }
 
-    /// The stop that a fault is.
+    /// The stop for an error.
     #[inline(always)]
     pub fn refused(kind: Kind, offset: u64) -> Stop
         ensures { result ≡ Stop.Refused (record { offset = offset; kind = kind }) }
@@ -220,7 +220,7 @@ impl<'a> Fields<'a> {
         Ok((at, n as i64))
     }
 
-    /// A count, judged where it stands.
+    /// A count, checked at its own offset.
     #[tactic(auto, unfolding(wasm_defs::specs::Fields::count))]
     pub fn count(&mut self, most: u32) -> Result<(u64, u32), Stop>
         ensures read { Reads (count most) (λ n. n) result self.old self.new }
@@ -288,7 +288,7 @@ impl<'a> Fields<'a> {
         Ok((at, ty))
     }
 
-    /// A name: its length and its text are one field.
+    /// A name: its length and its UTF-8 are one field.
     #[tactic(auto, unfolding(wasm_defs::specs::Fields::name))]
     pub fn name(&mut self, alloc: Global) -> Result<(u64, Name), Stop>
         ensures read { Reads name (λ n. n) result self.old self.new }
@@ -327,7 +327,7 @@ impl<'a> Fields<'a> {
         Ok((at, name))
     }
 
-    /// Why a name whose length is cut off isn't whole: the shortest one that begins so has to lie in the section.
+    /// Why a name whose length is cut off isn't whole: the shortest one that begins so has to be in the section.
     fn length_owed(&self) -> Result<(u64, Name), Stop>
         requires { length (window self.now) ≤ 5 }
         ensures read { Reads length_owed (λ n. n) result self.now self.now }
@@ -380,7 +380,7 @@ fn first_of(bytes: &[u8], most: usize) -> &[u8]
     &bytes[..most]
 }
 
-/// The least number whose spelling begins so.
+/// The least number whose encoding begins so.
 fn least(bytes: &[u8]) -> u64
     requires { length bytes.now ≤ 5 }
     ensures exact { result ≡ least bytes.now }

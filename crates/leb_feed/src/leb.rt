@@ -13,11 +13,11 @@ const MOST: usize = 10;
 /// What the bytes of a number are that came so far.
 #[derive(Clone, Copy, Debug, PartialEq, Eq)]
 pub enum Fed {
-    /// A spelling begins so, and more bytes complete it.
+    /// An encoding begins so, and more bytes complete it.
     More,
-    /// They spell this number.
+    /// They encode this number.
     Done(i128),
-    /// No number's spelling begins so.
+    /// No number's encoding begins so.
     Bad,
 }
 

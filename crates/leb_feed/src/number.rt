@@ -4,18 +4,18 @@ ghost use Rattle.std.specs.Prelude.{◌≡◌, ◌↔◌, ℕ, ℤ, ◌+◌, ◌
 ghost use Rattle.wasm_defs.specs.Numbers.{BeginsWithNumber, IsCutOff, IsNoNumber, IsSmall, number_at, last_byte};
 ghost use Rattle.leb_feed.specs.Answers.{answer};
 
-/// What stands at a place of a slice.
+/// What is at an index of a slice.
 #[derive(Clone, Copy, Debug, PartialEq, Eq)]
 pub enum ReadAt {
-    /// A number, and the place after it.
+    /// A number, and the index after it.
     Number(i128, usize),
-    /// The slice ends inside a number's spelling, or before it.
+    /// The slice ends inside a number's encoding, or before it.
     CutOff,
-    /// No number's spelling begins so.
+    /// No number's encoding begins so.
     Bad,
 }
 
-/// The number of 1 to 64 bits at a place of a slice, signed or unsigned.
+/// The number of 1 to 64 bits at an index of a slice, signed or unsigned.
 #[inline(always)]
 pub fn read_at(bytes: &[u8], place: usize, bits: u32, signed: bool) -> ReadAt
     requires some_bits { 1 ≤ bits }

@@ -9,10 +9,11 @@ use wasm_defs::Refusal;
 /// Why reading a field, or fields in order, stops.
 #[derive(Debug, Drop)]
 pub enum Stop {
-    /// A field has this fault, whatever bytes follow. The fault stands at that field's first byte, and the fields before it
+    /// A field has this error, whatever bytes follow. The error is at that field's first byte, and the fields before it
     /// have none.
     Refused(Refusal),
-    /// The bytes that are there end inside a field, or before it, and some bytes after them may complete it: more are owed.
+    /// The bytes that are there end inside a field, or before it, and some bytes after them may complete it: more are
+    /// expected.
     Wants,
     /// Memory ran out. This says nothing of the fields.
     NoMemory,

@@ -42,7 +42,7 @@ fn next_byte(inside: Inside, byte: u8) -> Option<Inside>
     due(inside.due - 1, 0x80, 0xBF)
 }
 
-/// Where a text stands between two characters.
+/// The state of UTF-8 between two characters.
 pub fn between() -> Inside
     ensures { Some result ≡ between }
 {
@@ -53,7 +53,7 @@ pub fn between() -> Inside
     }
 }
 
-/// Where a text stands after these bytes, if they are right so far.
+/// The state of UTF-8 after these bytes, if they are right so far.
 pub fn state_after(mut inside: Inside, bytes: &[u8]) -> Option<Inside>
     ensures { result ≡ text_state (Some inside) bytes.now }
 {
@@ -63,7 +63,7 @@ pub fn state_after(mut inside: Inside, bytes: &[u8]) -> Option<Inside>
     Some(inside)
 }
 
-/// Whether some bytes after these complete a text of so many bytes.
+/// Whether some bytes after these complete UTF-8 of so many bytes.
 #[tactic(auto, using(crate::proofs::Texts::completes_after))]
 pub fn completes(room: u32, text: &[u8]) -> bool
     ensures { result ≡ completes room between text.now }

@@ -17,8 +17,8 @@ use rv_isa::{
 use std::alloc::AllocError;
 use wasm_defs::{LoadOp, Plain, StoreOp, Token, TrapKind};
 
-/// The words that bring the address of so many bytes into t0, from an operand that counts from the memory's first byte and an
-/// offset, both of 32 bits. Their sum isn't cut to 32 bits. They trap where the bytes don't all lie in the memory.
+/// The instruction words that bring the address of so many bytes into t0, from an operand that counts from the memory's first
+/// byte and an offset, both of 32 bits. Their sum isn't cut to 32 bits. They trap where the bytes aren't all in the memory.
 fn address(layout: &Layout, height: u32, offset: u32, bytes: u16) -> [u32; 17]
     requires fits { operand layout.now height < 2 ^ 32 }
     requires few { bytes ≤ 8 }
@@ -69,7 +69,7 @@ fn store_row(op: StoreOp) -> (MachineStore, u16)
     }
 }
 
-/// Appends the words of a load whose address is the topmost of so many operands.
+/// Appends the instruction words of a load whose address is the topmost of so many operands.
 fn load(
     buffer: &mut WordBuffer,
     layout: &Layout,
@@ -96,7 +96,7 @@ fn load(
     ])
 }
 
-/// Appends the words of a store, whose value is the topmost of so many operands and whose address lies below it.
+/// Appends the instruction words of a store, whose value is the topmost of so many operands and whose address is below it.
 fn store(
     buffer: &mut WordBuffer,
     layout: &Layout,
@@ -123,7 +123,7 @@ fn store(
     ])
 }
 
-/// Appends the words of a load, or none for want of memory. Its address is the topmost of so many operands.
+/// Appends the instruction words of a load, or none if memory runs out. Its address is the topmost of so many operands.
 pub fn emit_load(
     buffer: &mut WordBuffer,
     layout: &Layout,
@@ -145,8 +145,8 @@ pub fn emit_load(
     }
 }
 
-/// Appends the words of a store, or none for want of memory. Its value is the topmost of so many operands, and its address the
-/// one below.
+/// Appends the instruction words of a store, or none if memory runs out. Its value is the topmost of so many operands, and its
+/// address the one below.
 pub fn emit_store(
     buffer: &mut WordBuffer,
     layout: &Layout,

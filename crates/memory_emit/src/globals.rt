@@ -11,7 +11,8 @@ use frame_layout::words::{load_behind, slot_load, slot_store, store_behind};
 use rv_isa::{Register, WordBuffer};
 use std::alloc::AllocError;
 
-/// Appends the words of `global.get` behind so many operands, or none for want of memory.
+/// Appends the instruction words of `global.get` with so many operands on the stack, or none if memory runs
+/// out.
 pub fn emit_global_get(
     buffer: &mut WordBuffer,
     layout: &Layout,
@@ -27,7 +28,8 @@ pub fn emit_global_get(
     buffer.append(&[a, b, c, x, y, z])
 }
 
-/// Appends the words of `global.set`, which takes the topmost of so many operands, or none for want of memory.
+/// Appends the instruction words of `global.set`, which takes the topmost of so many operands, or none if
+/// memory runs out.
 pub fn emit_global_set(
     buffer: &mut WordBuffer,
     layout: &Layout,

@@ -1,5 +1,5 @@
-//! The words of variable, parametric and memory instructions (WebAssembly Core 1.0, 2.4.2 to 2.4.4). `Templates` of
-//! `frame_layout` has the words.
+//! The instruction words of variable, parametric and memory instructions (WebAssembly Core 1.0, 2.4.2 to 2.4.4).
+//! `Templates` of `frame_layout` has the words.
 #![tactic(auto)]
 
 mod access;

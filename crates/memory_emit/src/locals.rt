@@ -10,7 +10,7 @@ use frame_layout::words::{slot_load, slot_store};
 use rv_isa::{Register, WordBuffer};
 use std::alloc::AllocError;
 
-/// Appends the words of `local.get` behind so many operands, or none for want of memory.
+/// Appends the instruction words of `local.get` with so many operands on the stack, or none if memory runs out.
 pub fn emit_local_get(
     buffer: &mut WordBuffer,
     layout: &Layout,
@@ -26,7 +26,7 @@ pub fn emit_local_get(
     buffer.append(&[a, b, c, x, y, z])
 }
 
-/// Appends the words of `local.set`, which takes the topmost of so many operands, or none for want of memory.
+/// Appends the instruction words of `local.set`, which takes the topmost of so many operands, or none if memory runs out.
 pub fn emit_local_set(
     buffer: &mut WordBuffer,
     layout: &Layout,
@@ -43,7 +43,8 @@ pub fn emit_local_set(
     buffer.append(&[a, b, c, x, y, z])
 }
 
-/// Appends the words of `local.tee`, or none for want of memory: those of `local.set`, since the operand stays where it is.
+/// Appends the instruction words of `local.tee`, or none if memory runs out: those of `local.set`, since the operand stays
+/// where it is.
 pub fn emit_local_tee(
     buffer: &mut WordBuffer,
     layout: &Layout,

@@ -13,7 +13,8 @@ use rv_isa::{
 };
 use std::alloc::AllocError;
 
-/// Appends the words of `memory.size` behind so many operands, or none for want of memory: pages of 65,536 bytes are counted.
+/// Appends the instruction words of `memory.size` with so many operands on the stack, or none if memory runs out: pages of 65,536
+/// bytes are counted.
 pub fn emit_size(buffer: &mut WordBuffer, layout: &Layout, height: u32) -> Result<(), AllocError>
     requires { operand layout.now height < 2 ^ 32 }
     ensures ok { (w : Around) → w.layout ≡ layout.now → OnOk result (buffer.new ≡ buffer.old ++ map word_of (size_words w height)) }
@@ -24,8 +25,8 @@ pub fn emit_size(buffer: &mut WordBuffer, layout: &Layout, height: u32) -> Resul
     buffer.append(&[pages, x, y, z])
 }
 
-/// Appends the words of `memory.grow`, which takes the topmost of so many operands, or none for want of memory: the environment is
-/// asked for so many pages, and its answer, the pages before or -1, is the result.
+/// Appends the instruction words of `memory.grow`, which takes the topmost of so many operands, or none if memory runs out: the
+/// environment is asked for so many pages, and its answer, the pages before or -1, is the result.
 pub fn emit_grow(buffer: &mut WordBuffer, layout: &Layout, height: u32) -> Result<(), AllocError>
     requires operand { 1 ≤ height }
     requires fits { operand layout.now (height - 1) < 2 ^ 32 }

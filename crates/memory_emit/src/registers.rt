@@ -1,4 +1,4 @@
-//! Registers that hold where the instance's memory and globals lie.
+//! Registers that hold the addresses of the instance's memory and globals.
 
 ghost use Rattle.std.specs.Prelude.{◌≡◌};
 ghost use Rattle.frame_layout.specs.Macros.{s1, s2, s3};

@@ -10,8 +10,8 @@ use frame_layout::words::{slot_load, slot_store};
 use rv_isa::{BranchOp, Imm12, Register, WordBuffer, encode_branch};
 use std::alloc::AllocError;
 
-/// Appends the words of `select`, or none for want of memory. Of the three topmost operands the topmost is the condition: where
-/// it is zero, the second one moves into the place of the first.
+/// Appends the instruction words of `select`, or none if memory runs out. Of the three topmost operands the topmost is the
+/// condition: where it is zero, the second one moves into the place of the first.
 pub fn emit_select(buffer: &mut WordBuffer, layout: &Layout, height: u32) -> Result<(), AllocError>
     requires operands { 3 ≤ height }
     requires fits { operand layout.now (height - 1) < 2 ^ 32 }

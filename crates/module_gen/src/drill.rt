@@ -156,8 +156,8 @@ fn put_code(out: &mut Vec<u8>, n: u32) -> Result<(), AllocError>
 }
 
 /// The drill of `n`: a module of `n` functions from i32 to i32, of which the i-th adds i to its argument, the first being the 0th,
-/// and behind them one, exported as `run`, that calls each of them with the result of the one before, the first with 0, and
-/// returns the last one's result. Its numbers are as short as they can be.
+/// and after them one, exported as `run`, that calls each of them with the result of the one before, the first with 0, and returns
+/// the last one's result. Its numbers are as short as they can be.
 ///
 /// Memory is taken once, for all of its bytes.
 pub fn drill_module(alloc: Global, n: u32) -> Result<Vec<u8>, AllocError>

@@ -1,4 +1,4 @@
-//! The shortest spellings of numbers (WebAssembly Core 1.0, 5.2.2).
+//! The shortest encodings of numbers (WebAssembly Core 1.0, 5.2.2).
 
 ghost use Rattle.std.specs.Prelude.{◌≡◌, ◌≤◌, ◌++◌, length, OnOk};
 ghost use Rattle.module_gen.specs.Numbers.{spelling};
@@ -11,7 +11,7 @@ pub const UNSIGNED_END: u32 = 128;
 /// The bound of those with a sign: the next bit of the last byte is the sign.
 pub const SIGNED_END: u32 = 64;
 
-/// How many bytes the spelling has.
+/// How many bytes the encoding has.
 pub fn spelling_size(end: u32, number: u32) -> u32
     requires least { 64 ≤ end }
     requires most { end ≤ 128 }
@@ -27,7 +27,7 @@ pub fn spelling_size(end: u32, number: u32) -> u32
     size
 }
 
-/// Puts the spelling at the end.
+/// Puts the encoding at the end.
 pub fn put_number(out: &mut Vec<u8>, end: u32, number: u32) -> Result<(), AllocError>
     requires least { 64 ≤ end }
     requires most { end ≤ 128 }

@@ -1,4 +1,4 @@
-//! Workers in threads of their own, beside a caller that reads.
+//! Workers in threads of their own, in parallel with a caller that reads.
 ghost use Rattle.std.specs.Prelude.{◌≡◌, ◌<◌, ◌^◌, ◌⊎◌, true, [], length, IfOk, IfErr};
 ghost use Rattle.pool_scope.specs.Desks.{IsDesk, HasRead};
 ghost use Rattle.pool_scope.specs.Gathering.{IsWorked};
@@ -24,7 +24,7 @@ pub trait Reading {
     /// Whether it may begin.
     ghost can_read: { Self → Type 0 };
 
-    /// What it is behind the reading.
+    /// What it is after the reading.
     ghost reads: { Self → Self → Type 0 };
 
     /// Reads, and hands batches over at the desk.
@@ -39,7 +39,7 @@ pub trait Reading {
 /// What the thread that reads has once it joined the workers.
 #[derive(Drop)]
 pub struct Joined<T> {
-    /// The reader, behind its reading.
+    /// The reader, after its reading.
     pub reader: T,
     /// The last seat at the board.
     pub seat: BoardSeat,
@@ -49,8 +49,8 @@ pub struct Joined<T> {
     pub rows: Vec<Row>,
 }
 
-/// Reads while a worker for each hand, as far as threads can be started, works off what is handed over. Err where memory ran out, with
-/// the reader behind its reading, or as it was.
+/// Reads while a worker for each hand, as far as threads can be started, works off what is handed over. Err where memory ran out,
+/// with the reader as it is after its reading, or as it was.
 pub fn run_beside<R: Threads + Wait + Sync, G: Gate, T: Reading + Drop>(
     rt: &R,
     alloc: Global,

@@ -15,7 +15,7 @@ use std::sync::Arc;
 
 /// What the thread that reads hands batches over with.
 pub struct Desk {
-    /// Its place at the board, which it feeds.
+    /// Its handle on the board, which it feeds.
     pub seat: BoardSeat,
     /// The queue from which workers take.
     pub feeder: Feeder,
@@ -83,7 +83,8 @@ impl Desk {
         Ok(())
     }
 
-    /// Looks at the board: whether its least key is a fault's, so that one was reported. Nothing but what the seat has seen changes.
+    /// Looks at the board: whether its least key is an error's, so that one was reported. Nothing but what the seat has seen
+    /// changes.
     pub fn sees_fault(&mut self, board: &Board, context: &Context) -> bool
         requires desk { IsDesk context.now board.now self.old }
         ensures desk { IsDesk context.now board.now self.new }

@@ -1,4 +1,4 @@
-//! Workers in threads of their own, beside the thread that feeds them.
+//! Workers in threads of their own, in parallel with the thread that feeds them.
 #![tactic(auto)]
 
 mod beside;

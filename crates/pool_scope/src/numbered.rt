@@ -9,7 +9,7 @@ use index_spaces::Context;
 use result_cells::Cells;
 use std::alloc::{AllocError, Global};
 
-/// So many places, none of which has a row.
+/// So many entries, none of which has a row.
 fn places(
     alloc: Global,
     context: &Context,
@@ -29,8 +29,8 @@ fn places(
     Ok(places)
 }
 
-/// The rows of so many batches, each at the place that its batch's number names: the last one of several of a number, and none where
-/// there is none. Those of numbers past the last place are left out.
+/// The rows of so many batches, each at the index that is its batch's number: the last one of several of a number, and none where
+/// there is none. Those of numbers past the last index are left out.
 pub fn by_number(
     alloc: Global,
     context: &Context,

@@ -1,4 +1,4 @@
-//! Words that grow.
+//! A growing list of instruction words.
 ghost use Rattle.std.specs.Prelude.{◌≡◌, ◌<◌, ◌≤◌, [], ◌∷◌, ◌++◌, map, take, length, slice_set, MatchBool, ℕ, IfOk, OnOk, OnErr};
 ghost use Rattle.std.specs.Bool.{OnTrue, OnFalse};
 ghost use Rattle.std.specs.List.{flat_map};
@@ -10,10 +10,11 @@ use crate::operations::Op;
 use std::alloc::{AllocError, Global};
 use std::marker::Model;
 
-/// Room for the words of a small function.
+/// Room for the instruction words of a small function.
 const FIRST_CAPACITY: usize = 64;
 
-/// Words to which more are appended, and of which each can be replaced. Contracts see the list of the words.
+/// Instruction words to which more are appended, and of which each can be replaced. Contracts see the list of the
+/// words.
 #[derive(Drop)]
 pub struct WordBuffer {
     words: Vec<u32>,
@@ -27,7 +28,8 @@ impl Model for WordBuffer {
     ghost view = { λ b. b.words.items };
 }
 
-/// Appends the words of operations, or for want of memory those of some in front, and says whether all are there.
+/// Appends the instruction words of operations, or, if memory runs out, those of the first ones, and says whether
+/// all are there.
 fn encode_all(words: &mut Vec<u32>, ops: &[Op]) -> bool
     ensures all { OnTrue result (words.new.items ≡ words.old.items ++ map word_of ops.now) }
     ensures some { OnFalse result (take (length words.old.items) words.new.items ≡ words.old.items) }
@@ -41,7 +43,7 @@ fn encode_all(words: &mut Vec<u32>, ops: &[Op]) -> bool
 }
 
 impl WordBuffer {
-    /// A buffer with no words.
+    /// A buffer with no instruction words.
     pub fn new(alloc: Global) -> Result<Self, AllocError>
         ensures { IfOk result (λ b. b ≡ []) }
     {
@@ -50,7 +52,7 @@ impl WordBuffer {
         })
     }
 
-    /// A buffer with no words, and room for so many. More may be appended.
+    /// A buffer with no instruction words, and room for so many. More may be appended.
     pub fn with_room(alloc: Global, words: usize) -> Result<Self, AllocError>
         ensures { IfOk result (λ b. b ≡ []) }
     {
@@ -59,14 +61,14 @@ impl WordBuffer {
         })
     }
 
-    /// The place of the word that is appended next: the number of words.
+    /// The index of the instruction word that is appended next: the number of words.
     pub fn place(&self) -> usize
         ensures { result ≡ length self.now }
     {
         self.words.len()
     }
 
-    /// Appends a word.
+    /// Appends an instruction word.
     pub fn push(&mut self, word: u32) -> Result<(), AllocError>
         ensures ok { OnOk result (self.new ≡ self.old ++ word ∷ []) }
         ensures err { OnErr result (self.new ≡ self.old) }
@@ -75,7 +77,7 @@ impl WordBuffer {
         Ok(())
     }
 
-    /// Appends some words, or none of them.
+    /// Appends some instruction words, or none of them.
     #[inline]
     pub fn append(&mut self, words: &[u32]) -> Result<(), AllocError>
         ensures ok { OnOk result (self.new ≡ self.old ++ words.now) }
@@ -84,7 +86,7 @@ impl WordBuffer {
         self.words.extend_from_slice(words)
     }
 
-    /// Appends the words of operations, one run behind the other, or none of them.
+    /// Appends the instruction words of operations, one run after the other, or none of them.
     pub fn append_ops(&mut self, runs: &[&[Op]]) -> Result<(), AllocError>
         ensures ok { OnOk result (self.new ≡ self.old ++ map word_of (flat_map (λ run. run.now) runs.now)) }
         ensures err { OnErr result (self.new ≡ self.old) }
@@ -99,7 +101,7 @@ impl WordBuffer {
         Ok(())
     }
 
-    /// Appends some words, those of operations, and more words, or none of them.
+    /// Appends some instruction words, those of operations, and more words, or none of them.
     pub fn append_around(
         &mut self,
         front: &[u32],
@@ -120,7 +122,7 @@ impl WordBuffer {
         Err(AllocError)
     }
 
-    /// Keeps so many words in front, and drops those behind.
+    /// Keeps the first instruction words, so many, and drops those after them.
     pub fn truncate(&mut self, words: usize)
         requires { words ≤ length self.old }
         ensures { self.new ≡ take words self.old }
@@ -128,7 +130,7 @@ impl WordBuffer {
         self.words.truncate(words);
     }
 
-    /// Replaces the word at a place.
+    /// Replaces the instruction word at an index.
     pub fn patch(&mut self, place: usize, word: u32)
         requires { place < length self.old }
         ensures { self.new ≡ slice_set self.old place word }
@@ -136,14 +138,14 @@ impl WordBuffer {
         self.words[place] = word;
     }
 
-    /// The words.
+    /// The instruction words.
     pub fn as_slice(&self) -> &[u32]
         ensures { result.now ≡ self.now }
     {
         self.words.as_slice()
     }
 
-    /// The words, to be kept. It takes no memory.
+    /// The instruction words, to be kept. It takes no memory.
     pub fn finish(self) -> Words
         ensures { result ≡ self }
     {

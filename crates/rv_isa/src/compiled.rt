@@ -1,9 +1,9 @@
-//! The code of a function, before it has a place in a text.
+//! The code of a function, before it has an offset in a text.
 ghost use Rattle.std.specs.Prelude.{◌≡◌, ◌↔◌, IsTrue};
 
 use std::marker::Model;
 
-/// A list of words, which contracts see as that list.
+/// A list of instruction words, which contracts see as that list.
 #[derive(Debug, Drop)]
 pub struct Words {
     words: Vec<u32>,
@@ -18,21 +18,21 @@ impl Model for Words {
 }
 
 impl Words {
-    /// The words of a `Vec`. It takes no memory.
+    /// The instruction words of a `Vec`. It takes no memory.
     pub fn from_vec(words: Vec<u32>) -> Self
         ensures { result ≡ words.items }
     {
         Words { words }
     }
 
-    /// The words as a `Vec`. It takes no memory.
+    /// The instruction words as a `Vec`. It takes no memory.
     pub fn into_vec(self) -> Vec<u32>
         ensures { result.items ≡ self }
     {
         self.words
     }
 
-    /// The words.
+    /// The instruction words.
     pub fn as_slice(&self) -> &[u32]
         ensures { result.now ≡ self.now }
     {
@@ -47,10 +47,10 @@ impl Words {
     }
 }
 
-/// A call whose distance is not known until its function has a place.
+/// A call whose distance is not known until its function has an offset.
 #[derive(Clone, Copy, Debug, PartialEq, Eq)]
 pub struct Relocation {
-    /// The place of the call's AUIPC among the words of its code.
+    /// The index of the call's AUIPC among the instruction words of its code.
     pub place: usize,
     /// The index of the function that is called.
     pub function: u32,
@@ -104,7 +104,7 @@ impl Relocations {
 /// A trap of a code, and where in the module it comes from.
 #[derive(Clone, Copy, Debug, PartialEq, Eq)]
 pub struct TrapSite {
-    /// The place of the trap's ECALL among the words of its code.
+    /// The index of the trap's ECALL among the instruction words of its code.
     pub place: usize,
     /// The offset in the module of what traps: an instruction, or the body.
     pub offset: u64,
@@ -158,11 +158,11 @@ impl TrapSites {
 /// The code of a function.
 #[derive(Debug, Drop)]
 pub struct Code {
-    /// Its words.
+    /// Its instruction words.
     pub words: Words,
-    /// Its calls, in the order of their places.
+    /// Its calls, in the order of their indices.
     pub relocations: Relocations,
-    /// Its traps, in the order of their places.
+    /// Its traps, in the order of their indices.
     pub traps: TrapSites,
     /// How many slots of the stack it needs, of eight bytes each.
     pub need: u32,

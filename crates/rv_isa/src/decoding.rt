@@ -1,4 +1,4 @@
-//! The operation of a word (sections 2.2 and 2.3, chapter 24).
+//! The operation of an instruction word (sections 2.2 and 2.3, chapter 24).
 ghost use Rattle.std.specs.Prelude.{◌≡◌, ◌↔◌, ◌^◌, ◌<◌, ◌+◌, IsNone};
 ghost use Rattle.rv_isa.specs.declared.operations.Op.{Op};
 ghost use Rattle.rv_isa.specs.Words.{field, rd, rs1, rs2, funct3, r_code, shift_code, i_imm, s_imm, b_imm, u_imm, j_imm, jalr_of, branch_of, load_of, store_of, shift_of, imm_of, imm_w_of, reg_of, reg_w_of, fence_of, system_of, with_opcode, decoded, Encodes};
@@ -7,7 +7,7 @@ use crate::fields::{Imm12, Imm20, Register, Shamt5, Shamt6};
 use crate::operations::{BranchOp, ImmOp, LoadOp, Op, RegOp, RegOpW, ShiftOp, ShiftOpW, StoreOp};
 use crate::table::{ADDIW_FUNCT3, EBREAK, ECALL, FENCE_FUNCT3, JALR_FUNCT3, Opcode};
 
-/// So many bits of a word, from the bit `low` upward.
+/// So many bits of an instruction word, from the bit `low` upward.
 fn field(word: u32, low: u32, width: u32) -> u32
     requires low_is_a_bit { low < 32 }
     requires width_fits { width < 32 }
@@ -232,7 +232,7 @@ fn system_of(word: u32) -> Option<Op>
     }
 }
 
-/// The operation of a word with this opcode, if it has one.
+/// The operation of an instruction word with this opcode, if it has one.
 fn with_opcode(opcode: Option<Opcode>, word: u32) -> Option<Op>
     ensures { result ≡ with_opcode opcode word }
 {
@@ -262,8 +262,8 @@ fn with_opcode(opcode: Option<Opcode>, word: u32) -> Option<Op>
     }
 }
 
-/// The operation of a word; none where no instruction of RV64IM has the word. A compressed instruction's 16 bits are
-/// no word here, and a reserved encoding is none.
+/// The operation of an instruction word; none where no instruction of RV64IM has the word. A compressed
+/// instruction's 16 bits are no word here, and a reserved encoding is none.
 pub fn decode(word: u32) -> Option<Op>
     ensures value { result ≡ decoded word }
     ensures exact { (op : Op) → (result ≡ Some op) ↔ Encodes op word }

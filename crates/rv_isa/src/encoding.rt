@@ -1,4 +1,4 @@
-//! The word of an operation (sections 2.2 and 2.3, chapter 24).
+//! The instruction word of an operation (sections 2.2 and 2.3, chapter 24).
 ghost use Rattle.std.specs.Prelude.{◌≡◌, ◌^◌, ◌<◌};
 ghost use Rattle.rv_isa.specs.declared.operations.Op.TheVariants.{Lui as LuiGiven, Jalr as JalrGiven, Ecall as EcallGiven, Branch as BranchGiven, Load as LoadGiven, Store as StoreGiven, Imm as ImmGiven, Shift as ShiftGiven, Reg as RegGiven, RegW as RegWGiven};
 ghost use Rattle.rv_isa.specs.Words.{opcode_bits, r_type, i_type, shift_type, s_type, b_type, u_type, j_type, IsRegister, word_of, IsInRange};
@@ -7,7 +7,7 @@ use crate::fields::{Imm12, Imm20, Register, Shamt6};
 use crate::operations::{BranchOp, ImmOp, LoadOp, Op, RegOp, RegOpW, ShiftOp, StoreOp};
 use crate::table::{ADDIW_FUNCT3, EBREAK, ECALL, FENCE_FUNCT3, JALR_FUNCT3, Opcode};
 
-/// A word of the R format. The code is funct7 and funct3.
+/// An instruction word of the R format. The code is funct7 and funct3.
 #[inline(always)]
 fn r_type(opcode: Opcode, code: u32, rd: Register, rs1: Register, rs2: Register) -> u32
     requires { code < 2 ^ 10 }
@@ -22,7 +22,7 @@ fn r_type(opcode: Opcode, code: u32, rd: Register, rs1: Register, rs2: Register)
         + ((code / 8) << 25)
 }
 
-/// A word of the I format, with these bits as its immediate.
+/// An instruction word of the I format, with these bits as its immediate.
 #[inline(always)]
 fn i_type_with(opcode: Opcode, funct3: u32, rd: Register, rs1: Register, imm: u32) -> u32
     requires funct3_fits { funct3 < 2 ^ 3 }
@@ -37,7 +37,7 @@ fn i_type_with(opcode: Opcode, funct3: u32, rd: Register, rs1: Register, imm: u3
         + (imm << 20)
 }
 
-/// A word of the I format.
+/// An instruction word of the I format.
 #[inline(always)]
 fn i_type(opcode: Opcode, funct3: u32, rd: Register, rs1: Register, imm: Imm12) -> u32
     requires { funct3 < 2 ^ 3 }
@@ -47,7 +47,7 @@ fn i_type(opcode: Opcode, funct3: u32, rd: Register, rs1: Register, imm: Imm12) 
     i_type_with(opcode, funct3, rd, rs1, u32::from(imm.bits()))
 }
 
-/// The word of a shift by an immediate: of the I format, with the amount below funct7.
+/// The instruction word of a shift by an immediate: of the I format, with the amount below funct7.
 #[inline(always)]
 fn shift_type(opcode: Opcode, code: u32, rd: Register, rs1: Register, amount: u8) -> u32
     requires code_fits { code < 2 ^ 9 }
@@ -59,7 +59,7 @@ fn shift_type(opcode: Opcode, code: u32, rd: Register, rs1: Register, amount: u8
     i_type_with(opcode, code % 8, rd, rs1, imm)
 }
 
-/// A word of the S format.
+/// An instruction word of the S format.
 #[inline(always)]
 fn s_type(opcode: Opcode, funct3: u32, rs1: Register, rs2: Register, imm: Imm12) -> u32
     requires { funct3 < 2 ^ 3 }
@@ -75,7 +75,7 @@ fn s_type(opcode: Opcode, funct3: u32, rs1: Register, rs2: Register, imm: Imm12)
         + ((imm / 0x20) << 25)
 }
 
-/// A word of the B format. The offset is in units of two bytes.
+/// An instruction word of the B format. The offset is in units of two bytes.
 #[inline(always)]
 fn b_type(opcode: Opcode, funct3: u32, rs1: Register, rs2: Register, offset: Imm12) -> u32
     requires { funct3 < 2 ^ 3 }
@@ -93,7 +93,7 @@ fn b_type(opcode: Opcode, funct3: u32, rs1: Register, rs2: Register, offset: Imm
         + ((imm / 0x800) << 31)
 }
 
-/// A word of the U format.
+/// An instruction word of the U format.
 #[inline(always)]
 fn u_type(opcode: Opcode, rd: Register, imm: Imm20) -> u32
     ensures word { result ≡ u_type (opcode_bits opcode) rd imm }
@@ -102,7 +102,7 @@ fn u_type(opcode: Opcode, rd: Register, imm: Imm20) -> u32
     opcode.bits() + (u32::from(rd.bits()) << 7) + (imm.bits() << 12)
 }
 
-/// A word of the J format. The offset is in units of two bytes.
+/// An instruction word of the J format. The offset is in units of two bytes.
 #[inline(always)]
 fn j_type(opcode: Opcode, rd: Register, offset: Imm20) -> u32
     ensures word { result ≡ j_type (opcode_bits opcode) rd offset }
@@ -117,7 +117,7 @@ fn j_type(opcode: Opcode, rd: Register, offset: Imm20) -> u32
         + ((imm / 0x8_0000) << 31)
 }
 
-/// The word of an operation.
+/// The instruction word of an operation.
 #[tactic(auto, unfolding(crate::specs::Words::word_of, crate::specs::Words::IsInRange))]
 pub fn encode(op: Op) -> u32
     ensures word { result ≡ word_of op }
@@ -158,9 +158,10 @@ pub fn encode(op: Op) -> u32
     }
 }
 
-// ---- the words of single operations. Where fields are known, each folds to a constant and the bits of the others.
+// ---- the instruction words of single operations. Where fields are known, each folds to a constant and the bits of
+// the others.
 
-/// The word of LUI.
+/// The instruction word of LUI.
 #[inline(always)]
 #[tactic(auto, unfolding(crate::specs::Words::word_of))]
 pub fn encode_lui(rd: Register, imm: Imm20) -> u32
@@ -169,7 +170,7 @@ pub fn encode_lui(rd: Register, imm: Imm20) -> u32
     u_type(Opcode::Lui, rd, imm)
 }
 
-/// The word of a branch.
+/// The instruction word of a branch.
 #[inline(always)]
 #[tactic(auto, unfolding(crate::specs::Words::word_of))]
 pub fn encode_branch(op: BranchOp, rs1: Register, rs2: Register, offset: Imm12) -> u32
@@ -178,7 +179,7 @@ pub fn encode_branch(op: BranchOp, rs1: Register, rs2: Register, offset: Imm12) 
     b_type(Opcode::Branch, op.funct3(), rs1, rs2, offset)
 }
 
-/// The word of a load.
+/// The instruction word of a load.
 #[inline(always)]
 #[tactic(auto, unfolding(crate::specs::Words::word_of))]
 pub fn encode_load(op: LoadOp, rd: Register, rs1: Register, imm: Imm12) -> u32
@@ -187,7 +188,7 @@ pub fn encode_load(op: LoadOp, rd: Register, rs1: Register, imm: Imm12) -> u32
     i_type(Opcode::Load, op.funct3(), rd, rs1, imm)
 }
 
-/// The word of a store.
+/// The instruction word of a store.
 #[inline(always)]
 #[tactic(auto, unfolding(crate::specs::Words::word_of))]
 pub fn encode_store(op: StoreOp, rs1: Register, rs2: Register, imm: Imm12) -> u32
@@ -196,7 +197,7 @@ pub fn encode_store(op: StoreOp, rs1: Register, rs2: Register, imm: Imm12) -> u3
     s_type(Opcode::Store, op.funct3(), rs1, rs2, imm)
 }
 
-/// The word of an operation on a register and an immediate.
+/// The instruction word of an operation on a register and an immediate.
 #[inline(always)]
 #[tactic(auto, unfolding(crate::specs::Words::word_of))]
 pub fn encode_imm(op: ImmOp, rd: Register, rs1: Register, imm: Imm12) -> u32
@@ -205,7 +206,7 @@ pub fn encode_imm(op: ImmOp, rd: Register, rs1: Register, imm: Imm12) -> u32
     i_type(Opcode::OpImm, op.funct3(), rd, rs1, imm)
 }
 
-/// The word of a shift by an immediate.
+/// The instruction word of a shift by an immediate.
 #[inline(always)]
 #[tactic(auto, unfolding(crate::specs::Words::word_of))]
 pub fn encode_shift(op: ShiftOp, rd: Register, rs1: Register, amount: Shamt6) -> u32
@@ -214,7 +215,7 @@ pub fn encode_shift(op: ShiftOp, rd: Register, rs1: Register, amount: Shamt6) ->
     shift_type(Opcode::OpImm, op.funct(), rd, rs1, amount.bits())
 }
 
-/// The word of an operation on two registers.
+/// The instruction word of an operation on two registers.
 #[inline(always)]
 #[tactic(auto, unfolding(crate::specs::Words::word_of))]
 pub fn encode_reg(op: RegOp, rd: Register, rs1: Register, rs2: Register) -> u32
@@ -223,7 +224,7 @@ pub fn encode_reg(op: RegOp, rd: Register, rs1: Register, rs2: Register) -> u32
     r_type(Opcode::Op, op.funct(), rd, rs1, rs2)
 }
 
-/// The word of an operation on the low 32 bits of two registers.
+/// The instruction word of an operation on the low 32 bits of two registers.
 #[inline(always)]
 #[tactic(auto, unfolding(crate::specs::Words::word_of))]
 pub fn encode_reg_w(op: RegOpW, rd: Register, rs1: Register, rs2: Register) -> u32
@@ -232,7 +233,7 @@ pub fn encode_reg_w(op: RegOpW, rd: Register, rs1: Register, rs2: Register) -> u
     r_type(Opcode::Op32, op.funct(), rd, rs1, rs2)
 }
 
-/// The word of JALR.
+/// The instruction word of JALR.
 #[inline(always)]
 #[tactic(auto, unfolding(crate::specs::Words::word_of))]
 pub fn encode_jalr(rd: Register, rs1: Register, imm: Imm12) -> u32
@@ -241,7 +242,7 @@ pub fn encode_jalr(rd: Register, rs1: Register, imm: Imm12) -> u32
     i_type(Opcode::Jalr, JALR_FUNCT3, rd, rs1, imm)
 }
 
-/// The word of ECALL.
+/// The instruction word of ECALL.
 #[inline(always)]
 #[tactic(auto, unfolding(crate::specs::Words::word_of))]
 pub fn encode_ecall() -> u32

@@ -1,4 +1,4 @@
-//! The fields of a word that name a register or hold an immediate. Their types keep them in range.
+//! The fields of an instruction word that name a register or hold an immediate. Their types keep them in range.
 ghost use Rattle.std.specs.Prelude.{◌≡◌, ◌^◌, ◌<◌};
 
 use std::marker::Model;

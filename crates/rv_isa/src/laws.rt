@@ -9,7 +9,7 @@ pub fn run_law()
     ensures faults { FaultsStay }
 {}
 
-/// The words of operations have these operations wherever they stand in a text.
+/// The instruction words of operations have these operations wherever they are in a text.
 pub fn text_law()
     ensures { WordsStand }
 {}
@@ -20,7 +20,7 @@ pub fn block_law()
     ensures keep { BlocksKeep }
 {}
 
-/// A load or store is done exactly where its bytes lie in one region.
+/// A load or store is done exactly where its bytes are in one region.
 pub fn access_law()
     ensures loads { LoadsAreExact }
     ensures stores { StoresAreExact }
@@ -39,7 +39,8 @@ pub fn size_law()
     ensures run { RunsKeepSizes }
 {}
 
-/// Where a text has words of 32 bits, a step and a run keep registers and the place below 2 ^ 64, and bytes below 256.
+/// Where a text has instruction words of 32 bits, a step and a run keep registers and the program counter below 2 ^
+/// 64, and bytes below 256.
 pub fn range_law()
     ensures step { StepsStaySound }
     ensures run { RunsStaySound }
@@ -51,7 +52,7 @@ pub fn register_law()
     ensures others { OtherRegistersStay }
 {}
 
-/// An offset's parts add up to it, and three words load or store a doubleword at an offset behind a register.
+/// An offset's parts add up to it, and three words load or store a doubleword at an offset from a register.
 pub fn offset_law()
     ensures parts { PartsMeet }
     ensures parts_down { PartsMeetDown }

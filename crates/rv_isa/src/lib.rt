@@ -1,9 +1,11 @@
-//! RV64IM as words and as operations: RV64I 2.1 and M 2.0 of `The RISC-V Instruction Set Manual, Volume I:
-//! Unprivileged ISA`, document version 20191213. The section numbers in this crate are that manual's.
+//! RV64IM as instruction words and as operations: RV64I 2.1 and M 2.0 of
+//! `The RISC-V Instruction Set Manual, Volume I: Unprivileged ISA`, document version 20191213. The section
+//! numbers in this crate are that manual's.
 //!
-//! An [`Op`] is an instruction with its fields. [`encode`] gives its word and [`decode`] the operation of a word:
-//! each is the other's inverse. [`WordBuffer`] collects words. `specs/Words.antt` has the words, and
-//! `specs/Values.antt` and `specs/Steps.antt` have what each operation does, with its laws in [`laws`].
+//! An [`Op`] is an instruction with its fields. [`encode`] gives its instruction word and [`decode`] the
+//! operation of a word: each is the other's inverse. [`WordBuffer`] collects words. `specs/Words.antt` has the
+//! words, and `specs/Values.antt` and `specs/Steps.antt` have what each operation does, with its laws in
+//! [`laws`].
 #![tactic(auto)]
 
 mod buffer;

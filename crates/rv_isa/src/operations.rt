@@ -163,17 +163,17 @@ pub enum Op {
         rd: Register,
         imm: Imm20,
     },
-    /// AUIPC: adds an upper immediate to the place of the instruction (section 2.4).
+    /// AUIPC: adds an upper immediate to the address of the instruction (section 2.4).
     Auipc {
         rd: Register,
         imm: Imm20,
     },
-    /// JAL: jumps by an offset, in units of two bytes, and links the place behind (section 2.5).
+    /// JAL: jumps by an offset, in units of two bytes, and links the next address (section 2.5).
     Jal {
         rd: Register,
         offset: Imm20,
     },
-    /// JALR: jumps to rs1 plus an immediate, and links the place behind (section 2.5).
+    /// JALR: jumps to rs1 plus an immediate, and links the next address (section 2.5).
     Jalr {
         rd: Register,
         rs1: Register,

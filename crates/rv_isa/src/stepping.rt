@@ -1,4 +1,4 @@
-//! What the step table of `specs/Steps.antt` speaks of beside operations.
+//! What the step table of `specs/Steps.antt` speaks of besides operations.
 
 /// A region of bytes that loads reach.
 #[derive(Clone, Copy, Debug, PartialEq, Eq)]
@@ -16,17 +16,17 @@ pub enum Region {
 /// Why there is no step.
 #[derive(Clone, Copy, Debug, PartialEq, Eq)]
 pub enum FaultKind {
-    /// The place isn't a multiple of 4, or lies outside the text.
+    /// The program counter isn't a multiple of 4, or is outside the text.
     Fetch,
-    /// The word is none of RV64IM.
+    /// The instruction word is none of RV64IM.
     Word,
     /// An EBREAK.
     Break,
-    /// A jump or a taken branch to a place that isn't a multiple of 4.
+    /// A jump or a taken branch to an address that isn't a multiple of 4.
     Target,
-    /// A load of bytes that don't all lie in one region.
+    /// A load of bytes that aren't all in one region.
     Load,
-    /// A store to bytes that don't all lie in one region, or that lie in the table.
+    /// A store to bytes that aren't all in one region, or that are in the table.
     Store,
     /// A call that the environment doesn't have. The step table itself never gives it.
     Call,

@@ -1,4 +1,4 @@
-//! The instruction table (chapter 24): each code of an instruction stands here in one row, which `encode` and `decode`
+//! The instruction table (chapter 24): each code of an instruction is here in one row, which `encode` and `decode`
 //! read. funct7 and funct3 are read as one number of ten bits.
 ghost use Rattle.std.specs.Prelude.{◌≡◌, ◌^◌, ◌<◌};
 ghost use Rattle.rv_isa.specs.Words.{opcode_bits, opcode_with, funct, branch_funct3, branch_op, load_funct3, load_op, store_funct3, store_op, imm_funct3, imm_op, shift_funct, shift_op, shift_w_funct, shift_w_op, reg_funct, reg_op, reg_w_funct, reg_w_op};
@@ -11,12 +11,12 @@ pub(crate) const JALR_FUNCT3: u32 = 0b000;
 pub(crate) const ADDIW_FUNCT3: u32 = 0b000;
 /// funct3 of FENCE.
 pub(crate) const FENCE_FUNCT3: u32 = 0b000;
-/// The word of ECALL.
+/// The instruction word of ECALL.
 pub(crate) const ECALL: u32 = 0x0000_0073;
-/// The word of EBREAK.
+/// The instruction word of EBREAK.
 pub(crate) const EBREAK: u32 = 0x0010_0073;
 
-/// The low seven bits of a word, which tell its format and group (table 24.1).
+/// The low seven bits of an instruction word, which give its format and group (table 24.1).
 #[derive(Clone, Copy, Debug, PartialEq, Eq)]
 pub enum Opcode {
     /// LOAD

@@ -107,7 +107,7 @@ pub fn limits(fields: &mut Fields<'_>, most: u32, top: u32) -> Result<Limits, St
     })
 }
 
-/// What an opcode is that stands in a constant expression in place of the right one.
+/// The kind of error of an opcode that is in a constant expression in place of the right one.
 fn wrong_opcode(byte: u8) -> Kind
     ensures { result ≡ wrong_opcode byte }
 {

@@ -28,7 +28,8 @@ pub fn entry_wait(fields: &Fields<'_>, alloc: Global, id: u8, seen: &Seen) -> Wa
     }
 }
 
-/// What a name waits for: bytes with which it can be right, all but the last of those that its length owes.
+/// What a name waits for: bytes with which it can be right, all but the last of those that its length
+/// counts.
 pub fn name_wait(fields: &Fields<'_>) -> Wait
     ensures awaits { (from : Cursor) → AwaitsAt name fields.now result from }
     ensures place { resumes_at result ≡ 0 }
@@ -50,7 +51,7 @@ pub fn name_wait(fields: &Fields<'_>) -> Wait
     }
 }
 
-/// A list of so many elements that begins where reading stands now.
+/// A list of so many elements that begins where reading is now.
 fn list_wait(fields: &Fields<'_>, now: &Fields<'_>, owed: u32, element: Element) -> Wait
     requires { length now.now.rest ≤ length fields.now.rest }
     ensures { result ≡ Wait.List (length fields.now.rest - length now.now.rest) owed element }
@@ -62,7 +63,7 @@ fn list_wait(fields: &Fields<'_>, now: &Fields<'_>, owed: u32, element: Element)
     }
 }
 
-/// A type's parameters, and behind them its results.
+/// A type's parameters, and after them its results.
 fn signature_wait(fields: &Fields<'_>, alloc: Global, seen: &Seen) -> Wait
     ensures awaits { Awaits (signature seen.now) fields.now result }
     ensures placed { IsPlaced result fields.now }
@@ -125,7 +126,7 @@ fn element_wait(fields: &Fields<'_>, seen: &Seen) -> Wait
     list_wait(fields, &next, indices.1, Element::Index(seen.functions))
 }
 
-/// A data segment's bytes: all but the last of those that its length owes.
+/// A data segment's bytes: all but the last of those that its length counts.
 fn segment_wait(fields: &Fields<'_>, seen: &Seen) -> Wait
     ensures awaits { Awaits (segment seen.now) fields.now result }
     ensures place { resumes_at result ≡ 0 }

@@ -23,7 +23,7 @@ const LAST: u64 = 0x7FFF_FFFF_FFFF_FFFF;
 
 /// Reads a module outside its function bodies, however its bytes are cut into pieces.
 ///
-/// Contracts see of it what is left to tell, for any bytes that come next: the items to come, and how the module ends
+/// Contracts see of it what is left to report, for any bytes that come next: the items to come, and how the module ends
 /// (`left`); and the same of the whole module, with its sections and its bodies (`onward_left`).
 #[derive(Drop)]
 pub struct Front {
@@ -101,12 +101,12 @@ impl Front {
     }
 
     /// Takes the next bytes: all of them, or those up to the end of an item that is waiting then, and none while one waits.
-    /// Where none waits then, the bytes that came have no fault. So behind an item that was taken it is asked again, with no
-    /// bytes if there are none: a fault that stands there already is answered before more bytes come.
+    /// Where none waits then, the bytes that came have no error. So after an item was taken it is asked again, with no bytes
+    /// if there are none: an error that is there already is reported before more bytes come.
     ///
     /// # Errors
-    /// `Refused` where the module has this fault outside its bodies, whatever follows. It is answered for good, without taking
-    /// memory, by each later `feed` and `end`. `NoMemory` leaves what is left to tell as it was.
+    /// `Refused` where the module has this error outside its bodies, whatever follows. It is answered for good, without taking
+    /// memory, by each later `feed` and `end`. `NoMemory` leaves what is left to report as it was.
     pub fn feed(&mut self, bytes: &[u8]) -> Result<usize, FrontStop>
         ensures fed { Feeds self.old bytes.now result self.new }
         ensures onward { FeedsOnward self.old bytes.now result self.new }
@@ -166,10 +166,10 @@ impl Front {
         }
     }
 
-    /// How the module ends, if no further bytes come: with a fault outside its bodies, or without one. No memory is taken.
+    /// How the module ends, if no further bytes come: with an error outside its bodies, or without one. No memory is taken.
     ///
     /// # Errors
-    /// The fault. Where the bytes end too soon, its kind is `Ended`, and its offset their number. It is answered for good, by
+    /// The error. Where the bytes end too soon, its kind is `Ended`, and its offset their number. It is answered for good, by
     /// each later `feed` and `end`.
     pub fn end(&mut self) -> Result<(), Refusal>
         ensures answer { refusal_of result ≡ ending_fault (total self.old) (left self.old []).ending }
@@ -219,7 +219,7 @@ impl Front {
             && end == self.end
     }
 
-    /// Goes on behind the bodies, whose bytes went elsewhere: it is as if they had been fed, whatever they are.
+    /// Goes on after the bodies, whose bytes went elsewhere: it is as if they had been fed, whatever they are.
     pub fn skip_to(&mut self, end: u64)
         requires { can_skip self.old end ≡ true }
         ensures same { (bytes more : List ℕ) → total self.old + length bytes ≡ end → left self.old (bytes ++ more) ≡ left self.new more }
@@ -233,7 +233,7 @@ impl Front {
         self.steps.stage = Stage::Between;
     }
 
-    /// The bytes from where reading stands on, if their offsets are small enough.
+    /// The bytes from the offset of the reading on, if their offsets are small enough.
     fn fields<'a>(&self, all: &'a [u8]) -> Option<Fields<'a>>
         ensures there { IfSome result (λ f. f ≡ record { at = self.now.at; rest = all.now; end = self.now.end }) }
         ensures fits { IfSome result (λ f. self.now.at + length all.now < 2 ^ 63) }

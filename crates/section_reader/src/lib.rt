@@ -1,5 +1,5 @@
 //! Reads a module outside its function bodies (WebAssembly Core 1.0, 5.5) while its bytes come, in one pass: the items that
-//! its sections list, and its fault, if it has one there.
+//! its sections list, and its error, if it has one there.
 #![tactic(auto)]
 
 mod entries;

@@ -1,4 +1,4 @@
-//! What stands in a section around its entries: how many they are, and what is passed over after them (WebAssembly Core
+//! What a section holds around its entries: how many they are, and what is passed over after them (WebAssembly Core
 //! 1.0, 5.5.2).
 
 ghost use Rattle.std.specs.Prelude.{◌≡◌};

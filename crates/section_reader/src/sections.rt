@@ -1,4 +1,4 @@
-//! What stands around the entries of sections (WebAssembly Core 1.0, 5.5.2 and 5.5.16).
+//! What is around the entries of sections (WebAssembly Core 1.0, 5.5.2 and 5.5.16).
 
 ghost use Rattle.std.specs.Prelude.{◌≡◌, ◌≤◌, IfOk};
 ghost use Rattle.wasm_defs.specs.Fields.{here};

@@ -58,7 +58,7 @@ impl Names {
 }
 
 /// How many items of each sort came before (functions: with the imported ones; declared: without), the exported names,
-/// whether the code section's count came, and the last section's place in the order.
+/// whether the code section's count came, and the last section's position in the order.
 #[derive(Drop)]
 pub struct Seen {
     pub types: u64,

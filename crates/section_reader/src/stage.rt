@@ -1,4 +1,4 @@
-//! Where a push reader stands in a module.
+//! Where a push reader is in a module.
 //!
 //! ```text
 //! Preamble ---> Between ---header---> Contents(id) ---count---> Entries(id, n) ---item---> Entries(id, n - 1)
@@ -9,7 +9,7 @@
 //! A custom section has no entries, and the code section one, its count: what these two have left is passed over in
 //! `Entries(id, 0)` as it comes.
 
-/// Where reading stands.
+/// Where reading is.
 #[derive(Clone, Copy, Debug, PartialEq, Eq)]
 pub enum Stage {
     /// Before the magic bytes.

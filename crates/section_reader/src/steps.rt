@@ -19,14 +19,14 @@ use leb_feed::{Fields, Stop};
 use std::alloc::Global;
 use wasm_defs::{FrontStop, Item, Kind, Refusal};
 
-/// How far reading came: where it stands, and what was seen.
+/// How far reading came: where it is, and what was seen.
 #[derive(Drop)]
 pub struct Steps {
     pub stage: Stage,
     pub seen: Seen,
 }
 
-/// Where steps stood, and the last section before.
+/// Where steps were, and the last section before.
 #[derive(Clone, Copy, Debug, PartialEq, Eq)]
 pub struct Mark {
     stage: Stage,
@@ -57,7 +57,7 @@ impl Steps {
         }
     }
 
-    /// Where it stands.
+    /// Where it is.
     pub fn mark(&self) -> Mark
         ensures { result ≡ record { stage = self.now.stage; last = self.now.seen.last } }
     {
@@ -67,7 +67,7 @@ impl Steps {
         }
     }
 
-    /// The fault where no further bytes come: all bytes before the offset are read, and the section ends at `end`.
+    /// The error where no further bytes come: all bytes before the offset are read, and the section ends at `end`.
     pub fn ending(&self, at: u64, end: u64) -> Option<Refusal>
         ensures { result ≡ silent self.now.stage self.now.seen at end }
     {
@@ -86,7 +86,7 @@ impl Steps {
         }
     }
 
-    /// The code section is owed, where functions are declared.
+    /// The code section is missing, where functions are declared.
     fn code_due(&self, at: u64) -> Option<Refusal>
         ensures { result ≡ code_due self.now.seen at }
     {
@@ -118,7 +118,7 @@ impl Steps {
         }
     }
 
-    /// Stands again where it stood, with no items more.
+    /// Goes back to where it was, with no items more.
     pub fn return_to(&mut self, mark: Mark)
         ensures { self.new ≡ record { stage = mark.stage; seen = record self.old.seen { last = mark.last } } }
     {

@@ -28,12 +28,13 @@ pub enum Wait {
     Nothing,
     /// So many bytes, whatever they are: those of a data segment.
     Bytes(u64),
-    /// The text of a name goes on: how many of its bytes are owed, and where it stands.
+    /// The UTF-8 of a name goes on: how many of its bytes are still to come, and its state.
     Text {
         owed: u32,
         inside: Inside,
     },
-    /// A list goes on: the place among the kept bytes where an element of it begins, and how many are owed from there on.
+    /// A list goes on: the index among the kept bytes where an element of it begins, and how many elements are still to come
+    /// from there on.
     List {
         place: usize,
         owed: u32,

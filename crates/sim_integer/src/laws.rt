@@ -2,38 +2,38 @@
 //! `specs/Laws.antt` states.
 ghost use Rattle.sim_integer.specs.Laws.{BinaryLaw, CompareLaw, UnaryLaw, TestLaw, ConvertLaw, BinaryRangeLaw, CompareRangeLaw, UnaryRangeLaw, TestRangeLaw, ConvertRangeLaw, ExtendLaw, ExtendRangeLaw, LengthLaw};
 
-/// The words of an operation on two operands put the number that it gives into the place of the lower one, or trap where it isn't
-/// defined.
+/// The instruction words of an operation on two operands put the number that it gives into the place of the lower one, or trap
+/// where it isn't defined.
 pub fn binary_law()
     ensures { BinaryLaw }
 {}
 
-/// The words of a comparison put 1 into the place of the lower operand where it holds, and else 0.
+/// The instruction words of a comparison put 1 into the place of the lower operand where it holds, and else 0.
 pub fn compare_law()
     ensures { CompareLaw }
 {}
 
-/// The words of a count of bits put it into the operand's place.
+/// The instruction words of a count of bits put it into the operand's place.
 pub fn unary_law()
     ensures { UnaryLaw }
 {}
 
-/// The words of `eqz` put 1 into the operand's place if the operand is 0, and else 0.
+/// The instruction words of `eqz` put 1 into the operand's place if the operand is 0, and else 0.
 pub fn test_law()
     ensures { TestLaw }
 {}
 
-/// The words of a conversion put the number that it gives into the operand's place.
+/// The instruction words of a conversion put the number that it gives into the operand's place.
 pub fn convert_law()
     ensures { ConvertLaw }
 {}
 
-/// The words of a sign extension put the number that it gives into the operand's place.
+/// The instruction words of a sign extension put the number that it gives into the operand's place.
 pub fn extend_law()
     ensures { ExtendLaw }
 {}
 
-/// What operations give lies below the modulus of its type.
+/// What operations give is below the modulus of its type.
 pub fn range_law()
     ensures binary { BinaryRangeLaw }
     ensures compare { CompareRangeLaw }
@@ -43,7 +43,7 @@ pub fn range_law()
     ensures extend { ExtendRangeLaw }
 {}
 
-/// No numeric instruction has more words than those that count leading zeros.
+/// No numeric instruction has more instruction words than those that count leading zeros.
 pub fn length_law()
     ensures { LengthLaw }
 {}

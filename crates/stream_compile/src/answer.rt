@@ -1,4 +1,4 @@
-//! What judging and compiling come to.
+//! What validation and compilation come to.
 
 use image_format::Image;
 use wasm_defs::Refusal;
@@ -23,7 +23,7 @@ pub struct Built {
     pub bytes: u64,
 }
 
-/// A module that was judged.
+/// A module that was validated.
 #[derive(Drop)]
 pub struct Checked {
     /// How many functions the module declares, imported ones not counted.
@@ -37,22 +37,22 @@ pub struct Checked {
 pub enum Answer {
     /// The bytes are a module, and this is its image.
     Image(Built),
-    /// They are none: this is the fault of least offset.
+    /// They are none: this is the error of least offset.
     Refused(Refusal),
-    /// The source failed, and the bytes that came have no fault that more bytes don't mend.
+    /// The source failed, and the bytes that came have no error that more bytes don't mend.
     ReadFault,
     /// Memory ran out.
     NoMemory,
 }
 
-/// What judging comes to.
+/// What validation comes to.
 #[derive(Drop)]
 pub enum CheckAnswer {
     /// The bytes are a module.
     Valid(Checked),
-    /// They are none: this is the fault of least offset.
+    /// They are none: this is the error of least offset.
     Refused(Refusal),
-    /// The source failed, and the bytes that came have no fault that more bytes don't mend.
+    /// The source failed, and the bytes that came have no error that more bytes don't mend.
     ReadFault,
     /// Memory ran out.
     NoMemory,

@@ -29,7 +29,7 @@ struct BodyReader<'a, S> {
     alloc: Global,
     source: &'a mut S,
     intake: Intake,
-    /// Whether the reading met a fault.
+    /// Whether the reading met an error.
     read: Result<(), FrontStop>,
 }
 
@@ -73,7 +73,7 @@ impl<'a, S: Source> Reading for BodyReader<'a, S> {
 #[derive(Drop)]
 struct Gathered {
     intake: Intake,
-    /// Whether the reading met a fault.
+    /// Whether the reading met an error.
     read: Result<(), FrontStop>,
     /// The last seat at the board.
     seat: BoardSeat,
@@ -87,7 +87,7 @@ struct Gathered {
 #[derive(Drop)]
 pub struct Met {
     pub intake: Intake,
-    /// Whether the reading met a fault.
+    /// Whether the reading met an error.
     pub read: Result<(), FrontStop>,
     /// The cells of the functions, where codes are kept.
     pub cells: Cells,
@@ -148,7 +148,7 @@ fn read_in_scope<R: Threads + Wait + Sync, S: Source, G: Gate>(
     }
 }
 
-/// Reads bodies beside so many workers, and does what these left over.
+/// Reads bodies in parallel with so many workers, and does what these left over.
 #[tactic(auto, using(crate::proofs::Fronts::took_nothing))]
 fn read_with_workers<R: Threads + Wait + Sync, S: Source, G: Gate>(
     rt: &R,
@@ -172,7 +172,7 @@ fn read_with_workers<R: Threads + Wait + Sync, S: Source, G: Gate>(
     } else {
         0
     };
-    // Codes that are linked have no more words together than a text may have.
+    // Codes that are linked have no more instruction words together than a text may have.
     let cells = Cells::new(alloc, stored, u64::from(MAX_TEXT) / 4)?;
     let (board, seat) = Board::new(alloc, functions, u64::from(workers) + 1)?;
     let (feeder, hands) = Pool::new(alloc, workers)?;
@@ -200,8 +200,8 @@ fn read_with_workers<R: Threads + Wait + Sync, S: Source, G: Gate>(
     })
 }
 
-/// Where bodies come next, reads them beside so many workers, and judges them, so that the compilation can go on behind them; or
-/// says what the bytes come to.
+/// Where bodies come next, reads them in parallel with so many workers, and validates them, so that the compilation can go on
+/// after them; or says what the bytes come to.
 #[tactic(auto, using(crate::proofs::Fronts::took_nothing))]
 pub fn read_beside<R: Threads + Wait + Sync, S: Source, G: Gate>(
     rt: &R,
@@ -231,7 +231,7 @@ pub fn read_beside<R: Threads + Wait + Sync, S: Source, G: Gate>(
     judge_met(compilation, met)
 }
 
-/// Judges what was read beside workers.
+/// Validates what was read in parallel with workers.
 fn judge_met(compilation: &mut Compilation, met: Met) -> Result<Chunk, Ending>
     requires met { IsMet compilation.old.spaces met }
     requires keeps { (first : Option (List ℕ)) × (before : ℕ) × (left : Option (List ℕ)) × (now : ℕ) × (may_read : Bool) × Keeps met.read first before left now may_read compilation.old met.intake }

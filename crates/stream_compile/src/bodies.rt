@@ -1,4 +1,4 @@
-//! Compiles bodies: each is judged, and its words are counted.
+//! Compiles bodies: each is validated, and its instruction words are counted.
 
 ghost use Rattle.std.specs.Prelude.{◌≡◌, ◌≤◌, ◌<◌, ◌+◌, ◌*◌, ◌^◌, OnOk, Ok, None, ℕ, List, [], length, nat_lt};
 ghost use Rattle.std.specs.Arc.{arc_value};
@@ -21,7 +21,7 @@ use std::alloc::Global;
 use std::sync::Arc;
 use wasm_defs::{FrontStop, Kind, MAX_TEXT, Refusal};
 
-/// The fault of a body with whose words the text passes its limit.
+/// The error of a body with whose instruction words the text passes its limit.
 pub fn limit_at(body: &Body) -> Refusal
     ensures { result ≡ limit_at body.now.size }
 {
@@ -31,7 +31,7 @@ pub fn limit_at(body: &Body) -> Refusal
     }
 }
 
-/// Why nothing is taken behind a body that isn't compiled.
+/// Why nothing is taken after a body that isn't compiled.
 fn stop_at(body: &Body, stop: BodyStop) -> FrontStop
     ensures { result ≡ stop_at body.now stop }
 {
@@ -42,7 +42,7 @@ fn stop_at(body: &Body, stop: BodyStop) -> FrontStop
     }
 }
 
-/// Compiles a body, before which so many bodies stand.
+/// Compiles a body, before which so many bodies come.
 fn take_body(
     alloc: Global,
     spaces: &ContextBuilder,
@@ -57,8 +57,8 @@ fn take_body(
     compile(alloc, context, index, body.bytes.as_slice(), body.first)
 }
 
-/// Whether a text with so many words of functions passes the limit. In front of them stand the exit stub, of two words, and the
-/// stubs of the imported functions, of eighteen each.
+/// Whether a text with so many instruction words of functions passes the limit. Before them come the exit stub, of two words,
+/// and the stubs of the imported functions, of eighteen each.
 fn passes_limit(imported: u32, words: u128) -> bool
     requires { words < 2 ^ 65 }
     ensures { result ≡ nat_lt max_text (4 * (front_of imported + words)) }
@@ -66,7 +66,7 @@ fn passes_limit(imported: u32, words: u128) -> bool
     u128::from(MAX_TEXT) / 4 < 2 + 18 * u128::from(imported) + words
 }
 
-/// Whether a code of so many words can stand behind these codes.
+/// Whether a code of so many instruction words can follow these codes.
 fn keep_limit(
     spaces: &ContextBuilder,
     codes: &Codes,
@@ -128,7 +128,7 @@ pub fn share_code(
     }
 }
 
-/// Takes the next body, whose code has so many words. No code is kept.
+/// Takes the next body, whose code has so many instruction words. No code is kept.
 pub fn count_code(
     spaces: &ContextBuilder,
     codes: &mut Codes,
@@ -149,7 +149,7 @@ pub fn count_code(
     Ok(())
 }
 
-/// Takes the next body, behind those that have these codes.
+/// Takes the next body, after those that have these codes.
 pub fn take_code(
     alloc: Global,
     spaces: &ContextBuilder,
@@ -166,7 +166,7 @@ pub fn take_code(
     }
 }
 
-/// Takes the bodies of a batch in order, up to the first that is at fault.
+/// Takes the bodies of a batch in order, up to the first that has an error.
 pub fn take_batch(
     alloc: Global,
     spaces: &ContextBuilder,

@@ -56,7 +56,7 @@ fn zeros(alloc: Global, len: usize) -> Result<Vec<u8>, AllocError>
     vec![in alloc; 0; len]
 }
 
-/// Reads some bytes, so many at most, to the front of a buffer. All its bytes are below 256, as bytes are.
+/// Reads some bytes, so many at most, to the start of a buffer. All its bytes are below 256, as bytes are.
 #[tactic(auto, using(crate::proofs::Fronts::took_read))]
 fn fill<S: Source>(source: &mut S, bytes: &mut [u8], most: usize) -> Got
     requires some { 0 < most }
@@ -111,7 +111,8 @@ impl Chunk {
         self.len -= taken;
     }
 
-    /// Reads the next bytes. Behind the end of the source, its failure and the most bytes that are read, nothing more is asked of it.
+    /// Reads the next bytes. After the end of the source, its failure and the most bytes that are read, nothing more is asked of
+    /// it.
     #[tactic(auto, using(crate::proofs::Fronts::took_nothing))]
     pub fn read<S: Source>(&mut self, source: &mut S) -> Came
         requires none { self.old.pending ≡ [] }

@@ -12,8 +12,8 @@ use std::alloc::{AllocError, Global};
 use std::marker::Model;
 use std::sync::Arc;
 
-/// The codes of the bodies that were compiled, in order: how many, and how many words they have; they are kept where they will be
-/// linked.
+/// The codes of the bodies that were compiled, in order: how many, and how many instruction words they have; they are kept where
+/// they will be linked.
 #[derive(Drop)]
 pub struct Codes {
     kept: Option<Vec<BodyCode>>,
@@ -87,7 +87,7 @@ impl Codes {
         Ok(())
     }
 
-    /// One code more of so many words. Codes are only counted.
+    /// One code more of so many instruction words. Codes are only counted.
     pub fn count_words(&mut self, words: u64)
         requires none { self.old.kept ≡ None }
         requires count { self.old.count < 2 ^ 32 - 1 }
@@ -112,7 +112,7 @@ impl Codes {
         self.count
     }
 
-    /// How many words they have.
+    /// How many instruction words they have.
     pub fn words(&self) -> u64
         ensures { result ≡ self.now.words }
     {

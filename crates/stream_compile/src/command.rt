@@ -30,7 +30,7 @@ fn settings_of(options: &Options) -> Settings
     }
 }
 
-/// The command that the words are, or that they are outside the command grammar.
+/// The command that the command line gives, or that it is outside the command grammar.
 fn command_in(alloc: Global, words: &Vec<String>) -> Result<Option<Command>, AllocError>
     ensures said { IfOk result (λ command. command ≡ command_said words.now.items) }
     ensures ranges { IfOk result (λ command. IfSome command IsInRange) }
@@ -42,7 +42,7 @@ fn command_in(alloc: Global, words: &Vec<String>) -> Result<Option<Command>, All
     }
 }
 
-/// Judges what the source gives.
+/// Validates what the source gives.
 fn check<R: Threads + Wait + Sync, S: Source, G: Gate>(
     rt: &R,
     alloc: Global,
@@ -132,8 +132,8 @@ fn exec<S: Source, O: Sink>(
     }
 }
 
-/// Writes what the source comes to, and gives the status: where there is no command, the words ask for nothing. There, and where
-/// the command is `drill`, the source stays as it is.
+/// Writes what the source comes to, and gives the status: where there is no command, the command line asks for nothing. There,
+/// and where the command is `drill`, the source stays as it is.
 #[tactic(auto, using(crate::proofs::Fronts::took_nothing))]
 fn answer_to<R: Threads + Wait + Sync, S: Source, O: Sink, G: Gate>(
     rt: &R,
@@ -167,14 +167,14 @@ fn answer_to<R: Threads + Wait + Sync, S: Source, O: Sink, G: Gate>(
     }
 }
 
-/// Does all that the program does: reads the words and the source, and writes the answer to the sink.
+/// Does all that the program does: reads the command line and the source, and writes the answer to the sink.
 ///
-/// `words` begins with the program's name. The result is the status that the program ends with: 0 where the command was
-/// done, 1 where the words are outside the command grammar, 2 where the bytes are no module, 3 where the function can't be
-/// called so, 4 where it trapped, 5 where its run hadn't ended after all steps, 6 where the source failed and the bytes that
-/// came have no fault that more bytes don't mend, 7 where the sink failed, 8 where memory ran out, after which nothing is
-/// written, 9 where the machine had no step, and 10 where the bytes are no image; the last two come of `exec` alone. For words
-/// outside the command grammar, and for `drill`, the source isn't read.
+/// `words` begins with the program's name. The result is the status that the program ends with: 0 where the command was done, 1
+/// where the command line is outside the command grammar, 2 where the bytes are no module, 3 where the function can't be called
+/// so, 4 where it trapped, 5 where its run hadn't ended after all steps, 6 where the source failed and the bytes that came have
+/// no error that more bytes don't mend, 7 where the sink failed, 8 where memory ran out, after which nothing is written, 9 where
+/// the machine had no step, and 10 where the bytes are no image; the last two come of `exec` alone. For a command line outside
+/// the command grammar, and for `drill`, the source isn't read.
 #[tactic(auto, using(crate::proofs::Fronts::took_nothing))]
 pub fn top<R: Threads + Wait + Sync, S: Source, O: Sink, G: Gate>(
     rt: &R,

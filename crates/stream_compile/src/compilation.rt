@@ -1,5 +1,5 @@
-//! A module that is compiled while its bytes come: its items are kept, its bodies are judged and compiled batch by batch, and at
-//! its end their codes are linked, where they were kept.
+//! A module that is compiled while its bytes come: its items are kept, its bodies are validated and compiled batch by batch, and
+//! at its end their codes are linked, where they were kept.
 
 ghost use Rattle.std.specs.Prelude.{◌≡◌, ◌<◌, ◌≤◌, ◌++◌, ◌&&◌, ℕ, List, [], All, length, false, None, Err, IsSome, is_some, OnOk, IfOk};
 ghost use Rattle.wasm_defs.specs.Outside.{Run as RunGiven};
@@ -37,12 +37,12 @@ pub struct Compilation {
     alloc: Global,
     /// How many bytes of bodies close a batch.
     batch: u32,
-    /// Reads what stands outside bodies.
+    /// Reads what is outside bodies.
     front: Front,
     /// Cuts the bodies, while their section comes.
     cutter: Option<Cutter>,
     spaces: ContextBuilder,
-    /// The codes of the bodies that were judged.
+    /// The codes of the bodies that were validated.
     codes: Codes,
 }
 
@@ -64,8 +64,8 @@ impl Compilation {
         }
     }
 
-    /// Takes the next bytes, however they are cut, up to the module's first fault, and says how many: all of them, or, if
-    /// `up_to_bodies`, those in front of the first body. A fault outside the bodies' bytes is told as soon as no further byte can
+    /// Takes the next bytes, however they are cut, up to the module's first error, and says how many: all of them, or, if
+    /// `up_to_bodies`, those before the first body. An error outside the bodies' bytes is reported as soon as no further byte can
     /// mend it.
     pub fn feed(&mut self, piece: &[u8], up_to_bodies: bool) -> Result<usize, FrontStop>
         requires { MayGo self.old piece.now }
@@ -97,7 +97,7 @@ impl Compilation {
         up_to_bodies && self.cutter.is_some()
     }
 
-    /// Tells a fault that stands there before another byte comes: where a section ends with entries owed, or behind the code
+    /// Reports an error that is there before another byte comes: where a section ends with entries missing, or after the code
     /// section's count.
     fn tell(&mut self) -> Result<(), FrontStop>
         requires { MayGo self.old [] }
@@ -123,7 +123,7 @@ impl Compilation {
         }
     }
 
-    /// Among the bodies: takes the bytes that lie in their section.
+    /// Among the bodies: takes the bytes that are in their section.
     fn cut(&mut self, mut cutter: Cutter, piece: &[u8]) -> Result<usize, FrontStop>
         requires { MayGo (with_cutter self.old cutter) piece.now }
         ensures goes { (bytes more : List ℕ) → IsGoing bytes (with_cutter self.old cutter) (piece.now ++ more) → Advances bytes piece.now result self.new more }
@@ -152,7 +152,7 @@ impl Compilation {
         }
     }
 
-    /// Judges and compiles the bodies of the batches that are closed.
+    /// Validates and compiles the bodies of the batches that are closed.
     fn judge(&mut self, cutter: &mut Cutter) -> Result<(), FrontStop>
         requires { CanTakeAll self.old.spaces self.old.codes cutter.old.queue.closed }
         ensures rest { KeepsRest self.old self.new }
@@ -180,7 +180,7 @@ impl Compilation {
         self.cutter = Some(cutter);
     }
 
-    /// The index spaces of what stands in front of the bodies.
+    /// The index spaces of what comes before the bodies.
     pub fn context(&self) -> &Context
         ensures { result.now ≡ self.now.spaces }
     {
@@ -194,7 +194,8 @@ impl Compilation {
         self.codes.are_kept()
     }
 
-    /// Judges bodies that were kept, with what workers made of them: the rows in the order of the batches, where they are at hand.
+    /// Validates bodies that were kept, with what workers made of them: the rows in the order of the batches, where they are at
+    /// hand.
     pub fn judge_kept(
         &mut self,
         cells: &Cells,
@@ -231,7 +232,7 @@ impl Compilation {
         }
     }
 
-    /// Takes an item that was read; behind the code section's count the bodies come.
+    /// Takes an item that was read; after the code section's count the bodies come.
     fn take_item(&mut self, item: &Item) -> Result<(), FrontStop>
         requires { MayTake self.old item.now }
         ensures takes { (bytes more : List ℕ) → IsTaking bytes self.old item.now more → TakesItem bytes self.old result self.new more }
@@ -269,7 +270,7 @@ impl Compilation {
         )
     }
 
-    /// The bytes have ended: they are a module, all of whose bodies are compiled, or this is what is at fault.
+    /// The bytes have ended: they are a module, all of whose bodies are compiled, or this is what is wrong.
     pub fn finish(&mut self) -> Result<(), FrontStop>
         requires { MayEnd self.old }
         ensures decides { (bytes : List ℕ) → All (λ b. b < 256) bytes → IsGoing bytes self.old [] → Decides bytes result self.new }
@@ -284,7 +285,8 @@ impl Compilation {
         }
     }
 
-    /// Judges what can be judged of the bytes that came: where the cutter has closed batches, and where its section is whole.
+    /// Validates what can be validated of the bytes that came: where the cutter has closed batches, and where its section is
+    /// whole.
     fn settle(&mut self) -> Result<(), FrontStop>
         requires { MayEnd self.old }
         ensures goes { (bytes : List ℕ) → IsGoing bytes self.old [] → GoesOn bytes result self.new [] }

@@ -1,4 +1,4 @@
-//! Judges or compiles the module that a source gives, while its bytes come.
+//! Validates or compiles the module that a source gives, while its bytes come.
 
 ghost use Rattle.std.specs.Prelude.{◌≡◌, ◌<◌, ◌^◌, ◌-◌, true, nat_lt};
 ghost use Rattle.io_edges.specs.Streams.{TookFront};
@@ -13,12 +13,12 @@ use std::alloc::Global;
 use std::sync::Wait;
 use std::thread::Threads;
 
-/// Compiles the module whose bytes the source gives (WebAssembly Web API 1.0, streaming compilation): its one image, or its fault
+/// Compiles the module whose bytes the source gives (WebAssembly Web API 1.0, streaming compilation): its one image, or its error
 /// of least offset. The image behaves as the module does.
 ///
-/// Bytes are read as they come, up to the first fault, and no input is kept. The answer is the same for all settings, and
-/// however the source cuts the bytes. Where the source failed, a fault of the bytes that came decides, if there is one that more
-/// bytes don't mend, and else the answer is `ReadFault`.
+/// Bytes are read as they come, up to the first error, and no input is kept. The answer is the same for all settings, and however
+/// the source cuts the bytes. Where the source failed, an error of the bytes that came decides, if there is one that more bytes
+/// don't mend, and else the answer is `ReadFault`.
 pub fn stream_compile<R: Threads + Wait + Sync, S: Source, G: Gate>(
     rt: &R,
     alloc: Global,
@@ -43,11 +43,11 @@ pub fn stream_compile<R: Threads + Wait + Sync, S: Source, G: Gate>(
     }
 }
 
-/// Judges the module whose bytes the source gives: how many functions it declares and how many bytes it has, or its fault of
+/// Validates the module whose bytes the source gives: how many functions it declares and how many bytes it has, or its error of
 /// least offset.
 ///
-/// It judges and compiles as `stream_compile` does, with the same answer to bytes that are no module and to a source that fails,
-/// and keeps neither the input nor any code: the memory that it takes doesn't grow with the module but for what the module
+/// It validates and compiles as `stream_compile` does, with the same answer to bytes that are no module and to a source that
+/// fails, and keeps neither the input nor any code: the memory that it takes doesn't grow with the module but for what the module
 /// declares outside its bodies.
 pub fn stream_check<R: Threads + Wait + Sync, S: Source, G: Gate>(
     rt: &R,

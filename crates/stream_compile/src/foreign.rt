@@ -16,13 +16,13 @@ const IMAGE_INPUT: usize = 1_073_741_825;
 pub enum Foreign {
     /// The bytes are this image's.
     Image(Image),
-    /// They are none: the offset of their first fault.
+    /// They are none: the offset of their first error.
     Bad(u64),
     /// The source failed.
     Failed,
 }
 
-/// Reads an image: to the source's end, to its fault, or until the bytes are more than an image has.
+/// Reads an image: to the source's end, to its error, or until the bytes are more than an image has.
 pub fn read_foreign<S: Source>(alloc: Global, source: &mut S) -> Result<Foreign, AllocError>
     requires faults { S.faults source.old < 2 ^ 64 - 1 }
     requires open { S.is_open source.old ≡ true }

@@ -18,7 +18,7 @@ use std::alloc::{AllocError, Global};
 use std::sync::Arc;
 use wasm_defs::FrontStop;
 
-/// The bodies that were read, none of which is judged so far.
+/// The bodies that were read, none of which is validated so far.
 #[derive(Drop)]
 pub struct Intake {
     /// Cuts the bodies.
@@ -69,7 +69,7 @@ fn hand_over(
     Ok(())
 }
 
-/// Cuts the bytes of the chunk that are still to be taken, as far as they lie in the bodies' section, and hands over what closes.
+/// Cuts the bytes of the chunk that are still to be taken, as far as they are in the bodies' section, and hands over what closes.
 fn take_piece(
     alloc: Global,
     board: &Board,
@@ -104,7 +104,7 @@ fn take_piece(
     }
 }
 
-/// Reads bodies, and hands their batches over, until their section is whole, a fault was reported, or no more bytes come.
+/// Reads bodies, and hands their batches over, until their section is whole, an error was reported, or no more bytes come.
 #[tactic(auto, using(crate::proofs::Fronts::took_nothing))]
 pub fn read_bodies<S: Source>(
     alloc: Global,

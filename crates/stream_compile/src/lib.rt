@@ -1,4 +1,4 @@
-//! Judges or compiles a module while its bytes arrive, and answers the commands of the program.
+//! Validates or compiles a module while its bytes arrive, and answers the commands of the program.
 #![tactic(auto)]
 
 mod answer;

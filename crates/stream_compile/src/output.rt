@@ -1,4 +1,4 @@
-//! What the program answers: a status, and a text for standard output.
+//! What the program answers: a status, and bytes for standard output.
 
 ghost use Rattle.std.specs.Prelude.{◌≡◌, ◌≤◌, IfOk, length};
 ghost use Rattle.image_format.specs.declared.limits.TheConstants.{IMAGE_BYTES};
@@ -39,7 +39,7 @@ pub struct Output {
     pub text: Text,
 }
 
-/// The words are outside the command grammar.
+/// The command line is outside the command grammar.
 pub fn usage(alloc: Global) -> Result<Output, AllocError>
     ensures { IfOk result (λ a. view a ≡ usage) }
 {
@@ -98,7 +98,7 @@ fn kind_name(kind: Kind) -> &'static str
     }
 }
 
-/// The bytes are no module: this is its fault of least offset.
+/// The bytes are no module: this is its error of least offset.
 pub fn rejected(alloc: Global, refusal: Refusal) -> Result<Output, AllocError>
     ensures { IfOk result (λ a. view a ≡ rejected refusal) }
 {
@@ -132,7 +132,7 @@ pub fn unrunnable(alloc: Global, why: NotRunnable) -> Result<Output, AllocError>
     })
 }
 
-/// The bytes are no image: the offset of their first fault.
+/// The bytes are no image: the offset of their first error.
 pub fn bad_image(alloc: Global, offset: u64) -> Result<Output, AllocError>
     ensures { IfOk result (λ a. view a ≡ bad_image offset) }
 {

@@ -1,4 +1,4 @@
-//! Reads a source, and judges and compiles the module that it gives while its bytes come.
+//! Reads a source, and validates and compiles the module that it gives while its bytes come.
 
 ghost use Rattle.std.specs.Prelude.{◌≡◌, ◌<◌, ◌^◌, ◌-◌, ℕ, Bool, true, false, List, [], Option, None, IsSome, OnOk, nat_lt};
 ghost use Rattle.io_edges.specs.Streams.{TookFront};
@@ -20,13 +20,13 @@ use wasm_defs::{FrontStop, Kind};
 /// What the bytes of a source came to.
 #[derive(Drop)]
 pub struct Ending {
-    /// They are a module, or this is what is at fault.
+    /// They are a module, or this is what is wrong.
     pub judged: Result<(), FrontStop>,
-    /// The source failed behind them.
+    /// The source failed after them.
     pub failed: bool,
 }
 
-/// Judges the bytes of a chunk that are still to be taken; where bodies begin, up to there alone if `up_to_bodies`.
+/// Validates the bytes of a chunk that are still to be taken; where bodies begin, up to there alone if `up_to_bodies`.
 fn take_pending(
     compilation: &mut Compilation,
     chunk: &mut Chunk,
@@ -48,9 +48,9 @@ fn take_pending(
     }
 }
 
-/// Judges and compiles the bytes of a source as they come, up to their end or to the first fault; or to the bodies' beginning, if
-/// `up_to_bodies`, and then it gives none. No byte is asked for behind the answer of the source or of the compilation that ends the
-/// reading.
+/// Validates and compiles the bytes of a source as they come, up to their end or to the first error; or to the bodies' beginning,
+/// if `up_to_bodies`, and then it gives none. No byte is asked for after the answer of the source or of the compilation that ends
+/// the reading.
 #[tactic(auto, using(crate::proofs::Fronts::took_nothing))]
 fn read_on<S: Source>(
     source: &mut S,
@@ -88,7 +88,8 @@ fn read_on<S: Source>(
     }
 }
 
-/// Judges and compiles the bytes of a source as they come, up to their end or to the first fault; its bodies beside so many workers.
+/// Validates and compiles the bytes of a source as they come, up to their end or to the first error; its bodies in parallel by so
+/// many workers.
 #[tactic(auto, using(crate::proofs::Fronts::took_nothing))]
 fn read_source<R: Threads + Wait + Sync, S: Source, G: Gate>(
     rt: &R,
@@ -120,7 +121,7 @@ fn read_source<R: Threads + Wait + Sync, S: Source, G: Gate>(
     }
 }
 
-/// Judges and compiles the bytes of a source as they come, up to their end or to the first fault.
+/// Validates and compiles the bytes of a source as they come, up to their end or to the first error.
 fn read_to_end<S: Source>(source: &mut S, mut chunk: Chunk, compilation: &mut Compilation) -> Ending
     requires { (first : Option (List ℕ)) × (before : ℕ) × IsArriving first before (S.left source.old) (S.faults source.old) (S.is_open source.old) compilation.old chunk }
     ensures settled { (first : Option (List ℕ)) (before : ℕ) → before < 2 ^ 64 - 1 → IsArriving first before (S.left source.old) (S.faults source.old) (S.is_open source.old) compilation.old chunk
@@ -145,7 +146,7 @@ fn answer_of(judged: Result<(), FrontStop>, checked: Checked) -> CheckAnswer
     }
 }
 
-/// What bytes come to behind which their source failed: that more of them are owed is no fault then.
+/// What bytes come to after which their source failed: that more of them are expected is no error then.
 fn stopped(judged: Result<(), FrontStop>) -> CheckAnswer
     ensures { result ≡ stopped_answer judged }
 {
@@ -161,7 +162,8 @@ fn stopped(judged: Result<(), FrontStop>) -> CheckAnswer
     }
 }
 
-/// Judges and compiles what a source gives, its bodies beside so many workers. Where that is a module, its compilation is done.
+/// Validates and compiles what a source gives, its bodies in parallel by so many workers. Where that is a module, its compilation
+/// is done.
 pub fn judge_source<R: Threads + Wait + Sync, S: Source, G: Gate>(
     rt: &R,
     alloc: Global,

@@ -110,8 +110,8 @@ fn take_next(
     }
 }
 
-/// Takes the bodies of a batch in order, up to the first that is at fault. The first of them have the codes that were made, of which
-/// the last one is that of the first body.
+/// Takes the bodies of a batch in order, up to the first that has an error. The first of them have the codes that were made, of
+/// which the last one is that of the first body.
 fn take_bodies(
     alloc: Global,
     spaces: &ContextBuilder,

@@ -12,11 +12,12 @@ use frame_layout::macros::call;
 use rv_isa::{Relocation, WordBuffer, encode};
 use std::alloc::AllocError;
 
-/// So many words of a call stand before its AUIPC.
+/// So many instruction words of a call come before its AUIPC.
 const WORDS_BEFORE: usize = 6;
 
-/// Appends the words of a call behind so many operands, of which the topmost are its arguments, or none for want of memory. Its
-/// distance is 0 until the function has a place in a text. The answer is where its AUIPC stands, and which function it calls.
+/// Appends the instruction words of a call with so many operands on the stack, of which the topmost are its arguments, or none
+/// if memory runs out. Its distance is 0 until the function has an offset in a text. The answer is the index of its AUIPC, and
+/// which function it calls.
 pub fn emit_call(
     buffer: &mut WordBuffer,
     layout: &Layout,

@@ -1,4 +1,4 @@
-//! The caller's frame moves up for a call, and back behind it.
+//! The caller's frame moves up for a call, and back after it.
 
 ghost use Rattle.std.specs.Prelude.{◌≡◌, map};
 ghost use Rattle.rv_isa.specs.Words.{word_of};

@@ -1,4 +1,4 @@
-//! Calls of functions by their place in the table (Core 4.4.5.11).
+//! Calls of functions by their index in the table (Core 4.4.5.11).
 
 ghost use Rattle.std.specs.Prelude.{◌≡◌, ◌+◌, ◌-◌, ◌<◌, ◌≤◌, ◌^◌, ℕ, ◌++◌, map, OnOk, OnErr};
 ghost use Rattle.rv_isa.specs.Words.{word_of};
@@ -25,7 +25,7 @@ fn table() -> Register
     Register::new(20)
 }
 
-/// The words that bring the index in a slot into t0, and trap where the table hasn't so many rows.
+/// The instruction words that bring the index in a slot into t0, and trap where the table hasn't so many rows.
 fn index_within(slot: u32, rows: u32) -> [u32; 14]
     ensures { result ≡ map word_of (index_words slot rows) }
 {
@@ -50,7 +50,8 @@ fn row_load(rd: Register, offset: u16) -> Op
     }
 }
 
-/// The words that bring the function of the row of that index into t1, and trap where there is none or one of another type.
+/// The instruction words that bring the function of the row of that index into t1, and trap where there is none or one of another
+/// type.
 fn function_of_row(like: u32) -> [Op; 17]
     ensures { result ≡ row_words like }
 {
@@ -78,7 +79,7 @@ fn function_of_row(like: u32) -> [Op; 17]
     ]
 }
 
-/// The words that call the function in t1, with its frame so many slots on.
+/// The instruction words that call the function in t1, with its frame so many slots on.
 fn call_within(slots: u32) -> [u32; 13]
     ensures { result ≡ map word_of (going_words slots) }
 {
@@ -88,9 +89,9 @@ fn call_within(slots: u32) -> [u32; 13]
     [a, b, c, d, e, f, jump, u, v, w, x, y, z]
 }
 
-/// Appends the words of an indirect call behind so many operands, of which the topmost is the index and those below it are the
-/// arguments, or none for want of memory. They trap where the index isn't one of the table's rows, the row has no function, or its
-/// function's type isn't the one of that number: the least index of an equal type.
+/// Appends the instruction words of an indirect call with so many operands on the stack, of which the topmost is the index and
+/// those below it are the arguments, or none if memory runs out. They trap where the index isn't one of the table's rows, the row
+/// has no function, or its function's type isn't the one of that number: the least index of an equal type.
 pub fn emit_indirect(
     buffer: &mut WordBuffer,
     layout: &Layout,

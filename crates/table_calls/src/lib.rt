@@ -1,5 +1,5 @@
 //! Calls (WebAssembly Core 1.0, 4.4.5.10 and 4.4.5.11), the beginning and the end of a function, and the stub of an imported one.
-//! `Templates` of `frame_layout` has the words.
+//! `Templates` of `frame_layout` has the instruction words.
 #![tactic(auto)]
 
 mod call;

@@ -43,8 +43,8 @@ fn zeros(layout: &Layout) -> [Op; 15]
     ]
 }
 
-/// Appends the words at the beginning of a function, or none for want of memory: they trap where the stack has no room for its
-/// frame, keep the place to return to, and make its declared locals zero.
+/// Appends the instruction words at the beginning of a function, or none if memory runs out: they trap where the stack has no
+/// room for its frame, keep the return address, and make its declared locals zero.
 pub fn emit_prologue(buffer: &mut WordBuffer, layout: &Layout) -> Result<(), AllocError>
     requires { need layout.now < 2 ^ 32 }
     ensures ok { OnOk result (buffer.new ≡ buffer.old ++ map word_of (prologue layout.now)) }

@@ -13,14 +13,14 @@ use frame_layout::words::{slot_load, slot_store};
 use rv_isa::{Imm12, Register, WordBuffer, encode_jalr};
 use std::alloc::AllocError;
 
-/// The word of the jump to the place in ra.
+/// The instruction word of the jump to the address in ra.
 pub fn jump_back() -> u32
     ensures { result ≡ word_of (JalrGiven x0 ra 0) }
 {
     encode_jalr(Register::ZERO, Register::RA, Imm12::new(0))
 }
 
-/// Appends the words that move the result of an index to its slot, or none for want of memory.
+/// Appends the instruction words that move the result of an index to its slot, or none if memory runs out.
 fn move_result(buffer: &mut WordBuffer, layout: &Layout, index: u32) -> Result<(), AllocError>
     requires { operand layout.now index < 2 ^ 32 }
     ensures ok { OnOk result (buffer.new ≡ buffer.old ++ map word_of (load_slot t0 (operand layout.now index) ++ store_slot t0 index)) }
@@ -31,8 +31,8 @@ fn move_result(buffer: &mut WordBuffer, layout: &Layout, index: u32) -> Result<(
     buffer.append(&[a, b, c, x, y, z])
 }
 
-/// Appends the words that move so many results to the frame's first slots, or for want of memory those of some, and says whether
-/// all are there.
+/// Appends the instruction words that move so many results to the frame's first slots, or, if memory runs out, those of some,
+/// and says whether all are there.
 fn move_results(buffer: &mut WordBuffer, layout: &Layout, results: u32) -> bool
     requires { 0 < results → operand layout.now (results - 1) < 2 ^ 32 }
     ensures all { OnTrue result (buffer.new ≡ buffer.old ++ map word_of (result_words layout.now results 0)) }
@@ -47,8 +47,8 @@ fn move_results(buffer: &mut WordBuffer, layout: &Layout, results: u32) -> bool
     true
 }
 
-/// Appends the words at the end of a function of so many results, or none for want of memory: its results move to the frame's
-/// first slots, and the machine goes to the place to return to.
+/// Appends the instruction words at the end of a function of so many results, or none if memory runs out: its results move to
+/// the frame's first slots, and the machine goes to the return address.
 pub fn emit_return(buffer: &mut WordBuffer, layout: &Layout, results: u32) -> Result<(), AllocError>
     requires link { link layout.now < 2 ^ 32 }
     requires result { 0 < results → operand layout.now (results - 1) < 2 ^ 32 }

@@ -8,7 +8,7 @@ use frame_layout::words::{const_32, trap};
 use rv_isa::{BranchOp, Imm12, RegOp, Register, encode_branch, encode_reg};
 use wasm_defs::TrapKind;
 
-/// The words past the trap where the stack has so many slots from s0 on.
+/// The instruction words past the trap where the stack has so many slots from s0 on.
 pub fn room(slots: u64) -> [u32; 10]
     requires { slots ≤ 2 ^ 32 }
     ensures { result ≡ map word_of (room_words slots) }

@@ -1,4 +1,5 @@
-//! Laws of verdicts: each body is valid or has a fault, and any bytes are a module or have a fault.
+//! Laws of verdicts: each body is valid or has an error, and any bytes are a module or have an
+//! error.
 #![tactic(auto)]
 
 mod verdicts;

@@ -12,7 +12,7 @@ ghost use Rattle.wasm_laws.specs.Sections.{AreBytes};
 ghost use Rattle.body_laws.specs.Spelled.{IsSpelledModule};
 ghost use Rattle.image_linker.specs.Judging.{IsFaultOf, IsModuleOf, IsVerdictOf, sizes, text_bytes};
 
-/// The code of a body is valid, with a tree, or it has a fault; never both.
+/// The code of a body is valid, with a tree, or it has an error; never both.
 pub fn each_code_is_judged()
     ensures one { (c : Context) (first : ℕ) (bytes : List ℕ) →
         ((tree : Seq) × IsValidCode c (body_read first bytes).code tree)
@@ -21,13 +21,13 @@ pub fn each_code_is_judged()
         IsValidCode c (body_read first bytes).code tree → IsCodeFault c (body_read first bytes).code r → ⊥ }
 {}
 
-/// Any bytes have a verdict: they are a module, or they have a fault, of which one has the least offset.
+/// Any bytes have a verdict: they are a module, or they have an error, of which one has the least offset.
 pub fn each_has_a_verdict()
     ensures { (bytes : List ℕ) → (v : Verdict) × IsVerdictOf bytes v }
 {}
 
-/// Bytes have no fault exactly where they are a module: where the grammar spells them, their bodies too, the rules are kept, the
-/// trees are typed, and the text keeps its limit.
+/// Bytes have no error exactly where they are a module: where the grammar encodes them, their bodies too, the rules are kept,
+/// the trees are typed, and the text keeps its limit.
 pub fn no_fault_is_a_module()
     ensures read { (bytes : List ℕ) →
         ((r : Refusal) → IsFaultOf bytes r → ⊥) ↔ ((m : Module) × IsModuleOf bytes m) }

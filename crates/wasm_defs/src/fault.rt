@@ -1,6 +1,6 @@
-//! Faults of a module.
+//! Errors of a module.
 
-/// What is wrong with a module. Where one field fails in several ways, the kind that stands first here is meant.
+/// What is wrong with a module. Where one field fails in several ways, the kind that comes first here is meant.
 #[derive(Clone, Copy, Debug, PartialEq, Eq)]
 pub enum Kind {
     /// The binary grammar (Core 5) has no such bytes.
@@ -11,11 +11,11 @@ pub enum Kind {
     Limit,
     /// A rule of validation (Core 3) is broken.
     Invalid,
-    /// The bytes end where more is owed.
+    /// The bytes end where more are expected.
     Ended,
 }
 
-/// The fault of a module: what it is, and the offset of the byte where it stands, counted from the module's first.
+/// The error of a module: what it is, and the offset of the byte that it is at, counted from the module's first.
 #[derive(Clone, Copy, Debug, PartialEq, Eq)]
 pub struct Refusal {
     pub offset: u64,

@@ -28,8 +28,8 @@ pub struct Constant {
     pub end: u64,
 }
 
-/// An item, with the offsets of its fields. The types of a function type and the indices of an element segment stand one
-/// after the other behind their count, whose offset alone is kept.
+/// An item, with the offsets of its fields. The types of a function type and the indices of an element segment follow
+/// one another after their count, whose offset alone is kept.
 #[derive(Debug, Drop)]
 pub enum Item {
     /// A function type (Core 5.3.3): the offsets of its form and of the two counts.

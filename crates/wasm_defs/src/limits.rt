@@ -1,10 +1,10 @@
 //! The limits of this implementation (Core, appendix "Implementation Limitations", lets an implementation set them), and
-//! one bound of the standard. All of them stand here.
+//! one bound of the standard. All of them are here.
 
 /// Bytes of a module: what is read is bounded.
 pub const MAX_MODULE: u64 = 67_108_864;
 
-/// Bytes of a body: a body is held whole while it is judged.
+/// Bytes of a body: a body is held whole while it is validated.
 pub const MAX_BODY: u32 = 1_048_576;
 
 /// Types; imports; imports and functions together; globals; exports; element segments; data segments: so many of each.

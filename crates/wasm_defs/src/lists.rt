@@ -54,5 +54,5 @@ pub type Indices = Sequence<u32>;
 /// The labels of a `br_table` but its last one, 0 being the innermost (Core 2.4.5).
 pub type Labels = Sequence<u32>;
 
-/// Value types in the order of the text.
+/// Value types in the order of the module's bytes.
 pub type ValTypes = Sequence<ValType>;

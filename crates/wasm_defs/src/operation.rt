@@ -1,5 +1,5 @@
 //! Operations: instructions without immediates that compute, and those that load and store (Core 2.4.1, 2.4.4). The tables
-//! of their opcodes stand here, a row for each opcode.
+//! of their opcodes are here, a row for each opcode.
 
 ghost use Rattle.std.specs.Prelude.{◌≡◌, ◌-◌, ◌≤◌, slice_get};
 ghost use Rattle.wasm_defs.specs.Opcodes.{operations, accesses};

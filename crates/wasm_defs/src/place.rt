@@ -1,4 +1,4 @@
-//! Places of a module, which tell where a run trapped.
+//! Places of a module, which say where a run trapped.
 
 /// A function of a module and a byte of the module's.
 #[derive(Clone, Copy, Debug, PartialEq, Eq)]

@@ -51,7 +51,7 @@ pub enum Plain {
     Operate(Operation),
 }
 
-/// What a body is spelled with.
+/// What a body is encoded from.
 #[derive(Debug, Drop)]
 pub enum Token {
     Plain(Plain),

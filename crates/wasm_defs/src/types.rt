@@ -9,7 +9,8 @@ pub enum ValType {
     I64,
 }
 
-/// A function type (Core 2.3.3). Its lists stand in the order of the text: the last one's value lies topmost.
+/// A function type (Core 2.3.3). Its lists are in the order of the module's bytes: the last one's value is
+/// topmost.
 #[derive(Debug, Drop)]
 pub struct FuncType {
     pub params: ValTypes,

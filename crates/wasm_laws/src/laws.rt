@@ -37,8 +37,7 @@ pub fn sections_are_steady()
     ensures end { SteadyEnd section_end }
 {}
 
-/// The fields of bodies are steady (Core 5.4 and 5.5.13): the locals, and each instruction, whose fault may stand at its
-/// opcode.
+/// The fields of bodies are steady (Core 5.4 and 5.5.13): the locals, and each instruction, whose error may be at its opcode.
 pub fn bodies_are_steady()
     ensures locals { Steady [] local_groups }
     ensures instruction { (at b : ℕ) → Steady (at ∷ []) (instruction at b) }
@@ -67,8 +66,8 @@ pub fn reading_is_bounded()
         deciding_length ≤ length bytes → module_read (bytes ++ more) ≡ module_read bytes }
 {}
 
-/// The parts of a module stand in order, each behind the one before, and no later than the fault that ends reading (Core
-/// 5.5): sections begin no later, and bodies end before it. They are cut from the module's bytes.
+/// The parts of a module are in order, each after the one before, and no later than the error that ends reading (Core 5.5):
+/// sections begin no later, and bodies end before it. They are cut from the module's bytes.
 pub fn parts_are_in_order()
     ensures before_fault { (bytes : List ℕ) (r : Refusal) →
         let run = module_read bytes in
@@ -79,7 +78,7 @@ pub fn parts_are_in_order()
     ensures cut { (bytes : List ℕ) → AreCutFrom bytes (module_read bytes).parts }
 {}
 
-/// Of parts in order, those in front of one stand before it, and those behind it from its end on.
+/// Of parts in order, those before one in the list end before it, and those after it begin from its end on.
 pub fn others_stand_around()
     ensures body { (low last : ℕ) (front : List Part) (b : Body) (back : List Part) →
         AreOrdered low last (front ++ Coded b ∷ back) →
@@ -89,15 +88,15 @@ pub fn others_stand_around()
         AreOrdered low at front × (low ≤ at) × (at ≤ last) × AreOrdered (suc at) last back }
 {}
 
-/// A body's tokens stand in order, each behind the one before, and no later than the fault of spelling, which stands at a byte
-/// of the body (Core 5.4).
+/// A body's tokens are in order, each after the one before, and no later than the error of encoding, which is at a byte of the body
+/// (Core 5.4).
 pub fn bodies_are_in_order()
     ensures { (first : ℕ) (bytes : List ℕ) → 0 < length bytes →
         IsSpelledIn first (last_of first bytes) (body_read first bytes).code }
 {}
 
-/// A body belongs to a declared function (Core 5.5.13): more functions are declared before a body than bodies stand there,
-/// none is declared behind it, and a whole module has as many bodies as functions.
+/// A body belongs to a declared function (Core 5.5.13): more functions are declared before a body than bodies come before it, none
+/// is declared after it, and a whole module has as many bodies as functions.
 pub fn bodies_match_functions()
     ensures declared { (bytes : List ℕ) → AreDeclared 0 0 (module_read bytes).parts }
     ensures whole { (bytes : List ℕ) (seen : Seen) →
@@ -107,14 +106,14 @@ pub fn bodies_match_functions()
 {}
 
 /// A body's function has a type (Core 2.5.1 and 3.4.1): the function whose index counts the imported functions and the bodies
-/// before this one stands among the items before it, and so does the type that the function names.
+/// before this one is among the items before it, and so is the type that the function names.
 pub fn functions_have_types()
     ensures { (bytes : List ℕ) → AreTyped [] 0 (module_read bytes).parts }
 {}
 
-/// Behind a body no section comes but that of data segments (Core 5.5.2), so that the items before it say all that a body may
-/// name: the context of bodies, and the module's functions, tables and memories. So a module's bodies are valid in the context
-/// of all its items.
+/// After a body no section comes but that of data segments (Core 5.5.2), so that the items before it say all that a body may name:
+/// the context of bodies, and the module's functions, tables and memories. So a module's bodies are valid in the context of all its
+/// items.
 pub fn bodies_stand_behind_items()
     ensures behind { (bytes : List ℕ) (front : List Part) (b : Body) (back : List Part) →
         let run = module_read bytes in
@@ -122,8 +121,8 @@ pub fn bodies_stand_behind_items()
     ensures valid { (bytes : List ℕ) (m : Module) → IsModule bytes m → AreValidIn m.items 0 m.bodies m.trees }
 {}
 
-/// The immediates of a body's instructions have the bits that bytes spell, a block's type that is one of the module's too, and each token
-/// has a byte.
+/// The immediates of a body's instructions have the bits that bytes encode, a block's type that is one of the module's too, and
+/// each token has a byte.
 pub fn immediates_are_in_range()
     ensures range { (first : ℕ) (bytes : List ℕ) (tree : Seq) → AreBytes bytes →
         let code = (body_read first bytes).code in
@@ -169,7 +168,7 @@ pub fn imports_return_one()
     ensures { (bytes : List ℕ) (m : Module) → IsModule bytes m → ImportsReturnOne (types_of m.items) m.items }
 {}
 
-/// What traps are told by stands at offsets of 32 bits: a module's imports, its bodies, and the tokens of these.
+/// What traps are reported by is at offsets of 32 bits: a module's imports, its bodies, and the tokens of these.
 pub fn offsets_are_short()
     ensures { (bytes : List ℕ) (m : Module) → AreBytes bytes → IsModule bytes m → AreShortImports m.items × AreShortBodies m.bodies }
 {}

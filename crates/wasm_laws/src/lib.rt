@@ -1,5 +1,5 @@
-//! Laws of how a module's bytes are read: what more bytes change, how far reading goes, where its parts and its first fault
-//! stand, and that it reads what the grammar spells. The definitions are those of `wasm_defs`.
+//! Laws of how a module's bytes are read: what more bytes change, how far reading goes, where its parts and its first error
+//! are, and that it reads what the grammar encodes. The definitions are those of `wasm_defs`.
 #![tactic(auto)]
 
 mod grammar;

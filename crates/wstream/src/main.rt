@@ -1,4 +1,4 @@
-//! Judges WebAssembly modules that come over standard input.
+//! Validates WebAssembly modules that come over standard input.
 #![tactic(auto)]
 
 ghost use Rattle.std.specs.Io.{WritesAtMost};
@@ -12,10 +12,11 @@ use stream_compile::top;
 /// The status where memory ran out.
 const OUT_OF_MEMORY: u8 = 8;
 
-/// What the first word is, in place of the path that the program was started by.
+/// What the first argument is, in place of the path that the program was started by.
 const NAME: &str = "wstream";
 
-/// The environment, but for the path that the program was started by: that is no word of a command, and needs not be UTF-8.
+/// The environment, but for the path that the program was started by: that is no argument of a command, and needs not be
+/// UTF-8.
 #[derive(Drop)]
 struct Named<'a, E> {
     env: &'a E,
@@ -51,7 +52,7 @@ impl<'a, E: Env> Env for Named<'a, E> {
     }
 }
 
-/// The program's words, its name first; none where one behind the name isn't UTF-8, since no command has such words.
+/// The program's arguments, its name first; none where one after the name isn't UTF-8, since no command has such arguments.
 fn words(rt: &HostRuntime) -> io::Result<Vec<String>> {
     let alloc = rt.alloc();
     let args = match env::args(&(Named { env: rt }, alloc)) {

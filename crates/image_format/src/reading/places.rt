@@ -13,7 +13,7 @@ use crate::reading::fields::offset_at;
 use crate::version::Version;
 use std::alloc::Global;
 
-/// A number of at most the text's words.
+/// A number of at most the text's instruction words.
 #[tactic(auto, unfolding(crate::specs::Reading::at_most))]
 fn count_at(words: usize, bytes: &[u8]) -> Result<(u32, &[u8]), Stop>
     ensures { Gives (λ x. (x.0, x.1.now)) result (at_most words bytes.now) }
@@ -25,7 +25,7 @@ fn count_at(words: usize, bytes: &[u8]) -> Result<(u32, &[u8]), Stop>
     Ok((count, rest))
 }
 
-/// The offset of a word in a text of so many, from a bound on.
+/// The offset of an instruction word in a text of so many, from a bound on.
 #[tactic(auto, unfolding(crate::specs::Reading::trap_offset_at))]
 fn trap_offset_at(words: usize, bound: u64, bytes: &[u8]) -> Result<(u32, &[u8]), Stop>
     ensures { Gives (λ x. (x.0, x.1.now)) result (trap_offset_at words bound bytes.now) }
@@ -52,7 +52,7 @@ fn place_at(words: usize, bound: u64, bytes: &[u8]) -> Result<(TrapPlace, &[u8])
     Ok((place, rest))
 }
 
-/// So many places, each behind those in front of it.
+/// So many places, each after the ones before it.
 fn place_items_at(
     alloc: Global,
     words: usize,
@@ -73,7 +73,7 @@ fn place_items_at(
     Ok((places, rest))
 }
 
-/// The places that an image of some version has, where its text has so many words.
+/// The places that an image of some version has, where its text has so many instruction words.
 #[tactic(auto, unfolding(crate::specs::Reading::places_at))]
 pub fn places_at(
     alloc: Global,
