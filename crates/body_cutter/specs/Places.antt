@@ -1,11 +1,11 @@
--- Where reading stands in a code section, and what is still to come from there.
+-- Where reading is in a code section, and what is still to come from there.
 use Rattle.std.specs.Prelude.{ℕ, suc, ◌-◌, Bool, true, false, List, ◌++◌, length, Option, None, Some}
 use Rattle.wasm_defs.specs.declared.fault.Refusal.{Refusal}
 use Rattle.body_cutter.specs.Sections.{Given, ends, Faulty, with_part, goes_on, bodies_from, sized}
 
--- the index of the function behind the last body's; how many bodies are to come, that in hand among them; the offsets of the
+-- the index of the function after the last body's; how many bodies are to come, that in hand among them; the offsets of the
 -- next byte and of the section's end; the offset of the size in hand, and its bytes that came; whether it is whole, the
--- size, and the body's bytes that came; and the first fault
+-- size, and the body's bytes that came; and the first error
 pub record Place : Type 0 where
   pub behind : ℕ
   pub count : ℕ

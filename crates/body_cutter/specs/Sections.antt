@@ -8,7 +8,7 @@ use Rattle.wasm_defs.specs.Fields.{Cursor, Read, Got, Fault, Wants, Reader, ◌>
 use Rattle.wasm_defs.specs.Outside.{Part, Section, Listed, Coded, body, section_end}
 use Rattle.body_cutter.specs.declared.body.Body.{Body}
 
--- the section is whole, it has a fault, or more bytes are owed
+-- the section is whole, it has an error, or more bytes are owed
 pub data End : Type 0 where
   Whole : End
   Faulty : (r : Refusal) → End
@@ -47,7 +47,7 @@ sized size len = do
   bytes ← run len
   done (Coded (record { size = size; first = at; bytes = bytes }))
 
--- what is wrong with a size behind which the section has so many bytes, as `body` judges it
+-- what is wrong with a size after which the section has so many bytes, as `body` validates it
 abbrev pub size_fault : ℕ → ℕ → Option Kind
 size_fault size room =
     if nat_lt size 2 || nat_lt room size then Some Malformed

@@ -7,7 +7,7 @@ use Rattle.body_cutter.specs.declared.walk.Walk.{Walk}
 use Rattle.body_cutter.specs.Sections.{Given, after_bodies}
 use Rattle.body_cutter.specs.Places.{Place, on_size, on_body, on_hand, still}
 
--- where a walk stands
+-- where a walk is
 abbrev pub position_of : Walk → Place
 position_of w = record {
   behind = w.behind;

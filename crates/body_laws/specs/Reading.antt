@@ -22,13 +22,13 @@ Closes zero (t ∷ ts) = ⊥
 Closes (suc depth) [] = ⊥
 Closes (suc depth) (t ∷ ts) = Closes (depth_after t (suc depth)) ts
 
--- tokens are wrong behind these: they close the body, and what is left is malformed at its first byte; or they don't, and the bytes
+-- tokens are wrong after these: they close the body, and what is left is malformed at its first byte; or they don't, and the bytes
 -- begin no token
 abbrev pub IsWrongAfter : (depth : ℕ) → List Token → (at : ℕ) → List ℕ → (last : ℕ) → Refusal → Type 0
 IsWrongAfter depth tokens at bytes last r = (Closes depth tokens × (r ≡ record { offset = at; kind = Malformed })) ⊎ IsWrongToken at bytes last r
 
--- behind these groups of locals the tokens are those of the longest front: no token's spelling begins what is behind it, unless
--- the tokens close the body. There stands the wrong field; there is none where the tokens close the body and nothing is left
+-- after these groups of locals the tokens are those of the longest prefix: no token's encoding begins what is after it, unless the
+-- tokens close the body. There is the wrong field; there is none where the tokens close the body and nothing is left
 pub record IsReadThrough (groups : List Group) (at : ℕ) (bytes : List ℕ) (last : ℕ) (read : BodyRead) : Type 0 where
   pub locals : read.groups ≡ groups
   pub front : List ℕ

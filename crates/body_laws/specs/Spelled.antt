@@ -1,4 +1,4 @@
--- Bodies of a module as the grammar spells them, with no reader (WebAssembly Core 1.0, 5.4, 5.5.13 and 3.4.1).
+-- Bodies of a module as the grammar encodes them, with no reader (WebAssembly Core 1.0, 5.4, 5.5.13 and 3.4.1).
 use Rattle.std.specs.Prelude.{◌≡◌, ℕ, suc, ◌+◌, List, [], ◌∷◌}
 use Rattle.wasm_defs.specs.declared.item.Item.{Item}
 use Rattle.wasm_defs.specs.declared.token.Token.{Token}
@@ -14,7 +14,7 @@ use Rattle.wasm_laws.specs.Behind.{UsesKeep}
 use Rattle.wasm_laws.specs.Kept.{LocalsAreFew}
 use Rattle.wasm_laws.specs.Sections.{AreSectionsOf}
 
--- the k-th body of a module of these items: its bytes spell groups of locals and the tokens of a tree, which is typed
+-- the k-th body of a module of these items: its bytes encode groups of locals and the tokens of a tree, which is typed
 pub record IsSpelled (items : List Item) (k : ℕ) (b : Body) (tree : Seq) : Type 0 where
   pub groups : List Group
   pub tokens : List (ℕ × Token)
@@ -31,7 +31,7 @@ AreSpelled items k (b ∷ bodies) [] = ⊥
 AreSpelled items k (b ∷ bodies) (tree ∷ trees) = IsSpelled items k b tree × AreSpelled items (suc k) bodies trees
 
 -- the bytes are a module of these sections; its start function is one of those before it, of the right type; and its bodies are
--- spelled
+-- encoded
 pub record IsSpelledModule (bytes : List ℕ) (m : Module) (sections : List Section) : Type 0 where
   pub is : AreSectionsOf sections bytes
   pub items : m.items ≡ items_in sections

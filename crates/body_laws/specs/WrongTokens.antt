@@ -1,4 +1,4 @@
--- Where the tokens of a body are wrong (WebAssembly Core 1.0, 5.4): at an opcode, or behind it at the first field that isn't spelled.
+-- Where the tokens of a body are wrong (WebAssembly Core 1.0, 5.4): at an opcode, or after it at the first field that isn't encoded.
 use Rattle.std.specs.Prelude.{◌≡◌, ◌⊎◌, ℕ, ℤ, ◌+◌, List, [], ◌∷◌, ◌++◌, length, replicate}
 use Rattle.wasm_defs.specs.declared.fault.Kind.TheVariants.{Malformed}
 use Rattle.wasm_defs.specs.declared.fault.Refusal.{Refusal}
@@ -42,14 +42,14 @@ following_is Labels = λ at bytes. (n : ℕ) × (listed_index_is n then fields_a
 abbrev pub IsWrongField : Field → (at : ℕ) → List ℕ → (last : ℕ) → Refusal → Type 0
 IsWrongField f at bytes last r = IsWrong (λ (u : Unit {0}). field_is f) at bytes last r
 
--- some of these fields are spelled, and the next one is wrong
+-- some of these fields are encoded, and the next one is wrong
 abbrev pub AreWrongFields : List Field → (at : ℕ) → List ℕ → (last : ℕ) → Refusal → Type 0
 AreWrongFields [] at bytes last r = ⊥
 AreWrongFields (f ∷ fs) at bytes last r =
     IsWrongField f at bytes last r
     ⊎ ((front back : List ℕ) × (bytes ≡ front ++ back) × field_is f at front × AreWrongFields fs (at + length front) back last r)
 
--- the number of labels is spelled, and one of them is wrong, or they are spelled too, and the last one is wrong
+-- the number of labels is encoded, and one of them is wrong, or they are encoded too, and the last one is wrong
 pub record AreWrongLabels (at : ℕ) (bytes : List ℕ) (last : ℕ) (r : Refusal) : Type 0 where
   pub count : ℕ
   pub front : List ℕ
@@ -80,8 +80,8 @@ pub record IsWrongBehindOpcode (at : ℕ) (bytes : List ℕ) (last : ℕ) (r : R
   pub follows : (t : Token) (more : List ℕ) → AreBytes more → instruction_is t at (opcode ∷ more) → following_is following (at + 1) more
   pub wrong : IsWrongFollowing following (at + 1) behind last r
 
--- the bytes begin no token: the fault stands at the first field that isn't spelled; or, where the bytes end before it does, at the
--- body's last byte
+-- the bytes begin no token: the error is at the first field that isn't encoded; or, where the bytes end before it does, at the body's
+-- last byte
 abbrev pub IsWrongToken : (at : ℕ) → List ℕ → (last : ℕ) → Refusal → Type 0
 IsWrongToken at bytes last r =
     ((bytes ≡ []) × (r ≡ record { offset = last; kind = Malformed }))

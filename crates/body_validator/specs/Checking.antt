@@ -18,7 +18,7 @@ Operand = Option ValType
 -- the operands of one frame, the topmost first
 pub record Operands : Type 0 where
   pub own : List Operand
-  -- any operands may lie below these: what comes after `unreachable` and the like
+  -- any operands may be below these: what comes after `unreachable` and the like
   pub unknown : Bool
   -- the place here can be reached
   pub live : Bool
@@ -191,7 +191,7 @@ abbrev pub place_of : Frames → Place
 place_of [] = None
 place_of (f ∷ fs) = guarded f.operands.live (height (f ∷ fs))
 
--- the checker with the greatest height that it has met where the place was live
+-- the checker with the greatest height that it has met where the point was reachable
 pub record Checker : Type 0 where
   pub frames : Frames
   pub greatest : ℕ
@@ -209,7 +209,7 @@ abbrev pub run_checker : Context → List Token → Checker → Option Checker
 run_checker c [] s = Some s
 run_checker c (t ∷ ts) s = step_checker c t s >>= run_checker c ts
 
--- ---- nesting alone, and the kind of a fault
+-- ---- nesting alone, and the kind of an error
 
 -- the openings of the frames that are open after one more token
 abbrev pub nest : Token → List Opening → Option (List Opening)
@@ -233,7 +233,7 @@ abbrev pub kind_of : Option (List Opening) → Kind
 kind_of None = Malformed
 kind_of (Some os) = Invalid
 
--- the kind of the fault of a token that the frames don't take
+-- the kind of the error of a token that the frames don't take
 abbrev pub fault_kind : Token → Frames → Kind
 fault_kind t fs = kind_of (nest t (openings fs))
 

@@ -18,14 +18,14 @@ use Rattle.wasm_defs.specs.Places.{places_of}
 use Rattle.wasm_defs.specs.Viable.{IsViable, IsFaulty}
 use Rattle.body_validator.specs.Checking.{Frames, guarded, step, fault_kind, height, is_live, Checker, start_checker, step_checker, run_checker}
 
--- the context of the body, and the checker behind the tokens that were taken
+-- the context of the body, and the checker after the tokens that were taken
 pub record Checked : Type 0 where
   pub context : Context
   -- how many of the locals are parameters
   pub params : ℕ
   pub checker : Checker
 
--- before the first token of the body of a function of that type in a module, behind these groups of locals
+-- before the first token of the body of a function of that type in a module, after these groups of locals
 abbrev pub before_code : Context → FuncType → List Group → Checked
 before_code c f groups = record {
   context = body_context c f groups;

@@ -29,17 +29,17 @@ abbrev pub BodiesAreAccepted : Type 0
 BodiesAreAccepted =
     (c : Context) (tokens : List Token) → Reaches c tokens [] ↔ ((tree : Seq) × Tree tokens tree × IsBody c tree)
 
--- tokens spell one body
+-- tokens encode one body
 abbrev pub TreesAreOne : Type 0
 TreesAreOne = (tokens : List Token) (s t : Seq) → Tree tokens s → Tree tokens t → s ≡ t
 
--- the place behind the tokens is live where the tree says so, and at its height
+-- the point after the tokens is reachable where the tree says so, and at its height
 abbrev pub PlacesAreKept : Type 0
 PlacesAreKept =
     (c : Context) (tokens : List Token) (t : Token) (more : List Token) (tree : Seq) (fs : Frames) → Reaches c tokens fs
     → Tree (tokens ++ t ∷ more) tree → IsBody c tree → slice_get (places_of c tree) (length tokens) ≡ Some (place_of fs)
 
--- at the body's end the checker has its greatest live height
+-- at the body's end the checker has its greatest reachable height
 abbrev pub HeightsAreMeasured : Type 0
 HeightsAreMeasured =
     (c : Context) (tokens : List Token) (tree : Seq) (most : ℕ) → run_checker c tokens (start_checker c) ≡ Some (record { frames = []; greatest = most })

@@ -1,4 +1,4 @@
--- Locals as runs of one type, which stand behind so many other locals.
+-- Locals as runs of one type, which follow so many other locals.
 use Rattle.std.specs.Prelude.{ℕ, ◌-◌, ◌≤◌, List, [], ◌∷◌, ◌++◌, replicate}
 use Rattle.wasm_defs.specs.Typing.{Types}
 use Rattle.body_validator.specs.declared.locals.Run.{Run}
@@ -13,7 +13,7 @@ abbrev pub run_types : ℕ → List Run → Types
 run_types start [] = []
 run_types start (r ∷ rs) = replicate (r.end - start) r.ty ++ run_types r.end rs
 
--- no run ends before the one that it stands behind
+-- no run ends before the one that it follows
 abbrev pub AreRising : ℕ → List Run → Type 0
 AreRising start [] = Unit {0}
 AreRising start (r ∷ rs) = (start ≤ r.end) × AreRising r.end rs

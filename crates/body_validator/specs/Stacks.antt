@@ -18,12 +18,12 @@ frame_of f items = record {
   operands = record { own = own_of items f.base; unknown = f.unknown; live = f.live };
 }
 
--- the frames, the innermost first: what lies below a frame's base is the next one's
+-- the frames, the innermost first: what is below a frame's base is the next one's
 abbrev pub frames_of : List Flat → List Operand → Frames
 frames_of [] items = []
 frames_of (f ∷ fs) items = frame_of f items ∷ frames_of fs (take f.base items)
 
--- each frame's base lies within the operands, and no operand below all of them
+-- each frame's base is within the operands, and no operand below all of them
 abbrev pub IsLaid : List Flat → List Operand → Type 0
 IsLaid [] items = items ≡ []
 IsLaid (f ∷ fs) items = (f.base ≤ length items) × IsLaid fs (take f.base items)
@@ -32,7 +32,7 @@ IsLaid (f ∷ fs) items = (f.base ≤ length items) × IsLaid fs (take f.base it
 abbrev pub HasLast : List Flat → Flat → Type 0
 HasLast fs f = reverse fs ≡ f ∷ reverse (take (length fs - 1) fs)
 
--- what begins inside these is live
+-- what begins inside these is reachable
 abbrev pub is_live_in : List Flat → Bool
 is_live_in [] = true
 is_live_in (f ∷ fs) = f.live

@@ -1,5 +1,5 @@
 -- The grammar of the program's words, over clap's model of simple commands: what a parse makes of the words
--- (`subcommand_of`), and the faults that it finds in them (`fault_of`).
+-- (`subcommand_of`), and the errors that it finds in them (`fault_of`).
 use Rattle.std.specs.Prelude.{◌≡◌, ◌≢◌, ◌⊎◌, ◌&&◌, ◌||◌, ◌==◌, ◌≤◌, nat_le, not, length, slice_index, ℕ, Bool, true, Any, List, [], ◌∷◌, Option, None, Some, Result, Ok, Err, codes, if◌then◌else◌, option_map, option_and_then, unwrap_or}
 use Rattle.std.specs.List.{before_first, after_first}
 use Rattle.std.specs.Str.{bytes_eq}
@@ -101,7 +101,7 @@ program = with_calls (with_modules (on_top (λ s. record s {
 abbrev pub in_range : ℕ → ℕ → ℕ → Option ℕ
 in_range least most n = if nat_le least n && nat_le n most then Some n else None
 
--- the number that a text spells, where it is in the range
+-- the number that a text encodes, where it is in the range
 abbrev pub number_in : ℕ → ℕ → Text → Option ℕ
 number_in least most text = if is_unsigned_in least most text then Some (digits_value 10 (without_leading_plus text)) else None
 
@@ -130,7 +130,7 @@ abbrev pub peek_of : (address count : Option ℕ) → Option Peek
 peek_of (Some address) (Some count) = Some (record { address = address; count = count })
 peek_of _ _ = None
 
--- the numbers in front of the first colon (58) and behind it
+-- the numbers before the first colon (58) and after it
 abbrev pub peek_in : Text → Option Peek
 peek_in word = peek_of (short_number 0 4294967295 (before_first (λ c. c == 58) word)) (short_number 1 4096 (after_first (λ c. c == 58) word))
 
@@ -173,7 +173,7 @@ command_named p =
     else if bytes_eq p.0 (codes "drill") then option_map command.Drill (drill_in p.1)
     else None
 
--- the command that clap's model reads, where it finds no fault
+-- the command that clap's model reads, where it finds no error
 abbrev pub command_without : Kinds → Option (Text × List Row) → Option Command
 command_without [] named = option_and_then command_named named
 command_without (fault ∷ faults) named = None
@@ -221,7 +221,7 @@ IsNoArgument word = (a : Argument) → IsArgument word a → ⊥
 abbrev pub IsNoCall : Option (Text × List Row) → Type 0
 IsNoCall named = Any IsNoArgument (call_words named) ⊎ (peek_said (peek_word named) ≡ None)
 
--- clap's model finds a fault, or the words of a call are none
+-- clap's model finds an error, or the words of a call are none
 abbrev pub IsOutside : List Text → Type 0
 IsOutside words = (fault_of program words ≢ []) ⊎ IsNoCall (subcommand_of program words)
 

@@ -13,7 +13,8 @@ IsOpening (token.Loop t) = Unit {0}
 IsOpening (token.If t) = Unit {0}
 IsOpening _ = ⊥
 
--- at a place that is live or not, where so many operands lie; a branch to the label takes so many values to its base
+-- at a point that is reachable or not, where so many operands are; a branch to the label takes so many values to its
+-- base
 abbrev pub Begins : Around → Token → (live : Bool) → (h base takes : ℕ) → Draft → Draft → Type 0
 Begins w (token.Block t) live h base takes old new = Opens old new (end_shape base takes) (λ e. [])
 Begins w (token.Loop t) live h base takes old new = Opens old new (start_shape base takes (length old.words)) (λ e. [])

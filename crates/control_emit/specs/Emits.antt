@@ -12,7 +12,7 @@ pub record Draft : Type 0 where
 abbrev pub draft : List Pending → List ℕ → Draft
 draft labels words = record { labels = labels; words = words }
 
--- these words stand in front of others
+-- these words come before others
 abbrev pub IsFront : (front words : List ℕ) → Type 0
 IsFront front words = take (length front) words ≡ front
 

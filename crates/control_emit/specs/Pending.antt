@@ -1,4 +1,5 @@
--- Labels that are open over the words of a function: each keeps the places of the jumps to it that are still to be patched.
+-- Labels that are open over the instruction words of a function: each keeps the places of the jumps to it that are still to be
+-- patched.
 use Rattle.std.specs.Prelude.{◌≡◌, ◌≤◌, ◌<◌, ℕ, zero, suc, ◌+◌, ◌==◌, Bool, false, List, [], ◌∷◌, Option, None, Some, length, slice_set, slice_index_or, map, reverse, if◌then◌else◌}
 use Rattle.rv_isa.specs.declared.operations.Op.TheVariants.{Auipc, Jalr}
 use Rattle.rv_isa.specs.Runs.{hi, lo}
@@ -17,7 +18,7 @@ pub record Pending : Type 0 where
   pub test : Option ℕ
   pub jumps : List ℕ
 
--- ---- how they are kept: all jumps lie in one list, and each names the one before it to the same end
+-- ---- how they are kept: all jumps are in one list, and each names the one before it to the same end
 
 abbrev pub no_jump : Jump
 no_jump = record { place = 0; before = None }
@@ -50,7 +51,7 @@ IsBefore n (Some k) = k < n
 abbrev pub AreLinked : List Jump → Type 0
 AreLinked jumps = (k : ℕ) → IsBefore k (jump_at jumps k).before
 
--- ---- what is known of a label beside its jumps
+-- ---- what is known of a label besides its jumps
 
 pub record Shape : Type 0 where
   pub base : ℕ
@@ -104,7 +105,7 @@ meaning [] ends words = words
 meaning (l ∷ ls) [] words = words
 meaning (l ∷ ls) (e ∷ es) words = meaning ls es (filled l e words)
 
--- ---- the jumps that are still to be patched stand within so many words
+-- ---- the jumps that are still to be patched are within so many words
 
 abbrev pub AreWithin : ℕ → List ℕ → Type 0
 AreWithin n [] = Unit {0}
@@ -121,7 +122,7 @@ abbrev pub Within : ℕ → List Pending → Type 0
 Within n [] = Unit {0}
 Within n (l ∷ ls) = IsWithin n l × Within n ls
 
--- ---- what holds of the labels that are kept: their values lie low, and they name jumps among so many
+-- ---- what holds of the labels that are kept: their values are low, and they name jumps among so many
 
 abbrev pub most_base : ℕ
 most_base = 0x8000_0000

@@ -1,4 +1,4 @@
--- How tokens, each at its place, lead from one draft of a function's words to another.
+-- How tokens, each at its place, lead from one draft of a function's instruction words to another.
 use Rattle.std.specs.Prelude.{◌≡◌, ◌≤◌, ℕ, ◌+◌, ◌-◌, Bool, true, false, List, [], ◌∷◌, ◌++◌, length, map, None, Some}
 use Rattle.rv_isa.specs.declared.compiled.Relocation.{Relocation}
 use Rattle.rv_isa.specs.declared.compiled.TrapSite.{TrapSite}
@@ -21,7 +21,7 @@ end_shape base takes = record { base = base; takes = takes; start = None }
 abbrev pub start_shape : (base takes start : ℕ) → Shape
 start_shape base takes start = record { base = base; takes = takes; start = Some start }
 
--- a block that isn't live has a label too, which nothing names
+-- a block that isn't reachable has a label too, which nothing names
 pub record OpensDead (old new : Draft) : Type 0 where
   pub shape : Shape
   pub opens : Opens old new shape (λ e. [])
@@ -52,7 +52,7 @@ Walk w c [] places old new = new ≡ old
 Walk w c (t ∷ ts) [] old new = ⊥
 Walk w c (t ∷ ts) (q ∷ qs) old new = (mid : Draft) × Step w c t q old mid × Walk w c ts qs mid new
 
--- the calls among them: a token has its own where its place is live, behind so many words
+-- the calls among them: a token has its own where its point is reachable, after so many words
 abbrev pub token_calls : Around → Token → Place → (here : ℕ) → List Relocation
 token_calls w (token.Plain p) None here = []
 token_calls w (token.Plain p) (Some h) here = call_of w here p
@@ -71,7 +71,7 @@ walk_calls w c (t ∷ ts) (q ∷ qs) old new walk = token_calls w t q (length ol
 abbrev pub Calling : Around → Context → List Token → List Place → Draft → Draft → List Relocation → Type 0
 Calling w c tokens places old new calls = (walk : Walk w c tokens places old new) × (walk_calls w c tokens places old new walk ≡ calls)
 
--- the traps among them: a token has its own where its place is live, and with it so many tokens are left
+-- the traps among them: a token has its own where its point is reachable, and with it so many tokens are left
 abbrev pub token_traps : (left : ℕ) → Token → Place → (here : ℕ) → List Trap
 token_traps left (token.Plain p) None here = []
 token_traps left (token.Plain p) (Some h) here = traps_of here left p
@@ -147,7 +147,7 @@ count_of w c (token.If t) place d ends = 0
 count_of w c token.Else place d ends = 0
 count_of w c token.End place d ends = 0
 
--- the words of a front of a body's tokens, with those of the token behind it, are no more than the whole body's
+-- the words of a prefix of a body's tokens, with those of the token after it, are no more than the whole body's
 abbrev pub NextLaw : Type 0
 NextLaw =
     (w : Around) (c : Context) (tokens more : List Token) (t : Token) (places rest : List Place) (place : Place) (tree : Seq) (front : List ℕ) (last : Draft) (ends : List Ends) → Tree (tokens ++ t ∷ more) tree

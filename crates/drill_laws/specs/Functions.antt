@@ -29,14 +29,14 @@ calls_from first (suc k) = Simple (Call first) (calls_from (first + 1) k)
 abbrev pub runner_tree : ℕ → Seq
 runner_tree n = Simple (Const I32 (pos 0)) (calls_from 0 n)
 
--- a function of that type and of that body, without locals of its own; at most two operands lie in it
+-- a function of that type and of that body, without locals of its own; at most two operands are in it
 pub record IsFunction (ty : FuncType) (tree : Seq) (f : Func) : Type 0 where
   pub ty_is : f.ty ≡ ty
   pub locals_are : f.locals ≡ []
   pub greatest_is : f.greatest ≤ 2
   pub body_is : f.body ≡ tree
 
--- of n functions each adds its index to its argument, and the one behind them calls all of them
+-- of n functions each adds its index to its argument, and the one after them calls all of them
 pub record HasDrill (n : ℕ) (i : Instance) : Type 0 where
   pub adders : (j : ℕ) → j < n → (f : Func) × (slice_get i.functions j ≡ Some (Declared f)) × IsFunction adder_type (adder_tree j) f
   pub runner : (f : Func) × (slice_get i.functions n ≡ Some (Declared f)) × IsFunction runner_type (runner_tree n) f

@@ -1,4 +1,4 @@
--- How many words the functions of a drill have in the text of its image.
+-- How many instruction words the functions of a drill have in the text of its image.
 use Rattle.std.specs.Prelude.{ℕ, suc, ◌+◌, ◌*◌, ◌≤◌, List, ◌∷◌, length}
 use Rattle.wasm_defs.specs.declared.item.Item.{Item}
 use Rattle.wasm_defs.specs.Faults.{Module, context_at}

@@ -1,5 +1,5 @@
--- The words of integer operations (WebAssembly Core 1.0, 4.3.2 and 4.3.4; sign extension: Core 2.0, 4.3.2) on registers: the first operand is in t0, the second in
--- t1, and the result comes into t0. An i32 stands extended by its sign.
+-- The instruction words of integer operations (WebAssembly Core 1.0, 4.3.2 and 4.3.4; sign extension: Core 2.0, 4.3.2) on registers: the first
+-- operand is in t0, the second in t1, and the result comes into t0. An i32 is kept extended by its sign.
 use Rattle.std.specs.Prelude.{ℕ, List, [], ◌∷◌, ◌++◌}
 use Rattle.rv_isa.specs.declared.operations.BranchOp.TheVariants.{Bne}
 use Rattle.rv_isa.specs.declared.operations.ImmOp.TheVariants.{Addi, Sltiu, Xori}

@@ -1,4 +1,5 @@
--- What the machine does where the words of a template stand: how many steps it makes, and which slots and registers change.
+-- What the machine does where the instruction words of a template are: how many steps it makes, and which slots and registers
+-- change.
 use Rattle.std.specs.Prelude.{◌≡◌, ℕ, zero, suc, ◌+◌, ◌-◌, ◌*◌, ◌^◌, ◌<◌, ◌≤◌, ◌==◌, ◌||◌, ◌%◌, Bool, false, List, map, length, Option}
 use Rattle.rv_isa.specs.declared.operations.Op.{Op}
 use Rattle.rv_isa.specs.declared.compiled.TrapSite.{TrapSite}
@@ -43,7 +44,7 @@ pub record IsFrame (base : ℕ) (s : State) : Type 0 where
 abbrev pub is_scratch : ℕ → Bool
 is_scratch r = r == t0 || r == t1 || r == t2 || r == t3
 
--- so many steps lead behind so many words, with these bytes; other registers stay
+-- so many steps lead past so many words, with these bytes; other registers stay
 pub record Does (code : List (Option Op)) (steps words : ℕ) (s : State) (bytes : Bytes) : Type 0 where
   pub end : State
   pub reaches : Reaches code steps s end
@@ -55,7 +56,7 @@ pub record Does (code : List (Option Op)) (steps words : ℕ) (s : State) (bytes
 abbrev pub is_passed : ℕ → Bool
 is_passed r = is_scratch r || r == a0 || r == a7
 
--- so many steps lead to a call of the environment with this number in a7, and behind so many words, of which the last one is the
+-- so many steps lead to a call of the environment with this number in a7, and after so many words, of which the last one is the
 -- call's; other registers stay
 pub record Asks (code : List (Option Op)) (steps words number : ℕ) (s : State) : Type 0 where
   pub end : State
@@ -72,11 +73,11 @@ pub record TrapsAt (code : List (Option Op)) (steps words kind : ℕ) (s : State
 
 -- ---- traps
 
--- the traps of an instruction stand where the table says, wherever its words do, and no others do
+-- the traps of an instruction are where the table says, wherever its words are, and no others are
 abbrev pub TrapsLaw : Type 0
 TrapsLaw = (w : Around) (c : Context) (labels : List Label) (h here : ℕ) (p : Plain) → traps_in (words w c labels h here p) ≡ trap_places p
 
--- the traps of a function stand apart, inside it
+-- the traps of a function are apart, inside it
 abbrev pub SpacedLaw : Type 0
 SpacedLaw = (w : Around) (o : Origin) (c : Context) (tree : Seq) → AreSpaced 0 (map (λ (t : TrapSite). t.place) (sites_of w o c tree)) (function_size w c tree)
 
@@ -106,7 +107,7 @@ AddLaw =
 
 -- ---- functions
 
--- where there is room, the place to return to stands in its slot, and the declared locals are zero
+-- where there is room, the return address is in its slot, and the declared locals are zero
 pub record Enters (code : List (Option Op)) (l : Layout) (base : ℕ) (s : State) : Type 0 where
   pub steps : ℕ
   pub bytes : Bytes
@@ -136,7 +137,7 @@ abbrev pub with_results : Layout → (base results index : ℕ) → Bytes → By
 with_results l base zero index b = b
 with_results l base (suc n) index b = with_results l base n (index + 1) (with_slot b (base + index) (slot_at b (base + operand l index)))
 
--- the results go to the frame's first slots, and the machine to the place to return to
+-- the results go to the frame's first slots, and the machine to the return address
 pub record Leaves (code : List (Option Op)) (l : Layout) (results base there : ℕ) (s : State) : Type 0 where
   pub end : State
   pub reaches : Reaches code (length (epilogue l results)) s end
@@ -172,7 +173,7 @@ ImportExhaustionLaw =
     (code : List (Option Op)) (s : State) (i base params import : ℕ) → HasAt code i (import_stub params import) → s.pc ≡ place i → IsFrame base s
     → params < 2 ^ 20 → base ≤ max_slots → max_slots < base + (params + 1) → TrapsAt code 10 10 8 s
 
--- behind the call it leads to the place to return to
+-- after the call it leads to the return address
 abbrev pub ImportReturnLaw : Type 0
 ImportReturnLaw =
     (code : List (Option Op)) (s : State) (i params import there : ℕ) → HasAt code i (import_stub params import) → s.pc ≡ place (i + 17)

@@ -1,4 +1,5 @@
--- Where the traps among a function's words stand. A trap is an ECALL behind the operation that gives a7 the number of traps.
+-- Where the traps among a function's instruction words are. A trap is an ECALL after the operation that gives a7 the number of
+-- traps.
 use Rattle.std.specs.Prelude.{ℕ, ◌+◌, ◌≤◌, ◌==◌, ◌&&◌, Bool, true, false, List, [], ◌∷◌, if◌then◌else◌}
 use Rattle.rv_isa.specs.declared.compiled.TrapSite.{TrapSite}
 use Rattle.rv_isa.specs.declared.operations.ImmOp.TheVariants.{Addi}
@@ -25,7 +26,7 @@ abbrev pub is_call : Op → Bool
 is_call Ecall = true
 is_call op = false
 
--- the places of the traps, where the first operation stands at a place, and the one in front of it gives a7 that number or not
+-- the places of the traps, where the first operation is at a place, and the one before it gives a7 that number or not
 abbrev pub found : (asks : Bool) → (here : ℕ) → List Op → List ℕ
 found asks here [] = []
 found asks here (op ∷ ops) =
@@ -68,13 +69,13 @@ room_trap = 9
 
 -- ---- as they are noted
 
--- the trap of a word behind a place, with its offset in the module
+-- the trap of a word after a place, with its offset in the module
 abbrev pub site_at : (here offset word : ℕ) → TrapSite
 site_at here offset word = record { place = here + word; offset = offset }
 
 -- ---- no trap's words are those of another: each has three, of which the ECALL is the last
 
--- the traps' words stand behind a place, one behind the other, and in front of a place
+-- the traps' words follow a place, one after the other, and before a place
 abbrev pub AreSpaced : (from : ℕ) → List ℕ → (to : ℕ) → Type 0
 AreSpaced from [] to = from ≤ to
 AreSpaced from (p ∷ ps) to = (from + 2 ≤ p) × AreSpaced (p + 1) ps to

@@ -16,7 +16,7 @@ code_of b = arc_value b.code
 abbrev pub codes_of : List BodyCode → List Code
 codes_of bodies = map code_of bodies
 
--- the bytes of the text up to so many of the codes, with the stubs in front of them
+-- the bytes of the text up to so many of the codes, with the stubs before them
 abbrev pub bytes_up_to : Spaces → List BodyCode → ℕ → ℕ
 bytes_up_to s bodies n = 4 * (front_of (length s.imports) + length (words_of (take n (codes_of bodies))))
 
@@ -26,7 +26,7 @@ pub record Passes (s : Spaces) (bodies : List BodyCode) (k : ℕ) (b : BodyCode)
   pub passes : max_text < bytes_up_to s bodies (suc k)
   pub first : (j : ℕ) → j < k → bytes_up_to s bodies (suc j) ≤ max_text
 
--- the fault stands at the size of the body with whose code the limit is passed
+-- the error is at the size of the body with whose code the limit is passed
 abbrev pub IsTextLimit : Spaces → List BodyCode → Option Refusal → Type 0
 IsTextLimit s bodies None = (j : ℕ) → j < length bodies → bytes_up_to s bodies (suc j) ≤ max_text
 IsTextLimit s bodies (Some r) = (k : ℕ) × (b : BodyCode) × Passes s bodies k b × (r ≡ limit_at b.size_offset)

@@ -59,7 +59,7 @@ stubs_from c number (Imported from what kind type_index ∷ xs) =
     import_stub (length (type_or_empty (slice_get c.types type_index.1)).params) number ++ stubs_from c (suc number) xs
 stubs_from c number (_ ∷ xs) = stubs_from c number xs
 
--- how many words stand in front of the declared functions, where so many are imported: the exit stub, and a stub for each import
+-- how many words are before the declared functions, where so many are imported: the exit stub, and a stub for each import
 abbrev pub front_of : (imported : ℕ) → ℕ
 front_of imported = length exit_stub + stub_size * imported
 

@@ -22,8 +22,8 @@ sizes items k bodies trees = 0
 abbrev pub limit_at : ℕ → Refusal
 limit_at at = record { offset = at; kind = Limit }
 
--- Among the parts behind these items and k bodies, whose functions have so many words, stands the body with which the text passes
--- its limit. All bodies before it are valid, and so is it itself; the fault stands at its size.
+-- Among the parts after these items and k bodies, whose functions have so many words, is the body with which the text passes its
+-- limit. All bodies before it are valid, and so is it itself; the error is at its size.
 abbrev pub IsTextFault : List Item → (k words : ℕ) → List Part → Refusal → Type 0
 IsTextFault items k words [] r = ⊥
 IsTextFault items k words (Section at id ∷ parts) r = IsTextFault items k words parts r
@@ -41,18 +41,18 @@ pub record IsModuleOf (bytes : List ℕ) (m : Module) : Type 0 where
   pub is : IsModule bytes m
   pub fits : text_bytes m.items (sizes m.items 0 m.bodies m.trees) ≤ max_text
 
--- the module that the bytes are, or the fault of least offset
+-- the module that the bytes are, or the error of least offset
 abbrev pub IsVerdictOf : List ℕ → Verdict → Type 0
 IsVerdictOf bytes (Accepted m) = IsModuleOf bytes m
 IsVerdictOf bytes (Rejected r) = IsFaultOf bytes r × ((s : Refusal) → IsFaultOf bytes s → r.offset ≤ s.offset)
 
--- What decides where a source failed behind these bytes: of their faults, those aside by which more bytes are owed, the one of
+-- What decides where a source failed after these bytes: of their errors, those aside by which more bytes are owed, the one of
 -- least offset; or none (WebAssembly Web API 1.0, streaming compilation).
 abbrev pub IsStoppedAt : List ℕ → Option Refusal → Type 0
 IsStoppedAt bytes None = (r : Refusal) → IsFaultOf bytes r → r.kind ≡ Ended
 IsStoppedAt bytes (Some r) = IsFaultOf bytes r × (r.kind ≢ Ended) × ((s : Refusal) → IsFaultOf bytes s → s.kind ≢ Ended → r.offset ≤ s.offset)
 
--- the fault of a verdict, if it lasts whatever comes behind the bytes
+-- the error of a verdict, if it lasts whatever comes after the bytes
 abbrev pub lasting : Kind → Refusal → Option Refusal
 lasting Malformed r = Some r
 lasting Unsupported r = Some r

@@ -28,7 +28,7 @@ use Rattle.index_spaces.specs.Entries.{function_exports, initial_values, written
 use Rattle.index_spaces.specs.Spaces.{Spaces, context_in}
 use Rattle.image_linker.specs.ImageOf.{stub_size, front_of, stub_places, distances, place_at}
 
--- the words of the codes, one behind the other
+-- the words of the codes, one after the other
 abbrev pub words_of : List Code → List ℕ
 words_of [] = []
 words_of (c ∷ cs) = c.words ++ words_of cs
@@ -44,7 +44,7 @@ stub_words types number [] = []
 stub_words types number (i ∷ imports) =
     map word_of (import_stub (length (type_or_empty (slice_get types i.type_index)).params) number) ++ stub_words types (suc number) imports
 
--- the words in front of the functions: the exit stub, and a stub for each import
+-- the words before the functions: the exit stub, and a stub for each import
 abbrev pub front_words : Spaces → List ℕ
 front_words s = map word_of exit_stub ++ stub_words s.types 0 s.imports
 
@@ -59,7 +59,7 @@ starts_of s codes = starts_behind (length s.imports) codes
 abbrev pub words_at : (places : List ℕ) (here : ℕ) → Code → List ℕ
 words_at places here c = with_distances (distances places here) c.relocations c.words
 
--- and those of codes, one behind the other
+-- and those of codes, one after the other
 abbrev pub words_from : (places : List ℕ) (here : ℕ) → List Code → List ℕ
 words_from places here [] = []
 words_from places here (c ∷ cs) = words_at places here c ++ words_from places (here + length c.words) cs

@@ -1,4 +1,5 @@
--- The tokens of integer operations, by their sorts (WebAssembly Core 1.0, 2.4.1), and their words.
+-- The tokens of integer operations, by their sorts (WebAssembly Core 1.0, 2.4.1), and their
+-- instruction words.
 use Rattle.std.specs.Prelude.{ℕ, List, []}
 use Rattle.rv_isa.specs.declared.operations.Op.{Op}
 use Rattle.wasm_defs.specs.declared.operation.Operation.TheVariants.{Unary, Test, Binary, Compare, Convert, Extend}

@@ -13,11 +13,11 @@ pub record Feeding : Type 0 where
 abbrev pub with_byte : Feeding → ℕ → Feeding
 with_byte f b = record { bits = f.bits; signed = f.signed; bytes = f.bytes ++ b ∷ [] }
 
--- more bytes complete a spelling
+-- more bytes complete an encoding
 abbrev pub IsUnfinished : Feeding → Type 0
 IsUnfinished f = IsCutOff f.signed f.bits f.bytes
 
--- what a reading of all bytes that came is told as
+-- what a reading of all bytes that came is reported as
 abbrev pub told : Reading → Fed
 told (Number n len) = fed.Done n
 told CutOff = fed.More

@@ -9,7 +9,7 @@ Stops (stop.Refused r) read = read ≡ Fault r
 Stops stop.Wants read = read ≡ Wants
 Stops stop.NoMemory read = Unit {0}
 
--- what was read, seen by view, and where reading stands then; or why it stopped
+-- what was read, seen by view, and where reading is then; or why it stopped
 abbrev pub Reads : {A B : Type 0} → Reader A → (B → A) → Result B Stop → Cursor → Cursor → Type 0
 Reads p view (Ok x) old new = p old ≡ Got (view x) new
 Reads p view (Err s) old new = Stops s (p old)

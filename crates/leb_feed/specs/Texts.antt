@@ -3,7 +3,7 @@ use Rattle.std.specs.Prelude.{ℕ, List, [], ◌∷◌, Option, Some, None}
 use Rattle.wasm_defs.specs.declared.text.Inside.{Inside}
 use Rattle.wasm_defs.specs.Text.{next_byte}
 
--- where a text stands after these bytes, if they are right so far
+-- where a text is after these bytes, if they are right so far
 abbrev pub text_state : Option Inside → List ℕ → Option Inside
 text_state None bytes = None
 text_state (Some s) [] = Some s

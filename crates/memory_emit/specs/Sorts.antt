@@ -1,4 +1,4 @@
--- The tokens of loads and stores (WebAssembly Core 1.0, 2.4.4), and their words.
+-- The tokens of loads and stores (WebAssembly Core 1.0, 2.4.4), and their instruction words.
 use Rattle.std.specs.Prelude.{ℕ, List, []}
 use Rattle.rv_isa.specs.declared.operations.Op.{Op}
 use Rattle.wasm_defs.specs.declared.token.Plain.TheVariants.{Load, Store}

@@ -1,4 +1,4 @@
--- The shortest spellings of numbers (WebAssembly Core 1.0, 5.2.2).
+-- The shortest encodings of numbers (WebAssembly Core 1.0, 5.2.2).
 use Rattle.std.specs.Prelude.{ℕ, zero, suc, ◌+◌, ◌/◌, ◌%◌, ◌≤◌, pos, Bool, List, [], ◌∷◌, length, nat_lt, if◌then◌else◌}
 use Rattle.wasm_defs.specs.Numbers.{Spells}
 
@@ -10,7 +10,7 @@ unsigned_end = 128
 abbrev pub signed_end : ℕ
 signed_end = 64
 
--- The number's low seven bits, and 128, and behind them the spelling of the rest, until that is below the bound: in at most so many
+-- The number's low seven bits, and 128, and after them the encoding of the rest, until that is below the bound: in at most so many
 -- bytes.
 unfoldable pub spelling : (end most : ℕ) → ℕ → List ℕ
 spelling end zero n = []
@@ -24,6 +24,6 @@ unsigned n = spelling unsigned_end 5 n
 abbrev pub signed : ℕ → List ℕ
 signed n = spelling signed_end 5 n
 
--- the bytes spell a number of 32 bits that isn't negative, and no fewer bytes do
+-- the bytes encode a number of 32 bits that isn't negative, and no fewer bytes do
 abbrev pub IsShortest : (with_sign : Bool) → ℕ → List ℕ → Type 0
 IsShortest with_sign n bytes = Spells (pos n) 32 with_sign bytes × ((other : List ℕ) → Spells (pos n) 32 with_sign other → length bytes ≤ length other)

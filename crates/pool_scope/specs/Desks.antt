@@ -35,7 +35,7 @@ pub record IsNext (c : Spaces) (functions : ℕ) (d : Desk) (b : Batch) : Type 0
 abbrev pub PutsIn : Feeding → Batch → Feeding → Type 0
 PutsIn f b f' = ((t : Ticket) × (arc_value t.batch ≡ b) × (f' ≡ record f { view = puts f.view (t ∷ []) })) ⊎ ((f' ≡ f) × (f.room ≤ length f.view.put))
 
--- the batch was published behind the others, its ticket was kept behind theirs, and one was put into the queue where it has room
+-- the batch was published after the others, its ticket was kept after theirs, and one was put into the queue where it has room
 pub record Hands (d : Desk) (b : Batch) (d' : Desk) : Type 0 where
   pub seat : d'.seat ≡ record d.seat { view = publishes d.seat.view b.start }
   pub ticket : Ticket

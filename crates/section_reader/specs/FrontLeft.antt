@@ -1,4 +1,4 @@
--- What a push reader has left to tell.
+-- What a push reader has left to report.
 use Rattle.std.specs.Prelude.{◌≡◌, ℕ, ◌+◌, ◌≤◌, ◌⊎◌, List, [], ◌++◌, length, drop, Bool, not, is_some, ◌&&◌, ◌==◌, Option, Some, None, IsSome, Result, Ok, Err}
 use Rattle.wasm_defs.specs.declared.fault.Refusal.{Refusal}
 use Rattle.wasm_defs.specs.Fields.{Cursor}
@@ -25,7 +25,7 @@ abbrev pub total : Front → ℕ
 total f = f.at + length f.kept.items
 
 -- so many of the bytes were taken: all of them, or those up to the end of an item that is waiting then. The others come again.
--- Where none is waiting, the bytes that came so far complete no item and have no fault
+-- Where none is waiting, the bytes that came so far complete no item and have no error
 pub record Fed (old : Front) (bytes : List ℕ) (taken : ℕ) (new : Front) : Type 0 where
   pub some : taken ≤ length bytes
   pub same : (more : List ℕ) → left old (bytes ++ more) ≡ left new (drop taken bytes ++ more)

@@ -1,4 +1,5 @@
--- What a push reader has left to tell of the module, its sections and bodies too (WebAssembly Core 1.0, 5.5).
+-- What a push reader has left to report of the module, its sections and bodies too (WebAssembly Core 1.0,
+-- 5.5).
 use Rattle.std.specs.Prelude.{◌≡◌, ℕ, ◌+◌, ◌≤◌, true, false, List, [], ◌++◌, drop, Option, None, Result, Ok, Err}
 use Rattle.wasm_defs.specs.declared.fault.Refusal.{Refusal}
 use Rattle.wasm_defs.specs.declared.item.Item.{Item}
@@ -19,7 +20,7 @@ onward_left f more = prepend f.waiting (from_there f.refusal (onward f.steps.sta
 
 -- ---- what was fed
 
--- sections were told, and what is left comes after them
+-- sections were reported, and what is left comes after them
 pub record Told (old : Front) (bytes : List ℕ) (taken : ℕ) (new : Front) : Type 0 where
   pub told : List Part
   pub sections : AreSections told
@@ -32,7 +33,7 @@ pub record FedOnward (old : Front) (bytes : List ℕ) (taken : ℕ) (new : Front
   pub told : is_at_bodies old.steps.stage ≡ false → Told old bytes taken new
   pub apart : is_at_bodies old.steps.stage ≡ false → new.waiting ≡ None → is_at_bodies new.steps.stage ≡ false
 
--- some sections are told, and then it is refused, for good
+-- some sections are reported, and then it is refused, for good
 pub record ToldRefused (old : Front) (bytes : List ℕ) (r : Refusal) (new : Front) : Type 0 where
   pub told : List Part
   pub sections : AreSections told
@@ -61,14 +62,14 @@ pub record BodiesCome (count end : ℕ) (f : Front) : Type 0 where
   pub counted : f.steps.seen.counted ≡ true
   pub run : (more : List ℕ) → onward_left f more ≡ entries count (row 10) sections f.steps.seen (record { at = total f; rest = more; end = end })
 
--- behind the code section's count the bodies come next, and behind no other item
+-- after the code section's count the bodies come next, and after no other item
 abbrev pub Follows : Item → Front → Type 0
 Follows (Code count end) f = BodiesCome count.1 end f
 Follows _ f = is_at_bodies f.steps.stage ≡ false
 
 -- ---- the end
 
--- if no further bytes come: some sections are told, and how the module ends
+-- if no further bytes come: some sections are reported, and how the module ends
 pub record EndsOnward (f : Front) (answer : Option Refusal) : Type 0 where
   pub told : List Part
   pub sections : AreSections told

@@ -48,7 +48,7 @@ begun_section Between c = next_part c.at c.rest
 begun_section (Contents id) c = []
 begun_section (Entries id n) c = []
 
--- nothing is told before the bytes that are owed come, but the section whose id comes next
+-- nothing is reported before the bytes that are owed come, but the section whose id comes next
 abbrev pub is_owing_behind : List Part → Ending → Bool
 is_owing_behind [] ending = false
 is_owing_behind (x ∷ parts) ending = is_owing parts ending
@@ -112,7 +112,7 @@ abbrev pub end_told : Item → ℕ
 end_told (Code count end) = end
 end_told _ = 0
 
--- behind the code section's count the bodies come next: as many as it says, up to the section's end; behind no other item
+-- after the code section's count the bodies come next: as many as it says, up to the section's end; after no other item
 pub record IsBehind (x : Item) (stage : Stage) (seen : Seen) (end : ℕ) : Type 0 where
   pub place : is_at_bodies stage ≡ is_count x
   pub count : is_count x ≡ true → bodies_told x ≡ seen.declared

@@ -1,6 +1,6 @@
--- The outline of a module (WebAssembly Core 1.0, 5.5): what stands in it outside bodies, read from the left. It is the run of
--- the module, but that what follows the code section's count is passed over up to that section's end, whatever it is, and
--- that sections aren't told.
+-- The outline of a module (WebAssembly Core 1.0, 5.5): what is in it outside bodies, read from the left. It is the run of the
+-- module, but that what follows the code section's count is passed over up to that section's end, whatever it is, and that
+-- sections aren't reported.
 use Rattle.std.specs.Prelude.{ℕ, zero, suc, ◌+◌, ◌==◌, List, [], ◌∷◌, length, if◌then◌else◌}
 use Rattle.wasm_defs.specs.Fields.{Cursor, done}
 use Rattle.wasm_defs.specs.Entries.{Seen, nothing, code}

@@ -4,7 +4,7 @@ use Rattle.wasm_defs.specs.Faults.{items_of}
 use Rattle.wasm_defs.specs.Outside.{Part, Section, Listed, Coded, Run}
 use Rattle.section_reader.specs.Onward.{is_count}
 
--- reading stops in the code section behind its count: no section was met behind it
+-- reading stops in the code section after its count: no section was met after it
 abbrev pub in_bodies : Bool → List Part → Bool
 in_bodies behind [] = behind
 in_bodies behind (Section at id ∷ parts) = in_bodies false parts

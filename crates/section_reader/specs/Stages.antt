@@ -61,7 +61,7 @@ cut_there at end = Some (record { offset = at; kind = if at == end then Malforme
 abbrev pub code_due : Seen → ℕ → Option Refusal
 code_due seen at = if owes_code seen then Some (record { offset = at; kind = Ended }) else None
 
--- the fault of reading on from there, where all bytes before are read and none comes
+-- the error of reading on from there, where all bytes before are read and none comes
 abbrev pub silent : Stage → Seen → ℕ → ℕ → Option Refusal
 silent Preamble seen at end = cut_there at end
 silent Between seen at end = code_due seen at

@@ -13,7 +13,7 @@ use Rattle.section_reader.specs.Counts.{IsSound}
 use Rattle.section_reader.specs.Stages.{proceed, prepend, unfinished, is_at_bodies, Passed, Leads, work_left, Halts, IsSameButLast}
 use Rattle.section_reader.specs.Onward.{onward, after_parts, AreSections, stalled, HaltsOnward, IsOrdered, IsBehind}
 
--- what a step tells of the module: some sections, and an item, if there is one
+-- what a step reports of the module: some sections, and an item, if there is one
 pub record Tells (old : Steps) (c : Cursor) (item : Option Item) (new : Steps) (d : Cursor) : Type 0 where
   pub told : List Part
   pub sections : AreSections told
@@ -26,7 +26,7 @@ pub record GoesOnward (old : Steps) (c : Cursor) (item : Option Item) (new : Ste
   pub ordered : IsOrdered new.stage new.seen
   pub behind : IfSome item (λ x. IsBehind x new.stage new.seen d.end)
 
--- some sections are told, and then it is refused
+-- some sections are reported, and then it is refused
 pub record RefusedOnward (old : Steps) (c : Cursor) (r : Refusal) : Type 0 where
   pub told : List Part
   pub sections : AreSections told

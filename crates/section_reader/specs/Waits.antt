@@ -31,12 +31,12 @@ resumes_at (wait.Bytes free) = 0
 resumes_at (wait.Text owed inside) = 0
 resumes_at (wait.List place owed element) = place
 
--- this place lies among them, and in the section
+-- this place is among them, and in the section
 pub record IsPlaced (wait : Wait) (c : Cursor) : Type 0 where
   pub among : resumes_at wait ≤ length c.rest
   pub inside : c.at ≤ c.end → c.at + resumes_at wait ≤ c.end
 
--- the bytes that may come behind those that are there
+-- the bytes that may come after those that are there
 abbrev pub Passes : Wait → Cursor → List ℕ → Type 0
 Passes wait.Nothing c more = ⊥
 Passes (wait.Bytes free) c more = length more ≤ free
@@ -68,7 +68,7 @@ IsFree stage seen c wait = (more : List ℕ) → Passes wait c more → is_wanti
 
 -- ---- bytes that came
 
--- these bytes may come, and behind them those that may come at the new wait
+-- these bytes may come, and after them those that may come at the new wait
 pub record Follows (old : Wait) (c : Cursor) (bytes : List ℕ) (new : Wait) : Type 0 where
   pub passes : Passes old c bytes
   pub later : (more : List ℕ) → Passes new (with_more c bytes) more → Passes old c (bytes ++ more)

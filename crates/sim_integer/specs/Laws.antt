@@ -1,5 +1,5 @@
--- What the words of numeric instructions do (WebAssembly Core 1.0, 4.3.2 and 4.3.4; sign extension: Core 2.0, 4.3.2): the operands stand in the uppermost slots of
--- the frame, as words of their types, and the result comes into the lowest of them.
+-- What the instruction words of numeric instructions do (WebAssembly Core 1.0, 4.3.2 and 4.3.4; sign extension: Core 2.0, 4.3.2): the operands are in
+-- the uppermost slots of the frame, as words of their types, and the result comes into the lowest of them.
 use Rattle.std.specs.Prelude.{◌≡◌, ℕ, ◌+◌, ◌-◌, ◌^◌, ◌<◌, ◌≤◌, List, length, Option}
 use Rattle.rv_isa.specs.declared.operations.Op.{Op}
 use Rattle.rv_isa.specs.Steps.{State}
@@ -24,7 +24,7 @@ use Rattle.frame_layout.specs.Laws.{slot_at, with_slot, IsFrame, Does, TrapsAt}
 
 -- ---- operations on two operands
 
--- behind so many words the environment is called where a quotient isn't representable
+-- after so many words the environment is called where a quotient isn't representable
 abbrev pub overflow_words : ValType → ℕ
 overflow_words I32 = 17
 overflow_words I64 = 18
@@ -102,7 +102,7 @@ ExtendLaw =
     → Does code (length (operate_words w h (Extend op))) (length (operate_words w h (Extend op))) s
     (with_slot s.bytes (base + operand w.layout (h - 1)) (word (extend_type op) (sign_extended op a)))
 
--- ---- results lie below the modulus of their type
+-- ---- results are below the modulus of their type
 
 abbrev pub BinaryRangeLaw : Type 0
 BinaryRangeLaw = (t : ValType) (op : BinaryOp) (a b n : ℕ) → a < modulus t → b < modulus t → binary op t a b ≡ Number n → n < modulus t

@@ -1,4 +1,4 @@
--- What is called from outside afterwards: behind a module's start function an exported one (WebAssembly Core 1.0, 4.5.4 and 4.5.5).
+-- What is called from outside afterwards: after a module's start function an exported one (WebAssembly Core 1.0, 4.5.4 and 4.5.5).
 use Rattle.std.specs.Prelude.{◌≡◌, ◌*◌, ◌≤◌, true, List, [], ◌∷◌, length, Some, slice_get}
 use Rattle.wasm_defs.specs.declared.types.ValType.{ValType}
 use Rattle.wasm_defs.specs.Limits.{max_params}

@@ -12,7 +12,7 @@ use Rattle.stream_compile.specs.RightSoFar.{IsRightSoFar}
 use Rattle.stream_compile.specs.Reading.{Settled}
 use Rattle.stream_compile.specs.Streaming.{IsGoing}
 
--- how a source stands by what its last read came to: by what is left in it, its counts of faults at first and now, how many bytes were
+-- how a source is by what its last read came to: by what is left in it, its counts of errors at first and now, how many bytes were
 -- read, and whether it may be read
 abbrev pub StandsAt : Came → (left : Option (List ℕ)) → (before now count : ℕ) → (may_read : Bool) → Type 0
 StandsAt came.Bytes left before now count may_read = (now ≡ before) × (may_read ≡ true)
@@ -20,8 +20,8 @@ StandsAt came.Full left before now count may_read = (now ≡ before) × (6710886
 StandsAt came.End left before now count may_read = (now ≡ before) × IsAtEnd left
 StandsAt came.Failed left before now count may_read = Rose before now
 
--- A source had this left at first, and stands so now. The bytes that came between are those that were taken, and those that are pending
--- in the chunk. Nothing was found wrong, and before the last piece nothing can be.
+-- A source had this left at first, and is so now. The bytes that came between are those that were taken, and those that are pending in
+-- the chunk. Nothing was found wrong, and before the last piece nothing can be.
 pub record IsArriving (first : Option (List ℕ)) (before : ℕ) (left : Option (List ℕ)) (now : ℕ) (may_read : Bool) (s : Compilation) (c : Chunked) : Type 0 where
   pub came : List ℕ
   pub piece : List ℕ

@@ -4,7 +4,7 @@ use Rattle.std.specs.Io.KnownBytes.{prepend_known, IsAtEnd}
 use Rattle.wasm_laws.specs.Runs.{deciding_length}
 use Rattle.stream_compile.specs.RightSoFar.{IsRightSoFar}
 
--- These bytes were read of a source that had the first left before and has the second left behind: a front of what was left. They
+-- These bytes were read of a source that had the first left before and has the second left after: a prefix of what was left. They
 -- are no more than those that decide about any module, and up to the last piece of them, of 65,536 bytes at most, nothing was found
 -- wrong.
 pub record IsRead (left rest : Option (List ℕ)) (read : List ℕ) : Type 0 where
@@ -25,8 +25,8 @@ Came left rest true bytes = IsRead left rest bytes
 abbrev pub image_input : ℕ
 image_input = 1073741825
 
--- These bytes came, as many as are read at most: a front of what was left, and all of it where they are fewer and the source didn't
--- fail.
+-- These bytes came, as many as are read at most: a prefix of what was left, and all of it where they are fewer and the source
+-- didn't fail.
 pub record CameUpTo (most : ℕ) (left rest : Option (List ℕ)) (failed : Bool) (bytes : List ℕ) : Type 0 where
   pub taken : left ≡ prepend_known bytes rest
   pub few : length bytes ≤ most

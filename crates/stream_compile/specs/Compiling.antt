@@ -1,4 +1,4 @@
--- What the judging and the compiling of a source come to.
+-- What validation and compilation of a source come to.
 use Rattle.std.specs.Prelude.{◌≡◌, ℕ, Bool, true, false, List, Option, None, Some}
 use Rattle.std.specs.Io.KnownBytes.{IsAtEnd}
 use Rattle.wasm_defs.specs.declared.fault.Refusal.{Refusal}
@@ -24,12 +24,12 @@ pub record IsBuilt (bytes : List ℕ) (built : Built) : Type 0 where
 abbrev pub IsValid : List ℕ → Checked → Type 0
 IsValid bytes checked = (m : Module) × IsModuleOfSize bytes m checked.functions checked.bytes
 
--- the fault of the verdict; where the source failed, the one that decides then
+-- the error of the verdict; where the source failed, the one that decides then
 abbrev pub IsRefused : Bool → List ℕ → Refusal → Type 0
 IsRefused false bytes r = IsVerdictOf bytes (Rejected r)
 IsRefused true bytes r = IsStoppedAt bytes (Some r)
 
--- by whether the source failed, and what was left in it before and behind; a good answer comes at its end
+-- by whether the source failed, and what was left in it before and after; a good answer comes at its end
 abbrev pub CompilesSource : Bool → (left rest : Option (List ℕ)) → Answer → Type 0
 CompilesSource failed left rest (answer.Image built) = (failed ≡ false) × (bytes : List ℕ) × Came left rest false bytes × IsAtEnd rest × IsBuilt bytes built
 CompilesSource failed left rest (answer.Refused r) = (bytes : List ℕ) × Came left rest failed bytes × IsRefused failed bytes r

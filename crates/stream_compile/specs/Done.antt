@@ -36,7 +36,7 @@ pub record IsDone (bytes : List ℕ) (s : Compilation) : Type 0 where
   -- the codes can be linked: the constants of globals are numbers of their types
   pub numbers : NumbersFit s.spaces.globals s.spaces.initials
 
--- the bytes are a module, which was compiled; or this is its fault of least offset
+-- the bytes are a module, which was compiled; or this is its error of least offset
 abbrev pub Decides : List ℕ → Result (Unit {0}) FrontStop → Compilation → Type 0
 Decides bytes (Ok done) s = IsDone bytes s
 Decides bytes (Err (Refused r)) s = IsVerdictOf bytes (Rejected r)

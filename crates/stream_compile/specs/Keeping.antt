@@ -30,7 +30,7 @@ with_kept kept c = record { place = c.place; queue = record { least = c.queue.le
 abbrev pub keeping : Compilation → Intake → Compilation
 keeping s i = with_cutter s (with_kept (kept_bodies i.kept.items) i.cutter)
 
--- behind the bodies that were kept their section has this fault, whatever bytes follow
+-- after the bodies that were kept their section has this error, whatever bytes follow
 pub record IsFaulty (first : Option (List ℕ)) (before : ℕ) (left : Option (List ℕ)) (now : ℕ) (may_read : Bool) (s : Compilation) (i : Intake) (r : Refusal) : Type 0 where
   pub was : Compilation
   pub chunk : Chunked
@@ -38,13 +38,13 @@ pub record IsFaulty (first : Option (List ℕ)) (before : ℕ) (left : Option (L
   pub same : chunk.came ≡ i.chunk.came
   pub judging : (more : List ℕ) → length ((arrived.came ++ arrived.piece) ++ more) ≤ 67108869 → IsJudging ((arrived.came ++ arrived.piece) ++ more) (after_parts (coded_all (kept_bodies i.kept.items)) (ends (outside.Refused r))) s.spaces s.codes
 
--- bodies were read and kept, and none is judged; or the fault of their section is found
+-- bodies were read and kept, and none is validated; or the error of their section is found
 abbrev pub Keeps : Result (Unit {0}) FrontStop → (first : Option (List ℕ)) → (before : ℕ) → (left : Option (List ℕ)) → (now : ℕ) → (may_read : Bool) → Compilation → Intake → Type 0
 Keeps (Ok done) first before left now may_read s i = IsArriving first before left now may_read (keeping s i) i.chunk
 Keeps (Err (Refused r)) first before left now may_read s i = IsFaulty first before left now may_read s i r
 Keeps (Err NoMemory) first before left now may_read s i = Unit {0}
 
--- bodies were read beside workers, and judged; or this is what the bytes come to
+-- bodies were read in parallel with workers, and validated; or this is what the bytes come to
 abbrev pub Resumes : Result Chunked Ending → (first : Option (List ℕ)) → (before : ℕ) → (left : Option (List ℕ)) → (now : ℕ) → (may_read : Bool) → Compilation → Type 0
 Resumes (Ok chunk) first before left now may_read s = IsArriving first before left now may_read s chunk
 Resumes (Err e) first before left now may_read s = before < 2 ^ 64 - 1 → Settled e.failed e.judged s first left before now

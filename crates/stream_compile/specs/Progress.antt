@@ -25,7 +25,7 @@ use Rattle.image_linker.specs.Judging.{text_bytes, limit_at, IsTextFault, IsVerd
 use Rattle.stream_compile.specs.Codes.{Coding, AreAll, with_code}
 use Rattle.stream_compile.specs.CutBodies.{coded_all}
 
--- the codes of the bodies of these parts, behind these items and k bodies
+-- the codes of the bodies of these parts, after these items and k bodies
 abbrev pub AreCodes : List Item → ℕ → List Part → List Seq → List Code → Type 0
 AreCodes items k [] [] [] = Unit {0}
 AreCodes items k [] trees codes = ⊥
@@ -50,19 +50,19 @@ pub record IsJudging (bytes : List ℕ) (left : Run) (spaces : Spaces) (codes : 
   pub all : List Code
   pub are_all : AreAll codes all
   pub coded : AreCodes [] 0 judged.front judged.trees all
-  -- with the words in front of the functions their words keep the limit
+  -- with the words before the functions their words keep the limit
   pub fits : text_bytes (items_of (module_read bytes).parts) codes.words ≤ max_text
-  -- a fault of the text stands in what is left
+  -- an error of the text is in what is left
   pub text_left : (r : Refusal) → IsTextFault [] 0 0 (module_read bytes).parts r → IsTextFault (items_of judged.front) (length (bodies_of judged.front)) codes.words left.parts r
   pub text_whole : (r : Refusal) → IsTextFault (items_of judged.front) (length (bodies_of judged.front)) codes.words left.parts r → IsTextFault [] 0 0 (module_read bytes).parts r
 
--- what a body is judged by, before which so many bodies stand
+-- what a body is validated by, before which so many bodies are
 abbrev pub body_of_spaces : Spaces → ℕ → Body → Context
 body_of_spaces s k b =
     let c = context_in s in
     body_context c (type_of_function c (s.imported + k)) (read_of b).groups
 
--- the function of a body, before which so many bodies stand, is there with its type, and offsets are small
+-- the function of a body, before which so many bodies are, is there with its type, and offsets are small
 pub record CanTake (spaces : Spaces) (bodies : ℕ) (b : GivenBody) : Type 0 where
   pub typed : IsSome (function_type (context_in spaces) (spaces.imported + bodies))
   pub few : length spaces.functions < 2 ^ 32
@@ -74,28 +74,28 @@ pub record CanTake (spaces : Spaces) (bodies : ℕ) (b : GivenBody) : Type 0 whe
 abbrev pub CanTakeNext : Spaces → Coding → GivenBody → Type 0
 CanTakeNext spaces codes b = CanTake spaces codes.count b × (codes.count < 2 ^ 27) × (codes.words ≤ 2 ^ 26)
 
--- bodies can be taken: of some module they come next, behind what is right
+-- bodies can be taken: of some module they come next, after what is right
 abbrev pub CanTakeAll : Spaces → Coding → List GivenBody → Type 0
 CanTakeAll spaces codes bodies =
     (bytes : List ℕ) × (left : Run) × (length bytes ≤ 67108869) × IsJudging bytes (after_parts (coded_all bodies) left) spaces codes
 
--- parts were taken; or the module's fault is found
+-- parts were taken; or the module's error is found
 abbrev pub TakesPart : List ℕ → Result (Unit {0}) FrontStop → Run → Spaces → Coding → Type 0
 TakesPart bytes (Ok done) run spaces codes = IsJudging bytes run spaces codes
 TakesPart bytes (Err (Refused r)) run spaces codes = IsVerdictOf bytes (Rejected r)
 TakesPart bytes (Err NoMemory) run spaces codes = Unit {0}
 
--- the compiling of a body, before which so many bodies stand, comes to this
+-- the compiling of a body, before which so many bodies are, comes to this
 abbrev pub TakesBody : Spaces → ℕ → GivenBody → Result Code BodyStop → Type 0
 TakesBody spaces bodies b made = Compiles (first_minimum spaces.tables) b.first (context_in spaces) (spaces.imported + bodies) (body_read b.first b.bytes) made
 
--- why nothing is taken behind this body, which isn't compiled
+-- why nothing is taken after this body, which isn't compiled
 abbrev pub stop_at : GivenBody → BodyStop → FrontStop
 stop_at b (body.Refused r) = Refused r
 stop_at b body.TooLong = Refused (limit_at b.size)
 stop_at b body.NoMemory = NoMemory
 
--- a body was taken: its code stands behind the others; or the body has a fault, or with it the text passes its limit
+-- a body was taken: its code follows the others; or the body has an error, or with it the text passes its limit
 abbrev pub TakesCode : Spaces → Coding → GivenBody → Result (Unit {0}) FrontStop → Coding → Type 0
 TakesCode spaces codes b (Ok done) new =
     (code : Code) × TakesBody spaces codes.count b (Ok code) × (new ≡ with_code codes code) × (4 * (front_of spaces.imported + new.words) ≤ max_text)

@@ -50,13 +50,13 @@ abbrev pub of_lasting : Option Refusal → CheckAnswer
 of_lasting None = check.ReadFault
 of_lasting (Some r) = check.Refused r
 
--- where the source failed behind the bytes, a fault that lasts is told
+-- where the source failed after the bytes, an error that lasts is reported
 abbrev pub stopped_answer : Result (Unit {0}) FrontStop → CheckAnswer
 stopped_answer (Ok done) = check.ReadFault
 stopped_answer (Err (stop.Refused r)) = of_lasting (lasting r.kind r)
 stopped_answer (Err stop.NoMemory) = check.NoMemory
 
--- what judging a source answers, and that the compilation of a module is done
+-- what validating a source answers, and that the compilation of a module is done
 abbrev pub Judged : Bool → (left rest : Option (List ℕ)) → CheckAnswer → Compilation → Type 0
 Judged failed left rest (check.Valid checked) s = (failed ≡ false) × (bytes : List ℕ) × Came left rest false bytes × IsAtEnd rest × IsDone bytes s × (checked ≡ checked_of s)
 Judged failed left rest (check.Refused r) s = ChecksSource failed left rest (check.Refused r)

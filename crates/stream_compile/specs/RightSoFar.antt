@@ -6,8 +6,8 @@ use Rattle.wasm_defs.specs.Faults.{AreValid}
 use Rattle.body_cutter.specs.declared.body.Body.{Body}
 use Rattle.stream_compile.specs.CutBodies.{coded_all}
 
--- their parts are such that are right, all bodies valid; behind these stand at most bodies that aren't judged so
--- far: those whose batches haven't closed, and those that are read beside workers
+-- their parts are such that are right, all bodies valid; after these are at most bodies that aren't validated so
+-- far: those whose batches haven't closed, and those that are read in parallel with workers
 pub record IsRightSoFar (came : List ℕ) : Type 0 where
   pub front : List Part
   pub bodies : List Body

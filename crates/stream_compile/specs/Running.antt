@@ -21,7 +21,7 @@ line_of drill given.StepsSpent results = steps_spent
 line_of drill given.HostStopped results = record { status = 7; text = [] }
 line_of drill (given.Fault kind pc) results = machine_fault kind pc
 
--- bytes are shown behind a value and behind a trap
+-- bytes are shown after a value and after a trap
 abbrev pub shown_behind : Given → Option Peek → Option Peek
 shown_behind (given.Returned n) peek = peek
 shown_behind (given.Trapped kind place) peek = peek
@@ -29,7 +29,7 @@ shown_behind given.StepsSpent peek = None
 shown_behind given.HostStopped peek = None
 shown_behind (given.Fault kind pc) peek = None
 
--- its lines, with the memory and the results behind the run
+-- its lines, with the memory and the results after the run
 abbrev pub lines_of : (drill : Option ℕ) → Option Peek → Given → (memory : List ℕ) → (results : List Value) → Outcome
 lines_of drill peek outcome memory results = showing (shown_behind outcome peek) memory (line_of drill outcome results)
 
@@ -41,7 +41,7 @@ IsTold Comes status failed written written_now = (o : Outcome) × Comes o × Tol
 abbrev pub RunsAs : (drill : Option ℕ) → Image → Call → Outcome → Type 0
 RunsAs drill i c o = (all_in_range (arguments_of c.arguments) ≡ true) × TellsImageCall drill c i o
 
--- what was read of a source is that image, or has its first fault there; or the source failed
+-- what was read of a source is that image, or has its first error there; or the source failed
 abbrev pub IsForeign : Bool → (left rest : Option (List ℕ)) → Foreign → Type 0
 IsForeign failed left rest (foreign.Image i) = (failed ≡ false) × (bytes : List ℕ) × CameUpTo image_input left rest false bytes × (image_or_offset bytes ≡ Ok i)
 IsForeign failed left rest (foreign.Bad offset) = (failed ≡ false) × (bytes : List ℕ) × CameUpTo image_input left rest false bytes × (image_or_offset bytes ≡ Err offset)

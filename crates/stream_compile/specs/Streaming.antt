@@ -56,13 +56,13 @@ MayGo s piece = (bytes more : List ℕ) × IsGoing bytes s (piece ++ more)
 abbrev pub MayEnd : Compilation → Type 0
 MayEnd s = (bytes : List ℕ) × All (λ b. b < 256) bytes × IsGoing bytes s []
 
--- bytes were taken; or the module's fault is found
+-- bytes were taken; or the module's error is found
 abbrev pub GoesOn : List ℕ → Result (Unit {0}) FrontStop → Compilation → List ℕ → Type 0
 GoesOn bytes (Ok done) s more = IsGoing bytes s more
 GoesOn bytes (Err (Refused r)) s more = IsVerdictOf bytes (Rejected r)
 GoesOn bytes (Err NoMemory) s more = Unit {0}
 
--- so many of the bytes of a piece were taken; or the module's fault is found
+-- so many of the bytes of a piece were taken; or the module's error is found
 abbrev pub Advances : List ℕ → List ℕ → Result ℕ FrontStop → Compilation → List ℕ → Type 0
 Advances bytes piece (Ok taken) s more = IsGoing bytes s (drop taken piece ++ more)
 Advances bytes piece (Err (Refused r)) s more = IsVerdictOf bytes (Rejected r)
@@ -82,14 +82,14 @@ pub record IsTaking (bytes : List ℕ) (s : Compilation) (x : Item) (more : List
 abbrev pub MayTake : Compilation → Item → Type 0
 MayTake s x = (bytes more : List ℕ) × IsTaking bytes s x more
 
--- so many bodies may come next: their functions are few, and the section ends behind the bytes that came, and no later than a module may
+-- so many bodies may come next: their functions are few, and the section ends after the bytes that came, and no later than a module may
 pub record MayBegin (s : Compilation) (count end : ℕ) : Type 0 where
   pub functions : length s.spaces.functions < 2 ^ 32
   pub indices : s.spaces.imported + count < 2 ^ 32
   pub ahead : total s.front ≤ end
   pub near : end < 2 ^ 60
 
--- the item was taken, and what is left is what was left behind it; or the module's fault is found
+-- the item was taken, and what is left is what was left after it; or the module's error is found
 pub record TookItem (bytes : List ℕ) (old new : Compilation) (more : List ℕ) : Type 0 where
   pub going : IsGoing bytes new more
   pub same : (later : List ℕ) → onward_left old.front later ≡ left_of new.front new.cutter later
@@ -101,7 +101,7 @@ TakesItem bytes old (Err NoMemory) new more = Unit {0}
 
 -- ---- bodies
 
--- a cutter that gave all its closed batches, whose section isn't whole yet and has no fault; what came completes no further body
+-- a cutter that gave all its closed batches, whose section isn't whole yet and has no error; what came completes no further body
 pub record IsWaiting (c : Cutting) : Type 0 where
   pub going : c.place.stop ≡ None
   pub owed : is_whole c ≡ false

@@ -77,7 +77,7 @@ kind_name Limit = codes "limit"
 kind_name Invalid = codes "invalid"
 kind_name Ended = codes "ended"
 
--- what is wrong, and the offset of the byte where it stands
+-- what is wrong, and the offset of the byte where it is
 abbrev pub rejected : Refusal → Outcome
 rejected r = record { status = 2; text = codes "refused " ++ kind_name r.kind ++ codes " at " ++ decimal r.offset ++ codes "\n" }
 
@@ -136,7 +136,7 @@ fault_name Call = codes "call"
 abbrev pub machine_fault : FaultKind → ℕ → Outcome
 machine_fault kind pc = record { status = 9; text = codes "machine fault " ++ fault_name kind ++ codes " at " ++ decimal pc ++ codes "\n" }
 
--- the bytes are no image: the offset of their first fault
+-- the bytes are no image: the offset of their first error
 abbrev pub bad_image : ℕ → Outcome
 bad_image offset = record { status = 10; text = codes "bad image at " ++ decimal offset ++ codes "\n" }
 
@@ -170,7 +170,7 @@ abbrev pub peeked : Peek → (memory : List ℕ) → List ℕ
 peeked p memory =
     if nat_le (p.address + p.count) (length memory) then codes "peek " ++ (hex_of (take p.count (drop p.address memory)) ++ codes "\n") else codes "peek out of range\n"
 
--- behind a text, where bytes are to be shown, stands their line
+-- after a text, where bytes are to be shown, is their line
 abbrev pub with_peek : Option Peek → (memory text : List ℕ) → List ℕ
 with_peek None memory text = text
 with_peek (Some p) memory text = text ++ peeked p memory
@@ -187,11 +187,11 @@ EndsAs drill peek (As (Stops memory)) o = ⊥
 EndsAs drill peek (As Fails) o = ⊥
 EndsAs drill peek (Fault kind pc) o = o ≡ machine_fault kind pc
 
--- behind what the calls of a run print stands its line
+-- after what the calls of a run print is its line
 abbrev pub behind : List ℕ → Outcome → Outcome
 behind text line = record line { text = text ++ line.text }
 
--- what is told of a run of an image: what its calls print, and its lines
+-- what is reported of a run of an image: what its calls print, and its lines
 abbrev pub TellsImageRun : (drill : Option ℕ) → Option Peek → List Import → ImageRun → Outcome → Type 0
 TellsImageRun drill peek imports r o = (line : Outcome) × EndsAs drill peek r.end line × (o ≡ behind (printed imports r.calls) line)
 
@@ -210,8 +210,8 @@ abbrev pub GoesOn : (steps : ℕ) → (ℕ → module_runs.Run) → Type 0
 GoesOn steps runs = (k : ℕ) → 128 * k + 64 ≤ steps → (runs k).end ≡ Going
 
 -- The lines of a run of a module whose image made these calls and ended so within these steps. The same calls and the same end are
--- those of the module's run by the reduction rules, for some weight; or the image goes on after all its steps, its calls are a front
--- of the module's for some weight, and the module's run goes on at each weight that the steps were enough for.
+-- those of the module's run by the reduction rules, for some weight; or the image goes on after all its steps, its calls are a
+-- prefix of the module's for some weight, and the module's run goes on at each weight that the steps were enough for.
 abbrev pub TellsEnd : (drill : Option ℕ) → Option Peek → (steps : ℕ) → List HostCall → Ending → (ℕ → module_runs.Run) → Outcome → Type 0
 TellsEnd drill peek steps calls (As (Returns values memory globals)) runs o = (k : ℕ) × (runs k ≡ record { calls = calls; end = Returns values memory globals }) × (o ≡ showing peek memory (returned_by drill values))
 TellsEnd drill peek steps calls (As (Traps kind place memory globals)) runs o = (k : ℕ) × (runs k ≡ record { calls = calls; end = Traps kind place memory globals }) × (o ≡ showing peek memory (trapped kind place))
@@ -257,7 +257,7 @@ drill_call steps = record { export = codes "run"; arguments = []; steps = steps;
 abbrev pub TellsDrill : (steps : ℕ) → Module → Outcome → Type 0
 TellsDrill steps m o = TellsCall (Some (declared_count m.items)) (drill_call steps) m o
 
--- the module and its image behave alike, and this is told of it; or the module is refused
+-- the module and its image behave alike, and this is reported of it; or the module is refused
 abbrev pub OfVerdict : (Module → Outcome → Type 0) → Verdict → Outcome → Type 0
 OfVerdict Tells (Accepted m) o = Same m (image_of m) × Tells m o
 OfVerdict Tells (Rejected r) o = o ≡ rejected r
@@ -266,7 +266,7 @@ OfVerdict Tells (Rejected r) o = o ≡ rejected r
 abbrev pub command_said : List (String Global) → Option Command
 command_said words = command_in (map string_bytes words)
 
--- where the source failed: the fault that decides then of the bytes that came, or that it failed
+-- where the source failed: the error that decides then of the bytes that came, or that it failed
 abbrev pub stopped : Option Refusal → Outcome
 stopped None = read_fault
 stopped (Some r) = rejected r
@@ -280,8 +280,8 @@ OfModule Tells false bytes o = (v : Verdict) × IsVerdictOf bytes v × OfVerdict
 abbrev pub TellsSum : Drilled → Outcome → Type 0
 TellsSum d o = (o ≡ drill_line (d.count + 1) (pos (sum_below d.count))) ⊎ ((d.steps < 640 * d.count + 448) × (o ≡ steps_spent))
 
--- The bytes that are made, of the given size, are a module. It and its image behave alike, and this is told of it, which is the sum
--- wherever the steps suffice.
+-- The bytes that are made, of the given size, are a module. It and its image behave alike, and this is reported of it, which is the
+-- sum wherever the steps suffice.
 abbrev pub OfDrill : Drilled → Outcome → Type 0
 OfDrill d o = (m : Module) × IsModuleOf (drill_bytes d.count) m × Same m (image_of m) × TellsDrill d.steps m o × TellsSum d o
 
@@ -294,7 +294,7 @@ abbrev pub OfImage : Given → Bool → List ℕ → Outcome → Type 0
 OfImage c true bytes o = o ≡ read_fault
 OfImage c false bytes o = OfReading c (image_or_offset bytes) o
 
--- by what was left in the source before and behind
+-- by what was left in the source before and after
 abbrev pub ComesOfModule : ((bytes : ℕ) → Module → Outcome → Type 0) → Bool → (left rest : Option (List ℕ)) → Outcome → Type 0
 ComesOfModule Tells failed left rest o = (bytes : List ℕ) × Came left rest failed bytes × OfModule Tells failed bytes o
 
@@ -318,12 +318,12 @@ ReadsNothing (Some (Drill d)) = Unit {0}
 
 -- ---- what is written
 
--- what was answered and written of an outcome: where the sink failed, a front of its text; else its status and its text
+-- what was answered and written of an outcome: where the sink failed, a prefix of its text; else its status and its text
 abbrev pub Told : ℕ → Outcome → Bool → Option (List ℕ) → Option (List ℕ) → Type 0
 Told status o true old new = (status ≡ 7) × (n : ℕ) × (new ≡ append_known old (take n o.text))
 Told status o false old new = (status ≡ o.status) × (new ≡ append_known old o.text)
 
--- what a call answered and wrote: want of memory, and the sink is untouched; else what the words and the bytes come to
+-- what a call answered and wrote: out of memory, and the sink is untouched; else what the words and the bytes come to
 abbrev pub AnswersAndWrites : (untouched : Type 0) → Option Command → Bool → (left rest : Option (List ℕ)) → ℕ → Bool → Option (List ℕ) → Option (List ℕ) → Type 0
 AnswersAndWrites untouched command source_failed left rest status sink_failed old new =
     ((status ≡ 8) × untouched × (sink_failed ≡ false) × (new ≡ old))

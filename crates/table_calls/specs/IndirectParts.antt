@@ -1,4 +1,5 @@
--- The words of an indirect call (WebAssembly Core 1.0, 4.4.5.11) in three parts, one behind the other.
+-- The instruction words of an indirect call (WebAssembly Core 1.0, 4.4.5.11) in three parts, one after
+-- the other.
 use Rattle.std.specs.Prelude.{ℕ, List, ◌∷◌, ◌++◌}
 use Rattle.rv_isa.specs.declared.operations.BranchOp.TheVariants.{Beq, Bne, Bltu}
 use Rattle.rv_isa.specs.declared.operations.LoadOp.TheVariants.{Ld}

@@ -68,7 +68,7 @@ short_type at less =
     else if less == 0x02 || less == 0x03 then refused Unsupported at
     else refused Malformed at
 
--- by the number of its bytes, and what they spell
+-- by the number of its bytes, and what they encode
 abbrev pub type_by : (at bytes : ℕ) → ℤ → Reader BlockType
 type_by at bytes (pos i) = done (Index i)
 type_by at bytes (negsuc less) = if nat_lt 1 bytes then refused Malformed at else short_type at less
@@ -178,7 +178,7 @@ memory at b =
     else if b == 0x40 then with_zero MemoryGrow
     else accessed_at at (slice_get accesses (b - 0x28))
 
--- behind the table of operations: the prefix FC is left out, and nothing else is an opcode
+-- after the table of operations: the prefix FC is left out, and nothing else is an opcode
 abbrev pub past_table : ℕ → ℕ → Reader Token
 past_table at b = if b == 0xFC then refused Unsupported at else refused Malformed at
 
@@ -213,7 +213,7 @@ depth_after (token.If t) depth = suc depth
 depth_after token.Else depth = depth
 depth_after token.End depth = depth - 1
 
--- the tokens that are whole, each with the offset of its opcode; and the first fault of spelling: none where the last token closes
+-- the tokens that are whole, each with the offset of its opcode; and the first error of encoding: none where the last token closes
 -- the body, and nothing is left
 pub record Spelled : Type 0 where
   pub tokens : List (ℕ × Token)
@@ -233,7 +233,7 @@ closed at (b ∷ bytes) = malformed_at at
 abbrev pub after_token : ℕ → Token → Spelled → Spelled
 after_token at t s = record s { tokens = (at, t) ∷ s.tokens }
 
--- a fault stops reading; where bytes are owed, the missing `end` is malformed at the body's last byte
+-- an error stops reading; where bytes are owed, the missing `end` is malformed at the body's last byte
 abbrev pub goes_on : {A : Type 0} → ℕ → Read A → (A → Cursor → Spelled) → Spelled
 goes_on last (Got x c) f = f x c
 goes_on last (Fault r) f = stops (Some r)

@@ -1,4 +1,4 @@
--- Which bytes are the code of a body (WebAssembly Core 1.0, 5.4 and 5.5.13): spellings joined one behind the other, with no
+-- Which bytes are the code of a body (WebAssembly Core 1.0, 5.4 and 5.5.13): encodings joined one after the other, with no
 -- reader, and no count of the blocks that are open. How tokens nest is said in Trees.
 use Rattle.std.specs.Prelude.{◌≡◌, ℕ, ℤ, pos, true, List, [], ◌∷◌, length}
 use Rattle.wasm_defs.specs.declared.types.ValType.{ValType}
@@ -173,7 +173,7 @@ instruction_is (token.If ty) = exactly (0x04 ∷ []) then block_type_is ty
 instruction_is token.Else = exactly (0x05 ∷ [])
 instruction_is token.End = exactly (0x0B ∷ [])
 
--- a token stands at its offset
+-- a token is at its offset
 abbrev pub token_is : ℕ × Token → Spelling
 token_is t = λ at bytes. (t.0 ≡ at) × instruction_is t.1 at bytes
 

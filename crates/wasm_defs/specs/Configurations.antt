@@ -11,13 +11,13 @@ use Rattle.wasm_defs.specs.Host.{HostCall, Reply}
 
 -- ---- what doesn't change in a run (4.2.5 to 4.2.7)
 
--- where a declared function stands in the module: its index, the offset of its body's first byte, and those of its tokens
+-- where a declared function is in the module: its index, the offset of its body's first byte, and those of its tokens
 pub record Origin : Type 0 where
   pub index : ℕ
   pub first : ℕ
   pub offsets : List ℕ
 
--- a declared function: where it stands, its type, the types of its declared locals, its greatest live height, and its body
+-- a declared function: where it is, its type, the types of its declared locals, its greatest reachable height, and its body
 pub record Func : Type 0 where
   pub origin : Origin
   pub ty : FuncType
@@ -35,9 +35,9 @@ abbrev pub type_of : Function → FuncType
 type_of (Imported number ty first) = ty
 type_of (Declared f) = f.ty
 
--- the module's types and what else its code may name; the functions by their indices; the table's rows, each a function's
--- index where it has one; and the most pages that the memory may have. No instruction writes to the table, so it stands here and
--- not in the store (4.2.3)
+-- the module's types and what else its code may name; the functions by their indices; the table's rows, each a function's index
+-- where it has one; and the most pages that the memory may have. No instruction writes to the table, so it is here and not in the
+-- store (4.2.3)
 pub record Instance : Type 0 where
   pub context : Context
   pub functions : List Function
@@ -54,8 +54,8 @@ pub record Store : Type 0 where
   pub calls : List HostCall
   pub replies : List Reply
 
--- an open label (4.2.12): how many values a branch to it takes, where the branch leads, what stands below and after the block, and
--- how many tokens stand between the instructions inside and those after it
+-- an open label (4.2.12): how many values a branch to it takes, where the branch leads, what is below and after the block, and how
+-- many tokens are between the instructions inside and those after it
 pub record Label : Type 0 where
   pub arity : ℕ
   pub target : Seq
@@ -106,7 +106,7 @@ pub data Step : Type 0 where
 
 -- ---- places of the module, at which a run may trap
 
--- how many tokens stand behind the code of the innermost block: those of the open blocks, and the function's last `end`
+-- how many tokens follow the code of the innermost block: those of the open blocks, and the function's last `end`
 abbrev pub tokens_behind : List Label → ℕ
 tokens_behind [] = 1
 tokens_behind (label ∷ labels) = label.between + tokens_in label.after + tokens_behind labels

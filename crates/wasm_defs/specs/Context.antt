@@ -14,7 +14,7 @@ types_of [] = []
 types_of (Signature form params results ty ∷ xs) = ty ∷ types_of xs
 types_of (_ ∷ xs) = types_of xs
 
--- the types of the functions, by their indices; imports stand before declared functions
+-- the types of the functions, by their indices; imports are before declared functions
 abbrev pub functions_of : List Item → List ℕ
 functions_of [] = []
 functions_of (Imported from what kind type_index ∷ xs) = type_index.1 ∷ functions_of xs

@@ -15,7 +15,7 @@ use Rattle.wasm_defs.specs.Integers.{Computed, Number, DividesByZero, Overflows,
 use Rattle.wasm_defs.specs.Memory.{pages_of, number_of, bytes_of, bytes_at, written_at, load_count, store_count, extended, grown}
 use Rattle.wasm_defs.specs.Configurations as run
 
--- the store, the locals and the operands behind an instruction; or a trap; or none, where it finds other than it takes
+-- the store, the locals and the operands after an instruction; or a trap; or none, where it finds other than it takes
 pub data Effect : Type 0 where
   Gives : (store : run.Store) (locals operands : List Value) → Effect
   Traps : (kind : TrapKind) → Effect

@@ -97,7 +97,7 @@ is_opcode b = within 0x00 0x05 b || within 0x0B 0x11 b || within 0x1A 0x1B b || 
 abbrev pub is_left_out : ℕ → Bool
 is_left_out b = within 0x43 0x44 b || b == 0xFC
 
--- an opcode that stands in a constant expression in place of the right one
+-- an opcode that is in a constant expression in place of the right one
 abbrev pub wrong_opcode : ℕ → Kind
 wrong_opcode b = if is_left_out b then Unsupported else if is_opcode b then Invalid else Malformed
 

@@ -1,4 +1,4 @@
--- The faults of a module, but for that of its image's text.
+-- The errors of a module, but for that of its image's text.
 use Rattle.std.specs.Prelude.{◌≡◌, ◌⊎◌, ℕ, suc, ◌+◌, List, [], ◌∷◌, ◌++◌, ◌==◌, ◌&&◌, length, Bool, true, false, Option, None, Some, slice_get, nat_le, if◌then◌else◌}
 use Rattle.wasm_defs.specs.declared.fault.Kind.{Kind}
 use Rattle.wasm_defs.specs.declared.fault.Kind.TheVariants.{Malformed, Unsupported, Limit, Invalid, Ended}
@@ -24,13 +24,13 @@ rank Ended = 4
 
 -- ---- outside bodies
 
--- where the bytes end too soon, the fault stands at their number
+-- where the bytes end too soon, the error is at their number
 abbrev pub ending_fault : ℕ → Ending → Option Refusal
 ending_fault len (Whole seen) = None
 ending_fault len (Refused r) = Some r
 ending_fault len Owed = Some (record { offset = len; kind = Ended })
 
--- the fault that ends their reading
+-- the error that ends their reading
 abbrev pub IsOutsideFault : List ℕ → Refusal → Type 0
 IsOutsideFault bytes r = ending_fault (length bytes) (module_read bytes).ending ≡ Some r
 
@@ -117,7 +117,7 @@ context_at items k b =
     let c = context_of items in
     body_context c (type_of_function c (import_count items + k)) (read_of b).groups
 
--- a fault of an item's use or of one of the bodies, after these items and k bodies
+-- an error of an item's use or of one of the bodies, after these items and k bodies
 abbrev pub IsFaultInside : List Item → ℕ → List Part → Refusal → Type 0
 IsFaultInside items k [] r = ⊥
 IsFaultInside items k (Section at id ∷ parts) r = IsFaultInside items k parts r

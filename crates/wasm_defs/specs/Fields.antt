@@ -7,13 +7,13 @@ use Rattle.wasm_defs.specs.declared.fault.Refusal.{Refusal}
 use Rattle.wasm_defs.specs.Limits.{max_name}
 use Rattle.wasm_defs.specs.Text.{between, completes}
 
--- where reading stands: the offset, the bytes from there on, and where the section ends
+-- where reading is: the offset, the bytes from there on, and where the section ends
 pub record Cursor : Type 0 where
   pub at : ℕ
   pub rest : List ℕ
   pub end : ℕ
 
--- what reading a field comes to: a value and what follows it, the first fault, or that more bytes are owed
+-- what reading a field comes to: a value and what follows it, the first error, or that more bytes are owed
 pub data Read (A : Type 0) : Type 0 where
   Got : (x : A) (c : Cursor) → Read A
   Fault : (r : Refusal) → Read A
@@ -87,7 +87,7 @@ u32 = do
   n ← number false 32
   done (n.0, nat_of n.1)
 
--- a count, judged where it stands
+-- a count, validated where it is
 unfoldable pub count : ℕ → Reader (ℕ × ℕ)
 count most = do
   n ← u32
@@ -107,7 +107,7 @@ run n = λ c. if nat_lt (length (window c)) n then cut c else Got (take n (windo
 unfoldable pub room : Reader ℕ
 room = λ c. Got (room_of c) c
 
--- where reading stands, and where the section ends
+-- where reading is, and where the section ends
 unfoldable pub here : Reader ℕ
 here = λ c. Got c.at c
 
@@ -136,12 +136,12 @@ text_after len n = λ c.
     else Got (c.at, text) (past c (len + n)))
     else refused Malformed c.at c
 
--- the least number whose spelling begins so
+-- the least number whose encoding begins so
 abbrev pub least : List ℕ → ℕ
 least [] = 0
 least (b ∷ bytes) = b - 128 + 128 * least bytes
 
--- a name whose length is cut off: the shortest one that begins so has to lie in the section
+-- a name whose length is cut off: the shortest one that begins so has to be in the section
 abbrev pub length_owed : Reader (ℕ × List ℕ)
 length_owed = λ c. if nat_lt (room_of c) (length (window c) + 1 + least (window c)) then refused Malformed c.at c else Wants
 

@@ -36,7 +36,7 @@ abbrev pub are_bytes : List ℕ → Bool
 are_bytes [] = true
 are_bytes (b ∷ bs) = nat_lt b 256 && are_bytes bs
 
--- the memory behind a patch: none where the patch has too many bytes, or numbers that are none, or doesn't lie in the memory
+-- the memory after a patch: none where the patch has too many bytes, or numbers that are none, or isn't in the memory
 abbrev pub patched : List ℕ → Option Patch → Option (List ℕ)
 patched memory None = Some memory
 patched memory (Some p) = if nat_le (length p.bytes) most_patched && are_bytes p.bytes then written_at memory p.place p.bytes else None
@@ -45,7 +45,7 @@ patched memory (Some p) = if nat_le (length p.bytes) most_patched && are_bytes p
 abbrev pub are_of : Types → List Value → Bool
 are_of types values = same_types types (types_of_values values) && all_in_range values
 
--- what a reply comes to: the values and the memory behind it. A reply that isn't of the import's result types, or whose patch
+-- what a reply comes to: the values and the memory after it. A reply that isn't of the import's result types, or whose patch
 -- isn't of bytes or has no place, is taken as a stop.
 pub data Taken : Type 0 where
   Goes : (values : List Value) (memory : List ℕ) → Taken

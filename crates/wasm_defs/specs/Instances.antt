@@ -22,7 +22,7 @@ use Rattle.wasm_defs.specs.Configurations as run
 
 -- ---- functions
 
--- where the k-th declared function stands
+-- where the k-th declared function is
 abbrev pub origin_of : List Item → ℕ → Body → run.Origin
 origin_of items k b = record {
   index = import_count items + k;

@@ -1,4 +1,4 @@
--- Which bytes are a module outside its bodies (WebAssembly Core 1.0, 5.5): spellings joined one behind the other, with no
+-- Which bytes are a module outside its bodies (WebAssembly Core 1.0, 5.5): encodings joined one after the other, with no
 -- reader. What the items must keep to besides is said in Rules.
 use Rattle.std.specs.Prelude.{◌≡◌, ◌≢◌, ◌<◌, ◌≤◌, ℕ, ◌+◌, ℤ, pos, Bool, true, false, List, [], ◌∷◌, ◌++◌, length, Option, Some, None}
 use Rattle.std.specs.Str.{IsUtf8}
@@ -15,13 +15,13 @@ use Rattle.wasm_defs.specs.Entries.{const_opcode, bits_of}
 use Rattle.wasm_defs.specs.Context.{declared_count}
 use Rattle.wasm_defs.specs.Outside.{Body, magic, version}
 
--- ---- spellings
+-- ---- encodings
 
--- what some bytes spell, the first of which has that offset
+-- what some bytes encode, the first of which has that offset
 abbrev pub Spelling : Type 1
 Spelling = ℕ → List ℕ → Type 0
 
--- one spelling in front, and another behind it
+-- one encoding first, and another after it
 pub record Joined (p q : Spelling) (at : ℕ) (bytes : List ℕ) : Type 0 where
   pub front : List ℕ
   pub back : List ℕ
@@ -37,12 +37,12 @@ p then q = Joined p q
 abbrev pub exactly : List ℕ → Spelling
 exactly run = λ at bytes. bytes ≡ run
 
--- so many spellings, one behind the other
+-- so many encodings, one after the other
 abbrev pub each_is : {A : Type 0} → (A → Spelling) → List A → Spelling
 each_is p [] = exactly []
 each_is p (x ∷ xs) = p x then each_is p xs
 
--- ---- values (5.2): a field stands at its offset
+-- ---- values (5.2): a field is at its offset
 
 abbrev pub byte_is : ℕ → ℕ → Spelling
 byte_is offset b = λ at bytes. (offset ≡ at) × (bytes ≡ b ∷ [])
@@ -58,7 +58,7 @@ u32_is n = number_is false 32 (n.0, pos n.1)
 abbrev pub vector_is : {A : Type 0} → (A → Spelling) → ℕ → List A → Spelling
 vector_is p offset xs = u32_is (offset, length xs) then each_is p xs
 
--- a size, and so many bytes, which spell p
+-- a size, and so many bytes, which encode p
 pub record Sized (offset : ℕ) (p : Spelling) (at : ℕ) (bytes : List ℕ) : Type 0 where
   pub front : List ℕ
   pub content : List ℕ
@@ -118,7 +118,7 @@ extern_code extern.Table = 0x01
 extern_code extern.Memory = 0x02
 extern_code extern.Global = 0x03
 
--- ---- items (5.3.3, and 5.5.5 to 5.5.14): the start function and the code's count stand in no vector
+-- ---- items (5.3.3, and 5.5.5 to 5.5.14): the start function and the code's count are in no vector
 
 abbrev pub item_is : Item → Spelling
 item_is (Signature form params results ty) = byte_is form 0x60 then vector_is listed_type_is params ty.params then vector_is listed_type_is results ty.results
@@ -133,7 +133,7 @@ item_is (Element table place functions) = u32_is table then constant_is I32 plac
 item_is (Code count end) = λ at bytes. ⊥
 item_is (Segment memory place bytes) = u32_is memory then constant_is I32 place then bytes_are bytes
 
--- the id of the section that an item stands in (5.5.2)
+-- the id of the section that an item is in (5.5.2)
 abbrev pub section_of : Item → ℕ
 section_of (Signature form params results ty) = 1
 section_of (Imported from what kind type_index) = 2
@@ -212,7 +212,7 @@ abbrev pub bodies_in : List Section → List Body
 bodies_in [] = []
 bodies_in (s ∷ sections) = payload_bodies s.payload ++ bodies_in sections
 
--- sections stand in the order of their ids, each once; custom ones stand anywhere
+-- sections are in the order of their ids, each once; custom ones are anywhere
 abbrev pub StandsBehind : ℕ → Payload → Type 0
 StandsBehind last (Custom name) = Unit {0}
 StandsBehind last p = last < payload_id p

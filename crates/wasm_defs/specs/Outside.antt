@@ -1,4 +1,4 @@
--- A module outside its bodies, read from the left: what stands in it, in order, and how reading ends (WebAssembly Core 1.0,
+-- A module outside its bodies, read from the left: what is in it, in order, and how reading ends (WebAssembly Core 1.0,
 -- 5.5).
 use Rattle.std.specs.Prelude.{ℕ, zero, suc, ◌+◌, Bool, ◌&&◌, ◌||◌, ◌==◌, not, List, [], ◌∷◌, length, nat_lt, nat_le, if◌then◌else◌}
 use Rattle.wasm_defs.specs.declared.fault.Kind.TheVariants.{Malformed, Unsupported, Limit, Invalid}
@@ -105,7 +105,7 @@ row id =
     else if id == 11 then entries_of (λ s. number_of max_entries) segment
     else record { front = λ s. custom_name; entry = λ s. listed (start s); back = rest_of_section }
 
--- the order of sections; custom ones stand anywhere
+-- the order of sections; custom ones are anywhere
 abbrev pub order_of : ℕ → ℕ
 order_of id = id
 

@@ -1,11 +1,11 @@
--- The places of a body: where they are live, and how many operands lie there.
+-- The places of a body: where they are reachable, and how many operands are there.
 use Rattle.std.specs.Prelude.{ℕ, ◌+◌, ◌-◌, List, [], ◌∷◌, length, max, Option, None, Some}
 use Rattle.wasm_defs.specs.declared.types.ValType.TheVariants.{I32}
 use Rattle.wasm_defs.specs.declared.token.BlockType.{BlockType}
 use Rattle.wasm_defs.specs.Trees.{Seq, Nothing, Simple, Block, Loop, If, IfElse}
 use Rattle.wasm_defs.specs.Typing.{Signature, Context, inside, Rule, Untyped, Fixed, Stops, Discards, Selects, rule_of, block_type}
 
--- the number of operands, the enclosing blocks' too, where the place is live
+-- the number of operands, the enclosing blocks' too, where the point is reachable
 abbrev pub Place : Type 0
 Place = Option ℕ
 
@@ -14,7 +14,7 @@ abbrev pub moved : ℕ → ℕ → Place → Place
 moved taken left None = None
 moved taken left (Some height) = Some (height - taken + left)
 
--- what follows `unreachable`, `br`, `br_table` and `return` isn't live
+-- what follows `unreachable`, `br`, `br_table` and `return` isn't reachable
 abbrev pub after_rule : Rule → Place → Place
 after_rule Untyped place = None
 after_rule (Fixed params results) place = moved (length params) (length results) place
@@ -29,7 +29,7 @@ or_empty (Some s) = s
 abbrev pub shape : Context → BlockType → Signature
 shape c type = or_empty (block_type c type)
 
--- the place behind a block: it is live where the block is
+-- the place after a block: it is reachable where the block is
 abbrev pub after_block : Signature → Place → Place
 after_block s place = moved (length s.params) (length s.results) place
 
@@ -78,7 +78,7 @@ abbrev pub higher : Place → ℕ → ℕ
 higher None most = most
 higher (Some height) most = max height most
 
--- the greatest live height
+-- the greatest reachable height
 abbrev pub greatest : List Place → ℕ
 greatest [] = 0
 greatest (place ∷ places) = higher place (greatest places)

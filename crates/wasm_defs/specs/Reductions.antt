@@ -138,15 +138,15 @@ abbrev pub leave : Config → List Label → Step
 leave c [] = returns c c.frame.operands
 leave c (label ∷ labels) = goes_on c c.store c.frame.locals (c.frame.operands ++ label.below) label.after labels
 
--- the entry of a block (4.4.5.3 to 4.4.5.5, 4.4.6.1), which takes operands along; a branch to it takes so many, and leads to
--- its target; so many tokens stand between its body and what follows it
+-- the entry of a block (4.4.5.3 to 4.4.5.5, 4.4.6.1), which takes operands along; a branch to it takes so many, and leads to its
+-- target; so many tokens are between its body and what follows it
 abbrev pub within : Config → List Value → Signature → (arity : ℕ) → (target body : Seq) → (between : ℕ) → (rest : Seq) → Step
 within c operands s arity target body between rest =
     let count = length s.params in
     goes_on c c.store c.frame.locals (take count operands) body
     (record { arity = arity; target = target; below = drop count operands; after = rest; between = between } ∷ c.frame.labels)
 
--- between the first branch and what follows the `if` stand so many tokens, and behind the second one its `end`
+-- between the first branch and what follows the `if` are so many tokens, and after the second one its `end`
 abbrev pub choose : Config → Signature → (body : Seq) → (between : ℕ) → (other rest : Seq) → List Value → Step
 choose c s body between other rest [] = Stuck
 choose c s body between other rest (x ∷ below) = choose_by x.number

@@ -24,7 +24,7 @@ LimitsKeep l most top = (l.min.1 ≤ most) × IsUpTo l.max l.min top
 abbrev pub IsSole : ℕ × ℕ → ℕ → Type 0
 IsSole index there = (index.1 ≡ 0) × (0 < there)
 
--- an item behind those that were seen: an index is one of what it counts, and an export's name is new (3.4.10)
+-- an item after those that were seen: an index is one of what it counts, and an export's name is new (3.4.10)
 abbrev pub Keeps : Seen → Item → Type 0
 Keeps s (Signature form params results ty) = (length ty.params ≤ max_params) × (length ty.results ≤ max_results)
 Keeps s (Imported from what kind type_index) = (length from.1 ≤ max_name) × (length what.1 ≤ max_name) × (type_index.1 < s.types)

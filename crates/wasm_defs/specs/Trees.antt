@@ -1,4 +1,4 @@
--- Structured instructions, and the tokens that spell them (Core 2.4 and 5.4).
+-- Structured instructions, and the tokens that encode them (Core 2.4 and 5.4).
 use Rattle.std.specs.Prelude.{◌≡◌, ℕ, List, [], ◌∷◌, length}
 use Rattle.wasm_defs.specs.declared.token.BlockType.{BlockType}
 use Rattle.wasm_defs.specs.declared.token.Plain.{Plain}

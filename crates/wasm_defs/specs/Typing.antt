@@ -28,7 +28,7 @@ pub record Signature : Type 0 where
   pub params : Types
   pub results : Types
 
--- of a function type: its last value lies topmost
+-- of a function type: its last value is topmost
 abbrev pub signature_of : FuncType → Signature
 signature_of f = record { params = reverse f.params; results = reverse f.results }
 

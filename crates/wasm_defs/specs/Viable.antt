@@ -1,4 +1,4 @@
--- Tokens that others complete to a body, and which token is at fault.
+-- Tokens that others complete to a body, and which token is wrong.
 use Rattle.std.specs.Prelude.{List, ◌++◌}
 use Rattle.wasm_defs.specs.declared.fault.Kind.{Kind}
 use Rattle.wasm_defs.specs.declared.fault.Kind.TheVariants.{Malformed, Unsupported, Limit, Invalid, Ended}
@@ -14,7 +14,7 @@ IsGrammatical tokens = (more : List Token) × (tree : Seq) × Tree (tokens ++ mo
 abbrev pub IsViable : Context → List Token → Type 0
 IsViable c tokens = (more : List Token) × (tree : Seq) × Tree (tokens ++ more) tree × IsBody c tree
 
--- the last of these tokens is at fault, if those before it are viable
+-- the last of these tokens is wrong, if those before it are viable
 abbrev pub IsFaulty : Context → List Token → Kind → Type 0
 IsFaulty c tokens Malformed = ¬ IsGrammatical tokens
 IsFaulty c tokens Unsupported = ⊥

@@ -1,4 +1,4 @@
--- What stands behind a body: data segments, and nothing that a body may name (WebAssembly Core 1.0, 5.5.2).
+-- What follows a body: data segments, and nothing that a body may name (WebAssembly Core 1.0, 5.5.2).
 use Rattle.std.specs.Prelude.{◌≡◌, ℕ, suc, List, [], ◌∷◌, ◌++◌}
 use Rattle.wasm_defs.specs.declared.item.Item.{Item}
 use Rattle.wasm_defs.specs.declared.item.Item.TheVariants.{Segment}
@@ -20,7 +20,7 @@ pub record SayTheSame (all first : List Item) : Type 0 where
   pub tables : tables_of all ≡ tables_of first
   pub memories : memories_of all ≡ memories_of first
 
--- what stands in front of a body and behind it, in these parts
+-- what is before a body and after it, in these parts
 pub record StandBehind (parts front back : List Part) : Type 0 where
   pub segments : AreSegments (items_of back)
   pub same : SayTheSame (items_of parts) (items_of front)

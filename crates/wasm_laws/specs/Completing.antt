@@ -16,7 +16,7 @@ IsTooLong (Got x d) = ⊥
 IsTooLong (Fault r) = r.kind ≡ Limit
 IsTooLong Wants = ⊥
 
--- some bytes behind those that are there complete it
+-- some bytes after those that are there complete it
 abbrev pub Completes : {A : Type 0} → Reader A → Cursor → Type 0
 Completes p c = (more : List ℕ) × AreBytes more × IsGot (p (with_more c more))
 

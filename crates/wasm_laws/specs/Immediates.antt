@@ -1,5 +1,5 @@
--- The immediates that bytes spell (WebAssembly Core 1.0, 5.3.2 and 5.4): block types, indices, alignments and offsets, and the
--- numbers of constants.
+-- The immediates that bytes encode (WebAssembly Core 1.0, 5.3.2 and 5.4): block types, indices, alignments and offsets, and
+-- the numbers of constants.
 use Rattle.std.specs.Prelude.{ℕ, ◌<◌, ◌^◌, List, [], ◌∷◌, FitsSigned}
 use Rattle.std.specs.Int.{w32, w64}
 use Rattle.wasm_defs.specs.declared.types.ValType.TheVariants.{I32, I64}
@@ -11,7 +11,7 @@ use Rattle.wasm_defs.specs.declared.token.Token.{Token}
 use Rattle.wasm_defs.specs.declared.token.Token.TheVariants as token
 use Rattle.wasm_defs.specs.Trees.{Seq, Nothing, Simple, Block, Loop, If, IfElse}
 
--- a block's type that bytes spell: where it is one of the module's types, its index has 32 bits
+-- a block's type that bytes encode: where it is one of the module's types, its index has 32 bits
 abbrev pub IsSpelledType : BlockType → Type 0
 IsSpelledType (Index x) = x < 2 ^ 32
 IsSpelledType _ = Unit {0}

@@ -1,10 +1,10 @@
--- Where the parts of a module stand: one behind the other, before the fault that ends reading (WebAssembly Core 1.0, 5.5).
+-- Where the parts of a module are: one after the other, before the error that ends reading (WebAssembly Core 1.0, 5.5).
 use Rattle.std.specs.Prelude.{◌≡◌, ◌≤◌, ◌<◌, ℕ, suc, ◌+◌, List, [], ◌∷◌, length, take, drop, Option, None, Some}
 use Rattle.wasm_defs.specs.Limits.{max_body}
 use Rattle.wasm_defs.specs.Outside.{Body, Part, Section, Listed, Coded}
 use Rattle.wasm_defs.specs.Faults.{Use, use_of}
 
--- the offset behind a body
+-- the offset after a body
 abbrev pub end_of : Body → ℕ
 end_of b = b.first + length b.bytes
 
@@ -16,18 +16,18 @@ pub record BodyStands (low last : ℕ) (b : Body) : Type 0 where
   pub most : length b.bytes ≤ max_body
   pub before : end_of b ≤ last
 
--- an item from low on, and no later than last: the index that not every type serves before it, since that may be a fault
+-- an item from low on, and no later than last: the index that not every type serves before it, since that may be an error
 abbrev pub UseStands : (low last : ℕ) → Option Use → Type 0
 UseStands low last None = low ≤ last
 UseStands low last (Some u) = (low ≤ u.0) × (u.0 < last)
 
--- the first offset at which another part may stand behind an item
+-- the first offset at which another part may be after an item
 abbrev pub behind_use : ℕ → Option Use → ℕ
 behind_use low None = low
 behind_use low (Some u) = suc u.0
 
--- the parts stand from low on, each behind the one before: sections and items no later than last, and bodies before it. Items
--- stand behind what was read before them
+-- the parts are from low on, each after the one before: sections and items no later than last, and bodies before it. Items
+-- follow what was read before them
 abbrev pub AreOrdered : ℕ → ℕ → List Part → Type 0
 AreOrdered low last [] = Unit {0}
 AreOrdered low last (Section at id ∷ parts) = (low ≤ at) × (at ≤ last) × AreOrdered (suc at) last parts
@@ -42,6 +42,6 @@ AreCutFrom bytes (Section at id ∷ parts) = (take 1 (drop at bytes) ≡ id ∷ 
 AreCutFrom bytes (Listed x ∷ parts) = AreCutFrom bytes parts
 AreCutFrom bytes (Coded b ∷ parts) = (take (length b.bytes) (drop b.first bytes) ≡ b.bytes) × AreCutFrom bytes parts
 
--- a module's sections begin behind its magic and version
+-- a module's sections begin after its magic and version
 abbrev pub first_section : ℕ
 first_section = 8

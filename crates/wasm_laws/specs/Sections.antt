@@ -8,7 +8,7 @@ use Rattle.wasm_defs.specs.Outside.{Part, Listed, Coded, Whole, module_read}
 use Rattle.wasm_defs.specs.Items.{Section, Payload, Custom, Vector, Starting, Bodies, payload_id, Items}
 use Rattle.wasm_defs.specs.Rules.{RulesAreKept}
 
--- the parts of a section behind its id: its items, or the code's count and its bodies
+-- the parts of a section after its id: its items, or the code's count and its bodies
 abbrev pub parts_of : Payload → List Part
 parts_of (Custom name) = []
 parts_of (Vector id count items) = map Listed items
@@ -19,7 +19,7 @@ abbrev pub parts_in : List Section → List Part
 parts_in [] = []
 parts_in (s ∷ sections) = outside.Section s.id (payload_id s.payload) ∷ (parts_of s.payload ++ parts_in sections)
 
--- these are the sections of a module, which keep the rules, and the bytes spell them
+-- these are the sections of a module, which keep the rules, and the bytes encode them
 pub record AreSectionsOf (sections : List Section) (bytes : List ℕ) : Type 0 where
   pub spelled : Items bytes sections
   pub kept : RulesAreKept bytes sections

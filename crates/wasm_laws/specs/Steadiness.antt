@@ -1,6 +1,6 @@
--- What every reader of fields keeps to (WebAssembly Core 1.0, 5.2 to 5.5): more bytes behind those that it read change
--- nothing but where more were owed; it takes bytes from the front, and none past the section's end; a fault stands at a
--- byte that is there, or where the bytes end; and nothing is owed where the whole section is there.
+-- What every reader of fields keeps to (WebAssembly Core 1.0, 5.2 to 5.5): more bytes after those that it read change
+-- nothing but where more were owed; it takes bytes from the front, and none past the section's end; an error is at a byte
+-- that is there, or where the bytes end; and nothing is owed where the whole section is there.
 use Rattle.std.specs.Prelude.{◌≡◌, ◌≤◌, ◌<◌, ℕ, ◌+◌, List, [], ◌∷◌, ◌++◌, length}
 use Rattle.wasm_defs.specs.declared.fault.Refusal.{Refusal}
 use Rattle.wasm_defs.specs.declared.token.Token.{Token}
@@ -20,7 +20,7 @@ IfGot P Wants = Unit {0}
 abbrev pub with_more : Cursor → List ℕ → Cursor
 with_more c more = record { at = c.at; rest = c.rest ++ more; end = c.end }
 
--- a value stays, with the more bytes behind what it left; a fault stays; what was owed may come to anything
+-- a value stays, with the more bytes after what it left; an error stays; what was owed may come to anything
 pub data Extends (A : Type 0) (more : List ℕ) : Read A → Read A → Type 0 where
   got : (x : A) (c : Cursor) → Extends A more (Got x c) (Got x (with_more c more))
   faulty : (r : Refusal) → Extends A more (Fault r) (Fault r)
@@ -39,10 +39,10 @@ pub record Advance (c d : Cursor) : Type 0 where
 abbrev pub Advances : {A : Type 0} → Cursor → Read A → Type 0
 Advances c = IfGot (λ x d. Advance c d)
 
--- ---- places of faults
+-- ---- places of errors
 
--- a fault that reading meets from the cursor on: no earlier than low, and no later than where the bytes that are there end;
--- where they end before the section does, it stands at one of them
+-- an error that reading meets from the cursor on: no earlier than low, and no later than where the bytes that are there
+-- end; where they end before the section does, it is at one of them
 pub record Stands (low : ℕ) (c : Cursor) (r : Refusal) : Type 0 where
   pub from : low ≤ r.offset
   pub within : r.offset ≤ c.at + length c.rest
@@ -71,7 +71,7 @@ IsDecided Wants = ⊥
 
 -- ---- steady readers
 
--- a reader whose faults may stand at the marks too: at fields before it, which it was given
+-- a reader whose errors may be at the marks too: at fields before it, which it was given
 pub record Steady {A : Type 0} (marks : List ℕ) (p : Reader A) : Type 0 where
   pub by : (c : Cursor) (more : List ℕ) → Extends A more (p c) (p (with_more c more))
   pub moves : (c : Cursor) → Advances c (p c)
@@ -85,7 +85,7 @@ LeavesFewer c = IfGot (λ x d. length d.rest < length c.rest)
 pub record Takes {A : Type 0} (p : Reader A) : Type 0 where
   pub some : (c : Cursor) → LeavesFewer c (p c)
 
--- a section's row: what stands before its entries, each of them, and what stands behind
+-- a section's row: what is before its entries, each of them, and what follows
 pub record SteadyRow (r : Row) : Type 0 where
   pub front : (seen : Seen) → Steady [] (r.front seen)
   pub entry : (seen : Seen) → Steady [] (r.entry seen)

@@ -6,7 +6,7 @@ use Rattle.wasm_defs.specs.Context.{context_of, import_count}
 use Rattle.wasm_defs.specs.Outside.{Part, Section, Listed, Coded}
 use Rattle.wasm_defs.specs.Typing.{function_type}
 
--- each body's function is there, with its type, among the items before it, where these items and so many bodies stand before
+-- each body's function is there, with its type, among the items before it, where these items and so many bodies are before
 -- the parts
 abbrev pub AreTyped : List Item → ℕ → List Part → Type 0
 AreTyped items bodies [] = Unit {0}
