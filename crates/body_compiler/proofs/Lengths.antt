@@ -1,4 +1,5 @@
--- Where the words so far, with those of a table's jumps, are more than a text has, so are those of every body that goes on so.
+-- Where the instruction words so far, with those of a table's jumps, are more than a text has, so are those of every body that
+-- goes on so.
 use Rattle.std.proofs.Common.{◌≡◌, ◌≤◌, ◌<◌, ℕ, ◌+◌, ◌-◌, ◌*◌, Bool, true, false, List, [], ◌∷◌, ◌++◌, map, length, Some, sym, ap, ◌∙◌, subst, arith, append_assoc, length-append}
 use Rattle.std.specs.Prelude.{slice_get}
 use Rattle.std.proofs.lemmas.Bool.{ltb-true}

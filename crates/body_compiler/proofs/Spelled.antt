@@ -1,4 +1,4 @@
--- What the opcodes spell, and the bytes behind it.
+-- What the opcodes encode, and the bytes after it.
 use Rattle.std.proofs.Common.{◌≡◌, ◌<◌, ℕ, true, None, List, [], ◌∷◌, drop, length, get_or, refl, ap, ◌∙◌, subst}
 use Rattle.std.proofs.lemmas.List.{get_or_default}
 use Rattle.std.proofs.lemmas.List.Elements.{All-drop}

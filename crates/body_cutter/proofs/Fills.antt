@@ -68,7 +68,7 @@ filled w v piece more s going items =
     ∙ ap (λ (l : List ℕ). after_bodies w.done (goes_on (sized w.size_at w.len (from_there (w.at + length piece - length v.items) l w.end)) (λ part d. with_part (index_of w) part (bodies_from (suc (index_of w)) (w.count - 1) d)))) rest
     ∙ sym (in_body (record w { at = w.at + length piece; bytes = v }) more s going)
 
--- behind a fault nothing changes
+-- after an error nothing changes
 halted : (o : Option Refusal) (done : List Body) (x y : Given) → is_some o ≡ true → after_bodies done (unless_refused o x) ≡ after_bodies done (unless_refused o y)
 halted None done x y e = absurd cc
 halted (Some r) done x y e = refl

@@ -40,7 +40,7 @@ bad_front bits (b ∷ bytes) more e =
 
 -- ---- windows
 
--- a front that lies in the section
+-- a front that is in the section
 window_front : (front more : List ℕ) (n : ℕ) → length front ≤ n → take n (front ++ more) ≡ front ++ take (n - length front) more
 window_front front more n le =
     let e : length front + (n - length front) ≡ n = omega arith in
@@ -109,7 +109,7 @@ body_read size len first end bytes more e le =
     let left : drop len (bytes ++ more) ≡ more = ap (λ (k : ℕ). drop k (bytes ++ more)) (sym e) ∙ drop-append_seam bytes more in
     rw (part, long, taken, left) refl
 
--- ---- behind the last body
+-- ---- after the last body
 
 pub whole_section : (index end : ℕ) (more : List ℕ) → bodies_from index 0 (from_there end more end) ≡ ends Whole
 unfolding bodies_from section_end
@@ -142,7 +142,7 @@ pub nothing_left : (index at end : ℕ) → at < end → bodies_from index 0 (fr
 unfolding bodies_from section_end
 nothing_left index at end lt = let e : eqb (end - at) 0 ≡ false = ne_eqb (end - at) 0 (λ h. omega arith) in rw e refl
 
--- a spelling that is cut off is read so
+-- an encoding that is cut off is read so
 pub cut_read : (n : ℤ) (bits : ℕ) (bytes : List ℕ) (c : ℕ) (more : List ℕ) → Spells n bits false (bytes ++ c ∷ more) → number_at false bits bytes ≡ CutOff
 unfolding number_at
 cut_read n bits [] c more p = refl

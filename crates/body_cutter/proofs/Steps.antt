@@ -46,7 +46,7 @@ module _ (w : Walk) (sound : IsSound w) (unsized : w.sized ≡ false) (going : w
   hand : IsAtSize w
   hand = hand_at_size w sound unsized going
 
-  -- a byte behind the last body
+  -- a byte after the last body
   pub behind_last : (more : List ℕ) → w.count ≡ 0 → given w (b ∷ more) ≡ after_bodies w.done (malformed w.at)
   behind_last more none =
       let h = hand in

@@ -1,4 +1,4 @@
--- The tokens that are read are those of the longest front, whatever is wrong behind it.
+-- The tokens that are read are those of the longest prefix, whatever is wrong after it.
 use Rattle.std.proofs.Common.{◌≡◌, ◌≤◌, ◌<◌, inl, inr, ℕ, zero, suc, ◌+◌, ℤ, pos, Bool, true, false, cond, nat_le, List, [], ◌∷◌, ◌++◌, length, Option, Some, None, refl, sym, ap, subst, ◌∙◌, append_assoc, arith, length-append}
 use Rattle.std.proofs.lemmas.Bool.{leb-true}
 use Rattle.wasm_defs.proofs.NumberLaws.{AreBytes}
@@ -53,7 +53,7 @@ closed_longest at last (b ∷ bytes) = record {
 abbrev Fits : Cursor → Type 0
 Fits c = c.at + length c.rest < c.end
 
--- what is spelled at the front is read
+-- what is encoded at the front is read
 begun_is_read : (c : Cursor) (t : Token) (more rest : List ℕ) → Fits c → c.rest ≡ more ++ rest → instruction_is t c.at more → steady.token c ≡ Got t (cursor (c.at + length more) rest c.end)
 begun_is_read c t more rest fits e s =
     ap (λ (l : List ℕ). steady.token (cursor c.at l c.end)) e ∙ (token_read t).by c.at c.end more rest (omega (arith, ap length e, length-append more rest)) s

@@ -12,7 +12,7 @@ use Rattle.wasm_laws.proofs.OneReading.{same_length, AreOne, two_one, as_one, Is
 use Rattle.body_laws.proofs.SpeltTokens.{token_read}
 use Rattle.body_laws.proofs.SpeltCodes.{token_some}
 
--- ---- tokens: what is spelled is what is read
+-- ---- tokens: what is encoded is what is read
 
 same_reading : (t u : Token) (c d e f : Cursor) → c ≡ d → steady.token c ≡ Got t e → steady.token d ≡ Got u f → (t ≡ u) × (e.at ≡ f.at)
 same_reading t u c d e f same first second =

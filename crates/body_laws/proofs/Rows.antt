@@ -19,7 +19,7 @@ use Rattle.wasm_defs.specs.declared.operation.Access.TheVariants.{Load, Store}
 use Rattle.wasm_defs.specs.Opcodes.{operations, accesses}
 use Rattle.wasm_defs.specs.Codes.{load_code, store_code, operation_code}
 
--- ---- a table's rows stand at their codes
+-- ---- a table's rows are at their codes
 
 abbrev are_rows : {A : Type 0} → (A → ℕ) → ℕ → List (Option A) → Bool
 are_rows code n [] = true

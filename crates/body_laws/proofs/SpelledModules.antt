@@ -1,4 +1,4 @@
--- The bodies of a module are spelled, and what is spelled is a module.
+-- The bodies of a module are encoded, and what is encoded is a module.
 use Rattle.std.proofs.Common.{◌≡◌, ℕ, suc, ◌+◌, List, [], ◌∷◌, ◌++◌, length, None, refl, sym, ap, ◌∙◌, subst, append_assoc}
 use Rattle.std.proofs.lemmas.List.{append-nil}
 use Rattle.wasm_defs.specs.declared.item.Item.{Item}

@@ -1,4 +1,4 @@
--- Bodies are read as they are spelled.
+-- Bodies are read as they are encoded.
 use Rattle.std.proofs.Common.{◌≡◌, ◌≤◌, ◌<◌, ℕ, zero, suc, ◌+◌, ◌-◌, ltb, List, [], ◌∷◌, ◌++◌, length, None, refl, sym, ap, subst, ◌∙◌, arith, length-append}
 use Rattle.std.proofs.lemmas.Bool.{le-ltb}
 use Rattle.wasm_defs.proofs.NumberLaws.{AreBytes}
@@ -85,7 +85,7 @@ token_some (token.If ty) at bytes s = bytes_behind_one s
 token_some token.Else at bytes s = one_byte s
 token_some token.End at bytes s = one_byte s
 
--- ---- tokens that are read whole are spelled
+-- ---- tokens that are read whole are encoded
 
 goes_on_found : {A : Type 0} (last : ℕ) (x : Read A) (f : A → Cursor → Spelled) (P : A → Cursor → Type 0) (R : Spelled → Type 0) → IfGot P x → ((a : A) (d : Cursor) → P a d → (f a d).fault ≡ None → R (f a d)) → (goes_on last x f).fault ≡ None → R (goes_on last x f)
 goes_on_found last (Got a d) f P R p h e = h a d p e
@@ -135,13 +135,13 @@ code_closes last n Wants e = absurd cc
 pub body_closes : (first : ℕ) (bytes : List ℕ) → (body_read first bytes).code.fault ≡ None → Closes 1 (tokens_of (body_read first bytes).code.tokens)
 body_closes first bytes e = code_closes (last_of first bytes) (length bytes + 1) (local_groups (body_cursor first bytes)) e
 
--- ---- tokens that are spelled are read whole
+-- ---- tokens that are encoded are read whole
 
 byte_at : (c : Cursor) (w : List ℕ) → IfGot (λ b d. b.0 ≡ c.at) (first_of c w)
 byte_at c [] = cut_got _ _ c
 byte_at c (b ∷ w) = refl
 
--- what is read as these tokens, up to that fault
+-- what is read as these tokens, up to that error
 abbrev IsSpelledAs : List (ℕ × Token) → Spelled → Spelled → Type 0
 IsSpelledAs ts s rest = (s.tokens ≡ ts) × (s.fault ≡ rest.fault)
 

@@ -1,4 +1,4 @@
--- Instructions are read as they are spelled.
+-- Instructions are read as they are encoded.
 use Rattle.std.proofs.Common.{◌≡◌, ◌≤◌, ℕ, ◌-◌, ℤ, Bool, true, not, eqb, nat_lt, nat_le, ◌||◌, List, [], ◌∷◌, length, Option, Some, None, refl, sym, ap, subst, ◌∙◌, suc, ◌+◌, pos, negsuc, inl, inr, arith, false}
 use Rattle.std.specs.Prelude.{slice_get, ◌==◌}
 use Rattle.std.specs.List.{All}
@@ -44,7 +44,7 @@ use Rattle.wasm_defs.proofs.EachOperation.{each_operation, operation_row}
 
 -- ---- fields whose offset their place tells
 
--- a field at any offset, and what is behind it
+-- a field at any offset, and what is after it
 pub reads_past : {A B : Type 0} (p : Reader (ℕ × A)) (f : ℕ × A → Reader B) (x : A) (y : B) (s t : Spelling) → ((o : ℕ) → Reads p (o, x) (λ at bytes. (o ≡ at) × s at bytes)) → ((o : ℕ) → Reads (f (o, x)) y t) → Reads (p >>= f) y (s then t)
 reads_past p f x y s t h k = record {
   by = λ at end bytes back fits j.
@@ -63,11 +63,11 @@ byte_reads b o = byte_spelt.complete (o, b) tt
 pub index_reads : (i o : ℕ) → Reads u32 (o, i) (λ at bytes. (o ≡ at) × listed_index_is i at bytes)
 index_reads i o = u32_spelt.complete (o, i) tt
 
--- what stands at an offset, without it
+-- what is at an offset, without it
 pub opened : (o b : ℕ) (s : Spelling) (at : ℕ) (bytes : List ℕ) → (byte_is o b then s) at bytes → (o ≡ at) × (exactly (b ∷ []) then s) at bytes
 opened o b s at bytes j = (j.first.0, record { front = j.front; back = j.back; parts = j.parts; first = j.first.1; second = j.second })
 
--- a list behind its count
+-- a list after its count
 pub vector_as_listed : {A : Type 0} (S : A → Spelling) (o : ℕ) (xs : List A) (at : ℕ) (bytes : List ℕ) → vector_is S o xs at bytes → listed_vector_is S xs at bytes
 vector_as_listed S o xs at bytes j = record { front = j.front; back = j.back; parts = j.parts; first = j.first.1; second = j.second }
 
@@ -85,7 +85,7 @@ labels_spelt =
     ruled_spelt _ (λ (xs : ℕ × List ℕ). Always {A = ℕ × ℕ} (xs.0, length xs.1) × All Always xs.1) Always (vector u32 label) (λ xs k. tt) (λ xs k. (tt, λ i d lt. tt))
     (vector_spelt listed_index_is Always Always u32 label u32_spelt label_spelt)
 
--- the one byte that spells a negative number
+-- the one byte that encodes a negative number
 short_last : (less b : ℕ) → IsLastByte true 33 b (negsuc less) → b ∷ [] ≡ (127 - less) ∷ []
 short_last less b (inl h) = let e = h.2 in absurd cc
 short_last less b (inr h) =
@@ -168,7 +168,7 @@ mem_arg_spelt = record {
       reads_only u32 _ m.offset m (listed_index_is m.offset) (index_reads m.offset) (λ o c. refl));
 }
 
--- ---- what is got behind an opcode is spelled with it
+-- ---- what is got after an opcode is encoded with it
 
 module _ (o b : ℕ) (c d : Cursor) (found : Found (byte_is o b) (Unit {0}) c d) (ready : Ready d) where
   abbrev pub Q : Token → Cursor → Type 0
@@ -299,7 +299,7 @@ module _ (o b : ℕ) (c d : Cursor) (found : Found (byte_is o b) (Unit {0}) c d)
       either_got Q (nat_lt b 0x28) _ _ d (λ e. variable_found) (λ n.
       either_got Q (nat_lt b 0x41) _ _ d (λ e. memory_found (ltb-false b 0x28 n)) (λ n. numeric_found)))
 
--- ---- what is spelled is read
+-- ---- what is encoded is read
 
 alone : (n : ℕ) (t : Token) → ((o : ℕ) (c : Cursor) → instruction o n c ≡ Got t c) → Reads token t (exactly (n ∷ []))
 alone n t e = reads_only byte _ n t (exactly (n ∷ [])) (byte_reads n) e

@@ -1,4 +1,4 @@
--- What stops a reader: a field that isn't spelled.
+-- What stops a reader: a field that isn't encoded.
 use Rattle.std.proofs.Common.{◌≡◌, ◌≤◌, inl, inr, ℕ, ◌+◌, ℤ, Bool, true, false, cond, nat_le, List, ◌++◌, length, refl, sym, ap, subst, ◌∙◌, arith, length-append}
 use Rattle.wasm_defs.specs.declared.fault.Kind.TheVariants.{Malformed}
 use Rattle.wasm_defs.specs.declared.fault.Refusal.{Refusal}
@@ -10,7 +10,7 @@ use Rattle.wasm_laws.proofs.Spelt.{cursor, Ready, Found, Reads}
 use Rattle.wasm_laws.proofs.SpeltFields.{Always, u32_spelt}
 use Rattle.body_laws.specs.WrongFields.{BeginsNone, IsWrong}
 
--- ---- what a reader stops at: its fault, or the body's last byte where more bytes are owed
+-- ---- what a reader stops at: its error, or the body's last byte where more bytes are owed
 
 abbrev pub IfStops : {A : Type 0} → (Refusal → Type 0) → ℕ → Read A → Type 0
 IfStops P last (Got x c) = Unit {0}
@@ -40,7 +40,7 @@ Fits c = c.at + length c.rest ≤ c.end
 pub fits_behind : {s : Spelling} {K : Type 0} (c d : Cursor) → Found s K c d → Fits c → Fits d
 fits_behind c d found fits = omega (arith, fits, found.at, found.end, ap length found.parts, length-append found.taken d.rest)
 
--- what is spelled at the front is read
+-- what is encoded at the front is read
 pub got_of : {A : Type 0} (p : Reader A) (x : A) (s : Spelling) (c : Cursor) → Fits c → Reads p x s → (front back : List ℕ) → c.rest ≡ front ++ back → s c.at front → p c ≡ Got x (cursor (c.at + length front) back c.end)
 got_of p x s c fits reads front back e k = ap (λ (l : List ℕ). p (cursor c.at l c.end)) e ∙ reads.by c.at c.end front back (omega (arith, fits, ap length e, length-append front back)) k
 
@@ -57,9 +57,9 @@ module _ {A B : Type 0} (is : B → Spelling) (p : Reader A) (last : ℕ) (c : C
   pub read_wrong : IfStops (IsWrong is c.at c.rest last) last (p c)
   read_wrong = stops_so (p c) refl
 
--- ---- where a field's own fault stands
+-- ---- where a field's own error is
 
--- a reader's fault
+-- a reader's error
 abbrev pub told : (A : Type 0) → Refusal → Read A
 told A r = Fault r
 

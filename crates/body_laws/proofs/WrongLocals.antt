@@ -1,4 +1,4 @@
--- Where the groups of locals are wrong, the fault stands at the first field that isn't spelled.
+-- Where the groups of locals are wrong, the error is at the first field that isn't encoded.
 use Rattle.std.proofs.Common.{◌≡◌, ◌≤◌, inl, inr, ℕ, zero, suc, ◌+◌, Bool, true, false, cond, nat_le, eqb, ◌||◌, List, [], ◌∷◌, ◌++◌, length, Some, refl, sym, ap, subst, ◌∙◌, append_assoc, arith, length-append}
 use Rattle.std.proofs.lemmas.Bool.{cases_lt, lt-ltb, le-ltb}
 use Rattle.wasm_defs.proofs.NumberLaws.{AreBytes}
@@ -79,7 +79,7 @@ first_wrong n declared last c r le w =
       wrong = subst (λ (m : ℕ). IsWrongGroup m (c.at + 0) c.rest last r) none (subst (λ (o : ℕ). IsWrongGroup declared o c.rest last r) here w);
     }
 
--- one is right, and of those behind it one isn't
+-- one is right, and of those after it one isn't
 later_wrong : (n declared last : ℕ) (c d : Cursor) (g : Group) (r : Refusal) → Found (group_is g) (Unit {0}) c d → AreWrong n (declared + g.count) d.at d.rest last r → AreWrong (suc n) declared c.at c.rest last r
 later_wrong n declared last c d g r found w =
     let types = types_cons g w.groups in

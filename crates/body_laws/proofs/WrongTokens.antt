@@ -1,4 +1,4 @@
--- Where no token begins, the fault stands at the first field that isn't spelled.
+-- Where no token begins, the error is at the first field that isn't encoded.
 use Rattle.std.proofs.Common.{◌≡◌, ◌⊎◌, inl, inr, ℕ, zero, suc, ◌+◌, ◌-◌, ℤ, pos, negsuc, Bool, true, false, cond, nat_lt, nat_le, eqb, ◌||◌, List, [], ◌∷◌, ◌++◌, length, replicate, Option, Some, None, refl, sym, ap, subst, ◌∙◌, append_assoc, arith, length-append}
 use Rattle.std.proofs.lemmas.List.{append-nil}
 use Rattle.wasm_defs.specs.declared.fault.Kind.{Kind}
@@ -171,7 +171,7 @@ labels_found c ready =
     let all = found_then (Unit {0}) c d e found behind tt in
     found_here counted_is (Unit {0}) c e all (n.1, record { front = all.spelled.front; back = all.spelled.back; parts = all.spelled.parts; first = all.spelled.first.1; second = all.spelled.second }) tt))
 
--- behind the number of labels
+-- after the number of labels
 module _ (c : Cursor) (last : ℕ) where
   abbrev Wrong : Refusal → Type 0
   Wrong = IsWrongFollowing Labels c.at c.rest last
@@ -226,7 +226,7 @@ table_follows = record {
 
 -- ---- opcodes
 
--- a reader behind an opcode refuses it, or knows what follows it
+-- a reader after an opcode refuses it, or knows what follows it
 abbrev Known : (at : ℕ) → Reader Token → Type 0
 Known at p = ((kind : Kind) × ((c : Cursor) → p c ≡ Fault (record { offset = at; kind = kind }))) ⊎ ((F : Following) × Follows F p)
 
@@ -324,9 +324,9 @@ instruction_known at b =
     tested at (nat_lt b 0x28) _ _ (variable_known at b) (
     tested at (nat_lt b 0x41) _ _ (memory_known at b) (numeric_known at b)))
 
--- ---- behind an opcode
+-- ---- after an opcode
 
--- what a token's spelling is read as, behind its opcode
+-- what a token's encoding is read as, after its opcode
 token_of : (at b : ℕ) (t : Token) (more : List ℕ) → instruction_is t at (b ∷ more) → instruction at b (cursor (at + 1) (more ++ []) (at + 1 + length more)) ≡ Got t (cursor (at + length (b ∷ more)) [] (at + 1 + length more))
 token_of at b t more s =
     let end = at + 1 + length more in
@@ -348,7 +348,7 @@ none_at at b kind all t more s =
     let not = all (cursor (at + 1) (more ++ []) (at + 1 + length more)) in
     absurd cc
 
--- where the instruction behind an opcode isn't read
+-- where the instruction after an opcode isn't read
 pub opcode_wrong : (last : ℕ) (c : Cursor) (b : ℕ × ℕ) (d : Cursor) → Ready c → Fits c → Found (byte_is b.0 b.1) (Unit {0}) c d → IfStops (IsWrongToken c.at c.rest last) last (instruction b.0 b.1 d)
 opcode_wrong last c b d ready fits found = of (instruction_known b.0 b.1)
   where

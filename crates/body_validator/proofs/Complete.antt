@@ -60,7 +60,7 @@ observe-after c (t ∷ ts) fs = by_step (step c t fs) (observe-after c ts)
 
 -- ---- sequences
 
--- the tokens of a sequence lead from the frame to one in which these operands may lie, through the sequence's places
+-- the tokens of a sequence lead from the frame to one in which these operands may be, through the sequence's places
 pub record Passes (c : Context) (tree : Seq) (f : Frame) (fs : Frames) (to : Types) : Type 0 where
   pub after : Operands
   pub fits : Fits after.unknown after.own to
@@ -91,7 +91,7 @@ turns c type o fs more h =
 record Inner (c : Context) (opening : Opening) (type : Signature) (tokens : List Token → List Token) (passed : List Place → List Place) (f : Frame) (fs : Frames) : Type 0 where
   by : (more : List Token) → observe c (tokens more) (opened opening type f.operands.live ∷ f ∷ fs) ≡ passing passed (observe c more (receive type.results (f ∷ fs)))
 
--- the tokens behind a block's first one, with its `end`
+-- the tokens after a block's first one, with its `end`
 record Encloses (c : Context) (opening : Opening) (type : Signature) (params : Types) (tokens : List Token → List Token) (passed : List Place → List Place) (rest : Seq) (f : Frame) (fs : Frames) (to : Types) : Type 0 where
   after : Operands
   fits : Fits after.unknown after.own to
@@ -162,7 +162,7 @@ inner_of_two c type body other first f fs is p q =
 typed_shape : (c : Context) (type : BlockType) (s : Signature) → block_type c type ≡ Some s → s ≡ shape c type
 typed_shape c type s e = ap or_empty (sym e)
 
--- a block behind the sequence's first token
+-- a block after the sequence's first token
 opens : (c : Context) (opening : Opening) (params : Signature → Types) (o : Option Signature) (s : Signature) (f : Frame) (fs : Frames) (tokens : List Token) → o ≡ Some s
     → on (o >>= λ x. enter opening x (params x) (f ∷ fs)) (observe c tokens) ≡ on (enter opening s (params s) (f ∷ fs)) (observe c tokens)
 opens c opening params o s f fs tokens e = ap (λ (x : Option Signature). on (x >>= λ y. enter opening y (params y) (f ∷ fs)) (observe c tokens)) e

@@ -1,4 +1,4 @@
--- The checker refuses exactly the token at fault, by its kind.
+-- The checker refuses exactly the wrong token, by its kind.
 use Rattle.std.proofs.Common.{◌≡◌, ◌&&◌, List, [], ◌∷◌, ◌++◌, Option, None, Some, refl, sym, ap, ◌∙◌}
 use Rattle.wasm_defs.specs.declared.types.ValType.TheVariants.{I32}
 use Rattle.wasm_defs.specs.declared.token.Token.{Token}

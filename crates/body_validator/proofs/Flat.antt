@@ -46,7 +46,7 @@ reverse-take xs m n h =
     let parts : reverse xs ≡ reverse (drop m xs) ++ reverse (take m xs) = ap reverse (sym (take-append-drop m xs)) ∙ reverse-append (take m xs) (drop m xs) in
     sym (ap (drop n) parts ∙ drop_at (reverse (drop m xs)) (reverse (take m xs)) n back)
 
--- some are taken from the end of what lies above the base
+-- some are taken from the end of what is above the base
 pub taken_above : {A : Type 0} (items : List A) (base count : ℕ) → base + count ≤ length items
     → reverse (drop base (take (length items - count) items)) ≡ drop count (reverse (drop base items))
 taken_above items base count h =

@@ -48,7 +48,7 @@ discard_steps all f rest old new is some within own below =
 abbrev stopped : Flat → Flat
 stopped f = record f { unknown = true; live = false }
 
--- what lies on top of some operands
+-- what is on top of some operands
 laid_on : (items : List Operand) (types : Types) (base : ℕ) → base ≡ length items → own_of (items ++ map Some types) base ≡ known (reverse types)
 laid_on items types base e = ap reverse (drop_at items (map Some types) base (sym e)) ∙ sym (known-reverse types)
 

@@ -15,7 +15,7 @@ declared_types-append [] hs = refl
 declared_types-append (g ∷ gs) hs =
     ap (λ (x : Types). replicate g.count g.ty ++ x) (declared_types-append gs hs) ∙ sym (append_assoc (replicate g.count g.ty) (declared_types gs) (declared_types hs))
 
--- one more group stands behind the others
+-- one more group follows the others
 pub declared_types-push : (gs : List Group) (g : Group) → declared_types (gs ++ g ∷ []) ≡ declared_types gs ++ replicate g.count g.ty
 declared_types-push gs g =
     declared_types-append gs (g ∷ []) ∙ ap (λ (x : Types). declared_types gs ++ x) (append-nil (replicate g.count g.ty))

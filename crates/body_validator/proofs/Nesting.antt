@@ -44,7 +44,7 @@ longer o first tree whole rest tokens all h f (ends e) = ends (f ∙ ap first e 
 longer o first tree whole rest tokens all h f (turns_over other is e) =
     turns_over other is (f ∙ ap first e ∙ h (token.Else ∷ spelled other (token.End ∷ rest)))
 
--- a sequence, after what stands before it
+-- a sequence, after what is before it
 goes_on : (o : Opening) (P : List Token → Type 0) (first : List Token → List Token) (make : Seq → Seq) (tokens all : List Token)
     → ((tree : Seq) (k : List Token) → first (spelled tree k) ≡ spelled (make tree) k) → all ≡ first tokens → Goes o P tokens → Goes o P all
 goes_on o P first make tokens all h f g =

@@ -1,4 +1,4 @@
--- The operands that the checker keeps stand for the operands that may lie there, and each rule acts on the one as on the other.
+-- The operands that the checker keeps stand for the operands that may be there, and each rule acts on the one as on the other.
 use Rattle.std.proofs.Common.{◌≡◌, Bool, true, false, List, [], ◌∷◌, ◌++◌, Option, None, Some, refl, sym, ap, ◌∙◌, subst, append_assoc}
 use Rattle.std.proofs.lemmas.List.{append-nil}
 use Rattle.wasm_defs.specs.declared.types.ValType.{ValType}
@@ -44,7 +44,7 @@ abbrev pub IsOf : Operand → ValType → Type 0
 IsOf None t = Unit {0}
 IsOf (Some u) t = u ≡ t
 
--- the types of operands that may lie there: any more below where that is unknown
+-- the types of operands that may be there: any more below where that is unknown
 abbrev pub Fits : Bool → List Operand → Types → Type 0
 Fits true [] ts = Unit {0}
 Fits false [] ts = ts ≡ []
@@ -59,7 +59,7 @@ is_of-true : (o : Operand) (t : ValType) → is_of o t ≡ true → IsOf o t
 is_of-true None t e = tt
 is_of-true (Some u) t e = same_type-true u t e
 
--- some operands may lie there
+-- some operands may be there
 pub fitting : (unknown : Bool) (own : List Operand) → (ts : Types) × Fits unknown own ts
 fitting true [] = ([], tt)
 fitting false [] = ([], refl)

@@ -37,7 +37,7 @@ runs_length start [] up = omega arith
 runs_length start (r ∷ rs) up =
     omega (arith, up.0, runs_length r.end rs up.1, length-append (replicate (r.end - start) r.ty) (run_types r.end rs), length-replicate (r.end - start) r.ty)
 
--- one more run stands behind the others
+-- one more run follows the others
 pub runs_pushed : (start : ℕ) (rs : List Run) (r : Run) → run_types start (rs ++ r ∷ []) ≡ run_types start rs ++ replicate (r.end - end_of start rs) r.ty
 runs_pushed start [] r = append-nil (replicate (r.end - start) r.ty)
 runs_pushed start (s ∷ rs) r =
@@ -59,7 +59,7 @@ end_at start rs k r e =
     let next : k + 1 ≡ suc k = omega arith in
     ap (λ n. end_of start (take n rs)) next ∙ end_at_next start rs k r e
 
--- a local is of the type of the first run that ends behind it
+-- a local is of the type of the first run that ends after it
 pub runs_found : (start : ℕ) (rs : List Run) (k : ℕ) (r : Run) (i : ℕ) → AreRising start rs → slice_get rs k ≡ Some r
     → end_of start (take k rs) ≤ start + i → start + i < r.end → slice_get (run_types start rs) i ≡ Some r.ty
 runs_found start [] k r i up e low high = absurd (cc)
@@ -80,7 +80,7 @@ runs_found start (s ∷ rs) (suc k) r i up e low high =
 pub same_run : {X : Type 0} (x y : X) → Some x ≡ Some y → x ≡ y
 same_run x y e = cc
 
--- behind the last run there is no local
+-- after the last run there is no local
 pub runs_missed : (start : ℕ) (rs : List Run) (i : ℕ) → AreRising start rs → end_of start rs ≤ start + i → slice_get (run_types start rs) i ≡ None
 runs_missed start rs i up h = slice_get_past (run_types start rs) i (omega (arith, runs_length start rs up, h))
 
@@ -90,7 +90,7 @@ end_last start rs d h =
     let all : take (last + 1) rs ≡ rs = take_all (last + 1) rs (omega arith) in
     sym (end_at start rs last (get_or rs last d) (slice_get-get_or rs last d (omega arith))) ∙ ap (end_of start) all
 
--- so many more of one type stand behind the locals
+-- so many more of one type follow the locals
 pub runs_declared : (params : Types) (rs more : List Run) (r : Run) (count : ℕ) (old : Types) → params ++ run_types (length params) rs ≡ old
     → more ≡ rs ++ r ∷ [] → r.end ≡ end_of (length params) rs + count → params ++ run_types (length params) more ≡ old ++ replicate count r.ty
 runs_declared params rs more r count old is e ends =

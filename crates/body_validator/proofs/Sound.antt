@@ -23,7 +23,7 @@ pub data Ending (c : Context) (opening : Opening) (type : Signature) (tree : Seq
   turns_over : (other : Seq) → opening ≡ Ifs → tokens ≡ spelled tree (token.Else ∷ spelled other (token.End ∷ rest))
       → Typed (inside c type.results) other type.params type.results → Ending c opening type tree rest tokens
 
--- the tokens are those of a sequence, from operands that may lie in the frame to its results; of its ending; and others
+-- the tokens are those of a sequence, from operands that may be in the frame to its results; of its ending; and others
 pub record Goes (c : Context) (f : Frame) (fs : Frames) (After : List Token → Type 0) (tokens : List Token) : Type 0 where
   tree : Seq
   from : Types
@@ -41,7 +41,7 @@ abbrev Closes : Context → Types → Frames → List Token → Type 0
 Closes c results [] tokens = tokens ≡ []
 Closes c results (f ∷ fs) tokens = Goes c (received f results) fs (Closes c f.type.results fs) tokens
 
--- longer by what stands before the sequence
+-- longer by what is before the sequence
 longer : (c : Context) (opening : Opening) (type : Signature) (first : List Token → List Token) (tree whole : Seq) (rest tokens : List Token)
     → ((k : List Token) → first (spelled tree k) ≡ spelled whole k) → Ending c opening type tree rest tokens → Ending c opening type whole rest (first tokens)
 longer c opening type first tree whole rest tokens h (ends e m) = ends (ap first e ∙ h (token.End ∷ rest)) m

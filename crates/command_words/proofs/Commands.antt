@@ -54,7 +54,7 @@ as_reading words (Ok c) is = is
 as_reading words (Err Outside) none = outside words none (read_or_outside words (fault_of program words) refl)
 as_reading words (Err NoMemory) is = tt
 
--- a fault gives no command
+-- an error gives no command
 pub no_command : (words : List Text) → fault_of program words ≢ [] → command_in words ≡ None
 no_command words some = go (fault_of program words) refl
   where

@@ -1,4 +1,4 @@
--- The number that is read of an option is the one that its text spells.
+-- The number that is read of an option is the one that its text encodes.
 use Rattle.std.proofs.Common.{◌≡◌, ◌∙◌, ◌^◌, ℕ, Bool, true, false, List, Option, Some, None, refl, sym, ap, arith}
 use Rattle.std.specs.Prelude.{◌&&◌, cond, nat_le, nat_lt, option_and_then, Result, Ok, Err}
 use Rattle.std.specs.Str.Parse.{ParsesUnsigned, digits_value, without_leading_plus}

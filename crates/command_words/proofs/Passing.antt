@@ -1,4 +1,4 @@
--- Where clap's model finds no fault, the options of each command have numbers in their ranges, `run` and `exec` have EXPORT, and
+-- Where clap's model finds no error, the options of each command have numbers in their ranges, `run` and `exec` have EXPORT, and
 -- `drill` has N.
 use Rattle.std.proofs.Common.{◌≡◌, ◌∙◌, ◌⊎◌, ℕ, Bool, true, false, List, [], ◌∷◌, Option, Some, None, refl, ap, ap₂, sym, subst, true≢false, inl, inr}
 use Rattle.std.specs.Prelude.{◌≢◌, ◌||◌, Any, codes, cond, find, is_some, not, option_and_then, option_map}
@@ -116,7 +116,7 @@ drill_steps = (
   (other (codes "steps") _ _ refl refl, (other (codes "steps") _ _ refl refl, (own (codes "steps") _ _ refl (one_number 0 1000000000000 _ refl refl refl), tt))),
 )
 
--- ---- what is read where a subcommand's level has no fault
+-- ---- what is read where a subcommand's level has no error
 
 abbrev Passes : Shape → List Text → Type 0
 Passes s words = level_fault s [] nothing_held words false [] ≡ []
@@ -291,7 +291,7 @@ named_read words e =
     let parts = last_check app.top (names_of app) given (is_some (entered app stop)) (entered_fault app stop) e in
     stop_read stop parts.0 (missing (is_some (entered app stop)) (finished app.top.rules end) parts.1)
 
--- where no fault is found, a command is read, or the words of a call are none
+-- where no error is found, a command is read, or the words of a call are none
 pub all_read : (words : List Text) → fault_of program words ≡ [] → ((c : Command) × (command_in words ≡ Some c)) ⊎ IsNoCall (subcommand_of program words)
 all_read words e = go (named_read words e)
   where

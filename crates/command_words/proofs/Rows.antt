@@ -1,5 +1,5 @@
 -- Rows in which what stands for one name is a text that its parser accepts: they stay so through uses of arguments and
--- through defaults that clap's model finds no fault in.
+-- through defaults that clap's model finds no error in.
 use Rattle.std.proofs.Common.{◌≡◌, ◌∙◌, ◌⊎◌, ◌++◌, ℕ, Bool, true, false, List, [], ◌∷◌, length, Option, Some, None, refl, ap, sym, subst, true≢false, inl, inr, arith}
 use Rattle.std.specs.Prelude.{◌==◌, ◌||◌, ◌&&◌, cond, not, slice_get, fold, find, option_and_then, option_map}
 use Rattle.std.specs.List.{list_any}

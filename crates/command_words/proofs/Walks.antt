@@ -1,4 +1,4 @@
--- Where clap's model finds no fault in the words of a command that has no subcommand, its rows are good in the end.
+-- Where clap's model finds no error in the words of a command that has no subcommand, its rows are good in the end.
 use Rattle.std.proofs.Common.{◌≡◌, ◌∙◌, ℕ, Bool, true, false, List, [], ◌∷◌, length, zero, suc, Option, Some, None, refl, sym, subst}
 use Rattle.std.specs.Prelude.{◌&&◌, cond, drop, encode_utf8, fold, find, is_some, not, slice_get}
 use Rattle.std.specs.Option.{option_map_or}

@@ -17,7 +17,7 @@ use Rattle.control_emit.specs.Emits.{Draft, draft, IsHeld, meant, Emits, Opens, 
 use Rattle.control_emit.proofs.Meanings.{meaning-front, meaning-jump, within-later, within-jump, patched-seam, length-filled, length-test}
 use Rattle.control_emit.proofs.Composing.{emits-as, emits-both, emits-nothing, longer, count-shapes}
 
--- words behind the others
+-- words after the others
 pub emits-plain : (labels : List Pending) (old new : List ℕ) (ops : List Op) → Within (length old) labels → new ≡ old ++ map word_of ops → Emits (draft labels old) (draft labels new) (λ es. ops)
 emits-plain labels old new ops h is = record {
   held = let n = ap length is in let m = length-append old (map word_of ops) in within-later (length old) (length new) labels (omega arith) h;

@@ -26,7 +26,7 @@ chain-front js ms (suc n) last le =
     ∙ ap (λ (x : List ℕ). if is_at n last then j.place ∷ x else chain (js ++ ms) n last) (chain-front js ms n j.before (omega arith))
     ∙ ap (λ (x : List ℕ). if is_at n last then j.place ∷ chain js n j.before else x) (chain-front js ms n last (omega arith))
 
--- nor do those behind the one that is named
+-- nor do those after the one that is named
 chain-up : (js : List Jump) (k n : ℕ) (last : Option ℕ) → IsBefore k last → k ≤ n → chain js n last ≡ chain js k last
 chain-up js k zero last b le = let e : 0 ≡ k = omega arith in ap (λ (m : ℕ). chain js m last) e
 chain-up js k (suc n) last b le =

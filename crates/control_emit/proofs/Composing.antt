@@ -8,7 +8,7 @@ use Rattle.control_emit.specs.Pending.{Pending, Shape, shape_of, shapes, Ends, l
 use Rattle.control_emit.specs.Emits.{Draft, IsHeld, meant, Emits, Opens, Turns, Closes}
 use Rattle.control_emit.proofs.Meanings.{length-meaning}
 
--- ---- numbers of labels and words
+-- ---- numbers of labels and instruction words
 
 pub count-shapes : (ls ms : List Pending) → shapes ls ≡ shapes ms → length ls ≡ length ms
 count-shapes ls ms e = let a = length-map ls shape_of in let b = length-map ms shape_of in let c = ap length e in omega arith

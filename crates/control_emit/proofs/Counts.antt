@@ -1,4 +1,4 @@
--- How many words the jumps of a table have.
+-- How many instruction words the jumps of a table have.
 use Rattle.std.proofs.Common.{◌≡◌, ℕ, zero, suc, ◌+◌, ◌-◌, ◌*◌, List, [], ◌∷◌, map, length, get_or, ◌++◌, refl, sym, ◌∙◌, arith, length-append}
 use Rattle.std.proofs.lemmas.List.{length-map}
 use Rattle.frame_layout.specs.Macros.{distance, far}

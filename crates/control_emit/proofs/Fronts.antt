@@ -1,4 +1,4 @@
--- Words that stand in front of others.
+-- Instruction words that are before others.
 use Rattle.std.proofs.Common.{◌≡◌, ◌≤◌, ℕ, Result, Ok, Err, List, ◌++◌, length, take, refl, sym, ap, ◌∙◌, subst, arith}
 use Rattle.std.specs.Prelude.{OnOk, OnErr}
 use Rattle.std.proofs.lemmas.List.{length-take, take_all, take_at, take-take}
@@ -27,7 +27,7 @@ settles P r s mid new e same p = subst (λ (t : Result _ _). OnOk t (P new)) (sy
     here (Ok x) f q = subst P (sym f) q
     here (Err x) f q = tt
 
--- words are taken back where memory was wanting, and so the front stays
+-- words are taken back where memory ran out, and so the front stays
 pub settled-front : {A B : Type 0} (r : Result A B) (old mid new : List ℕ) → IsFront old mid → OnOk r (new ≡ mid) → OnErr r (new ≡ old) → IsFront old new
 settled-front (Ok x) old mid new front same back = subst (IsFront old) (sym same) front
 settled-front (Err x) old mid new front same back = front-same old new back

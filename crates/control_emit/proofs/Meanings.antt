@@ -28,7 +28,7 @@ length-meaning [] es words = refl
 length-meaning (l ∷ ls) [] words = refl
 length-meaning (l ∷ ls) (e ∷ es) words = length-meaning ls es (filled l e words) ∙ length-filled l e words
 
--- ---- what stands behind the jumps stays
+-- ---- what follows the jumps stays
 
 pub patched-front : (there place : ℕ) (a b : List ℕ) → place + 2 ≤ length a → patched there place (a ++ b) ≡ patched there place a ++ b
 patched-front there place a b h =
@@ -61,7 +61,7 @@ meaning-front (l ∷ ls) (e ∷ es) a b h =
     ap (meaning ls es) (filled-front l e a b h.0)
     ∙ meaning-front ls es (filled l e a) b (subst (λ (n : ℕ). Within n ls) (sym (length-filled l e a)) h.1)
 
--- ---- further words
+-- ---- further instruction words
 
 pub are-later : (m n : ℕ) (ps : List ℕ) → m ≤ n → AreWithin m ps → AreWithin n ps
 are-later m n [] le h = tt
@@ -77,7 +77,7 @@ within-later m n (l ∷ ls) le h = ((test-later m n l.test le h.0.0, are-later m
 
 -- ---- one jump more
 
--- the two words behind the others
+-- the two words after the others
 pub patched-seam : (there n x y : ℕ) (a : List ℕ) → length a ≡ n → patched there n (a ++ x ∷ y ∷ []) ≡ a ++ map word_of (far (distance n there))
 patched-seam there n x y a e =
     let d = distance n there in

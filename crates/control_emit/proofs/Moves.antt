@@ -1,4 +1,4 @@
--- Runs of words that are put together.
+-- Runs of instruction words that are put together.
 use Rattle.std.proofs.Common.{◌≡◌, ℕ, zero, suc, ◌+◌, ◌-◌, List, ◌++◌, map, refl, sym, ap, ◌∙◌, arith, append_assoc}
 use Rattle.std.proofs.lemmas.List.{map-append}
 use Rattle.rv_isa.specs.declared.operations.Op.{Op}
@@ -7,7 +7,7 @@ use Rattle.frame_layout.specs.Macros.{t0}
 use Rattle.frame_layout.specs.Templates.{Around, load_operand, store_operand, move_words, scale_words, table_front}
 use Rattle.control_emit.specs.Choices.{count_words, choice_words}
 
--- words of operations behind those of others
+-- words of operations after those of others
 pub appended : (x y z : List ℕ) (f g : List Op) → y ≡ x ++ map word_of f → z ≡ y ++ map word_of g → z ≡ x ++ map word_of (f ++ g)
 appended x y z f g first later =
     later ∙ ap (λ (l : List ℕ). l ++ map word_of g) first ∙ append_assoc x (map word_of f) (map word_of g) ∙ ap (λ (l : List ℕ). x ++ l) (sym (map-append word_of f g))

@@ -1,4 +1,5 @@
--- The words of a front of a body's tokens, with those of the token behind it, are no more than the whole body's.
+-- The instruction words of a prefix of a body's tokens, with those of the token after it, are no more than the
+-- whole body's.
 use Rattle.std.proofs.Common.{◌≡◌, ◌≤◌, ℕ, zero, suc, ◌+◌, ◌-◌, List, [], ◌∷◌, ◌++◌, length, None, Some, refl, sym, ap, ◌∙◌, subst, arith}
 use Rattle.std.proofs.lemmas.List.{length-map}
 use Rattle.rv_isa.specs.declared.operations.Op.{Op}
@@ -75,7 +76,7 @@ own-fits w c token.End q d most le = none-fits (length d.words) most le
 along : (a b most : ℕ) → a ≡ b → b ≤ most → a ≤ most
 along a b most e le = omega arith
 
--- it ends before a token, or goes on behind it
+-- it ends before a token, or goes on after it
 onward : (w : Around) (c : Context) (k : ℕ) (t : Token) (ts : List Token) (q : Place) (qs : List Place) (old : Draft) (new most : ℕ) → Fits w c t q old most
     → ((mid : Draft) (j : ℕ) → Step w c t q old mid → Partly w c j ts qs mid new → new ≤ most) → Partly w c k (t ∷ ts) (q ∷ qs) old new → new ≤ most
 onward w c zero t ts q qs old new most le go x = along new (length old.words + own_words w c t q old.labels) most x (own-fits w c t q old most le)
@@ -127,11 +128,11 @@ own-count w c (token.Plain p) (Some h) d ends e =
 own-count w c (token.Block t) q d ends e = refl
 own-count w c p q d ends e = refl
 
--- behind a block its label is gone
+-- after a block its label is gone
 closed-behind : (b d : Draft) (s t : Shape) (ss : List Shape) → shapes b.labels ≡ s ∷ ss → shapes b.labels ≡ t ∷ shapes d.labels → shapes d.labels ≡ ss
 closed-behind b d s t ss x y = cc
 
--- ---- what isn't live
+-- ---- what isn't reachable
 
 -- a limit that holds of what follows these tokens, which add no words, holds of all
 abbrev Stays : Around → Context → (List Token → List Token) → (List Place → List Place) → Type 0
@@ -222,7 +223,7 @@ dead w c d (IfElse type body other rest) = λ k more after old new most le go x.
     y)
     x
 
--- ---- what is live
+-- ---- what is reachable
 
 -- the same of tokens that add so many words under these labels
 abbrev Adds : Around → Context → List Shape → ℕ → (List Token → List Token) → (List Place → List Place) → Type 0

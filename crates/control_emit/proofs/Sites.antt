@@ -40,7 +40,7 @@ token_sited o here left a (token.Plain p) (Some h) e = words_sited o here left a
 token_sited o here left a (token.Block t) q e = refl
 token_sited o here left a p q e = refl
 
--- behind some tokens
+-- after some tokens
 walk_sited : (o : Origin) (front os : List ℕ) (w : Around) (c : Context) (ts : List Token) (qs : List Place) (old new : Draft) (x : Walk w c ts qs old new) → o.offsets ≡ front ++ os → length os ≡ length ts
     → walk_sites w c ts os qs old new x ≡ map (site_of o) (walk_traps w c ts qs old new x)
 walk_sited o front os w c [] qs old new x e f = refl

@@ -1,4 +1,4 @@
--- How many words a sequence has, wherever its labels lead.
+-- How many instruction words a sequence has, wherever its labels lead.
 use Rattle.std.proofs.Common.{◌≡◌, ℕ, zero, suc, ◌+◌, ◌-◌, List, [], ◌∷◌, ◌++◌, map, length, None, Some, refl, sym, ap, ◌∙◌, arith, length-append, nat_le, inl, inr}
 use Rattle.std.proofs.lemmas.Bool.{cases_Bool}
 use Rattle.wasm_defs.specs.declared.token.Plain.{Plain}

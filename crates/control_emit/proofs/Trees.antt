@@ -1,4 +1,4 @@
--- The words of a body's tokens, one after the other, are those of its tree.
+-- The instruction words of a body's tokens, one after the other, are those of its tree.
 use Rattle.std.proofs.Common.{◌≡◌, ℕ, suc, ◌+◌, ◌-◌, List, [], ◌∷◌, ◌++◌, map, length, None, Some, refl, sym, ap, ◌∙◌, subst, arith, append_assoc}
 use Rattle.std.proofs.lemmas.List.{append-nil, length-map}
 use Rattle.rv_isa.specs.declared.compiled.Relocation.{Relocation}
@@ -34,7 +34,7 @@ shape_labelled c ls Empty = refl
 shape_labelled c ls (Value t) = refl
 shape_labelled c ls (Index i) = refl
 
--- ---- what isn't live
+-- ---- what isn't reachable
 
 pub after_dead : (r : Rule) → after_rule r None ≡ None
 after_dead Untyped = refl
@@ -78,7 +78,7 @@ calls_dead w c ls here p = refl
 calls_at : (w : Around) (c : Context) (q : Place) (t : Seq) (ls ms : List Label) (i j : ℕ) → ls ≡ ms → i ≡ j → calls w c ls q i t ≡ calls w c ms q j t
 calls_at w c q t ls ms i j e f = ap (λ (l : List Label). calls w c l q i t) e ∙ ap (λ (n : ℕ). calls w c ms q n t) f
 
--- one run behind the other, and what follows
+-- one run after the other, and what follows
 both_lists : {A : Type 0} (all first then_all second rest own next : List A) → all ≡ first ++ then_all → first ≡ own → then_all ≡ second ++ rest → second ≡ next → all ≡ (own ++ next) ++ rest
 both_lists {A} all first then_all second rest own next e f g h =
     e ∙ ap (λ (l : List A). l ++ then_all) f ∙ ap (λ (l : List A). own ++ l) (g ∙ ap (λ (l : List A). l ++ rest) h) ∙ sym (append_assoc own next rest)
@@ -92,7 +92,7 @@ traps_dead w c ls here behind p = refl
 traps_at : (w : Around) (c : Context) (q : Place) (t : Seq) (ls ms : List Label) (i j m n : ℕ) → ls ≡ ms → i ≡ j → m ≡ n → traps w c ls q i m t ≡ traps w c ms q j n t
 traps_at w c q t ls ms i j m n e f g = ap (λ (l : List Label). traps w c l q i m t) e ∙ ap (λ (k : ℕ). traps w c ms q k m t) f ∙ ap (λ (k : ℕ). traps w c ms q j k t) g
 
--- how many tokens there are with others behind them
+-- how many tokens there are with others after them
 pub spelled_length : (t : Seq) (more : List Token) → length (spelled t more) ≡ tokens_in t + length more
 spelled_length Nothing more = omega arith
 spelled_length (Simple p rest) more = omega (arith, spelled_length rest more)
@@ -107,14 +107,14 @@ spelled_length (IfElse type body other rest) more =
     let alone : List Token = token.End ∷ spelled rest [] in
     omega (arith, spelled_length body (token.Else ∷ spelled other behind), spelled_length other behind, spelled_length rest more, spelled_length body (token.Else ∷ spelled other alone), spelled_length other alone)
 
--- behind a block's body its `end`, and behind the first branch of an `if` also `else` and the second one
+-- after a block's body its `end`, and after the first branch of an `if` also `else` and the second one
 behind_body : (rest : Seq) (more : List Token) → length (token.End ∷ spelled rest more) ≡ 1 + tokens_in rest + length more
 behind_body rest more = omega (arith, spelled_length rest more)
 
 behind_first : (other rest : Seq) (more : List Token) → length (token.Else ∷ spelled other (token.End ∷ spelled rest more)) ≡ 2 + tokens_in other + tokens_in rest + length more
 behind_first other rest more = omega (arith, spelled_length other (token.End ∷ spelled rest more), spelled_length rest more)
 
--- the tokens of a sequence, whose calls and traps and all behind them are given, lead through a draft in the middle
+-- the tokens of a sequence, whose calls and traps and all after them are given, lead through a draft in the middle
 record Through (w : Around) (c : Context) (more : List Token) (after : List Place) (old new : Draft) (ops : List Ends → List Op) (all own : List Relocation) (all_traps own_traps : List Trap) : Type 0 where
   mid : Draft
   emits : Emits old mid ops
@@ -199,7 +199,7 @@ dead w c d (IfElse type body other rest) q none more after old new held x =
     let o = none_turned old i.mid i.walk.0 opens.shape (none_more old x.0 i.mid opens.shape opens.opens i.emits) turn in
     record { mid = r.mid; emits = none_both old j.walk.0 r.mid (none_enclosed old i.walk.0 j.mid j.walk.0 opens.shape o j.emits j.walk.1) r.emits; walk = r.walk; noted = (i.noted.0 ∙ j.noted.0 ∙ r.noted.0, i.noted.1 ∙ j.noted.1 ∙ r.noted.1) }
 
--- ---- what is live
+-- ---- what is reachable
 
 -- a block, and what follows it: where it ends is known
 behind : (a b d : Draft) (f g k : List Ends → List Op) (rest : List Label → ℕ → List Op) → Emits a b f → Emits b d (λ es. rest (named (shapes b.labels) es) (length b.words))

@@ -1,4 +1,4 @@
--- Labels lie with the innermost last, and are seen with the innermost first.
+-- Labels are with the innermost last, and are seen with the innermost first.
 use Rattle.std.proofs.Common.{◌≡◌, ◌<◌, ℕ, suc, ◌+◌, ◌-◌, List, [], ◌∷◌, ◌++◌, map, length, reverse, take, drop, set, get_or, Option, None, Some, refl, sym, ap, ◌∙◌, subst, arith, append_assoc}
 use Rattle.std.proofs.Math.Seq.{drop-cons}
 use Rattle.std.proofs.lemmas.List.{reverse-append, length-reverse, length-map, map-append, set_split, take-append-drop, length-drop}

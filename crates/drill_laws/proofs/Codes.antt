@@ -1,4 +1,4 @@
--- The bodies of a drill spell their trees.
+-- The bodies of a drill encode their trees.
 use Rattle.std.proofs.Common.{◌≡◌, ℕ, zero, suc, ◌+◌, ◌^◌, ◌<◌, ◌≤◌, pos, List, [], ◌∷◌, ◌++◌, length, refl, ap, inl, arith, append_assoc}
 use Rattle.std.specs.List.{flat_map, range_with_len}
 use Rattle.wasm_defs.specs.declared.types.ValType.TheVariants.{I32}
@@ -16,7 +16,7 @@ use Rattle.module_gen.specs.Numbers.{signed, unsigned}
 use Rattle.drill_laws.specs.Functions.{adder_tree, calls_from, runner_tree}
 use Rattle.drill_laws.proofs.Spellings.{one_byte, signed_spells, unsigned_spells}
 
--- a token at the front of others
+-- a token at the start of others
 token_then : (at : ℕ) (t : Token) (ts : List (ℕ × Token)) (front back : List ℕ) → instruction_is t at front → each_is token_is ts (at + length front) back
     → each_is token_is ((at, t) ∷ ts) at (front ++ back)
 token_then at t ts front back is rest = record { front = front; back = back; parts = refl; first = (refl, is); second = rest }

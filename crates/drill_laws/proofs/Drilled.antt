@@ -16,7 +16,7 @@ use Rattle.drill_laws.specs.Functions.{adder_tree, adder_type, runner_tree, runn
 use Rattle.drill_laws.proofs.Codes.{adder_content, runner_content}
 use Rattle.drill_laws.proofs.Typings.{drill_context}
 
--- behind the id and the size of a section of that content, and behind the size of a body
+-- after the id and the size of a section of that content, and after the size of a body
 abbrev pub inside_of : (at : ℕ) (content : List ℕ) → ℕ
 inside_of at content = at + 1 + length (unsigned (length content))
 

@@ -138,7 +138,7 @@ module _ (n : ℕ) (most : n ≤ 50000) (items : List Item) (says : context_of i
       )
   runner_found at first (suc c) k same all = runner_found (at + length (adder first)) (first + 1) c (suc k) (omega (arith, same)) (omega (arith, all))
 
-  -- ---- their words
+  -- ---- their instruction words
 
   one_result : (j : ℕ) (t : FuncType) (b : Body) → function_type (drill_context n) j ≡ Some t → length (reverse t.results) ≡ 1 → length (context_at items j b).results ≡ 1
   one_result j t b typed one = ap (λ (f : FuncType). length (reverse f.results)) (type_is j t typed) ∙ one

@@ -48,7 +48,7 @@ bodies_keep at first (suc k) n most =
     (bodies_keep (at + length (adder first)) (first + 1) k n most)
 
 module _ (n : ℕ) (most : n ≤ 50000) where
-  -- behind the types
+  -- after the types
   seen : Seen
   seen = note (note nothing (Signature 11 12 14 adder_type)) (Signature 16 17 18 runner_type)
 

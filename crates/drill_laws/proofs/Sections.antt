@@ -1,4 +1,4 @@
--- The bytes of a drill are spelled by the grammar as its sections.
+-- The bytes of a drill are encoded by the grammar as its sections.
 use Rattle.std.proofs.Common.{◌≡◌, ℕ, zero, suc, ◌+◌, ◌*◌, ◌^◌, ◌<◌, ◌≤◌, pos, false, List, [], ◌∷◌, ◌++◌, length, refl, ap, sym, subst, arith, append_assoc}
 use Rattle.std.proofs.lemmas.List.{append-nil, length-append, length-replicate}
 use Rattle.std.proofs.lemmas.Str.{IsUtf8-from_ascii}

@@ -1,4 +1,4 @@
--- Numbers of a drill: their spellings, and how long these are.
+-- Numbers of a drill: their encodings, and how long these are.
 use Rattle.std.proofs.Common.{◌≡◌, ℕ, zero, suc, ◌+◌, ◌*◌, ◌/◌, ◌^◌, ◌<◌, ◌≤◌, pos, false, true, List, [], ◌∷◌, length, refl, inl, inr, arith}
 use Rattle.std.proofs.lemmas.Bool.{cases_lt}
 use Rattle.std.proofs.lemmas.List.{length-append}
@@ -40,7 +40,7 @@ sized_short content =
     let few = unsigned_short (length content) in
     omega (arith, parts, few)
 
--- lists of so many bytes at most, one behind the other
+-- lists of so many bytes at most, one after the other
 pub all_short : (f : ℕ → List ℕ) (most first count : ℕ) → ((i : ℕ) → length (f i) ≤ most) → length (flat_map f (range_with_len first count)) ≤ most * count
 all_short f most first zero each = omega arith
 all_short f most first (suc k) each =

@@ -53,7 +53,7 @@ module _ (i : Instance) (store : Store) (o : Origin) (g : ℕ) (few : g ≤ 2) (
     abbrev inner : Func
     inner = made p adder_type h (adder_tree j)
 
-    -- behind the call
+    -- after the call
     abbrev behind : Frame
     behind = frame outer [] [] rest
 

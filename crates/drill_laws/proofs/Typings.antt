@@ -1,4 +1,4 @@
--- The bodies of a drill are typed, and at most two operands lie in each.
+-- The bodies of a drill are typed, and at most two operands are in each.
 use Rattle.std.proofs.Common.{◌≡◌, ◌∙◌, ℕ, zero, suc, ◌+◌, ◌<◌, ◌≤◌, [], ◌∷◌, ◌++◌, Some, refl, ap, sym, subst, arith}
 use Rattle.std.specs.Prelude.{max, replicate, slice_get}
 use Rattle.wasm_defs.specs.declared.types.ValType.TheVariants.{I32}
@@ -77,7 +77,7 @@ runner_typed n = (
   calls_typed (inside (runner_context n) (I32 ∷ [])) 0 n (λ j below. adders_have_types n j (omega (arith, below))),
 )
 
--- one operand lies in front of each call, and behind it
+-- one operand is before each call, and after it
 stays : (c : Context) (f : ℕ) → function_type c f ≡ Some adder_type → after_rule (rule_of c (Call f)) (Some 1) ≡ Some 1
 stays c f is = rw is refl
 

@@ -1,4 +1,4 @@
--- The words of a drill's functions are counted.
+-- The instruction words of a drill's functions are counted.
 use Rattle.std.proofs.Common.{◌≡◌, ℕ, zero, suc, ◌+◌, ◌*◌, ◌≤◌, pos, List, [], ◌∷◌, ◌++◌, length, None, Some, refl, subst, arith}
 use Rattle.std.proofs.lemmas.List.{length-append}
 use Rattle.rv_isa.specs.declared.operations.Op.TheVariants.{Jalr}
@@ -35,7 +35,7 @@ epilogue_short l results =
     let parts = length-append (result_words l results 0) (Jalr x0 ra 0 ∷ []) in
     omega (arith, few, parts)
 
--- ---- a body: so many words wherever it stands
+-- ---- a body: so many instruction words wherever it is
 
 module _ (w : Around) (c : Context) (labels : List Label) where
   AreFew : ℕ → Seq → Type 0

@@ -1,4 +1,4 @@
--- The beginning of a function: the test for room, the place to return to, and the declared locals.
+-- The beginning of a function: the test for room, the return address, and the declared locals.
 use Rattle.std.proofs.Common.{◌≡◌, ℕ, zero, suc, ◌+◌, ◌*◌, ◌^◌, ◌<◌, ◌≤◌, List, [], ◌∷◌, ◌++◌, length, Option, refl, ap, ap₂, subst, ◌∙◌, arith}
 use Rattle.std.specs.Prelude.{not, ◌≢◌}
 use Rattle.std.proofs.lemmas.Bool.{lt-ltb, le-ltb, eq-eqb}
@@ -47,7 +47,7 @@ address_leaves code s i base r k has at frame differs small inside =
 
 -- ---- room for so many slots
 
--- behind the test, and past the trap
+-- after the test, and past the trap
 module _ (code : List (Option Op)) (s : State) (i base slots : ℕ) (has : HasAt code i (room_words slots)) (at : s.pc ≡ place i) (frame : IsFrame base s) (small : slots < 2 ^ 30) (inside : base ≤ max_slots) where
   abbrev test : List Op
   test = Branch Bgeu s5 t0 (forward 16) ∷ []
@@ -129,7 +129,7 @@ locals_cleared code s i base (suc n) l is has at frame fits short =
     let slots : link l ≡ l.params + suc n = omega arith in
     locals_from code s i base l.params n one (subst (λ (k : ℕ). HasAt code (i + 6) (address_words t1 k)) slots has_to) has_loop at frame (omega arith) (omega arith)
 
--- ---- the place to return to
+-- ---- the return address
 
 linked : (code : List (Option Op)) (s : State) (i base k : ℕ) → (room : Does code 7 10 s s.bytes) → HasAt code (i + 10) (store_slot ra k) → s.pc ≡ place i → IsFrame base s → base + k < max_slots → Does code 10 13 s (with_slot s.bytes (base + k) (reg s.registers ra))
 linked code s i base k room has at frame inside =

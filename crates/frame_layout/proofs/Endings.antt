@@ -34,7 +34,7 @@ results_move code base (suc n) index l s i has at frame room =
     let rest = results_move code base n (index + 1) l one.end (i + 6) (has_rest code i move more has) (omega arith) (frame_written (base + index) (slot_at s.bytes (base + operand l index)) (omega arith) frame one) (omega arith) in
     does_count (6 * suc n) (6 * suc n) (omega arith) (omega arith) (does_then one (does_with (ap (with_results l base n (index + 1)) one.bytes_are) rest))
 
--- the place to return to, into ra
+-- the return address, into ra
 link_loaded : (code : List (Option Op)) (s : State) (i base there : ℕ) (l : Layout) → HasAt code i (load_slot ra (link l)) → s.pc ≡ place i → IsFrame base s → base + link l < max_slots → slot_at s.bytes (base + link l) ≡ there → Gives code 3 s s.bytes ra there
 link_loaded code s i base there l has at frame inside is =
     subst (Gives code 3 s s.bytes ra) is (load_slot_leaves code s i base ra (link l) has at frame (λ e. absurd cc) (λ e. absurd cc) inside)

@@ -1,4 +1,4 @@
--- What the words of instructions do.
+-- What the instruction words of instructions do.
 use Rattle.std.proofs.Common.{◌≡◌, ℕ, ◌+◌, ◌-◌, ◌%◌, ◌^◌, ◌==◌, ◌<◌, true, List, [], ◌∷◌, ◌++◌, Option, inl, inr, refl, ap, ap₂, ◌∙◌, arith}
 use Rattle.std.proofs.lemmas.Bool.{cases_lt, lt-ltb, le-ltb}
 use Rattle.rv_isa.specs.declared.operations.RegOpW.TheVariants.{Addw}

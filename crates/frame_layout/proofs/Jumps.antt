@@ -96,7 +96,7 @@ trap_traps code s i kind has at small =
       kind_is = two.others a0 (λ e. absurd cc) ∙ one.value_is;
     }
 
--- a trap behind steps that change no byte
+-- a trap after steps that change no byte
 pub traps_after : {code : List (Option Op)} {j a k b kind : ℕ} {s : State} → (first : Does code j a s s.bytes) → TrapsAt code k b kind first.end → TrapsAt code (j + k) (a + b) kind s
 traps_after {code} {j} {a} {k} {b} {kind} {s} first traps =
     let asks = traps.asks in

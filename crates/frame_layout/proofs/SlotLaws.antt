@@ -1,4 +1,5 @@
--- Slots of the stack: what is written is read, nothing else changes, and three words load or store a slot of the frame.
+-- Slots of the stack: what is written is read, nothing else changes, and three instruction words load or store a slot
+-- of the frame.
 use Rattle.std.proofs.Common.{◌≡◌, ℕ, ◌+◌, ◌*◌, ◌^◌, ◌<◌, List, length, Option, inl, inr, refl, arith}
 use Rattle.std.specs.Prelude.{◌≢◌}
 use Rattle.std.proofs.lemmas.Bool.{cases_lt}

@@ -1,4 +1,4 @@
--- The traps of a function stand apart, inside it.
+-- The traps of a function are apart, inside it.
 use Rattle.std.proofs.Common.{◌≡◌, ℕ, zero, suc, ◌+◌, ◌-◌, ◌≤◌, List, [], ◌∷◌, ◌++◌, map, length, Some, None, refl, sym, ap, ◌∙◌, subst, arith}
 use Rattle.std.proofs.lemmas.List.{append-nil, map-append}
 use Rattle.rv_isa.specs.declared.compiled.TrapSite.{TrapSite}

@@ -1,4 +1,4 @@
--- Operations that stand one after the other.
+-- Operations that are one after the other.
 use Rattle.std.proofs.Common.{◌≡◌, ℕ, suc, ◌+◌, List, [], ◌∷◌, ◌++◌, length, Option, subst, arith}
 use Rattle.rv_isa.specs.declared.operations.Op.{Op}
 use Rattle.rv_isa.specs.Runs.{HasAt}

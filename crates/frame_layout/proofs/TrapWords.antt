@@ -1,4 +1,4 @@
--- The traps among the words of each instruction are those of the table.
+-- The traps among the instruction words of each instruction are those of the table.
 use Rattle.std.proofs.Common.{◌≡◌, ℕ, zero, suc, ◌+◌, ◌-◌, Bool, true, false, List, [], ◌∷◌, ◌++◌, map, length, refl, sym, ap, ◌∙◌}
 use Rattle.std.specs.Prelude.{◌&&◌, not, nat_le, if◌then◌else◌}
 use Rattle.rv_isa.specs.declared.operations.Op.{Op}

@@ -1,4 +1,4 @@
--- The length of an image's spelling.
+-- The length of an image's encoding.
 use Rattle.std.proofs.Common.{◌≡◌, ◌∙◌, ℕ, ◌+◌, ◌*◌, List, [], ◌∷◌, ◌++◌, length, refl, sym, ap, ap₂, arith, length-append}
 use Rattle.std.specs.Prelude.{sum_by, Bool}
 use Rattle.std.specs.List.{flat_map}

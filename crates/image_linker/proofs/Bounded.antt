@@ -59,7 +59,7 @@ segments_are_few [] = omega arith
 segments_are_few (item.Segment memory place run ∷ items) = omega (arith, segments_are_few items)
 segments_are_few (x ∷ items) = segments_are_few items
 
--- segments that fit into the memory, behind those in front of them
+-- segments that fit into the memory, after those before them
 segments_fit : (pages : ℕ) → pages ≤ max_pages → (ws : List (Written ℕ)) (front : List Segment) → all_fit (page * pages) ws ≡ true → bytes_of front + bytes_in ws ≤ max_module → Each (SegmentFits pages) front (map segment_of ws)
 segments_fit pages small [] front fit few = tt
 segments_fit pages small (w ∷ ws) front fit few =

@@ -107,7 +107,7 @@ is_fresh s label name h =
     (sym (ap (λ (o : Option ℕ). is_some o) (get-insert nat_list_cmp_total s.names label.1 label.0 name)) ∙ h) in
     record { unlike = texts_ties name label.1 ∙ parts.0; before = parts.1 }
 
--- ---- each export fits, behind those in front of it
+-- ---- each export fits, after those before it
 
 module _ (m : Module) (words functions : ℕ) (types : TypesAreSmall (context_of m.items).types) (places : (f : ℕ) → f < functions → IsOffset words (offset_of m f)) where
   pub exports_fit : (s : Seen) (items : List Item) (front : List Export) → AreNamed items → AllKeep s items → AreThere (context_of m.items) functions (exports_of items) → AreSeen s front

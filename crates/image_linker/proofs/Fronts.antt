@@ -1,4 +1,4 @@
--- The stubs in front of the functions' codes, of imports that were gone over so far, and one more; and where functions begin behind them.
+-- The stubs before the functions' codes, of imports that were gone over so far, and one more; and where functions begin after them.
 use Rattle.std.proofs.Common.{◌≡◌, ◌≤◌, ◌<◌, ℕ, zero, suc, ◌+◌, ◌*◌, ◌^◌, List, [], ◌∷◌, ◌++◌, map, take, length, refl, sym, ap, ◌∙◌, arith, append_assoc, length-append}
 use Rattle.std.specs.Prelude.{slice_get, slice_index, slice_index_or}
 use Rattle.std.specs.List.{All}
@@ -80,7 +80,7 @@ places_taken n old new before is =
     let k : suc n ≡ n + 1 = omega arith in
     is ∙ ap (λ (l : List ℕ). l ++ front_of n ∷ []) before ∙ sym (places_suc (length exit_stub) n (front_of n) refl) ∙ ap (stub_places (length exit_stub)) k
 
--- no place lies behind the text's end
+-- no place is after the text's end
 places_within : (here n most : ℕ) (ys : List ℕ) → here + stub_size * n ≤ most → ((i : ℕ) → slice_index ys i ≤ most) → (i : ℕ) → slice_index (stub_places here n ++ ys) i ≤ most
 places_within here zero most ys le rest i = rest i
 places_within here (suc n) most ys le rest zero = omega (arith, le)

@@ -1,4 +1,4 @@
--- Imported functions: they come first among the functions, and their stubs stand behind the exit stub, in order.
+-- Imported functions: they come first among the functions, and their stubs follow the exit stub, in order.
 use Rattle.std.proofs.Common.{◌≡◌, ℕ, zero, suc, ◌+◌, ◌*◌, ◌<◌, ◌≤◌, ◌⊎◌, inl, inr, ⊎_elim, List, [], ◌∷◌, ◌++◌, length, max, Option, None, Some, refl, sym, ap, ◌∙◌, subst, arith}
 use Rattle.std.specs.Prelude.{slice_get, slice_index}
 use Rattle.std.proofs.lemmas.List.{length-append}
@@ -26,7 +26,7 @@ use Rattle.image_format.specs.declared.image.TrapPlace.{TrapPlace}
 use Rattle.image_linker.specs.ImageOf.{stub_size, stubs_from, stub_places, imports_of, place_at, stub_traps}
 use Rattle.image_linker.proofs.Spread.{IsAmong}
 
--- ---- one list behind another
+-- ---- one list after another
 
 pub get_left : {A : Type 0} (xs ys : List A) (i : ℕ) → i < length xs → slice_get (xs ++ ys) i ≡ slice_get xs i
 get_left [] ys i less = absurd (omega arith)
@@ -68,7 +68,7 @@ stub_place here zero i p ys less e = absurd (omega arith)
 stub_place here (suc n) zero p ys less e = omega (arith, e)
 stub_place here (suc n) (suc i) p ys less e = stub_place (here + stub_size) n i p ys (omega arith) (omega (arith, e))
 
--- the i-th imported function, which has a number: its stub stands at a place of the text, the image has an import of its type, and
+-- the i-th imported function, which has a number: its stub is at a place of the text, the image has an import of its type, and
 -- among these places of traps is that of its stub
 pub record IsStub (code : List (Option Op)) (c : Context) (items : List Item) (traps : List TrapPlace) (i place number : ℕ) (h : run.Function) : Type 0 where
   pub ty : FuncType
@@ -133,7 +133,7 @@ ImportsFirst [] = Unit {0}
 ImportsFirst (Function type_index ∷ items) = import_count items ≡ 0
 ImportsFirst (x ∷ items) = ImportsFirst items
 
--- no import comes behind the import section
+-- no import comes after the import section
 late_without_imports : (before id : ℕ) (parts : List Part) → (3 ≤ before) ⊎ (3 ≤ id) → AreSorted before id parts → import_count (items_of parts) ≡ 0
 late_without_imports before id [] late h = refl
 late_without_imports before id (Section at next ∷ parts) late h = late_without_imports (max before id) next parts (inl (⊎_elim (λ e. omega (arith, e)) (λ e. omega (arith, e)) late)) h

@@ -1,4 +1,4 @@
--- What a module's items come to in its image: words of its globals' constants.
+-- What a module's items come to in its image: instruction words of its globals' constants.
 use Rattle.std.proofs.Common.{◌≡◌, ℕ, zero, suc, ◌-◌, ◌^◌, ◌<◌, List, [], ◌∷◌, map, Some, refl, ap, subst, arith, ℤ, pos}
 use Rattle.std.specs.Prelude.{negsuc, slice_get}
 use Rattle.std.specs.Int.{w64, cast_unsigned}

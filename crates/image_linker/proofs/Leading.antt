@@ -77,7 +77,7 @@ words_from-taken places here codes i c lt e = let k : i + 1 ≡ suc i = omega ar
 
 -- ---- a text
 
--- the calls of the code that stands last in it
+-- the calls of the code that is last in it
 pub text_led : (places : List ℕ) (rs calls : List Relocation) (old own given all led : List ℕ) (here n : ℕ) → all ≡ old ++ own → given ≡ all → here ≡ length old → calls ≡ rs
     → led ≡ take here given ++ with_distances (distances places here) calls (drop here given) → n ≡ length all
     → take n (led ++ drop (length led) all) ≡ old ++ with_distances (distances places (length old)) rs own
@@ -96,7 +96,7 @@ text_led places rs calls old own given all led here n all_is given_is here_is ca
     ∙ take_all n led (omega (arith, long, n_is))
     ∙ same
 
--- one code more, behind the words in front of the functions
+-- one code more, after the words before the functions
 pub text_more : (front : List ℕ) (imported : ℕ) (places : List ℕ) (codes : List Code) (i : ℕ) (c : Code) (old new : List ℕ) → length front ≡ front_of imported → i < length codes → c ≡ slice_index_or codes i c
     → old ≡ front ++ words_from places (front_of imported) (take i codes) → new ≡ old ++ with_distances (distances places (length old)) c.relocations c.words
     → new ≡ front ++ words_from places (front_of imported) (take (i + 1) codes)

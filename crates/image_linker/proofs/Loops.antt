@@ -37,7 +37,7 @@ words_within [] (suc i) = omega arith
 words_within (x ∷ xs) zero = omega arith
 words_within (x ∷ xs) (suc i) = omega (arith, words_within xs i, length-append x.words (words_of (take i xs)), length-append x.words (words_of xs))
 
--- each start lies before the text's end
+-- each start is before the text's end
 pub starts_within : (here most : ℕ) (codes : List Code) (i : ℕ) → here + length (words_of codes) ≤ most → slice_index (starts_from here codes) i ≤ most
 starts_within here most [] i le = omega arith
 starts_within here most (x ∷ xs) zero le = omega arith

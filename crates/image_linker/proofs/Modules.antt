@@ -57,7 +57,7 @@ use Rattle.image_linker.proofs.Placed.{Placed, code_is_short, text_length, exit_
 use Rattle.image_linker.proofs.Spread.{IsAmong, among_left, among_right, place_in, told_among, all_sited, traps_stand}
 use Rattle.image_linker.proofs.Called.{IsSmall, IsFirst, is_called}
 
--- words that stand in a text lie in it
+-- words that are in a text are in it
 has_inside : (code : List (Option Op)) (i : ℕ) (ops : List Op) → 0 < length ops → HasAt code i ops → i + length ops ≤ length code
 has_inside code i [] some has = absurd (omega arith)
 has_inside code i (op ∷ []) some has = omega (arith, slice_get_within code i (Some op) has.0)
@@ -271,7 +271,7 @@ module _ (m : Module) (good : IsCoveredModule m) (short : length (text_of m) ≤
           let k = i - imported in
           inl (known can_link i k (omega (arith, slice_get_within (functions_of m) i h is, functions_length)) (omega arith) h is)
 
-  -- behind the exit stub, inside the text
+  -- after the exit stub, inside the text
   place_within : (i : ℕ) (h : Function) → slice_get (functions_of m) i ≡ Some h → (2 ≤ places i) × (places i < length text)
   place_within i h is = ⊎_elim first later (cases_lt i imported)
     where
@@ -323,7 +323,7 @@ module _ (m : Module) (good : IsCoveredModule m) (short : length (text_of m) ≤
   environment : EnvironmentStands (instance_of m) (image_of m) text_places
   environment = record { imports = imports_stand; cap = refl; few = omega (arith, good.spaces.cap); told = λ word. refl }
 
-  -- a row's function is there, and its place lies in the text
+  -- a row's function is there, and its place is in the text
   in_row : (a f : ℕ) → slice_get (instance_of m).table a ≡ Some (Some f) → (h : Function) × (slice_get (functions_of m) f ≡ Some h) × (type_of h ≡ type_of_function (context_of m.items) f)
   in_row a f is = let h = function_at f (good.rows a f is) in (h.0, h.1, is_typed f h.0 h.1)
 

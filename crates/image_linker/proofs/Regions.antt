@@ -1,4 +1,4 @@
--- Words in the bytes of a region, one behind the other.
+-- Instruction words in the bytes of a region, one after the other.
 use Rattle.std.proofs.Common.{◌≡◌, ℕ, zero, suc, ◌+◌, ◌*◌, ◌/◌, ◌^◌, ◌<◌, List, [], ◌∷◌, ◌++◌, length, take, Some, refl, sym, ap, ◌∙◌, arith, append_assoc, length-append}
 use Rattle.std.specs.Prelude.{slice_get}
 use Rattle.std.proofs.lemmas.List.{drop_at, take_at}
@@ -20,7 +20,7 @@ pub row_words_length : (rows : List Row) → length (row_words rows) ≡ 2 * len
 row_words_length [] = refl
 row_words_length (r ∷ rows) = omega (arith, row_words_length rows)
 
--- a word behind others
+-- a word after others
 word_behind : (front : List ℕ) (from w : ℕ) (back : List ℕ) → length front ≡ 8 * from → w < 2 ^ 64 → word_at (front ++ (le_bytes 8 w ++ back)) from ≡ w
 word_behind front from w back len small =
     ap (λ (l : List ℕ). le_value (take 8 l)) (drop_at front (le_bytes 8 w ++ back) (8 * from) len)

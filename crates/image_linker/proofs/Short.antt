@@ -78,7 +78,7 @@ segments_size : (xs : List Placed) → sum_by segment_size xs ≡ 8 * length xs 
 segments_size [] = refl
 segments_size (x ∷ xs) = let a = sum_by-cons segment_size x xs in let b = sum_by-cons data_bytes x xs in omega (arith, a, b, segments_size xs)
 
--- several results have a byte each, behind one that says so and their number
+-- several results have a byte each, after one that says so and their number
 results_bounded : (types : List ValType) → results_size types ≤ 5 + length types
 results_bounded [] = omega arith
 results_bounded (type ∷ []) = omega arith

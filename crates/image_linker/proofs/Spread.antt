@@ -1,4 +1,4 @@
--- The traps of an image stand one behind the other in its text, and each is told its place.
+-- The traps of an image are one after the other in its text, and each is told its place.
 use Rattle.std.proofs.Common.{◌≡◌, ℕ, suc, ◌+◌, ◌*◌, ◌^◌, ◌<◌, ◌≤◌, ◌⊎◌, inl, inr, ⊎_elim, ◌==◌, List, [], ◌∷◌, ◌++◌, map, length, Option, Some, refl, sym, ap, ◌∙◌, subst, arith}
 use Rattle.std.proofs.lemmas.Bool.{cond-true, cond-false, eq-eqb, ne_eqb}
 use Rattle.std.proofs.lemmas.List.Sums.{fold_push}
@@ -26,7 +26,7 @@ use Rattle.image_linker.specs.Judging.{sizes}
 use Rattle.wasm_laws.specs.Short.{AreShortImports, AreShortBodies}
 use Rattle.image_linker.proofs.Offsets.{AreShortSites, sites_are_short}
 
--- ---- one behind the other
+-- ---- one after the other
 
 pub record StandsAt (from word : ℕ) (p : TrapPlace) : Type 0 where
   pub behind : from + 2 ≤ word
@@ -34,7 +34,7 @@ pub record StandsAt (from word : ℕ) (p : TrapPlace) : Type 0 where
   pub function : p.function < 2 ^ 32
   pub module_offset : p.module_offset < 2 ^ 32
 
--- words of traps, from a word on and in front of another; each has two more in front of it
+-- words of traps, from a word on and before another; each has two more before it
 abbrev pub Stand : (from : ℕ) → List TrapPlace → (to : ℕ) → Type 0
 Stand from [] to = from ≤ to
 Stand from (p ∷ ps) to = (word : ℕ) × StandsAt from word p × Stand (word + 1) ps to
@@ -113,7 +113,7 @@ pub all_sited : (told : ℕ → Option Place) (begin : ℕ) (o : Origin) (ts : L
 all_sited told begin o [] h = tt
 all_sited told begin o (t ∷ ts) h = (h (place_at begin o.index (site_of o t)) (inl refl), all_sited told begin o ts (λ q more. h q (inr more)))
 
--- ---- where they stand
+-- ---- where they are
 
 -- those of a function, from its first word on
 stand_sites : (here function from to : ℕ) (ss : List TrapSite) → function < 2 ^ 32 → AreShortSites ss → AreSpaced from (map (λ (s : TrapSite). s.place) ss) to → (start end : ℕ) → start ≤ here + from → here + to ≤ end

@@ -72,7 +72,7 @@ module _ (m : Module) (rows : List (Option ℕ)) (fit : (a : ℕ) (o : Option �
         ap (λ (n : ℕ). value_at 8 n (word_bytes words)) second ∙ word_is_read words (2 * a + 1) (row_of m o).like small at.1,
       )
 
--- functions lie near the text's beginning, and types are few
+-- functions are near the text's beginning, and types are few
 module _ (m : Module) (few_types : length (context_of m.items).types < 2 ^ 32)
     (places : ℕ → ℕ) (places_are : (f : ℕ) → places f ≡ slice_index (places_of_functions m) f)
     (near : (a f : ℕ) → slice_get (instance_of m).table a ≡ Some (Some f) → places f < 2 ^ 60) where
@@ -83,7 +83,7 @@ module _ (m : Module) (few_types : length (context_of m.items).types < 2 ^ 32)
       let place_is = places_are f in
       (omega arith, omega (arith, like_is_few (context_of m.items).types (type_of_function (context_of m.items) f)))
 
--- the rows stand in the region of the image that is loaded
+-- the rows are in the region of the image that is loaded
 module _ (m : Module) (linkable : is_linkable m ≡ true) (few_types : length (context_of m.items).types < 2 ^ 32)
     (places : TextPlaces) (places_are : (f : ℕ) → places.function f ≡ slice_index (places_of_functions m) f)
     (near : (a f : ℕ) → slice_get (instance_of m).table a ≡ Some (Some f) → places.function f < 2 ^ 60)

@@ -1,4 +1,4 @@
--- The words of operations have 32 bits, where the operations' fields fit.
+-- The instruction words of operations have 32 bits, where the operations' fields fit.
 use Rattle.std.proofs.Common.{ℕ, ◌^◌, ◌<◌, List, [], ◌∷◌, map, arith, lit<}
 use Rattle.std.specs.Prelude.{All}
 use Rattle.std.proofs.lemmas.List.Elements.{All-nil, All-cons}

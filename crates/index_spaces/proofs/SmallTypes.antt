@@ -1,4 +1,4 @@
--- One more type that keeps the limits, behind others that do.
+-- One more type that keeps the limits, after others that do.
 use Rattle.std.proofs.Common.{List, [], ◌∷◌, ◌++◌}
 use Rattle.wasm_defs.specs.declared.types.FuncType.{FuncType}
 use Rattle.wasm_laws.specs.Kept.{TypeIsSmall, TypesAreSmall}

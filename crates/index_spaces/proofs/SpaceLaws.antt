@@ -87,7 +87,7 @@ functions_of-counts (Imported from what kind type_index ∷ xs) = omega (arith, 
 functions_of-counts (Function type_index ∷ xs) = omega (arith, functions_of-counts xs)
 functions_of-counts (_ ∷ xs) = functions_of-counts xs
 
--- one more declaration of a sort stands behind the others, and all other sorts stay
+-- one more declaration of a sort follows the others, and all other sorts stay
 ruleset appends = (types_of-append, functions_of-append, tables_of-append, memories_of-append, globals_of-append, import_count-append, declared_count-append, imports_of-append, all_exports_of-append, element_rows_of-append, data_rows_of-append, initials_of-append, start_of-append, option_or-none, append-nil, add-zero, length-append)
 
 pub spaces_of-append : (items : List Item) (x : Item) → spaces_of (items ++ x ∷ []) ≡ with_item (spaces_of items) x

@@ -1,4 +1,4 @@
--- One more type behind others: the least equal index of each.
+-- One more type after others: the least equal index of each.
 use Rattle.std.proofs.Common.{◌≡◌, ℕ, suc, ◌<◌, true, false, inl, inr, List, [], ◌∷◌, ◌++◌, map, length, Option, None, Some, Vec, refl, sym, ap, ◌∙◌, subst, append_assoc, arith}
 use Rattle.std.specs.Prelude.{option_map, unwrap_or}
 use Rattle.std.specs.Str.{bytes_eq}

@@ -1,4 +1,4 @@
--- Numbers that were spelled fit what they are cast to.
+-- Numbers that were encoded fit what they are cast to.
 use Rattle.std.proofs.Common.{◌≡◌, ℕ, ◌+◌, ◌-◌, ◌*◌, ◌^◌, ◌<◌, ◌≤◌, inl, inr, Bool, true, false, List, [], ◌∷◌, length, refl, sym, ap, ◌∙◌, arith, ℤ, pos, ◌+ℤ◌}
 use Rattle.std.specs.Prelude.{◌*ℤ◌, neg_ℤ, ◌≤ℤ◌, ◌<ℤ◌}
 use Rattle.std.proofs.Common.{T, Fits, to_z, of_z, w32, w64}
@@ -91,7 +91,7 @@ cast_fits n r = rw (r.is, wide r.value r.small) (tt, record { fits = r.small })
 pub cast_is : (n : ℤ) (nat : ℤ → ℕ) → ((v : ℕ) → nat (pos v) ≡ v) → IsNatural (2 ^ 32) n → nat n ≡ nat_abs (to_z w128 (of_z w128 n))
 cast_is n nat computes r = rw (r.is, wide r.value r.small) (computes r.value)
 
--- ---- spellings that are cut off are short
+-- ---- encodings that are cut off are short
 
 last_whole : (signed : Bool) (bits b : ℕ) → last_byte signed bits b ≡ CutOff → ⊥
 last_whole false bits b e =

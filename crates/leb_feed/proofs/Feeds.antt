@@ -9,7 +9,7 @@ use Rattle.leb_feed.specs.declared.leb.Fed.{Fed}
 use Rattle.leb_feed.specs.declared.leb.Fed.TheVariants as fed
 use Rattle.leb_feed.specs.Feeding.{told}
 
--- ---- spellings are short
+-- ---- encodings are short
 
 spelled_short : (n : ℤ) (bits b : ℕ) (signed : Bool) (bytes : List ℕ) → 1 ≤ bits → Spells n bits signed (b ∷ bytes) → 7 * length bytes < bits
 spelled_short n bits b signed [] some p = omega arith

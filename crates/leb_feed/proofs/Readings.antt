@@ -64,7 +64,7 @@ small_negative bits place bytes b lt is high below wide =
     let fits : 128 ≤ b + 2 ^ (bits - 1) = omega (arith, p) in
     rw (cut, lt-ltb b 128 below, le-ltb b 64 high, le-ltb (b + 2 ^ (bits - 1)) 128 fits) refl
 
--- ---- bytes behind others, which come to a number below 2 ^ k
+-- ---- bytes after others, which come to a number below 2 ^ k
 
 adds : (a b : ℕ) (n : ℤ) → pos (a + b) *ℤ n ≡ (pos a *ℤ n) +ℤ (pos b *ℤ n)
 adds zero b n = let e : pos zero *ℤ n ≡ pos zero = zero-*ℤ n in omega (arith, ints, e)

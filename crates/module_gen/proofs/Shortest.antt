@@ -1,4 +1,4 @@
--- The bytes of a number spell it, and no fewer do.
+-- The bytes of a number encode it, and no fewer do.
 use Rattle.std.proofs.Common.{◌≡◌, ◌∙◌, ℕ, zero, suc, ◌+◌, ◌-◌, ◌*◌, ◌/◌, ◌%◌, ◌^◌, ◌<◌, ◌≤◌, ℤ, pos, ◌+ℤ◌, Bool, true, false, List, [], ◌∷◌, length, refl, ap, sym, subst, inl, inr, arith}
 use Rattle.std.specs.Prelude.{negsuc, neg_ℤ, ◌*ℤ◌}
 use Rattle.std.proofs.Math.Nat.{div-lt_iff_lt-mul, mod-add-div, mod-lt}
@@ -56,7 +56,7 @@ spells_signed (suc j) bits n size below =
 
 -- ---- no fewer
 
--- what follows a byte from 128 on spells the rest
+-- what follows a byte from 128 on encodes the rest
 rest_is : (n b : ℕ) (m : ℤ) → 128 ≤ b → b < 256 → pos n ≡ pos (b - 128) +ℤ (pos 128 *ℤ m) → m ≡ pos (n / 128)
 rest_is n b (pos k) least most is =
     let product : pos 128 *ℤ pos k ≡ pos (128 * k) = pos-*ℤ-pos 128 k in

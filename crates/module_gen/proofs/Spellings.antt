@@ -1,4 +1,4 @@
--- Spellings that are made byte by byte.
+-- Encodings that are made byte by byte.
 use Rattle.std.proofs.Common.{◌≡◌, ◌∙◌, ℕ, zero, suc, ◌+◌, ◌*◌, ◌/◌, ◌%◌, ◌<◌, ◌≤◌, List, [], ◌∷◌, ◌++◌, length, refl, ap, sym, arith, append_assoc}
 use Rattle.std.proofs.Math.Nat.{div-lt_iff_lt-mul}
 use Rattle.std.proofs.lemmas.Bool.{lt-ltb, le-ltb}
@@ -24,7 +24,7 @@ narrower end (suc j) n least above below =
     let both = div-lt_iff_lt-mul {k = 128} {x = n} {y = room j} (omega arith) in
     (j, refl, both.1 (omega (arith, below)))
 
--- these bytes, and behind them the spelling of the rest, are all of it
+-- these bytes, and after them the encoding of the rest, are all of it
 abbrev pub IsLeft : (end : ℕ) → List ℕ → ℕ → List ℕ → Type 0
 IsLeft end front rest whole = (k : ℕ) × (rest < room k) × (front ++ spelling end (suc k) rest ≡ whole)
 

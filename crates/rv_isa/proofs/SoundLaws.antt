@@ -136,7 +136,7 @@ decoded_fits [] k op small e = absurd cc
 decoded_fits (w ∷ words) zero op small e = (sound w (All-head IsWord w words small) op (cc)).in_range
 decoded_fits (w ∷ words) (suc k) op small e = decoded_fits words k op (All-tail IsWord w words small) e
 
--- what is fetched stands in the text
+-- what is fetched is in the text
 record Fetched (code : List (Option Op)) (pc : ℕ) (w : Option Op) : Type 0 where
   stands : slice_get code ((pc - text_base) / 4) ≡ Some w
   near : pc + 4 < 2 ^ 64

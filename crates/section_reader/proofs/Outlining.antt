@@ -25,7 +25,7 @@ use Rattle.section_reader.proofs.Going.{got_is}
 
 -- ---- runs beside each other
 
--- whether reading is behind the code section's count or not
+-- whether reading is after the code section's count or not
 record Matches (behind : Bool) (m o : Run) : Type 0 where
   whole : (seen : Seen) → m.ending ≡ Whole seen → IsOutlined m o
   apart : in_bodies behind m.parts ≡ false → IsOutlined m o
@@ -46,7 +46,7 @@ after_matches (Section at id) m o h = λ behind. record { whole = λ seen e. aft
 after_matches (Listed y) m o h = λ behind. record { whole = λ seen e. after_outlined (Listed y) m o ((h false).whole seen e); apart = λ e. after_outlined (Listed y) m o ((h (is_count y || behind)).apart e) }
 after_matches (Coded b) m o h = λ behind. record { whole = λ seen e. after_outlined (Coded b) m o ((h behind).whole seen e); apart = λ e. after_outlined (Coded b) m o ((h behind).apart e) }
 
--- the outline doesn't tell sections
+-- the outline doesn't report sections
 section_matches : (at b : ℕ) (m o : Run) → MatchesAll m o → MatchesAll (after_part (Section at b) m) o
 section_matches at b m o h = λ behind. record {
   whole = λ seen e. let k = (h false).whole seen e in record { items = k.items; ending = k.ending };
@@ -115,7 +115,7 @@ bodies_come c = of_size (u32 c)
     of_size (Fault r) = tt
     of_size Wants = tt
 
--- sections behind that are shorter
+-- sections after that are shorter
 abbrev NextMatch : ℕ → Type 0
 NextMatch n = (seen : Seen) (e : Cursor) → length e.rest < n → IsOrdered Between seen → MatchesAll (sections seen e) (outline_sections seen e)
 

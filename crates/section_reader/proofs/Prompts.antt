@@ -340,7 +340,7 @@ listed_index_prompt most = search (index_prompt, prompts) depth 40
 
 ruleset parts = (u32_prompt, count_prompt, vector_prompt, counted_bytes_prompt, index_prompt, value_type_prompt, listed_type_prompt, limits_prompt, constant_prompt, mutability_prompt, extern_kind_prompt, sole_prompt, listed_index_prompt, prompts)
 
--- ---- entries, and what stands around them
+-- ---- entries, and what is around them
 
 signature_prompt : (seen : Seen) → Prompt (signature seen)
 unfolding signature

@@ -83,7 +83,7 @@ reaches_item old mid new a c d x s g = record {
   stalls = λ o apart h. absurd cc;
 }
 
--- refused where reading stands
+-- refused where reading is
 refused_onward : (old mid : Steps) (a c : Cursor) (r : Refusal) → StillGoing old a mid c
     → (IsOrdered mid.stage mid.seen → is_at_bodies mid.stage ≡ false → HaltsOnward mid.stage mid.seen c (stop.Refused r))
     → IsOrdered old.stage old.seen → is_at_bodies old.stage ≡ false → RefusedOnward old a r

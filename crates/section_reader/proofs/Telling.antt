@@ -1,4 +1,4 @@
--- What each step of reading tells of the module, and where it halts.
+-- What each step of reading reports of the module, and where it halts.
 use Rattle.std.proofs.Common.{◌≡◌, ◌≢◌, ℕ, suc, ◌+◌, ◌-◌, if◌then◌else◌, ◌<◌, ◌≤◌, Bool, true, false, eqb, List, [], ◌∷◌, ◌++◌, length, refl, sym, ap, ◌∙◌, arith, inl, inr, ◌⊎◌}
 use Rattle.std.proofs.lemmas.Bool.{cases_Bool, cases_eq, eq-eqb, ne_eqb, lt-leb, eqb-true}
 use Rattle.wasm_defs.specs.declared.fault.Kind.TheVariants.{Malformed}
@@ -24,7 +24,7 @@ use Rattle.section_reader.proofs.Runs.{sections_are}
 use Rattle.section_reader.proofs.OutlineRuns.{outline_steady, passed_over}
 use Rattle.section_reader.proofs.Leading.{more_got, more_refused, runs_refused, runs_owed, at_bytes, over_if, rest_is, passed_same}
 
--- ---- sections that are told
+-- ---- sections that are reported
 
 pub sections_append : (xs ys : List Part) → AreSections xs → AreSections ys → AreSections (xs ++ ys)
 sections_append [] ys h k = k

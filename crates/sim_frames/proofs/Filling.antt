@@ -1,4 +1,4 @@
--- What filling in the distances of its calls makes of a function's words.
+-- What filling in the distances of its calls makes of a function's instruction words.
 use Rattle.std.proofs.Common.{◌≡◌, ℕ, zero, suc, ◌+◌, ◌-◌, List, [], ◌∷◌, ◌++◌, length, map, Some, None, refl, sym, ap, ◌∙◌, subst, arith, append_assoc}
 use Rattle.std.proofs.lemmas.List.{append-nil, map-append, length-append, length-map, set-append_right}
 use Rattle.std.specs.Prelude.{slice_set}

@@ -29,7 +29,7 @@ operands_moved old new first to [] same h = tt
 operands_moved old new first to (v ∷ vs) same h =
     (holds_as (slot_at new (to + length vs)) (same (length vs) (omega arith)) h.0, operands_moved old new first to vs (λ k less. same k (omega arith)) h.1)
 
--- so many results, from an index on, lie in the frame's first slots; other slots and regions are as they were
+-- so many results, from an index on, are in the frame's first slots; other slots and regions are as they were
 pub record ResultsMoved (l : Layout) (base results index : ℕ) (b new : Bytes) : Type 0 where
   pub size : length new.stack ≡ length b.stack
   pub windows : FitWindows new

@@ -1,4 +1,4 @@
--- AND, OR and XOR of words of i32.
+-- AND, OR and XOR of instruction words of i32.
 use Rattle.std.proofs.Common.{◌≡◌, ℕ, zero, suc, ◌+◌, ◌-◌, ◌*◌, ◌/◌, ◌%◌, ◌^◌, ◌<◌, inl, inr, refl, ap₂, ◌∙◌, arith, lt_of_le_of_lt}
 use Rattle.std.specs.Prelude.{bit_and, bit_or, bit_xor}
 use Rattle.std.proofs.lemmas.Bool.{cases_lt}

@@ -63,7 +63,7 @@ module _ (x y : ℕ) (hx : x < 2 ^ 64) (hy : y < 2 ^ 64) where
 
 -- ---- what the bodies compute
 
--- from what stands in the registers
+-- from what is in the registers
 abbrev compared : CompareOp → ℕ → ℕ → ℕ
 compared Eq x y = computed op.Sltu (computed op.Sub x y) 1
 compared Ne x y = computed op.Sltu 0 (computed op.Sub x y)

@@ -15,7 +15,7 @@ use Rattle.sim_integer.proofs.Extensions.{word_small, low_word, word_below}
 use Rattle.sim_integer.proofs.Populations.{population_value, population_is}
 use Rattle.sim_integer.proofs.Smears.{filled_first, filled_more, filled_all, trailing}
 
--- ---- what the bodies compute, from what stands in the register
+-- ---- what the bodies compute, from what is in the register
 
 -- without the bits that extend an i32
 abbrev pub cut_value : ValType → ℕ → ℕ

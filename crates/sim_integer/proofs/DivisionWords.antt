@@ -1,4 +1,4 @@
--- What the words of divisions come to.
+-- What the instruction words of divisions come to.
 use Rattle.std.proofs.Common.{◌≡◌, ℕ, ◌+◌, ◌-◌, ◌/◌, ◌==◌, ◌^◌, ◌<◌, ◌≤◌, Bool, true, false, if◌then◌else◌, List, ◌++◌, length, Option, inl, inr, refl, sym, ap, ap₂, subst, ◌∙◌, arith, lit≤}
 use Rattle.std.specs.Prelude.{int_div, pos}
 use Rattle.std.specs.Ordering.{int_eq}
@@ -68,7 +68,7 @@ module _ (w : Around) (code : List (Option Op)) (s : State) (i base h : ℕ) (t 
   abbrev slot : ℕ
   slot = base + operand w.layout (h - 2)
 
-  -- ---- behind the loads
+  -- ---- after the loads
 
   -- the operands are in t0 and t1, six words on
   module _ (body : List Op) (has : HasAt code i (on_two w h body)) where

@@ -1,4 +1,4 @@
--- An i32 as a word: what the extension by its sign keeps.
+-- An i32 as an instruction word: what the extension by its sign keeps.
 use Rattle.std.proofs.Common.{◌≡◌, ℕ, suc, ◌+◌, ◌-◌, ◌%◌, ◌==◌, ◌^◌, ◌<◌, ◌≤◌, ℤ, pos, negsuc, inl, inr, refl, sym, ap, ap₂, ◌∙◌, arith, FitsSigned, le_of_eq, le_of_lt}
 use Rattle.std.specs.Prelude.{nat_lt}
 use Rattle.std.specs.Int.{w32, w64, cast_signed, cast_unsigned}

@@ -1,4 +1,4 @@
--- How many words an instruction has.
+-- How many instruction words an instruction has.
 use Rattle.std.proofs.Common.{leb, length, refl}
 use Rattle.std.proofs.lemmas.Bool.{leb-true}
 use Rattle.wasm_defs.specs.declared.operation.Operation.{Operation}

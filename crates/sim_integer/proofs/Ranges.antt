@@ -1,4 +1,4 @@
--- The results of operations lie below the modulus of their type.
+-- The results of operations are below the modulus of their type.
 use Rattle.std.proofs.Common.{◌≡◌, ℕ, ◌-◌, ◌*◌, ◌/◌, ◌%◌, ◌==◌, ◌^◌, ◌<◌, ◌≤◌, Bool, true, false, if◌then◌else◌, inl, inr, refl, sym, subst, ◌∙◌, arith, lt_of_le_of_lt}
 use Rattle.std.specs.Prelude.{bit_and, bit_or, bit_xor, int_div, pos}
 use Rattle.std.specs.Ordering.{int_eq}

@@ -1,4 +1,4 @@
--- The words of rotations.
+-- The instruction words of rotations.
 use Rattle.std.proofs.Common.{◌≡◌, ℕ, ◌-◌, ◌*◌, ◌/◌, ◌%◌, ◌^◌, ◌<◌, true, refl, ap, ap₂, ◌∙◌, arith, lt_of_le_of_lt}
 use Rattle.std.specs.Prelude.{bit_or}
 use Rattle.std.proofs.lemmas.Nat.{shr_le}
@@ -20,7 +20,7 @@ use Rattle.sim_integer.proofs.Bits.{or_word}
 use Rattle.sim_integer.proofs.Rotations.{rotated_left, rotated_right}
 use Rattle.sim_integer.proofs.Sized.{sized_value}
 
--- ---- what the bodies compute, from what stands in the registers
+-- ---- what the bodies compute, from what is in the registers
 
 abbrev left_value : ValType → ℕ → ℕ → ℕ
 left_value t x y = computed op.Or (sized_value t op_w.Srlw op.Srl x (computed op.Sub 0 y)) (sized_value t op_w.Sllw op.Sll x y)
@@ -44,7 +44,7 @@ pub right_alone : (t : ValType) → all_compute is_scratch (binary_body Rotr t) 
 right_alone I32 = refl
 right_alone I64 = refl
 
--- ---- shifts of an i32, by what stands in a register
+-- ---- shifts of an i32, by what is in a register
 
 shifted_down : (a y k : ℕ) → a < 2 ^ 32 → y % 32 ≡ k → computed_w op_w.Srlw (word I32 a) y ≡ word I32 (a / 2 ^ k)
 unfolding computed_word

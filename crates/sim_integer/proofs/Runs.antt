@@ -1,4 +1,5 @@
--- The words of an instruction run: its operands are loaded, its body leaves a value in t0, and the value is stored.
+-- The instruction words of an instruction run: its operands are loaded, its body leaves a value in t0, and the
+-- value is stored.
 use Rattle.std.proofs.Common.{◌≡◌, ℕ, ◌+◌, ◌-◌, ◌<◌, ◌≤◌, true, List, ◌++◌, length, Option, refl, ◌∙◌, arith, length-append}
 use Rattle.rv_isa.specs.declared.operations.Op.{Op}
 use Rattle.rv_isa.specs.Steps.{Registers, reg, State}
@@ -14,7 +15,7 @@ use Rattle.frame_layout.proofs.SlotLaws.{load_slot_leaves}
 use Rattle.frame_layout.proofs.Steps.{does_leave, does_then, does_with, does_count}
 use Rattle.frame_layout.proofs.Instructions.{Operands, operands_load, stored_does}
 
--- so many steps later, behind so many words, t0 holds the value, and only scratch registers have changed
+-- so many steps later, after so many words, t0 holds the value, and only scratch registers have changed
 pub record Gives (code : List (Option Op)) (steps words : ℕ) (s : State) (v : ℕ) : Type 0 where
   pub does : Does code steps words s s.bytes
   pub value : reg does.end.registers t0 ≡ v

@@ -23,7 +23,7 @@ use Rattle.sim_integer.proofs.Extensions.{low_word, word_small, word_large}
 use Rattle.sim_integer.proofs.Conversions.{wrapped, extended_is}
 use Rattle.sim_integer.proofs.Runs.{one_does}
 
--- ---- the word of a small signed number
+-- ---- the instruction word of a small signed number
 
 word_pos : (t : ValType) (n : ℕ) → n < 2 ^ 31 → word t (unsigned t (pos n)) ≡ n
 word_pos I32 n h = word_small n h
@@ -51,7 +51,7 @@ shifted_16 x =
       | inr h ↦ rw (le-ltb (x % 2 ^ 16) (2 ^ 15) h, le-ltb ((x * 2 ^ 48) % 2 ^ 64) (2 ^ 63) (omega arith)) (omega arith)
     ]
 
--- ---- the numbers' words
+-- ---- the numbers' instruction words
 
 extended_8 : (t : ValType) (n : ℕ) → n < 2 ^ 8 → extended 8 n ≡ word t (unsigned t (cast_signed w8 n))
 extended_8 t n small =
@@ -75,7 +75,7 @@ low_16 : (t : ValType) (a : ℕ) → a < modulus t → word t a % 2 ^ 16 ≡ a %
 low_16 I32 a h = omega (arith, low_word a h)
 low_16 I64 a h = refl
 
--- ---- the words
+-- ---- the instruction words
 
 -- a body on one operand gives a function of its number
 abbrev Extends : ValType → List Op → (ℕ → ℕ) → Type 0

@@ -1,4 +1,4 @@
--- One operation of the machine, on words of the type's width.
+-- One operation of the machine, on instruction words of the type's width.
 use Rattle.std.proofs.Common.{◌≡◌, ℕ, ◌/◌, ◌%◌, ◌<◌, true, refl}
 use Rattle.std.specs.Prelude.{int_div, int_rem}
 use Rattle.std.proofs.lemmas.Bool.{ne_eqb}

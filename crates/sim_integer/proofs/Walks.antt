@@ -1,5 +1,5 @@
--- Steps through words with branches. Each way is taken apart: how many steps it has, how many words it has passed, and the
--- registers that it leaves.
+-- Steps through instruction words with branches. Each way is taken apart: how many steps it has, how many words it has
+-- passed, and the registers that it leaves.
 use Rattle.std.proofs.Common.{◌≡◌, ℕ, zero, suc, ◌+◌, ◌*◌, ◌%◌, ◌^◌, ◌<◌, true, false, List, [], ◌∷◌, ◌++◌, drop, Option, Some, refl, ap, subst, ◌∙◌, arith}
 use Rattle.std.specs.Prelude.{slice_get}
 use Rattle.rv_isa.specs.declared.operations.BranchOp.{BranchOp}
@@ -67,7 +67,7 @@ module _ (code : List (Option Op)) (body : List Op) (s : State) (i : ℕ) (has :
       let does : Does code steps words s s.bytes = record { end = here; reaches = before.reaches; pc_is = refl; bytes_are = refl; others = kept } in
       traps_after does (trap_traps code here (i + words) kind stands here_at small)
 
--- the registers are those behind operations that only compute
+-- the registers are those after operations that only compute
 pub walk_gives : (code : List (Option Op)) (s : State) (steps words v : ℕ) (ops : List Op) → Walks code steps words s (after_all ops s.registers) → all_compute is_scratch ops ≡ true → reg (after_all ops s.registers) t0 ≡ v → Gives code steps words s v
 walk_gives code s steps words v ops walk alone is =
     record {

@@ -1,4 +1,5 @@
--- What the words of `global.set`, of stores and of `memory.grow` come to on a running image: the store behind them, and the operands.
+-- What the instruction words of `global.set`, of stores and of `memory.grow` come to on a running image: the store after them, and
+-- the operands.
 use Rattle.std.proofs.Common.{◌≡◌, ℕ, suc, ◌+◌, ◌-◌, ◌*◌, ◌^◌, ◌<◌, ◌≤◌, ◌⊎◌, inl, inr, List, [], ◌∷◌, length, Option, None, Some, refl, sym, ap, ◌∙◌, subst, arith}
 use Rattle.std.specs.Prelude.{slice_get, nat_lt}
 use Rattle.std.proofs.lemmas.List.{length-take}

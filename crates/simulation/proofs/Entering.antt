@@ -26,7 +26,7 @@ use Rattle.simulation.proofs.Calls.Arguments.{are_of_types}
 use Rattle.simulation.proofs.FirstSlots.{stack_is, slots_are}
 use Rattle.simulation.proofs.Steps.{with_machine}
 
--- the table's rows stand where its bytes stay
+-- the table's rows are where its bytes stay
 pub table_kept : (inst : Instance) (places : TextPlaces) (b c : Bytes) → c.table ≡ b.table → TableHolds inst places b → TableHolds inst places c
 table_kept inst places b c same h = record {
   rows = record {
@@ -49,7 +49,7 @@ module _ (image : Image) (inst : Instance) (places : TextPlaces) where
     pub table : TableHolds inst places r.machine.bytes
     pub entries : AreEntries inst places later r.later
 
-  -- the machine stands behind the call that ends a function; what lies beside the stack is as before
+  -- the machine follows the call that ends a function; what is outside the stack is as before
   module _ (store : Store) (r : Running) (t : State) (size : length t.bytes.stack ≡ 8 * max_slots) (windows : FitWindows t.bytes) (beside : SameBeside r.machine.bytes t.bytes)
       (calls : r.calls ≡ store.calls) (replies : r.replies ≡ store.replies) (stands : StoreStands store r.pages image.cap r.machine) (types : global_types inst.context.globals ≡ types_of_values store.globals) (table : TableHolds inst places r.machine.bytes)
       (next : Invocation) (more : List Invocation) (e : Entry × List ValType) (es : List (Entry × List ValType)) (is : IsEntry inst places next e) (others : AreEntries inst places more es) where

@@ -1,4 +1,5 @@
--- Words that are written one behind the other, as the arguments of a function that is called from outside are.
+-- Instruction words that are written one after the other, as the arguments of a function that is called from
+-- outside are.
 use Rattle.std.proofs.Common.{◌≡◌, ℕ, zero, suc, ◌+◌, ◌*◌, ◌^◌, ◌<◌, ◌≤◌, List, [], ◌∷◌, length, Some, refl, ap, ◌∙◌, arith}
 use Rattle.std.specs.Prelude.{slice_get, option_map}
 use Rattle.std.proofs.lemmas.List.{length-map}

@@ -1,4 +1,5 @@
--- `memory.grow` on a running image: its words ask the environment, which answers, and put the answer into the operand's place.
+-- `memory.grow` on a running image: its instruction words ask the environment, which answers, and put the answer into the
+-- operand's place.
 use Rattle.std.proofs.Common.{◌≡◌, ℕ, ◌+◌, ◌-◌, ◌*◌, ◌^◌, ◌<◌, ◌≤◌, ◌==◌, false, List, length, Option, None, Some, refl, sym, ap, subst, ◌∙◌, arith}
 use Rattle.std.specs.Prelude.{◌||◌}
 use Rattle.std.proofs.lemmas.Bool.{or_parts}
@@ -60,7 +61,7 @@ stands_answered {number} i r store h a =
     }
 
 module _ (image : Image) where
-  -- eight steps on, the answer stands in a slot, and the store in the regions
+  -- eight steps on, the answer is in a slot, and the store in the regions
   pub record Grown (r : Running) (slot number pages : ℕ) (store : Store) : Type 0 where
     pub last : Running
     pub goes : Goes image 8 r last

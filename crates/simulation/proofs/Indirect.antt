@@ -44,7 +44,7 @@ module _ (im : Image) (near : length (code_of_image im) ≤ 2 ^ 26) (inst : Inst
   abbrev text : List (Option Op)
   text = code_of_image im
 
-  -- a function's first word lies in the text
+  -- a function's first word is in the text
   place_within : (f : ℕ) (h : Function) → slice_get inst.functions f ≡ Some h → places.function f ≤ length text
   place_within f h is =
       ⊎_elim

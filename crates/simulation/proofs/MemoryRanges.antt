@@ -1,4 +1,4 @@
--- The fields of the operations of global and memory instructions fit their words.
+-- The fields of the operations of global and memory instructions fit their instruction words.
 use Rattle.std.proofs.Common.{ℕ, ◌-◌, ◌*◌, ◌^◌, ◌<◌, List, [], ◌∷◌, ◌++◌, arith}
 use Rattle.rv_isa.specs.declared.operations.Op.{Op}
 use Rattle.rv_isa.specs.declared.operations.Op.TheVariants.{Branch, Load, Store, Imm, Shift, Reg, Ecall}

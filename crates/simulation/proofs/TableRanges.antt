@@ -1,4 +1,4 @@
--- The fields of the operations of `call_indirect` fit their words.
+-- The fields of the operations of `call_indirect` fit their instruction words.
 use Rattle.std.proofs.Common.{ℕ, ◌-◌, ◌*◌, ◌^◌, ◌<◌, List, [], ◌∷◌, ◌++◌, arith}
 use Rattle.rv_isa.specs.declared.operations.Op.{Op}
 use Rattle.rv_isa.specs.declared.operations.Op.TheVariants.{Branch, Load, Shift, Reg, Jalr}

@@ -1,4 +1,4 @@
--- What a source's judging answers, and what the program tells of it.
+-- What validating a source answers, and what the program tells of it.
 use Rattle.std.proofs.Common.{◌≡◌, ℕ, Bool, true, false, List, Option, Some, None, Result, Ok, Err, refl, sym, ap, ◌∙◌, subst}
 use Rattle.std.specs.Prelude.{◌≤◌, IfOk, nat_lt, length}
 use Rattle.std.specs.declared.alloc.AllocError.{AllocError}
@@ -37,7 +37,7 @@ use Rattle.stream_compile.proofs.Calls.{run_done}
 refused_by : (failed b : Bool) (left rest : Option (List ℕ)) (bytes : List ℕ) (r : Refusal) → failed ≡ b → Came left rest b bytes → IsRefused b bytes r → ChecksSource failed left rest (check.Refused r)
 refused_by failed b left rest bytes r e came is = rw e (bytes, came, is)
 
--- with more bytes behind the module there is none that was read
+-- with more bytes after the module there is none that was read
 same_bytes : (read bytes : List ℕ) (s : Compilation) → bytes ≡ read → IsDone read s → IsDone bytes s
 same_bytes read bytes s e d = subst (λ (l : List ℕ). IsDone l s) (sym e) d
 
@@ -55,7 +55,7 @@ source_judged failed left rest before now (Err (stop.Refused r)) s calm (read, t
     refused_by (nat_lt before now) false left rest t.bytes r (sym t.failed_is ∙ calm) (subst (λ (b : Bool). Came left rest b t.bytes) calm t.came) (t.verdict (Rejected r) v)
 source_judged failed left rest before now (Err stop.NoMemory) s calm t = tt
 
--- ---- behind which the source failed
+-- ---- after which the source failed
 
 stopped_by : (failed : Bool) (left rest : Option (List ℕ)) (bytes : List ℕ) (o : Option Refusal) (s : Compilation) → failed ≡ true → Came left rest true bytes → IsStoppedAt bytes o → Judged failed left rest (of_lasting o) s
 stopped_by failed left rest bytes None s e came is = rw e (refl, bytes, came, is)

@@ -138,7 +138,7 @@ module _ (first : Option (List ℕ)) (before : ℕ) where
         of End e h = at_end all first left before now is_read r t h.1 h.0 d
         of Failed e h = at_fault all first left before now is_read r t low h d
 
-    -- the source stands otherwise
+    -- the source is otherwise
     pub stands_so : (left' : Option (List ℕ)) (now' : ℕ) (may_read' : Bool) (x : Came) (d : Chunked) → d ≡ record c { came = x } → left' ≡ left → StandsAt x left' before now' c.count may_read' → IsArriving first before left' now' may_read' s d
     stands_so left' now' may_read' x d is same stands = subst (λ (y : Chunked). IsArriving first before left' now' may_read' s y) (sym is) (record {
       came = a.came;

@@ -1,4 +1,4 @@
--- Codes of bodies, and the words of all of them.
+-- Codes of bodies, and the instruction words of all of them.
 use Rattle.std.proofs.Common.{◌≡◌, ℕ, suc, ◌+◌, List, [], ◌∷◌, ◌++◌, map, length, refl, sym, ap, ◌∙◌, append_assoc, arith, length-append, Option, Some, None}
 use Rattle.std.specs.Prelude.{IfSome, option_map}
 use Rattle.std.proofs.lemmas.List.{append-nil}
@@ -106,7 +106,7 @@ module _ (all first : List Item) (same : SayTheSame all first) (k : ℕ) (b : Bo
 
 -- ---- all codes of a module
 
--- the codes of the parts, which stand behind others in the module, are those of its bodies by all items
+-- the codes of the parts, which follow others in the module, are those of its bodies by all items
 codes_of_parts : (bytes : List ℕ) (front parts : List Part) (k : ℕ) (trees : List Seq) (codes : List Code) → (module_read bytes).parts ≡ front ++ parts
     → AreCodes (items_of front) k parts trees codes → AreCodesOf (items_of (module_read bytes).parts) k (bodies_of parts) trees codes
 codes_of_parts bytes front [] k [] [] e h = tt

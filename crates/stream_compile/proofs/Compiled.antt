@@ -79,7 +79,7 @@ module _ (bytes : List ℕ) (left : Run) (codes : Coding) where
         text_whole = λ r f. j.text_whole r (moved _ (items_of front ++ x ∷ []) _ (length (bodies_of front)) left.parts r items bodies f);
       }
 
--- sections were told
+-- sections were reported
 pub sections_taken : (bytes : List ℕ) (spaces : Spaces) (codes : Coding) (told : List Part) (run : Run) → AreSections told → IsJudging bytes (after_parts told run) spaces codes → IsJudging bytes run spaces codes
 sections_taken bytes spaces codes [] run are j = j
 sections_taken bytes spaces codes (Section at id ∷ told) run are j = sections_taken bytes spaces codes told run are (after_section bytes (after_parts told run) codes spaces at id j)
@@ -88,7 +88,7 @@ sections_taken bytes spaces codes (Coded b ∷ told) run are j = absurd are
 
 -- ---- verdicts
 
--- a fault that comes before that of the text, if there is one
+-- an error that comes before that of the text, if there is one
 lifted : (bytes : List ℕ) (r : Refusal) → IsVerdictBesideText bytes (Rejected r) → ((s : Refusal) → IsTextFault [] 0 0 (module_read bytes).parts s → r.offset ≤ s.offset) → IsVerdictOf bytes (Rejected r)
 lifted bytes r v first = (inl v.0, λ s f. elim f [ inl g ↦ v.1 s g | inr t ↦ first s t ])
 
@@ -96,13 +96,13 @@ no_text_left : (items : List Item) (k words : ℕ) (parts : List Part) (s : Refu
 no_text_left items k words [] s e f = f
 no_text_left items k words (x ∷ parts) s e f = absurd cc
 
--- no part is left, and the module has this fault
+-- no part is left, and the module has this error
 pub is_refused : (bytes : List ℕ) (left : Run) (spaces : Spaces) (codes : Coding) (total : ℕ) (r : Refusal) → IsJudging bytes left spaces codes → total ≡ length bytes → left.parts ≡ [] → ending_fault total left.ending ≡ Some r → IsVerdictOf bytes (Rejected r)
 is_refused bytes left spaces codes total r j len none fault =
     lifted bytes r (judging.is_refused bytes left spaces codes.count total r j.judged len none fault)
     (λ s f. absurd (no_text_left (items_of j.judged.front) (length (bodies_of j.judged.front)) codes.words left.parts s none (j.text_left s f)))
 
--- the start function is at fault
+-- the start function is wrong
 pub start_refused : (bytes : List ℕ) (left : Run) (spaces : Spaces) (codes : Coding) (x : Item) (r : Refusal) → IsJudging bytes (after_part (Listed x) left) spaces codes
     → IsUseFault (context_in spaces) (use_of x) r → IsVerdictOf bytes (Rejected r)
 start_refused bytes left spaces codes x r j f =
@@ -122,7 +122,7 @@ start_refused bytes left spaces codes x r j f =
         let k = text_after (behind_use around.0 (use_of x)) (length bytes) (items_of front ++ x ∷ []) (length (bodies_of front)) codes.words left.parts s around.2 t in
         omega (arith, (use_fault_stands around.0 (length bytes) (context_of (items_of front)) (use_of x) r around.1 here).1)
 
--- a body is at fault
+-- a body is wrong
 pub body_refused : (bytes : List ℕ) (left : Run) (spaces : Spaces) (codes : Coding) (b : Body) (r : Refusal) → IsJudging bytes (after_part (Coded b) left) spaces codes
     → IsCodeFault (body_of_spaces spaces codes.count b) (read_of b).code r → IsVerdictOf bytes (Rejected r)
 body_refused bytes left spaces codes b r j f =

@@ -47,7 +47,7 @@ end_cut seen c (Got y e) le h =
 end_cut seen c (Fault r) le h = refl
 end_cut seen c Wants le h = refl
 
--- behind one body the section goes on
+-- after one body the section goes on
 behind_same : (seen : Seen) (c d : Cursor) → Advance c d → sections_behind seen d.at d.end d.rest ≡ sections_behind seen c.at c.end c.rest
 behind_same seen c d p =
     let room : c.end - c.at ≡ length p.taken + (d.end - d.at) = omega (arith, p.at, p.end, p.fits) in
@@ -67,7 +67,7 @@ one_cut n index seen c (Got (Section at id) d) le is p rest = absurd is
 one_cut n index seen c (Fault r) le is p rest = refl
 one_cut n index seen c Wants le is p rest = refl
 
--- so many bodies, and what is behind their section
+-- so many bodies, and what is after their section
 pub entries_cut : (n index : ℕ) (seen : Seen) → seen.counted ≡ true → (c : Cursor) → c.at ≤ c.end
     → entries n (row 10) sections seen c ≡ given_run (bodies_from index n c) (sections_behind seen c.at c.end c.rest)
 unfolding bodies_from

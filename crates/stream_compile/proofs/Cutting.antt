@@ -1,4 +1,4 @@
--- Bytes of the bodies' section: what is left before and behind a call of the cutter.
+-- Bytes of the bodies' section: what is left before and after a call of the cutter.
 use Rattle.std.proofs.Common.{◌≡◌, ℕ, zero, suc, ◌+◌, ◌-◌, ◌≤◌, ◌<◌, inl, inr, Bool, true, false, not, ◌&&◌, eqb, List, [], ◌∷◌, ◌++◌, length, drop, Option, Some, None, refl, sym, ap, subst, ◌∙◌, arith, append_assoc, length-append}
 use Rattle.std.specs.Prelude.{min, is_some}
 use Rattle.std.proofs.lemmas.Bool.{cases_lt, cases_Bool, eqb-true}
@@ -36,7 +36,7 @@ split_run c more next =
     ∙ ap (λ (e : End). after_parts (coded_all (c.queue.closed ++ (c.queue.begun ++ (still c.place more).bodies))) (behind e next)) (left_ending c more)
     ∙ cut_append c.queue.closed (c.queue.begun ++ (still c.place more).bodies) (behind (still c.place more).ending next)
 
--- and behind them
+-- and after them
 pub behind_closed : (old new : Cutting) (more : List ℕ) (next : Run) → new.place ≡ old.place → new.queue.closed ≡ [] → new.queue.begun ≡ old.queue.begun
     → after_parts (coded_all (old.queue.begun ++ (still old.place more).bodies)) (behind (still old.place more).ending next) ≡ cut_run (left new more) next
 behind_closed old new more next place closed begun =
@@ -134,7 +134,7 @@ whole_run seen c more whole is closed =
 pub whole_at : (c : Cutting) → is_whole c ≡ true → c.place.at ≡ c.place.end
 whole_at c whole = whole_place c.place.stop c.place.count c.place.at c.place.end whole
 
--- ---- the section is at fault
+-- ---- the section is wrong
 
 pub refused_run : (old mid : Cutting) (piece more : List ℕ) (r : Refusal) (next : Run) → IsRefused old piece r mid → cut_run (left old (piece ++ more)) next ≡ after_parts (coded_all mid.queue.closed) (ends (outside.Refused r))
 refused_run old mid piece more r next refused =
@@ -173,7 +173,7 @@ closed_taken old new b (number, bodies, start, is) =
     ∙ ap (λ (l : List Body). l ++ drop n old.queue.closed) (sym bodies)
     ∙ ap (λ (l : List Body). b.bodies ++ l) (sym (ap (λ (k : Cutting). k.queue.closed) is))
 
--- what is behind the closed batches
+-- what is after the closed batches
 abbrev pub rest_run : Seen → Cutting → List ℕ → Run
 rest_run seen c more = after_parts (coded_all (c.queue.begun ++ (still c.place more).bodies)) (behind (still c.place more).ending (sections_behind seen c.place.at c.place.end more))
 

@@ -43,7 +43,7 @@ is_drill n m most is =
     let (made, is_made, drill) = drill_fits n most in
     subst (IsDrill n) (accepted_one made m (verdict_once (drill_bytes n) (Accepted made) (Accepted m) is_made is)) drill
 
--- and have no fault
+-- and have no error
 pub not_refused : (n : ℕ) (r : Refusal) (X : Type 0) → n ≤ 50000 → IsVerdictOf (drill_bytes n) (Rejected r) → X
 not_refused n r X most is =
     let (made, is_made, drill) = drill_fits n most in

@@ -35,7 +35,7 @@ image_drills d bytes rest built call most made said (calm, came, is_came, end, i
     let tells = run_done (Some (declared_count m.items)) m built.image (drill_call d.steps) o is.image_is is.is.same here in
     (m, module_is, is.is.same, tells, sum_told d m o most module_is is.is.same tells)
 
--- the bytes have no fault
+-- the bytes have no error
 pub refused_drills : (d : Drill) (bytes rest : List ℕ) (refusal : Refusal) (o : Outcome) → d.count ≤ 50000 → bytes ≡ drill_bytes d.count → CompilesSource false (Some bytes) (Some rest) (answer.Refused refusal)
     → OfDrill d o
 refused_drills d bytes rest refusal o most made (came, is_came, is) =

@@ -54,7 +54,7 @@ pub unrunnable_runs : (drill : Option ℕ) (i : Image) (call : Call) (name : Lis
 unrunnable_runs drill i call name values checked why o b some is e =
     (ranges_are call name values b, subst (λ (x : Option NotRunnable). ChecksAndCalls drill x i call o) (sym (checks_are i call name values checked b is ∙ some)) e)
 
--- what is told of a run that wasn't stopped, and what is written of one that was
+-- what is reported of a run that wasn't stopped, and what is written of one that was
 module _ (drill : Option ℕ) (i : Image) (call : Call) (name : List ℕ) (values : List Given) (checked : Option NotRunnable) (b : Begun call name values) (none : checked ≡ None) (is : checked ≡ not_runnable i name (map type_of values)) where
   pub runs_as : (e : Export) (line : Outcome) → export_named name i.exports ≡ Some e
       → EndsAs drill call.peek (printing_run i e.offset e.signature.results (map value_of values) call.steps).end line

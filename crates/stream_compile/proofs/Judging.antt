@@ -1,4 +1,4 @@
--- How far the judging of a module came, and what follows from it.
+-- How far the validation of a module came, and what follows from it.
 use Rattle.std.proofs.Common.{◌≡◌, ◌≤◌, ◌<◌, inl, inr, ℕ, suc, ◌+◌, List, [], ◌∷◌, ◌++◌, length, Option, Some, refl, sym, ap, ◌∙◌, subst, append_assoc, arith, length-append}
 use Rattle.std.specs.Prelude.{IsSome}
 use Rattle.std.proofs.lemmas.List.{append-nil}
@@ -22,7 +22,7 @@ use Rattle.index_spaces.proofs.SpaceLaws.{spaces_of-append, functions_of-counts}
 use Rattle.wasm_laws.proofs.PartLists.{items_of-append, bodies_of-append, typed_behind, valid_both, fault_behind, fault_of_rest, functions_are_few, bodies_are_few}
 use Rattle.wasm_laws.proofs.PartOrder.{use_fault_stands, use_once, fault_after}
 
--- ---- how far judging came
+-- ---- how far validation came
 
 pub begins : (bytes : List ℕ) (left : Run) (spaces : Spaces) → left ≡ module_read bytes → spaces ≡ spaces_of [] → IsJudged bytes left spaces 0
 begins bytes left spaces is none = rw (is, none) (record { front = []; parts = refl; ending = refl; spaces_are = refl; count = refl; trees = []; valid = tt })
@@ -78,13 +78,13 @@ nothing_left items k (x ∷ parts) s e f = absurd cc
 pub zero_more : (n : ℕ) → 0 + n ≡ n
 zero_more n = omega arith
 
--- a fault of a body stands in what is left
+-- an error of a body is in what is left
 pub inside_rest : (bytes : List ℕ) (left : Run) (spaces : Spaces) (bodies : ℕ) (r : Refusal) (j : IsJudged bytes left spaces bodies) → IsFaultInside [] 0 (module_read bytes).parts r → IsFaultInside (items_of j.front) (length (bodies_of j.front)) left.parts r
 inside_rest bytes left spaces bodies r j f =
     let g = fault_behind [] 0 j.front left.parts j.trees r j.valid (rw j.parts at f) in
     rw zero_more at g
 
--- the module that the bytes are, or their fault of least offset, the limit on the text aside
+-- the module that the bytes are, or their error of least offset, the limit on the text aside
 abbrev pub IsVerdictBesideText : List ℕ → Verdict → Type 0
 IsVerdictBesideText bytes (Accepted m) = IsModule bytes m
 IsVerdictBesideText bytes (Rejected r) = IsFault bytes r × ((s : Refusal) → IsFault bytes s → r.offset ≤ s.offset)
@@ -104,11 +104,11 @@ is_module bytes left spaces bodies seen functions j whole counted =
       counted ∙ ap (λ (s : Spaces). s.declared) j.spaces_are ∙ ap (λ (l : List Part). declared_count (items_of l)) (sym all),
     )
 
--- a fault outside bodies is the only one
+-- an error outside bodies is the only one
 only_outside : (x : Option Refusal) (r s : Refusal) → x ≡ Some r → x ≡ Some s → r.offset ≤ s.offset
 only_outside x r s e f = let same = ap (λ (t : Refusal). t.offset) (some_once x r s e f) in omega (arith, same)
 
--- no part is left, and the module has this fault
+-- no part is left, and the module has this error
 pub is_refused : (bytes : List ℕ) (left : Run) (spaces : Spaces) (bodies total : ℕ) (r : Refusal) → IsJudged bytes left spaces bodies → total ≡ length bytes → left.parts ≡ [] → ending_fault total left.ending ≡ Some r → IsVerdictBesideText bytes (Rejected r)
 is_refused bytes left spaces bodies total r j len none fault =
     let outside : IsOutsideFault bytes r = ap (ending_fault (length bytes)) j.ending ∙ ap (λ (n : ℕ). ending_fault n left.ending) (sym len) ∙ fault in (
@@ -119,7 +119,7 @@ is_refused bytes left spaces bodies total r j len none fault =
       ],
     )
 
--- ---- a body is at fault
+-- ---- a body is wrong
 
 pub body_refused : (bytes : List ℕ) (left : Run) (spaces : Spaces) (bodies : ℕ) (b : Body) (r : Refusal) → IsJudged bytes (after_part (Coded b) left) spaces bodies → IsCodeFault (body_of_spaces spaces bodies b) (read_of b).code r → IsVerdictBesideText bytes (Rejected r)
 body_refused bytes left spaces bodies b r j f = (inr inside, λ s g. no_less s g)
@@ -153,7 +153,7 @@ body_refused bytes left spaces bodies b r j f = (inr inside, λ s g. no_less s g
     no_less s (inl g) = of_outside s g
     no_less s (inr g) = of_inside s (inside_rest bytes (after_part (Coded b) left) spaces bodies s j g)
 
--- ---- the start function is at fault
+-- ---- the start function is wrong
 
 pub start_refused : (bytes : List ℕ) (left : Run) (spaces : Spaces) (bodies : ℕ) (x : Item) (r : Refusal) → IsJudged bytes (after_part (Listed x) left) spaces bodies → IsUseFault (context_in spaces) (use_of x) r → IsVerdictBesideText bytes (Rejected r)
 start_refused bytes left spaces bodies x r j f = (inr inside, λ s g. no_less s g)
@@ -184,7 +184,7 @@ start_refused bytes left spaces bodies x r j f = (inr inside, λ s g. no_less s 
     no_less s (inl g) = of_outside s g
     no_less s (inr g) = of_inside s (inside_rest bytes (after_part (Listed x) left) spaces bodies s j g)
 
--- ---- a body can be judged
+-- ---- a body can be validated
 
 counts_fit : (front : List Part) → import_count (items_of front) ≤ length front
 counts_fit front = let e = functions_of-counts (items_of front) in omega (arith, functions_are_few front)

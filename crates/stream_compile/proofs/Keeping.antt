@@ -1,4 +1,4 @@
--- Bodies that are kept: what is left while none of them is judged.
+-- Bodies that are kept: what is left while none of them is validated.
 use Rattle.std.proofs.Common.{◌≡◌, ◌≤◌, ◌<◌, ◌+◌, ◌-◌, ◌^◌, ℕ, Bool, true, List, [], ◌∷◌, ◌++◌, length, drop, Option, Some, None, Result, Ok, Err, refl, sym, ap, subst, ◌∙◌, arith, append_assoc}
 use Rattle.std.proofs.lemmas.List.{append-nil}
 use Rattle.wasm_defs.specs.declared.fault.Refusal.{Refusal}
@@ -30,7 +30,7 @@ use Rattle.stream_compile.proofs.Cutting.{run_fed, count_fed, refused_run, rest_
 use Rattle.stream_compile.proofs.Streaming.{IsCutting, reading_of, going_reading, cutting_of, going_cutting, taken_out, refused_at}
 use Rattle.stream_compile.proofs.Taking.{judging_on}
 
--- ---- what is left behind bodies that were kept
+-- ---- what is left after bodies that were kept
 
 kept_run : (seen : Seen) (kept : List Body) (c : Cutting) (more : List ℕ) → cut_run (left (with_kept kept c) more) (sections_behind seen c.place.at c.place.end more) ≡ after_parts (coded_all kept) (cut_run (left c more) (sections_behind seen c.place.at c.place.end more))
 kept_run seen kept c more =
@@ -81,7 +81,7 @@ module _ (bytes : List ℕ) (f : Front) (kept : List Body) (spaces : Spaces) (co
     kept_judging = judging_on bytes (cut_run (left (with_kept kept old) more) (sections_behind f.steps.seen old.place.at old.place.end more))
         (after_parts (coded_all kept) (cut_run (left old more) (sections_behind f.steps.seen old.place.at old.place.end more))) spaces codes (kept_run f.steps.seen kept old more) k.judging
 
-    -- and they were judged
+    -- and they were validated
     pub kept_judged : (later : Coding) → IsJudging bytes (cut_run (left old more) (sections_behind f.steps.seen old.place.at old.place.end more)) spaces later → IsCutting bytes f old spaces later more
     kept_judged later j = record { few = k.few; judging = j; skips = k.skips; count = k.count }
 
@@ -115,7 +115,7 @@ module _ (first : Option (List ℕ)) (before : ℕ) (left_now : Option (List ℕ
         (kept_refused bytes s.front (kept_bodies i.kept.items) s.spaces s.codes i.cutter mid i.chunk.pending more (cutting_of bytes (keeping s i) (i.chunk.pending ++ more) (with_kept (kept_bodies i.kept.items) i.cutter) refl (a.going more few)) r refused);
   }
 
--- ---- the bodies were read beside workers
+-- ---- the bodies were read in parallel with workers
 
 module _ (first : Option (List ℕ)) (before : ℕ) (left_now : Option (List ℕ)) (now : ℕ) (may_read : Bool) where
   -- no body comes next
@@ -181,7 +181,7 @@ module _ (first : Option (List ℕ)) (before : ℕ) (left_now : Option (List ℕ
       pub faulty_stops : (e : FrontStop) → ((more : List ℕ) → length (all_came ++ more) ≤ 67108869 → GoesOn (all_came ++ more) (Err e) t more) → before < 2 ^ 64 - 1 → Settled (has_failed i.chunk.came) (Err e) t first left_now before now
       faulty_stops e goes low = subst (λ (b : Bool). Settled b (Err e) t first left_now before now) failed_same (stops_there first before left_now now may_read f.was f.chunk f.arrived e t goes low)
 
-      -- a body is at fault
+      -- a body is wrong
       pub faulty_judged : (e : FrontStop) → ((bytes : List ℕ) (run : Run) → length bytes ≤ 67108869 → IsJudging bytes (after_parts (coded_all (kept_bodies i.kept.items)) run) s.spaces s.codes → TakesPart bytes (Err e) run t.spaces t.codes)
           → before < 2 ^ 64 - 1 → Settled (has_failed i.chunk.came) (Err e) t first left_now before now
       faulty_judged e takes low = faulty_stops e (λ more few. part_goes (all_came ++ more) (ends (Refused r)) e t more (takes (all_came ++ more) (ends (Refused r)) few (f.judging more few))) low

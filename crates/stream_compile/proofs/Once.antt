@@ -21,7 +21,7 @@ use Rattle.image_linker.specs.Judging.{sizes, text_bytes, IsTextFault, IsFaultOf
 use Rattle.wasm_laws.proofs.PartOrder.{use_fault_stands, use_once, fault_after}
 use Rattle.stream_compile.proofs.TextFaults.{text_not_outside, text_not_inside, text_once, tree_once}
 
--- ---- faults of bodies
+-- ---- errors of bodies
 
 inside_once : (low last : ℕ) (items : List Item) (k : ℕ) (parts : List Part) (r s : Refusal) → AreOrdered low last parts → IsFaultInside items k parts r → IsFaultInside items k parts s → r.offset ≡ s.offset → r ≡ s
 inside_once low last items k [] r s o f g e = absurd f
@@ -49,7 +49,7 @@ inside_once low last items k (Coded b ∷ parts) r s o (inr f) (inl g) e =
     absurd (omega (arith, here.1))
 inside_once low last items k (Coded b ∷ parts) r s o (inr f) (inr g) e = inside_once (end_of b) last items (suc k) parts r s o.1 f g e
 
--- all stand before the ending's fault
+-- all are before the ending's error
 pub before_last : (low last : ℕ) (items : List Item) (k : ℕ) (parts : List Part) (r : Refusal) → AreOrdered low last parts → IsFaultInside items k parts r → r.offset < last
 before_last low last items k [] r o f = absurd f
 before_last low last items k (Section at id ∷ parts) r o f = before_last (suc at) last items k parts r o.2 f
@@ -66,7 +66,7 @@ before_last low last items k (Coded b ∷ parts) r o (inr f) = before_last (end_
 not_both : (bytes : List ℕ) (r s : Refusal) → IsOutsideFault bytes r → IsFaultInside [] 0 (module_read bytes).parts s → r.offset ≡ s.offset → ⊥
 not_both bytes r s f g e = let k = before_last first_section r.offset [] 0 (module_read bytes).parts s (parts_before_fault bytes r f).0 g in omega arith
 
--- ---- no two faults share an offset
+-- ---- no two errors share an offset
 
 pub fault_once : (bytes : List ℕ) (r s : Refusal) → IsFault bytes r → IsFault bytes s → r.offset ≡ s.offset → r ≡ s
 fault_once bytes r s (inl f) (inl g) e = some_once _ r s f g
@@ -107,7 +107,7 @@ no_fault bytes m r p f = module_has_no_fault bytes m.trees r p.whole p.valid f
 
 -- ---- a module's text keeps its limit
 
--- behind these parts of the module no body passes it
+-- after these parts of the module no body passes it
 text_fits : (bytes : List ℕ) (front parts : List Part) (k words : ℕ) (trees : List Seq) (r : Refusal) → (module_read bytes).parts ≡ front ++ parts
     → AreValid (items_of front) k parts trees → text_bytes (items_of (module_read bytes).parts) (words + sizes (items_of (module_read bytes).parts) k (bodies_of parts) trees) ≤ max_text
     → IsTextFault (items_of front) k words parts r → ⊥

@@ -46,7 +46,7 @@ line_ends drill peek ran.StepsSpent memory results end going h = subst (λ (e : 
 line_ends drill peek ran.HostStopped memory results end going h = absurd (going refl)
 line_ends drill peek (ran.Fault kind pc) memory results end going h = subst (λ (e : Ending). EndsAs drill peek e (lines_of drill peek (ran.Fault kind pc) memory results)) (sym h) refl
 
--- a front of a text is one of what begins with it
+-- a prefix of a text is one of what begins with it
 front_of_more : (n : ℕ) (text more : List ℕ) → (k : ℕ) × (take n text ≡ take k (text ++ more))
 front_of_more n text more =
     elim (cases_Bool (nat_lt n (length text))) [
@@ -72,7 +72,7 @@ module _ (drill : Option ℕ) (i : Image) (call : Call) (name : List ℕ) (value
         (seven, k.0, same ∙ front ∙ ap (append_known old) k.1),
       )
 
-  -- the line was written, or a front of it
+  -- the line was written, or a prefix of it
   line_told : (e : Export) (outcome : Ran) (memory : List ℕ) (results : List Value) (failed : Bool) → export_named name i.exports ≡ Some e → outcome ≢ ran.HostStopped
       → IsEnd outcome memory results (printing_run i e.offset e.signature.results (map value_of values) call.steps).end
       → between ≡ append_known old (printed i.imports (printing_run i e.offset e.signature.results (map value_of values) call.steps).calls) → Told status (lines_of drill call.peek outcome memory results) failed between new → Written failed
@@ -111,7 +111,7 @@ module _ (drill : Option ℕ) (i : Image) (call : Call) (name : List ℕ) (value
       → Written (nat_lt before now)
   run_told outcome memory results (e, found, p) calm stopped told = by_sink e outcome memory results (nat_lt before middle) refl found p calm stopped told
 
--- where the run wasn't stopped, the sink's count stands
+-- where the run wasn't stopped, the sink's count stays
 pub calm_count : (imports : List Import) (run : ImageRun) (outcome : Ran) (memory : List ℕ) (results : List Value) (old new : Option (List ℕ)) (before now : ℕ) → PrintsRun (nat_lt before now) imports run outcome memory results old new
     → outcome ≢ ran.HostStopped → nat_lt before now ≡ false
 calm_count imports run outcome memory results old new before now = by_count (nat_lt before now)

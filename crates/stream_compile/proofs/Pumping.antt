@@ -16,7 +16,7 @@ pub came_more : (came piece : List ℕ) (old new : Option (List ℕ)) → old �
 came_more came piece old None e = ap (prepend_known came) e
 came_more came piece old (Some l) e = ap (prepend_known came) e ∙ ap (λ (x : List ℕ). Some x) (sym (append_assoc came piece l))
 
--- the bytes of a piece, which stand at the start of the buffer
+-- the bytes of a piece, which are at the start of the buffer
 pub piece_is : (n : ℕ) (xs ys : List ℕ) → n ≤ length xs → take n (xs ++ ys) ≡ take n xs
 piece_is n xs ys h = take-append-le n xs ys h
 

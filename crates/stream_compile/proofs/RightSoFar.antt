@@ -23,7 +23,7 @@ use Rattle.stream_compile.specs.Progress.{IsJudged}
 use Rattle.stream_compile.specs.RightSoFar.{IsRightSoFar}
 use Rattle.stream_compile.specs.Streaming.{left_of, IsGoing, IsPlaced}
 
--- ---- parts one behind the other
+-- ---- parts one after the other
 
 parts_after : (told : List Part) (run : Run) → (after_parts told run).parts ≡ told ++ run.parts
 parts_after [] run = refl

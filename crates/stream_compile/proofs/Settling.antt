@@ -23,7 +23,7 @@ none_left (Some l) end = sym end
 at_end : (read : List ℕ) (old new : Option (List ℕ)) → IsRead old new read → IsAtEnd new → Came old new false read
 at_end read old new is end = (read, [], is, none_left new end, sym (append-nil read))
 
--- a fault of a module with this run, of so many bytes, and that of least offset
+-- an error of a module with this run, of so many bytes, and that of least offset
 abbrev IsFaultIn : ℕ → Run → Refusal → Type 0
 IsFaultIn n run r = ((ending_fault n run.ending ≡ Some r) ⊎ IsFaultInside [] 0 run.parts r) ⊎ IsTextFault [] 0 0 run.parts r
 
@@ -45,7 +45,7 @@ no_module read le m v =
     let none = v.is.whole in
     absurd (let t : Some h.0 ≡ None = sym k ∙ none in cc)
 
--- and more bytes behind them change nothing
+-- and more bytes after them change nothing
 verdict_stays : (read more : List ℕ) → 67108869 ≤ length read → (v : Verdict) → IsVerdictOf read v → IsVerdictOf (read ++ more) v
 verdict_stays read more le (Accepted m) v = absurd (no_module read le m v)
 verdict_stays read more le (Rejected r) v =
@@ -88,7 +88,8 @@ settled_full read old new before now is le same =
       ended = λ f m p. absurd (no_module read le m p);
     }
 
--- the bytes that came have a fault, whatever follows, as far as bytes are read: reading goes no further
+-- the bytes that came have an error, whatever follows, as far as bytes are read: reading goes no
+-- further
 pub settled_early : (came : List ℕ) (r : Refusal) (old new : Option (List ℕ)) (before now : ℕ) → IsRead old new came → now ≡ before
     → ((more : List ℕ) → length (came ++ more) ≤ 67108869 → IsVerdictOf (came ++ more) (Rejected r)) → (read : List ℕ) × Settles read false old new before now × IsVerdictOf read (Rejected r)
 settled_early came r old None before now is same v =

@@ -87,7 +87,7 @@ words_counted codes new code words none is e = e ∙ (λ i. record { count = cod
     none_with : (x : Coding) (k : Code) → x.kept ≡ None → record { count = x.count + 1; words = x.words + length k.words; kept = None } ≡ with_code x k
     none_with x k f = rw f refl
 
--- ---- batches one behind the other
+-- ---- batches one after the other
 
 pub kept_next : (kept rest : List (Arc Batch Global)) (b : Arc Batch Global) → kept ≡ b ∷ rest → kept_bodies kept ≡ (arc_value b).bodies ++ kept_bodies rest
 kept_next kept rest b e = ap kept_bodies e

@@ -21,7 +21,7 @@ hex_more bytes i inside =
 hex_apart : (bytes : List ℕ) (i : ℕ) → hex_of bytes ≡ hex_of (take i bytes) ++ hex_of (drop i bytes)
 hex_apart bytes i = ap (flat_map hex_pair) (sym (take-append-drop i bytes)) ∙ flat_map-append hex_pair (take i bytes) (drop i bytes)
 
--- behind the digits of the first bytes, those of one more
+-- after the digits of the first bytes, those of one more
 pub hex_step : (r : Bool) (bytes pair : List ℕ) (i : ℕ) (old between new : Option (List ℕ)) (before middle now : ℕ) → i < length bytes → pair ≡ hex_pair (get_or bytes i 0)
     → WritesText true (hex_of (take i bytes)) old between before middle → WritesText r pair between new middle now → WritesText r (hex_of (take (i + 1) bytes)) old new before now
 hex_step r bytes pair i old between new before middle now inside is first second =

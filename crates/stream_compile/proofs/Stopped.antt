@@ -1,4 +1,4 @@
--- What decides after a source's fault stays, whatever else would have come.
+-- What decides after a source's error stays, whatever else would have come.
 use Rattle.std.proofs.Common.{◌≡◌, ◌≢◌, ◌≤◌, ◌<◌, ◌⊎◌, inl, inr, Bool, true, false, ℕ, suc, ◌+◌, List, [], ◌∷◌, ◌++◌, length, Option, Some, None, refl, sym, ap, ◌∙◌, subst, arith, length-append}
 use Rattle.wasm_defs.specs.declared.fault.Kind.{Kind}
 use Rattle.wasm_defs.specs.declared.fault.Kind.TheVariants.{Malformed, Unsupported, Limit, Invalid, Ended}
@@ -80,7 +80,7 @@ ended_is_owed bytes r (inl (inl e)) k = ending_kind (length bytes) (module_read 
 ended_is_owed bytes r (inl (inr f)) k = absurd (not_ended r.kind (inside_kind [] 0 (module_read bytes).parts r f) k)
 ended_is_owed bytes r (inr f) k = absurd (not_ended r.kind (text_kind [] 0 0 (module_read bytes).parts r f) k)
 
--- ---- parts in front, and parts behind them
+-- ---- parts in front, and parts after them
 
 front_ordered : (low last : ℕ) (front back : List Part) → AreOrdered low last (front ++ back) → AreOrdered low last front
 front_ordered low last [] back o = tt
@@ -100,7 +100,7 @@ split low last (Coded b ∷ front) back o =
     let stands = o.0 in
     (q.0, omega (arith, stands.from, stands.sized, q.1), (record { from = stands.from; sized = stands.sized; least = stands.least; most = stands.most; before = q.1 }, q.2), q.3)
 
--- ---- faults of the parts in front stay
+-- ---- errors of the parts in front stay
 
 inside_stays : (items : List Item) (k : ℕ) (front back : List Part) (r : Refusal) → IsFaultInside items k front r → IsFaultInside items k (front ++ back) r
 inside_stays items k [] back r f = absurd f
@@ -117,7 +117,7 @@ text_stays items k words (Listed x ∷ front) back r f = text_stays (items ++ x 
 text_stays items k words (Coded b ∷ front) back r (tree, v, inl f) = (tree, v, inl f)
 text_stays items k words (Coded b ∷ front) back r (tree, v, inr f) = (tree, v, inr (f.0, text_stays items (suc k) (words + size_of items k b tree) front back r f.1))
 
--- ---- a fault is one of the parts in front, or of those behind
+-- ---- an error is one of the parts in front, or of those after
 
 inside_splits : (items : List Item) (k : ℕ) (front back : List Part) (r : Refusal) → IsFaultInside items k (front ++ back) r → IsFaultInside items k front r ⊎ ((xs : List Item) × (n : ℕ) × IsFaultInside xs n back r)
 inside_splits items k [] back r f = inr (items, k, f)
@@ -137,7 +137,7 @@ text_splits items k words (Coded b ∷ front) back r (tree, v, inr f) =
 
 -- ---- runs
 
--- a fault of a module with this run, of so many bytes
+-- an error of a module with this run, of so many bytes
 abbrev IsFaultIn : ℕ → Run → Refusal → Type 0
 IsFaultIn n run r = ((ending_fault n run.ending ≡ Some r) ⊎ IsFaultInside [] 0 run.parts r) ⊎ IsTextFault [] 0 0 run.parts r
 
@@ -165,7 +165,7 @@ module _ (n m : ℕ) (parts : List Part) (ending : Ending) (later : Run) (tail :
   open_stays r (inl (inr f)) other = inl (inr (subst (λ (l : List Part). IsFaultInside [] 0 l r) (sym grown) (inside_stays [] 0 parts tail r f)))
   open_stays r (inr f) other = inr (subst (λ (l : List Part). IsTextFault [] 0 0 l r) (sym grown) (text_stays [] 0 0 parts tail r f))
 
-  -- the faults that were there stand before that place, if the parts do
+  -- the errors that were there are before that place, if the parts are
   front_before : (last : ℕ) (r : Refusal) → AreOrdered first_section last parts → IsFaultIn n (run_of parts ending) r → r.kind ≢ Ended → r.offset ≤ last
   front_before last r o (inl (inl e)) other = absurd (never n ending r open_is other e)
   front_before last r o (inl (inr f)) other = let h = before_last first_section last [] 0 parts r o f in omega arith
@@ -197,7 +197,7 @@ stays n m parts (Whole seen) later r le goes f other = open_stays n m parts (Who
 stays n m parts (Refused s) later r le goes f other = subst (λ (x : Run). IsFaultIn m x r) (sym goes) f
 stays n m parts Owed later r le goes f other = open_stays n m parts Owed later goes.0 le goes.1 (owed_open n) r f other
 
--- a fault that comes later is none before those that are there
+-- an error that comes later is none before those that are there
 comes : (n m : ℕ) (parts : List Part) (ending : Ending) (later : Run) (s : Refusal) → n ≤ m → Becomes parts ending later → AreOrdered first_section m later.parts
     → ((t : Refusal) → ending_fault m later.ending ≡ Some t → AreOrdered first_section t.offset later.parts) → IsFaultIn m later s → IsFaultIn n (run_of parts ending) s ⊎ ((r : Refusal) → IsFaultIn n (run_of parts ending) r → r.kind ≢ Ended → r.offset ≤ s.offset)
 comes n m parts (Whole seen) later s le goes all before f = open_later n m parts (Whole seen) later goes.0 le goes.1 (whole_open n seen) s all before f
@@ -244,7 +244,7 @@ stopped_once bytes (Some r) (Some s) p q =
     let same : r.offset ≡ s.offset = omega (arith, p.2 s q.0 q.1, q.2 r p.0 p.1) in
     ap (λ (x : Refusal). Some x) (fault_of_once bytes r s p.0 q.0 same)
 
--- the fault of least offset, by its kind
+-- the error of least offset, by its kind
 told_of : (bytes : List ℕ) (r : Refusal) (k : Kind) → r.kind ≡ k → IsVerdictOf bytes (Rejected r) → IsStoppedAt bytes (lasting k r)
 told_of bytes r Malformed e p = (p.0, (λ h. not_ended Malformed (omega arith) (sym e ∙ h)), λ s f other. p.1 s f)
 told_of bytes r Unsupported e p = (p.0, (λ h. not_ended Unsupported (omega arith) (sym e ∙ h)), λ s f other. p.1 s f)

@@ -126,7 +126,7 @@ reading_on bytes f g h spaces codes piece more taken few fed same steps count no
   };
 }
 
--- ---- faults outside bodies
+-- ---- errors outside bodies
 
 -- no part is left, and the module is refused so
 pub refused_at : (bytes : List ℕ) (spaces : Spaces) (codes : Coding) (ending : Ending) (r : Refusal) → ending_fault (length bytes) ending ≡ Some r → IsJudging bytes (ends ending) spaces codes → IsVerdictOf bytes (Rejected r)
@@ -165,7 +165,7 @@ module _ (bytes : List ℕ) (f : Front) (spaces : Spaces) (codes : Coding) (faul
 -- ---- items
 
 module _ (bytes : List ℕ) (s : Compilation) (x : Item) (more : List ℕ) (t : IsTaking bytes s x more) where
-  -- the start function is at fault
+  -- the start function is wrong
   pub item_refused : (r : Refusal) → IsUseFault (context_in s.spaces) (use_of x) r → IsVerdictOf bytes (Rejected r)
   item_refused r f = start_refused bytes (onward_left s.front more) s.spaces s.codes x r t.judging f
 
@@ -204,7 +204,7 @@ bodies_cut f c index count end least come is at ends rest =
     ∙ ap (λ (n : ℕ). cut_run (left c rest) (sections_behind f.steps.seen n end rest)) (sym at)
     ∙ ap (λ (n : ℕ). cut_run (left c rest) (sections_behind f.steps.seen c.place.at n rest)) (sym ends)
 
--- behind an item other than the code section's count the bodies don't come
+-- after an item other than the code section's count the bodies don't come
 pub not_bodies : (x : Item) (f : Front) → ((count : ℕ × ℕ) (end : ℕ) → x ≡ item.Code count end → ⊥) → Follows x f → is_at_bodies f.steps.stage ≡ false
 not_bodies (item.Code count end) f none h = absurd (none count end refl)
 not_bodies (item.Signature form params results ty) f none h = h
@@ -279,7 +279,7 @@ module _ (bytes : List ℕ) (f : Front) (old mid : Cutting) (spaces : Spaces) (c
       judging_on bytes (cut_run (left old (piece ++ more)) (sections_behind f.steps.seen old.place.at old.place.end (piece ++ more))) (after_parts (coded_all mid.queue.closed) (rest_run f.steps.seen mid (drop taken piece ++ more))) spaces codes
       (run_fed old mid piece taken fed f.steps.seen more ∙ split_rest f.steps.seen mid (drop taken piece ++ more)) k.judging
 
-  -- and then the section's fault
+  -- and then the section's error
   pub refused_judging : (r : Refusal) → IsRefused old piece r mid → IsJudging bytes (after_parts (coded_all mid.queue.closed) (ends (Refused r))) spaces codes
   refused_judging r refused =
       judging_on bytes (cut_run (left old (piece ++ more)) (sections_behind f.steps.seen old.place.at old.place.end (piece ++ more))) (after_parts (coded_all mid.queue.closed) (ends (Refused r))) spaces codes
@@ -348,7 +348,7 @@ module _ (bytes : List ℕ) (f : Front) (old mid new : Cutting) (spaces : Spaces
   pub less_cut : length (cut_run (left new (drop taken piece)) (sections_behind f.steps.seen new.place.at new.place.end (drop taken piece))).parts ≤ length (cut_run (left old piece) (sections_behind f.steps.seen old.place.at old.place.end piece)).parts
   less_cut = omega (arith, cut_parts, ap (λ (r : Run). length r.parts) (judged_run (drop taken piece)))
 
--- ---- faults
+-- ---- errors
 
 pub fault_advances : (bytes piece : List ℕ) (s : FrontStop) (run : Run) (spaces : Spaces) (codes : Coding) (state : Compilation) (more : List ℕ) → TakesPart bytes (Err s) run spaces codes → Advances bytes piece (Err s) state more
 fault_advances bytes piece (stop.Refused r) run spaces codes state more h = h

@@ -50,7 +50,7 @@ moved_body spaces context bodies imported first read r same count h =
     let g = subst (λ (x : Spaces). Compiles (first_minimum x.tables) first (context_in x) (imported + bodies) read r) same h in
     subst (λ (n : ℕ). Compiles (first_minimum spaces.tables) first (context_in spaces) (n + bodies) read r) k g
 
--- the code is that of the body behind these items and so many bodies
+-- the code is that of the body after these items and so many bodies
 code_of_body : (items : List Item) (k : ℕ) (b : Body) (tree : Seq) (code : Code)
     → ((w : Around) → w.layout ≡ (around items k b tree no_distance).layout → IsUnlinked (rows_of items) (context_of items).types w → IsFunctionCode w (origin_of items k b) (context_at items k b) tree code) → IsCodeOf items k b tree code
 code_of_body items k b tree code is =
@@ -134,7 +134,7 @@ stop_taken spaces codes new b (body.Refused r) h = inl h
 stop_taken spaces codes new b body.TooLong h = long_taken spaces codes new b h.0 h.2 h.1
 stop_taken spaces codes new b body.NoMemory h = tt
 
--- a fault is one of the module, whatever was left
+-- an error is one of the module, whatever was left
 pub fault_taken : (bytes : List ℕ) (s : FrontStop) (run next : Run) (spaces later : Spaces) (codes new : Coding) → TakesPart bytes (Err s) run spaces codes → TakesPart bytes (Err s) next later new
 fault_taken bytes (Refused r) run next spaces later codes new h = h
 fault_taken bytes NoMemory run next spaces later codes new h = tt

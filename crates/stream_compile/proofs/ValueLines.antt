@@ -22,7 +22,7 @@ lines_more values i v is =
 lines_apart : (values : List Value) (i : ℕ) → lines values ≡ lines (take i values) ++ lines (drop i values)
 lines_apart values i = ap lines (sym (take-append-drop i values)) ∙ flat_map-append value_line (take i values) (drop i values)
 
--- behind the lines of the first values, that of one more
+-- after the lines of the first values, that of one more
 pub lines_step : (r : Bool) (values : List Value) (i : ℕ) (v : Value) (old between new : Option (List ℕ)) (before middle now : ℕ) → slice_get values i ≡ Some v
     → WritesText true (lines (take i values)) old between before middle → WritesText r (value_line v) between new middle now → WritesText r (lines (take (i + 1) values)) old new before now
 lines_step r values i v old between new before middle now is first second =

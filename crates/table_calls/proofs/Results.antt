@@ -1,4 +1,4 @@
--- The words of results, the last one apart.
+-- The instruction words of results, the last one apart.
 use Rattle.std.proofs.Common.{◌≡◌, ℕ, zero, suc, ◌+◌, List, [], ◌∷◌, ◌++◌, map, take, length, refl, sym, ap, subst, ◌∙◌, append_assoc, arith}
 use Rattle.std.proofs.lemmas.List.{map-append}
 use Rattle.rv_isa.specs.declared.operations.Op.{Op}

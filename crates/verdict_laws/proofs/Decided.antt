@@ -29,7 +29,7 @@ use Rattle.body_laws.proofs.SpelledModules.{module_is_spelled, spelled_is_module
 use Rattle.verdict_laws.proofs.Leasts.{HasLeast, least_only, none_of, least_either}
 use Rattle.verdict_laws.proofs.Judged.{IsJudged, body_judged}
 
--- ---- faults of bodies
+-- ---- errors of bodies
 
 code_least : (c : Context) (b : Body) → IsJudged c (read_of b).code → HasLeast (IsCodeFault c (read_of b).code)
 code_least c b (inl v) = inr (λ s f. valid_has_no_fault c (read_of b).code v.0 s v.1 f)
@@ -74,7 +74,7 @@ trees_of items k (Coded b ∷ parts) none =
       | inr p ↦ absurd (none p.0 (inl p.1))
     ]
 
--- ---- the fault of the text
+-- ---- the error of the text
 
 -- one at most: so it is the least
 text_only : (items : List Item) (k words : ℕ) (parts : List Part) (r : Refusal) → IsTextFault items k words parts r → HasLeast (IsTextFault items k words parts)
@@ -105,7 +105,7 @@ text_least items k words (Coded b ∷ parts) =
       ]
     ]
 
--- behind these parts of the module it keeps its limit
+-- after these parts of the module it keeps its limit
 text_keeps : (bytes : List ℕ) (front parts : List Part) (k words : ℕ) (trees : List Seq) → (module_read bytes).parts ≡ front ++ parts → AreValid (items_of front) k parts trees
     → ((s : Refusal) → IsTextFault (items_of front) k words parts s → ⊥) → text_bytes (items_of (module_read bytes).parts) words ≤ max_text
     → text_bytes (items_of (module_read bytes).parts) (words + sizes (items_of (module_read bytes).parts) k (bodies_of parts) trees) ≤ max_text
@@ -161,7 +161,7 @@ has_verdict bytes = of (fault_least bytes)
     of (inl p) = (Rejected p.0, (p.1, p.2))
     of (inr none) = let m = module_of bytes none in (Accepted m.0, m.1)
 
--- ---- the module is spelled
+-- ---- the module is encoded
 
 pub no_fault_is_spelled : (bytes : List ℕ) → AreBytes bytes → ((r : Refusal) → IsFaultOf bytes r → ⊥) → (m : Module) × (sections : List Spelled) × IsSpelledModule bytes m sections × (text_bytes m.items (sizes m.items 0 m.bodies m.trees) ≤ max_text)
 no_fault_is_spelled bytes fits none =

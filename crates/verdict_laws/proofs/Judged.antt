@@ -1,4 +1,4 @@
--- The code of each body is valid, or has a fault.
+-- The code of each body is valid, or has an error.
 use Rattle.std.proofs.Common.{◌≡◌, ◌⊎◌, inl, inr, ℕ, zero, suc, List, [], ◌∷◌, ◌++◌, length, Option, None, Some, refl, sym, ap, ◌∙◌, subst, append_assoc, arith}
 use Rattle.std.proofs.lemmas.List.{append-nil}
 use Rattle.wasm_defs.specs.declared.fault.Kind.{Kind}
@@ -20,7 +20,7 @@ use Rattle.body_validator.proofs.Exact.{run-nests, checker_exact, bodies_accepte
 use Rattle.body_laws.specs.Reading.{Closes}
 use Rattle.body_laws.proofs.SpeltCodes.{body_closes}
 
--- ---- the tokens are taken, or one of them is at fault
+-- ---- the tokens are taken, or one of them is wrong
 
 stepped_to : (c : Context) (tokens : List Token) (t : Token) (fs : Frames) (o : Option Frames) → Answers c tokens t fs o → ((after : Frames) × Reaches c (tokens ++ t ∷ []) after) ⊎ ((kind : Kind) × IsFaulty c (tokens ++ t ∷ []) kind)
 stepped_to c tokens t fs None h = inr (fault_kind t fs, h)
@@ -58,7 +58,7 @@ none_open : (fs : Frames) → openings fs ≡ [] → fs ≡ []
 none_open [] e = refl
 none_open (f ∷ fs) e = absurd cc
 
--- ---- the code is judged
+-- ---- the code is validated
 
 abbrev pub IsJudged : Context → Spelled → Type 0
 IsJudged c code = ((tree : Seq) × IsValidCode c code tree) ⊎ ((r : Refusal) × IsCodeFault c code r)

@@ -1,4 +1,4 @@
--- The fault of least offset among some, where there are any.
+-- The error of least offset among some, where there are any.
 use Rattle.std.proofs.Common.{◌≡◌, ◌≤◌, ◌⊎◌, inl, inr, Option, None, Some, refl, ap, arith}
 use Rattle.std.proofs.lemmas.Bool.{cases_lt}
 use Rattle.wasm_defs.specs.declared.fault.Refusal.{Refusal}

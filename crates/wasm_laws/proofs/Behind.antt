@@ -1,4 +1,4 @@
--- Behind a body stand data segments alone, so that the items before it say all that bodies may name.
+-- After a body are data segments alone, so that the items before it say all that bodies may name.
 use Rattle.std.proofs.Common.{◌≡◌, ℕ, suc, ◌+◌, ◌≤◌, List, [], ◌∷◌, ◌++◌, length, max, refl, ap, subst, sym, ◌∙◌, append_assoc, arith}
 use Rattle.wasm_defs.specs.declared.context.GlobalType.{GlobalType}
 use Rattle.wasm_defs.specs.declared.item.Item.{Item}
@@ -88,7 +88,7 @@ segments_say_nothing xs ys h =
     let context : made_of (types_of (xs ++ ys)) (functions_of (xs ++ ys)) (tables_of (xs ++ ys)) (memories_of (xs ++ ys)) (globals_of (xs ++ ys)) ≡ made_of (types_of xs) (functions_of xs) (tables_of xs) (memories_of xs) (globals_of xs) = rw (types, functions, tables, memories, globals) refl in
     record { context = context; imports = imports_end xs ys h; declared = declared_end xs ys h; tables = tables; memories = memories }
 
--- ---- behind a body
+-- ---- after a body
 
 items_around : (front : List Part) (b : Body) (back : List Part) → items_of (front ++ Coded b ∷ back) ≡ items_of front ++ items_of back
 items_around [] b back = refl
@@ -102,7 +102,7 @@ sorted_behind before id (Section at next ∷ front) b back h = sorted_behind (ma
 sorted_behind before id (Listed x ∷ front) b back h = sorted_behind before id front b back h.2
 sorted_behind before id (Coded a ∷ front) b back h = sorted_behind 10 10 front b back h.2
 
--- no section but that of data segments comes behind the code section
+-- no section but that of data segments comes after the code section
 late_are_segments : (before id : ℕ) (parts : List Part) → 10 ≤ before → AreSorted before id parts → AreSegments (items_of parts)
 late_are_segments before id [] le h = tt
 late_are_segments before id (Section at next ∷ parts) le h = late_are_segments (max before id) next parts (omega arith) h

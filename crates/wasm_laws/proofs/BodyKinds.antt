@@ -1,4 +1,4 @@
--- The fault that stops reading, of a body or of what stands outside bodies, isn't Ended.
+-- The error that stops reading, of a body or of what is outside bodies, isn't Ended.
 use Rattle.std.proofs.Common.{◌≡◌, ◌<◌, ℕ, zero, suc, ◌+◌, ◌-◌, ℤ, pos, negsuc, true, eqb, nat_lt, ◌||◌, List, [], ◌∷◌, length, Option, Some, None, subst, inl, inr}
 use Rattle.std.proofs.lemmas.Bool.{cases_Bool}
 use Rattle.wasm_defs.specs.declared.fault.Kind.TheVariants.{Malformed, Unsupported}

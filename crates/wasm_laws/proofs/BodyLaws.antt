@@ -1,4 +1,4 @@
--- What a body is read by is steady: its locals, and an instruction behind its opcode.
+-- What a body is read by is steady: its locals, and an instruction after its opcode.
 use Rattle.std.proofs.Common.{ℕ, zero, suc, ◌+◌, ◌-◌, ℤ, pos, negsuc, true, eqb, nat_lt, ◌||◌, List, ◌∷◌, Option, Some, None}
 use Rattle.wasm_defs.specs.declared.fault.Kind.TheVariants.{Malformed, Unsupported}
 use Rattle.wasm_defs.specs.declared.operation.Access.{Access}

@@ -1,4 +1,4 @@
--- Tokens and the fault of spelling stand in order in a body.
+-- Tokens and the error of encoding are in order in a body.
 use Rattle.std.proofs.Common.{◌≡◌, ℕ, zero, suc, ◌+◌, ◌≤◌, ◌<◌, List, [], ◌∷◌, Some, length, refl, arith}
 use Rattle.wasm_defs.specs.declared.fault.Refusal.{Refusal}
 use Rattle.wasm_defs.specs.declared.token.Token.{Token}
@@ -13,13 +13,13 @@ rising_wider : {X : Type 0} (low low' last : ℕ) (xs : List (ℕ × X)) → low
 rising_wider low low' last [] le p = tt
 rising_wider low low' last (x ∷ xs) le p = (omega (arith, p.0), p.1, p.2)
 
--- what is spelled in a body: tokens from low on, and its stop, at from or behind
+-- what is encoded in a body: tokens from low on, and its stop, at from or after
 record IsSpelledFrom (low from last : ℕ) (s : Spelled) : Type 0 where
   tokens : AreRising low (stop_of last s.fault) s.tokens
   after : from ≤ stop_of last s.fault
   within : stop_of last s.fault ≤ last
 
--- reading stands in a body that has last for its last byte, with the end not near
+-- reading is in a body that has last for its last byte, with the end not near
 record InBody (last : ℕ) (c : Cursor) : Type 0 where
   sum : c.at + length c.rest ≡ suc last
   far : length c.rest < room_of c
@@ -27,7 +27,7 @@ record InBody (last : ℕ) (c : Cursor) : Type 0 where
 body_on : (last : ℕ) (c d : Cursor) → InBody last c → Advance c d → InBody last d
 body_on last c d p q = let m = moves_of c d q in record { sum = omega (arith, p.sum, m.at, m.rest); far = omega (arith, p.far, m.rest, m.room) }
 
--- a fault alone
+-- an error alone
 fault_stands : (low from last : ℕ) (c : Cursor) (r : Refusal) → InBody last c → from ≤ low → StandsIn {A = Token} low c (Fault r) → IsSpelledFrom c.at from last (stops (Some r))
 fault_stands low from last c r p le q = record { tokens = tt; after = omega (arith, q.from); within = omega (arith, p.sum, q.at_a_byte p.far) }
 

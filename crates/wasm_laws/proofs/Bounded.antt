@@ -49,7 +49,7 @@ enter c e size p m h = record { low = omega arith; high = h; there = omega (arit
 abbrev Enters : ℕ × ℕ → Cursor → Type 0
 Enters h e = Within (inside e h.1)
 
--- a header behind its id
+-- a header after its id
 abbrev sized : ℕ → Reader (ℕ × ℕ)
 sized id = do
   size ← u32

@@ -5,7 +5,7 @@ use Rattle.wasm_defs.specs.Numbers.{Reading, Number, CutOff, Bad, number_at, las
 use Rattle.wasm_defs.specs.Fields.{Cursor, Read, Got, Fault, Wants, Reader, then_go, past, window, first_of, byte, from_reading, number, u32, agree, fixed}
 use Rattle.wasm_laws.proofs.Steady.{IfGot, IsDecided}
 
--- a value of which the fact holds, or a fault
+-- a value of which the fact holds, or an error
 abbrev pub Comes : {A : Type 0} → (A → Cursor → Type 0) → Read A → Type 0
 Comes P (Got x d) = P x d
 Comes P (Fault r) = Unit {0}

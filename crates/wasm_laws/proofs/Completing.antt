@@ -28,7 +28,7 @@ zero_byte = then_byte 0 [] (omega arith) no_bytes
 
 -- ---- windows
 
--- where a field wants more, the section has room behind the bytes that are there
+-- where a field wants more, the section has room after the bytes that are there
 pub room_left : (A : Type 0) (c : Cursor) → cut {A = A} c ≡ Wants → length c.rest < room_of c
 room_left A c e =
     elim (cases_lt (length c.rest) (room_of c)) [
@@ -235,7 +235,7 @@ filled (suc n) s (suc d) is le right =
       right = ap (λ (k : ℕ). completes k (next_byte s s.least) rest.more) less ∙ ap (λ (o : Option Inside). completes n o rest.more) (next_least s d is right.0) ∙ rest.right;
     }
 
--- and these behind a text that may be completed
+-- and these after a text that may be completed
 record Finishes (n : ℕ) (o : Option Inside) (text : List ℕ) : Type 0 where
   more : List ℕ
   bytes : AreBytes more

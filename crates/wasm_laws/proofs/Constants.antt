@@ -27,7 +27,7 @@ use Rattle.wasm_laws.proofs.Parts.{then_got, got_both, got_map, either_got}
 use Rattle.wasm_laws.proofs.Headers.{Follows, header_tells}
 use Rattle.wasm_laws.proofs.Sorted.{IsOf, row_is_sorted, code_sort, no_entries}
 
--- ---- bytes behind what was read
+-- ---- bytes after what was read
 
 bytes_later : {A : Type 0} (c : Cursor) (x : Read A) → Advances c x → HasBytes c → IfGot (λ a d. HasBytes d) x
 bytes_later c (Got a d) p fits = bytes_behind p.taken d.rest (subst AreBytes p.parts fits)

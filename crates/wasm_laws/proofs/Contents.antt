@@ -1,4 +1,4 @@
--- What stands in the sections of a whole run: it is spelled, keeps the rules, and comes to the run's parts.
+-- What is in the sections of a whole run: it is encoded, keeps the rules, and comes to the run's parts.
 use Rattle.std.proofs.Common.{◌≡◌, ◌≢◌, ◌≤◌, ◌<◌, ℕ, zero, suc, true, false, List, [], ◌∷◌, ◌++◌, length, map, refl, sym, ap, subst, ◌∙◌, append_assoc, add-one, arith, inl, inr}
 use Rattle.std.specs.List.{All}
 use Rattle.std.proofs.lemmas.Bool.{cases_Bool, cases_eq, ne_eqb}
@@ -28,7 +28,7 @@ use Rattle.wasm_laws.proofs.Describing.{IfWhole, whole_on, whole_as, Rest, Betwe
 abbrev Uncounted : Seen → Type 0
 Uncounted seen = seen.last < 10 → seen.counted ≡ false
 
--- what stands behind the entries, and takes all bytes of the section
+-- what follows the entries, and takes all bytes of the section
 record Finished (t : Spelling) (seen : Seen) (c : Cursor) (parts : List Part) : Type 0 where
   stop : Cursor
   found : Found t (Unit {0}) c stop

@@ -73,7 +73,7 @@ row_is_few id not_code =
 
 -- ---- runs
 
--- items of the section of that id: so many at most where the section may still come, and none behind it
+-- items of the section of that id: so many at most where the section may still come, and none after it
 record AreFew (id last : ℕ) (r : Run) : Type 0 where
   all : entries_in id (items_of r.parts) ≤ max_entries
   later : id ≤ last → entries_in id (items_of r.parts) ≡ 0

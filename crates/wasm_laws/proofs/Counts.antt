@@ -14,7 +14,7 @@ use Rattle.wasm_laws.proofs.Sorts.{IsPlain, IsFunction, IsCode, IsItem, IsBody, 
 use Rattle.wasm_laws.proofs.Parts.{got_map, either_got}
 use Rattle.wasm_laws.proofs.Headers.{Follows, header_tells, entered_as, owes_none}
 
--- ---- no functions are declared behind their section
+-- ---- no functions are declared after their section
 
 record Undeclaring (r : Run) : Type 0 where
   none : declared_count (items_of r.parts) ≡ 0

@@ -1,4 +1,4 @@
--- A module that is read whole is spelled by sections that keep the rules.
+-- A module that is read whole is encoded by sections that keep the rules.
 use Rattle.std.proofs.Common.{◌≡◌, ℕ, ◌+◌, List, [], ◌∷◌, ◌++◌, length, map, None, refl, sym, ap, subst, ◌∙◌, append_assoc, arith, length-append}
 use Rattle.wasm_defs.proofs.NumberLaws as numbers
 use Rattle.wasm_defs.specs.declared.item.Item.{Item}
@@ -66,7 +66,7 @@ preamble_found c ready =
     then_got (λ v e. Found (exactly version) (v ≡ d.at) d e) _ (fixed version d) _ (fixed_found version d (later c d first ready))
     (λ v e second. found_then (Unit {0}) c d e first second tt))
 
--- the sections behind the preamble
+-- the sections after the preamble
 record Behind (bytes : List ℕ) (parts : List Part) : Type 0 where
   stop : Cursor
   found : Found (exactly magic then exactly version) (Unit {0}) (beginning bytes) stop

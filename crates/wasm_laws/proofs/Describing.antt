@@ -1,4 +1,4 @@
--- What a whole run read is spelled by sections that keep the rules, and come to its parts.
+-- What a whole run read is encoded by sections that keep the rules, and come to its parts.
 use Rattle.std.proofs.Common.{◌≡◌, ◌≢◌, ◌≤◌, ◌<◌, ℕ, ◌+◌, false, ltb, leb, eqb, List, [], ◌∷◌, ◌++◌, length, refl, sym, ap, subst, ◌∙◌, append_assoc, arith, length-append, inl, inr}
 use Rattle.std.proofs.lemmas.Bool.{ltb-false}
 use Rattle.wasm_defs.specs.declared.fault.Kind.TheVariants.{Malformed, Unsupported, Limit}
@@ -31,7 +31,7 @@ whole_as P Q r f h = λ s e. f r.parts (h s e)
 
 -- ---- what is left of a module
 
--- the parts are those of sections that spell what follows, in order and by the rules
+-- the parts are those of sections that encode what follows, in order and by the rules
 pub record Rest (seen : Seen) (c : Cursor) (parts : List Part) : Type 0 where
   pub sections : List Section
   pub spelled : each_is section_is sections c.at c.rest
@@ -89,7 +89,7 @@ pub record Content (seen : Seen) (id : ℕ) (c : Cursor) (parts : List Part) : T
   pub is : parts ≡ parts_of payload ++ tail
   pub rest : Rest (all_noted seen (payload_items payload)) (inside stop no_end) tail
 
--- a section: what its header and its payload spell
+-- a section: what its header and its payload encode
 module _ (c d : Cursor) (h : ℕ × ℕ) (hf : HeaderFound c d h) where
   section_spelled : (p : Payload) (K : Type 0) (f : Cursor) → payload_id p ≡ h.0 → (pf : Found (payload_is p) K (inside d h.1) f) → room_of f ≡ 0 → section_is (record { id = c.at; size = hf.size.0; payload = p }) c.at (hf.found.taken ++ pf.taken)
   section_spelled p K f id pf over =
@@ -135,7 +135,7 @@ module _ (c d : Cursor) (h : ℕ × ℕ) (hf : HeaderFound c d h) where
         short = omega (arith, rest.short, ap length whole, length-append taken f.rest, place);
       }
 
--- the same, of what stands in the section
+-- the same, of what is in the section
 behind_zero : (last : ℕ) (p : Payload) → payload_id p ≢ 0 → last < payload_id p → StandsBehind last p
 behind_zero last (Custom name) some lt = tt
 behind_zero last (Vector id count items) some lt = lt

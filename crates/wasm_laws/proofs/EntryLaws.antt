@@ -1,4 +1,4 @@
--- Entries of sections, and what stands before and after them, are steady.
+-- Entries of sections, and what is before and after them, are steady.
 use Rattle.std.proofs.Common.{ℕ, List}
 use Rattle.wasm_defs.specs.declared.types.ValType.{ValType}
 use Rattle.wasm_defs.specs.Entries.{Seen, index, value_type, listed_type, limits, constant, signature, imported, function, table, memory, mutability, global, extern_kind, exported, start, sole, listed_index, element, code, segment}

@@ -1,4 +1,4 @@
--- Where the token at fault stands among tokens of which the first ones begin a valid body.
+-- Where the wrong token is among tokens of which the first ones begin a valid body.
 use Rattle.std.proofs.Common.{◌≡◌, ℕ, ◌⊎◌, inl, inr, List, [], ◌∷◌, ◌++◌, refl, sym, ap, subst, ◌∙◌, append_assoc}
 use Rattle.std.proofs.lemmas.List.{append-nil}
 use Rattle.wasm_defs.specs.declared.fault.Kind.{Kind}
@@ -15,7 +15,7 @@ viable_front c xs ys h = (ys ++ h.0, h.1, sym (append_assoc xs ys h.0) ∙ h.2, 
 grammatical_front : (c : Context) (xs ys : List Token) → IsViable c (xs ++ ys) → IsGrammatical xs
 grammatical_front c xs ys h = (ys ++ h.0, h.1, sym (append_assoc xs ys h.0) ∙ h.2)
 
--- a token at fault is no part of a front of a valid body
+-- a wrong token is no part of a prefix of a valid body
 pub faulty_front : (c : Context) (xs ys : List Token) (kind : Kind) → IsFaulty c xs kind → IsViable c (xs ++ ys) → ⊥
 faulty_front c xs ys Malformed f h = f (grammatical_front c xs ys h)
 faulty_front c xs ys Unsupported f h = f
@@ -23,7 +23,7 @@ faulty_front c xs ys Limit f h = f
 faulty_front c xs ys Invalid f h = f.1 (viable_front c xs ys h)
 faulty_front c xs ys Ended f h = f
 
--- a token is at fault in one way
+-- a token is wrong in one way
 pub faulty_once : (c : Context) (xs : List Token) (j k : Kind) → IsFaulty c xs j → IsFaulty c xs k → j ≡ k
 faulty_once c xs Malformed Malformed f g = refl
 faulty_once c xs Malformed Invalid f g = absurd (f g.0)
@@ -65,7 +65,7 @@ split (y ∷ xs) ys (b ∷ before) after x e =
       | inr p ↦ inr (record { between = p.between; front = ap (λ (l : List (ℕ × Token)). b ∷ l) p.front ∙ ap (λ (z : ℕ × Token). z ∷ (xs ++ p.between)) (sym h); is = p.is })
     ]
 
--- the token at fault stands behind those that begin a valid body
+-- the wrong token follows those that begin a valid body
 pub record IsLater (c : Context) (toks rest : List (ℕ × Token)) (r : Refusal) : Type 0 where
   pub between : List (ℕ × Token)
   pub token : Token
@@ -92,7 +92,7 @@ token_later c toks rest r viable f =
           }
     ]
 
--- ---- one token is at fault, and none where the tokens begin a valid body
+-- ---- one token is wrong, and none where the tokens begin a valid body
 
 pub no_token_fault : (c : Context) (tokens : List (ℕ × Token)) (r : Refusal) → IsViable c (tokens_of tokens) → IsTokenFault c tokens r → ⊥
 no_token_fault c tokens r viable t =
@@ -102,7 +102,7 @@ no_token_fault c tokens r viable t =
 same_refusal : (r s : Refusal) → r.offset ≡ s.offset → r.kind ≡ s.kind → r ≡ s
 same_refusal r s a b = ap (λ (n : ℕ). record { offset = n; kind = r.kind }) a ∙ ap (λ (k : Kind). record { offset = s.offset; kind = k }) b
 
--- of two that stand behind the same tokens
+-- of two that follow the same tokens
 same_place : (c : Context) (before : List Token) (at : ℕ) (t : Token) (after : List (ℕ × Token)) (r s : Refusal) → r.offset ≡ at → IsFaulty c (before ++ t ∷ []) r.kind
     → (between : List (ℕ × Token)) (u : Token) (rest : List (ℕ × Token)) → (at, t) ∷ after ≡ between ++ (s.offset, u) ∷ rest → IsViable c (before ++ tokens_of between) → IsFaulty c ((before ++ tokens_of between) ++ u ∷ []) s.kind → r ≡ s
 same_place c before at t after r s place faulty [] u rest e viable other =

@@ -18,7 +18,7 @@ Lasts (Got x d) = Unit {0}
 Lasts (Fault r) = rank r.kind < 4
 Lasts Wants = Unit {0}
 
--- a reader whose faults are of another kind than Ended
+-- a reader whose errors are of another kind than Ended
 pub record Lasting {A : Type 0} (p : Reader A) : Type 0 where
   pub by : (c : Cursor) → Lasts (p c)
 

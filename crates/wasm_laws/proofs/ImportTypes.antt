@@ -22,7 +22,7 @@ returns_one : (o : Option FuncType) → is_import_type o ≡ true → (t : FuncT
 returns_one None e = absurd cc
 returns_one (Some t) e = (t, refl, leb-true (length t.results) 1 e)
 
--- and stays there with more types behind it
+-- and stays there with more types after it
 found_type : (types more : List FuncType) (i : ℕ) → is_import_type (slice_get types i) ≡ true → ReturnsOne (type_or_empty (slice_get (types ++ more) i))
 found_type types more i e =
     let x = returns_one (slice_get types i) e in

@@ -1,4 +1,4 @@
--- What holds of what each opcode spells holds of every instruction, and of each token of a body.
+-- What holds of what each opcode encodes holds of every instruction, and of each token of a body.
 use Rattle.std.proofs.Common.{ℕ, zero, suc, ◌+◌, ◌-◌, ◌||◌, eqb, nat_lt, inl, inr, List, [], ◌∷◌, Option, None, Some, length}
 use Rattle.std.specs.Prelude.{slice_get, if◌then◌else◌}
 use Rattle.std.proofs.lemmas.Bool.{cases_Bool}
@@ -18,7 +18,7 @@ use Rattle.wasm_laws.proofs.BodyLaws.{local_groups_steady, instruction_steady}
 
 -- ---- instructions
 
--- it holds of what each opcode spells
+-- it holds of what each opcode encodes
 pub record Spells (P : Token → Cursor → Type 0) (d : Cursor) : Type 0 where
   pub unreachables : P (token.Plain Unreachable) d
   pub nops : P (token.Plain Nop) d

@@ -41,7 +41,7 @@ IsKept functions (Memory limits) = IsMinimum max_pages limits
 IsKept functions (Exported label kind index) = IsAmong functions kind.1 index.1
 IsKept functions _ = Unit {0}
 
--- so of each item, where so many functions stand before the items
+-- so of each item, where so many functions are before the items
 abbrev pub AreKept : ℕ → List Item → Type 0
 AreKept functions [] = Unit {0}
 AreKept functions (x ∷ xs) = IsKept functions x × AreKept (functions + length (functions_of (x ∷ []))) xs

@@ -87,7 +87,7 @@ after_cut b (Number n len) e = absurd cc
 after_cut b CutOff e = refl
 after_cut b Bad e = absurd cc
 
--- a spelling that goes on is no less, and longer
+-- an encoding that goes on is no less, and longer
 pub least_of_more : (bits : ℕ) (bytes more : List ℕ) → number_at false bits bytes ≡ CutOff → AtLeast (least bytes) (length bytes) (bytes ++ more) (number_at false bits (bytes ++ more))
 unfolding number_at
 least_of_more bits [] more e = some_least bits more
@@ -176,7 +176,7 @@ text_stands len n low c le some h =
       ])
     ]
 
--- where the section is there, so is the text that lies in it
+-- where the section is there, so is the text that is in it
 text_decides : (len n : ℕ) (c : Cursor) → IsThere c → IsDecided (text_after len n c)
 text_decides len n c there =
     let text = take n (drop len (window c)) in

@@ -24,7 +24,7 @@ pub record OfEntries (P : (Seen → Reader Item) → Type 0) : Type 0 where
   pub codes : P code
   pub segments : P segment
 
--- what holds of an item where so many were seen before, and of items behind so many
+-- what holds of an item where so many were seen before, and of items after so many
 module _ (many : Seen → ℕ) (Is : ℕ → Item → Type 0) (Are : ℕ → List Item → Type 0) where
   abbrev pub Yield : (Seen → Reader Item) → Type 0
   Yield entry = (seen : Seen) → Yields (Is (many seen)) (entry seen)

@@ -56,13 +56,13 @@ same_length f g b c len e =
     let front : f ≡ g = sym (take_at f b (length g) len) ∙ ap (λ (l : List ℕ). take (length g) l) e ∙ take_at g c (length g) refl in
     (front, append_cancel_left g b c (ap (λ (l : List ℕ). l ++ b) (sym front) ∙ e))
 
--- ---- one behind the other
+-- ---- one after the other
 
 module _ (p q s t : Spelling) (at : ℕ) (f g b c : List ℕ) (j : Joined p q at f) (k : Joined s t at g) (e : f ++ b ≡ g ++ c) where
   fronts : j.front ++ (j.back ++ b) ≡ k.front ++ (k.back ++ c)
   fronts = sym (ap (λ (l : List ℕ). l ++ b) j.parts ∙ append_assoc j.front j.back b) ∙ e ∙ ap (λ (l : List ℕ). l ++ c) k.parts ∙ append_assoc k.front k.back c
 
-  -- both fronts are one, and then what stands behind them
+  -- both fronts are one, and then what follows them
   joined_one : {X U : Type 0} (x y : X) (u v : U) → (j.front ++ (j.back ++ b) ≡ k.front ++ (k.back ++ c) → Same x y j.front k.front (j.back ++ b) (k.back ++ c)) → (x ≡ y → t (at + length j.front) k.back → j.back ++ b ≡ k.back ++ c → Same u v j.back k.back b c) → Same {A = X × U} (x, u) (y, v) f g b c
   joined_one {X} {U} x y u v first rest =
       let h = first fronts in

@@ -1,4 +1,4 @@
--- The parts of a module stand one behind the other, before the fault that ends reading.
+-- The parts of a module are one after the other, before the error that ends reading.
 use Rattle.std.proofs.Common.{◌≡◌, ℕ, zero, suc, ◌+◌, ◌≤◌, ◌<◌, List, [], ◌∷◌, ◌++◌, length, Option, None, Some, ap, arith, inl, inr}
 use Rattle.std.proofs.lemmas.Bool.{cases_Bool}
 use Rattle.wasm_defs.specs.declared.fault.Refusal.{Refusal}
@@ -15,13 +15,13 @@ use Rattle.wasm_laws.proofs.Takes.{header_takes}
 use Rattle.wasm_laws.proofs.RowLaws.{SteadyRow, row_steady, end_steady}
 use Rattle.wasm_laws.proofs.Parts.{then_got, got_both, got_map, fixed_got, UseLies, PartLies, LyingRow, row_lies}
 
--- where reading so many bytes ends: at the fault, or at their number
+-- where reading so many bytes ends: at the error, or at their number
 abbrev pub ending_place : ℕ → Ending → ℕ
 ending_place len (Whole seen) = len
 ending_place len (Refused r) = r.offset
 ending_place len Owed = len
 
--- a run of so many bytes: its parts from low on, and its end, at from or behind
+-- a run of so many bytes: its parts from low on, and its end, at from or after
 pub record IsOrdered (low from len : ℕ) (r : Run) : Type 0 where
   pub parts : AreOrdered low (ending_place len r.ending) r.parts
   pub after : from ≤ ending_place len r.ending
@@ -41,7 +41,7 @@ pub use_wider : (low low' last last' : ℕ) (o : Used) → low' ≤ low → last
 use_wider low low' last last' None le ge p = omega (arith, p)
 use_wider low low' last last' (Some u) le ge p = (omega (arith, p.0), omega (arith, p.1))
 
--- what stands behind an item stands no earlier than it
+-- what follows an item is no earlier than it
 pub use_goes_on : (low last : ℕ) (o : Used) → UseStands low last o → (low ≤ behind_use low o) × (behind_use low o ≤ last)
 use_goes_on low last None p = (omega arith, p)
 use_goes_on low last (Some u) p = (omega (arith, p.0), omega (arith, p.1))
@@ -50,7 +50,7 @@ behind_lower : (low low' : ℕ) (o : Used) → low' ≤ low → behind_use low' 
 behind_lower low low' None le = le
 behind_lower low low' (Some u) le = omega arith
 
--- before a place, no earlier than which another part stands
+-- before a place, no earlier than which another part is
 pub use_before : (low last place : ℕ) (o : Used) → UseStands low last o → behind_use low o ≤ place → UseStands low place o
 use_before low last place None p le = le
 use_before low last place (Some u) p le = (p.0, omega arith)
@@ -68,7 +68,7 @@ ordered_wider low low' last last' (Section at id ∷ parts) le ge p = (omega (ar
 ordered_wider low low' last last' (Listed x ∷ parts) le ge p = (use_wider low low' last last' (use_of x) le ge p.0, ordered_wider (behind_use low (use_of x)) (behind_use low' (use_of x)) last last' parts (behind_lower low low' (use_of x) le) ge p.1)
 ordered_wider low low' last last' (Coded b ∷ parts) le ge p = (stands_wider low low' last last' b le ge p.0, ordered_wider (end_of b) (end_of b) last last' parts (omega arith) ge p.1)
 
--- what stands before a body, and what behind it
+-- what is before a body, and what after it
 pub around_body : (low last : ℕ) (front : List Part) (b : Body) (back : List Part) → AreOrdered low last (front ++ Coded b ∷ back) → AreOrdered low b.size front × BodyStands low last b × AreOrdered (end_of b) last back
 around_body low last [] b back p = (tt, p.0, p.1)
 around_body low last (Section at id ∷ front) b back p =
@@ -86,7 +86,7 @@ around_body low last (Coded a ∷ front) b back p =
     let later : low ≤ end_of a = omega (arith, first.from, first.sized) in
     ((record { from = first.from; sized = first.sized; least = first.least; most = first.most; before = body.from }, q.0), stands_wider (end_of a) low last last b later (omega arith) body, q.2)
 
--- what stands before a section, and what behind its id
+-- what is before a section, and what after its id
 pub around_section : (low last : ℕ) (front : List Part) (at id : ℕ) (back : List Part) → AreOrdered low last (front ++ Section at id ∷ back) → AreOrdered low at front × (low ≤ at) × (at ≤ last) × AreOrdered (suc at) last back
 around_section low last [] at id back p = (tt, p.0, p.1, p.2)
 around_section low last (Section first one ∷ front) at id back p =
@@ -100,7 +100,7 @@ around_section low last (Coded a ∷ front) at id back p =
     let first = p.0 in
     ((record { from = first.from; sized = first.sized; least = first.least; most = first.most; before = q.1 }, q.0), omega (arith, first.from, first.sized, q.1), q.2, q.3)
 
--- where an item among the parts stands, and what behind it
+-- where an item among the parts is, and what after it
 pub around_item : (low last : ℕ) (front : List Part) (x : Item) (back : List Part) → AreOrdered low last (front ++ Listed x ∷ back) → (at : ℕ) × UseStands at last (use_of x) × AreOrdered (behind_use at (use_of x)) last back
 around_item low last [] x back p = (low, p.0, p.1)
 around_item low last (Section at id ∷ front) x back p = around_item (suc at) last front x back p.2
@@ -122,7 +122,7 @@ runs_ordered P low len c (Got a d) f e p q h = h a d q
 runs_ordered P low len c (Fault r) f e p q h = record { parts = tt; after = p.from; within = omega (arith, p.within) }
 runs_ordered P low len c Wants f e p q h = record { parts = tt; after = omega arith; within = omega arith }
 
--- a part that was taken stands before what comes next
+-- a part that was taken is before what comes next
 part_ordered : (c d : Cursor) (len : ℕ) (x : Part) (r : Run) → c.at ≤ d.at → PartLies c x d → IsOrdered d.at d.at len r → IsOrdered c.at c.at len (after_part x r)
 part_ordered c d len (Section at id) r le p q = absurd p
 part_ordered c d len (Listed x) r le p q =
@@ -168,7 +168,7 @@ module _ (len : ℕ) (r : Row) (steady : SteadyRow r) (lies : LyingRow r) (next 
       let s = sum_on len c d e p in
       run_wider d.at c.at d.at c.at len _ s.0 s.0 (entries_order n seen d s.1))
 
--- a section stands behind its id, but for a fault of its header
+-- a section follows its id, but for an error of its header
 section_orders : (len : ℕ) (next : Next) → Orders len next → (seen : Seen) (c : Cursor) → c.at + length c.rest ≡ len → IsOrdered (suc c.at) c.at len (section next seen c)
 section_orders len next orders seen c e =
     runs_ordered (λ h d. Advance c d × (length d.rest < length c.rest)) (suc c.at) len c _ _ e ((header_steady [] seen).place c.at c (omega arith) tt) (got_both _ _ _ ((header_steady [] seen).moves c) ((header_takes seen).some c))
@@ -216,7 +216,7 @@ module_is_ordered bytes =
     runs_ordered (λ v d. Sum len c d × (d.at ≡ first_section)) first_section len c _ _ (omega arith) ((preamble_steady []).place 0 c (omega arith) tt) (preamble_got bytes)
     (λ v d p. run_wider d.at first_section d.at 0 len _ (omega (arith, p.1)) (omega arith) (up_to_orders len (length d.rest + 1) nothing d p.0.1))
 
--- the fault of what stands outside bodies, if there is one, stands where reading ends
+-- the error of what is outside bodies, if there is one, is where reading ends
 fault_ends : (len : ℕ) (ending : Ending) (r : Refusal) → ending_fault len ending ≡ Some r → ending_place len ending ≡ r.offset
 fault_ends len (Whole seen) r e = absurd cc
 fault_ends len (Refused s) r e = let same : s ≡ r = cc in ap (λ (t : Refusal). t.offset) same

@@ -37,7 +37,7 @@ valid_both items k (Listed x ∷ front) rest trees more p q = (p.0, valid_both (
 valid_both items k (Coded b ∷ front) rest [] more p q = absurd p
 valid_both items k (Coded b ∷ front) rest (t ∷ trees) more p q = let e : suc k + length (bodies_of front) ≡ k + suc (length (bodies_of front)) = omega arith in (p.0, valid_both items (suc k) front rest trees more p.1 (rw e q))
 
--- no fault stands in valid bodies
+-- no error is in valid bodies
 pub fault_behind : (items : List Item) (k : ℕ) (front rest : List Part) (trees : List Seq) (r : Refusal) → AreValid items k front trees → IsFaultInside items k (front ++ rest) r → IsFaultInside (items ++ items_of front) (k + length (bodies_of front)) rest r
 fault_behind items k [] rest trees r p f = let e : k + 0 ≡ k = omega arith in rw (append-nil, e) f
 fault_behind items k (Section at id ∷ front) rest trees r p f = fault_behind items k front rest trees r p f

@@ -1,4 +1,4 @@
--- Where faults stand behind a place.
+-- Where errors follow a place.
 use Rattle.std.proofs.Common.{◌≡◌, ◌≤◌, ◌<◌, inl, inr, ℕ, suc, List, [], ◌∷◌, ◌++◌, Option, None, Some, ap, sym, ◌∙◌, arith}
 use Rattle.wasm_defs.specs.declared.fault.Refusal.{Refusal}
 use Rattle.wasm_defs.specs.declared.item.Item.{Item}
@@ -10,7 +10,7 @@ use Rattle.wasm_laws.specs.Order.{UseStands, behind_use, AreOrdered, end_of}
 use Rattle.wasm_laws.proofs.Order.{use_goes_on}
 use Rattle.wasm_laws.proofs.Verdicts.{code_fault_inside}
 
--- the fault of an item's use stands at its index, before what comes behind
+-- the error of an item's use is at its index, before what comes after
 pub use_fault_stands : (low last : ℕ) (c : Context) (o : Option Use) (r : Refusal) → UseStands low last o → IsUseFault c o r → (low ≤ r.offset) × (r.offset < behind_use low o)
 use_fault_stands low last c None r p f = absurd f
 use_fault_stands low last c (Some u) r p f = let at = ap (λ (s : Refusal). s.offset) f.1 in (omega (arith, p.0, at), omega (arith, at))

@@ -1,4 +1,4 @@
--- What an entry of a section is: an item, or in the code section a body that lies in what was taken.
+-- What an entry of a section is: an item, or in the code section a body that is in what was taken.
 use Rattle.std.proofs.Common.{◌≡◌, ℕ, ◌+◌, ◌≤◌, ◌<◌, Bool, true, false, cond, ltb, ◌||◌, eqb, List, [], length, Option, None, Some, refl, ap, arith, length-take, inl, inr}
 use Rattle.std.proofs.lemmas.Bool.{cases_Bool, cases_lt, lt-ltb, le-ltb, or_parts, ltb-false}
 use Rattle.wasm_defs.specs.declared.item.Item.{Item}
@@ -53,7 +53,7 @@ pub record Lies (c d : Cursor) (b : Body) : Type 0 where
   pub most : length b.bytes ≤ max_body
   pub taken : end_of b ≤ d.at
 
--- an item that was taken: the index that not every type serves stands among what was
+-- an item that was taken: the index that not every type serves is among what was
 abbrev pub UseLies : Cursor → Option Use → Cursor → Type 0
 UseLies c None d = Unit {0}
 UseLies c (Some u) d = IsMarked c (u.0, u.1) d
@@ -156,7 +156,7 @@ start_lies : (seen : Seen) (c : Cursor) → IfGot (ItemLies c) (start seen c)
 unfolding start
 start_lies seen c = then_got (IsMarked c) (ItemLies c) (index seen.functions c) _ (index_lies seen.functions c) (λ i d q. q)
 
--- behind what was taken, an index of more that is
+-- after what was taken, an index of more that is
 marked_behind : {A : Type 0} (c d e : Cursor) (x : ℕ × A) → Advance c d → IsMarked d x e → IsMarked c x e
 marked_behind c d e x p q = (omega (arith, p.at, q.0), q.1)
 

@@ -152,7 +152,7 @@ behind_bytes c (Got a d) fits p = bytes_behind p.taken d.rest (subst AreBytes p.
 behind_bytes c (Fault r) fits p = tt
 behind_bytes c Wants fits p = tt
 
--- an index, and bytes behind it
+-- an index, and bytes after it
 index_got : (c : Cursor) → HasBytes c → IfGot (λ n d. (n.1 < 2 ^ 32) × HasBytes d) (u32 c)
 index_got c fits = got_both (λ n d. n.1 < 2 ^ 32) (λ n d. HasBytes d) (u32 c) (u32_got c fits) (behind_bytes c (u32 c) fits ((u32_field.steady []).moves c))
 
@@ -266,7 +266,7 @@ tokens_are_in_range first bytes fits =
     tokens_in_range (body_read first bytes).code.tokens
     (each_token HasBytes (λ c d p known. bytes_behind p.taken d.rest (subst AreBytes p.parts known)) TokenIsInRange instruction_in_range first bytes fits)
 
--- of the tokens that spell a sequence, and those behind
+-- of the tokens that encode a sequence, and those after
 both_in_range : (tree : Seq) (after : List Token) → TokensAreInRange (spelled tree after) → TreeIsInRange tree × TokensAreInRange after
 both_in_range Nothing after h = (tt, h)
 both_in_range (Simple p rest) after h = let more = both_in_range rest after h.1 in ((h.0, more.0), more.1)

@@ -22,7 +22,7 @@ use Rattle.wasm_laws.proofs.SpeltRows.{VectorRow, start_read, custom_read, rest_
 abbrev pub prepend : List Part → Run → Run
 prepend parts r = record { parts = parts ++ r.parts; ending = r.ending }
 
--- two spellings, one behind the other, and what follows
+-- two encodings, one after the other, and what follows
 abbrev pub Behind : Spelling → Spelling → ℕ → List ℕ → List ℕ → Type 0
 Behind p q at bytes back = (front : List ℕ) × (rest : List ℕ) × (bytes ++ back ≡ front ++ (rest ++ back)) × (length bytes ≡ length front + length rest) × p at front × q (at + length front) rest
 
@@ -49,7 +49,7 @@ not_misplaced seen id f =
       | inr other ↦ rw (ne_eqb id 11 other) refl
     ]
 
--- a header behind its id
+-- a header after its id
 abbrev sized : ℕ → Reader (ℕ × ℕ)
 sized id = u32 >>= (λ size. here >>= (λ at. if ltb max_module (at + size.1) then refused Limit size.0 else done (id, at + size.1)))
 
@@ -84,7 +84,7 @@ finish_read r next seen at end front back e read =
     ∙ ap (λ (z : Read Nothing). runs_on z (λ y e. next seen e)) (section_end_read (at + length front) end back e)
     ∙ ap (λ (k : ℕ). next seen (cursor k back no_end)) e
 
--- where nothing stands behind the entries
+-- where nothing follows the entries
 finish_here : (r : Row) (next : Next) (seen : Seen) (at end : ℕ) (front back : List ℕ) → ((c : Cursor) → r.back c ≡ Got tt c) → at + length front ≡ end → front ≡ [] → finish r next seen (cursor at (front ++ back) end) ≡ next seen (cursor end back no_end)
 finish_here r next seen at end front back nothing e none =
     let here : at ≡ end = omega (arith, ap length none) in

@@ -1,4 +1,4 @@
--- More bytes behind those that were read change no refusal and no part of a run.
+-- More bytes after those that were read change no refusal and no part of a run.
 use Rattle.std.proofs.Common.{◌≡◌, ℕ, zero, suc, ◌+◌, ◌-◌, ◌≤◌, ◌<◌, List, [], ◌∷◌, ◌++◌, length, refl, ap, arith, length-append, inl, inr}
 use Rattle.std.proofs.lemmas.Bool.{cases_Bool, cases_eq}
 use Rattle.wasm_defs.specs.Fields.{Cursor, Read, Got, Fault, Wants}

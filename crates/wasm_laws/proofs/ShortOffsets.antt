@@ -17,7 +17,7 @@ use Rattle.wasm_laws.proofs.Bytes.{each_byte}
 use Rattle.wasm_laws.proofs.Described.{module_is_described}
 use Rattle.wasm_laws.proofs.Order.{parts_in_module}
 
--- ---- imports, by the grammar of modules: a name's size stands at its offset
+-- ---- imports, by the grammar of modules: a name's size is at its offset
 
 both_short : (xs ys : List Item) → AreShortImports xs → AreShortImports ys → AreShortImports (xs ++ ys)
 both_short [] ys p q = q
@@ -75,7 +75,7 @@ module _ (most : ℕ) (small : most < 2 ^ 32) where
         parts_short (end_of b) last le parts h.1,
       )
 
--- a module has 67,108,864 bytes at most, and all that is read of it stands inside
+-- a module has 67,108,864 bytes at most, and all that is read of it is inside
 pub offsets_are_short : (bytes : List ℕ) (m : Module) → AreBytes bytes → IsModule bytes m → AreShortImports m.items × AreShortBodies m.bodies
 offsets_are_short bytes m fits is =
     let d = module_is_described bytes m (each_byte bytes fits) is in

@@ -1,4 +1,4 @@
--- Items stand in the sections of their sort, in order, and the code section ends with its bodies.
+-- Items are in the sections of their sort, in order, and the code section ends with its bodies.
 use Rattle.std.proofs.Common.{◌≡◌, ◌≢◌, ℕ, zero, suc, ◌+◌, ◌≤◌, ◌<◌, ◌⊎◌, true, false, cond, eqb, leb, ltb, List, [], ◌∷◌, length, take, max, refl, sym, subst, ◌∙◌, arith, add-one, inl, inr}
 use Rattle.std.proofs.lemmas.Bool.{cases_Bool, cases_eq, eqb-true, eqb-false, ne_eqb}
 use Rattle.wasm_defs.specs.declared.item.Item.{Item}
@@ -15,8 +15,8 @@ use Rattle.wasm_laws.proofs.Parts.{then_got, got_both, got_map, either_got}
 use Rattle.wasm_laws.proofs.Headers.{Follows, header_tells}
 use Rattle.wasm_laws.proofs.Lasts.{note_counted}
 
--- parts in a section of that id, behind sections whose ids are up to before: an item stands in a section of its sort, behind
--- none of a later sort, and behind no body
+-- parts in a section of that id, after sections whose ids are up to before: an item is in a section of its sort, after none
+-- of a later sort, and after no body
 abbrev pub AreSorted : ℕ → ℕ → List Part → Type 0
 AreSorted before id [] = Unit {0}
 AreSorted before id (Section at next ∷ parts) = AreSorted (max before id) next parts
@@ -225,7 +225,7 @@ header_begins seen c =
 
 -- ---- sections
 
--- the section of that id, behind what was read
+-- the section of that id, after what was read
 id_sorted : (next : Next) → Sorts next → (seen : Seen) (d : Cursor) (before id : ℕ) → Follows seen id → before ≡ seen.last → (seen.last < 10 → seen.counted ≡ false) → Sorted before id (contents (row id) next (entered seen id) d)
 id_sorted next sorts seen d before id f e uncounted =
     elim (cases_eq id 0) [

@@ -1,4 +1,4 @@
--- The offsets of a body's tokens, and of the fault that stops its reading.
+-- The offsets of a body's tokens, and of the error that stops its reading.
 use Rattle.std.proofs.Common.{◌≡◌, ◌≤◌, ◌<◌, ℕ, zero, suc, ◌+◌, ◌⊎◌, inl, inr, List, [], ◌∷◌, length, None, Some, refl, ap, arith, leb}
 use Rattle.std.proofs.lemmas.Bool.{leb-true}
 use Rattle.std.proofs.lemmas.Bool.{cases_Bool}
@@ -17,7 +17,7 @@ abbrev pub AllWithin : {A : Type 0} → ℕ → ℕ → List (ℕ × A) → Type
 AllWithin low high [] = Unit {0}
 AllWithin low high (x ∷ xs) = (low ≤ x.0) × (x.0 < high) × AllWithin low high xs
 
--- a fault stands among them, or at the body's last byte
+-- an error is among them, or at the body's last byte
 abbrev pub StandsWithin : ℕ → ℕ → ℕ → Refusal → Type 0
 StandsWithin low high last r = ((low ≤ r.offset) × (r.offset < high)) ⊎ (r.offset ≡ last)
 
@@ -51,7 +51,7 @@ closed_at high last c (b ∷ rest) e h = stops_at c.at high last (record { offse
 pub missing : (low high last : ℕ) → Places low high last (malformed_at last)
 missing low high last = stops_at low high last (record { offset = last; kind = Malformed }) (inr refl)
 
--- where no end is near, and high is the place behind the bytes
+-- where no end is near, and high is the place after the bytes
 pub record IsOpen (high : ℕ) (c : Cursor) : Type 0 where
   pub far : length c.rest < room_of c
   pub high_is : high ≡ c.at + length c.rest

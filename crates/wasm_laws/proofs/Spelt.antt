@@ -1,5 +1,5 @@
--- Readers that read what a grammar spells: a value that is got was spelled and keeps its rule, and a spelling that keeps the
--- rule is read as its value, whatever follows.
+-- Readers that read what a grammar encodes: a value that is got was encoded and keeps its rule, and an encoding that keeps
+-- the rule is read as its value, whatever follows.
 use Rattle.std.proofs.Common.{◌≡◌, ◌≤◌, ℕ, ◌+◌, Bool, true, false, cond, List, [], ◌∷◌, ◌++◌, length, refl, sym, ap, subst, ◌∙◌, append_assoc, arith, length-append}
 use Rattle.wasm_defs.proofs.NumberLaws.{AreBytes}
 use Rattle.wasm_defs.specs.declared.fault.Kind.{Kind}
@@ -11,12 +11,12 @@ use Rattle.wasm_laws.proofs.Parts.{then_got}
 abbrev pub cursor : ℕ → List ℕ → ℕ → Cursor
 cursor at rest end = record { at = at; rest = rest; end = end }
 
--- reading stands before the section's end, or at it, and all bytes are bytes
+-- reading is before the section's end, or at it, and all bytes are bytes
 pub record Ready (c : Cursor) : Type 0 where
   pub low : c.at ≤ c.end
   pub bytes : AreBytes c.rest
 
--- the bytes that were taken are such a spelling, and that holds of what they spell
+-- the bytes that were taken are such an encoding, and that holds of what they encode
 pub record Found (s : Spelling) (K : Type 0) (c d : Cursor) : Type 0 where
   pub taken : List ℕ
   pub parts : c.rest ≡ taken ++ d.rest
@@ -26,7 +26,7 @@ pub record Found (s : Spelling) (K : Type 0) (c d : Cursor) : Type 0 where
   pub spelled : s c.at taken
   pub kept : K
 
--- such a spelling is read as x, where it fits before the section's end
+-- such an encoding is read as x, where it fits before the section's end
 pub record Reads {A : Type 0} (p : Reader A) (x : A) (s : Spelling) : Type 0 where
   pub by : (at end : ℕ) (front back : List ℕ) → at + length front ≤ end → s at front → p (cursor at (front ++ back) end) ≡ Got x (cursor (at + length front) back end)
 
@@ -46,7 +46,7 @@ later c d p h = record { low = omega (arith, p.at, p.end, p.fits); bytes = bytes
 pub found_nothing : (c : Cursor) (K : Type 0) → Ready c → K → Found (exactly []) K c c
 found_nothing c K ready h = record { taken = []; parts = refl; at = omega arith; end = refl; fits = omega (arith, ready.low); spelled = refl; kept = h }
 
--- one behind the other
+-- one after the other
 pub found_then : {s t : Spelling} {K L : Type 0} (M : Type 0) (c d e : Cursor) → Found s K c d → Found t L d e → M → Found (s then t) M c e
 found_then {s} {t} M c d e p q h = record {
   taken = p.taken ++ q.taken;
@@ -58,7 +58,7 @@ found_then {s} {t} M c d e p q h = record {
   kept = h;
 }
 
--- nothing behind it
+-- nothing after it
 pub found_alone : {s : Spelling} {K L : Type 0} (M : Type 0) (c d e : Cursor) → Found s K c d → Found (exactly []) L d e → M → Found s M c e
 found_alone M c d e p q h =
     let none : length q.taken ≡ 0 = ap length q.spelled in
@@ -72,7 +72,7 @@ found_alone M c d e p q h =
       kept = h;
     }
 
--- the same bytes, as another spelling
+-- the same bytes, as another encoding
 pub found_here : {s : Spelling} {K : Type 0} (t : Spelling) (M : Type 0) (c d : Cursor) (p : Found s K c d) → t c.at p.taken → M → Found t M c d
 found_here t M c d p h k = record { taken = p.taken; parts = p.parts; at = p.at; end = p.end; fits = p.fits; spelled = h; kept = k }
 

@@ -1,4 +1,4 @@
--- Bytes, numbers and runs of bytes are read as they are spelled.
+-- Bytes, numbers and runs of bytes are read as they are encoded.
 use Rattle.std.proofs.Common.{◌≡◌, ◌≤◌, inl, inr, ℕ, zero, suc, ◌+◌, ◌-◌, ◌*◌, ◌^◌, ℤ, pos, ◌+ℤ◌, Bool, true, false, List, [], ◌∷◌, ◌++◌, length, take, drop, refl, sym, ap, subst, ◌∙◌, add-one, arith, length-append, length-take, eqb}
 use Rattle.std.specs.Prelude.{◌*ℤ◌}
 use Rattle.std.proofs.lemmas.Bool.{cases_Bool, cases_lt, lt-ltb, le-ltb, eq-eqb, eqb-true, and_from, and_parts}
@@ -14,7 +14,7 @@ use Rattle.wasm_laws.proofs.Spelt.{cursor, Ready, Found, found_as, reads_last, S
 abbrev pub Always : {A : Type 0} → A → Type 0
 Always x = Unit {0}
 
--- ---- what stands in front
+-- ---- what is in front
 
 pub found_front : (s : Spelling) (K : Type 0) (c : Cursor) (len : ℕ) → Ready c → len ≤ length (window c) → s c.at (take len (window c)) → K → Found s K c (past c len)
 found_front s K c len ready h spelled kept =
@@ -59,7 +59,7 @@ byte_spelt = record {
 
 -- ---- numbers
 
--- a spelling is read as its number, whatever follows
+-- an encoding is read as its number, whatever follows
 last_read : (signed : Bool) (bits b : ℕ) (n : ℤ) → IsLastByte signed bits b n → last_byte signed bits b ≡ Number n 1
 last_read false bits b n h = rw (lt-ltb b (2 ^ bits) h.1, h.2) refl
 last_read true bits b n (inl h) = rw (lt-ltb b 64 h.0, lt-ltb b (2 ^ (bits - 1)) h.1, h.2) refl

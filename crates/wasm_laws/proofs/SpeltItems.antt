@@ -1,4 +1,4 @@
--- Items are read as they are spelled, and keep their rules.
+-- Items are read as they are encoded, and keep their rules.
 use Rattle.std.proofs.Common.{◌≡◌, ◌≤◌, ◌<◌, ℕ, ltb, eqb, List, length, is_some, refl, arith}
 use Rattle.std.specs.List.{All}
 use Rattle.std.specs.FinMap as map
@@ -29,7 +29,7 @@ SpeltEntry id entry = (seen : Seen) → Spelt item_is (Belongs id seen) (entry s
 
 -- ---- types
 
--- value types behind their count
+-- value types after their count
 types_spelt : (most : ℕ) (counted : Reader (ℕ × ℕ)) → Spelt u32_is (λ n. Always n × (n.1 ≤ most)) counted → Spelt (λ xs. vector_is listed_type_is xs.0 xs.1) (λ xs. length xs.1 ≤ most) (vector counted listed_type)
 types_spelt most counted h =
     ruled_spelt _ (λ (xs : ℕ × List ValType). (Always {A = ℕ × ℕ} (xs.0, length xs.1) × (length xs.1 ≤ most)) × All Always xs.1) (λ xs. length xs.1 ≤ most) (vector counted listed_type) (λ xs k. k.0.1) (λ xs k. ((tt, k), λ i d lt. tt))

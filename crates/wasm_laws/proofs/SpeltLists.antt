@@ -1,4 +1,4 @@
--- What stands behind its count or its size is read as it is spelled.
+-- What follows its count or its size is read as it is encoded.
 use Rattle.std.proofs.Common.{◌≡◌, ◌≤◌, ℕ, zero, suc, ◌+◌, ◌-◌, Bool, false, ltb, if◌then◌else◌, List, [], ◌∷◌, ◌++◌, length, refl, sym, ap, subst, ◌∙◌, append_assoc, arith, length-append}
 use Rattle.std.specs.List.{All}
 use Rattle.std.proofs.lemmas.Bool.{le-ltb}
@@ -78,7 +78,7 @@ found_sized {p} M n c d e f q len h = record {
   kept = h;
 }
 
--- behind the size of what fits, that is read
+-- after the size of what fits, that is read
 abbrev pub ReadsContent : {B : Type 0} → (ℕ × ℕ → Reader B) → ℕ → B → Spelling → Type 0
 ReadsContent f offset y p = (at end : ℕ) (content back : List ℕ) → at + length content ≤ end → p at content → f (offset, length content) (cursor at (content ++ back) end) ≡ Got y (cursor (at + length content) back end)
 

@@ -1,4 +1,4 @@
--- Names are read as they are spelled.
+-- Names are read as they are encoded.
 use Rattle.std.proofs.Common.{◌≡◌, ◌≤◌, ℕ, ◌+◌, ◌-◌, ℤ, pos, true, false, ltb, List, ◌++◌, length, take, drop, refl, sym, ap, subst, ◌∙◌, append_assoc, arith, length-append, length-take, length-drop, inl, inr}
 use Rattle.std.proofs.lemmas.Bool.{cases_Bool, cases_lt, lt-ltb, le-ltb, ltb-false}
 use Rattle.std.proofs.lemmas.List.{take-take, take-append-drop, drop_at, take_at, drop-take}
@@ -18,7 +18,7 @@ IsShort name = length name.1 ≤ max_name
 
 -- ---- sound
 
--- a length of so many bytes, and the text behind it
+-- a length of so many bytes, and the text after it
 name_spelled : (at m len : ℕ) (n : ℤ) (w : List ℕ) → n ≡ pos m → Spells n 32 false (take len w) → length (take m (drop len w)) ≡ m → completes m between (take m (drop len w)) ≡ true → name_is (at, take m (drop len w)) at (take (len + m) w)
 name_spelled at m len n w is spelled size right =
     let text = take m (drop len w) in (

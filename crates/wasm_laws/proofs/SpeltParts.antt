@@ -1,4 +1,4 @@
--- Parts of entries are read as they are spelled.
+-- Parts of entries are read as they are encoded.
 use Rattle.std.proofs.Common.{inl, inr, ◌≡◌, ◌≤◌, ◌<◌, ℕ, Bool, true, false, ltb, eqb, ◌||◌, ◌&&◌, pos, if◌then◌else◌, List, [], ◌∷◌, Option, Some, None, refl, sym, ap, subst, ◌∙◌, arith}
 use Rattle.std.proofs.lemmas.Bool.{cases_Bool, cases_eq, le-ltb, lt-ltb, ltb-true, ltb-false, eqb-true, eqb-false, eq-eqb, ne_eqb, or_parts, or_from, and_parts, and_from}
 use Rattle.wasm_defs.specs.declared.fault.Kind.{Kind}

@@ -1,4 +1,4 @@
--- What stands in a section is read as it is spelled: counts, bodies, and the rows of the sections that hold vectors.
+-- What is in a section is read as it is encoded: counts, bodies, and the rows of the sections that hold vectors.
 use Rattle.std.proofs.Common.{◌≡◌, ◌≢◌, ◌≤◌, ◌<◌, ℕ, ◌+◌, ◌-◌, pos, Bool, false, ltb, eqb, ◌||◌, if◌then◌else◌, List, ◌++◌, length, refl, sym, ap, subst, ◌∙◌, arith, inl, inr}
 use Rattle.std.proofs.lemmas.Bool.{cases_eq, le-ltb, ltb-false, eq-eqb, ne_eqb, or_parts, or_from}
 use Rattle.wasm_defs.specs.declared.fault.Kind.{Kind}
@@ -188,7 +188,7 @@ body_found c ready =
     read exactly (λ bytes. length bytes ≡ n.1) (run n.1) _ _ d (run_spelt n.1) ready (λ bytes e run_found ready.
     body_from n c d e bytes n_found run_found (ltb-false n.1 2 (or_parts (ltb n.1 2) (ltb (room_of d) n.1) right).0) (ltb-false max_body n.1 small)))))
 
--- a body behind its size
+-- a body after its size
 abbrev body_rest : ℕ × ℕ → Reader Part
 body_rest n = room >>= (λ left. if ltb n.1 2 || ltb left n.1 then refused Malformed n.0 else if ltb max_body n.1 then refused Limit n.0 else (here >>= (λ at. run n.1 >>= (λ bytes. done (Coded (record { size = n.0; first = at; bytes = bytes }))))))
 

@@ -15,7 +15,7 @@ use Rattle.wasm_laws.specs.Kept.{TakesNothing}
 use Rattle.wasm_laws.proofs.Behind.{uses_keep}
 use Rattle.wasm_laws.proofs.Typed.{types_of-append, functions_of-append}
 
--- ---- what is there stays there with more behind it
+-- ---- what is there stays there with more after it
 
 pub found_more : {A : Type 0} (xs ys : List A) (i : ℕ) (a : A) → slice_get xs i ≡ Some a → slice_get (xs ++ ys) i ≡ Some a
 found_more [] ys i a e = absurd cc

@@ -108,7 +108,7 @@ pub record Field {A : Type 0} (p : Reader (ℕ × A)) : Type 0 where
   pub steady : (marks : List ℕ) → Steady marks p
   pub marked : (c : Cursor) → IfGot (IsMarked c) (p c)
 
--- behind a field it is a mark
+-- after a field it is a mark
 pub bind_field : {A B : Type 0} (marks : List ℕ) (p : Reader (ℕ × A)) (f : ℕ × A → Reader B) → Field p → ((x : ℕ × A) → Steady (x.0 ∷ marks) (f x)) → Steady marks (p >>= f)
 bind_field marks p f hp hf =
     let sp = hp.steady marks in

@@ -31,7 +31,7 @@ IsIndexed types (Imported from what kind type_index) = type_index.1 < types
 IsIndexed types (Function type_index) = type_index.1 < types
 IsIndexed types _ = Unit {0}
 
--- so of each item, where so many types stand before the items
+-- so of each item, where so many types are before the items
 abbrev pub AreIndexed : ℕ → List Item → Type 0
 AreIndexed types [] = Unit {0}
 AreIndexed types (x ∷ xs) = IsIndexed types x × AreIndexed (types + length (types_of (x ∷ []))) xs

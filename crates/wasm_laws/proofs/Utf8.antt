@@ -44,7 +44,7 @@ first_stray b low high = rw (le-ltb b 0x80 low, lt-ltb b 0xC2 high) refl
 first_two : (b : ℕ) → 0xC2 ≤ b → b < 0xE0 → first_byte b ≡ due_in 1 0x80 0xBF
 first_two b low high = rw (le-ltb b 0x80 (omega arith), le-ltb b 0xC2 low, lt-ltb b 0xE0 high) refl
 
--- a row of the table: so many bytes are due behind the first one, the second of them within a range, which is narrower at
+-- a row of the table: so many bytes are due after the first one, the second of them within a range, which is narrower at
 -- the least first byte, and at one more
 record Row (due b low high narrow least : ℕ) : Type 0 where
   from : ℕ

@@ -15,7 +15,7 @@ use Rattle.wasm_laws.proofs.Faulty.{no_token_fault, token_fault_once}
 use Rattle.wasm_laws.proofs.Spelling.{AllWithin, Places, places_lower, stops_at, missing, IsOpen, open_later, spelled_places}
 use Rattle.wasm_laws.proofs.BodyLaws.{local_groups_steady}
 
--- ---- a body has one fault
+-- ---- a body has one error
 
 none_is_some : (x : Option Refusal) (r : Refusal) → x ≡ None → x ≡ Some r → ⊥
 none_is_some x r p q = absurd cc
@@ -29,7 +29,7 @@ code_fault_once c code r s (inl f) (inr g) = absurd (no_token_fault c code.token
 code_fault_once c code r s (inr f) (inl g) = absurd (no_token_fault c code.tokens s f.viable g)
 code_fault_once c code r s (inr f) (inr g) = some_once code.fault r s f.is g.is
 
--- ---- a body's fault stands in the body
+-- ---- a body's error is in the body
 
 read_places : (first : ℕ) (bytes : List ℕ) (x : Read (List Group)) → 1 ≤ length bytes → Advances (body_cursor first bytes) x → StandsIn first (body_cursor first bytes) x
     → Places first (first + length bytes) (last_of first bytes) (read_code (last_of first bytes) x (length bytes + 1)).code
@@ -64,13 +64,13 @@ code_fault_inside c b r some (inr s) =
       | inr h ↦ (omega arith, omega arith)
     ]
 
--- ---- a valid body has no fault
+-- ---- a valid body has no error
 
 pub valid_has_no_fault : (c : Context) (code : Spelled) (tree : Seq) (r : Refusal) → IsValidCode c code tree → IsCodeFault c code r → ⊥
 valid_has_no_fault c code tree r v (inl t) = no_token_fault c code.tokens r ([], tree, append-nil (tokens_of code.tokens) ∙ v.tree_is, v.typed) t
 valid_has_no_fault c code tree r v (inr s) = none_is_some code.fault r v.whole s.is
 
--- ---- an index whose type serves has no fault
+-- ---- an index whose type serves has no error
 
 true_or_false : (b : Bool) → b ≡ true → b ≡ false → ⊥
 true_or_false b t f = cc
@@ -88,7 +88,7 @@ valid_bodies items k (Coded b ∷ parts) [] r v f = v
 valid_bodies items k (Coded b ∷ parts) (tree ∷ trees) r v (inl f) = valid_has_no_fault (context_at items k b) (read_of b).code tree r v.0 f
 valid_bodies items k (Coded b ∷ parts) (tree ∷ trees) r v (inr f) = valid_bodies items (suc k) parts trees r v.1 f
 
--- a module has no fault
+-- a module has no error
 pub module_has_no_fault : (bytes : List ℕ) (trees : List Seq) (r : Refusal) → ending_fault (length bytes) (module_read bytes).ending ≡ None
     → AreValid [] 0 (module_read bytes).parts trees → IsFault bytes r → ⊥
 module_has_no_fault bytes trees r whole valid (inl f) = none_is_some _ r whole f

@@ -20,7 +20,7 @@ use Rattle.wasm_laws.proofs.SpeltRows.{vector_row}
 use Rattle.wasm_laws.proofs.Lasts.{all_keep_last, all_noted_last, sections_keep_last, all_last, all_declared, all_counted}
 use Rattle.wasm_laws.proofs.Rereading.{prepend, header_read, vector_read, custom_read_whole, start_read_whole, code_read_whole}
 
--- ---- what stands behind a section
+-- ---- what follows a section
 
 count_append : (xs ys : List Item) → declared_count (xs ++ ys) ≡ declared_count xs + declared_count ys
 count_append [] ys = omega arith
@@ -34,7 +34,7 @@ undeclared : (id : ℕ) (xs : List Item) → AllOf id xs → id ≢ 3 → declar
 undeclared id [] a other = refl
 undeclared id (x ∷ xs) a other = omega (arith, one_undeclared id x a.0 other, undeclared id xs a.1 other, count_cons x xs)
 
--- no bodies stand behind the code section, and no functions behind theirs
+-- no bodies follow the code section, and no functions after theirs
 late_bodies : (last : ℕ) (xs : List Section) → AreInOrder last xs → 10 ≤ last → bodies_in xs ≡ []
 late_bodies last [] o late = refl
 late_bodies last (x ∷ xs) o late = of_payload x.payload o.0 o.1 (λ l rest late. late_bodies l xs rest late)
@@ -57,7 +57,7 @@ late_functions last at bytes (x ∷ xs) s o late =
     of_payload (Starting index) at content s b rest h = h 8 rest (omega arith)
     of_payload (Bodies count end bodies) at content s b rest h = h 10 rest (omega arith)
 
--- ---- before and behind a section
+-- ---- before and after a section
 
 -- with these items and bodies to come there is a body for each declared function, unless the code section came
 record Matched (seen : Seen) (items : List Item) (bodies : List Body) : Type 0 where
@@ -71,7 +71,7 @@ owes_nothing seen h =
       | inr late ↦ elim (cases_Bool (ltb 0 seen.declared)) [ inl some ↦ rw (some, le-ltb seen.last 10 late) refl | inr none ↦ rw none refl ]
     ]
 
--- what is seen behind a section
+-- what is seen after a section
 abbrev after : Seen → Payload → Seen
 after seen p = all_noted (entered seen (payload_id p)) (payload_items p)
 
@@ -160,7 +160,7 @@ section_read_at next seen p offset at f content back follows size s small k bodi
 abbrev IsWhole : List Part → Run → Type 0
 IsWhole parts r = (s : Seen) × (r ≡ record { parts = parts; ending = Whole s })
 
--- sections that spell what follows are read whole, where fewer bytes than that follow
+-- sections that encode what follows are read whole, where fewer bytes than that follow
 abbrev ReadsWhole : ℕ → Next → Type 0
 ReadsWhole most next = (seen : Seen) (xs : List Section) (at : ℕ) (rest : List ℕ) → length rest < most → at + length rest ≤ max_module → each_is section_is xs at rest → AreInOrder seen.last xs → SectionsKeep seen xs → Matched seen (items_in xs) (bodies_in xs)
     → IsWhole (parts_in xs) (next seen (cursor at rest no_end))

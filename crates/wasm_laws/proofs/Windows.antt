@@ -77,7 +77,7 @@ cut_advances A c =
       | inr ge ↦ rw (le-leb (room_of c) (length c.rest) ge) tt
     ]
 
--- a fault at the cursor, where a byte is there if the section's end isn't near
+-- an error at the cursor, where a byte is there if the section's end isn't near
 pub stands_here : (low : ℕ) (c : Cursor) (kind : Kind) → low ≤ c.at → (length c.rest < room_of c → 0 < length c.rest) → Stands low c (record { offset = c.at; kind = kind })
 stands_here low c kind le some = record { from = le; within = omega arith; at_a_byte = λ h. omega (arith, some h) }
 
@@ -139,7 +139,7 @@ byte_field = record {
 
 -- ---- numbers
 
--- more bytes change no number and no fault
+-- more bytes change no number and no error
 abbrev pub ReadsOn : Reading → Reading → Type 0
 ReadsOn (Number n len) r = r ≡ Number n len
 ReadsOn CutOff r = Unit {0}
@@ -167,7 +167,7 @@ number_reads_on signed bits (b ∷ bytes) more =
       ])
     ]
 
--- a number lies in its bytes, and has one at least; no number comes of none
+-- a number is in its bytes, and has one at least; no number comes of none
 abbrev pub LiesIn : ℕ → Reading → Type 0
 LiesIn most (Number n len) = (1 ≤ len) × (len ≤ most)
 LiesIn most CutOff = Unit {0}

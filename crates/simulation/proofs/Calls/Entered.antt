@@ -1,4 +1,4 @@
--- The entry of a function: its frame behind the prologue, or the trap of a stack that has no room.
+-- The entry of a function: its frame after the prologue, or the trap of a stack that has no room.
 use Rattle.std.proofs.Common.{◌≡◌, ℕ, zero, suc, ◌+◌, ◌-◌, ◌*◌, ◌^◌, ◌<◌, ◌≤◌, inl, ⊎_elim, false, List, [], ◌∷◌, ◌++◌, length, map, reverse, Option, Some, None, refl, sym, ap, ◌∙◌, subst, arith}
 use Rattle.std.specs.Prelude.{slice_get, nat_lt}
 use Rattle.std.proofs.lemmas.Bool.{cases_lt, cond-true, cond-false, lt-ltb, le-ltb}
@@ -47,7 +47,7 @@ same_windows b c e same fit Memory = subst (λ (l : List ℕ). length l ≤ wind
 zero_holds : (x : ℕ) (v : Value) (t : ValType) → v ≡ zero_of t → x ≡ 0 → Holds x v
 zero_holds x v t e none = subst (Holds x) (sym e) (record { is = none ∙ sym (zero_word t); range = modulus_positive t })
 
--- ---- the locals behind a prologue
+-- ---- the locals after a prologue
 
 module _ (code : List (Option Op)) (l : Layout) (f : Func) (base : ℕ) (arguments : List Value) (s : State) (e : Enters code l base s)
     (params : l.params ≡ length f.ty.params) (locals : l.locals ≡ length f.locals) (types : types_of_values arguments ≡ f.ty.params) (stand : Locals s.bytes base arguments) where

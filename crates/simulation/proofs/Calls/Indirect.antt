@@ -1,4 +1,4 @@
--- A call by a row of the table, up to the function's first word.
+-- A call by a row of the table, up to the function's first instruction word.
 use Rattle.std.proofs.Common.{◌≡◌, ℕ, suc, ◌+◌, ◌-◌, ◌^◌, ◌<◌, ◌≤◌, Bool, true, false, List, [], ◌∷◌, ◌++◌, length, take, drop, reverse, Option, Some, None, refl, sym, ap, ◌∙◌, subst, arith}
 use Rattle.std.specs.Prelude.{slice_get, nat_lt}
 use Rattle.std.proofs.lemmas.List.{length-append, length-reverse, reverse-reverse, take-append-drop, length-take-le}
@@ -143,7 +143,7 @@ module _ (text : List (Option Op)) (near : length text ≤ 2 ^ 26) (inst : Insta
     has : HasAt text (k.begin + m.here) (Words (part (record start.frame { operands = drop (length ty.params) below; code = rest })))
     has = subst (λ (i : ℕ). HasAt text (k.begin + m.here) (Words i)) slots_are has_here
 
-    -- behind the jump
+    -- after the jump
     has_back : HasAt text (k.begin + (m.here + 38)) (back (part (record start.frame { operands = drop (length ty.params) below; code = rest })))
     has_back =
         let slots = part caller in

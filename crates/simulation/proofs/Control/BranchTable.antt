@@ -102,7 +102,7 @@ picks f [] l n = ap (slice_get (f l ∷ [])) (cond-false (nat_lt n 0) n 0 (le-lt
 picks f (k ∷ ls) l zero = ap (slice_get (f k ∷ (map f ls ++ f l ∷ []))) (cond-true (nat_lt 0 (suc (length (map f ls)))) 0 (suc (length (map f ls))) (lt-ltb 0 (suc (length (map f ls))) (omega arith)))
 picks f (k ∷ ls) l (suc n) = ap (slice_get (f k ∷ (map f ls ++ f l ∷ []))) (chosen_next n (length (map f ls))) ∙ picks f ls l n
 
--- jumps of one size: where each of them stands
+-- jumps of one size: where each of them is
 module _ (text : List (Option Op)) (w : Around) (begin j n : ℕ) where
   jumps_at : (ls : List Label) (here i : ℕ) (l : Label) → AllTake n ls → slice_get ls i ≡ Some l → HasAt text (begin + here) (jumps w j here ls)
       → HasAt text (begin + (here + i * jump_count n)) (jump_words w j (here + i * jump_count n) l) × (i * jump_count n + length (jump_words w j (here + i * jump_count n) l) ≤ length (jumps w j here ls))
@@ -172,7 +172,7 @@ module _ (text : List (Option Op)) (near : length text ≤ 2 ^ 26) (inst : Insta
     types : types_of_values below ≡ x.takes ++ x.stops.rest
     types = let e = x.stops.before in cc
 
-    -- where the jumps stand
+    -- where the jumps are
     abbrev first : ℕ
     first = m.here + length (table_front m.running.compiled.around (length ((v ∷ below) ++ belows start.frame.labels)) (length (map (label_at m.running.compiled.around (labels_of m.running.os)) ls)) (label_at m.running.compiled.around (labels_of m.running.os) l).takes)
 

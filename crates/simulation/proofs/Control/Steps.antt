@@ -36,7 +36,7 @@ use Rattle.simulation.proofs.Control.Entries.{sits_whole}
 
 -- ---- what rules say of types
 
--- after which nothing is live
+-- after which nothing is reachable
 pub record StopsAt (params from : Types) : Type 0 where
   pub rest : Types
   pub before : from ≡ params ++ rest

@@ -46,7 +46,7 @@ up_and_down w n e = omega arith
 abbrev pub chosen : (n count : ℕ) → ℕ
 chosen n count = if nat_lt n count then n else count
 
--- a register holds a value, behind so many steps that change no byte
+-- a register holds a value, after so many steps that change no byte
 record Held (code : List (Option Op)) (most : ℕ) (s : State) (at r value : ℕ) : Type 0 where
   steps : ℕ
   some : 0 < steps

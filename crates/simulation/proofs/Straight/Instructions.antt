@@ -1,4 +1,5 @@
--- One instruction: its words lead from the operands and locals before it to those after it, or to its trap.
+-- One instruction: its instruction words lead from the operands and locals before it to those after it, or
+-- to its trap.
 use Rattle.std.proofs.Common.{◌≡◌, false, ℕ, ◌+◌, ◌*◌, ◌<◌, ◌≤◌, ◌⊎◌, List, ◌∷◌, length, Option, refl}
 use Rattle.rv_isa.specs.declared.operations.Op.{Op}
 use Rattle.rv_isa.specs.Steps.{State, Bytes, reg}
@@ -42,7 +43,7 @@ pub record Halts (code : List (Option Op)) (store : Store) (cap : ℕ) (locals o
   pub gives : effect store locals cap p operands ≡ Traps kind
   pub steps : ℕ
   pub short : steps ≤ most_steps
-  -- behind the word that asks for it, which is among the places of the instruction's traps
+  -- after the word that asks for it, which is among the places of the instruction's traps
   pub behind : ℕ
   pub traps : TrapsAt code steps behind (trap_number kind) s
   pub word : ℕ

@@ -97,7 +97,7 @@ module _ (code : List (Option Op)) (c : Context) (labels : List Label) (w : Arou
 
 -- ---- what changes the store
 
--- slots stay where the regions beside the stack change
+-- slots stay where the regions outside the stack change
 slot_kept : (old bytes : Bytes) → bytes.stack ≡ old.stack → (k : ℕ) → slot_at bytes k ≡ slot_at old k
 slot_kept old bytes same k = ap (λ (stack : List ℕ). value_at 8 (8 * k) stack) same
 

@@ -35,7 +35,7 @@ module _ (code : List (Option Op)) (c : Context) (labels : List Label) (w : Arou
   abbrev Holding : List Value → Type 0
   Holding operands = Matches w.layout base there b locals operands s
 
-  -- ---- no words
+  -- ---- no instruction words
 
   pub nop_follows : (operands : List Value) (mid : Types) → MovesFixed [] [] (types_of_values operands) mid → Holding operands → Goes operands Nop mid
   nop_follows operands mid f m =

@@ -9,7 +9,7 @@ use Rattle.body_validator.specs.Runs.{end_of}
 use Rattle.body_validator.proofs.RunLaws.{end_at, same_run, runs_found, runs_missed}
 use Rattle.body_validator.proofs.locals.type_in_runs.Goals as goal
 
--- stands where there is no run
+-- is where there is no run
 abbrev first : Run
 first = record { end = 0; ty = ValType.I32 }
 

@@ -10,7 +10,7 @@ use Rattle.control_emit.proofs.Fronts.{front-same, front-of, front-later}
 use Rattle.control_emit.proofs.Moves.{appended}
 use Rattle.control_emit.proofs.labels.Labels.append_jump_if.Goals as goal
 
--- the words in front of the jump
+-- the words before the jump
 front : (w : Around) (h takes : ℕ) (old mid new : List ℕ) → mid ≡ old ++ map word_of (load_operand w t0 (h - 1)) → new ≡ mid ++ map word_of (unless_words w (length mid) takes)
     → new ≡ old ++ map word_of (load_operand w t0 (h - 1) ++ unless_words w (length old + 3) takes)
 front w h takes old mid new first second =
