@@ -1,4 +1,19 @@
 //! What is done with one ticket.
+//!
+//! A worker looks at the board, and then tries the batch:
+//!
+//! ```text
+//! look                    the least key that was reported
+//! drain                   an error before the batch was seen: nobody runs it, and the ticket is done with
+//!   or claim              Lost: another seat has it, and the ticket is done with
+//!     enter(gate)         Won: the caller's gate may hold the worker back
+//!     compile_batch       the bodies' codes, up to the first with an error
+//!     report, finish      that error, if there is one, and then the word `done`
+//!     finished(gate)
+//! ```
+//!
+//! With a batch at 100 and one at 200, an error at 150 in the first one, and two workers: the second batch is run where its
+//! worker claims it first, and drained where its worker sees that error first. Either way the error at 150 is the least one.
 ghost use Rattle.std.specs.Prelude.{true, ℕ, ◌≡◌, ◌<◌, ◌^◌, ◌↔◌, ◌++◌, ◌∷◌, [], All, IsTrue, IfOk, IfSome, OnOk, OnErr, length};
 ghost use Rattle.std.specs.Arc.{arc_value};
 ghost use Rattle.cancel_drain.specs.Views.{times};
@@ -165,6 +180,7 @@ pub fn serve<G: Gate>(
     ensures running { OnOk result (seat.new.view.running ≡ seat.old.view.running) }
     ensures served { OnOk result (Fits context.now board.now.functions ticket → IsServed seat.new.view ticket) }
 {
+    // Why: docs/DECISIONS.md, "A ticket that doesn't fit is passed over"
     if !fits(board, context, &ticket) {
         return Ok(());
     }

@@ -50,6 +50,7 @@ impl Ticket {
         ensures ticket { IfSome result (λ t. arc_value t.batch ≡ arc_value batch) }
         ensures none { IfNone result (¬ IsLow (arc_value batch)) }
     {
+        // Why: docs/DECISIONS.md, "Tickets are made of batches whose offsets are below 2^60 and whose bodies have bytes"
         if batch.start < FAR && are_low(batch.bodies.as_list()) {
             Some(Ticket::new(batch))
         } else {

@@ -1,4 +1,16 @@
 //! A body's code: its tokens are read one after the other, checked, and compiled.
+//!
+//! Each token goes through four calls, before the next one is read:
+//!
+//! ```text
+//! byte, instruction    the opcode and its immediates           or malformed, unsupported, limit
+//! Check::token         is it valid, reachable, at which height or malformed, invalid
+//! note_token           where its traps are
+//! take_step            its instruction words are appended; a block's end patches the jumps that wait for it
+//! ```
+//!
+//! So `41 01 41 02 6A 0B` (`i32.const 1`, `i32.const 2`, `i32.add`, `end`) is gone over once: two constants go into the slots
+//! of operands 0 and 1, and their sum into that of operand 0.
 
 ghost use Rattle.std.specs.Prelude.{◌≡◌, ◌≢◌, ◌≤◌, false, ℕ, ◌+◌, ◌*◌, List, [], length, OnOk};
 ghost use Rattle.wasm_defs.specs.Bodies.{Spelled as SpelledGiven};
@@ -51,6 +63,7 @@ pub(crate) fn stop_of(stop: Stop, last: u64) -> BodyStop
 {
     match stop {
         Stop::Refused(refusal) => BodyStop::Refused(refusal),
+        // Why: docs/DECISIONS.md, "Whole instructions are judged before a missing `end`"
         Stop::Wants => BodyStop::Refused(malformed(last)),
         Stop::NoMemory => BodyStop::NoMemory,
     }
@@ -139,6 +152,7 @@ pub fn judge_code(
     if !fields.rest().is_empty() {
         return Err(BodyStop::Refused(malformed(fields.offset())));
     }
+    // Why: docs/DECISIONS.md, "Of a body that no text has room for not all words are made"
     if draft.is_too_long() {
         return Err(BodyStop::TooLong);
     }

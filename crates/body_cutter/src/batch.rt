@@ -9,6 +9,7 @@ use std::marker::Model;
 /// The bodies of a batch.
 #[derive(Drop)]
 pub struct Bodies {
+    // Why: docs/DECISIONS.md, "The bodies of a batch are a linked list"
     bodies: LinkedList<Body>,
 }
 

@@ -1,4 +1,16 @@
 //! The cutter: bytes go in as they come, and batches of bodies come out.
+//!
+//! Of a body it reads the size alone. A batch closes where its bodies have `batch_bytes` bytes, and where the section ends.
+//! Here two bodies, of two and of three bytes, are in a section whose first size has the offset 20 and which ends at 27:
+//!
+//! ```text
+//! Cutter::new(alloc, 2, 0, 20, 27, 4)
+//! feed(02 00 0B 03)       Ok(4)   the first body, and the size of the second one
+//! take_batch()            None    two bytes of bodies are less than four
+//! feed(00 01 0B 0B 02)    Ok(3)   up to the section's end; what follows isn't taken
+//! take_batch()            Some    batch 0, whose first size is at 20, with the bodies of functions 0 and 1
+//! is_whole()              true
+//! ```
 
 ghost use Rattle.std.specs.Prelude.{◌≡◌, ◌<◌, ◌≤◌, ◌+◌, ◌^◌, ◌++◌, ℕ, List, length, take, true, false, None, OnOk, OnErr};
 ghost use Rattle.body_cutter.specs.Sections.{bodies_from, Whole};
@@ -67,6 +79,7 @@ impl Cutter {
         if let Some(refusal) = self.walk.stop {
             return Err(FrontStop::Refused(refusal));
         }
+        // Why: docs/DECISIONS.md, "A cutter with a size owed and no byte of its section left refuses at once"
         let taken = first_of(bytes, self.walk.end - self.walk.at);
         if self.take_in(taken).is_err() {
             return Err(FrontStop::NoMemory);
@@ -86,6 +99,7 @@ impl Cutter {
         ensures place { OnOk result ((self.new.place.stop ≡ None → self.new.place.at ≡ self.old.place.at + length piece.now) × (self.new.place.end ≡ self.old.place.end)) }
         ensures err { OnErr result (self.new ≡ self.old) }
     {
+        // Why: docs/DECISIONS.md, "Where memory runs out, the bytes of the body in hand are cut back"
         let saved = self.walk.save();
         if self.walk.run(piece).is_err() || self.queue.append(&mut self.walk.done).is_err() {
             self.walk.restore(saved);
@@ -131,6 +145,7 @@ impl Cutter {
         if let Some(refusal) = self.walk.stop {
             return Err(FrontStop::Refused(refusal));
         }
+        // Why: docs/DECISIONS.md, "`Cutter::end` and the readers of fields in `leb_feed` take no memory"
         if self.walk.is_over() {
             return Ok(());
         }

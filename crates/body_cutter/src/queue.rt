@@ -52,6 +52,7 @@ impl Tally {
     {
         let all = self.all + 1;
         let bytes = self.bytes + len as u64;
+        // Why: docs/DECISIONS.md, "With 0 bytes as the bound each body is a batch of its own"
         if u64::from(least) <= bytes {
             return Tally {
                 all,

@@ -1,4 +1,17 @@
 //! The check of a function's body, token by token.
+//!
+//! It is given the groups of locals and then the tokens, each with its offset, and says of each where it is, or refuses it.
+//! A refusal changes nothing. Here is a body of a function from nothing to an i32:
+//!
+//! ```text
+//! let mut check = Check::new(alloc, context, index)?;
+//! check.token(30, i32.const 1)    Ok(Step { live: true, height_before: 0, height_after: 1 })
+//! check.token(32, i32.const 2)    Ok(Step { live: true, height_before: 1, height_after: 2 })
+//! check.token(34, i32.add)        Ok(Step { live: true, height_before: 2, height_after: 1 })
+//! check.token(35, i64.eqz)        Err(Refused(invalid at 35)): its operand would be an i64
+//! check.token(35, unreachable)    Ok(Step { live: true, height_before: 1, height_after: 0 })
+//! check.token(36, i64.eqz)        Ok(Step { live: false, .. }): what isn't reachable may take anything
+//! ```
 
 ghost use Rattle.std.specs.Prelude.{◌≡◌, ◌↔◌, IsTrue, IsSome, List, [], ◌∷◌, ◌++◌, length, IfOk, OnOk};
 ghost use Rattle.wasm_defs.specs.declared.token.Token.{Token as TokenGiven};
@@ -30,6 +43,7 @@ use wasm_defs::{Kind, MAX_LOCALS, Refusal, Token, ValType};
 #[derive(Clone, Copy, Debug, PartialEq, Eq)]
 pub struct Step {
     pub live: bool,
+    // Why: docs/DECISIONS.md, "Heights of the check are `usize`"
     pub height_before: usize,
     pub height_after: usize,
 }
@@ -170,6 +184,7 @@ impl<'a> Check<'a> {
         let height_before = self.stack.height();
         match take(&self.scope, &mut self.stack, token) {
             Ok(()) => {}
+            // Why: docs/DECISIONS.md, "The first token at fault is the first after which no others complete the body"
             Err(Stop::Refused) => {
                 return Err(TokenStop::Refused(Refusal {
                     offset,

@@ -19,6 +19,7 @@ pub struct Run {
 #[derive(Drop)]
 pub struct Locals<'a> {
     params: &'a [ValType],
+    // Why: docs/DECISIONS.md, "Declared locals are kept in runs of one type"
     runs: Vec<Run>,
 }
 

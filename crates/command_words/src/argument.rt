@@ -21,6 +21,7 @@ fn is_plain(text: &str) -> bool
     ensures { result ≡ is_plain text.now }
 {
     match text.as_bytes() {
+        // Why: docs/DECISIONS.md, "Numbers of options are read as clap's ranged reader of unsigned numbers reads them"
         [b'+', ..] => false,
         [b'-', digits @ ..] => digits.len() <= MOST_DIGITS,
         digits => digits.len() <= MOST_DIGITS,

@@ -61,6 +61,7 @@ struct Goal {
 #[derive(Drop)]
 pub struct Labels {
     labels: Vec<Open>,
+    // Why: docs/DECISIONS.md, "Jumps that wait lie in one list"
     jumps: Vec<Jump>,
 }
 
@@ -181,6 +182,7 @@ fn settled(
     ensures ok { OnOk outcome (buffer.new ≡ buffer.old) }
     ensures err { OnErr outcome (buffer.new ≡ take start buffer.old) }
 {
+    // Why: docs/DECISIONS.md, "After want of memory labels are as they were"
     if outcome.is_err() {
         buffer.truncate(start);
     }

@@ -14,6 +14,7 @@ use wasm_defs::{Kind, MAX_TEXT, Refusal};
 pub struct BodyCode {
     /// The offset of the body's size in the module.
     pub size_offset: u64,
+    // Why: docs/DECISIONS.md, "Codes that are linked are shared"
     pub code: Arc<Code, Global>,
 }
 
@@ -33,6 +34,7 @@ impl BodyCode {
 pub fn text_limit(context: &Context, codes: &[BodyCode]) -> Option<Refusal>
     ensures { IsTextLimit context.now codes.now result }
 {
+    // Why: docs/DECISIONS.md, "`text_limit` is for those who have all codes"
     let mut words: u128 = 2 + 18 * context.imports().len() as u128;
     for body in codes {
         words += body.code().words.as_slice().len() as u128;

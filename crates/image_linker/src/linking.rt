@@ -1,4 +1,18 @@
 //! Links the codes of a module's functions.
+//!
+//! The text has a stub that ends a run, a stub for each import, and the functions in the order of their indices. With one
+//! import and two declared functions of 30 and 50 instruction words:
+//!
+//! ```text
+//! index     instruction words
+//!  0        2    the exit stub
+//!  2       18    the stub of function 0, which is imported
+//! 20       30    function 1
+//! 50       50    function 2
+//! ```
+//!
+//! Codes come without distances. A call of function 2 that is word 6 of function 1 gets that from index 26 to index 50, which
+//! is 96 bytes: its two words (AUIPC, JALR) are written again. Rows of the table and exports get the functions' offsets.
 
 ghost use Rattle.std.specs.Prelude.{◌≡◌, ◌≤◌, ◌<◌, ◌+◌, ◌*◌, ◌++◌, ◌^◌, ℕ, length, map, take, drop, slice_index, slice_set, IfOk};
 ghost use Rattle.frame_layout.specs.Functions.{with_distance, with_distances};
@@ -53,6 +67,7 @@ fn lead(words: &mut [u32], call_to: &Relocation, starts: &[u32], here: usize)
     ensures { words.new ≡ with_distance (distances starts.now here call_to.now.place call_to.now.function) call_to.now.place words.old }
 {
     let place = call_to.place;
+    // Why: docs/DECISIONS.md, "`link` asks nothing of the calls of a code"
     if words.len() <= place {
         return;
     }

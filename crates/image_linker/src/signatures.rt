@@ -17,6 +17,7 @@ pub(crate) fn no_copies(
 ) -> Result<Vec<Option<SharedType>>, AllocError>
     ensures { IfOk result (λ copies. AreOf types.now copies.items) }
 {
+    // Why: docs/DECISIONS.md, "Imports and exports of one type share it"
     let mut copies = Vec::with_capacity(alloc, types.len())?;
     for _ in 0..types.len() {
         copies.push(None)?;

@@ -38,6 +38,7 @@ pub(crate) fn have_rows(rows: u32, segments: &[ElementRow]) -> bool
 fn like_of(context: &Context, function: u32) -> u32
     ensures { result ≡ like_of context.now.types (slice_get context.now.functions function) }
 {
+    // Why: docs/DECISIONS.md, "The index that stands for a function's type in its row is looked up by the function's index"
     match context.type_index(function) {
         Some(index) => {
             if context.has_type(index) {

@@ -1,4 +1,16 @@
 //! Gathers the context of a module from its items.
+//!
+//! Items are added in the order of the module. What is added last can be named at once, so the context may be lent to those
+//! who compile bodies while data segments are still to come:
+//!
+//! ```text
+//! let mut builder = ContextBuilder::new(alloc);
+//! builder.add(&signature)?;    // Item::Signature: type 0, from nothing to nothing
+//! builder.add(&imported)?;     // Item::Imported of type 0: function 0
+//! builder.add(&function)?;     // Item::Function of type 0: function 1
+//! builder.add(&start)?;        // Item::Start of function 1; of function 2 it would be refused as invalid
+//! builder.context()            // one type, two functions, of which one is imported
+//! ```
 
 ghost use Rattle.std.specs.Prelude.{◌≡◌, [], true, false, OnOk, OnErr, IfOk, Some, Err};
 ghost use Rattle.std.specs.Option.{option_or};
@@ -226,6 +238,7 @@ impl ContextBuilder {
             Item::Exported { name, kind, index } => {
                 context.add_export(export_of(alloc, &name.1, kind.1, index.1)?)
             }
+            // Why: docs/DECISIONS.md, "The start function is judged in the context of the items before its section"
             Item::Start { index } => return add_start(context, *index),
             Item::Element {
                 place,

@@ -40,6 +40,7 @@ pub fn emit_const(
     let [x, y, z] = slot_store(Register::T0, layout.operand(height));
     match value {
         Value::I32(n) => {
+            // Why: docs/DECISIONS.md, "Constants of an `i32` are extended by their sign"
             let [a, b, c, d, e] = const_32(Register::T0, extended(n));
             buffer.append(&[a, b, c, d, e, x, y, z])
         }

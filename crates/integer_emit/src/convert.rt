@@ -33,6 +33,7 @@ fn convert(
     };
     match op {
         ConvertOp::Wrap => on_one(buffer, layout, height, &[low]),
+        // Why: docs/DECISIONS.md, "`i64.extend_i32_s` has no words"
         ConvertOp::ExtendS => Ok(()),
         ConvertOp::ExtendU => on_one(buffer, layout, height, &zero_extend(Register::T0)),
     }

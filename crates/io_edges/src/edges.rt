@@ -80,6 +80,7 @@ fn read_uninterrupted<R: Read>(reader: &mut R, buf: &mut [u8]) -> io::Result<usi
 {
     for _ in 0..u64::MAX {
         match reader.read(buf) {
+            // Why: docs/DECISIONS.md, "A read or write that a signal interrupted is made again"
             Err(error) if error.kind() == ErrorKind::Interrupted => {}
             answer => return answer,
         }

@@ -309,6 +309,7 @@ impl<'a> Fields<'a> {
     {
         let at = self.offset();
         let window = self.window();
+        // Why: docs/DECISIONS.md, "A name is one field"
         if self.room() < len as u64 + u64::from(n) {
             return Err(Self::refused(Kind::Malformed, at));
         }

@@ -1,4 +1,16 @@
 //! LEB128 numbers (Core 5.2.2), whose bytes come one by one.
+//!
+//! A [`Leb`] is made for one number, of so many bits, signed or not. Each byte that is fed has a final answer: `More` where
+//! further bytes can complete the number, `Done` with the number, or `Bad` where no further bytes can.
+//!
+//! ```text
+//! let mut leb = Leb::new(32, false);
+//! leb.feed(0xE5)    More           101 so far; the high bit says that a byte follows
+//! leb.feed(0x8E)    More           14 times 128 more
+//! leb.feed(0x26)    Done(624485)   38 times 16,384 more
+//! ```
+//!
+//! As the fifth byte of such a number 0x10 would be `Bad`: it says more than 32 bits hold.
 
 ghost use Rattle.std.specs.Prelude.{◌≡◌, ◌↔◌, ◌≤◌, ℤ, []};
 ghost use Rattle.wasm_defs.specs.Numbers.{IsCutOff, IsNoNumber, Spells, number_at};
@@ -81,6 +93,7 @@ impl Leb {
     {
         self.bytes[self.count] = byte;
         self.count += 1;
+        // Why: docs/DECISIONS.md, "`Leb` keeps the bytes of its number"
         match read_at(&self.bytes[..self.count], 0, self.bits, self.signed) {
             ReadAt::Number(n, _) => Fed::Done(n),
             ReadAt::CutOff => Fed::More,

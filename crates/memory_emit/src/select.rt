@@ -20,6 +20,7 @@ pub fn emit_select(buffer: &mut WordBuffer, layout: &Layout, height: u32) -> Res
 {
     let [a, b, c] = slot_load(Register::T0, layout.operand(height - 1));
     let over = encode_branch(BranchOp::Bne, Register::T0, Register::ZERO, Imm12::new(14));
+    // Why: docs/DECISIONS.md, "`select` writes nothing where its condition isn't zero"
     let [d, e, f] = slot_load(Register::T0, layout.operand(height - 2));
     let [x, y, z] = slot_store(Register::T0, layout.operand(height - 3));
     buffer.append(&[a, b, c, over, d, e, f, x, y, z])

@@ -115,6 +115,7 @@ pub fn run_beside<R: Threads + Wait + Sync, G: Gate, T: Reading + Drop>(
                         };
                     }
                     Err(refusal) => {
+                        // Why: docs/DECISIONS.md, "A thread that couldn't be started hands its closure back"
                         told.store(mine, SeqCst);
                         let worked = (refusal.value)();
                         let Some(()) = take_in(board, context, cells, &mut seat, &mut rows, worked)

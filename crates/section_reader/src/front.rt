@@ -1,4 +1,20 @@
 //! The push reader: bytes go in as they come, and items come out.
+//!
+//! `feed` takes bytes up to the end of an item at most, and `take_item` gives that item, so both are called in a loop. Here
+//! a module with a type and a function of it comes in two pieces:
+//!
+//! ```text
+//! feed(00 61 73 6D 01 00 00 00 01)             Ok(9)   the preamble, and the id of a type section
+//! take_item()                                  None
+//! feed(04 01 60 00 00 03 02 01 00)             Ok(5)   up to the end of the type
+//! take_item()                                  Some(Item::Signature { .. })
+//! feed(03 02 01 00)                            Ok(4)   the function section
+//! take_item()                                  Some(Item::Function { type_index: (17, 0) })
+//! feed()                                       Ok(0)   what came has no error
+//! end()                                        Err     Ended at 18: a declared function has no body
+//! ```
+//!
+//! The code section's count is an item too. After it the bodies may go elsewhere, and the reader skips them (`skip_to`).
 
 ghost use Rattle.std.specs.Prelude.{◌≡◌, ◌≤◌, ◌<◌, ◌+◌, ◌^◌, ℕ, List, ◌++◌, length, [], true, false, None, Ok, Err, IfSome, IsSome, OnOk, is_some};
 ghost use Rattle.std.proofs.Props.{props};
@@ -179,6 +195,7 @@ impl Front {
         ensures unchanged { OnOk result (self.new ≡ self.old) }
         ensures again { IfSome self.old.refusal (λ r. (result ≡ Err r) × (self.new ≡ self.old)) }
     {
+        // Why: docs/DECISIONS.md, "`Front::end` keeps its refusal"
         if let Some(refusal) = self.refusal {
             return Err(refusal);
         }
@@ -212,6 +229,7 @@ impl Front {
     pub fn can_skip_to(&self, end: u64) -> bool
         ensures { result ≡ can_skip self.now end }
     {
+        // Why: docs/DECISIONS.md, "`is_whole` and `section_end` of a cutter"
         self.steps.is_at_bodies()
             && self.kept.is_empty()
             && self.waiting.is_none()
@@ -238,6 +256,7 @@ impl Front {
         ensures there { IfSome result (λ f. f ≡ record { at = self.now.at; rest = all.now; end = self.now.end }) }
         ensures fits { IfSome result (λ f. self.now.at + length all.now < 2 ^ 63) }
     {
+        // Why: docs/DECISIONS.md, "A push reader says that memory ran out"
         if LAST < self.at || LAST - self.at < all.len() as u64 {
             return None;
         }

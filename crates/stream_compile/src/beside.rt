@@ -188,6 +188,7 @@ fn read_with_workers<R: Threads + Wait + Sync, S: Source, G: Gate>(
         tickets,
         rows,
     } = gathered;
+    // Why: docs/DECISIONS.md, "Workers compile the code section's bodies, and are joined at its end"
     let Some(settled) = settle(alloc, board, seat, &cells, context, gate, rows, tickets) else {
         return Err(AllocError);
     };

@@ -10,6 +10,7 @@ use std::alloc::{AllocError, Global};
 use std::marker::Model;
 
 /// The most bytes that are read: a section's size that begins at the limit on a module's bytes has at most five.
+// Why: docs/DECISIONS.md, "`check` reads up to 67,108,869 bytes"
 const MOST_READ: usize = 67_108_869;
 
 /// How many bytes are asked for at a time.

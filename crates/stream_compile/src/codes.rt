@@ -16,6 +16,7 @@ use std::sync::Arc;
 /// they will be linked.
 #[derive(Drop)]
 pub struct Codes {
+    // Why: docs/DECISIONS.md, "Codes are kept or counted by one type"
     kept: Option<Vec<BodyCode>>,
     count: u32,
     words: u64,

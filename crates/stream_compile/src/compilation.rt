@@ -1,5 +1,22 @@
 //! A module that is compiled while its bytes come: its items are kept, its bodies are validated and compiled batch by batch, and
 //! at its end their codes are linked, where they were kept.
+//!
+//! Bytes go to a `Front` outside the bodies, and to a `Cutter` among them:
+//!
+//! ```text
+//! outside the bodies ---the code section's count---> among the bodies
+//!         ^                                                 |
+//!         +------------------ the section's end ------------+
+//! ```
+//!
+//! However the bytes are cut, one after the other or all at once, these calls come to the same:
+//!
+//! ```text
+//! let mut compilation = Compilation::new(alloc, 4096, Codes::kept(alloc));
+//! compilation.feed(piece, false)?;      // for each piece; an error is answered as soon as no further byte can mend it
+//! compilation.finish()?;                // the bytes are a module
+//! compilation.build()?;                 // its image
+//! ```
 
 ghost use Rattle.std.specs.Prelude.{◌≡◌, ◌<◌, ◌≤◌, ◌++◌, ◌&&◌, ℕ, List, [], All, length, false, None, Err, IsSome, is_some, OnOk, IfOk};
 ghost use Rattle.wasm_defs.specs.Outside.{Run as RunGiven};
@@ -104,6 +121,7 @@ impl Compilation {
         ensures goes { (bytes more : List ℕ) → IsGoing bytes self.old more → GoesOn bytes result self.new more }
         ensures kept { KeepsAlike self.old.codes self.new.codes }
     {
+        // Why: docs/DECISIONS.md, "A fault of a push reader"
         match self.advance(&[]) {
             Ok(_) => Ok(()),
             Err(stop) => Err(stop),

@@ -61,6 +61,7 @@ pub fn stream_check<R: Threads + Wait + Sync, S: Source, G: Gate>(
     ensures answer { ChecksSource (nat_lt (S.faults source.old) (S.faults source.new)) (S.left source.old) (S.left source.new) result }
     ensures front { TookFront (S.left source.old) (S.faults source.old) (S.left source.new) (S.faults source.new) }
 {
+    // Why: docs/DECISIONS.md, "`check` judges by the compiler itself"
     let mut compilation = Compilation::new(alloc, settings.batch, Codes::counted());
     judge_source(rt, alloc, source, gate, settings.workers, &mut compilation)
 }

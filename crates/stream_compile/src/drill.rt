@@ -47,6 +47,7 @@ pub fn drill<R: Threads + Wait + Sync, O: Sink, G: Gate>(
     let bytes = drill_module(alloc, drill.count as u32)?;
     let call = call_of(alloc, drill)?;
     let mut source = Flat::new(bytes.as_slice());
+    // Why: docs/DECISIONS.md, "`drill` compiles its module as any other"
     match stream_compile(rt, alloc, &mut source, gate, settings) {
         Answer::Image(built) => run_image(alloc, &built.image, &call, Some(built.functions), out),
         Answer::Refused(refusal) => Ok(write(out, &rejected(alloc, refusal)?)),

@@ -130,6 +130,7 @@ pub fn read_bodies<S: Source>(
         if intake.cutter.is_whole() {
             return Ok(());
         }
+        // Why: docs/DECISIONS.md, "The reader looks for a reported fault after each piece that it read"
         if desk.sees_fault(board, context) {
             return Ok(());
         }

@@ -68,6 +68,7 @@ fn read_on<S: Source>(
     loop {
         match take_pending(compilation, chunk, up_to_bodies) {
             Ok(()) => {}
+            // Why: docs/DECISIONS.md, "Reading ends at the first fault that is found"
             Err(stop) => {
                 return Some(Ending {
                     judged: Err(stop),
@@ -156,6 +157,7 @@ fn stopped(judged: Result<(), FrontStop>) -> CheckAnswer
             Kind::Malformed | Kind::Unsupported | Kind::Limit | Kind::Invalid => {
                 CheckAnswer::Refused(refusal)
             }
+            // Why: docs/DECISIONS.md, "Where the source failed, a fault of what came decides"
             Kind::Ended => CheckAnswer::ReadFault,
         },
         Err(FrontStop::NoMemory) => CheckAnswer::NoMemory,

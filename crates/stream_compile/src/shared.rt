@@ -127,6 +127,7 @@ fn take_bodies(
         → TakesPart bytes result left spaces.now codes.new }
     ensures kept { KeepsAlike codes.old codes.new }
 {
+    // Why: docs/DECISIONS.md, "The answer is worked out in the order of the bodies"
     for body in bodies.iter() {
         match take_next(alloc, spaces, codes, cells, body, made.pop()) {
             Ok(()) => {}
