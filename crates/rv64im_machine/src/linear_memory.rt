@@ -2,6 +2,7 @@
 ghost use Rattle.std.specs.Prelude.{◌≡◌, ◌+◌, ◌≤◌, ◌<◌, ◌^◌, IfOk, length, take, if◌then◌else◌};
 ghost use Rattle.std.specs.Borrow.{sem};
 ghost use Rattle.std.specs.Bool.{OnFalse};
+ghost use Rattle.std.specs.Vec.{vec_capacity};
 ghost use Rattle.rv_isa.specs.Steps.{load_from, store_to};
 ghost use Rattle.rv_isa.specs.Values.{load_width, store_width};
 ghost use Rattle.rv64im_machine.specs.Linear.{IsBacked, untouched, whole};
@@ -46,13 +47,16 @@ impl LinearMemory {
         })
     }
 
-    /// These bytes, all of them stored.
-    pub fn of(bytes: Vec<u8>) -> Self
-        ensures { result ≡ record { bytes = bytes.items; backed = length bytes.items } }
+    /// A memory of that size whose first bytes are these, which are stored, and zeros behind them. The condition is that there is room for
+    /// all of them.
+    pub fn reserved(bytes: Vec<u8>, size: usize) -> Self
+        requires within { length bytes.items ≤ size }
+        requires room { size ≤ vec_capacity bytes }
+        ensures { result ≡ whole bytes.items size }
     {
         LinearMemory {
-            size: bytes.len(),
             stored: bytes,
+            size,
         }
     }
 
