@@ -1,5 +1,5 @@
 -- A run of an image goes by runs of its machine, with a call of the environment between them.
-use Rattle.std.proofs.Common.{◌≡◌, ℕ, zero, suc, ◌+◌, ◌-◌, ◌==◌, ◌%◌, ◌<◌, ◌≤◌, Bool, true, false, if◌then◌else◌, List, [], ◌++◌, Option, None, Some, refl, sym, ap, ◌∙◌, subst, append_assoc, arith}
+use Rattle.std.proofs.Common.{◌≡◌, ℕ, zero, suc, ◌+◌, ◌-◌, ◌*◌, length, ◌==◌, ◌%◌, ◌<◌, ◌≤◌, Bool, true, false, if◌then◌else◌, List, [], ◌++◌, Option, None, Some, refl, sym, ap, ◌∙◌, subst, append_assoc, arith}
 use Rattle.std.proofs.lemmas.List.{append-nil}
 use Rattle.rv_isa.specs.declared.operations.Op.{Op}
 use Rattle.rv_isa.specs.declared.operations.Op.TheVariants.{Lui, Auipc, Jal, Jalr, Branch, Load, Store, Imm, Shift, Addiw, ShiftW, Reg, RegW, Fence, Ecall, Ebreak}
@@ -7,6 +7,10 @@ use Rattle.rv_isa.specs.declared.stepping.FaultKind.{FaultKind}
 use Rattle.rv_isa.specs.Steps.{State, Bytes, reg, Stepped, Next, Call, Fault, jump, branch, load, store, act, fetched, at_word, step, Ran, Spent, Called, Faulted, go_on, exec}
 use Rattle.rv_isa.specs.Values.{plus, b_value, is_taken}
 use Rattle.rv_isa.specs.Runs.{OnRan, SameSizes}
+use Rattle.rv64im_machine.specs.declared.outcome.Ran.{Ran as Made}
+use Rattle.rv64im_machine.specs.declared.outcome.Ran.TheVariants as made
+use Rattle.rv64im_machine.specs.Outcomes.{IsRun}
+use Rattle.wasm_defs.specs.Memory.{page}
 use Rattle.rv_isa.proofs.SizeLaws.{runs_keep_sizes}
 use Rattle.wasm_defs.specs.declared.types.ValType.{ValType}
 use Rattle.image_format.specs.Contents.{Image}
@@ -235,16 +239,34 @@ module _ (H : Type 0) (Calls : H → HostCall → Reply → H → Type 0) (i : I
 -- ---- sizes
 
 pub of_image : (i : Image) (old new : Machine) (pages : ℕ) → RunsImage i old pages → Keeps old new → RunsImage i new pages
-of_image i old new pages h k = record { code = k.code ∙ h.code; stack = k.stack ∙ h.stack; memory = k.memory ∙ h.memory; within = h.within }
+of_image i old new pages h k = record { code = k.code ∙ h.code; stack = k.stack ∙ h.stack; memory = k.memory ∙ h.memory; within = h.within; backed = omega (arith, h.backed, k.backed) }
 
 -- a run of the machine keeps its text and the sizes of its regions
-pub still_runs : (i : Image) (old new : Machine) (pages n : ℕ) (ran : Ran) → RunsImage i old pages → new.code ≡ old.code → OnRan (λ (t : State). t ≡ state_of new) ran → exec old.code n (state_of old) ≡ ran → RunsImage i new pages
-still_runs i old new pages n ran h code is e =
+pub still_runs : (i : Image) (old new : Machine) (pages n : ℕ) (ran : Ran) → RunsImage i old pages → new.code ≡ old.code → OnRan (λ (t : State). t ≡ state_of new) ran → exec old.code n (state_of old) ≡ ran → page * pages ≤ new.backed → RunsImage i new pages
+still_runs i old new pages n ran h code is e backed =
     let sizes : OnRan (λ (t : State). SameSizes old.bytes t.bytes) ran = subst (OnRan (λ (t : State). SameSizes old.bytes t.bytes)) e (runs_keep_sizes old.code n (state_of old)) in
     let same : SameSizes old.bytes new.bytes = on_ran ran is sizes in
-    of_image i old new pages h (record { code = code; stack = same.stack; memory = same.memory })
+    record { code = code ∙ h.code; stack = same.stack ∙ h.stack; memory = same.memory ∙ h.memory; within = h.within; backed = backed }
   where
     on_ran : (x : Ran) → OnRan (λ (t : State). t ≡ state_of new) x → OnRan (λ (t : State). SameSizes old.bytes t.bytes) x → SameSizes old.bytes new.bytes
     on_ran (Spent t) k g = subst (λ (q : State). SameSizes old.bytes q.bytes) k g
     on_ran (Called left t) k g = subst (λ (q : State). SameSizes old.bytes q.bytes) k g
     on_ran (Faulted left kind t) k g = subst (λ (q : State). SameSizes old.bytes q.bytes) k g
+
+-- and the memory's size
+pub memory_kept : (code : List (Option Op)) (n : ℕ) (ran : Made) (s s' : State) → IsRun code n ran s s' → length s'.bytes.memory ≡ length s.bytes.memory
+memory_kept code n ran s s' row =
+    by_case ran row
+  where
+    keeps : (x : Ran) → OnRan (λ (t : State). t ≡ s') x → exec code n s ≡ x → length s'.bytes.memory ≡ length s.bytes.memory
+    keeps x is e = on_ran x is (subst (OnRan (λ (t : State). SameSizes s.bytes t.bytes)) e (runs_keep_sizes code n s))
+      where
+        on_ran : (x : Ran) → OnRan (λ (t : State). t ≡ s') x → OnRan (λ (t : State). SameSizes s.bytes t.bytes) x → length s'.bytes.memory ≡ length s.bytes.memory
+        on_ran (Spent t) k g = subst (λ (q : State). length q.bytes.memory ≡ length s.bytes.memory) k g.memory
+        on_ran (Called left t) k g = subst (λ (q : State). length q.bytes.memory ≡ length s.bytes.memory) k g.memory
+        on_ran (Faulted left kind t) k g = subst (λ (q : State). length q.bytes.memory ≡ length s.bytes.memory) k g.memory
+
+    by_case : (ran : Made) → IsRun code n ran s s' → length s'.bytes.memory ≡ length s.bytes.memory
+    by_case made.Spent e = keeps (Spent s') refl e
+    by_case (made.Call done) e = keeps (Called (n - done) s') refl e.1
+    by_case (made.Fault done kind) e = keeps (Faulted (n - done) kind s') refl e.1

@@ -12,10 +12,10 @@ length-put at old new inside =
     omega (arith, length-append (take at old) (new ++ drop (length new) (drop at old)), length-append new (drop (length new) (drop at old)), length-take at old, length-drop at old, length-drop (length new) (drop at old))
 
 kept : (m : Machine) (r : Region) (at : ℕ) (new : List ℕ) → at + length new ≤ length (region m.bytes r) → Keeps m (with_bytes m r (put (length new) at (region m.bytes r) new))
-kept m Stack at new inside = record { code = refl; stack = length-put at m.bytes.stack new inside; memory = refl }
-kept m Globals at new inside = record { code = refl; stack = refl; memory = refl }
-kept m Table at new inside = record { code = refl; stack = refl; memory = refl }
-kept m Memory at new inside = record { code = refl; stack = refl; memory = length-put at m.bytes.memory new inside }
+kept m Stack at new inside = record { code = refl; stack = length-put at m.bytes.stack new inside; memory = refl; backed = refl }
+kept m Globals at new inside = record { code = refl; stack = refl; memory = refl; backed = refl }
+kept m Table at new inside = record { code = refl; stack = refl; memory = refl; backed = refl }
+kept m Memory at new inside = record { code = refl; stack = refl; memory = length-put at m.bytes.memory new inside; backed = refl }
 
 pub written_keeps : (old now : Machine) (r : Region) (at : ℕ) (new : List ℕ) → at + length new ≤ length (region old.bytes r) → now ≡ with_bytes old r (put (length new) at (region old.bytes r) new) → Keeps old now
 written_keeps old now r at new inside is = subst (Keeps old) (sym is) (kept old r at new inside)

@@ -31,18 +31,20 @@ IsLoaded i bytes = bytes ≡ loaded i
 unfoldable pub first_memory : Image → List ℕ
 first_memory i = take (page * i.pages) (loaded i).memory
 
--- the machine has the image's text and a whole stack, and its memory has room up to the image's cap
+-- the machine has the image's text and a whole stack, its memory has room up to the image's cap, and its pages are stored
 pub record RunsImage (i : Image) (m : Machine) (pages : ℕ) : Type 0 where
   pub code : m.code ≡ code_of_image i
   pub stack : length m.bytes.stack ≡ 1048576
   pub memory : length m.bytes.memory ≡ page * i.cap
   pub within : pages ≤ i.cap
+  pub backed : page * pages ≤ m.backed
 
--- the text stays, and so do the sizes of the stack and of the memory
+-- the text stays, and so do the sizes of the stack and of the memory, and what of it is stored
 pub record Keeps (old new : Machine) : Type 0 where
   pub code : new.code ≡ old.code
   pub stack : length new.bytes.stack ≡ length old.bytes.stack
   pub memory : length new.bytes.memory ≡ length old.bytes.memory
+  pub backed : new.backed ≡ old.backed
 
 -- the types of the results that lie in the stack's first slots: of an exported function that returned
 abbrev pub types_left : Option Export → List ValType

@@ -2,6 +2,7 @@
 ghost use Rattle.std.specs.Prelude.{◌≡◌, ◌+◌, ◌*◌, ◌^◌, ◌<◌, ◌≤◌, true, length};
 ghost use Rattle.rv_isa.specs.Steps.{State};
 ghost use Rattle.rv64im_machine.specs.Contents.{state_of};
+ghost use Rattle.wasm_defs.specs.Memory.{page};
 ghost use Rattle.image_format.specs.declared.limits.TheConstants.{PARAMS};
 ghost use Rattle.image_run.specs.Answers.{Answered, Grows};
 ghost use Rattle.image_run.specs.States.{RunsImage};
@@ -15,18 +16,23 @@ use image_format::Image;
 use rv64im_machine::{FaultKind, Machine};
 use wasm_defs::{TrapKind, Value};
 
-/// Adds pages to the memory if its cap allows, and says in a0 how many there were, or -1.
+/// Adds pages to the memory if its cap allows, and says in a0 how many there were, or -1. Their zeros are stored: room for them was taken
+/// when the image was loaded.
 fn grow(machine: &mut Machine, pages: &mut u32, cap: u32, more: u64)
-    requires { more < 2 ^ 32 }
+    requires few { more < 2 ^ 32 }
+    requires fits { page * cap ≤ length machine.old.bytes.memory }
+    requires backed { page * pages.old ≤ machine.old.backed }
     ensures code { machine.new.code ≡ machine.old.code }
     ensures bytes { machine.new.bytes ≡ machine.old.bytes }
     ensures pages { pages.old ≤ cap → pages.new ≤ cap }
+    ensures backed { page * pages.new ≤ machine.new.backed }
     ensures grown { Grows cap more (state_of machine.old) (state_of machine.new) pages.old pages.new }
 {
     let wanted = u64::from(*pages) + more;
     if wanted <= u64::from(cap) {
         machine.set_register(A0, u64::from(*pages));
         machine.set_register(S2, PAGE * wanted);
+        machine.back((PAGE * wanted) as usize);
         *pages = wanted as u32;
     } else {
         machine.set_register(A0, u64::MAX);

@@ -18,7 +18,7 @@ use crate::answer::Answer;
 use crate::host::{Host, Patch, Reply};
 use crate::layout::{A0, PAGE, S0, STACK, STACK_SIZE};
 use crate::outcome::Outcome;
-use crate::words::{value_in, word_in, write, write_value};
+use crate::words::{value_in, word_in, write_memory, write_value};
 use image_format::{Image, Import};
 use rv64im_machine::{FaultKind, Machine, Region};
 use wasm_defs::{FuncType, ValType, Value};
@@ -72,7 +72,8 @@ fn fits(patch: &Patch, size: usize) -> bool
 
 /// Writes a patch, if there is one, to the memory of that size, and says whether it has its place there.
 fn write_patch(machine: &mut Machine, size: usize, patch: Option<Patch>) -> bool
-    requires { size ≤ length machine.old.bytes.memory }
+    requires memory { size ≤ length machine.old.bytes.memory }
+    requires backed { size ≤ machine.old.backed }
     ensures kept { Keeps machine.old machine.new }
     ensures written { Patches result (patched (take size machine.old.bytes.memory) (option_map patch_of patch)) machine.old machine.new }
 {
@@ -83,12 +84,7 @@ fn write_patch(machine: &mut Machine, size: usize, patch: Option<Patch>) -> bool
         return false;
     }
     let count = usize::from(patch.len);
-    write(
-        machine,
-        Region::Memory,
-        patch.place as usize,
-        &patch.bytes[..count],
-    );
+    write_memory(machine, patch.place as usize, &patch.bytes[..count]);
     true
 }
 
@@ -113,6 +109,7 @@ fn take_reply(
     reply: Reply,
 ) -> bool
     requires memory { size ≤ length machine.old.bytes.memory }
+    requires backed { size ≤ machine.old.backed }
     requires stack { at + 8 ≤ length machine.old.bytes.stack }
     requires results { length results.now ≤ 1 }
     ensures kept { Keeps machine.old machine.new }
@@ -143,6 +140,7 @@ fn call_host<H: Host>(
     host: &mut H,
 ) -> bool
     requires memory { size ≤ length machine.old.bytes.memory }
+    requires backed { size ≤ machine.old.backed }
     requires result { at + 8 ≤ length machine.old.bytes.stack }
     requires arguments { at + 8 * length signature.now.params ≤ length machine.old.bytes.stack }
     requires room { length signature.now.params ≤ length room.old }

@@ -9,7 +9,7 @@ ghost use Rattle.image_run.specs.States.{IsLoaded, zeros};
 use crate::layout::{PAGE, STACK_SIZE};
 use crate::words::push_word;
 use image_format::{Image, Row, Segment};
-use rv64im_machine::Regions;
+use rv64im_machine::{LinearMemory, Regions};
 use std::alloc::{AllocError, Global};
 
 /// So many bytes that are zero.
@@ -56,33 +56,43 @@ fn write_segment(memory: &mut [u8], segment: &Segment)
     memory[start..start + bytes.len()].copy_from_slice(bytes);
 }
 
-/// The memory up to its cap, with the segments in their places and zeros elsewhere.
-fn memory_of(alloc: Global, size: usize, segments: &[Segment]) -> Result<Vec<u8>, AllocError>
-    requires size { size ≤ 2 ^ 28 }
-    requires fit { IsTrue (all_fit size (segments_of segments.now)) }
-    ensures items { IfOk result (λ v. v.items ≡ all_over (zeros size) (segments_of segments.now)) }
-    ensures size { IfOk result (λ v. length v.items ≡ size) }
+/// A memory of that size, with the segments at their addresses and zeros elsewhere. Room is taken for all of it, and its first bytes
+/// are stored; the segments lie in these.
+fn memory_of(
+    alloc: Global,
+    size: usize,
+    first: usize,
+    segments: &[Segment],
+) -> Result<LinearMemory, AllocError>
+    requires first { first ≤ size }
+    requires fit { IsTrue (all_fit first (segments_of segments.now)) }
+    ensures bytes { IfOk result (λ m. m.bytes ≡ all_over (zeros size) (segments_of segments.now)) }
+    ensures size { IfOk result (λ m. length m.bytes ≡ size) }
+    ensures backed { IfOk result (λ m. m.backed ≡ first) }
 {
-    let mut memory = zeros(alloc, size)?;
+    let mut stored = Vec::with_capacity(alloc, size)?;
+    stored.resize(first, 0)?;
     for segment in segments {
-        write_segment(&mut memory, segment);
+        write_segment(&mut stored, segment);
     }
-    Ok(memory)
+    Ok(LinearMemory::reserved(stored, size))
 }
 
-/// The bytes that an image is loaded to, with the memory up to its cap.
+/// The bytes that an image is loaded to. Room for the memory is taken up to its cap, and its first pages are stored.
 pub(crate) fn regions_of(alloc: Global, image: &Image) -> Result<Regions, AllocError>
     ensures loaded { IfOk result (λ r. IsLoaded image.now (bytes_of r)) }
     ensures stack { IfOk result (λ r. length r.stack.items ≡ 1048576) }
     ensures globals { IfOk result (λ r. length r.globals.items ≤ 800000) }
     ensures table { IfOk result (λ r. length r.table.items ≤ 1600000) }
-    ensures memory { IfOk result (λ r. length r.memory.items ≡ page * image.now.cap) }
+    ensures memory { IfOk result (λ r. length r.memory.bytes ≡ page * image.now.cap) }
+    ensures backed { IfOk result (λ r. r.memory.backed ≡ page * image.now.pages) }
 {
     let size = PAGE as usize * image.cap as usize;
     let stack = zeros(alloc, STACK_SIZE)?;
     let globals = globals_of(alloc, image.globals.as_slice())?;
     let table = table_of(alloc, image.table.as_slice())?;
-    let memory = memory_of(alloc, size, image.segments.as_slice())?;
+    let first = PAGE as usize * image.pages as usize;
+    let memory = memory_of(alloc, size, first, image.segments.as_slice())?;
     Ok(Regions {
         stack,
         globals,

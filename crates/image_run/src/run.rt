@@ -3,7 +3,9 @@ ghost use Rattle.std.specs.Prelude.{◌≡◌, ◌*◌, ◌≤◌, true, length,
 ghost use Rattle.rv_isa.specs.declared.stepping.Region.TheVariants.{Stack};
 ghost use Rattle.rv64im_machine.specs.Contents.{state_of};
 ghost use Rattle.rv64im_machine.specs.Lending.{with_bytes};
+ghost use Rattle.rv64im_machine.specs.Outcomes.{IsRun};
 ghost use Rattle.wasm_defs.specs.Values.{value_of, words_of};
+ghost use Rattle.wasm_defs.specs.Memory.{page};
 ghost use Rattle.image_format.specs.declared.limits.TheConstants.{PARAMS};
 ghost use Rattle.image_format.specs.Environment.{entered, first_registers, with_words};
 ghost use Rattle.image_run.specs.Answers.{Runs, Starts};
@@ -24,6 +26,7 @@ use wasm_defs::Value;
 /// Sets the registers for a call from outside.
 fn set_registers(machine: &mut Machine, pages: u32)
     ensures code { machine.new.code ≡ machine.old.code }
+    ensures backed { machine.new.backed ≡ machine.old.backed }
     ensures state { state_of machine.new ≡ record (state_of machine.old) { registers = first_registers pages } }
 {
     machine.clear_registers();
@@ -58,6 +61,18 @@ pub(crate) fn enter(machine: &mut Machine, pages: u32, offset: u32, arguments: &
     machine.set_pc(TEXT + u64::from(offset));
 }
 
+/// Makes at most so many steps. Afterwards the pages of the memory are stored: a run of the machine says nothing of how much of it is.
+fn run_machine(machine: &mut Machine, pages: u32, steps: u64) -> Ran
+    requires { page * pages ≤ length machine.old.bytes.memory }
+    ensures code { machine.new.code ≡ machine.old.code }
+    ensures rows { IsRun machine.old.code steps result (state_of machine.old) (state_of machine.new) }
+    ensures backed { page * pages ≤ machine.new.backed }
+{
+    let ran = machine.run(steps);
+    machine.back(PAGE as usize * pages as usize);
+    ran
+}
+
 /// Runs the function at which the machine of an image stands, for at most so many steps. Where it ends, `left` is how many steps are
 /// left; else the result is how the run ends.
 pub(crate) fn run_function<H: Host>(
@@ -76,7 +91,7 @@ pub(crate) fn run_function<H: Host>(
     ensures runs { Runs H.answers image.now host.old host.new (state_of machine.old) (state_of machine.new) pages.old pages.new left.old left.new result }
 {
     'calls: loop {
-        match machine.run(*left) {
+        match run_machine(machine, *pages, *left) {
             Ran::Spent => return Some(Outcome::StepsSpent),
             Ran::Fault(_, kind) => return Some(Outcome::Fault(kind, machine.pc())),
             Ran::Call(done) => {

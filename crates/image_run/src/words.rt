@@ -1,7 +1,7 @@
 //! Words of 64 bits: as values, and in bytes, the low byte first.
 ghost use Rattle.std.specs.Prelude.{◌≡◌, ◌+◌, ◌<◌, ◌≤◌, ◌++◌, All, IfOk, length};
-ghost use Rattle.rv_isa.specs.Steps.{le_bytes, value_at, put, region as bytes_in};
-ghost use Rattle.rv_isa.specs.declared.stepping.Region.TheVariants.{Stack};
+ghost use Rattle.rv_isa.specs.Steps.{le_bytes, value_at, put};
+ghost use Rattle.rv_isa.specs.declared.stepping.Region.TheVariants.{Stack, Memory};
 ghost use Rattle.rv64im_machine.specs.Lending.{with_bytes};
 ghost use Rattle.wasm_defs.specs.Values.{value_of, word_of};
 ghost use Rattle.image_format.specs.Environment.{held};
@@ -55,14 +55,24 @@ pub(crate) fn push_word(bytes: &mut Vec<u8>, word: u64) -> Result<(), AllocError
     bytes.extend_from_slice(&word.to_le_bytes())
 }
 
-/// Writes bytes over those of a region from a place on.
-pub(crate) fn write(machine: &mut Machine, region: Region, at: usize, bytes: &[u8])
-    requires { at + length bytes.now ≤ length (bytes_in machine.old.bytes region) }
+/// Writes bytes over those of the stack from an index on.
+fn write_stack(machine: &mut Machine, at: usize, bytes: &[u8])
+    requires { at + length bytes.now ≤ length machine.old.bytes.stack }
+    ensures kept { Keeps machine.old machine.new }
+    ensures written { machine.new ≡ with_bytes machine.old Stack (put (length bytes.now) at machine.old.bytes.stack bytes.now) }
+{
+    let all = machine.bytes_mut(Region::Stack);
+    all[at..at + bytes.len()].copy_from_slice(bytes);
+}
+
+/// Writes bytes over those of the memory from an address on, where they are stored.
+pub(crate) fn write_memory(machine: &mut Machine, at: usize, bytes: &[u8])
+    requires { at + length bytes.now ≤ machine.old.backed }
     ensures kept { Keeps machine.old machine.new }
     ensures bytes { All (λ b. b < 256) bytes.now }
-    ensures written { machine.new ≡ with_bytes machine.old region (put (length bytes.now) at (bytes_in machine.old.bytes region) bytes.now) }
+    ensures written { machine.new ≡ with_bytes machine.old Memory (put (length bytes.now) at machine.old.bytes.memory bytes.now) }
 {
-    let all = machine.bytes_mut(region);
+    let all = machine.bytes_mut(Region::Memory);
     all[at..at + bytes.len()].copy_from_slice(bytes);
 }
 
@@ -72,5 +82,5 @@ pub(crate) fn write_value(machine: &mut Machine, at: usize, value: Value)
     ensures kept { Keeps machine.old machine.new }
     ensures written { machine.new ≡ with_bytes machine.old Stack (put 8 at machine.old.bytes.stack (le_bytes 8 (word_of (value_of value)))) }
 {
-    write(machine, Region::Stack, at, &word_of(value).to_le_bytes());
+    write_stack(machine, at, &word_of(value).to_le_bytes());
 }

@@ -7,3 +7,4 @@ pub mod ConstantLaws
 pub mod KeptLaws
 pub mod GoingLaws
 pub mod TurnLaws
+mod LinearLaws

@@ -3,6 +3,8 @@ pub mod Flows
 pub mod Instructions
 pub mod Outcomes
 pub mod Lending
+pub mod Linear
+pub mod LinearLending
 pub mod Stretches
 pub mod StretchWords
 pub mod Keeping

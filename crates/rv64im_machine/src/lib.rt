@@ -9,6 +9,7 @@ mod going;
 mod immediate;
 mod instruction;
 mod kept;
+mod linear_memory;
 mod machine;
 mod outcome;
 mod pieces;
@@ -21,6 +22,7 @@ mod templates;
 mod tests;
 mod walk;
 
+pub use linear_memory::LinearMemory;
 pub use machine::Machine;
 pub use outcome::{Ran, Stepped};
 pub use regions::Regions;

@@ -6,23 +6,19 @@ use Rattle.image_format.specs.declared.image.Segment.{Segment}
 use Rattle.image_format.specs.Environment.{row_words, word_bytes, segments_of}
 use Rattle.image_format.proofs.Placed.{segments_fit, pages_are_few}
 use Rattle.image_run.specs.States.{zeros}
-use Rattle.image_run.proofs.MemoryLaws.{all_fit_in_more}
 use Rattle.image_run.proofs.RegionLaws.{loaded_is, globals_short, table_short}
 use Rattle.image_run.proofs.regions.regions_of.Goals as goal
-
-pub memory_of-requires-clause-size : goal.memory_of-requires-clause-size
-memory_of-requires-clause-size c = omega (arith, c.image.invariant.cap, pages_are_few c.image.inside.version)
 
 pub memory_of-requires-clause-fit : goal.memory_of-requires-clause-fit
 memory_of-requires-clause-fit c =
     let i = c.image.inside in
     let there = segments_fit i.pages [] i.segments c.image.invariant.segments.1 in
-    rw c.as_slice-3.ensures (all_fit_in_more (page * i.pages) (page * i.cap) i.segments (omega (arith, c.image.invariant.pages)) there)
+    rw c.as_slice-3.ensures there
 
 pub returns-clause-loaded : goal.returns-clause-loaded
 returns-clause-loaded c =
     let i = c.image.inside in
-    let memory = c.in_ok-memory.ensures.items ∙ ap (λ (segments : List Segment). all_over (zeros (page * i.cap)) (segments_of segments)) c.as_slice-3.ensures in
+    let memory = c.in_ok-memory.ensures.bytes ∙ ap (λ (segments : List Segment). all_over (zeros (page * i.cap)) (segments_of segments)) c.as_slice-3.ensures in
     rw (← c.image.view_is)
     (loaded_is _ _ _ refl c.in_ok-stack.ensures.items (c.in_ok-globals.ensures ∙ ap word_bytes c.as_slice.ensures)
     (c.in_ok-table.ensures ∙ ap (λ (rows : List Row). word_bytes (row_words rows)) c.as_slice-2.ensures) memory)
