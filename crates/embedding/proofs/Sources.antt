@@ -22,12 +22,14 @@ all_came bytes rest came (read, more, is_read, more_is, both) =
 
 pub image_done : (bytes rest : List ℕ) (built : Built) → CompilesSource false (Some bytes) (Some rest) (answer.Image built) → IsCompiled bytes (compiled.Image built.image)
 image_done bytes rest built (sound, came, is_came, at_end, done) =
-    let is = done.is in
-    (done.«module», record {
-      is = subst (λ (l : List ℕ). IsVerdictOf l (Accepted done.«module»)) (all_came bytes rest came is_came) is.is;
-      image_is = done.image_is;
-      same = subst (Same done.«module») (sym done.image_is) is.same;
-    })
+    let is = done.is in (
+      done.«module»,
+      record {
+        is = subst (λ (l : List ℕ). IsVerdictOf l (Accepted done.«module»)) (all_came bytes rest came is_came) is.is;
+        image_is = done.image_is;
+        same = subst (Same done.«module») (sym done.image_is) is.same;
+      },
+    )
 
 pub refused_done : (bytes rest : List ℕ) (r : Refusal) → CompilesSource false (Some bytes) (Some rest) (answer.Refused r) → IsCompiled bytes (compiled.Refused r)
 refused_done bytes rest r (came, is_came, refused) = subst (λ (l : List ℕ). IsVerdictOf l (Rejected r)) (all_came bytes rest came is_came) refused
