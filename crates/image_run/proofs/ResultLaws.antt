@@ -45,9 +45,10 @@ result_read stack bytes types read k word t results v are same lent lt holds is 
 pub results_are : (stack : List ℕ) (left : Option Export) (e : Export) (results : List Value) → results_at stack 0 (types_left left) ≡ results → left ≡ Some e → results ≡ results_at stack 0 e.signature.results
 results_are stack left e results h is = sym h ∙ ap (λ (o : Option Export). results_at stack 0 (types_left o)) is
 
-pub tells_count : (outcome : Outcome) (memory : List ℕ) (results : List Value) (end : Ending) → IsEnd outcome memory results end → TellsCount outcome results
-tells_count (Returned n) memory results end h = h.0
-tells_count (Trapped kind place) memory results end h = tt
-tells_count StepsSpent memory results end h = tt
-tells_count HostStopped memory results end h = tt
-tells_count (Fault kind pc) memory results end h = tt
+-- where there are none
+pub tells_count : (outcome : Outcome) (memory : List ℕ) (end : Ending) → IsEnd outcome memory [] end → TellsCount outcome []
+tells_count (Returned n) memory end h = h.0
+tells_count (Trapped kind place) memory end h = refl
+tells_count StepsSpent memory end h = refl
+tells_count HostStopped memory end h = refl
+tells_count (Fault kind pc) memory end h = refl

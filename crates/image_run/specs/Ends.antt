@@ -1,5 +1,5 @@
 -- What an outcome says of a run of an image.
-use Rattle.std.specs.Prelude.{◌≡◌, ℕ, List, length}
+use Rattle.std.specs.Prelude.{◌≡◌, ℕ, List, [], length}
 use Rattle.wasm_defs.specs.Values.{Value}
 use Rattle.wasm_defs.specs.Host.{HostCall, Reply}
 use Rattle.wasm_defs.specs.ModuleRun.{Returns, Traps, Stops, Going}
@@ -20,10 +20,10 @@ IsEnd StepsSpent memory results end = end ≡ As Going
 IsEnd HostStopped memory results end = end ≡ As (Stops memory)
 IsEnd (Fault kind pc) memory results end = end ≡ image.Fault kind pc
 
--- an outcome tells how many results there are
+-- an outcome tells how many results there are: after a run that didn't return there are none
 abbrev pub TellsCount : Outcome → (results : List Value) → Type 0
 TellsCount (Returned n) results = n ≡ length results
-TellsCount _ results = Unit {0}
+TellsCount _ results = results ≡ []
 
 -- the run of an exported function with these arguments, where the host has these replies, for at most so many steps
 unfoldable pub run_of_export : Image → Export → List Value → List Reply → (steps : ℕ) → ImageRun

@@ -50,7 +50,8 @@ impl<'a> Model for Instance<'a> {
 
 impl<'a> Instance<'a> {
     /// Loads an image: takes the memory for its stack, its globals, its table, its memory as large as it may grow, its text, and the
-    /// arguments of its imports. The memory has the image's segments in their places, and zeros elsewhere (Core 1.0, 4.5.4).
+    /// arguments of its imports. The memory has the image's segments at their addresses, and zeros elsewhere (Core 1.0, 4.5.4). Room
+    /// for it is taken up to the image's cap, but only the pages that it has at first are written.
     pub fn load(alloc: Global, image: &'a Image) -> Result<Self, AllocError>
         ensures image { IfOk result (λ s. s.image ≡ image.now) }
         ensures memory { IfOk result (λ s. s.memory ≡ first_memory image.now) }

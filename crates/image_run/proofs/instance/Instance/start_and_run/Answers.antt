@@ -24,7 +24,7 @@ returns-in-Some-run_start-clause-run g c =
 
 pub returns-in-Some-run_start-clause-count : goal.returns-in-Some-run_start-clause-count
 returns-in-Some-run_start-clause-count g c =
-    tells_count c.in-Some-run_start.outcome (take (page * c.run_start.new.pages) (state_of c.run_start.new.machine).bytes.memory) [] _ (returns-in-Some-run_start-clause-run g c).2.end
+    tells_count c.in-Some-run_start.outcome (take (page * c.run_start.new.pages) (state_of c.run_start.new.machine).bytes.memory) _ (returns-in-Some-run_start-clause-run g c).2.end
 
 pub enter-requires : goal.enter-requires
 enter-requires g c =
@@ -63,7 +63,7 @@ returns-clause-run g c =
 
 pub returns-in-Some-run_function-clause-count : goal.returns-in-Some-run_function-clause-count
 returns-in-Some-run_function-clause-count g c =
-    tells_count c.in-Some-run_function.outcome (take (page * c.run_function.new.pages) (state_of c.run_function.new.machine).bytes.memory) [] _ (returns-in-Some-run_function-clause-run g c).2.end
+    tells_count c.in-Some-run_function.outcome (take (page * c.run_function.new.pages) (state_of c.run_function.new.machine).bytes.memory) _ (returns-in-Some-run_function-clause-run g c).2.end
 
 pub returns-clause-count : goal.returns-clause-count
 returns-clause-count g c = (returns-clause-run g c).2.end.0
