@@ -1,6 +1,7 @@
 -- A call of an image's function is the call of its module's.
-use Rattle.std.proofs.Common.{◌≡◌, ℕ, ℤ, arith, Bool, true, false, List, [], ◌∷◌, map, Option, Some, None, refl, sym, ap, ◌∙◌, subst, inl, inr}
-use Rattle.std.specs.Prelude.{not, ◌&&◌}
+use Rattle.std.proofs.Common.{◌≡◌, ℕ, ℤ, arith, Bool, true, false, List, [], ◌∷◌, map, Option, Some, None, refl, sym, ap, ◌∙◌, subst, inl, inr, rules}
+use Rattle.std.specs.Prelude.{not, ◌&&◌, Result, Ok, Err, IfOk}
+use Rattle.std.specs.Str.{bytes_eq}
 use Rattle.std.proofs.lemmas.Bool.{cases_Bool, lt-ltb}
 use Rattle.std.proofs.Common.{w32, SFits, ◌^◌}
 use Rattle.std.proofs.Math.Facts.{Fits-of_z}
@@ -18,18 +19,22 @@ use Rattle.wasm_defs.specs.ModuleRun.{Run, End, Returns, Traps, Stops, Going, mo
 use Rattle.image_format.specs.Contents.{Image}
 use Rattle.image_format.specs.declared.image.Export.{Export}
 use Rattle.image_format.specs.ImageRun.{Ending, As, ImageRun, image_run}
-use Rattle.image_linker.specs.ImageOf.{image_of, offset_of}
+use Rattle.image_linker.specs.ImageOf.{image_of, export_of, offset_of}
 use Rattle.image_linker.specs.Same.{Same}
 use Rattle.simulation.specs.SameRuns.{SameRuns, as_image}
+use Rattle.image_run.specs.declared.checks.NotRunnable.{NotRunnable}
 use Rattle.image_run.specs.declared.checks.NotRunnable.TheVariants.{Unlinkable, WrongArguments}
 use Rattle.image_run.specs.declared.outcome.Outcome.{Outcome}
 use Rattle.image_run.specs.declared.outcome.Outcome.TheVariants.{Returned, Trapped, StepsSpent, HostStopped, Fault}
 use Rattle.image_run.specs.Checks.{export_named, unfit}
 use Rattle.image_run.specs.Ends.{IsEnd, run_of_export}
-use Rattle.stream_compile.proofs.Calls.{Exports, export_is}
 use Rattle.embedding.specs.Lists.{replies_to}
-use Rattle.embedding.specs.Modules.{IsImageOf}
-use Rattle.embedding.specs.Calls.{EndsSo, RunsImage, RunsModule, argument_of}
+use Rattle.stream_compile.proofs.Calls.{Exports, export_is}
+use Rattle.embedding.specs.declared.calling.Called.{Called}
+use Rattle.embedding.specs.declared.calling.Called.TheVariants as called
+use Rattle.embedding.specs.declared.compiling.Compiled.TheVariants as compiled
+use Rattle.embedding.specs.Modules.{IsImageOf, IsCompiled}
+use Rattle.embedding.specs.Calls.{EndsSo, RunsImage, RunsModule, CallsImage, CallsModule, argument_of}
 
 -- what the checks found of an export: it takes an i32 alone, and the image can be loaded
 record Passed (i : Image) (e : Export) : Type 0 where
@@ -136,3 +141,19 @@ module _ (m : Module) (name : List ℕ) (argument : ℤ) (numbers : List ℤ) (s
     ends = subst (λ (l : List Reply). EndsSo outcome (image steps).calls r.memory r.results (module_run m found.function arguments l)) replies ended;
     first_is = r.first_is;
   }
+
+-- ---- calls
+
+pub called_module : (bytes name : List ℕ) (argument : ℤ) (numbers : List ℤ) (steps : ℕ) (i : Image) (c : Called) → SFits w32 argument → IsCompiled bytes (compiled.Image i) → CallsImage i name argument numbers steps c
+    → CallsModule bytes name argument numbers steps c
+called_module bytes name argument numbers steps i (called.Refused r) fits (m, is) h = absurd h
+called_module bytes name argument numbers steps i (called.NotRunnable why) fits (m, is) h = (m, i, is, h)
+called_module bytes name argument numbers steps i (called.Ended outcome first) fits (m, is) (fit, run) =
+    let same = subst (Same m) is.image_is is.same in
+    let passes = subst (λ (x : Image). unfit x (I32 ∷ []) (export_named name x.exports) ≡ None) is.image_is fit in
+    let there = subst (λ (x : Image). RunsImage x name argument numbers steps outcome first) is.image_is run in
+    (m, i, is, runs_module m name argument numbers steps outcome first fits same passes there)
+
+pub with_ok : {A E : Type 0} (r : Result A E) (P Q : A → Type 0) → ((x : A) → P x → Q x) → IfOk r P → IfOk r Q
+with_ok (Ok x) P Q f h = f x h
+with_ok (Err e) P Q f h = h
