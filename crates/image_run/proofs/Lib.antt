@@ -11,6 +11,7 @@ pub mod RunLaws
 pub mod TypeLaws
 pub mod StartLaws
 pub mod ReplyLaws
+pub mod ExportRuns
 pub mod PrintedRuns
 pub mod PrintingHosts
 pub mod SignatureLaws

@@ -26,10 +26,11 @@ use Rattle.image_format.specs.ImageRun.{Ending, As, Fault}
 use Rattle.image_run.specs.declared.outcome.Outcome.TheVariants as outcome
 use Rattle.image_run.specs.declared.outcome.Outcome.TheVariants.{HostStopped}
 use Rattle.image_run.specs.Checks.{has_unknown_import}
-use Rattle.image_run.specs.Ends.{IsEnd, RunsTo, run_of_export}
+use Rattle.image_run.specs.Ends.{IsEnd, IsUnstopped, RunsTo, run_of_export}
 use Rattle.image_run.specs.Printing.{Prints, PrintsRun, function_at, printed, printing_run, replied, function_of, takes, text_of}
 use Rattle.image_run.proofs.PrintLaws.{past}
-use Rattle.image_run.proofs.ReplyLaws.{IsUnstopped, with_replies, goes, calls_few, calls_alike, replies_enough, stops_end, never_stopped}
+use Rattle.image_run.proofs.ExportRuns.{first, first_calls, first_with, by_goes}
+use Rattle.image_run.proofs.ReplyLaws.{goes, calls_few, calls_alike, replies_enough, stops_end, never_stopped}
 
 pub printed_then : (imports : List Import) (front behind : List HostCall) → printed imports (front ++ behind) ≡ printed imports front ++ printed imports behind
 printed_then imports [] behind = refl
@@ -46,37 +47,12 @@ front_printed imports front call calls behind is =
 front_cut : (front text behind : List ℕ) (n : ℕ) → n ≤ length text → take (length front + n) (front ++ (text ++ behind)) ≡ front ++ take n text
 front_cut front text behind n inside = past front (text ++ behind) n ∙ ap (λ (l : List ℕ). front ++ l) (take-append-le n text behind inside)
 
--- ---- the run of an export, by steps under replies
+-- ---- the run of an export
 
 module _ (i : Image) (e : Export) (arguments : List Value) where
-  abbrev pub called : Entry × List ValType
-  called = (record { offset = e.offset; arguments = arguments }, e.signature.results)
-
-  abbrev pub first_if : Bool → List Reply → Running
-  first_if b rs = if b then begin i rs called [] else begin i rs (record { offset = i.start; arguments = [] }, []) (called ∷ [])
-
-  unfoldable pub first : Running
-  first = first_if (i.start == 0) []
-
-  first_with : (b : Bool) (rs : List Reply) → first_if b rs ≡ with_replies (first_if b []) rs
-  first_with true rs = refl
-  first_with false rs = refl
-
-  first_none : (b : Bool) → (first_if b []).calls ≡ []
-  first_none true = refl
-  first_none false = refl
-
-  pub first_calls : first.calls ≡ []
-  unfolding first
-  first_calls = first_none (i.start == 0)
-
-  pub by_goes : (n : ℕ) (rs : List Reply) → run_of_export i e arguments rs n ≡ run_of (goes i n first rs)
-  unfolding run_of_export first
-  by_goes n rs = ap (λ (r : Running). run_of (steps i n r)) (first_with (i.start == 0) rs)
-
-  pub ideal_goes : (n : ℕ) → printing_run i e.offset e.signature.results arguments n ≡ run_of (goes i n first (replicate n replied))
+  pub ideal_goes : (n : ℕ) → printing_run i e.offset e.signature.results arguments n ≡ run_of (goes i n (first i e arguments) (replicate n replied))
   unfolding printing_run first
-  ideal_goes n = ap (λ (r : Running). run_of (steps i n r)) (first_with (i.start == 0) (replicate n replied))
+  ideal_goes n = ap (λ (r : Running). run_of (steps i n r)) (first_with i e arguments (i.start == 0) (replicate n replied))
 
 -- imports that are all known have no results
 no_results : (f : FuncType) (t : ValType) → takes f t ≡ true → f.results ≡ []

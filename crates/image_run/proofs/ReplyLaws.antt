@@ -16,19 +16,11 @@ use Rattle.image_format.specs.Environment.{Entry, entered, code_of_image}
 use Rattle.image_format.specs.ImageRun.{Running, Stepping, To, Ended, Faulted, Waiting, Ending, As, ImageRun, answered, ask, asked, await_reply, call_import, environment, finish, globals_of, grow, memory_of, next, on, results_at, run_of, slots_at, stepped, steps, trapped, values_at, with_results}
 use Rattle.image_format.specs.ImageRun as image
 use Rattle.image_run.specs.Answers.{IsOver}
+use Rattle.image_run.specs.Ends.{IsUnstopped}
 use Rattle.image_run.specs.Printing.{replied}
 
 abbrev pub with_replies : Running → List Reply → Running
 with_replies r rs = record r { replies = rs }
-
--- how a run may end that no reply stops
-abbrev pub IsUnstopped : Ending → Type 0
-IsUnstopped (As (run.Returns values memory globals)) = Unit {0}
-IsUnstopped (As (run.Traps kind place memory globals)) = Unit {0}
-IsUnstopped (As (run.Stops memory)) = ⊥
-IsUnstopped (As run.Going) = Unit {0}
-IsUnstopped (As run.Fails) = ⊥
-IsUnstopped (image.Fault kind pc) = Unit {0}
 
 -- what a step comes to, behind these calls, whatever the replies are: the run goes on, or it ends, or it asks for a reply
 pub data Turn (i : Image) (calls : List HostCall) (f : List Reply → Stepping) : Type 0 where

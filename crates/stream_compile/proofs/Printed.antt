@@ -17,11 +17,10 @@ use Rattle.image_run.specs.declared.checks.NotRunnable.{NotRunnable}
 use Rattle.image_run.specs.declared.outcome.Outcome.{Outcome as Ran}
 use Rattle.image_run.specs.declared.outcome.Outcome.TheVariants as ran
 use Rattle.image_run.specs.Checks.{export_named, not_runnable, has_unknown_import}
-use Rattle.image_run.specs.Ends.{IsEnd}
+use Rattle.image_run.specs.Ends.{IsEnd, IsUnstopped}
 use Rattle.image_run.specs.Printing.{PrintsRun, printed, printing_run}
 use Rattle.image_run.proofs.PrintLaws.{past}
 use Rattle.image_run.proofs.PrintedRuns.{printing_ends}
-use Rattle.image_run.proofs.ReplyLaws.{IsUnstopped}
 use Rattle.image_run.proofs.SignatureLaws.{all_known}
 use Rattle.command_words.specs.declared.command.Call.{Call}
 use Rattle.command_words.specs.declared.peek.Peek.{Peek}
