@@ -12,8 +12,6 @@ pub mod TypeLaws
 pub mod StartLaws
 pub mod ReplyLaws
 pub mod ExportRuns
-pub mod PrintedRuns
-pub mod PrintingHosts
 pub mod SignatureLaws
 pub mod ResultLaws
 pub mod RoomLaws

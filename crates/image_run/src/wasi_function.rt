@@ -24,7 +24,7 @@ fn has_type(signature: &FuncType, params: &[Value], results: &[Value]) -> bool
 }
 
 /// The function that an import is, by its names and its type, if it is one of these.
-fn wasi_of(import: &Import) -> Option<WasiFunction>
+pub(crate) fn wasi_of(import: &Import) -> Option<WasiFunction>
     ensures { result ≡ wasi_of import.now }
 {
     if import.module.as_slice() != "wasi_snapshot_preview1".as_bytes() {

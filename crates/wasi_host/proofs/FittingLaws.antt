@@ -1,6 +1,6 @@
 -- Replies fit their calls.
 use Rattle.std.proofs.Common.{◌≡◌, ℕ, ◌+◌, ◌%◌, ◌/◌, ◌&&◌, ◌||◌, ◌==◌, ◌⊎◌, is_some, if◌then◌else◌, Bool, true, false, List, [], ◌∷◌, length, Option, None, Some, Ok, Err, Result, codes, inl, inr, refl, arith}
-use Rattle.std.specs.Prelude.{nat_le, nat_lt}
+use Rattle.std.specs.Prelude.{IsSome, nat_le, nat_lt}
 use Rattle.std.specs.Str.{bytes_eq}
 use Rattle.std.proofs.lemmas.Bool.{and_parts, cases_Bool, lt-ltb}
 use Rattle.wasm_defs.specs.declared.types.ValType.{ValType}
@@ -17,7 +17,8 @@ use Rattle.wasi_host.specs.declared.write_call.WriteCall.{WriteCall}
 use Rattle.wasi_host.specs.Vectors.{gathered}
 use Rattle.wasi_host.specs.Answers.{code_in, answer_by, answer_of, answered_by, badf, fault, inval, i32_in, checked, write_in, writes}
 use Rattle.wasi_host.specs.ExitCodes.{code_of_call}
-use Rattle.wasi_host.specs.Fitting.{GoesOn, IsCallOf, IsKnown, IsTaken}
+use Rattle.wasi_host.specs.Fitting.{GoesOn, IsCallOf, IsTaken}
+use Rattle.image_run.specs.Checks.{is_known}
 use Rattle.image_run.specs.Printing.{function_of, takes}
 
 -- ---- types
@@ -132,7 +133,7 @@ write_types i h =
 own_fits : (memory : List ℕ) (results : List ValType) (o : Option WriteCall) (w : WriteCall) → o ≡ Some w → results ≡ I32 ∷ [] → GoesOn (taken results memory (writes o memory).reply)
 own_fits memory results o w is one = rw (is, one) (file_fits memory w (w.fd == 1) (nat_le w.iovs_len 1024))
 
-pub write_taken : (imports : List Import) (c : HostCall) (i : Import) → wasi_of i ≡ Some FdWrite → IsCallOf imports c i → IsTaken imports c i
+write_taken : (imports : List Import) (c : HostCall) (i : Import) → wasi_of i ≡ Some FdWrite → IsCallOf imports c i → IsTaken imports c i
 write_taken imports c i is call =
     let types = and_parts (same_types (I32 ∷ I32 ∷ I32 ∷ I32 ∷ []) i.signature.params) (same_types (I32 ∷ []) i.signature.results) (write_types i is) in
     let params = four_params i.signature.params types.0 in
@@ -201,7 +202,7 @@ pub record IsExit (imports : List Import) (c : HostCall) : Type 0 where
   pub has_code : code_of_call imports c ≡ Some code
   pub stops : (answer_of imports c).reply ≡ Stop
 
-pub answered_or_exits : (imports : List Import) (c : HostCall) (i : Import) → IsKnown i → IsCallOf imports c i → IsAnswered imports c i ⊎ IsExit imports c
+pub answered_or_exits : (imports : List Import) (c : HostCall) (i : Import) → is_known i ≡ true → IsCallOf imports c i → IsAnswered imports c i ⊎ IsExit imports c
 answered_or_exits imports c i known call = by_function (wasi_of i) refl
   where
     by_function : (o : Option WasiFunction) → wasi_of i ≡ o → IsAnswered imports c i ⊎ IsExit imports c
@@ -217,3 +218,10 @@ answered_or_exits imports c i known call = by_function (wasi_of i) refl
         or_none : (b : Bool) → (b || false) ≡ true → b ≡ true
         or_none true e = refl
         or_none false e = absurd cc
+
+pub taken_or_exits : (imports : List Import) (c : HostCall) (i : Import) → is_known i ≡ true → IsCallOf imports c i → IsTaken imports c i ⊎ IsSome (code_of_call imports c)
+taken_or_exits imports c i known call =
+    elim (answered_or_exits imports c i known call) [
+      | inl h ↦ inl h.goes_on
+      | inr h ↦ inr (rw h.has_code refl)
+    ]

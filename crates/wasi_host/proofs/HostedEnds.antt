@@ -1,5 +1,5 @@
 -- A run with the host's own replies is stopped by proc_exit alone, and by each call of it.
-use Rattle.std.proofs.Common.{◌≡◌, ℕ, zero, suc, ◌+◌, ◌⊎◌, inl, inr, true, List, [], ◌∷◌, ◌++◌, drop, length, Option, None, Some, refl, sym, ap, ◌∙◌, subst, append_assoc}
+use Rattle.std.proofs.Common.{◌≡◌, ℕ, zero, suc, ◌+◌, ◌⊎◌, inl, inr, true, false, List, [], ◌∷◌, ◌++◌, drop, length, Option, None, Some, refl, sym, ap, ◌∙◌, subst, append_assoc}
 use Rattle.std.specs.Prelude.{slice_get}
 use Rattle.std.proofs.lemmas.List.{drop_at}
 use Rattle.wasm_defs.specs.declared.types.ValType.{ValType}
@@ -11,14 +11,16 @@ use Rattle.image_format.specs.Contents.{Image}
 use Rattle.image_format.specs.declared.image.Import.{Import}
 use Rattle.image_format.specs.declared.image.Export.{Export}
 use Rattle.image_format.specs.ImageRun.{Running, Stepping, ImageRun, answered, await_reply, memory_of, on, run_of, steps, values_at}
+use Rattle.image_run.specs.Checks.{has_unknown_import}
 use Rattle.image_run.specs.Ends.{IsUnstopped, run_of_export}
+use Rattle.image_run.proofs.SignatureLaws.{known_at}
 use Rattle.image_run.proofs.ReplyLaws.{Turn, GoesOn, Ends, Asks, calls_grow, calls_of, goes, machine_behind, next_turn, over_on, reply_grows, with_replies}
 use Rattle.image_run.proofs.ExportRuns.{first, first_calls, by_goes}
 use Rattle.wasi_host.specs.Answers.{answer_of, replies}
 use Rattle.wasi_host.specs.ExitCodes.{exit_code}
 use Rattle.wasi_host.specs.Own.{AreOwn}
 use Rattle.wasi_host.specs.Fitting as fitting
-use Rattle.wasi_host.specs.Fitting.{AllKnown, IsCallOf, StopsByExit}
+use Rattle.wasi_host.specs.Fitting.{IsCallOf, StopsByExit}
 use Rattle.wasi_host.proofs.ExitLaws.{exit_code-last, exit_code-none}
 use Rattle.wasi_host.proofs.FittingLaws.{answered_or_exits}
 
@@ -30,7 +32,7 @@ own_types : (stack : List ℕ) (at : ℕ) (ts : List ValType) → same_types ts 
 own_types stack at [] = refl
 own_types stack at (t ∷ ts) = rw (own_type t) (own_types stack (at + 8) ts)
 
-module _ (i : Image) (known : AllKnown i.imports) where
+module _ (i : Image) (known : has_unknown_import i.imports ≡ false) where
   abbrev pub Fine : Stepping → Type 0
   Fine done = StopsByExit i.imports (run_of done)
 
@@ -71,7 +73,7 @@ module _ (i : Image) (known : AllKnown i.imports) where
       let taken_is : taken import.signature.results made.memory (answer_of i.imports made).reply ≡ taken import.signature.results (memory_of r) q =
       ap (λ (m : List ℕ). taken import.signature.results m (answer_of i.imports made).reply) (ap (λ (c : HostCall). c.memory) asks) ∙ ap (taken import.signature.results (memory_of r)) (sym first) in
       let fits : Fits r.calls (taken import.signature.results (memory_of r) q) =
-      elim (answered_or_exits i.imports made import (known number import there) call) [
+      elim (answered_or_exits i.imports made import (known_at i.imports number import known there) call) [
         | inl h ↦ inl (subst fitting.GoesOn taken_is h.goes_on, ap (exit_code i.imports) same ∙ exit_code-none i.imports calls made none h.no_code)
         | inr h ↦ inr (ap (taken import.signature.results (memory_of r)) (first ∙ h.stops), h.code, ap (exit_code i.imports) same ∙ exit_code-last i.imports calls made h.code h.has_code)
       ] in
@@ -93,7 +95,7 @@ module _ (i : Image) (known : AllKnown i.imports) where
   ends_fine zero r rs own none = inl (tt, none)
   ends_fine (suc n) r rs own none = turn_fine n r.calls _ rs (next_turn i r) (ends_fine n) none own
 
-pub stops_by_exit : (i : Image) (e : Export) (arguments : List Value) (n : ℕ) (rs : List Reply) → AllKnown i.imports → AreOwn i.imports (λ r. (run_of_export i e arguments r n).calls) rs
+pub stops_by_exit : (i : Image) (e : Export) (arguments : List Value) (n : ℕ) (rs : List Reply) → has_unknown_import i.imports ≡ false → AreOwn i.imports (λ r. (run_of_export i e arguments r n).calls) rs
     → StopsByExit i.imports (run_of_export i e arguments rs n)
 stops_by_exit i e arguments n rs known own =
     let is = by_goes i e arguments n rs in

@@ -18,12 +18,12 @@ use Rattle.image_run.specs.declared.outcome.Outcome.{Outcome}
 use Rattle.image_run.specs.declared.outcome.Outcome.TheVariants as outcome
 use Rattle.image_run.specs.declared.outcome.Outcome.TheVariants.{HostStopped}
 use Rattle.image_run.specs.Hosts.{Leads}
+use Rattle.image_run.specs.Checks.{has_unknown_import}
 use Rattle.image_run.specs.Ends.{IsEnd, IsUnstopped, RunsTo, run_of_export}
 use Rattle.image_run.proofs.PrintLaws.{past}
 use Rattle.wasi_host.specs.declared.run_end.RunEnd.{RunEnd}
 use Rattle.wasi_host.specs.Answers.{answer_of, bytes_written, replies}
 use Rattle.wasi_host.specs.ExitCodes.{code_of_call, exit_code, last_of}
-use Rattle.wasi_host.specs.Fitting.{AllKnown}
 use Rattle.wasi_host.specs.Hosted.{HostsRun, code_of_end, outcome_of}
 use Rattle.wasi_host.specs.Own.{AreOwn}
 use Rattle.wasi_host.specs.Sinks.{Answers}
@@ -214,9 +214,9 @@ module _ (H : Type 0) (Rel : H → HostCall → Reply → H → Type 0) (imports
         (w.replies_of, w.own, subst (λ (o : Outcome). IsEnd o memory results (run w.replies_of).end) (sym same) w.end, sym w.code_is ∙ sym code, w.written_is)
 
     -- proc_exit was called exactly where the host stopped the run
-    pub agree : i.imports ≡ imports → AllKnown imports → Whole → (outcome ≡ HostStopped → IsSome (exit to)) × (IsSome (exit to) → outcome ≡ HostStopped)
+    pub agree : i.imports ≡ imports → has_unknown_import imports ≡ false → Whole → (outcome ≡ HostStopped → IsSome (exit to)) × (IsSome (exit to) → outcome ≡ HostStopped)
     agree of_image known w =
-        let fine = stops_by_exit i e arguments n w.replies_of (subst AllKnown (sym of_image) known) (subst (λ (is : List Import). AreOwn is (λ rs. (run rs).calls) w.replies_of) (sym of_image) w.own) in
+        let fine = stops_by_exit i e arguments n w.replies_of (subst (λ (is : List Import). has_unknown_import is ≡ false) (sym of_image) known) (subst (λ (is : List Import). AreOwn is (λ rs. (run rs).calls) w.replies_of) (sym of_image) w.own) in
         let codes_are : exit_code i.imports (run w.replies_of).calls ≡ exit to = ap (λ (is : List Import). exit_code is (run w.replies_of).calls) of_image ∙ sym w.code_is in
         elim fine [
           | inl f ↦

@@ -8,12 +8,12 @@ use Rattle.image_format.specs.Contents.{Image}
 use Rattle.image_format.specs.declared.image.Export.{Export}
 use Rattle.image_run.specs.declared.outcome.Outcome.{Outcome}
 use Rattle.image_run.specs.declared.outcome.Outcome.TheVariants.{HostStopped}
+use Rattle.image_run.specs.Checks.{has_unknown_import}
 use Rattle.image_run.specs.Ends.{RunsTo, run_of_export}
 use Rattle.wasi_host.specs.declared.wasi_host.WasiHost.{WasiHost}
 use Rattle.wasi_host.specs.declared.run_end.RunEnd.{RunEnd}
 use Rattle.wasi_host.specs.Answers.{answer_of}
 use Rattle.wasi_host.specs.ExitCodes.{code_of_call, last_of}
-use Rattle.wasi_host.specs.Fitting.{AllKnown}
 use Rattle.wasi_host.specs.Hosted.{HostsRun, code_of_end, outcome_of}
 use Rattle.wasi_host.specs.Sinks.{Answers}
 use Rattle.wasi_host.proofs.HostedRuns.{Whole, agree, broken, still_of, whole, whole_hosts}
@@ -61,7 +61,7 @@ module _ (O : Type 0) (written_of : O → Option (List ℕ)) (faults_of : O → 
     )
 
     -- proc_exit was called exactly where the host stopped the run
-    pub exits_agree : AllKnown image.imports → to.is_open ≡ true → (outcome ≡ HostStopped → IsSome to.exit) × (IsSome to.exit → outcome ≡ HostStopped)
+    pub exits_agree : has_unknown_import image.imports ≡ false → to.is_open ≡ true → (outcome ≡ HostStopped → IsSome to.exit) × (IsSome to.exit → outcome ≡ HostStopped)
     exits_agree known is =
         agree (WasiHost O) Rel image.imports (IsOver from.out.ghost_name) (λ x. x.is_open) (λ x. written_of x.out.now) (λ x. faults_of x.out.now) (λ x. x.exit) (says from.out.ghost_name) image e arguments n from to (of, refl) open_now fresh
         outcome memory results h refl known (is_whole is)

@@ -1,4 +1,4 @@
--- What the host does at calls: which bytes it writes, and what it replies (WASI preview 1, `fd_write` and `proc_exit`).
+-- What the host does at calls: which bytes it writes, and what it replies (WASI preview 1, functions `fd_write` and `proc_exit`).
 use Rattle.std.specs.Prelude.{◌≡◌, ℕ, ℤ, pos, ◌+◌, ◌==◌, Bool, true, false, if◌then◌else◌, nat_le, List, [], ◌∷◌, ◌++◌, length, map, Option, None, Some, Result, Ok, Err}
 use Rattle.wasm_defs.specs.declared.types.ValType.{ValType}
 use Rattle.wasm_defs.specs.declared.types.ValType.TheVariants.{I32, I64}
@@ -42,7 +42,7 @@ code_in _ = None
 
 -- ---- fd_write
 
--- the values of `errno` that are returned
+-- the values of the type `errno` that are returned
 abbrev pub success : ℕ
 success = 0
 

@@ -1,4 +1,4 @@
--- The exit codes that calls of proc_exit have (WASI preview 1).
+-- The exit codes of calls of proc_exit (WASI preview 1, type `exitcode`).
 use Rattle.std.specs.Prelude.{ℕ, List, [], ◌∷◌, Option, None, Some}
 use Rattle.wasm_defs.specs.Values.{Value}
 use Rattle.wasm_defs.specs.Host.{HostCall}

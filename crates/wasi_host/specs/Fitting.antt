@@ -1,5 +1,5 @@
 -- Replies that are taken: of the import's result types, and with patches inside the memory. How runs end that have them.
-use Rattle.std.specs.Prelude.{◌≡◌, ◌||◌, ◌⊎◌, ℕ, true, is_some, List, None, Some, slice_get}
+use Rattle.std.specs.Prelude.{◌≡◌, ◌⊎◌, ℕ, true, List, None, Some, slice_get}
 use Rattle.wasm_defs.specs.Host.{HostCall, Taken, Goes, Stops, taken}
 use Rattle.wasm_defs.specs.Typing.{same_types}
 use Rattle.wasm_defs.specs.Values.{types_of_values}
@@ -7,8 +7,6 @@ use Rattle.image_format.specs.declared.image.Import.{Import}
 use Rattle.image_format.specs.ImageRun.{As, ImageRun}
 use Rattle.wasm_defs.specs.ModuleRun as run
 use Rattle.image_run.specs.Ends.{IsUnstopped}
-use Rattle.image_run.specs.Printing.{function_of}
-use Rattle.image_run.specs.WasiFunctions.{wasi_of}
 use Rattle.wasi_host.specs.Answers.{answer_of}
 use Rattle.wasi_host.specs.ExitCodes.{exit_code}
 
@@ -23,13 +21,6 @@ IsCallOf imports c i = (slice_get imports c.number ≡ Some i) × (same_types i.
 -- the reply is taken, and the run goes on
 abbrev pub IsTaken : List Import → HostCall → Import → Type 0
 IsTaken imports c i = GoesOn (taken i.signature.results c.memory (answer_of imports c).reply)
-
--- a function that the host knows
-abbrev pub IsKnown : Import → Type 0
-IsKnown i = (is_some (function_of i) || is_some (wasi_of i)) ≡ true
-
-abbrev pub AllKnown : List Import → Type 0
-AllKnown imports = (number : ℕ) (i : Import) → slice_get imports number ≡ Some i → IsKnown i
 
 -- no reply stopped the run, and proc_exit wasn't called; or it was called, and stopped the run
 abbrev pub StopsByExit : List Import → ImageRun → Type 0

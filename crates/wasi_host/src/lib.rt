@@ -13,7 +13,7 @@ mod vectors;
 mod wasi_host;
 mod write_call;
 
-pub use laws::{own_replies_are_one, runs_have_own_replies, runs_stop_by_exits, writes_are_taken};
+pub use laws::{own_replies_are_one, replies_are_taken, runs_have_own_replies, runs_stop_by_exits};
 pub use run_end::RunEnd;
 pub use running::run_hosted;
 pub use wasi_host::WasiHost;

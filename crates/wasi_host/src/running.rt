@@ -3,10 +3,9 @@ ghost use Rattle.std.specs.Prelude.{◌≡◌, ◌<◌, ◌-◌, ◌^◌, true, 
 ghost use Rattle.wasm_defs.specs.Values.{type_of, value_of};
 ghost use Rattle.io_edges.specs.Causes.{Rose};
 ghost use Rattle.image_format.specs.declared.image.Export.{Export};
-ghost use Rattle.image_run.specs.Checks.{export_named, unfit};
+ghost use Rattle.image_run.specs.Checks.{export_named, not_runnable};
 ghost use Rattle.image_run.specs.declared.outcome.Outcome.TheVariants.{HostStopped};
 ghost use Rattle.image_run.specs.Ends.{TellsCount, run_of_export};
-ghost use Rattle.wasi_host.specs.Fitting.{AllKnown};
 ghost use Rattle.wasi_host.specs.Hosted.{HostsRun, code_of_end, outcome_of};
 
 use crate::run_end::RunEnd;
@@ -39,7 +38,7 @@ fn end_of(outcome: Outcome, exit: Option<u32>) -> RunEnd
 /// The bytes of the calls that the run makes are written; where the sink failed, a prefix of those that a run makes whose calls
 /// are all answered.
 ///
-/// The conditions are those of `start_and_run`, and that the host knows each import of the image.
+/// The conditions are that the instance is of this image and hasn't run, and that `run_checks` finds nothing.
 pub fn run_hosted<O: Sink>(
     instance: &mut Instance,
     image: &Image,
@@ -52,8 +51,7 @@ pub fn run_hosted<O: Sink>(
     requires same { instance.old.image ≡ image.now }
     requires count { O.faults out.old < 2 ^ 64 - 1 }
     requires open { O.is_open out.old ≡ true }
-    requires fit { unfit image.now (map type_of arguments.now) (export_named export.now image.now.exports) ≡ None }
-    requires known { AllKnown image.now.imports }
+    requires fit { not_runnable image.now export.now (map type_of arguments.now) ≡ None }
     ensures image { instance.new.image ≡ image.now }
     ensures has_run { instance.new.has_run ≡ true }
     ensures count { IfSome result (λ end. TellsCount (outcome_of end) instance.new.results) }

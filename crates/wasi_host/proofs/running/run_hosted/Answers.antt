@@ -1,21 +1,26 @@
 use Rattle.std.proofs.Common.{◌≡◌, true, false, sym, ap, ◌∙◌}
 use Rattle.std.specs.Prelude.{map}
-use Rattle.wasm_defs.specs.Values.{value_of}
+use Rattle.wasm_defs.specs.Values.{type_of, value_of}
+use Rattle.image_run.proofs.SignatureLaws.{all_known, then_fit}
 use Rattle.wasi_host.proofs.HostedSinks.{exits_agree, fails, hosts, still}
 use Rattle.wasi_host.proofs.running.run_hosted.Goals as goal
+
+pub start_and_run-outcome-requires-clause-fit : goal.start_and_run-outcome-requires-clause-fit
+start_and_run-outcome-requires-clause-fit g c =
+    rw c.requires.same (then_fit c.args.image.now c.args.export.now (map type_of c.args.arguments.now) c.requires.fit)
 
 pub end_of-requires-clause-stopped : goal.end_of-requires-clause-stopped
 end_of-requires-clause-stopped g c =
     let h = rw c.requires.same at c.start_and_run-outcome.ensures.run in
     let agree = exits_agree g.row.O.Denot g.O.Sink.written g.O.Sink.faults c.args.image.now h.0 (map value_of c.args.arguments.now) c.args.steps c.new-host.result c.start_and_run-outcome.new.host c.new-host.ensures.image c.new-host.ensures.can c.new-host.ensures.exit
-    c.start_and_run-outcome.result c.start_and_run-outcome.new.self.memory c.start_and_run-outcome.new.self.results h.2 c.requires.known (sym c.is_open.ensures ∙ c.if-is_open.true) in
+    c.start_and_run-outcome.result c.start_and_run-outcome.new.self.memory c.start_and_run-outcome.new.self.results h.2 (all_known c.args.image.now c.args.export.now (map type_of c.args.arguments.now) c.requires.fit) (sym c.is_open.ensures ∙ c.if-is_open.true) in
     rw c.exit_code.ensures agree.0
 
 pub end_of-requires-clause-exited : goal.end_of-requires-clause-exited
 end_of-requires-clause-exited g c =
     let h = rw c.requires.same at c.start_and_run-outcome.ensures.run in
     let agree = exits_agree g.row.O.Denot g.O.Sink.written g.O.Sink.faults c.args.image.now h.0 (map value_of c.args.arguments.now) c.args.steps c.new-host.result c.start_and_run-outcome.new.host c.new-host.ensures.image c.new-host.ensures.can c.new-host.ensures.exit
-    c.start_and_run-outcome.result c.start_and_run-outcome.new.self.memory c.start_and_run-outcome.new.self.results h.2 c.requires.known (sym c.is_open.ensures ∙ c.if-is_open.true) in
+    c.start_and_run-outcome.result c.start_and_run-outcome.new.self.memory c.start_and_run-outcome.new.self.results h.2 (all_known c.args.image.now c.args.export.now (map type_of c.args.arguments.now) c.requires.fit) (sym c.is_open.ensures ∙ c.if-is_open.true) in
     rw c.exit_code.ensures agree.1
 
 pub returns-then-is_open-clause-faults : goal.returns-then-is_open-clause-faults
