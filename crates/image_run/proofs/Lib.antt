@@ -11,8 +11,7 @@ pub mod RunLaws
 pub mod TypeLaws
 pub mod StartLaws
 pub mod ReplyLaws
-pub mod PrintedRuns
-pub mod PrintingHosts
+pub mod ExportRuns
 pub mod SignatureLaws
 pub mod ResultLaws
 pub mod RoomLaws

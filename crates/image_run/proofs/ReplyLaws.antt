@@ -16,19 +16,10 @@ use Rattle.image_format.specs.Environment.{Entry, entered, code_of_image}
 use Rattle.image_format.specs.ImageRun.{Running, Stepping, To, Ended, Faulted, Waiting, Ending, As, ImageRun, answered, ask, asked, await_reply, call_import, environment, finish, globals_of, grow, memory_of, next, on, results_at, run_of, slots_at, stepped, steps, trapped, values_at, with_results}
 use Rattle.image_format.specs.ImageRun as image
 use Rattle.image_run.specs.Answers.{IsOver}
-use Rattle.image_run.specs.Printing.{replied}
+use Rattle.image_run.specs.Ends.{IsUnstopped}
 
 abbrev pub with_replies : Running → List Reply → Running
 with_replies r rs = record r { replies = rs }
-
--- how a run may end that no reply stops
-abbrev pub IsUnstopped : Ending → Type 0
-IsUnstopped (As (run.Returns values memory globals)) = Unit {0}
-IsUnstopped (As (run.Traps kind place memory globals)) = Unit {0}
-IsUnstopped (As (run.Stops memory)) = ⊥
-IsUnstopped (As run.Going) = Unit {0}
-IsUnstopped (As run.Fails) = ⊥
-IsUnstopped (image.Fault kind pc) = Unit {0}
 
 -- what a step comes to, behind these calls, whatever the replies are: the run goes on, or it ends, or it asks for a reply
 pub data Turn (i : Image) (calls : List HostCall) (f : List Reply → Stepping) : Type 0 where
@@ -186,46 +177,6 @@ module _ (i : Image) where
   calls_alike zero r p x y = refl
   calls_alike (suc n) r p x y = turn_alike n (alike_until r p) r.calls _ p x y (next_turn r) refl (calls_alike n)
 
-  -- ---- more replies, where none was wanting, change nothing
-
-  abbrev pub Enough : ℕ → Running → (p y : List Reply) → Type 0
-  Enough n r p y = length (calls_of (goes n r p)) ≤ length r.calls + length p → run_of (goes n r (p ++ y)) ≡ run_of (goes n r p)
-
-  abbrev pub EnoughAll : ℕ → Type 0
-  EnoughAll n = (r : Running) (p y : List Reply) → Enough n r p y
-
-  taken_enough : (n : ℕ) (r : Running) (p y before after : List Reply) (at : ℕ) (t : Taken) → EnoughAll n
-      → length (calls_of (on (answered (with_replies r before) p at t) (steps i n))) ≤ length r.calls + length p
-      → run_of (on (answered (with_replies r after) (p ++ y) at t) (steps i n)) ≡ run_of (on (answered (with_replies r before) p at t) (steps i n))
-  taken_enough n r p y before after at Stops all few = refl
-  taken_enough n r p y before after at (Goes values memory) all few = all (record r { machine = machine_behind r at values memory }) p y few
-
-  -- the call itself was made
-  reply_enough : (n : ℕ) (r : Running) (results : List ValType) (at : ℕ) (p y before after : List Reply) → EnoughAll n
-      → length (calls_of (on (await_reply (with_replies r before) results at p) (steps i n))) + 1 ≤ length r.calls + length p
-      → run_of (on (await_reply (with_replies r after) results at (p ++ y)) (steps i n)) ≡ run_of (on (await_reply (with_replies r before) results at p) (steps i n))
-  reply_enough n r results at [] y before after all few =
-      absurd (omega (arith, few))
-  reply_enough n r results at (q ∷ p) y before after all few =
-      taken_enough n r p y before after at (taken results (memory_of r) q) all (omega (arith, few))
-
-  turn_enough : (n : ℕ) (calls : List HostCall) (f : List Reply → Stepping) (p y : List Reply) → Turn i calls f → EnoughAll n
-      → length (calls_of (on (f p) (steps i n))) ≤ length calls + length p → run_of (on (f (p ++ y)) (steps i n)) ≡ run_of (on (f p) (steps i n))
-  turn_enough n calls f p y (GoesOn r same is) all few =
-      let there : length (calls_of (goes n r p)) ≤ length calls + length p = subst (λ (z : Stepping). length (calls_of (on z (steps i n))) ≤ length calls + length p) (is p) few in
-      let here : length (calls_of (goes n r p)) ≤ length r.calls + length p = omega (arith, there, ap length same) in
-      rw (is p) (rw (is (p ++ y)) (all r p y here))
-  turn_enough n calls f p y (Ends o same end over is) all few =
-      rw (over_on (f p) (steps i n) (over p)) (rw (over_on (f (p ++ y)) (steps i n) (over (p ++ y))) (is (p ++ y) ∙ sym (is p)))
-  turn_enough n calls f p y (Asks r made number at import same there asks is) all few =
-      let size : length r.calls ≡ length calls + 1 = ap length same ∙ length-append calls (made ∷ []) in
-      let here = subst (λ (z : Stepping). length (calls_of (on z (steps i n))) ≤ length calls + length p) (is p) few in
-      rw (is p) (rw (is (p ++ y)) (reply_enough n r import.signature.results at p y p (p ++ y) all (omega (arith, here, size))))
-
-  pub replies_enough : (n : ℕ) → EnoughAll n
-  replies_enough zero r p y few = refl
-  replies_enough (suc n) r p y few = turn_enough n r.calls _ p y (next_turn r) (replies_enough n) few
-
   -- ---- each step makes one call at most
 
   abbrev pub Few : ℕ → ℕ → Stepping → Type 0
@@ -254,69 +205,3 @@ module _ (i : Image) where
   pub calls_few : (n : ℕ) → FewAll n
   calls_few zero r rs = omega arith
   calls_few (suc n) r rs = turn_few n r.calls _ rs (next_turn r) (calls_few n)
-
-  -- ---- a reply that stops the run, where it was asked for, ends it
-
-  abbrev pub IsStopped : Stepping → Type 0
-  IsStopped done = (memory : List ℕ) × ((run_of done).end ≡ As (run.Stops memory))
-
-  abbrev pub StoppedAll : ℕ → Type 0
-  StoppedAll n = (r : Running) (p x : List Reply) → length r.calls + length p < length (calls_of (goes n r (p ++ Stop ∷ x))) → IsStopped (goes n r (p ++ Stop ∷ x))
-
-  taken_stopped : (n : ℕ) (r : Running) (p x before : List Reply) (at : ℕ) (t : Taken) → StoppedAll n
-      → length r.calls + length p < length (calls_of (on (answered (with_replies r before) (p ++ Stop ∷ x) at t) (steps i n)))
-      → IsStopped (on (answered (with_replies r before) (p ++ Stop ∷ x) at t) (steps i n))
-  taken_stopped n r p x before at Stops all more = (memory_of r, refl)
-  taken_stopped n r p x before at (Goes values memory) all more = all (record r { machine = machine_behind r at values memory }) p x more
-
-  reply_stopped : (n : ℕ) (r : Running) (results : List ValType) (at : ℕ) (p x before : List Reply) → StoppedAll n
-      → length r.calls + length p ≤ length (calls_of (on (await_reply (with_replies r before) results at (p ++ Stop ∷ x)) (steps i n)))
-      → IsStopped (on (await_reply (with_replies r before) results at (p ++ Stop ∷ x)) (steps i n))
-  reply_stopped n r results at [] x before all more = (memory_of r, refl)
-  reply_stopped n r results at (q ∷ p) x before all more = taken_stopped n r p x before at (taken results (memory_of r) q) all (omega (arith, more))
-
-  turn_stopped : (n : ℕ) (calls : List HostCall) (f : List Reply → Stepping) (p x : List Reply) → Turn i calls f → StoppedAll n
-      → length calls + length p < length (calls_of (on (f (p ++ Stop ∷ x)) (steps i n))) → IsStopped (on (f (p ++ Stop ∷ x)) (steps i n))
-  turn_stopped n calls f p x (GoesOn r same is) all more =
-      let there : length calls + length p < length (calls_of (goes n r (p ++ Stop ∷ x))) =
-      subst (λ (z : Stepping). length calls + length p < length (calls_of (on z (steps i n)))) (is (p ++ Stop ∷ x)) more in
-      let here : length r.calls + length p < length (calls_of (goes n r (p ++ Stop ∷ x))) = omega (arith, there, ap length same) in
-      rw (is (p ++ Stop ∷ x)) (all r p x here)
-  turn_stopped n calls f p x (Ends o same end over is) all more =
-      let here : length calls + length p < length (calls_of (f (p ++ Stop ∷ x))) =
-      subst (λ (z : Stepping). length calls + length p < length (calls_of z)) (over_on (f (p ++ Stop ∷ x)) (steps i n) (over (p ++ Stop ∷ x))) more in
-      absurd (omega (arith, here, ap (λ (z : ImageRun). length z.calls) (is (p ++ Stop ∷ x)), ap length same))
-  turn_stopped n calls f p x (Asks r made number at import same there asks is) all more =
-      let size : length r.calls ≡ length calls + 1 = ap length same ∙ length-append calls (made ∷ []) in
-      let here = subst (λ (z : Stepping). length calls + length p < length (calls_of (on z (steps i n)))) (is (p ++ Stop ∷ x)) more in
-      rw (is (p ++ Stop ∷ x)) (reply_stopped n r import.signature.results at p x (p ++ Stop ∷ x) all (omega (arith, here, size)))
-
-  pub stops_end : (n : ℕ) → StoppedAll n
-  stops_end zero r p x more = absurd (omega (arith, more))
-  stops_end (suc n) r p x more = turn_stopped n r.calls _ p x (next_turn r) (stops_end n) more
-
-  -- ---- replies of functions without results, of an image that imports no others, stop no run
-
-  module _ (none : (number : ℕ) (import : Import) → slice_get i.imports number ≡ Some import → import.signature.results ≡ []) where
-    abbrev pub Unstopped : Stepping → Type 0
-    Unstopped done = IsUnstopped (run_of done).end
-
-    abbrev pub UnstoppedAll : ℕ → Type 0
-    UnstoppedAll n = (r : Running) (k : ℕ) → Unstopped (goes n r (replicate k replied))
-
-    reply_unstopped : (n : ℕ) (r : Running) (results : List ValType) (at k : ℕ) (before : List Reply) → results ≡ [] → UnstoppedAll n
-        → Unstopped (on (await_reply (with_replies r before) results at (replicate k replied)) (steps i n))
-    reply_unstopped n r results at zero before e all = tt
-    reply_unstopped n r results at (suc k) before e all =
-        rw e (all (record r { machine = machine_behind r at [] (memory_of r) }) k)
-
-    turn_unstopped : (n : ℕ) (calls : List HostCall) (f : List Reply → Stepping) (k : ℕ) → Turn i calls f → UnstoppedAll n → Unstopped (on (f (replicate k replied)) (steps i n))
-    turn_unstopped n calls f k (GoesOn r same is) all = rw (is (replicate k replied)) (all r k)
-    turn_unstopped n calls f k (Ends o same end over is) all =
-        rw (over_on (f (replicate k replied)) (steps i n) (over (replicate k replied))) (subst (λ (x : ImageRun). IsUnstopped x.end) (sym (is (replicate k replied))) end)
-    turn_unstopped n calls f k (Asks r made number at import same there asks is) all =
-        rw (is (replicate k replied)) (reply_unstopped n r import.signature.results at k (replicate k replied) (none number import there) all)
-
-    pub never_stopped : (n : ℕ) → UnstoppedAll n
-    never_stopped zero r k = tt
-    never_stopped (suc n) r k = turn_unstopped n r.calls _ k (next_turn r) (never_stopped n)

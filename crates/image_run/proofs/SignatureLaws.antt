@@ -1,5 +1,5 @@
 -- The signatures of an image's exports keep their bounds.
-use Rattle.std.proofs.Common.{◌≡◌, ℕ, suc, ◌≤◌, true, false, List, [], ◌∷◌, ◌++◌, length, map, Option, None, Some, inl, inr, refl, sym, ap, subst, arith}
+use Rattle.std.proofs.Common.{◌≡◌, ℕ, zero, suc, ◌≤◌, ◌||◌, not, Bool, true, false, slice_get, List, [], ◌∷◌, ◌++◌, length, map, Option, None, Some, inl, inr, refl, sym, ap, subst, arith}
 use Rattle.std.specs.Str.{bytes_eq}
 use Rattle.std.proofs.lemmas.Bool.{and_parts, cases_Bool}
 use Rattle.std.proofs.lemmas.List.{length-map}
@@ -10,9 +10,10 @@ use Rattle.wasm_defs.specs.Values.{type_of}
 use Rattle.image_format.specs.Contents.{Image, IsImage}
 use Rattle.image_format.specs.declared.limits.TheConstants.{PARAMS, RESULTS}
 use Rattle.image_format.specs.declared.image.Export.{Export}
+use Rattle.image_format.specs.declared.image.Import.{Import}
 use Rattle.image_format.specs.Bounds.{Each, ExportFits, IsSignature}
 use Rattle.image_run.specs.declared.checks.NotRunnable.TheVariants.{UnknownImport, WrongArguments}
-use Rattle.image_run.specs.Checks.{export_named, has_unknown_import, not_runnable, unfit}
+use Rattle.image_run.specs.Checks.{export_named, has_unknown_import, is_known, not_runnable, unfit}
 use Rattle.image_run.specs.States.{types_left}
 
 pub signature_of_export : (words : ℕ) (front es : List Export) (name : List ℕ) (e : Export) → Each (ExportFits words) front es → export_named name es ≡ Some e → IsSignature e.signature
@@ -56,10 +57,28 @@ pub few_left : (i : Image) (name : List ℕ) (o : Option Export) → IsImage i �
 few_left i name None bounds found = omega arith
 few_left i name (Some e) bounds found = few_results i name e bounds (sym found)
 
--- where the checks find nothing, all imports are known
+-- where the checks find nothing, all imports are known, and the call can be made
 pub all_known : (i : Image) (name : List ℕ) (types : List ValType) → not_runnable i name types ≡ None → has_unknown_import i.imports ≡ false
 all_known i name types is =
     elim (cases_Bool (has_unknown_import i.imports)) [
       | inl h ↦ absurd (let t : Some UnknownImport ≡ None = rw h at is in cc)
       | inr h ↦ h
     ]
+
+pub then_fit : (i : Image) (name : List ℕ) (types : List ValType) → not_runnable i name types ≡ None → unfit i types (export_named name i.exports) ≡ None
+then_fit i name types is = rw (all_known i name types is) at is
+
+pub known_at : (is : List Import) (number : ℕ) (import : Import) → has_unknown_import is ≡ false → slice_get is number ≡ Some import → is_known import ≡ true
+known_at [] number import known there = absurd cc
+known_at (x ∷ is) zero import known there =
+    let same : x ≡ import = cc in
+    subst (λ (y : Import). is_known y ≡ true) same (first (is_known x) (has_unknown_import is) known)
+  where
+    first : (a b : Bool) → (not a || b) ≡ false → a ≡ true
+    first true b e = refl
+    first false b e = absurd cc
+known_at (x ∷ is) (suc number) import known there = known_at is number import (rest (is_known x) (has_unknown_import is) known) there
+  where
+    rest : (a b : Bool) → (not a || b) ≡ false → b ≡ false
+    rest true b e = e
+    rest false b e = absurd cc

@@ -7,13 +7,18 @@ use Rattle.image_format.specs.Contents.{Image}
 use Rattle.image_format.specs.declared.image.Import.{Import}
 use Rattle.image_format.specs.declared.image.Export.{Export}
 use Rattle.image_run.specs.Printing.{function_of}
+use Rattle.image_run.specs.WasiFunctions.{wasi_of}
 use Rattle.image_run.specs.declared.checks.NotRunnable.{NotRunnable}
 use Rattle.image_run.specs.declared.checks.NotRunnable.TheVariants.{UnknownImport, NoSuchExport, WrongArguments, Unlinkable}
+
+-- a function that the program provides, by its names and its type
+abbrev pub is_known : Import → Bool
+is_known i = is_some (function_of i) || is_some (wasi_of i)
 
 -- some import is no function that the program provides
 abbrev pub has_unknown_import : List Import → Bool
 has_unknown_import [] = false
-has_unknown_import (i ∷ is) = not (is_some (function_of i)) || has_unknown_import is
+has_unknown_import (i ∷ is) = not (is_known i) || has_unknown_import is
 
 -- the first export of that name
 abbrev pub export_named : (name : List ℕ) → List Export → Option Export

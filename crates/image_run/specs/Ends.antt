@@ -2,7 +2,7 @@
 use Rattle.std.specs.Prelude.{◌≡◌, ℕ, List, [], length}
 use Rattle.wasm_defs.specs.Values.{Value}
 use Rattle.wasm_defs.specs.Host.{HostCall, Reply}
-use Rattle.wasm_defs.specs.ModuleRun.{Returns, Traps, Stops, Going}
+use Rattle.wasm_defs.specs.ModuleRun.{Returns, Traps, Stops, Going, Fails}
 use Rattle.image_format.specs.Contents.{Image}
 use Rattle.image_format.specs.declared.image.Export.{Export}
 use Rattle.image_format.specs.ImageRun.{Ending, As, ImageRun, image_run}
@@ -19,6 +19,15 @@ IsEnd (Trapped kind place) memory results end = (globals : List ℕ) × (end ≡
 IsEnd StepsSpent memory results end = end ≡ As Going
 IsEnd HostStopped memory results end = end ≡ As (Stops memory)
 IsEnd (Fault kind pc) memory results end = end ≡ image.Fault kind pc
+
+-- no reply of the host stopped the run
+abbrev pub IsUnstopped : Ending → Type 0
+IsUnstopped (As (Returns values memory globals)) = Unit {0}
+IsUnstopped (As (Traps kind place memory globals)) = Unit {0}
+IsUnstopped (As (Stops memory)) = ⊥
+IsUnstopped (As Going) = Unit {0}
+IsUnstopped (As Fails) = ⊥
+IsUnstopped (image.Fault kind pc) = Unit {0}
 
 -- an outcome tells how many results there are: after a run that didn't return there are none
 abbrev pub TellsCount : Outcome → (results : List Value) → Type 0

@@ -4,3 +4,4 @@ pub mod Ends
 pub mod States
 pub mod Printing
 pub mod Answers
+pub mod WasiFunctions

@@ -1,5 +1,5 @@
 -- The host functions of the program: which imports they are, and what their calls print.
-use Rattle.std.specs.Prelude.{◌≡◌, ◌≢◌, ℕ, ◌%◌, ◌&&◌, Bool, true, false, if◌then◌else◌, List, [], ◌∷◌, ◌++◌, take, replicate, Option, None, Some, codes, slice_get}
+use Rattle.std.specs.Prelude.{◌≡◌, ℕ, ◌%◌, ◌&&◌, Bool, true, false, if◌then◌else◌, List, [], ◌∷◌, ◌++◌, Option, None, Some, codes, slice_get}
 use Rattle.std.specs.Str.{bytes_eq}
 use Rattle.std.specs.Fmt.{signed_decimal}
 use Rattle.wasm_defs.specs.declared.types.ValType.{ValType}
@@ -7,14 +7,8 @@ use Rattle.wasm_defs.specs.declared.types.ValType.TheVariants.{I32, I64}
 use Rattle.wasm_defs.specs.declared.types.FuncType.{FuncType}
 use Rattle.wasm_defs.specs.Typing.{same_types}
 use Rattle.wasm_defs.specs.Values.{Value, signed}
-use Rattle.wasm_defs.specs.Host.{HostCall, Reply, Answer, Stop}
-use Rattle.std.specs.Io.KnownBytes.{append_known}
+use Rattle.wasm_defs.specs.Host.{Reply, Answer, Stop}
 use Rattle.io_edges.specs.Streams.{WritesText}
-use Rattle.image_format.specs.Contents.{Image}
-use Rattle.image_format.specs.ImageRun.{ImageRun, image_run}
-use Rattle.image_run.specs.declared.outcome.Outcome.{Outcome}
-use Rattle.image_run.specs.declared.outcome.Outcome.TheVariants.{HostStopped}
-use Rattle.image_run.specs.Ends.{IsEnd}
 use Rattle.image_format.specs.declared.image.Import.{Import}
 use Rattle.image_run.specs.declared.sink_host.HostFunction.{HostFunction}
 use Rattle.image_run.specs.declared.sink_host.HostFunction.TheVariants.{Put, Num}
@@ -54,27 +48,6 @@ abbrev pub text_of : Option HostFunction → List Value → List ℕ
 text_of (Some Put) (v ∷ []) = put_text v.ty v.number
 text_of (Some Num) (v ∷ []) = num_text v.ty v.number
 text_of _ _ = []
-
--- each of these functions returns nothing, and changes no memory
-abbrev pub replied : Reply
-replied = Answer [] None
-
--- what calls of imports print, in order
-abbrev pub printed : List Import → List HostCall → List ℕ
-printed imports [] = []
-printed imports (c ∷ cs) = text_of (function_at imports c.number) c.arguments ++ printed imports cs
-
--- the run of a function of an image whose imports print and return, for at most so many steps: each step makes one call at most
-unfoldable pub printing_run : Image → (offset : ℕ) → (results : List ValType) → List Value → (steps : ℕ) → ImageRun
-printing_run i offset results arguments steps = image_run i offset results arguments (replicate steps replied) steps
-
--- What such a run writes to a sink, and how it ends: by whether the sink failed. Where it did, the run was stopped, and a front of
--- the text was written.
-abbrev pub PrintsRun : (failed : Bool) → List Import → ImageRun → Outcome → (memory : List ℕ) → (results : List Value) → (written written_now : Option (List ℕ)) → Type 0
-PrintsRun false imports run outcome memory results written written_now =
-    (outcome ≢ HostStopped) × IsEnd outcome memory results run.end × (written_now ≡ append_known written (printed imports run.calls))
-PrintsRun true imports run outcome memory results written written_now =
-    (outcome ≡ HostStopped) × (n : ℕ) × (written_now ≡ append_known written (take n (printed imports run.calls)))
 
 -- A call's text is written and it returns nothing, or the sink failed and the run stops. Once it has, nothing is written. By
 -- whether the sink is open before the call and behind it.

@@ -3,16 +3,17 @@ ghost use Rattle.std.specs.Prelude.{◌≡◌, map};
 ghost use Rattle.std.specs.Option.{option_copied};
 ghost use Rattle.wasm_defs.specs.Values.{type_of};
 ghost use Rattle.wasm_defs.specs.Typing.{same_types};
-ghost use Rattle.image_run.specs.Checks.{export_named, has_unknown_import, not_runnable, unfit};
+ghost use Rattle.image_run.specs.Checks.{export_named, has_unknown_import, is_known, not_runnable, unfit};
 
 use crate::sink_host::function_of;
+use crate::wasi_function::wasi_of;
 use image_format::{Export, Image, Import};
 use wasm_defs::{ValType, Value};
 
 /// Why an exported function of an image isn't run.
 #[derive(Clone, Copy, Debug, PartialEq, Eq)]
 pub enum NotRunnable {
-    /// The image has an import that is no function of the program's host, by its names and its type.
+    /// The image has an import that is no function that the program provides, by its names and its type.
     UnknownImport,
     /// No exported function has the name.
     NoSuchExport,
@@ -68,12 +69,19 @@ pub fn call_checks(image: &Image, export: &str, arguments: &[Value]) -> Option<N
     }
 }
 
-/// Whether some import is no function of the program's host.
+/// Whether an import is a function that the program provides, by its names and its type.
+fn is_known(import: &Import) -> bool
+    ensures { result ≡ is_known import.now }
+{
+    function_of(import).is_some() || wasi_of(import).is_some()
+}
+
+/// Whether some import is no function that the program provides.
 fn has_unknown_import(imports: &[Import]) -> bool
     ensures { result ≡ has_unknown_import imports.now }
 {
     for import in imports {
-        if function_of(import).is_none() {
+        if !is_known(import) {
             return true;
         }
     }

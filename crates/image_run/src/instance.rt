@@ -1,10 +1,9 @@
 //! Instances of images.
-ghost use Rattle.std.specs.Prelude.{◌≡◌, ◌<◌, ◌-◌, ◌*◌, ◌^◌, nat_lt, true, false, [], Some, None, IfOk, length, map, slice_get, take};
+ghost use Rattle.std.specs.Prelude.{◌≡◌, ◌<◌, true, false, [], Some, None, IfOk, length, map, slice_get};
 ghost use Rattle.wasm_defs.specs.Values.{type_of, value_of};
 ghost use Rattle.image_format.specs.declared.image.Export.{Export};
-ghost use Rattle.image_run.specs.Checks.{export_named, not_runnable, unfit};
+ghost use Rattle.image_run.specs.Checks.{export_named, unfit};
 ghost use Rattle.image_run.specs.Ends.{RunsTo, TellsCount};
-ghost use Rattle.image_run.specs.Printing.{PrintsRun, printing_run};
 ghost use Rattle.image_run.specs.States.{first_memory};
 
 use crate::checks::find_export;
@@ -12,10 +11,8 @@ use crate::host::Host;
 use crate::outcome::Outcome;
 use crate::regions::regions_of;
 use crate::run::{enter, run_function, run_start};
-use crate::sink_host::SinkHost;
 use crate::words::{value_in, word_in};
 use image_format::{Export, Image, PARAMS};
-use io_edges::Sink;
 use rv64im_machine::{Machine, Region};
 use std::alloc::{AllocError, Global};
 use std::marker::Model;
@@ -151,32 +148,5 @@ impl<'a> Instance<'a> {
         }
         self.returned = Some(export);
         Outcome::Returned(export.signature.results.as_slice().len() as u32)
-    }
-
-    /// Runs the start function and the exported one, as `start_and_run` does, with the program's host, which prints to a sink.
-    ///
-    /// What it writes is the text of the calls that the run makes where each of them returns; where the sink failed, a front of it,
-    /// and the outcome is `HostStopped`, which it is nowhere else. The condition is that `run_checks` finds nothing.
-    pub fn run_printing<O: Sink>(
-        &mut self,
-        export: &str,
-        arguments: &[Value],
-        out: &mut O,
-        steps: u64,
-    ) -> Outcome
-        requires ready { self.old.has_run ≡ false }
-        requires count { O.faults out.old < 2 ^ 64 - 1 }
-        requires open { O.is_open out.old ≡ true }
-        requires fit { not_runnable self.old.image export.now (map type_of arguments.now) ≡ None }
-        ensures image { self.new.image ≡ self.old.image }
-        ensures has_run { self.new.has_run ≡ true }
-        ensures count { TellsCount result self.new.results }
-        ensures calm { nat_lt (O.faults out.old) (O.faults out.new) ≡ false → (O.is_open out.new ≡ true) × (O.faults out.new ≡ O.faults out.old) }
-        ensures run { (e : Export) × (export_named export.now self.old.image.exports ≡ Some e)
-            × PrintsRun (nat_lt (O.faults out.old) (O.faults out.new)) self.old.image.imports
-            (printing_run self.old.image e.offset e.signature.results (map value_of arguments.now) steps) result self.new.memory self.new.results (O.written out.old) (O.written out.new) }
-    {
-        let mut host = SinkHost::new(self.image, out);
-        self.start_and_run(export, arguments, &mut host, steps)
     }
 }

@@ -19,6 +19,7 @@ mod sink_host;
 mod test_images;
 #[cfg(test)]
 mod tests;
+mod wasi_function;
 mod words;
 
 pub use checks::{NotRunnable, are_of, call_checks, find_export, run_checks};
@@ -26,3 +27,4 @@ pub use host::{Host, Patch, Reply};
 pub use instance::Instance;
 pub use outcome::Outcome;
 pub use sink_host::{HostFunction, SinkHost, function_at, print};
+pub use wasi_function::{WasiFunction, wasi_at};

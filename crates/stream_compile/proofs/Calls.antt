@@ -16,6 +16,7 @@ use Rattle.wasm_defs.specs.ModuleRun as module_runs
 use Rattle.body_validator.proofs.OperandLaws.{same_types-of, same_types-true}
 use Rattle.image_format.specs.Contents.{Image}
 use Rattle.image_format.specs.declared.image.Export.{Export}
+use Rattle.image_format.specs.declared.image.Import.{Import}
 use Rattle.image_format.specs.ImageRun.{Ending, As, Fault, ImageRun, image_run}
 use Rattle.image_linker.specs.ImageOf.{image_of, export_of, offset_of}
 use Rattle.image_linker.specs.Same.{Same}
@@ -23,10 +24,12 @@ use Rattle.simulation.specs.SameRuns.{SameRuns, BeginsWith, IsOver, as_image}
 use Rattle.image_run.specs.declared.checks.NotRunnable.{NotRunnable}
 use Rattle.image_run.specs.declared.checks.NotRunnable.TheVariants.{UnknownImport, NoSuchExport, WrongArguments, Unlinkable}
 use Rattle.image_run.specs.Checks.{export_named, not_runnable, unfit, has_unknown_import}
-use Rattle.image_run.specs.Printing.{printing_run, replied}
+use Rattle.image_run.specs.Ends.{run_of_export}
+use Rattle.wasi_host.specs.Answers.{bytes_written, replies}
+use Rattle.wasi_host.specs.ExitCodes.{exit_code}
 use Rattle.command_words.specs.declared.command.Call.{Call}
 use Rattle.command_words.specs.declared.peek.Peek.{Peek}
-use Rattle.stream_compile.specs.Texts.{Outcome, arguments_of, EndsAs, TellsImageRun, ChecksAndCalls, GoesOn, TellsEnd, TellsRun, ChecksAndRuns}
+use Rattle.stream_compile.specs.Texts.{Outcome, after, arguments_of, EndsAs, ChecksAndCalls, GoesOn, TellsEnd, TellsRun, ChecksAndRuns}
 use Rattle.stream_compile.specs.Running.{RunsAs}
 use Rattle.stream_compile.proofs.Lasting.{Lasts, image_stays}
 
@@ -113,16 +116,18 @@ runs_alike m name arguments replies e found same passed ranges =
     links true h = refl
     links false h = absurd cc
 
-run_is : (i : Image) (offset : ℕ) (results : List ValType) (arguments : List Value) (n : ℕ) → printing_run i offset results arguments n ≡ image_run i offset results arguments (replicate n replied) n
-unfolding printing_run
-run_is i offset results arguments n = refl
-
 -- the run of an export, where it is that of the module's function
-runs_there : (m : Module) (name : List ℕ) (es : List (List ℕ × ℕ)) (e : Export) (found : Exports m name es e) (arguments : List Value) (n : ℕ)
-    → printing_run (image_of m) e.offset e.signature.results arguments n ≡ printing_run (image_of m) (offset_of m found.function) (Results m found.function) arguments n
-runs_there m name es e found arguments n =
-    ap (λ (offset : ℕ). printing_run (image_of m) offset e.signature.results arguments n) found.offset_is
-    ∙ ap (λ (f : FuncType). printing_run (image_of m) (offset_of m found.function) f.results arguments n) found.signature_is
+runs_there : (m : Module) (name : List ℕ) (es : List (List ℕ × ℕ)) (e : Export) (found : Exports m name es e) (arguments : List Value) (rs : List Reply) (n : ℕ)
+    → run_of_export (image_of m) e arguments rs n ≡ run_of_export (image_of m) (export_of m (name, found.function)) arguments rs n
+unfolding run_of_export
+runs_there m name es e found arguments rs n =
+    ap (λ (offset : ℕ). image_run (image_of m) offset e.signature.results arguments rs n) found.offset_is
+    ∙ ap (λ (f : FuncType). image_run (image_of m) (offset_of m found.function) f.results arguments rs n) found.signature_is
+
+pub run_is : (m : Module) (name : List ℕ) (f : ℕ) (arguments : List Value) (rs : List Reply) (n : ℕ)
+    → run_of_export (image_of m) (export_of m (name, f)) arguments rs n ≡ image_run (image_of m) (offset_of m f) (Results m f) arguments rs n
+unfolding run_of_export
+run_is m name f arguments rs n = refl
 
 same_run : (r : module_runs.Run) (calls : List HostCall) (end : End) → as_image r ≡ record { calls = calls; end = As end } → r ≡ record { calls = calls; end = end }
 same_run r calls end is =
@@ -152,20 +157,29 @@ module _ (runs : ℕ → module_runs.Run) (image : ℕ → ImageRun) (n : ℕ) (
       by_end Fails is = absurd (alike.never_fails k is)
 
 -- what an image's end tells of its module
-tells_end : (drill : Option ℕ) (peek : Option Peek) (runs : ℕ → module_runs.Run) (image : ℕ → ImageRun) (n : ℕ) (calls : List HostCall) (end : Ending) (o : Outcome) → SameRuns runs image → Lasts image → image n ≡ record { calls = calls; end = end } → EndsAs drill peek end o → TellsEnd drill peek n calls end runs o
-tells_end drill peek runs image n calls (As (Returns values memory globals)) o alike stays is tells =
+tells_end : (drill : Option ℕ) (peek : Option Peek) (runs : ℕ → module_runs.Run) (image : ℕ → ImageRun) (n : ℕ) (exit : Option ℕ) (calls : List HostCall) (end : Ending) (o : Outcome) → SameRuns runs image → Lasts image → image n ≡ record { calls = calls; end = end } → EndsAs drill peek exit end o → TellsEnd drill peek n exit calls end runs o
+tells_end drill peek runs image n None calls (As (Returns values memory globals)) o alike stays is tells =
     let k = alike.ends_only n (Returns values memory globals) (ap (λ (r : ImageRun). r.end) is) tt in
     (k.0, same_run (runs k.0) calls (Returns values memory globals) (sym k.1 ∙ is), tells)
-tells_end drill peek runs image n calls (As (Traps kind place memory globals)) o alike stays is tells =
+tells_end drill peek runs image n None calls (As (Traps kind place memory globals)) o alike stays is tells =
     let k = alike.ends_only n (Traps kind place memory globals) (ap (λ (r : ImageRun). r.end) is) tt in
     (k.0, same_run (runs k.0) calls (Traps kind place memory globals) (sym k.1 ∙ is), tells)
-tells_end drill peek runs image n calls (As (Stops memory)) o alike stays is tells = tells
-tells_end drill peek runs image n calls (As Going) o alike stays is tells =
+tells_end drill peek runs image n None calls (As (Stops memory)) o alike stays is tells = tells
+tells_end drill peek runs image n None calls (As Going) o alike stays is tells =
     let going = ap (λ (r : ImageRun). r.end) is in
     let k = alike.calls_lead n going in
     (k.0, subst (λ (l : List HostCall). BeginsWith (runs k.0).calls l) (ap (λ (r : ImageRun). r.calls) is) k.1, goes_on runs image n alike stays going, tells)
-tells_end drill peek runs image n calls (As Fails) o alike stays is tells = tells
-tells_end drill peek runs image n calls (Fault kind pc) o alike stays is tells = absurd (alike.never_faults n kind pc (ap (λ (r : ImageRun). r.end) is))
+tells_end drill peek runs image n None calls (As Fails) o alike stays is tells = tells
+tells_end drill peek runs image n None calls (Fault kind pc) o alike stays is tells = absurd (alike.never_faults n kind pc (ap (λ (r : ImageRun). r.end) is))
+tells_end drill peek runs image n (Some code) calls (As (Stops memory)) o alike stays is tells =
+    let k = alike.ends_only n (Stops memory) (ap (λ (r : ImageRun). r.end) is) tt in
+    (k.0, same_run (runs k.0) calls (Stops memory) (sym k.1 ∙ is), tells)
+tells_end drill peek runs image n (Some code) calls end o alike stays is tells = absurd tells
+
+-- what is told of one run, which has these replies
+abbrev TellsOne : (drill : Option ℕ) → Option Peek → List Import → List Reply → Outcome → ImageRun → Type 0
+TellsOne drill peek imports rs o run =
+    (rs ≡ replies imports run.calls) × (line : Outcome) × EndsAs drill peek (exit_code imports run.calls) run.end line × (o ≡ after (bytes_written imports run.calls) line)
 
 tells_run : (drill : Option ℕ) (m : Module) (r : Call) (o : Outcome) → Same m (image_of m) → all_in_range (arguments_of r.arguments) ≡ true → not_runnable (image_of m) r.export (types_of_values (arguments_of r.arguments)) ≡ None
     → ChecksAndCalls drill None (image_of m) r o → TellsRun drill m r o
@@ -173,18 +187,21 @@ tells_run drill m r o same ranges passes (e, is, tells) =
     let arguments = arguments_of r.arguments in
     let i = image_of m in
     let found = export_is m r.export (exports_of m.items) e is in
-    let replies = replicate r.steps replied in
-    let alike = runs_alike m r.export arguments replies e found same (passed i r.export (types_of_values arguments) e passes is) ranges in
-    let run = printing_run i (offset_of m found.function) (Results m found.function) arguments r.steps in
-    let here : TellsImageRun drill r.peek i.imports run o = subst (λ (x : ImageRun). TellsImageRun drill r.peek i.imports x o) (runs_there m r.export (exports_of m.items) e found arguments r.steps) tells in (
-      found.function,
+    let f = found.function in
+    let rs = tells.0 in
+    let alike = runs_alike m r.export arguments rs e found same (passed i r.export (types_of_values arguments) e passes is) ranges in
+    let run = run_of_export i (export_of m (r.export, f)) arguments rs r.steps in
+    let here : TellsOne drill r.peek i.imports rs o run = subst (λ (x : ImageRun). TellsOne drill r.peek i.imports rs o x) (runs_there m r.export (exports_of m.items) e found arguments rs r.steps) (tells.1, tells.2, tells.3, tells.4) in (
+      f,
       found.named_is,
       (
+        rs,
         here.0,
-        tells_end drill r.peek (module_run m found.function arguments replies) (image_run i (offset_of m found.function) (Results m found.function) arguments replies) r.steps run.calls run.end here.0 alike
-            (image_stays i (offset_of m found.function) (Results m found.function) arguments replies)
-            (sym (run_is i (offset_of m found.function) (Results m found.function) arguments r.steps)) here.1,
-        here.2,
+        here.1,
+        tells_end drill r.peek (module_run m f arguments rs) (image_run i (offset_of m f) (Results m f) arguments rs) r.steps (exit_code i.imports run.calls) run.calls run.end here.1 alike
+            (image_stays i (offset_of m f) (Results m f) arguments rs)
+            (sym (run_is m r.export f arguments rs r.steps)) here.2,
+        here.3,
       ),
     )
 

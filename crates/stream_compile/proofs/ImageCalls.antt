@@ -6,15 +6,18 @@ use Rattle.wasm_defs.specs.declared.types.ValType.TheVariants.{I32, I64}
 use Rattle.wasm_defs.specs.declared.value.Value.{Value as Given}
 use Rattle.wasm_defs.specs.declared.value.Value.TheVariants as given
 use Rattle.wasm_defs.specs.Values.{Value, type_of, value_of, types_of_values}
-use Rattle.wasm_defs.specs.Host.{in_range, all_in_range}
+use Rattle.wasm_defs.specs.Host.{Reply, in_range, all_in_range}
 use Rattle.image_format.specs.Contents.{Image}
 use Rattle.image_format.specs.declared.image.Export.{Export}
 use Rattle.image_run.specs.declared.checks.NotRunnable.{NotRunnable}
 use Rattle.image_run.specs.Checks.{export_named, not_runnable}
-use Rattle.image_run.specs.Printing.{printed, printing_run}
+use Rattle.image_run.specs.Ends.{run_of_export}
+use Rattle.wasi_host.specs.Answers.{bytes_written}
+use Rattle.wasi_host.specs.ExitCodes.{exit_code}
+use Rattle.wasi_host.specs.Own.{AreOwn}
 use Rattle.command_words.specs.declared.argument.Argument.{Argument}
 use Rattle.command_words.specs.declared.command.Call.{Call}
-use Rattle.stream_compile.specs.Texts.{Outcome, unrunnable, given_value, arguments_of, behind, EndsAs, TellsImageRun, ChecksAndCalls}
+use Rattle.stream_compile.specs.Texts.{Outcome, unrunnable, given_value, arguments_of, after, EndsAs, TellsImageRun, ChecksAndCalls}
 use Rattle.stream_compile.specs.Running.{RunsAs}
 
 pub types_are : (values : List Given) → types_of_values (map value_of values) ≡ map type_of values
@@ -54,17 +57,17 @@ pub unrunnable_runs : (drill : Option ℕ) (i : Image) (call : Call) (name : Lis
 unrunnable_runs drill i call name values checked why o b some is e =
     (ranges_are call name values b, subst (λ (x : Option NotRunnable). ChecksAndCalls drill x i call o) (sym (checks_are i call name values checked b is ∙ some)) e)
 
--- what is reported of a run that wasn't stopped, and what is written of one that was
+-- what is told of a run
 module _ (drill : Option ℕ) (i : Image) (call : Call) (name : List ℕ) (values : List Given) (checked : Option NotRunnable) (b : Begun call name values) (none : checked ≡ None) (is : checked ≡ not_runnable i name (map type_of values)) where
-  pub runs_as : (e : Export) (line : Outcome) → export_named name i.exports ≡ Some e
-      → EndsAs drill call.peek (printing_run i e.offset e.signature.results (map value_of values) call.steps).end line
-      → RunsAs drill i call (behind (printed i.imports (printing_run i e.offset e.signature.results (map value_of values) call.steps).calls) line)
-  runs_as e line found ends =
+  pub runs_as : (e : Export) (rs : List Reply) (line : Outcome) → export_named name i.exports ≡ Some e
+      → AreOwn i.imports (λ q. (run_of_export i e (map value_of values) q call.steps).calls) rs
+      → EndsAs drill call.peek (exit_code i.imports (run_of_export i e (map value_of values) rs call.steps).calls) (run_of_export i e (map value_of values) rs call.steps).end line
+      → RunsAs drill i call (after (bytes_written i.imports (run_of_export i e (map value_of values) rs call.steps).calls) line)
+  runs_as e rs line found own ends =
       let there : export_named call.export i.exports ≡ Some e = ap (λ (n : List ℕ). export_named n i.exports) (sym b.name_is) ∙ found in
-      let run = printing_run i e.offset e.signature.results (map value_of values) call.steps in
-      let told = behind (printed i.imports run.calls) line in
-      let tells : TellsImageRun drill call.peek i.imports run told = (line, ends, refl) in
-      let here = subst (λ (l : List Value). TellsImageRun drill call.peek i.imports (printing_run i e.offset e.signature.results l call.steps) told) (all_are call name values b) tells in
+      let told = after (bytes_written i.imports (run_of_export i e (map value_of values) rs call.steps).calls) line in
+      let tells : TellsImageRun drill call.peek i.imports (λ q. run_of_export i e (map value_of values) q call.steps) told = (rs, own, line, ends, refl) in
+      let here = subst (λ (l : List Value). TellsImageRun drill call.peek i.imports (λ q. run_of_export i e l q call.steps) told) (all_are call name values b) tells in
       (ranges_are call name values b, subst (λ (x : Option NotRunnable). ChecksAndCalls drill x i call told) (sym (checks_are i call name values checked b is ∙ none)) (e, there, here))
 
 pushed_on : (items : List Given) (v : Given) → all_in_range (map value_of items) ≡ true → in_range (value_of v) ≡ true → all_in_range (map value_of (items ++ v ∷ [])) ≡ true

@@ -1,124 +1,111 @@
--- What is written of a run whose calls print, and of its line.
-use Rattle.std.proofs.Common.{◌≡◌, ℕ, ◌+◌, Bool, true, false, List, ◌++◌, take, length, map, Option, None, Some, nat_lt, refl, sym, ap, ◌∙◌, subst, inl, inr, arith}
-use Rattle.std.specs.Prelude.{◌≢◌, IfOk, Result, Ok, Err}
+-- What is written of a run whose calls write, and of its lines.
+use Rattle.std.proofs.Common.{◌≡◌, ℕ, ◌+◌, ◌-◌, ◌^◌, ◌<◌, ◌⊎◌, Bool, true, false, List, [], ◌++◌, take, length, map, Option, None, Some, nat_lt, refl, sym, ap, ◌∙◌, subst, inl, inr, arith}
+use Rattle.std.specs.Prelude.{IfOk, Result, Ok, Err}
 use Rattle.std.specs.declared.alloc.AllocError.{AllocError}
 use Rattle.std.specs.Io.KnownBytes.{append_known}
-use Rattle.std.proofs.lemmas.Bool.{cases_Bool, ltb-true, ltb-false}
+use Rattle.std.proofs.lemmas.Bool.{cases_Bool, lt-ltb, ltb-true, ltb-false}
 use Rattle.std.proofs.lemmas.List.{take-append-le, take_all, take_at}
+use Rattle.io_edges.specs.Causes.{Rose}
 use Rattle.io_edges.proofs.Known.{append_more}
 use Rattle.wasm_defs.specs.declared.value.Value.{Value as Given}
 use Rattle.wasm_defs.specs.Values.{Value, type_of, value_of}
+use Rattle.wasm_defs.specs.Host.{Reply}
 use Rattle.wasm_defs.specs.ModuleRun.{Returns, Traps, Stops, Going, Fails}
 use Rattle.image_format.specs.Contents.{Image}
 use Rattle.image_format.specs.declared.image.Export.{Export}
 use Rattle.image_format.specs.declared.image.Import.{Import}
 use Rattle.image_format.specs.ImageRun.{Ending, As, Fault, ImageRun}
 use Rattle.image_run.specs.declared.checks.NotRunnable.{NotRunnable}
-use Rattle.image_run.specs.declared.outcome.Outcome.{Outcome as Ran}
-use Rattle.image_run.specs.declared.outcome.Outcome.TheVariants as ran
-use Rattle.image_run.specs.Checks.{export_named, not_runnable, has_unknown_import}
-use Rattle.image_run.specs.Ends.{IsEnd}
-use Rattle.image_run.specs.Printing.{PrintsRun, printed, printing_run}
+use Rattle.image_run.specs.Checks.{export_named, not_runnable}
+use Rattle.image_run.specs.Ends.{IsEnd, IsUnstopped, run_of_export}
 use Rattle.image_run.proofs.PrintLaws.{past}
-use Rattle.image_run.proofs.PrintedRuns.{printing_ends}
-use Rattle.image_run.proofs.ReplyLaws.{IsUnstopped}
 use Rattle.image_run.proofs.SignatureLaws.{all_known}
+use Rattle.wasi_host.specs.declared.run_end.RunEnd.{RunEnd}
+use Rattle.wasi_host.specs.declared.run_end.RunEnd.TheVariants as run_end
+use Rattle.wasi_host.specs.Answers.{bytes_written}
+use Rattle.wasi_host.specs.ExitCodes.{exit_code}
+use Rattle.wasi_host.specs.Fitting.{StopsByExit}
+use Rattle.wasi_host.specs.Hosted.{HostsRun, code_of_end, outcome_of}
+use Rattle.wasi_host.proofs.HostedEnds.{stops_by_exit}
 use Rattle.command_words.specs.declared.command.Call.{Call}
 use Rattle.command_words.specs.declared.peek.Peek.{Peek}
-use Rattle.stream_compile.specs.Texts.{Outcome, Told, behind, returned_by, showing, trapped, steps_spent, machine_fault, EndsAs}
+use Rattle.stream_compile.specs.Texts.{Outcome, Told, after, exited, returned_by, showing, trapped, steps_spent, machine_fault, EndsAs}
 use Rattle.stream_compile.specs.Running.{IsTold, RunsAs, lines_of}
 use Rattle.stream_compile.proofs.ImageCalls.{Begun, runs_as}
 
--- the line of an end
-some_line : (drill : Option ℕ) (peek : Option Peek) (end : Ending) → IsUnstopped end → (line : Outcome) × EndsAs drill peek end line
-some_line drill peek (As (Returns values memory globals)) h = (showing peek memory (returned_by drill values), refl)
-some_line drill peek (As (Traps kind place memory globals)) h = (showing peek memory (trapped kind place), refl)
-some_line drill peek (As (Stops memory)) h = absurd h
-some_line drill peek (As Going) h = (steps_spent, refl)
-some_line drill peek (As Fails) h = absurd h
-some_line drill peek (Fault kind pc) h = (machine_fault kind pc, refl)
+-- the lines of an end that no reply stopped
+unstopped_line : (drill : Option ℕ) (peek : Option Peek) (end : Ending) → IsUnstopped end → (line : Outcome) × EndsAs drill peek None end line
+unstopped_line drill peek (As (Returns values memory globals)) h = (showing peek memory (returned_by drill values), refl)
+unstopped_line drill peek (As (Traps kind place memory globals)) h = (showing peek memory (trapped kind place), refl)
+unstopped_line drill peek (As (Stops memory)) h = absurd h
+unstopped_line drill peek (As Going) h = (steps_spent, refl)
+unstopped_line drill peek (As Fails) h = absurd h
+unstopped_line drill peek (Fault kind pc) h = (machine_fault kind pc, refl)
 
--- the line of an outcome is that of its end
-line_ends : (drill : Option ℕ) (peek : Option Peek) (outcome : Ran) (memory : List ℕ) (results : List Value) (end : Ending) → outcome ≢ ran.HostStopped → IsEnd outcome memory results end → EndsAs drill peek end (lines_of drill peek outcome memory results)
-line_ends drill peek (ran.Returned n) memory results end going h = subst (λ (e : Ending). EndsAs drill peek e (lines_of drill peek (ran.Returned n) memory results)) (sym h.2) refl
-line_ends drill peek (ran.Trapped kind place) memory results end going h = subst (λ (e : Ending). EndsAs drill peek e (lines_of drill peek (ran.Trapped kind place) memory results)) (sym h.1) refl
-line_ends drill peek ran.StepsSpent memory results end going h = subst (λ (e : Ending). EndsAs drill peek e steps_spent) (sym h) refl
-line_ends drill peek ran.HostStopped memory results end going h = absurd (going refl)
-line_ends drill peek (ran.Fault kind pc) memory results end going h = subst (λ (e : Ending). EndsAs drill peek e (lines_of drill peek (ran.Fault kind pc) memory results)) (sym h) refl
+-- and of one that proc_exit stopped
+some_line : (drill : Option ℕ) (peek : Option Peek) (imports : List Import) (run : ImageRun) → StopsByExit imports run → (line : Outcome) × EndsAs drill peek (exit_code imports run.calls) run.end line
+some_line drill peek imports run (inl (unstopped, none)) =
+    let line = unstopped_line drill peek run.end unstopped in
+    (line.0, subst (λ (exit : Option ℕ). EndsAs drill peek exit run.end line.0) (sym none) line.1)
+some_line drill peek imports run (inr (code, some, memory, stops)) =
+    let line = showing peek memory (exited code) in
+    let here : EndsAs drill peek (Some code) run.end line = subst (λ (end : Ending). EndsAs drill peek (Some code) end line) (sym stops) refl in
+    (line, subst (λ (exit : Option ℕ). EndsAs drill peek exit run.end line) (sym some) here)
+
+-- the lines of a run's end are those of the end that its outcome and its exit code tell
+line_ends : (drill : Option ℕ) (peek : Option Peek) (end : RunEnd) (memory : List ℕ) (results : List Value) (ending : Ending) → IsEnd (outcome_of end) memory results ending → EndsAs drill peek (code_of_end end) ending (lines_of drill peek end memory results)
+line_ends drill peek (run_end.Returned n) memory results ending h = subst (λ (e : Ending). EndsAs drill peek None e (lines_of drill peek (run_end.Returned n) memory results)) (sym h.2) refl
+line_ends drill peek (run_end.Trapped kind place) memory results ending h = subst (λ (e : Ending). EndsAs drill peek None e (lines_of drill peek (run_end.Trapped kind place) memory results)) (sym h.1) refl
+line_ends drill peek run_end.StepsSpent memory results ending h = subst (λ (e : Ending). EndsAs drill peek None e steps_spent) (sym h) refl
+line_ends drill peek (run_end.Exited code) memory results ending h = subst (λ (e : Ending). EndsAs drill peek (Some code) e (lines_of drill peek (run_end.Exited code) memory results)) (sym h) refl
+line_ends drill peek (run_end.Fault kind pc) memory results ending h = subst (λ (e : Ending). EndsAs drill peek None e (lines_of drill peek (run_end.Fault kind pc) memory results)) (sym h) refl
 
 -- a prefix of a text is one of what begins with it
-front_of_more : (n : ℕ) (text more : List ℕ) → (k : ℕ) × (take n text ≡ take k (text ++ more))
-front_of_more n text more =
+prefix_of_more : (n : ℕ) (text more : List ℕ) → (k : ℕ) × (take n text ≡ take k (text ++ more))
+prefix_of_more n text more =
     elim (cases_Bool (nat_lt n (length text))) [
       | inl h ↦ (n, sym (take-append-le n text more (omega (arith, ltb-true n (length text) h))))
       | inr h ↦ (length text, take_all n text (ltb-false n (length text) h) ∙ sym (take_at text more (length text) refl))
     ]
 
-module _ (drill : Option ℕ) (i : Image) (call : Call) (name : List ℕ) (values : List Given) (checked : Option NotRunnable) (b : Begun call name values) (none : checked ≡ None) (is : checked ≡ not_runnable i name (map type_of values))
-    (status before middle now : ℕ) (old between new : Option (List ℕ)) where
-  abbrev Written : Bool → Type 0
-  Written failed = IsTold (RunsAs drill i call) status failed old new
+module _ (drill : Option ℕ) (i : Image) (call : Call) (name : List ℕ) (values : List Given) (checked : Option NotRunnable) (b : Begun call name values) (none : checked ≡ None) (is : checked ≡ not_runnable i name (map type_of values)) where
+  abbrev run : Export → List Reply → ImageRun
+  run e rs = run_of_export i e (map value_of values) rs call.steps
 
-  -- the run was stopped, since the sink failed
-  stopped_told : (e : Export) (n : ℕ) → export_named name i.exports ≡ Some e → status ≡ 7 → new ≡ between
-      → between ≡ append_known old (take n (printed i.imports (printing_run i e.offset e.signature.results (map value_of values) call.steps).calls)) → Written true
-  stopped_told e n found seven same front =
-      let run = printing_run i e.offset e.signature.results (map value_of values) call.steps in
-      let known : has_unknown_import i.imports ≡ false = all_known i name (map type_of values) (sym is ∙ none) in
-      let line = some_line drill call.peek run.end (printing_ends i e (map value_of values) call.steps known) in
-      let k = front_of_more n (printed i.imports run.calls) line.0.text in (
-        behind (printed i.imports run.calls) line.0,
-        runs_as drill i call name values checked b none is e line.0 found line.1,
-        (seven, k.0, same ∙ front ∙ ap (append_known old) k.1),
+  -- the sink failed before the run had ended
+  pub failed_told : (e : Export) (before now : ℕ) (old new : Option (List ℕ)) → export_named name i.exports ≡ Some e → HostsRun None i.imports (run e) [] [] old new
+      → before < 2 ^ 64 - 1 → Rose before now → IsTold (RunsAs drill i call) 7 (nat_lt before now) old new
+  failed_told e before now old new found (rs, own, n, prefix) few rose =
+      let failed : nat_lt before now ≡ true = lt-ltb before now (omega (arith, rose, few)) in
+      let fine = stops_by_exit i e (map value_of values) call.steps rs (all_known i name (map type_of values) (sym is ∙ none)) own in
+      let line = some_line drill call.peek i.imports (run e rs) fine in
+      let bytes = bytes_written i.imports (run e rs).calls in
+      let k = prefix_of_more n bytes line.0.text in
+      rw failed (
+        after bytes line.0,
+        runs_as drill i call name values checked b none is e rs line.0 found own line.1,
+        (refl, k.0, prefix ∙ ap (append_known old) k.1),
       )
 
-  -- the line was written, or a prefix of it
-  line_told : (e : Export) (outcome : Ran) (memory : List ℕ) (results : List Value) (failed : Bool) → export_named name i.exports ≡ Some e → outcome ≢ ran.HostStopped
-      → IsEnd outcome memory results (printing_run i e.offset e.signature.results (map value_of values) call.steps).end
-      → between ≡ append_known old (printed i.imports (printing_run i e.offset e.signature.results (map value_of values) call.steps).calls) → Told status (lines_of drill call.peek outcome memory results) failed between new → Written failed
-  line_told e outcome memory results true found going end text told =
-      let run = printing_run i e.offset e.signature.results (map value_of values) call.steps in
-      let all = printed i.imports run.calls in
-      let line = lines_of drill call.peek outcome memory results in (
-        behind all line,
-        runs_as drill i call name values checked b none is e line found (line_ends drill call.peek outcome memory results run.end going end),
-        (told.0, length all + told.1, told.2 ∙ ap (λ (k : Option (List ℕ)). append_known k (take told.1 line.text)) text ∙ append_more old all (take told.1 line.text) ∙ ap (append_known old) (sym (past all line.text told.1))),
-      )
-  line_told e outcome memory results false found going end text told =
-      let run = printing_run i e.offset e.signature.results (map value_of values) call.steps in
-      let all = printed i.imports run.calls in
-      let line = lines_of drill call.peek outcome memory results in (
-        behind all line,
-        runs_as drill i call name values checked b none is e line found (line_ends drill call.peek outcome memory results run.end going end),
-        (told.0, told.1 ∙ ap (λ (k : Option (List ℕ)). append_known k line.text) text ∙ append_more old all line.text),
-      )
+  -- the lines were written, or a prefix of them
+  lines_told : (e : Export) (end : RunEnd) (memory : List ℕ) (results : List Value) (status : ℕ) (failed : Bool) (old between new : Option (List ℕ)) → export_named name i.exports ≡ Some e → HostsRun (Some end) i.imports (run e) memory results old between
+      → Told status (lines_of drill call.peek end memory results) failed between new → IsTold (RunsAs drill i call) status failed old new
+  lines_told e end memory results status failed old between new found (rs, own, ends, code, text) told =
+      let bytes = bytes_written i.imports (run e rs).calls in
+      let line = lines_of drill call.peek end memory results in
+      let here : EndsAs drill call.peek (exit_code i.imports (run e rs).calls) (run e rs).end line = subst (λ (exit : Option ℕ). EndsAs drill call.peek exit (run e rs).end line) (sym code) (line_ends drill call.peek end memory results (run e rs).end ends) in
+      (after bytes line, runs_as drill i call name values checked b none is e rs line found own here, by_sink failed bytes line text told)
+    where
+      by_sink : (failed : Bool) (bytes : List ℕ) (line : Outcome) → between ≡ append_known old bytes → Told status line failed between new → Told status (after bytes line) failed old new
+      by_sink true bytes line text told =
+          (told.0, length bytes + told.1, told.2 ∙ ap (λ (k : Option (List ℕ)). append_known k (take told.1 line.text)) text ∙ append_more old bytes (take told.1 line.text) ∙ ap (append_known old) (sym (past bytes line.text told.1)))
+      by_sink false bytes line text told = (told.0, told.1 ∙ ap (λ (k : Option (List ℕ)). append_known k line.text) text ∙ append_more old bytes line.text)
 
-  by_sink : (e : Export) (outcome : Ran) (memory : List ℕ) (results : List Value) (failed : Bool) → nat_lt before middle ≡ failed → export_named name i.exports ≡ Some e
-      → PrintsRun failed i.imports (printing_run i e.offset e.signature.results (map value_of values) call.steps) outcome memory results old between
-      → (failed ≡ false → middle ≡ before) → (outcome ≡ ran.HostStopped → (status ≡ 7) × (new ≡ between) × (now ≡ middle)) → (outcome ≢ ran.HostStopped → Told status (lines_of drill call.peek outcome memory results) (nat_lt middle now) between new)
-      → Written (nat_lt before now)
-  by_sink e outcome memory results true failed found p calm stopped told =
-      let s = stopped p.0 in
-      let here : nat_lt before now ≡ true = ap (nat_lt before) s.2 ∙ failed in
-      rw here (stopped_told e p.1 found s.0 s.1 p.2)
-  by_sink e outcome memory results false failed found p calm stopped told =
-      let here : Told status (lines_of drill call.peek outcome memory results) (nat_lt before now) between new = subst (λ (k : ℕ). Told status (lines_of drill call.peek outcome memory results) (nat_lt k now) between new) (calm refl) (told p.0) in
-      line_told e outcome memory results (nat_lt before now) found p.0 p.1 p.2 here
-
-  pub run_told : (outcome : Ran) (memory : List ℕ) (results : List Value)
-      → (e : Export) × (export_named name i.exports ≡ Some e) × PrintsRun (nat_lt before middle) i.imports (printing_run i e.offset e.signature.results (map value_of values) call.steps) outcome memory results old between
-      → (nat_lt before middle ≡ false → middle ≡ before) → (outcome ≡ ran.HostStopped → (status ≡ 7) × (new ≡ between) × (now ≡ middle)) → (outcome ≢ ran.HostStopped → Told status (lines_of drill call.peek outcome memory results) (nat_lt middle now) between new)
-      → Written (nat_lt before now)
-  run_told outcome memory results (e, found, p) calm stopped told = by_sink e outcome memory results (nat_lt before middle) refl found p calm stopped told
-
--- where the run wasn't stopped, the sink's count stays
-pub calm_count : (imports : List Import) (run : ImageRun) (outcome : Ran) (memory : List ℕ) (results : List Value) (old new : Option (List ℕ)) (before now : ℕ) → PrintsRun (nat_lt before now) imports run outcome memory results old new
-    → outcome ≢ ran.HostStopped → nat_lt before now ≡ false
-calm_count imports run outcome memory results old new before now = by_count (nat_lt before now)
-  where
-    by_count : (failed : Bool) → PrintsRun failed imports run outcome memory results old new → outcome ≢ ran.HostStopped → failed ≡ false
-    by_count true p going = absurd (going p.0)
-    by_count false p going = refl
+  -- the run has ended
+  pub ended_told : (e : Export) (end : RunEnd) (memory : List ℕ) (results : List Value) (status before middle now : ℕ) (old between new : Option (List ℕ)) → export_named name i.exports ≡ Some e → HostsRun (Some end) i.imports (run e) memory results old between
+      → middle ≡ before → Told status (lines_of drill call.peek end memory results) (nat_lt middle now) between new → IsTold (RunsAs drill i call) status (nat_lt before now) old new
+  ended_told e end memory results status before middle now old between new found hosts same told =
+      lines_told e end memory results status (nat_lt before now) old between new found hosts (subst (λ (k : ℕ). Told status (lines_of drill call.peek end memory results) (nat_lt k now) between new) same told)
 
 -- what was told of some outcomes is told of others that they are among
 pub told_as : (From To : Outcome → Type 0) (r : Result ℕ AllocError) (failed : Bool) (old new : Option (List ℕ)) → ((o : Outcome) → From o → To o)

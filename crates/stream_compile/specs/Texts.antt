@@ -1,5 +1,5 @@
 -- What the program answers and writes.
-use Rattle.std.specs.Prelude.{◌≡◌, ◌<◌, ◌≤◌, ◌⊎◌, ◌+◌, ◌*◌, ◌/◌, ◌%◌, ℕ, ℤ, pos, Bool, true, false, if◌then◌else◌, nat_lt, nat_le, List, [], ◌∷◌, ◌++◌, length, take, drop, replicate, Option, None, Some, codes, String, string_bytes, map, Result, Ok, Err}
+use Rattle.std.specs.Prelude.{◌≡◌, ◌<◌, ◌≤◌, ◌⊎◌, ◌+◌, ◌*◌, ◌/◌, ◌%◌, ◌==◌, ℕ, ℤ, pos, Bool, true, false, if◌then◌else◌, nat_lt, nat_le, List, [], ◌∷◌, ◌++◌, length, take, drop, Option, None, Some, codes, String, string_bytes, map, Result, Ok, Err}
 use Rattle.std.specs.Fmt.{decimal, signed_decimal}
 use Rattle.std.specs.List.{flat_map}
 use Rattle.std.specs.Global.{Global}
@@ -22,7 +22,7 @@ use Rattle.wasm_defs.specs.declared.value.TrapKind.{TrapKind}
 use Rattle.wasm_defs.specs.declared.value.Value.{Value as GivenValue}
 use Rattle.wasm_defs.specs.declared.value.Value.TheVariants as given
 use Rattle.wasm_defs.specs.Values.{Value, signed, value_of, trap_text, types_of_values}
-use Rattle.wasm_defs.specs.Context.{context_of, declared_count, type_of_function}
+use Rattle.wasm_defs.specs.Context.{context_of, declared_count}
 use Rattle.wasm_defs.specs.Faults.{Module, Verdict, Accepted, Rejected}
 use Rattle.wasm_defs.specs.Instances.{exports_of, named}
 use Rattle.wasm_defs.specs.ModuleRun.{End, Returns, Traps, Stops, Going, Fails, module_run}
@@ -33,15 +33,18 @@ use Rattle.image_format.specs.Reading.{image_or_offset}
 use Rattle.image_format.specs.declared.image.Export.{Export}
 use Rattle.image_format.specs.declared.image.Import.{Import}
 use Rattle.image_format.specs.ImageRun.{Ending, As, Fault, ImageRun}
-use Rattle.image_linker.specs.ImageOf.{image_of, offset_of}
+use Rattle.image_linker.specs.ImageOf.{image_of, export_of, imports_of}
 use Rattle.image_linker.specs.Judging.{IsModuleOf, IsVerdictOf, IsStoppedAt}
 use Rattle.image_linker.specs.Same.{Same}
 use Rattle.simulation.specs.SameRuns.{BeginsWith}
-use Rattle.wasm_defs.specs.Host.{HostCall}
+use Rattle.wasm_defs.specs.Host.{HostCall, Reply}
 use Rattle.image_run.specs.declared.checks.NotRunnable.{NotRunnable}
 use Rattle.image_run.specs.declared.checks.NotRunnable.TheVariants.{UnknownImport, NoSuchExport, WrongArguments, Unlinkable}
 use Rattle.image_run.specs.Checks.{export_named, not_runnable}
-use Rattle.image_run.specs.Printing.{printed, printing_run, replied}
+use Rattle.image_run.specs.Ends.{run_of_export}
+use Rattle.wasi_host.specs.Answers.{bytes_written}
+use Rattle.wasi_host.specs.ExitCodes.{exit_code}
+use Rattle.wasi_host.specs.Own.{AreOwn}
 use Rattle.rv_isa.specs.declared.stepping.FaultKind.{FaultKind}
 use Rattle.rv_isa.specs.declared.stepping.FaultKind.TheVariants.{Fetch, Word, Break, Target, Load, Store, Call}
 use Rattle.module_gen.specs.Drill.{drill_bytes}
@@ -77,7 +80,7 @@ kind_name Limit = codes "limit"
 kind_name Invalid = codes "invalid"
 kind_name Ended = codes "ended"
 
--- what is wrong, and the offset of the byte where it is
+-- what is wrong, and the offset of the byte where it stands
 abbrev pub rejected : Refusal → Outcome
 rejected r = record { status = 2; text = codes "refused " ++ kind_name r.kind ++ codes " at " ++ decimal r.offset ++ codes "\n" }
 
@@ -123,6 +126,10 @@ trapped kind place = record { status = 4; text = codes "trap " ++ (trap_text kin
 abbrev pub steps_spent : Outcome
 steps_spent = record { status = 5; text = codes "steps spent\n" }
 
+-- proc_exit was called with an exit code (WASI preview 1)
+abbrev pub exited : (code : ℕ) → Outcome
+exited code = record { status = if code == 0 then 0 else 11; text = codes "exit " ++ (decimal code ++ codes "\n") }
+
 abbrev pub fault_name : FaultKind → List ℕ
 fault_name Fetch = codes "fetch"
 fault_name Word = codes "word"
@@ -136,7 +143,7 @@ fault_name Call = codes "call"
 abbrev pub machine_fault : FaultKind → ℕ → Outcome
 machine_fault kind pc = record { status = 9; text = codes "machine fault " ++ fault_name kind ++ codes " at " ++ decimal pc ++ codes "\n" }
 
--- the bytes are no image: the offset of their first error
+-- the bytes are no image: the offset of their first fault
 abbrev pub bad_image : ℕ → Outcome
 bad_image offset = record { status = 10; text = codes "bad image at " ++ decimal offset ++ codes "\n" }
 
@@ -170,7 +177,7 @@ abbrev pub peeked : Peek → (memory : List ℕ) → List ℕ
 peeked p memory =
     if nat_le (p.address + p.count) (length memory) then codes "peek " ++ (hex_of (take p.count (drop p.address memory)) ++ codes "\n") else codes "peek out of range\n"
 
--- after a text, where bytes are to be shown, is their line
+-- behind a text, where bytes are to be shown, stands their line
 abbrev pub with_peek : Option Peek → (memory text : List ℕ) → List ℕ
 with_peek None memory text = text
 with_peek (Some p) memory text = text ++ peeked p memory
@@ -178,29 +185,35 @@ with_peek (Some p) memory text = text ++ peeked p memory
 abbrev pub showing : Option Peek → (memory : List ℕ) → Outcome → Outcome
 showing peek memory line = record line { text = with_peek peek memory line.text }
 
--- the lines of a run of an image that ended so, where the host stopped none
-abbrev pub EndsAs : (drill : Option ℕ) → Option Peek → Ending → Outcome → Type 0
-EndsAs drill peek (As (Returns values memory globals)) o = o ≡ showing peek memory (returned_by drill values)
-EndsAs drill peek (As (Traps kind place memory globals)) o = o ≡ showing peek memory (trapped kind place)
-EndsAs drill peek (As Going) o = o ≡ steps_spent
-EndsAs drill peek (As (Stops memory)) o = ⊥
-EndsAs drill peek (As Fails) o = ⊥
-EndsAs drill peek (Fault kind pc) o = o ≡ machine_fault kind pc
+-- The lines of a run of an image that ended so, by the exit code of its calls of proc_exit: where there is one, the host stopped the
+-- run, and else it didn't.
+abbrev pub EndsAs : (drill : Option ℕ) → Option Peek → (exit : Option ℕ) → Ending → Outcome → Type 0
+EndsAs drill peek None (As (Returns values memory globals)) o = o ≡ showing peek memory (returned_by drill values)
+EndsAs drill peek None (As (Traps kind place memory globals)) o = o ≡ showing peek memory (trapped kind place)
+EndsAs drill peek None (As Going) o = o ≡ steps_spent
+EndsAs drill peek None (As (Stops memory)) o = ⊥
+EndsAs drill peek None (As Fails) o = ⊥
+EndsAs drill peek None (Fault kind pc) o = o ≡ machine_fault kind pc
+EndsAs drill peek (Some code) (As (Stops memory)) o = o ≡ showing peek memory (exited code)
+EndsAs drill peek (Some code) end o = ⊥
 
--- after what the calls of a run print is its line
-abbrev pub behind : List ℕ → Outcome → Outcome
-behind text line = record line { text = text ++ line.text }
+-- after what the calls of a run write stand its lines
+abbrev pub after : List ℕ → Outcome → Outcome
+after text line = record line { text = text ++ line.text }
 
--- what is reported of a run of an image: what its calls print, and its lines
-abbrev pub TellsImageRun : (drill : Option ℕ) → Option Peek → List Import → ImageRun → Outcome → Type 0
-TellsImageRun drill peek imports r o = (line : Outcome) × EndsAs drill peek r.end line × (o ≡ behind (printed imports r.calls) line)
+-- What is told of a run of an image whose replies are the host's own: what its calls write, and its lines. By the run with each list of
+-- replies.
+abbrev pub TellsImageRun : (drill : Option ℕ) → Option Peek → List Import → (List Reply → ImageRun) → Outcome → Type 0
+TellsImageRun drill peek imports run o =
+    (rs : List Reply) × AreOwn imports (λ q. (run q).calls) rs
+    × (line : Outcome) × EndsAs drill peek (exit_code imports (run rs).calls) (run rs).end line × (o ≡ after (bytes_written imports (run rs).calls) line)
 
 -- of the function that the image exports under the name
 abbrev pub ChecksAndCalls : (drill : Option ℕ) → Option NotRunnable → Image → Given → Outcome → Type 0
 ChecksAndCalls drill (Some why) i c o = o ≡ unrunnable why
 ChecksAndCalls drill None i c o =
     (e : Export) × (export_named c.export i.exports ≡ Some e)
-    × TellsImageRun drill c.peek i.imports (printing_run i e.offset e.signature.results (arguments_of c.arguments) c.steps) o
+    × TellsImageRun drill c.peek i.imports (λ rs. run_of_export i e (arguments_of c.arguments) rs c.steps) o
 
 abbrev pub TellsImageCall : (drill : Option ℕ) → Given → Image → Outcome → Type 0
 TellsImageCall drill c i o = ChecksAndCalls drill (not_runnable i c.export (types_of_values (arguments_of c.arguments))) i c o
@@ -209,32 +222,34 @@ TellsImageCall drill c i o = ChecksAndCalls drill (not_runnable i c.export (type
 abbrev pub GoesOn : (steps : ℕ) → (ℕ → module_runs.Run) → Type 0
 GoesOn steps runs = (k : ℕ) → 128 * k + 64 ≤ steps → (runs k).end ≡ Going
 
--- The lines of a run of a module whose image made these calls and ended so within these steps. The same calls and the same end are
--- those of the module's run by the reduction rules, for some weight; or the image goes on after all its steps, its calls are a
--- prefix of the module's for some weight, and the module's run goes on at each weight that the steps were enough for.
-abbrev pub TellsEnd : (drill : Option ℕ) → Option Peek → (steps : ℕ) → List HostCall → Ending → (ℕ → module_runs.Run) → Outcome → Type 0
-TellsEnd drill peek steps calls (As (Returns values memory globals)) runs o = (k : ℕ) × (runs k ≡ record { calls = calls; end = Returns values memory globals }) × (o ≡ showing peek memory (returned_by drill values))
-TellsEnd drill peek steps calls (As (Traps kind place memory globals)) runs o = (k : ℕ) × (runs k ≡ record { calls = calls; end = Traps kind place memory globals }) × (o ≡ showing peek memory (trapped kind place))
-TellsEnd drill peek steps calls (As Going) runs o = (k : ℕ) × BeginsWith (runs k).calls calls × GoesOn steps runs × (o ≡ steps_spent)
-TellsEnd drill peek steps calls (As (Stops memory)) runs o = ⊥
-TellsEnd drill peek steps calls (As Fails) runs o = ⊥
-TellsEnd drill peek steps calls (Fault kind pc) runs o = ⊥
+-- The lines of a run of a module whose image made these calls, of which those of proc_exit have this exit code, and ended so within
+-- these steps. The same calls and the same end are those of the module's run by the reduction rules, for some weight; or the image goes
+-- on after all its steps, its calls are a prefix of the module's for some weight, and the module's run goes on at each weight that the
+-- steps were enough for.
+abbrev pub TellsEnd : (drill : Option ℕ) → Option Peek → (steps : ℕ) → (exit : Option ℕ) → List HostCall → Ending → (ℕ → module_runs.Run) → Outcome → Type 0
+TellsEnd drill peek steps None calls (As (Returns values memory globals)) runs o = (k : ℕ) × (runs k ≡ record { calls = calls; end = Returns values memory globals }) × (o ≡ showing peek memory (returned_by drill values))
+TellsEnd drill peek steps None calls (As (Traps kind place memory globals)) runs o = (k : ℕ) × (runs k ≡ record { calls = calls; end = Traps kind place memory globals }) × (o ≡ showing peek memory (trapped kind place))
+TellsEnd drill peek steps None calls (As Going) runs o = (k : ℕ) × BeginsWith (runs k).calls calls × GoesOn steps runs × (o ≡ steps_spent)
+TellsEnd drill peek steps None calls (As (Stops memory)) runs o = ⊥
+TellsEnd drill peek steps None calls (As Fails) runs o = ⊥
+TellsEnd drill peek steps None calls (Fault kind pc) runs o = ⊥
+TellsEnd drill peek steps (Some code) calls (As (Stops memory)) runs o = (k : ℕ) × (runs k ≡ record { calls = calls; end = Stops memory }) × (o ≡ showing peek memory (exited code))
+TellsEnd drill peek steps (Some code) calls end runs o = ⊥
 
--- what its calls print, and its lines
-abbrev pub TellsModuleRun : (drill : Option ℕ) → Option Peek → (steps : ℕ) → List Import → ImageRun → (ℕ → module_runs.Run) → Outcome → Type 0
-TellsModuleRun drill peek steps imports r runs o = (line : Outcome) × TellsEnd drill peek steps r.calls r.end runs line × (o ≡ behind (printed imports r.calls) line)
-
--- the run of a module's function where the calls of its imports return, and change no memory
-abbrev pub printing_module_run : Module → (function : ℕ) → List Value → (steps weight : ℕ) → module_runs.Run
-printing_module_run m f arguments steps = module_run m f arguments (replicate steps replied)
+-- What its calls write, and its lines, where the replies are the host's own. By the runs with each list of replies, of the image and of
+-- the module.
+abbrev pub TellsModuleRun : (drill : Option ℕ) → Option Peek → (steps : ℕ) → List Import → (List Reply → ImageRun) → (List Reply → ℕ → module_runs.Run) → Outcome → Type 0
+TellsModuleRun drill peek steps imports run runs o =
+    (rs : List Reply) × AreOwn imports (λ q. (run q).calls) rs
+    × (line : Outcome) × TellsEnd drill peek steps (exit_code imports (run rs).calls) (run rs).calls (run rs).end (runs rs) line × (o ≡ after (bytes_written imports (run rs).calls) line)
 
 -- of the function that is exported under the name
 abbrev pub TellsRun : (drill : Option ℕ) → Module → Given → Outcome → Type 0
 TellsRun drill m c o =
     let arguments = arguments_of c.arguments in
     (f : ℕ) × (named c.export (exports_of m.items) ≡ Some f)
-    × TellsModuleRun drill c.peek c.steps (image_of m).imports (printing_run (image_of m) (offset_of m f) (type_of_function (context_of m.items) f).results arguments c.steps)
-    (printing_module_run m f arguments c.steps) o
+    × TellsModuleRun drill c.peek c.steps (imports_of (context_of m.items) m.items) (λ rs. run_of_export (image_of m) (export_of m (c.export, f)) arguments rs c.steps)
+    (module_run m f arguments) o
 
 abbrev pub ChecksAndRuns : (drill : Option ℕ) → Option NotRunnable → Module → Given → Outcome → Type 0
 ChecksAndRuns drill (Some why) m c o = o ≡ unrunnable why
@@ -257,7 +272,7 @@ drill_call steps = record { export = codes "run"; arguments = []; steps = steps;
 abbrev pub TellsDrill : (steps : ℕ) → Module → Outcome → Type 0
 TellsDrill steps m o = TellsCall (Some (declared_count m.items)) (drill_call steps) m o
 
--- the module and its image behave alike, and this is reported of it; or the module is refused
+-- the module and its image behave alike, and this is told of it; or the module is refused
 abbrev pub OfVerdict : (Module → Outcome → Type 0) → Verdict → Outcome → Type 0
 OfVerdict Tells (Accepted m) o = Same m (image_of m) × Tells m o
 OfVerdict Tells (Rejected r) o = o ≡ rejected r
@@ -266,7 +281,7 @@ OfVerdict Tells (Rejected r) o = o ≡ rejected r
 abbrev pub command_said : List (String Global) → Option Command
 command_said words = command_in (map string_bytes words)
 
--- where the source failed: the error that decides then of the bytes that came, or that it failed
+-- where the source failed: the fault that decides then of the bytes that came, or that it failed
 abbrev pub stopped : Option Refusal → Outcome
 stopped None = read_fault
 stopped (Some r) = rejected r
@@ -280,8 +295,8 @@ OfModule Tells false bytes o = (v : Verdict) × IsVerdictOf bytes v × OfVerdict
 abbrev pub TellsSum : Drilled → Outcome → Type 0
 TellsSum d o = (o ≡ drill_line (d.count + 1) (pos (sum_below d.count))) ⊎ ((d.steps < 640 * d.count + 448) × (o ≡ steps_spent))
 
--- The bytes that are made, of the given size, are a module. It and its image behave alike, and this is reported of it, which is the
--- sum wherever the steps suffice.
+-- The bytes that are made, of the given size, are a module. It and its image behave alike, and this is told of it, which is the sum
+-- wherever the steps suffice.
 abbrev pub OfDrill : Drilled → Outcome → Type 0
 OfDrill d o = (m : Module) × IsModuleOf (drill_bytes d.count) m × Same m (image_of m) × TellsDrill d.steps m o × TellsSum d o
 
@@ -294,7 +309,7 @@ abbrev pub OfImage : Given → Bool → List ℕ → Outcome → Type 0
 OfImage c true bytes o = o ≡ read_fault
 OfImage c false bytes o = OfReading c (image_or_offset bytes) o
 
--- by what was left in the source before and after
+-- by what was left in the source before and behind
 abbrev pub ComesOfModule : ((bytes : ℕ) → Module → Outcome → Type 0) → Bool → (left rest : Option (List ℕ)) → Outcome → Type 0
 ComesOfModule Tells failed left rest o = (bytes : List ℕ) × Came left rest failed bytes × OfModule Tells failed bytes o
 
@@ -318,12 +333,12 @@ ReadsNothing (Some (Drill d)) = Unit {0}
 
 -- ---- what is written
 
--- what was answered and written of an outcome: where the sink failed, a prefix of its text; else its status and its text
+-- what was answered and written of an outcome: where the sink failed, a front of its text; else its status and its text
 abbrev pub Told : ℕ → Outcome → Bool → Option (List ℕ) → Option (List ℕ) → Type 0
 Told status o true old new = (status ≡ 7) × (n : ℕ) × (new ≡ append_known old (take n o.text))
 Told status o false old new = (status ≡ o.status) × (new ≡ append_known old o.text)
 
--- what a call answered and wrote: out of memory, and the sink is untouched; else what the words and the bytes come to
+-- what a call answered and wrote: want of memory, and the sink is untouched; else what the words and the bytes come to
 abbrev pub AnswersAndWrites : (untouched : Type 0) → Option Command → Bool → (left rest : Option (List ℕ)) → ℕ → Bool → Option (List ℕ) → Option (List ℕ) → Type 0
 AnswersAndWrites untouched command source_failed left rest status sink_failed old new =
     ((status ≡ 8) × untouched × (sink_failed ≡ false) × (new ≡ old))

@@ -7,12 +7,13 @@ ghost use Rattle.stream_compile.specs.Running.{IsTold, RunsAs};
 ghost use Rattle.stream_compile.specs.Texts.{given_value};
 
 use crate::output::unrunnable;
-use crate::writing::{write, write_end};
+use crate::writing::{SINK_FAILED, write, write_end};
 use command_words::{Argument, Call};
 use image_format::Image;
 use image_run::{Instance, run_checks};
 use io_edges::Sink;
 use std::alloc::{AllocError, Global};
+use wasi_host::run_hosted;
 use wasm_defs::Value;
 
 fn value_of(argument: Argument) -> Value
@@ -36,7 +37,7 @@ fn values_of(alloc: Global, arguments: &[Argument]) -> Result<Vec<Value>, AllocE
     Ok(values)
 }
 
-/// Calls the function of an image that the words name, and writes what its calls print and how it ended, or why there can be no
+/// Calls the function of an image that the words name, and writes what its calls write and how it ended, or why there can be no
 /// call. For a drill, which has so many functions, the line of a value tells them. The result is the status.
 ///
 /// All memory is taken before anything is written.
@@ -58,6 +59,8 @@ pub fn run_image<O: Sink>(
         return Ok(write(out, &unrunnable(alloc, why)?));
     }
     let mut instance = Instance::load(alloc, image)?;
-    let outcome = instance.run_printing(name, &values, out, call.steps);
-    Ok(write_end(out, drill, call.peek, outcome, &instance))
+    match run_hosted(&mut instance, image, name, &values, out, call.steps) {
+        Some(end) => Ok(write_end(out, drill, call.peek, end, &instance)),
+        None => Ok(SINK_FAILED),
+    }
 }

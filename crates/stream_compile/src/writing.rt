@@ -6,22 +6,23 @@ ghost use Rattle.std.specs.List.{flat_map};
 ghost use Rattle.wasm_defs.specs.Values.{Value as ModuleValue, trap_text, value_of};
 ghost use Rattle.io_edges.specs.Streams.{WritesText};
 ghost use Rattle.image_run.specs.Ends.{TellsCount};
-ghost use Rattle.image_run.specs.declared.outcome.Outcome.TheVariants.{HostStopped};
 ghost use Rattle.stream_compile.specs.Reading.{view};
-ghost use Rattle.stream_compile.specs.Running.{line_of, lines_of, shown_behind};
-ghost use Rattle.stream_compile.specs.Texts.{drill_line, drilled, fault_name, machine_fault, peeked, returned, returned_by, Told, trap_place, trapped, value_line};
+ghost use Rattle.wasi_host.specs.Hosted.{outcome_of};
+ghost use Rattle.stream_compile.specs.Running.{line_of, lines_of, shown_after};
+ghost use Rattle.stream_compile.specs.Texts.{drill_line, drilled, exited, fault_name, machine_fault, peeked, returned, returned_by, Told, trap_place, trapped, value_line};
 
 use crate::output::Output;
 use crate::shown::write_shown;
 use command_words::Peek;
-use image_run::{Instance, Outcome};
+use image_run::Instance;
 use io_edges::{Sink, write_all};
 use itoa::Buffer;
 use rv64im_machine::FaultKind;
+use wasi_host::RunEnd;
 use wasm_defs::{Place, TrapKind, Value};
 
 /// The status where the sink failed.
-const SINK_FAILED: u8 = 7;
+pub const SINK_FAILED: u8 = 7;
 
 /// Writes an answer, and gives its status.
 pub fn write<O: Sink>(out: &mut O, output: &Output) -> u8
@@ -256,114 +257,115 @@ fn write_trap<O: Sink>(out: &mut O, kind: TrapKind, place: Option<Place>) -> boo
     }
 }
 
-/// Writes how a run ended that no host stopped.
+/// Writes that `proc_exit` was called with an exit code.
+fn write_exit<O: Sink>(out: &mut O, code: u32) -> bool
+    requires { O.is_open out.old ≡ true }
+    ensures text { WritesText result (exited code).text (O.written out.old) (O.written out.new) (O.faults out.old) (O.faults out.new) }
+    ensures open { result ≡ true → O.is_open out.new ≡ true }
+{
+    let mut buffer = Buffer::new();
+    write_number(out, b"exit ", buffer.format(code).as_bytes())
+}
+
+/// Writes how a run ended.
 fn write_line<O: Sink>(
     out: &mut O,
     drill: Option<u64>,
-    outcome: Outcome,
+    end: RunEnd,
     instance: &Instance<'_>,
 ) -> bool
-    requires stopped { outcome ≢ HostStopped }
-    requires count { TellsCount outcome instance.now.results }
+    requires count { TellsCount (outcome_of end) instance.now.results }
     requires open { O.is_open out.old ≡ true }
-    ensures text { WritesText result (line_of drill outcome instance.now.results).text (O.written out.old) (O.written out.new) (O.faults out.old) (O.faults out.new) }
+    ensures text { WritesText result (line_of drill end instance.now.results).text (O.written out.old) (O.written out.new) (O.faults out.old) (O.faults out.new) }
     ensures open { result ≡ true → O.is_open out.new ≡ true }
 {
-    match outcome {
-        Outcome::Returned(count) => write_returned_by(out, drill, instance, count),
-        Outcome::Trapped(kind, place) => write_trap(out, kind, place),
-        Outcome::StepsSpent => write_all(out, b"steps spent\n"),
-        Outcome::Fault(kind, pc) => write_fault(out, kind, pc),
-        Outcome::HostStopped => unreachable!(),
+    match end {
+        RunEnd::Returned(count) => write_returned_by(out, drill, instance, count),
+        RunEnd::Trapped(kind, place) => write_trap(out, kind, place),
+        RunEnd::StepsSpent => write_all(out, b"steps spent\n"),
+        RunEnd::Exited(code) => write_exit(out, code),
+        RunEnd::Fault(kind, pc) => write_fault(out, kind, pc),
     }
 }
 
-/// Writes how a run ended that no host stopped, and behind it the bytes that are to be shown.
+/// Writes how a run ended, and after it the bytes that are to be shown.
 fn write_line_and_bytes<O: Sink>(
     out: &mut O,
     drill: Option<u64>,
-    outcome: Outcome,
+    end: RunEnd,
     shown: Peek,
     instance: &Instance<'_>,
 ) -> bool
-    requires stopped { outcome ≢ HostStopped }
-    requires count { TellsCount outcome instance.now.results }
+    requires count { TellsCount (outcome_of end) instance.now.results }
     requires open { O.is_open out.old ≡ true }
-    ensures { WritesText result ((line_of drill outcome instance.now.results).text ++ peeked shown instance.now.memory) (O.written out.old) (O.written out.new) (O.faults out.old) (O.faults out.new) }
+    ensures { WritesText result ((line_of drill end instance.now.results).text ++ peeked shown instance.now.memory) (O.written out.old) (O.written out.new) (O.faults out.old) (O.faults out.new) }
 {
-    if write_line(out, drill, outcome, instance) {
+    if write_line(out, drill, end, instance) {
         write_shown(out, shown, instance.memory())
     } else {
         false
     }
 }
 
-/// Which bytes are shown behind an outcome: those that were asked for, where the run returned or trapped.
-fn shown_behind(outcome: Outcome, peek: Option<Peek>) -> Option<Peek>
-    ensures { result ≡ shown_behind outcome peek }
+/// Which bytes are shown after an end: those that were asked for, where the run returned, trapped or exited.
+fn shown_after(end: RunEnd, peek: Option<Peek>) -> Option<Peek>
+    ensures { result ≡ shown_after end peek }
 {
-    match outcome {
-        Outcome::Returned(_) | Outcome::Trapped(_, _) => peek,
-        Outcome::StepsSpent | Outcome::HostStopped | Outcome::Fault(_, _) => None,
+    match end {
+        RunEnd::Returned(_) | RunEnd::Trapped(_, _) | RunEnd::Exited(_) => peek,
+        RunEnd::StepsSpent | RunEnd::Fault(_, _) => None,
     }
 }
 
-/// Writes how a run ended that no host stopped, and the bytes that are shown behind it.
+/// Writes how a run ended, and the bytes that are shown after it.
 fn write_lines<O: Sink>(
     out: &mut O,
     drill: Option<u64>,
     peek: Option<Peek>,
-    outcome: Outcome,
+    end: RunEnd,
     instance: &Instance<'_>,
 ) -> bool
-    requires stopped { outcome ≢ HostStopped }
-    requires count { TellsCount outcome instance.now.results }
+    requires count { TellsCount (outcome_of end) instance.now.results }
     requires open { O.is_open out.old ≡ true }
-    ensures { WritesText result (lines_of drill peek outcome instance.now.memory instance.now.results).text (O.written out.old) (O.written out.new) (O.faults out.old) (O.faults out.new) }
+    ensures { WritesText result (lines_of drill peek end instance.now.memory instance.now.results).text (O.written out.old) (O.written out.new) (O.faults out.old) (O.faults out.new) }
 {
-    match shown_behind(outcome, peek) {
-        None => write_line(out, drill, outcome, instance),
-        Some(shown) => write_line_and_bytes(out, drill, outcome, shown, instance),
+    match shown_after(end, peek) {
+        None => write_line(out, drill, end, instance),
+        Some(shown) => write_line_and_bytes(out, drill, end, shown, instance),
     }
 }
 
-/// The status of an outcome.
+/// The status of an end.
 #[tactic(auto, using(crate::proofs::ValueLines::returned_status))]
-fn status_of(outcome: Outcome) -> u8
-    ensures { (drill : Option ℕ) (results : List ModuleValue) → result ≡ (line_of drill outcome results).status }
+fn status_of(end: RunEnd) -> u8
+    ensures { (drill : Option ℕ) (results : List ModuleValue) → result ≡ (line_of drill end results).status }
 {
-    match outcome {
-        Outcome::Returned(_) => 0,
-        Outcome::Trapped(_, _) => 4,
-        Outcome::StepsSpent => 5,
-        Outcome::HostStopped => SINK_FAILED,
-        Outcome::Fault(_, _) => 9,
+    match end {
+        RunEnd::Returned(_) => 0,
+        RunEnd::Trapped(_, _) => 4,
+        RunEnd::StepsSpent => 5,
+        RunEnd::Exited(0) => 0,
+        RunEnd::Exited(_) => 11,
+        RunEnd::Fault(_, _) => 9,
     }
 }
 
-/// Writes how a run ended and the bytes that are shown behind it, and gives its status. Where the host stopped it, the sink has
-/// failed, and nothing more is written.
+/// Writes how a run ended and the bytes that are shown after it, and gives its status.
 pub fn write_end<O: Sink>(
     out: &mut O,
     drill: Option<u64>,
     peek: Option<Peek>,
-    outcome: Outcome,
+    end: RunEnd,
     instance: &Instance<'_>,
 ) -> u8
-    requires results { TellsCount outcome instance.now.results }
-    requires count { outcome ≢ HostStopped → O.faults out.old < 2 ^ 64 - 1 }
-    requires open { outcome ≢ HostStopped → O.is_open out.old ≡ true }
-    ensures stopped { outcome ≡ HostStopped → (result ≡ 7) × (out.new ≡ out.old) }
-    ensures told { outcome ≢ HostStopped → Told result (lines_of drill peek outcome instance.now.memory instance.now.results) (nat_lt (O.faults out.old) (O.faults out.new)) (O.written out.old) (O.written out.new) }
+    requires results { TellsCount (outcome_of end) instance.now.results }
+    requires count { O.faults out.old < 2 ^ 64 - 1 }
+    requires open { O.is_open out.old ≡ true }
+    ensures { Told result (lines_of drill peek end instance.now.memory instance.now.results) (nat_lt (O.faults out.old) (O.faults out.new)) (O.written out.old) (O.written out.new) }
 {
-    match outcome {
-        Outcome::HostStopped => SINK_FAILED,
-        _ => {
-            if write_lines(out, drill, peek, outcome, instance) {
-                status_of(outcome)
-            } else {
-                SINK_FAILED
-            }
-        }
+    if write_lines(out, drill, peek, end, instance) {
+        status_of(end)
+    } else {
+        SINK_FAILED
     }
 }

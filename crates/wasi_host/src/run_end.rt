@@ -1,0 +1,18 @@
+//! How runs with the host end.
+use rv64im_machine::FaultKind;
+use wasm_defs::{Place, TrapKind};
+
+/// How a run of an exported function ends whose host is a `WasiHost`, where the sink took all that was written.
+#[derive(Clone, Copy, Debug, PartialEq, Eq)]
+pub enum RunEnd {
+    /// The function returned, with so many results.
+    Returned(u32),
+    /// It trapped (WebAssembly Core 1.0, 4.4), at this place of the module, where the image tells it.
+    Trapped(TrapKind, Option<Place>),
+    /// All steps were made, and it hadn't ended.
+    StepsSpent,
+    /// `proc_exit` was called with this exit code (WASI preview 1).
+    Exited(u32),
+    /// The machine has no step at this address, or the environment was called there in a way that it doesn't know.
+    Fault(FaultKind, u64),
+}
