@@ -1,0 +1,2 @@
+;; check => refused invalid at 23
+(module (func drop))

@@ -1,0 +1,2 @@
+;; check => refused unsupported at 13
+(module (func (param f64)))

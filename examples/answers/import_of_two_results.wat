@@ -1,0 +1,2 @@
+;; check => refused unsupported at 29
+(module (import "env" "pair" (func (result i32 i32))))

@@ -1,0 +1,2 @@
+;; check => refused limit at 12
+(module (memory 5000))

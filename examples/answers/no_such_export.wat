@@ -1,0 +1,2 @@
+;; run main => not runnable no such export
+(module (func (export "f")))

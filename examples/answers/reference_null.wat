@@ -1,0 +1,2 @@
+;; check => refused malformed at 23
+(module (func ref.null func drop))

@@ -1,0 +1,2 @@
+;; check => refused malformed at 13
+(module (func (param externref)))

@@ -1,0 +1,2 @@
+;; check => refused invalid at 10
+(module (memory 1) (memory 1))

@@ -1,0 +1,2 @@
+;; run f => not runnable unknown import
+(module (import "env" "ext" (func)) (func (export "f")))
