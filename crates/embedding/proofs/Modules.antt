@@ -1,7 +1,6 @@
 -- A call of an image's function is the call of its module's.
-use Rattle.std.proofs.Common.{◌≡◌, ℕ, ℤ, arith, Bool, true, false, List, [], ◌∷◌, map, Option, Some, None, refl, sym, ap, ◌∙◌, subst, inl, inr, rules}
-use Rattle.std.specs.Prelude.{not, ◌&&◌, Result, Ok, Err, IfOk}
-use Rattle.std.specs.Str.{bytes_eq}
+use Rattle.std.proofs.Common.{◌≡◌, ℕ, ℤ, arith, Bool, true, false, List, [], ◌∷◌, Option, Some, None, refl, sym, ap, ◌∙◌, subst, inl, inr, ◌≢◌, ◌+◌, ◌*◌, ◌≤◌}
+use Rattle.std.specs.Prelude.{not, Result, Ok, Err, IfOk}
 use Rattle.std.proofs.lemmas.Bool.{cases_Bool, lt-ltb}
 use Rattle.std.proofs.Common.{w32, SFits, ◌^◌}
 use Rattle.std.proofs.Math.Facts.{Fits-of_z}
@@ -14,15 +13,14 @@ use Rattle.wasm_defs.specs.Values.{Value, unsigned}
 use Rattle.wasm_defs.specs.Host.{HostCall, Reply, are_of, in_range}
 use Rattle.wasm_defs.specs.Context.{context_of, type_of_function}
 use Rattle.wasm_defs.specs.Faults.{Module}
-use Rattle.wasm_defs.specs.Instances.{exports_of, named, is_linkable}
-use Rattle.wasm_defs.specs.ModuleRun.{Run, End, Returns, Traps, Stops, Going, module_run}
+use Rattle.wasm_defs.specs.Instances.{exports_of, is_linkable}
+use Rattle.wasm_defs.specs.ModuleRun.{Run, End, Returns, Traps, Stops, Going, Fails, module_run}
 use Rattle.image_format.specs.Contents.{Image}
 use Rattle.image_format.specs.declared.image.Export.{Export}
 use Rattle.image_format.specs.ImageRun.{Ending, As, ImageRun, image_run}
-use Rattle.image_linker.specs.ImageOf.{image_of, export_of, offset_of}
+use Rattle.image_linker.specs.ImageOf.{image_of, offset_of}
 use Rattle.image_linker.specs.Same.{Same}
-use Rattle.simulation.specs.SameRuns.{SameRuns, as_image}
-use Rattle.image_run.specs.declared.checks.NotRunnable.{NotRunnable}
+use Rattle.simulation.specs.SameRuns.{SameRuns, IsOver, as_image}
 use Rattle.image_run.specs.declared.checks.NotRunnable.TheVariants.{Unlinkable, WrongArguments}
 use Rattle.image_run.specs.declared.outcome.Outcome.{Outcome}
 use Rattle.image_run.specs.declared.outcome.Outcome.TheVariants.{Returned, Trapped, StepsSpent, HostStopped, Fault}
@@ -30,10 +28,11 @@ use Rattle.image_run.specs.Checks.{export_named, unfit}
 use Rattle.image_run.specs.Ends.{IsEnd, run_of_export}
 use Rattle.embedding.specs.Lists.{replies_to}
 use Rattle.stream_compile.proofs.Calls.{Exports, export_is}
+use Rattle.stream_compile.proofs.Lasting.{Lasts, image_stays}
 use Rattle.embedding.specs.declared.calling.Called.{Called}
 use Rattle.embedding.specs.declared.calling.Called.TheVariants as called
 use Rattle.embedding.specs.declared.compiling.Compiled.TheVariants as compiled
-use Rattle.embedding.specs.Modules.{IsImageOf, IsCompiled}
+use Rattle.embedding.specs.Modules.{IsCompiled}
 use Rattle.embedding.specs.Calls.{EndsSo, RunsImage, RunsModule, CallsImage, CallsModule, argument_of}
 
 -- what the checks found of an export: it takes an i32 alone, and the image can be loaded
@@ -78,20 +77,38 @@ same_run r calls end is =
 ends_as : (r : ImageRun) (end : End) → r.end ≡ As end → record { calls = r.calls; end = As end } ≡ r
 ends_as r end is = ap (λ (x : Ending). record { calls = r.calls; end = x }) (sym is)
 
+-- where an image goes on after its steps, its module has no end at a weight that they were enough for
+not_over : (runs : ℕ → Run) (image : ℕ → ImageRun) (n : ℕ) → SameRuns runs image → Lasts image → (image n).end ≡ As Going → (k : ℕ) → 128 * k + 64 ≤ n → IsOver (runs k).end → ⊥
+not_over runs image n same stays going k enough over =
+    let (j, short, alike) = same.ends k over in
+    let later = stays j n (runs k).end (omega (arith, short, enough)) over (ap (λ (r : ImageRun). r.end) alike) in
+    let both : As (runs k).end ≡ As Going = sym later ∙ going in
+    let is : (runs k).end ≡ Going = cc in
+    subst IsOver is over
+
+goes_on : (end : End) → (IsOver end → ⊥) → end ≢ Fails → end ≡ Going
+goes_on (Returns values memory globals) not_over never = absurd (not_over tt)
+goes_on (Traps kind place memory globals) not_over never = absurd (not_over tt)
+goes_on (Stops memory) not_over never = absurd (not_over tt)
+goes_on Going not_over never = refl
+goes_on Fails not_over never = absurd (never refl)
+
 -- the end of an image's run is an end of its module's
-ends_so : (outcome : Outcome) (memory : List ℕ) (results : List Value) (runs : ℕ → Run) (image : ℕ → ImageRun) (n : ℕ) → SameRuns runs image → IsEnd outcome memory results (image n).end
-    → EndsSo outcome (image n).calls memory results runs
-ends_so (Returned count) memory results runs image n same (count_is, globals, is) =
+ends_so : (outcome : Outcome) (memory : List ℕ) (results : List Value) (runs : ℕ → Run) (image : ℕ → ImageRun) (n : ℕ) → SameRuns runs image → Lasts image → IsEnd outcome memory results (image n).end
+    → EndsSo n outcome (image n).calls memory results runs
+ends_so (Returned count) memory results runs image n same stays (count_is, globals, is) =
     let (k, alike) = same.ends_only n (Returns results memory globals) is tt in
     (k, globals, same_run (runs k) (image n).calls (Returns results memory globals) (ends_as (image n) (Returns results memory globals) is ∙ alike))
-ends_so (Trapped kind place) memory results runs image n same (globals, is) =
+ends_so (Trapped kind place) memory results runs image n same stays (globals, is) =
     let (k, alike) = same.ends_only n (Traps kind place memory globals) is tt in
     (k, globals, same_run (runs k) (image n).calls (Traps kind place memory globals) (ends_as (image n) (Traps kind place memory globals) is ∙ alike))
-ends_so HostStopped memory results runs image n same is =
+ends_so HostStopped memory results runs image n same stays is =
     let (k, alike) = same.ends_only n (Stops memory) is tt in
     (k, same_run (runs k) (image n).calls (Stops memory) (ends_as (image n) (Stops memory) is ∙ alike))
-ends_so StepsSpent memory results runs image n same is = same.calls_lead n is
-ends_so (Fault kind pc) memory results runs image n same is = same.never_faults n kind pc is
+ends_so StepsSpent memory results runs image n same stays is =
+    let (k, begins) = same.calls_lead n is in
+    (k, begins, λ j enough. goes_on (runs j).end (not_over runs image n same stays is j enough) (same.never_fails j))
+ends_so (Fault kind pc) memory results runs image n same stays is = same.never_faults n kind pc is
 
 -- ---- runs
 
@@ -128,17 +145,17 @@ module _ (m : Module) (name : List ℕ) (argument : ℤ) (numbers : List ℤ) (s
   replies : r.replies ≡ replies_to numbers (image steps).calls
   replies = r.replies_are ∙ ap (λ (x : ImageRun). replies_to numbers x.calls) here
 
-  ended : EndsSo outcome (image steps).calls r.memory r.results (module_run m found.function arguments r.replies)
-  ended = ends_so outcome r.memory r.results (module_run m found.function arguments r.replies) image steps alike (subst (λ (x : ImageRun). IsEnd outcome r.memory r.results x.end) here r.end)
+  ended : EndsSo steps outcome (image steps).calls r.memory r.results (module_run m found.function arguments r.replies)
+  ended = ends_so outcome r.memory r.results (module_run m found.function arguments r.replies) image steps alike (image_stays (image_of m) (offset_of m found.function) (type_of_function (context_of m.items) found.function).results arguments r.replies) (subst (λ (x : ImageRun). IsEnd outcome r.memory r.results x.end) here r.end)
 
-  pub runs_module : RunsModule m name argument numbers outcome first
+  pub runs_module : RunsModule m name argument numbers steps outcome first
   runs_module = record {
     function = found.function;
     exported = found.named_is;
     calls = (image steps).calls;
     memory = r.memory;
     results = r.results;
-    ends = subst (λ (l : List Reply). EndsSo outcome (image steps).calls r.memory r.results (module_run m found.function arguments l)) replies ended;
+    ends = subst (λ (l : List Reply). EndsSo steps outcome (image steps).calls r.memory r.results (module_run m found.function arguments l)) replies ended;
     first_is = r.first_is;
   }
 

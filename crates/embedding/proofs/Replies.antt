@@ -1,5 +1,5 @@
 -- Runs whose host answers from a list.
-use Rattle.std.proofs.Common.{◌≡◌, ℕ, ℤ, List, [], ◌∷◌, Option, Some, refl, sym, ap, subst, ◌∙◌}
+use Rattle.std.proofs.Common.{◌≡◌, ℕ, ℤ, List, [], ◌∷◌, Option, Some, refl, ap, subst, ◌∙◌}
 use Rattle.wasm_defs.specs.declared.value.Value.{Value as Given}
 use Rattle.wasm_defs.specs.Values.{Value}
 use Rattle.wasm_defs.specs.Host.{HostCall, Reply}
@@ -27,7 +27,7 @@ replies_are H numbers a b (c ∷ cs) (r ∷ rs) h =
 
 -- what the run of an export says of its image
 pub runs_image : (H : Type 0) (numbers : H → List ℤ) (from to : H) (i : Image) (name : List ℕ) (e : Export) (argument : ℤ) (value : Value) (steps : ℕ) (outcome : Outcome) (first : Option Given) (memory : List ℕ) (results : List Value)
-    → value ≡ argument_of argument → export_named name i.exports ≡ Some e → RunsTo (FromList numbers) i e (value ∷ []) steps from to outcome memory results → IsFirst first results
+    → value ≡ argument_of argument → export_named name i.exports ≡ Some e → RunsTo (FromList numbers) i e (value ∷ []) steps from to outcome memory results → IsFirst outcome first results
     → RunsImage i name argument (numbers from) steps outcome first
 runs_image H numbers from to i name e argument value steps outcome first memory results is there run first_is =
     let here : RunsTo (FromList numbers) i e (argument_of argument ∷ []) steps from to outcome memory results = subst (λ (v : Value). RunsTo (FromList numbers) i e (v ∷ []) steps from to outcome memory results) is run in

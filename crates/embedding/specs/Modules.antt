@@ -1,6 +1,5 @@
 -- What bytes are compiled to.
 use Rattle.std.specs.Prelude.{◌≡◌, ℕ, List}
-use Rattle.wasm_defs.specs.declared.fault.Refusal.{Refusal}
 use Rattle.wasm_defs.specs.Faults.{Module, Accepted, Rejected}
 use Rattle.image_format.specs.Contents.{Image}
 use Rattle.image_linker.specs.ImageOf.{image_of}

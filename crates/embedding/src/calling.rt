@@ -26,7 +26,7 @@ pub enum Called {
 /// The first result of a run that ended so, where it returned any.
 fn first_result(instance: &Instance<'_>, outcome: Outcome) -> Option<Value>
     requires { TellsCount outcome instance.now.results }
-    ensures { IsFirst result instance.now.results }
+    ensures { IsFirst outcome result instance.now.results }
 {
     match outcome {
         Outcome::Returned(count) if count > 0 => Some(instance.result(0)),
