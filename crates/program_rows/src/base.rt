@@ -18,8 +18,13 @@ fn fill(alloc: Global, bytes: &mut Vec<u8>, count: u64, text: &str) -> Result<()
     Ok(())
 }
 
+/// Keeps so many bytes.
+fn cut(bytes: &mut Vec<u8>, count: u64) {
+    bytes.truncate(usize::try_from(count).unwrap_or(usize::MAX));
+}
+
 /// Reads a line about the bytes, where it is one. `module 01 04` begins a module with its header and these bytes, `image 57 52` bytes
-/// without a header; `bytes 0A` appends some, and `fill 10 00` so many times the same.
+/// without a header; `bytes 0A` appends some, `fill 10 00` so many times the same, and `cut 10` keeps so many.
 pub fn is_read(alloc: Global, bytes: &mut Vec<u8>, line: &str) -> Result<bool, Fail> {
     let (kind, text) = line.split_once(' ').unwrap_or((line, ""));
     match kind {
@@ -37,6 +42,7 @@ pub fn is_read(alloc: Global, bytes: &mut Vec<u8>, line: &str) -> Result<bool, F
             let (count, text) = text.split_once(' ').unwrap_or((text, ""));
             fill(alloc, bytes, number_of(count), text)?;
         }
+        "cut" => cut(bytes, number_of(text)),
         _ => return Ok(false),
     }
     Ok(true)
