@@ -15,6 +15,3 @@ pub use laws::{arguments_are_one, commands_are_one};
 pub use lists::{Arguments, Export};
 pub use peek::{Peek, peek_of};
 pub use reading::command_of;
-
-#[cfg(test)]
-mod tests;

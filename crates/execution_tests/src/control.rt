@@ -95,16 +95,18 @@ fn difference<R: Threads + Wait + Sync>(
     Ok(String::new(alloc))
 }
 
-#[test]
-fn nested_control_runs_by_the_reduction_rules(rt: HostRuntime) -> Result<(), Fail> {
-    let alloc = rt.alloc();
+/// The differences of all bodies.
+fn differences<R: Threads + Wait + Sync>(rt: &R, alloc: Global) -> Result<String, Fail> {
+    let mut told = String::new(alloc);
     for seed in 0..BODIES {
         let tokens = body_of(alloc, seed)?;
-        assert_eq!(rt;
-            difference(&rt, alloc, &tokens)?.as_str(),
-            "",
-            "seed {seed}"
-        );
+        told.push_str(difference(rt, alloc, &tokens)?.as_str())?;
     }
+    Ok(told)
+}
+
+#[test]
+fn nested_control_runs_by_the_reduction_rules(rt: HostRuntime) -> Result<(), Fail> {
+    assert_eq!(rt; differences(&rt, rt.alloc())?.as_str(), "");
     Ok(())
 }

@@ -6,8 +6,6 @@ mod answer;
 mod checks;
 mod environment;
 mod host;
-#[cfg(test)]
-mod host_tests;
 mod imports;
 mod instance;
 mod layout;
@@ -15,10 +13,6 @@ mod outcome;
 mod regions;
 mod run;
 mod sink_host;
-#[cfg(test)]
-mod test_images;
-#[cfg(test)]
-mod tests;
 mod wasi_function;
 mod words;
 

@@ -12,23 +12,6 @@ use stream_compile::top;
 /// The magic bytes and the version.
 pub const HEADER: &str = "00 61 73 6D 01 00 00 00";
 
-/// What follows the header of a module that exports `add`, the sum of its two parameters.
-pub const ADD: &str =
-    "01 07 01 60 02 7F 7F 01 7F 03 02 01 00 07 07 01 03 61 64 64 00 00 0A 09 01 07 00 20 00 20 01 6A 0B";
-
-/// What follows the header of a module of two bodies, the first of which has a fault at 25, and the second at 29.
-pub const FAULTY_BODIES: &str = "01 05 01 60 00 01 7F 03 03 02 00 00 0A 08 02 03 00 6A 0B 02 00 0B";
-
-/// The image of a module without functions.
-pub const EMPTY_IMAGE_2: &str = "57 52 56 49 02 00 00 00 02 00 00 00 93 08 00 00 73 00 00 00 \
-                                        00 00 00 00 00 00 00 00 00 00 00 00 00 00 00 00 00 00 00 00 \
-                                        00 00 00 00 00 00 00 00 00 00 00 00 00 00 00 00 00 00 00 00";
-
-/// The same image in the first version.
-pub const EMPTY_IMAGE: &str = "57 52 56 49 01 00 00 00 02 00 00 00 93 08 00 00 73 00 00 00 \
-                                      00 00 00 00 00 00 00 00 00 00 00 00 00 00 00 00 00 00 00 00 \
-                                      00 00 00 00 00 00 00 00 00 00 00 00 00 00 00 00";
-
 /// How many bytes a sink takes that is large enough for each line, and for the images of small modules.
 const ROOM: usize = 65_536;
 
@@ -43,17 +26,6 @@ pub fn bytes_of(alloc: Global, texts: &[&str]) -> Result<Vec<u8>, Fail> {
         }
     }
     Ok(bytes)
-}
-
-/// A number as the binary format writes it, with five bytes.
-pub fn push_number(bytes: &mut Vec<u8>, number: u32) -> Result<(), Fail> {
-    let mut rest = number;
-    for _ in 0..4 {
-        bytes.push((rest % 128) as u8 | 0x80)?;
-        rest /= 128;
-    }
-    bytes.push((rest % 128) as u8)?;
-    Ok(())
 }
 
 /// Each text as a word of a command line.
@@ -95,18 +67,6 @@ pub fn call<R: Threads + Wait + Sync, S: Source>(
 fn told(alloc: Global, status: u8, written: &[u8]) -> Result<String, Fail> {
     let text = str::from_utf8(written)?;
     Ok(format!(in alloc; "{status} {text}")?)
-}
-
-/// The answer to the words, where the source gives the bytes at once: the status, and what was written.
-pub fn answer<R: Threads + Wait + Sync>(
-    rt: &R,
-    alloc: Global,
-    words: &[&str],
-    bytes: &[u8],
-) -> Result<String, Fail> {
-    let words = words_of(alloc, words)?;
-    let (status, written) = call(rt, alloc, &words, &mut Flat::new(bytes), ROOM)?;
-    told(alloc, status, &written)
 }
 
 /// The answer to the words of a line.
@@ -181,43 +141,6 @@ pub fn image_of<R: Threads + Wait + Sync>(
         return Err(Fail::new("no image"));
     }
     Ok(written)
-}
-
-/// The first answer that isn't the wanted one among rows of a module, by what follows its header, words, which stand behind the first
-/// ones, and the answer; else nothing.
-pub fn difference_in_rows<R: Threads + Wait + Sync>(
-    rt: &R,
-    alloc: Global,
-    front: &str,
-    rows: &[(&str, &str, &str)],
-) -> Result<String, Fail> {
-    for row in rows {
-        let bytes = bytes_of(alloc, &[HEADER, row.0])?;
-        let line = format!(in alloc; "{front} {}", row.1)?;
-        let told = answer_to_line(rt, alloc, line.as_str(), &bytes)?;
-        if told.as_str() != row.2 {
-            return Ok(format!(in alloc; "{line} of {}: {told}", row.0)?);
-        }
-    }
-    Ok(String::new(alloc))
-}
-
-/// The like of the modules' images, which `exec` runs.
-pub fn difference_in_images<R: Threads + Wait + Sync>(
-    rt: &R,
-    alloc: Global,
-    rows: &[(&str, &str, &str)],
-) -> Result<String, Fail> {
-    for row in rows {
-        let bytes = bytes_of(alloc, &[HEADER, row.0])?;
-        let image = image_of(rt, alloc, "wstream compile", &bytes)?;
-        let line = format!(in alloc; "wstream exec {}", row.1)?;
-        let told = answer_to_line(rt, alloc, line.as_str(), &image)?;
-        if told.as_str() != row.2 {
-            return Ok(format!(in alloc; "{line} of the image of {}: {told}", row.0)?);
-        }
-    }
-    Ok(String::new(alloc))
 }
 
 /// The first sink that takes fewer bytes than are to be written, and into which not just those are written with the status 7, or whether
