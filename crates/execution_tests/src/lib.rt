@@ -18,3 +18,5 @@ mod peeks;
 mod starts;
 #[cfg(test)]
 mod tables;
+#[cfg(test)]
+mod wasi;
