@@ -3,11 +3,11 @@ pub mod Flows
 pub mod Instructions
 pub mod Outcomes
 pub mod Lending
-pub mod Stretches
-pub mod StretchWords
-pub mod Keeping
+pub mod Sequences
+pub mod FusedWords
+pub mod Caching
 pub mod Machines
-pub mod Going
+pub mod Transitions
 pub use Rattle.rv_isa.specs.Words
 pub use Rattle.rv_isa.specs.Values
 pub use Rattle.rv_isa.specs.Steps

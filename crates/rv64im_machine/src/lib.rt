@@ -3,23 +3,23 @@
 
 mod arithmetic;
 mod bytes;
+mod cache;
+mod dispatch;
 mod execution;
 mod finding;
-mod going;
+mod fused;
 mod immediate;
 mod instruction;
-mod kept;
 mod machine;
 mod outcome;
 mod pieces;
 mod regions;
 mod rows;
 mod single;
-mod stretch;
 mod templates;
 #[cfg(test)]
 mod tests;
-mod walk;
+mod transition;
 
 pub use machine::Machine;
 pub use outcome::{Ran, Stepped};
