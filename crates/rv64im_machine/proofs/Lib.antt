@@ -7,3 +7,4 @@ pub mod ConstantLaws
 pub mod CacheLaws
 pub mod TransitionLaws
 pub mod TurnLaws
+pub mod ControlLaws

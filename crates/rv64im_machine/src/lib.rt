@@ -4,6 +4,7 @@
 mod arithmetic;
 mod bytes;
 mod cache;
+mod control;
 mod dispatch;
 mod execution;
 mod finding;
@@ -12,6 +13,7 @@ mod immediate;
 mod instruction;
 mod machine;
 mod outcome;
+mod pairs;
 mod pieces;
 mod regions;
 mod rows;
@@ -20,6 +22,7 @@ mod templates;
 #[cfg(test)]
 mod tests;
 mod transition;
+mod values;
 
 pub use machine::Machine;
 pub use outcome::{Ran, Stepped};
