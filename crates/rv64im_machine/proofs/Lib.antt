@@ -2,9 +2,10 @@ pub mod RegisterLaws
 pub mod FetchLaws
 pub mod WindowLaws
 pub mod Underway
-pub mod StretchLaws
+pub mod SequenceLaws
 pub mod ConstantLaws
-pub mod KeptLaws
-pub mod GoingLaws
+pub mod CacheLaws
+pub mod TransitionLaws
 pub mod TurnLaws
 mod LinearLaws
+pub mod ControlLaws

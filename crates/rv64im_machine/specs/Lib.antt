@@ -5,11 +5,11 @@ pub mod Outcomes
 pub mod Lending
 pub mod Linear
 pub mod LinearLending
-pub mod Stretches
-pub mod StretchWords
-pub mod Keeping
+pub mod Sequences
+pub mod FusedWords
+pub mod Caching
 pub mod Machines
-pub mod Going
+pub mod Transitions
 pub use Rattle.rv_isa.specs.Words
 pub use Rattle.rv_isa.specs.Values
 pub use Rattle.rv_isa.specs.Steps

@@ -3,24 +3,31 @@
 
 mod arithmetic;
 mod bytes;
+mod cache;
+mod control;
+mod dispatch;
 mod execution;
 mod finding;
-mod going;
+mod finding_control;
+mod finding_values;
+mod fused;
 mod immediate;
 mod instruction;
-mod kept;
 mod linear_memory;
 mod machine;
+mod matching;
+mod matching_more;
 mod outcome;
+mod pairs;
 mod pieces;
 mod regions;
 mod rows;
 mod single;
-mod stretch;
 mod templates;
 #[cfg(test)]
 mod tests;
-mod walk;
+mod transition;
+mod values;
 
 pub use linear_memory::LinearMemory;
 pub use machine::Machine;
