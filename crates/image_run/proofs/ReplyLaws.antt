@@ -1,5 +1,5 @@
 -- Runs of images under other replies: what they have in common.
-use Rattle.std.proofs.Common.{◌≡◌, ℕ, zero, suc, ◌+◌, ◌-◌, ◌*◌, ◌%◌, ◌^◌, ◌==◌, ◌<◌, ◌≤◌, Bool, true, false, nat_le, max, if◌then◌else◌, List, [], ◌∷◌, ◌++◌, take, drop, length, replicate, Option, None, Some, slice_get, refl, sym, ap, ◌∙◌, subst, append_assoc, length-append, arith}
+use Rattle.std.proofs.Common.{◌≡◌, ℕ, zero, suc, ◌+◌, ◌-◌, ◌*◌, ◌%◌, ◌^◌, ◌==◌, ◌≤◌, Bool, true, false, nat_le, max, if◌then◌else◌, List, [], ◌∷◌, ◌++◌, take, drop, length, Option, None, Some, slice_get, refl, sym, ap, ◌∙◌, subst, append_assoc, length-append, arith}
 use Rattle.std.proofs.lemmas.List.{append-nil, take_at}
 use Rattle.rv_isa.specs.declared.stepping.FaultKind.TheVariants as fault
 use Rattle.rv_isa.specs.Steps.{State, Registers, Stepped, Next, step, reg, set_reg}
@@ -8,12 +8,11 @@ use Rattle.wasm_defs.specs.declared.types.ValType.{ValType}
 use Rattle.wasm_defs.specs.declared.value.TrapKind.{TrapKind}
 use Rattle.wasm_defs.specs.Values.{Value, trap_of}
 use Rattle.wasm_defs.specs.Memory.{page}
-use Rattle.wasm_defs.specs.Host.{HostCall, Reply, Stop, Taken, Goes, Stops, taken}
-use Rattle.wasm_defs.specs.ModuleRun as run
+use Rattle.wasm_defs.specs.Host.{HostCall, Reply, Taken, Goes, Stops, taken}
 use Rattle.image_format.specs.Contents.{Image}
 use Rattle.image_format.specs.declared.image.Import.{Import}
 use Rattle.image_format.specs.Environment.{Entry, entered, code_of_image}
-use Rattle.image_format.specs.ImageRun.{Running, Stepping, To, Ended, Faulted, Waiting, Ending, As, ImageRun, answered, ask, asked, await_reply, call_import, environment, finish, globals_of, grow, memory_of, next, on, results_at, run_of, slots_at, stepped, steps, trapped, values_at, with_results}
+use Rattle.image_format.specs.ImageRun.{Running, Stepping, To, Ended, Faulted, Waiting, ImageRun, answered, asked, await_reply, call_import, environment, finish, grow, memory_of, next, on, run_of, slots_at, stepped, steps, trapped, values_at, with_results}
 use Rattle.image_format.specs.ImageRun as image
 use Rattle.image_run.specs.Answers.{IsOver}
 use Rattle.image_run.specs.Ends.{IsUnstopped}

@@ -1,9 +1,8 @@
 -- What a drill's run tells is its sum.
-use Rattle.std.proofs.Common.{◌≡◌, ◌∙◌, ◌⊎◌, ℕ, ◌+◌, ◌*◌, ◌<◌, ◌≤◌, true, List, [], ◌∷◌, Option, None, Some, refl, ap, sym, subst, inl, inr, pos}
+use Rattle.std.proofs.Common.{◌≡◌, ◌∙◌, ℕ, ◌+◌, ◌≤◌, true, List, [], ◌∷◌, Option, None, Some, refl, ap, sym, subst, inl, inr, pos}
 use Rattle.std.specs.Prelude.{codes}
 use Rattle.std.specs.Int.{w32}
 use Rattle.std.proofs.lemmas.Int.{to_z_pos}
-use Rattle.wasm_defs.specs.declared.types.ValType.{ValType}
 use Rattle.wasm_defs.specs.declared.types.ValType.TheVariants.{I32}
 use Rattle.wasm_defs.specs.declared.types.FuncType.{FuncType}
 use Rattle.wasm_defs.specs.Context.{context_of, declared_count, type_of_function}
@@ -15,9 +14,8 @@ use Rattle.wasm_defs.specs.ModuleRun.{Going, Returns, module_run}
 use Rattle.wasm_defs.specs.ModuleRun as module_runs
 use Rattle.wasm_defs.specs.declared.fault.Refusal.{Refusal}
 use Rattle.wasm_defs.specs.Values.{signed}
-use Rattle.image_format.specs.Contents.{Image}
 use Rattle.image_format.specs.declared.image.Import.{Import}
-use Rattle.image_format.specs.ImageRun.{As, Ending, ImageRun, image_run}
+use Rattle.image_format.specs.ImageRun.{As, Ending, ImageRun}
 use Rattle.image_linker.specs.ImageOf.{image_of, export_of, offset_of}
 use Rattle.image_linker.specs.Judging.{IsModuleOf, IsVerdictOf}
 use Rattle.image_linker.specs.Same.{Same}

@@ -25,7 +25,7 @@ use Rattle.wasm_defs.specs.Values.{Value, signed, value_of, trap_text, types_of_
 use Rattle.wasm_defs.specs.Context.{context_of, declared_count}
 use Rattle.wasm_defs.specs.Faults.{Module, Verdict, Accepted, Rejected}
 use Rattle.wasm_defs.specs.Instances.{exports_of, named}
-use Rattle.wasm_defs.specs.ModuleRun.{End, Returns, Traps, Stops, Going, Fails, module_run}
+use Rattle.wasm_defs.specs.ModuleRun.{Returns, Traps, Stops, Going, Fails, module_run}
 use Rattle.wasm_defs.specs.ModuleRun as module_runs
 use Rattle.image_format.specs.Contents.{Image}
 use Rattle.image_format.specs.ImageBytes.{spelling}

@@ -1,18 +1,18 @@
 -- A run with the host's own replies is stopped by proc_exit alone, and by each call of it.
-use Rattle.std.proofs.Common.{◌≡◌, ℕ, zero, suc, ◌+◌, ◌⊎◌, inl, inr, true, false, List, [], ◌∷◌, ◌++◌, drop, length, Option, None, Some, refl, sym, ap, ◌∙◌, subst, append_assoc}
+use Rattle.std.proofs.Common.{◌≡◌, ℕ, zero, suc, ◌+◌, ◌⊎◌, inl, inr, true, false, List, [], ◌∷◌, ◌++◌, drop, length, None, Some, refl, sym, ap, ◌∙◌, subst, append_assoc}
 use Rattle.std.specs.Prelude.{slice_get}
 use Rattle.std.proofs.lemmas.List.{drop_at}
 use Rattle.wasm_defs.specs.declared.types.ValType.{ValType}
 use Rattle.wasm_defs.specs.declared.types.ValType.TheVariants.{I32, I64}
 use Rattle.wasm_defs.specs.Typing.{same_type, same_types}
 use Rattle.wasm_defs.specs.Values.{Value, types_of_values}
-use Rattle.wasm_defs.specs.Host.{HostCall, Reply, Stop, Taken, Goes, Stops, taken}
+use Rattle.wasm_defs.specs.Host.{HostCall, Reply, Taken, Goes, Stops, taken}
 use Rattle.image_format.specs.Contents.{Image}
 use Rattle.image_format.specs.declared.image.Import.{Import}
 use Rattle.image_format.specs.declared.image.Export.{Export}
 use Rattle.image_format.specs.ImageRun.{Running, Stepping, ImageRun, answered, await_reply, memory_of, on, run_of, steps, values_at}
 use Rattle.image_run.specs.Checks.{has_unknown_import}
-use Rattle.image_run.specs.Ends.{IsUnstopped, run_of_export}
+use Rattle.image_run.specs.Ends.{run_of_export}
 use Rattle.image_run.proofs.SignatureLaws.{known_at}
 use Rattle.image_run.proofs.ReplyLaws.{Turn, GoesOn, Ends, Asks, calls_grow, calls_of, goes, machine_behind, next_turn, over_on, reply_grows, with_replies}
 use Rattle.image_run.proofs.ExportRuns.{first, first_calls, by_goes}

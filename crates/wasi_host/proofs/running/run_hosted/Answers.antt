@@ -1,4 +1,4 @@
-use Rattle.std.proofs.Common.{◌≡◌, true, false, sym, ap, ◌∙◌}
+use Rattle.std.proofs.Common.{◌≡◌, true, sym, ap, ◌∙◌}
 use Rattle.std.specs.Prelude.{map}
 use Rattle.wasm_defs.specs.Values.{type_of, value_of}
 use Rattle.image_run.proofs.SignatureLaws.{all_known, then_fit}
