@@ -1,0 +1,15 @@
+//! Tests of what makes words of RV64IM and of what runs them: `rv_isa`, `frame_layout`, `integer_emit`, `memory_emit`, `table_calls`,
+//! `body_compiler` and `rv64im_machine`. The values come from outside: the GNU assembler, `qemu-riscv64`, the manual's tables, and
+//! hand-worked words. They stand in a crate of their own, since a check of tests proves again all that stands beside them.
+#![tactic(auto)]
+
+#[cfg(test)]
+mod bodies;
+#[cfg(test)]
+mod emitted;
+#[cfg(test)]
+mod machine;
+#[cfg(test)]
+mod rows;
+#[cfg(test)]
+mod words;

@@ -1,0 +1,14 @@
+//! Tests of workers in threads, alone and in parallel: `cancel_drain`, `result_cells`, `batch_pool` and `pool_scope`. They stand in a crate of
+//! their own, since a check of tests proves again all that stands beside them.
+#![tactic(auto)]
+
+#[cfg(test)]
+mod boards;
+#[cfg(test)]
+mod cells;
+#[cfg(test)]
+mod pools;
+#[cfg(test)]
+mod scopes;
+#[cfg(test)]
+mod workers;

@@ -1,0 +1,279 @@
+//! Workers that serve the tickets of a pool.
+ghost use Rattle.std.specs.Prelude.{◌≡◌, ◌≤◌, IfOk, length};
+ghost use Rattle.index_spaces.specs.ItemLimits.{HasSmallType};
+
+use batch_pool::{Feeder, Hand, Pool, Row, Stored, Ticket, Worked, work};
+use body_cutter::{Batch, Bodies, Body, BodyBytes};
+use cancel_drain::{Board, Closed};
+use index_spaces::{Context, ContextBuilder};
+use io_edges::{Gate, Go, OpenGate};
+use result_cells::Cells;
+use std::alloc::{AllocError, Global};
+use std::collections::LinkedList;
+use std::sync::atomic::Ordering::SeqCst;
+use std::sync::atomic::{AtomicBool, AtomicU64};
+use std::sync::{Arc, Wait};
+use std::test::Fail;
+use std::thread;
+use std::thread::Threads;
+use wasm_defs::{FuncType, Item, ValType, ValTypes};
+
+// A batch of one body, whose size stands there and has one byte.
+fn batch(
+    alloc: Global,
+    number: u32,
+    start: u64,
+    bytes: &[u8],
+) -> Result<Arc<Batch, Global>, AllocError> {
+    let mut bodies = LinkedList::new(alloc);
+    if bytes.len() < 100 && start < 1000 {
+        bodies.push_back(Body {
+            index: number,
+            size: start,
+            first: start + 1,
+            bytes: BodyBytes::new(Vec::from_slice(alloc, bytes)?),
+        })?;
+    }
+    Ok(Arc::new(
+        alloc,
+        Batch {
+            number,
+            start,
+            bodies: Bodies::new(bodies),
+        },
+    )?)
+}
+
+// Puts a batch into the pool, and answers whether it was taken.
+fn put(feeder: &mut Feeder, batch: Arc<Batch, Global>) -> bool {
+    match Ticket::of(batch) {
+        Some(ticket) => feeder.put(ticket).is_ok(),
+        None => false,
+    }
+}
+
+// The type of a function that gives a number of 32 bits.
+fn signature(alloc: Global) -> Result<Item, AllocError>
+    ensures { IfOk result HasSmallType }
+{
+    Ok(Item::Signature {
+        form: 11,
+        params: 12,
+        results: 13,
+        ty: FuncType {
+            params: ValTypes::new(Vec::new(alloc)),
+            results: ValTypes::new(Vec::from_slice(alloc, &[ValType::I32])?),
+        },
+    })
+}
+
+// Adds the type and two functions of it, and answers whether all were added.
+fn add_functions(alloc: Global, builder: &mut ContextBuilder) -> bool {
+    let Ok(signature) = signature(alloc) else {
+        return false;
+    };
+    let function = Item::Function {
+        type_index: (18, 0),
+    };
+    builder.add(&signature).is_ok()
+        && builder.add(&function).is_ok()
+        && builder.add(&function).is_ok()
+}
+
+// A module of two functions, which give a number of 32 bits.
+fn two_functions(alloc: Global) -> Option<Context> {
+    let mut builder = ContextBuilder::new(alloc);
+    if add_functions(alloc, &mut builder) {
+        Some(builder.finish())
+    } else {
+        None
+    }
+}
+
+// The hands of a pool that has two batches, of one body each, and is closed.
+fn filled(alloc: Global, count: u32, first: &[u8], second: &[u8]) -> Result<Vec<Hand>, Fail> {
+    let first = batch(alloc, 0, 23, first)?;
+    let second = batch(alloc, 1, 27, second)?;
+    let (mut feeder, hands) = Pool::new(alloc, count)?;
+    let is_first_put = put(&mut feeder, first);
+    let is_second_put = put(&mut feeder, second);
+    feeder.close();
+    if is_first_put && is_second_put {
+        Ok(hands)
+    } else {
+        Err(Fail::new("a full pool"))
+    }
+}
+
+// What a row has: its batch, its fault, and where the codes of its bodies stand.
+fn push_row(alloc: Global, text: &mut String, row: &Row) -> Result<(), Fail> {
+    let told = format!(in alloc; "batch {}, {:?}", row.batch.number, row.fault)?;
+    text.push_str(told.as_str())?;
+    for code in row.codes.as_slice() {
+        let told = match code.stored {
+            Stored::Cell(_) => format!(in alloc; ", in its cell")?,
+            Stored::Apart(_) => format!(in alloc; ", apart")?,
+            Stored::Counted(words) => format!(in alloc; ", {words} words counted")?,
+            Stored::TooLong => format!(in alloc; ", too long")?,
+        };
+        text.push_str(told.as_str())?;
+    }
+    text.push_str("; ")?;
+    Ok(())
+}
+
+// How a board was left, and the rows.
+fn outcome(alloc: Global, starved: bool, rows: &[Row], closed: &Closed) -> Result<String, Fail>
+    requires { 2 ≤ length closed.now.states }
+{
+    let states = (closed.states.word(0), closed.states.word(1));
+    let mut text = format!(in alloc; "{starved} {:?} {states:?} ", closed.least)?;
+    for row in rows {
+        push_row(alloc, &mut text, row)?;
+    }
+    Ok(text)
+}
+
+// What one worker makes of two batches of one body each, where the codes have room for so many words.
+fn told<R: Threads + Wait + Sync>(
+    rt: &R,
+    alloc: Global,
+    room: u64,
+    first: &[u8],
+    second: &[u8],
+) -> Result<String, Fail> {
+    let mut hands = filled(alloc, 1, first, second)?;
+    let Some(mut hand) = hands.pop() else {
+        return Err(Fail::new("no hand"));
+    };
+    let cells = Cells::new(alloc, 2, room)?;
+    let (board, mut seat) = Board::new(alloc, 2, 1)?;
+    let Some(context) = two_functions(alloc) else {
+        return Err(Fail::new("out of memory"));
+    };
+    board.publish(&mut seat, 0, 23);
+    board.publish(&mut seat, 1, 27);
+    let worked = work(
+        rt, alloc, &mut hand, &board, seat, &cells, &context, &OpenGate,
+    );
+    let closed = board.close(worked.seat);
+    outcome(alloc, worked.starved, worked.rows.as_slice(), &closed)
+}
+
+// The batches start at 23 and 27. A word of the board is eight times the start, and 3 where the batch is done, or 4 where it is drained.
+#[test]
+fn a_worker_serves_until_a_fault_and_while_codes_have_room(rt: HostRuntime) -> Result<(), Fail> {
+    let valid: &[u8] = &[0x00, 0x41, 0x07, 0x0B];
+    let rows: [(u64, &[u8], &str); 3] = [
+        (
+            1_000,
+            &[0x00, 0x6A, 0x0B],
+            "false Some(Refusal { offset: 25, kind: Invalid }) (187, 220) \
+            batch 0, Some(Refusal { offset: 25, kind: Invalid }); ",
+        ),
+        (
+            1_000,
+            valid,
+            "false None (187, 219) batch 0, None, in its cell; batch 1, None, in its cell; ",
+        ),
+        (
+            40,
+            valid,
+            "false None (187, 219) batch 0, None, in its cell; batch 1, None, 31 words counted; ",
+        ),
+    ];
+    for (room, first, want) in rows {
+        let told = told(&rt, rt.alloc(), room, first, valid)?;
+        assert_eq!(rt; told.as_str(), want);
+    }
+    Ok(())
+}
+
+// Holds batch 0 until batch 1 has finished.
+#[derive(Drop)]
+struct SecondFirst {
+    second_is_done: AtomicBool,
+    first_is_done: AtomicBool,
+    last_turn: AtomicU64,
+}
+
+impl Gate for SecondFirst {
+    fn enter(&self, batch: u32, turn: u32) -> Go {
+        self.last_turn.store(u64::from(turn), SeqCst);
+        if batch == 0 && !self.second_is_done.load(SeqCst) {
+            thread::yield_now();
+            Go::Hold
+        } else {
+            Go::Run
+        }
+    }
+
+    fn finished(&self, batch: u32) {
+        if batch == 0 {
+            self.first_is_done.store(true, SeqCst);
+        } else {
+            self.second_is_done.store(true, SeqCst);
+        }
+    }
+}
+
+// What two workers make of two batches, where the gate holds the first until the second has finished: how many rows each worker has, and how
+// the board was left.
+fn told_of_two<R: Threads + Wait + Sync>(
+    rt: &R,
+    alloc: Global,
+    gate: &SecondFirst,
+) -> Result<String, Fail> {
+    let mut hands = filled(alloc, 2, &[0x00, 0x6A, 0x0B], &[0x00, 0x41, 0x07, 0x0B])?;
+    let (Some(mut one), Some(mut two)) = (hands.pop(), hands.pop()) else {
+        return Err(Fail::new("no hands"));
+    };
+    let cells = Cells::new(alloc, 2, 1_000)?;
+    let (board, mut seat) = Board::new(alloc, 2, 2)?;
+    let Some(context) = two_functions(alloc) else {
+        return Err(Fail::new("out of memory"));
+    };
+    board.publish(&mut seat, 0, 23);
+    board.publish(&mut seat, 1, 27);
+    let other = board.split(&mut seat);
+    let (b, c, x) = (&board, &cells, &context);
+    let (first, second) = thread::join(
+        rt,
+        move || -> Worked
+            requires table { seat.table ≡ b.now.table }
+            ensures table { result.seat.table ≡ seat.table }
+            ensures parts { result.seat.view.parts ≡ seat.view.parts }
+        { work(rt, alloc, &mut one, b, seat, c, x, gate) },
+        move || -> Worked
+            requires table { other.table ≡ b.now.table }
+            ensures table { result.seat.table ≡ other.table }
+            ensures parts { result.seat.view.parts ≡ other.view.parts }
+        { work(rt, alloc, &mut two, b, other, c, x, gate) },
+    );
+    let Worked {
+        mut seat,
+        rows,
+        starved,
+    } = first;
+    let counts = (rows.as_slice().len(), second.rows.as_slice().len());
+    board.join(&mut seat, second.seat);
+    let closed = board.close(seat);
+    let text = outcome(alloc, starved, &[], &closed)?;
+    Ok(format!(in alloc; "{counts:?} {text}")?)
+}
+
+#[test]
+fn batches_run_beside_each_other(rt: HostRuntime) -> Result<(), Fail> {
+    let gate = SecondFirst {
+        second_is_done: AtomicBool::new(false),
+        first_is_done: AtomicBool::new(false),
+        last_turn: AtomicU64::new(0),
+    };
+    assert_eq!(rt;
+        told_of_two(&rt, rt.alloc(), &gate)?.as_str(),
+        "(1, 1) false Some(Refusal { offset: 25, kind: Invalid }) (187, 219) "
+    );
+    assert!(rt; gate.last_turn.load(SeqCst) < 1_048_576);
+    assert!(rt; gate.first_is_done.load(SeqCst) && gate.second_is_done.load(SeqCst));
+    Ok(())
+}
