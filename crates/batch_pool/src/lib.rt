@@ -13,14 +13,8 @@ mod queue;
 mod row;
 mod rule;
 mod serving;
-#[cfg(test)]
-mod store_tests;
-#[cfg(test)]
-mod tests;
 mod thief;
 mod ticket;
-#[cfg(test)]
-mod work_tests;
 mod worker;
 
 pub use feeder::Feeder;

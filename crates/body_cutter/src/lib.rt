@@ -13,6 +13,3 @@ pub use batch::{Batch, Bodies};
 pub use body::{Body, BodyBytes};
 pub use cutter::Cutter;
 pub use laws::batches_join_to_the_bodies;
-
-#[cfg(test)]
-mod tests;

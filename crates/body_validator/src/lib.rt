@@ -10,8 +10,6 @@ mod operands;
 mod scope;
 mod stack;
 mod steps;
-#[cfg(test)]
-mod tests;
 
 pub use check::{Check, Shape, Step, TokenStop};
 pub use laws::{

@@ -2,7 +2,7 @@
 ghost use Rattle.std.specs.Prelude.{◌*◌, ◌≤◌, ◌^◌, length};
 
 use crate::rows::{narrow, numbers_of, parts_of, words_of};
-use rv64im_machine::{FaultKind, Machine, Region, Regions, Stepped};
+use rv64im_machine::{FaultKind, LinearMemory, Machine, Region, Regions, Stepped};
 use std::alloc::{AllocError, Global};
 use std::test::Fail;
 
@@ -165,11 +165,12 @@ fn machine(alloc: Global, text: &[u32]) -> Result<Machine, AllocError>
     ) else {
         return Err(AllocError);
     };
+    let size = memory.len();
     let regions = Regions {
         stack,
         globals: Vec::new(alloc),
         table,
-        memory,
+        memory: LinearMemory::reserved(memory, size),
     };
     Machine::new(alloc, text, regions)
 }

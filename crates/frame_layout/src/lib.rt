@@ -9,8 +9,6 @@ mod laws;
 mod layout;
 pub mod macros;
 mod slots;
-#[cfg(test)]
-mod tests;
 mod traps;
 pub mod words;
 

@@ -6,8 +6,6 @@ mod builder;
 mod context;
 mod entries;
 mod laws;
-#[cfg(test)]
-mod tests;
 mod type_space;
 
 pub use add_stop::AddStop;

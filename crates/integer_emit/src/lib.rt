@@ -8,8 +8,6 @@ mod constant;
 mod convert;
 mod extension;
 mod frames;
-#[cfg(test)]
-mod tests;
 mod unary;
 
 pub use binary::emit_binary;

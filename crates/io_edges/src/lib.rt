@@ -31,6 +31,3 @@ pub use reading::{Input, Stop, read_all};
 pub use sink::{Put, Sink};
 pub use source::{Got, Source};
 pub use writing::write_all;
-
-#[cfg(test)]
-mod tests;

@@ -12,6 +12,3 @@ pub use leb::{Fed, Leb};
 pub use number::{ReadAt, read_at};
 pub use stop::Stop;
 pub use text::{between, state_after};
-
-#[cfg(test)]
-mod tests;

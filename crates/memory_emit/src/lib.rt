@@ -8,8 +8,6 @@ mod locals;
 mod pages;
 mod registers;
 mod select;
-#[cfg(test)]
-mod tests;
 
 pub use access::{emit_load, emit_store};
 pub use globals::{emit_global_get, emit_global_set};

@@ -7,6 +7,3 @@ mod numbers;
 
 pub use drill::drill_module;
 pub use laws::numbers_are_short;
-
-#[cfg(test)]
-mod tests;

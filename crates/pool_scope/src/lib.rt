@@ -7,8 +7,6 @@ mod gathering;
 mod labour;
 mod numbered;
 mod settling;
-#[cfg(test)]
-mod tests;
 
 pub use beside::{Joined, Reading, run_beside};
 pub use desk::Desk;

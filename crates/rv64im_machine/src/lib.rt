@@ -24,8 +24,6 @@ mod regions;
 mod rows;
 mod single;
 mod templates;
-#[cfg(test)]
-mod tests;
 mod transition;
 mod values;
 

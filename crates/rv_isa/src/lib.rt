@@ -17,8 +17,6 @@ pub mod laws;
 mod operations;
 mod stepping;
 mod table;
-#[cfg(test)]
-mod tests;
 
 pub use buffer::WordBuffer;
 pub use compiled::{Code, Relocation, Relocations, TrapSite, TrapSites, Words};

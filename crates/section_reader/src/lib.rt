@@ -6,8 +6,6 @@ mod entries;
 mod entry_fields;
 mod entry_waits;
 mod front;
-#[cfg(test)]
-mod front_tests;
 mod items;
 mod laws;
 mod rows;

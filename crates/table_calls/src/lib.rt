@@ -9,8 +9,6 @@ mod indirect;
 mod prologue;
 mod returning;
 mod room;
-#[cfg(test)]
-mod tests;
 
 pub use call::emit_call;
 pub use import::emit_import_stub;

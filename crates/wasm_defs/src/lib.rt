@@ -35,6 +35,3 @@ pub use text::Inside;
 pub use token::{BlockType, MemArg, Plain, Token};
 pub use types::{FuncType, ValType};
 pub use value::{TrapKind, Value};
-
-#[cfg(test)]
-mod tests;
