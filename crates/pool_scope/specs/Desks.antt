@@ -1,5 +1,5 @@
 -- What is known of the thread that reads, while it hands batches over.
-use Rattle.std.specs.Prelude.{◌≡◌, ◌⊎◌, ℕ, ◌-◌, ◌<◌, ◌≤◌, true, List, [], ◌∷◌, ◌++◌, length, slice_index, All}
+use Rattle.std.specs.Prelude.{◌≡◌, ◌⊎◌, ℕ, ◌-◌, ◌<◌, ◌≤◌, true, List, [], ◌∷◌, ◌++◌, length, map, slice_index, All}
 use Rattle.std.specs.Arc.{arc_value}
 use Rattle.index_spaces.specs.Spaces.{Spaces}
 use Rattle.body_cutter.specs.declared.batch.Batch.{Batch}
@@ -8,7 +8,8 @@ use Rattle.batch_pool.specs.declared.ticket.Ticket.{Ticket}
 use Rattle.batch_pool.specs.Hands.{Feeding}
 use Rattle.batch_pool.specs.Low.{IsLow}
 use Rattle.batch_pool.specs.Queues.{puts}
-use Rattle.batch_pool.specs.Working.{IsRowOf, FitsBody}
+use Rattle.batch_pool.specs.Working.{IsRowOf, FitsBody, place_of, keys_of}
+use Rattle.cancel_drain.specs.declared.view.View.{View}
 use Rattle.cancel_drain.specs.Handles.{Site, Sitter}
 use Rattle.cancel_drain.specs.Views.{publishes, IsAbove}
 use Rattle.pool_scope.specs.declared.desk.Desk.{Desk}
@@ -44,6 +45,11 @@ pub record Hands (d : Desk) (b : Batch) (d' : Desk) : Type 0 where
   pub last : d'.last ≡ b.start
   pub feeder : PutsIn d.feeder b d'.feeder
 
+-- nothing was done or reported at the desk
+pub record IsIdle (d d' : Desk) : Type 0 where
+  pub done : d'.seat.view.done ≡ d.seat.view.done
+  pub reported : d'.seat.view.reported ≡ d.seat.view.reported
+
 -- nothing of the desk has changed
 pub record IsAsBefore (d d' : Desk) : Type 0 where
   pub seat : d'.seat ≡ d.seat
@@ -52,11 +58,13 @@ pub record IsAsBefore (d d' : Desk) : Type 0 where
   pub last : d'.last ≡ d.last
 
 -- The last seat has what all others knew and as many parts as at first, the tickets are those of the batches that were published, and the
--- rows are right
-pub record HasRead (c : Spaces) (cells : List ℕ) (board : Site) (parts : ℕ) (seat : Sitter) (kept : List Ticket) (rows : List Row) : Type 0 where
+-- rows are right: they are those of the batches that were done since then, each once, and the faults that were reported are theirs
+pub record HasRead (c : Spaces) (cells : List ℕ) (board : Site) (first : View) (seat : Sitter) (kept : List Ticket) (rows : List Row) : Type 0 where
   pub table : seat.table ≡ board.table
   pub feeder : seat.view.feeder ≡ true
   pub running : seat.view.running ≡ []
-  pub all : seat.view.parts ≡ parts
+  pub all : seat.view.parts ≡ first.parts
   pub tickets : AreKept c board.functions seat.view.published kept
   pub right : All (IsRowOf c cells) rows
+  pub done : seat.view.done ≡ first.done ++ map place_of rows
+  pub reported : seat.view.reported ≡ first.reported ++ keys_of rows

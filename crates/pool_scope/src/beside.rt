@@ -1,6 +1,6 @@
 //! Workers in threads of their own, in parallel with a caller that reads.
 ghost use Rattle.std.specs.Prelude.{◌≡◌, ◌<◌, ◌^◌, ◌⊎◌, true, [], length, IfOk, IfErr};
-ghost use Rattle.pool_scope.specs.Desks.{IsDesk, HasRead};
+ghost use Rattle.pool_scope.specs.Desks.{IsDesk, IsIdle, HasRead};
 ghost use Rattle.pool_scope.specs.Gathering.{IsWorked};
 
 use crate::desk::Desk;
@@ -33,6 +33,7 @@ pub trait Reading {
         requires can { can_read self.old }
         ensures desk { IsDesk context.now board.now desk.new }
         ensures parts { desk.new.seat.view.parts ≡ desk.old.seat.view.parts }
+        ensures idle { IsIdle desk.old desk.new }
         ensures reads { reads self.old self.new };
 }
 
@@ -67,7 +68,7 @@ pub fn run_beside<R: Threads + Wait + Sync, G: Gate, T: Reading + Drop>(
     requires first { (seat.view.feeder ≡ true) × (seat.view.running ≡ []) × (seat.view.published ≡ []) }
     requires parts { length hands.items < seat.view.parts }
     requires can { T.can_read reading }
-    ensures read { IfOk result (λ j. HasRead context.now cells.now board.now seat.view.parts j.seat j.kept.items j.rows.items) }
+    ensures read { IfOk result (λ j. HasRead context.now cells.now board.now seat.view j.seat j.kept.items j.rows.items) }
     ensures made { IfOk result (λ j. T.reads reading j.reader) }
     ensures back { IfErr result (λ r. T.reads reading r ⊎ (r ≡ reading)) }
 {
@@ -82,7 +83,7 @@ pub fn run_beside<R: Threads + Wait + Sync, G: Gate, T: Reading + Drop>(
             requires first { (seat.view.feeder ≡ true) × (seat.view.running ≡ []) × (seat.view.published ≡ []) }
             requires parts { (length hands.items < seat.view.parts) × (seat.view.parts < 2 ^ 64) }
             requires can { T.can_read reading }
-            ensures read { IfOk result (λ j. HasRead context.entry.now cells.entry.now board.entry.now seat.view.parts j.seat j.kept.items j.rows.items) }
+            ensures read { IfOk result (λ j. HasRead context.entry.now cells.entry.now board.entry.now seat.view j.seat j.kept.items j.rows.items) }
             ensures made { IfOk result (λ j. T.reads reading j.reader) }
             ensures back { IfErr result (λ r. T.reads reading r ⊎ (r ≡ reading)) }
         {

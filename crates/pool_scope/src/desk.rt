@@ -3,7 +3,7 @@ ghost use Rattle.std.specs.Prelude.{◌≡◌, ◌↔◌, ◌⊎◌, ◌<◌, �
 ghost use Rattle.std.specs.Arc.{arc_value};
 ghost use Rattle.cancel_drain.specs.Plays.{IsFresh};
 ghost use Rattle.cancel_drain.specs.Views.{looks};
-ghost use Rattle.pool_scope.specs.Desks.{IsDesk, IsNext, Hands, IsAsBefore};
+ghost use Rattle.pool_scope.specs.Desks.{IsDesk, IsIdle, IsNext, Hands, IsAsBefore};
 
 use crate::settling::keep;
 use batch_pool::{Feeder, Ticket, fits};
@@ -61,6 +61,7 @@ impl Desk {
         requires desk { IsDesk context.now board.now self.old }
         ensures desk { IsDesk context.now board.now self.new }
         ensures parts { self.new.seat.view.parts ≡ self.old.seat.view.parts }
+        ensures idle { IsIdle self.old self.new }
         ensures handed { OnOk result ((IsNext context.now board.now.functions self.old (arc_value batch.now) × Hands self.old (arc_value batch.now) self.new)
             ⊎ ((¬ IsNext context.now board.now.functions self.old (arc_value batch.now)) × IsAsBefore self.old self.new)) }
         ensures err { OnErr result (IsAsBefore self.old self.new) }
@@ -89,6 +90,7 @@ impl Desk {
         requires desk { IsDesk context.now board.now self.old }
         ensures desk { IsDesk context.now board.now self.new }
         ensures parts { self.new.seat.view.parts ≡ self.old.seat.view.parts }
+        ensures idle { IsIdle self.old self.new }
         ensures seen { IsTrue result ↔ (self.new.seat.view.seen < 2 ^ 64 - 1) }
         ensures looked { self.new ≡ record self.old { seat = record self.old.seat { view = looks self.old.seat.view self.new.seat.view.seen } } }
         ensures fresh { IsFresh self.old.seat.view self.new.seat.view.seen }

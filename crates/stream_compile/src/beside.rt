@@ -114,7 +114,7 @@ fn read_in_scope<R: Threads + Wait + Sync, S: Source, G: Gate>(
     requires first { (seat.view.feeder ≡ true) × (seat.view.running ≡ []) × (seat.view.published ≡ []) }
     requires parts { length hands.items < seat.view.parts }
     requires arrives { (first : Option (List ℕ)) × (before : ℕ) × (s : Given) × IsArriving first before (S.left source.old) (S.faults source.old) (S.is_open source.old) (keeping s intake) intake.chunk }
-    ensures read { IfSome result (λ j. HasRead context.now cells.now board.now seat.view.parts j.seat j.tickets.items j.rows.items) }
+    ensures read { IfSome result (λ j. HasRead context.now cells.now board.now seat.view j.seat j.tickets.items j.rows.items) }
     ensures keeps { IfSome result (λ j. (first : Option (List ℕ)) (before : ℕ) (s : Given) → IsArriving first before (S.left source.old) (S.faults source.old) (S.is_open source.old) (keeping s intake) intake.chunk
         → Keeps j.read first before (S.left source.new) (S.faults source.new) (S.is_open source.new) s j.intake) }
     ensures front { TookFront (S.left source.old) (S.faults source.old) (S.left source.new) (S.faults source.new) }

@@ -2,7 +2,7 @@
 
 ghost use Rattle.std.specs.Prelude.{◌≡◌, ◌<◌, ◌++◌, ℕ, Bool, [], List, Option, None, OnOk};
 ghost use Rattle.io_edges.specs.Streams.{TookFront};
-ghost use Rattle.pool_scope.specs.Desks.{IsDesk};
+ghost use Rattle.pool_scope.specs.Desks.{IsDesk, IsIdle};
 ghost use Rattle.stream_compile.specs.declared.compilation.Compilation.{Compilation};
 ghost use Rattle.stream_compile.specs.Arriving.{IsArriving};
 ghost use Rattle.stream_compile.specs.Kept.{kept_bodies};
@@ -55,6 +55,7 @@ fn hand_over(
     requires desk { IsDesk context.now board.now desk.old }
     ensures desk { IsDesk context.now board.now desk.new }
     ensures parts { desk.new.seat.view.parts ≡ desk.old.seat.view.parts }
+    ensures idle { IsIdle desk.old desk.new }
     ensures chunk { intake.new.chunk ≡ intake.old.chunk }
     ensures place { intake.new.cutter.place ≡ intake.old.cutter.place }
     ensures closed { OnOk result (intake.new.cutter.queue.closed ≡ []) }
@@ -80,6 +81,7 @@ fn take_piece(
     requires desk { IsDesk context.now board.now desk.old }
     ensures desk { IsDesk context.now board.now desk.new }
     ensures parts { desk.new.seat.view.parts ≡ desk.old.seat.view.parts }
+    ensures idle { IsIdle desk.old desk.new }
     ensures all { OnOk result (intake.new.cutter.place.at < intake.new.cutter.place.end → intake.new.chunk.pending ≡ []) }
     ensures going { OnOk result (intake.new.cutter.place.stop ≡ None) }
     ensures chunk { (intake.new.chunk.count ≡ intake.old.chunk.count) × (intake.new.chunk.came ≡ intake.old.chunk.came) }
@@ -118,6 +120,7 @@ pub fn read_bodies<S: Source>(
     requires arrives { (first : Option (List ℕ)) × (before : ℕ) × (s : Compilation) × IsArriving first before (S.left source.old) (S.faults source.old) (S.is_open source.old) (keeping s intake.old) intake.old.chunk }
     ensures desk { IsDesk context.now board.now desk.new }
     ensures parts { desk.new.seat.view.parts ≡ desk.old.seat.view.parts }
+    ensures idle { IsIdle desk.old desk.new }
     ensures keeps { (first : Option (List ℕ)) (before : ℕ) (s : Compilation) → IsArriving first before (S.left source.old) (S.faults source.old) (S.is_open source.old) (keeping s intake.old) intake.old.chunk
         → Keeps result first before (S.left source.new) (S.faults source.new) (S.is_open source.new) s intake.new }
     ensures front { TookFront (S.left source.old) (S.faults source.old) (S.left source.new) (S.faults source.new) }

@@ -1,6 +1,6 @@
 //! Workers in threads, and the caller that hands batches over and settles.
 ghost use Rattle.std.specs.Prelude.{◌≡◌, ⊤, length, IfOk};
-ghost use Rattle.pool_scope.specs.Desks.{IsDesk};
+ghost use Rattle.pool_scope.specs.Desks.{IsDesk, IsIdle};
 
 use batch_pool::{Pool, Row};
 use body_cutter::{Batch, Bodies, Body, BodyBytes};
@@ -68,6 +68,7 @@ fn hand_all(
     requires desk { IsDesk context.now board.now desk.old }
     ensures desk { IsDesk context.now board.now desk.new }
     ensures parts { desk.new.seat.view.parts ≡ desk.old.seat.view.parts }
+    ensures idle { IsIdle desk.old desk.new }
 {
     for number in 0..BATCHES {
         let batch = Arc::new(alloc, batch(alloc, number)?)?;

@@ -11,6 +11,7 @@ loop-batch-preserved c =
     record {
       desk = c.hand_over.ensures.desk;
       parts = c.hand_over.ensures.parts ∙ l.invariant.parts;
+      idle = record { done = c.hand_over.ensures.idle.done ∙ l.invariant.idle.done; reported = c.hand_over.ensures.idle.reported ∙ l.invariant.idle.reported };
       chunk = l.invariant.chunk;
       place = ap (λ (k : Cutting). k.place) is ∙ l.invariant.place;
       begun = ap (λ (k : Cutting). k.queue.begun) is ∙ l.invariant.begun;

@@ -1,5 +1,5 @@
 use Rattle.std.proofs.Common.{◌≡◌, ◌++◌, length}
-use Rattle.pool_scope.specs.Desks.{IsDesk}
+use Rattle.pool_scope.specs.Desks.{IsDesk, IsIdle}
 use Rattle.stream_compile.specs.Kept.{kept_bodies}
 use Rattle.stream_compile.proofs.intake.hand_over.Given as goal
 
@@ -7,6 +7,7 @@ abbrev pub invariant-loop-batch : goal.invariant-loop-batch
 invariant-loop-batch l = record {
   desk : IsDesk l.context l.board l.desk;
   parts : l.desk.seat.view.parts ≡ l.initial.desk.seat.view.parts;
+  idle : IsIdle l.initial.desk l.desk;
   chunk : l.intake.chunk ≡ l.initial.intake.chunk;
   place : l.intake.cutter.place ≡ l.initial.intake.cutter.place;
   begun : l.intake.cutter.queue.begun ≡ l.initial.intake.cutter.queue.begun;

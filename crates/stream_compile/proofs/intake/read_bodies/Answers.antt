@@ -42,6 +42,10 @@ loop-stop-preserved g c =
     record {
       desk = c.sees_fault.ensures.desk;
       parts = c.sees_fault.ensures.parts ∙ c.in-Ok.ensures.parts ∙ l.invariant.parts;
+      idle = record {
+        done = c.sees_fault.ensures.idle.done ∙ c.in-Ok.ensures.idle.done ∙ l.invariant.idle.done;
+        reported = c.sees_fault.ensures.idle.reported ∙ c.in-Ok.ensures.idle.reported ∙ l.invariant.idle.reported;
+      };
       front = took_more (g.S.Source.left c.args.source.now) (g.S.Source.left l.source) (g.S.Source.left c.read-came.new.source) (g.S.Source.faults c.args.source.now) (g.S.Source.faults l.source) (g.S.Source.faults c.read-came.new.source) l.invariant.front c.read-came.ensures.front;
       few = c.read-came.ensures.few;
       arrives = λ first before s a.

@@ -1,6 +1,6 @@
 use Rattle.std.proofs.Common.{◌≡◌, ◌≤◌, ◌-◌, ℕ, List, Option}
 use Rattle.io_edges.specs.Streams.{TookFront}
-use Rattle.pool_scope.specs.Desks.{IsDesk}
+use Rattle.pool_scope.specs.Desks.{IsDesk, IsIdle}
 use Rattle.stream_compile.specs.declared.compilation.Compilation.{Compilation}
 use Rattle.stream_compile.specs.Arriving.{IsArriving}
 use Rattle.stream_compile.specs.Keeping.{keeping}
@@ -10,6 +10,7 @@ abbrev pub invariant-loop-stop : goal.invariant-loop-stop
 invariant-loop-stop g l = record {
   desk : IsDesk l.context l.board l.desk;
   parts : l.desk.seat.view.parts ≡ l.initial.desk.seat.view.parts;
+  idle : IsIdle l.initial.desk l.desk;
   front : TookFront (g.S.Source.left l.initial.source) (g.S.Source.faults l.initial.source) (g.S.Source.left l.source) (g.S.Source.faults l.source);
   few : l.intake.chunk.count ≤ 67108869;
   arrives : (first : Option (List ℕ)) (before : ℕ) (s : Compilation) → IsArriving first before (g.S.Source.left l.initial.source) (g.S.Source.faults l.initial.source) (g.S.Source.is_open l.initial.source) (keeping s l.initial.intake) l.initial.intake.chunk
