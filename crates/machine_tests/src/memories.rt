@@ -1,4 +1,5 @@
 //! Pseudo-random loads and stores at the edges of pages, of what is stored, and of the memory.
+use crate::random::next;
 use rv64im_machine::{LinearMemory, Machine, Region, Regions, Stepped};
 use std::alloc::{AllocError, Global};
 use std::test::Fail;
@@ -34,16 +35,6 @@ fn machine_of(alloc: Global, stored: usize) -> Result<Machine, AllocError> {
         memory: LinearMemory::reserved(bytes, SIZE),
     };
     Machine::new(alloc, &WORDS, regions)
-}
-
-/// The next pseudo-random number (xorshift).
-fn next(seed: &mut u64) -> u64 {
-    let mut x = *seed;
-    x ^= x << 13;
-    x ^= x >> 7;
-    x ^= x << 17;
-    *seed = x;
-    x
 }
 
 /// An address in the memory or less than eight bytes outside: mostly near the edge of a page.
