@@ -7,8 +7,6 @@ mod arguments;
 mod laws;
 mod run_end;
 mod running;
-#[cfg(test)]
-mod tests;
 mod vectors;
 mod wasi_host;
 mod write_call;
