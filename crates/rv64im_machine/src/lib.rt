@@ -1,4 +1,9 @@
-//! A machine that runs words of RV64IM, step by step, as the step table of `rv_isa` says.
+//! An interpreter of RV64IM (The RISC-V Instruction Set Manual, Volume I: Unprivileged ISA, 20191213).
+//!
+//! A [`Machine`] has registers, an address of the next instruction word, a text of such words and four regions of bytes. A step
+//! does what the step table of `rv_isa` says of one word, and a run makes many steps. Words are decoded once, into a
+//! direct-mapped cache of fixed size, and sequences of words that the compiler's templates make are fused: a run makes their
+//! steps at once, as far as no one of them faults, and what it does is what the single steps do.
 #![tactic(auto)]
 
 mod arithmetic;
