@@ -4,7 +4,7 @@ use crate::outcome::Outcome;
 /// What comes of a call of the environment.
 #[derive(Clone, Copy, Debug, PartialEq, Eq)]
 pub(crate) enum Answer {
-    /// The machine goes on behind the call.
+    /// The machine goes on after the call.
     GoesOn,
     /// The function has ended that was called from outside.
     Ended,

@@ -19,7 +19,7 @@ pub enum NotRunnable {
     NoSuchExport,
     /// The arguments aren't as many as the function's parameters, or differ in type.
     WrongArguments,
-    /// Some segment of the module has no place (WebAssembly Core 1.0, 4.5.4).
+    /// Some segment of the module doesn't fit (WebAssembly Core 1.0, 4.5.4).
     Unlinkable,
 }
 

@@ -39,7 +39,7 @@ fn grow(machine: &mut Machine, pages: &mut u32, cap: u32, more: u64)
     }
 }
 
-/// Does the call of the environment behind whose ECALL the machine stands.
+/// Does the call of the environment after whose ECALL the machine is.
 pub(crate) fn answer<H: Host>(
     machine: &mut Machine,
     pages: &mut u32,

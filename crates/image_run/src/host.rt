@@ -32,7 +32,7 @@ pub trait Host {
     /// Whether it may be called. Calls leave it so.
     ghost is_ready: { Self → Bool };
 
-    /// Whether a call may lead from one host to another with that reply. A host that tells nothing of its calls lets all of them.
+    /// Whether a call may lead from one host to another with that reply. A host that says nothing of its calls lets all of them.
     ghost answers: { Self → HostCall → Replied → Self → Type 0 };
 
     /// Calls the import of that number, counted from 0 in the order of the image, with these arguments. The memory is as large as it

@@ -26,7 +26,7 @@ use wasm_defs::{FuncType, ValType, Value};
 /// The most bytes of a patch.
 const MOST_PATCHED: u8 = 8;
 
-/// The first of the slots from an address on, by its place in the stack: none where they don't all lie in it. There is one for each
+/// The first of the slots from an address on, by its index in the stack: none where they don't all lie in it. There is one for each
 /// parameter, and one for the result.
 fn slots_at(address: u64, params: usize) -> Option<usize>
     requires { params ≤ PARAMS }
@@ -40,7 +40,7 @@ fn slots_at(address: u64, params: usize) -> Option<usize>
     }
 }
 
-/// Reads the values of these types that stand in the slots from a place of the stack on.
+/// Reads the values of these types that stand in the slots from an index of the stack on.
 fn read_arguments(stack: &[u8], at: usize, types: &[ValType], room: &mut [Value])
     requires stack { at + 8 * length types.now ≤ length stack.now }
     requires room { length types.now ≤ length room.old }
@@ -70,7 +70,7 @@ fn fits(patch: &Patch, size: usize) -> bool
     patch.len <= MOST_PATCHED && patch.place as usize + usize::from(patch.len) <= size
 }
 
-/// Writes a patch, if there is one, to the memory of that size, and says whether it has its place there.
+/// Writes a patch, if there is one, to the memory of that size, and says whether it fits there.
 fn write_patch(machine: &mut Machine, size: usize, patch: Option<Patch>) -> bool
     requires memory { size ≤ length machine.old.bytes.memory }
     requires backed { size ≤ machine.old.backed }
@@ -88,7 +88,7 @@ fn write_patch(machine: &mut Machine, size: usize, patch: Option<Patch>) -> bool
     true
 }
 
-/// Writes a result, if there is one, to the slot at a place of the stack.
+/// Writes a result, if there is one, to the slot at an index of the stack.
 fn write_result(machine: &mut Machine, at: usize, value: Option<Value>)
     requires { at + 8 ≤ length machine.old.bytes.stack }
     ensures kept { Keeps machine.old machine.new }
@@ -99,7 +99,7 @@ fn write_result(machine: &mut Machine, at: usize, value: Option<Value>)
     }
 }
 
-/// Writes what a reply says to the memory of that size and to the slot at a place of the stack, unless it is taken as a stop. Says
+/// Writes what a reply says to the memory of that size and to the slot at an index of the stack, unless it is taken as a stop. Says
 /// whether it is not.
 fn take_reply(
     machine: &mut Machine,
@@ -128,7 +128,7 @@ fn take_reply(
     true
 }
 
-/// Calls the host for the import of that number and type, whose arguments stand from a place of the stack on, and takes its reply.
+/// Calls the host for the import of that number and type, whose arguments stand from an index of the stack on, and takes its reply.
 /// Says whether the run goes on.
 fn call_host<H: Host>(
     machine: &mut Machine,
@@ -172,7 +172,7 @@ fn import_at(image: &Image, number: u64) -> Option<&Import>
     image.imports.as_slice().get(number as usize)
 }
 
-/// Does the call of an import that the machine asks for. It stands behind the ECALL.
+/// Does the call of an import that the machine asks for. It is after the ECALL.
 pub(crate) fn call_import<H: Host>(
     machine: &mut Machine,
     pages: u32,

@@ -83,7 +83,7 @@ impl<'a> Instance<'a> {
         &self.machine.bytes(Region::Memory)[..size]
     }
 
-    /// A result of the run that returned, by its place in order. The condition is that there are more.
+    /// A result of the run that returned, by its index. The condition is that there are more.
     pub fn result(&self, index: u32) -> Value
         requires { index < length self.now.results }
         ensures { slice_get self.now.results index ≡ Some (value_of result) }

@@ -21,7 +21,7 @@ pub(crate) const STACK_SIZE: usize = 1_048_576;
 /// Bytes of a page of memory (WebAssembly Core 1.0, 4.2.8).
 pub(crate) const PAGE: u64 = 65_536;
 
-/// The place that a function returns to.
+/// The address that a function returns to.
 pub(crate) const RA: u8 = 1;
 
 /// The stack; at a call of an import, its arguments.

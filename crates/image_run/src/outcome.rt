@@ -7,12 +7,12 @@ use wasm_defs::{Place, TrapKind};
 pub enum Outcome {
     /// The function returned, with so many results.
     Returned(u32),
-    /// It trapped (WebAssembly Core 1.0, 4.4), at this place of the module, where the image tells it.
+    /// It trapped (WebAssembly Core 1.0, 4.4), at this point of the module, where the image says it.
     Trapped(TrapKind, Option<Place>),
     /// All steps were made, and it hadn't ended.
     StepsSpent,
     /// The host's reply to a call was `Stop`, or was taken so.
     HostStopped,
-    /// The machine has no step at this place, or the environment was called there in a way that it doesn't know.
+    /// The machine has no step at this address, or the environment was called there in a way that it doesn't know.
     Fault(FaultKind, u64),
 }

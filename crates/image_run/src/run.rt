@@ -73,7 +73,7 @@ fn run_machine(machine: &mut Machine, pages: u32, steps: u64) -> Ran
     ran
 }
 
-/// Runs the function at which the machine of an image stands, for at most so many steps. Where it ends, `left` is how many steps are
+/// Runs the function at which the machine of an image is, for at most so many steps. Where it ends, `left` is how many steps are
 /// left; else the result is how the run ends.
 pub(crate) fn run_function<H: Host>(
     machine: &mut Machine,

@@ -31,7 +31,7 @@ pub(crate) fn value_in(ty: ValType, word: u64) -> Value
     }
 }
 
-/// The word in the eight bytes from a place on.
+/// The word in the eight bytes from an index on.
 pub(crate) fn word_in(bytes: &[u8], at: usize) -> u64
     requires { at + 8 ≤ length bytes.now }
     ensures { result ≡ value_at 8 at bytes.now }
@@ -76,7 +76,7 @@ pub(crate) fn write_memory(machine: &mut Machine, at: usize, bytes: &[u8])
     all[at..at + bytes.len()].copy_from_slice(bytes);
 }
 
-/// Writes the word that holds a value over the eight bytes of the stack from a place on.
+/// Writes the word that holds a value over the eight bytes of the stack from an index on.
 pub(crate) fn write_value(machine: &mut Machine, at: usize, value: Value)
     requires { at + 8 ≤ length machine.old.bytes.stack }
     ensures kept { Keeps machine.old machine.new }

@@ -13,11 +13,11 @@ use rv_isa::{LoadOp, StoreOp};
 use std::alloc::{AllocError, Global};
 use std::marker::Model;
 
-/// What is stored at once where a store lies behind the bytes that are stored: the rest of its page.
+/// What is stored at once where a store is after the bytes that are stored: the rest of its page.
 const PAGE: usize = 0x1_0000;
 
 /// A linear memory: `size` bytes, of which the first are stored, and the others are zeros that take no memory yet. Room for all
-/// of them is reserved when it is made, so storing more of them never allocates. Contracts see all its bytes, and beside them how
+/// of them is reserved when it is made, so storing more of them never allocates. Contracts see all its bytes, and also how
 /// many are backed: those that are stored.
 #[derive(Drop)]
 pub struct LinearMemory {
@@ -47,7 +47,7 @@ impl LinearMemory {
         })
     }
 
-    /// A memory of that size whose first bytes are these, which are stored, and zeros behind them. The condition is that there is room for
+    /// A memory of that size whose first bytes are these, which are stored, and zeros after them. The condition is that there is room for
     /// all of them.
     pub fn reserved(bytes: Vec<u8>, size: usize) -> Self
         requires within { length bytes.items ≤ size }
@@ -60,7 +60,7 @@ impl LinearMemory {
         }
     }
 
-    /// The bytes that are stored. Those behind them are zeros.
+    /// The bytes that are stored. Those after them are zeros.
     pub fn backed(&self) -> &[u8]
         ensures { IsBacked result.now self.now }
     {
@@ -134,7 +134,7 @@ impl LinearMemory {
         }
     }
 
-    /// Stores a value whose bytes aren't all stored yet, and zeros in front of it and to the end of its page.
+    /// Stores a value whose bytes aren't all stored yet, and zeros before it and to the end of its page.
     #[cold]
     #[inline(never)]
     fn store_behind(&mut self, op: StoreOp, at: usize, value: u64) -> bool

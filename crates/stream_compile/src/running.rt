@@ -38,7 +38,7 @@ fn values_of(alloc: Global, arguments: &[Argument]) -> Result<Vec<Value>, AllocE
 }
 
 /// Calls the function of an image that the words name, and writes what its calls write and how it ended, or why there can be no
-/// call. For a drill, which has so many functions, the line of a value tells them. The result is the status.
+/// call. For a drill, which has so many functions, the line of a value says them. The result is the status.
 ///
 /// All memory is taken before anything is written.
 pub fn run_image<O: Sink>(

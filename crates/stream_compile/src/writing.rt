@@ -178,7 +178,7 @@ fn fault_name(kind: FaultKind) -> &'static str
     }
 }
 
-/// Writes a name and a place.
+/// Writes a name and an address.
 fn write_place<O: Sink>(out: &mut O, name: &[u8], pc: u64) -> bool
     requires { O.is_open out.old ≡ true }
     ensures text { WritesText result (name.now ++ codes " at " ++ decimal pc ++ codes "\n") (O.written out.old) (O.written out.new) (O.faults out.old) (O.faults out.new) }
@@ -192,7 +192,7 @@ fn write_place<O: Sink>(out: &mut O, name: &[u8], pc: u64) -> bool
     }
 }
 
-/// Writes that the machine has no step at a place.
+/// Writes that the machine has no step at an address.
 fn write_fault<O: Sink>(out: &mut O, kind: FaultKind, pc: u64) -> bool
     requires { O.is_open out.old ≡ true }
     ensures text { WritesText result (machine_fault kind pc).text (O.written out.old) (O.written out.new) (O.faults out.old) (O.faults out.new) }
@@ -219,7 +219,7 @@ fn write_told<O: Sink>(out: &mut O, function: u32, offset: u64) -> bool
     }
 }
 
-/// Writes where a run trapped, if it is told, and a newline.
+/// Writes where a run trapped, if it is known, and a newline.
 fn write_trap_place<O: Sink>(out: &mut O, place: Option<Place>) -> bool
     requires { O.is_open out.old ≡ true }
     ensures text { WritesText result (trap_place place) (O.written out.old) (O.written out.new) (O.faults out.old) (O.faults out.new) }

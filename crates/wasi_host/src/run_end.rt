@@ -7,7 +7,7 @@ use wasm_defs::{Place, TrapKind};
 pub enum RunEnd {
     /// The function returned, with so many results.
     Returned(u32),
-    /// It trapped (WebAssembly Core 1.0, 4.4), at this place of the module, where the image tells it.
+    /// It trapped (WebAssembly Core 1.0, 4.4), at this point of the module, where the image says it.
     Trapped(TrapKind, Option<Place>),
     /// All steps were made, and it hadn't ended.
     StepsSpent,
