@@ -44,7 +44,7 @@ length_of_patch p = omega (arith, length-take p.len (p.bytes ++ replicate p.len 
 bytes_of_patch : (p : Patch) → length p.bytes ≡ 8 → p.len ≤ 8 → (patch_of p).bytes ≡ take p.len p.bytes
 bytes_of_patch p is few = take-append-le p.len p.bytes (replicate p.len 0) (omega arith)
 
--- a patch that has its place
+-- a patch that lies in the memory
 pub patch_goes : (p : Patch) (size : ℕ) (old new : Machine) → size ≤ length old.bytes.memory → length p.bytes ≡ 8 → (nat_le p.len most_patched && nat_le (p.place + p.len) size) ≡ true
     → All (λ b. b < 256) (take p.len p.bytes) → new ≡ with_bytes old Memory (put p.len p.place (region old.bytes Memory) (take p.len p.bytes)) → Patches true (patched (take size old.bytes.memory) (option_map patch_of (Some p))) old new
 patch_goes p size old new fits whole ok bytes e =

@@ -20,12 +20,12 @@ use Rattle.image_run.specs.States.{at}
 
 -- ---- replies
 
--- the machine behind a reply: its values in the slots from a place on, and the memory's front as it is then
+-- the machine after a reply: its values in the slots from an index on, and the memory's first bytes as they are then
 abbrev pub replied : Machine → (at : ℕ) → List Value → (memory : List ℕ) → Machine
 replied m at values memory =
     record m { bytes = record m.bytes { stack = with_results m.bytes.stack at values; memory = memory ++ drop (length memory) m.bytes.memory } }
 
--- a patch is written to the machine's memory, whose front is as it is then, or it has no place there
+-- a patch is written to the machine's memory, whose first bytes are as they are then, or it doesn't lie in it
 abbrev pub Patches : Bool → Option (List ℕ) → Machine → Machine → Type 0
 Patches true (Some memory) old new = new ≡ with_bytes old Memory (memory ++ drop (length memory) old.bytes.memory)
 Patches true None old new = ⊥
