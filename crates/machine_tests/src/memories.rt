@@ -33,6 +33,7 @@ fn machine_of(alloc: Global, stored: usize) -> Result<Machine, AllocError> {
         globals: Vec::new(alloc),
         table: Vec::new(alloc),
         memory: LinearMemory::reserved(bytes, SIZE),
+        passive: Vec::new(alloc),
     };
     Machine::new(alloc, &WORDS, regions)
 }

@@ -36,6 +36,7 @@ fn machine_of(alloc: Global, text: &[u32]) -> Result<Machine, AllocError>
         globals,
         table,
         memory: LinearMemory::reserved(memory, MEMORY_SIZE),
+        passive: Vec::new(alloc),
     };
     Machine::new(alloc, text, regions)
 }
@@ -138,8 +139,8 @@ fn sequences_are_their_steps(rt: HostRuntime) -> Result<(), Fail> {
         let mut fused = machine_of(rt.alloc(), &text.words)?;
         let mut single = machine_of(rt.alloc(), &text.words)?;
         for turn in 0..40 {
-            // so that a sequence is cut after each of its steps
-            let steps = (round * 40 + turn) % 97;
+            // so that a sequence is cut after each of its steps: the last 128 steps are made one by one
+            let steps = (round * 40 + turn) % 293;
             let alike = end_alike(
                 &mut fused,
                 &mut single,
@@ -164,7 +165,7 @@ fn words_that_share_an_entry_are_told_apart(rt: HostRuntime) -> Result<(), Fail>
     let mut single = machine_of(rt.alloc(), &words)?;
     for turn in 0..400 {
         let word = below(&mut seed, 256) + turn % 2 * 0x1_0000;
-        let alike = end_alike(&mut fused, &mut single, next(&mut seed), word, 60);
+        let alike = end_alike(&mut fused, &mut single, next(&mut seed), word, 200);
         assert!(rt; alike);
     }
     Ok(())

@@ -57,7 +57,19 @@ const LOADS: [(u32, u64); 7] = [
 const STORES: [(u32, u64); 4] = [(0x23, 1), (0x1023, 2), (0x2023, 4), (0x3023, 8)];
 
 /// How many kinds of templates there are.
-const KINDS: u64 = 32;
+const KINDS: u64 = 35;
+
+/// LBU and SB.
+const LBU: u32 = 0x4003;
+
+const SB: u32 = 0x23;
+
+/// Jumps back by 3, 5 and 6 words.
+const BACK_3: u32 = 0xFF5F_F06F;
+
+const BACK_5: u32 = 0xFEDF_F06F;
+
+const BACK_6: u32 = 0xFE9F_F06F;
 
 /// An offset of a slot: mostly one of the first eight.
 fn slot(seed: &mut u64) -> u64
@@ -229,6 +241,51 @@ fn clear(text: &mut Text) {
     text.push(0xFE62_9CE3);
 }
 
+/// A byte is stored at each of some addresses, which are in the memory or near its end.
+fn fill(text: &mut Text) {
+    text.reg(ADD, T2, T2, T0);
+    text.branch(BEQ, T0, T2, 4);
+    text.store(SB, T0, T1, 0);
+    text.imm(ADDI, T0, T0, 1);
+    text.push(BACK_3);
+}
+
+/// Bytes are copied upward. The branch out of the loop is by the words of one of the templates, or by others.
+fn copy_up(text: &mut Text, seed: &mut u64) {
+    text.reg(ADD, T2, T2, T0);
+    text.branch(BEQ, T0, T2, below(seed, 2) * 9 + 6 + below(seed, 8) / 7);
+    text.imm(LBU, T3, T1, 0);
+    text.store(SB, T0, T3, 0);
+    text.imm(ADDI, T0, T0, 1);
+    text.imm(ADDI, T1, T1, 1);
+    text.push(BACK_5);
+}
+
+/// Bytes are copied downward.
+fn copy_down(text: &mut Text) {
+    text.branch(BEQ, T2, X0, 7);
+    text.imm(ADDI, T0, T0, 0xFFF);
+    text.imm(ADDI, T1, T1, 0xFFF);
+    text.imm(LBU, T3, T1, 0);
+    text.store(SB, T0, T3, 0);
+    text.imm(ADDI, T2, T2, 0xFFF);
+    text.push(BACK_6);
+}
+
+/// A loop that stores one byte a turn.
+fn loop_template(text: &mut Text, seed: &mut u64, kind: u64) {
+    text.number(T0, below(seed, 76));
+    text.reg(ADD, T0, T0, S1);
+    text.number(T1, below(seed, 76));
+    text.reg(ADD, T1, T1, S1);
+    text.number(T2, below(seed, 48));
+    match kind {
+        0 => fill(text),
+        1 => copy_up(text, seed),
+        _ => copy_down(text),
+    }
+}
+
 /// s0 moves by a number of bytes.
 fn frame(text: &mut Text, seed: &mut u64, op: u32) {
     text.number(T0, below(seed, 12) * 8);
@@ -350,7 +407,8 @@ fn template(text: &mut Text, seed: &mut u64) {
     match kind {
         0..=18 => value_template(text, seed, kind),
         19..=24 => branch_template(text, seed, kind - 19),
-        _ => call_template(text, seed, kind - 25),
+        25..=31 => call_template(text, seed, kind - 25),
+        _ => loop_template(text, seed, kind - 32),
     }
 }
 

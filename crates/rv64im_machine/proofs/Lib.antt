@@ -7,5 +7,5 @@ pub mod ConstantLaws
 pub mod CacheLaws
 pub mod TransitionLaws
 pub mod TurnLaws
-mod LinearLaws
+pub mod LoopLaws
 pub mod ControlLaws

@@ -3,8 +3,8 @@ pub mod Flows
 pub mod Instructions
 pub mod Outcomes
 pub mod Lending
-pub mod Linear
-pub mod LinearLending
+pub use Rattle.linear_memory.specs.Linear
+pub use Rattle.linear_memory.specs.LinearLending
 pub mod Sequences
 pub mod FusedWords
 pub mod Caching

@@ -1,24 +1,24 @@
 //! An interpreter of RV64IM (The RISC-V Instruction Set Manual, Volume I: Unprivileged ISA, 20191213).
 //!
-//! A [`Machine`] has registers, an address of the next instruction word, a text of such words and four regions of bytes. A step
+//! A [`Machine`] has registers, an address of the next instruction word, a text of such words and five regions of bytes. A step
 //! does what the step table of `rv_isa` says of one word, and a run makes many steps. Words are decoded once, into a
 //! direct-mapped cache of fixed size, and sequences of words that the compiler's templates make are fused: a run makes their
 //! steps at once, as far as no one of them faults, and what it does is what the single steps do.
 #![tactic(auto)]
 
 mod arithmetic;
-mod bytes;
 mod cache;
 mod control;
 mod dispatch;
 mod execution;
 mod finding;
 mod finding_control;
+mod finding_loops;
 mod finding_values;
 mod fused;
 mod immediate;
 mod instruction;
-mod linear_memory;
+mod loops;
 mod machine;
 mod matching;
 mod matching_more;

@@ -9,7 +9,7 @@ use Rattle.rv_isa.specs.declared.operations.RegOpW.TheVariants.{Addw}
 use Rattle.rv_isa.specs.declared.operations.Op.{Op}
 use Rattle.rv_isa.specs.declared.operations.Op.TheVariants.{Lui, Auipc, Jal, Jalr, Branch, Load, Store, Imm, Shift, Addiw, ShiftW, Reg, RegW, Fence, Ecall, Ebreak}
 use Rattle.rv_isa.specs.declared.stepping.Region.{Region}
-use Rattle.rv_isa.specs.declared.stepping.Region.TheVariants.{Stack, Globals, Table, Memory}
+use Rattle.rv_isa.specs.declared.stepping.Region.TheVariants.{Stack, Globals, Table, Memory, Passive}
 use Rattle.rv_isa.specs.Words.{IsInRange}
 use Rattle.rv_isa.specs.Values.{plus, i_value, u_value, b_value, j_value, register_form, shift_form, shift_form_w, is_taken, load_width, store_width}
 use Rattle.rv_isa.specs.Steps.{Registers, reg, set_reg, Bytes, State, Stepped, Next, Call, Fault, gives, jump, branch, load, put, le_bytes, region, with_region, value_at, loaded, stored, store, act, code_of, text_base, fetched, at_word, step, Ran, go_on, exec}
@@ -33,18 +33,27 @@ with_region_bytes b Stack new h small Stack = small
 with_region_bytes b Stack new h small Globals = h Globals
 with_region_bytes b Stack new h small Table = h Table
 with_region_bytes b Stack new h small Memory = h Memory
+with_region_bytes b Stack new h small Passive = h Passive
 with_region_bytes b Globals new h small Stack = h Stack
 with_region_bytes b Globals new h small Globals = small
 with_region_bytes b Globals new h small Table = h Table
 with_region_bytes b Globals new h small Memory = h Memory
+with_region_bytes b Globals new h small Passive = h Passive
 with_region_bytes b Table new h small Stack = h Stack
 with_region_bytes b Table new h small Globals = h Globals
 with_region_bytes b Table new h small Table = small
 with_region_bytes b Table new h small Memory = h Memory
+with_region_bytes b Table new h small Passive = h Passive
 with_region_bytes b Memory new h small Stack = h Stack
 with_region_bytes b Memory new h small Globals = h Globals
 with_region_bytes b Memory new h small Table = h Table
 with_region_bytes b Memory new h small Memory = small
+with_region_bytes b Memory new h small Passive = h Passive
+with_region_bytes b Passive new h small Stack = h Stack
+with_region_bytes b Passive new h small Globals = h Globals
+with_region_bytes b Passive new h small Table = h Table
+with_region_bytes b Passive new h small Memory = h Memory
+with_region_bytes b Passive new h small Passive = small
 
 loaded_small : (b : Bytes) (op : LoadOp) (address value : ℕ) → ((r : Region) → AreBytes (region b r)) → loaded b op address ≡ Some value → value < 2 ^ 64
 loaded_small b op address value h e =

@@ -11,6 +11,8 @@ pub enum Region {
     Table,
     /// From address 0x5000_0000 on.
     Memory,
+    /// From address 0x7000_0000 on. Stores don't reach it.
+    Passive,
 }
 
 /// Why there is no step.
@@ -26,7 +28,7 @@ pub enum FaultKind {
     Target,
     /// A load of bytes that aren't all in one region.
     Load,
-    /// A store to bytes that aren't all in one region, or that are in the table.
+    /// A store to bytes that aren't all in one region, or that are in the table or the passive region.
     Store,
     /// A call that the environment doesn't have. The step table itself never gives it.
     Call,

@@ -1,7 +1,7 @@
 use Rattle.std.proofs.Common.{◌≡◌, ◌+◌, ◌≤◌, List, ℕ, length, ap, arith}
 use Rattle.rv_isa.specs.Values.{store_width}
-use Rattle.rv64im_machine.specs.Linear.{Linear}
-use Rattle.rv64im_machine.proofs.linear_memory.LinearMemory.store_behind.Goals as goal
+use Rattle.linear_memory.specs.Linear.{Linear}
+use Rattle.linear_memory.proofs.memory.LinearMemory.store_behind.Goals as goal
 
 pub store_value-requires : goal.store_value-requires
 store_value-requires c =

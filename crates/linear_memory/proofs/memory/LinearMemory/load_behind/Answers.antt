@@ -1,8 +1,8 @@
 use Rattle.std.proofs.Common.{◌≡◌, ◌+◌, ◌≤◌, ◌<◌, length, Some, ℕ, ap, ◌∙◌, arith}
 use Rattle.rv_isa.specs.Values.{load_width}
-use Rattle.rv64im_machine.specs.Linear.{Linear}
-use Rattle.rv64im_machine.proofs.LinearLaws.{loaded_behind, row_of}
-use Rattle.rv64im_machine.proofs.linear_memory.LinearMemory.load_behind.Goals as goal
+use Rattle.linear_memory.specs.Linear.{Linear}
+use Rattle.linear_memory.proofs.LinearLaws.{loaded_behind, row_of}
+use Rattle.linear_memory.proofs.memory.LinearMemory.load_behind.Goals as goal
 
 pub returns : goal.returns
 returns c =

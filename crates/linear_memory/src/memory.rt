@@ -5,8 +5,8 @@ ghost use Rattle.std.specs.Bool.{OnFalse};
 ghost use Rattle.std.specs.Vec.{vec_capacity};
 ghost use Rattle.rv_isa.specs.Steps.{load_from, store_to};
 ghost use Rattle.rv_isa.specs.Values.{load_width, store_width};
-ghost use Rattle.rv64im_machine.specs.Linear.{IsBacked, untouched, whole};
-ghost use Rattle.rv64im_machine.specs.LinearLending.{LendsBacked};
+ghost use Rattle.linear_memory.specs.Linear.{IsBacked, untouched, whole};
+ghost use Rattle.linear_memory.specs.LinearLending.{LendsBacked};
 
 use crate::bytes::{load_value, load_width, store_value, store_width};
 use rv_isa::{LoadOp, StoreOp};
@@ -27,7 +27,7 @@ pub struct LinearMemory {
 
 impl Model for LinearMemory {
     ghost use Rattle.std.specs.Vec.{vec_len, vec_capacity};
-    ghost use Rattle.rv64im_machine.specs.Linear.{Linear, IsReserved, whole};
+    ghost use Rattle.linear_memory.specs.Linear.{Linear, IsReserved, whole};
 
     ghost Value = { Linear };
 
@@ -91,7 +91,7 @@ impl LinearMemory {
 
     /// What a load gives its register, if its bytes are there.
     #[inline(always)]
-    pub(crate) fn load(&self, op: LoadOp, at: usize) -> Option<u64>
+    pub fn load(&self, op: LoadOp, at: usize) -> Option<u64>
         requires { at < 2 ^ 28 }
         ensures { result ≡ load_from op at self.now.bytes }
     {
@@ -121,7 +121,7 @@ impl LinearMemory {
 
     /// Stores a value, if its bytes are there, and says whether they were.
     #[inline(always)]
-    pub(crate) fn store(&mut self, op: StoreOp, at: usize, value: u64) -> bool
+    pub fn store(&mut self, op: StoreOp, at: usize, value: u64) -> bool
         requires { at < 2 ^ 28 }
         ensures row { store_to op at value self.old.bytes ≡ (if result then Some self.new.bytes else None) }
         ensures err { OnFalse result (self.new ≡ self.old) }
