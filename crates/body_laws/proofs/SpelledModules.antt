@@ -27,8 +27,8 @@ valid_is_spelled : (items : List Item) (k : ℕ) (b : Body) (tree : Seq) → Are
 valid_is_spelled items k b tree fits v = record {
   groups = (read_of b).groups;
   tokens = (read_of b).code.tokens;
-  spelled = body_found b.first b.bytes (each_byte b.bytes fits) v.whole;
-  few = locals_are_few b.first b.bytes;
+  spelled = body_found b.counted b.first b.bytes (each_byte b.bytes fits) v.whole;
+  few = locals_are_few b.counted b.first b.bytes;
   nests = v.tree_is;
   typed = v.typed;
 }
@@ -36,7 +36,7 @@ valid_is_spelled items k b tree fits v = record {
 spelled_is_valid : (items : List Item) (k : ℕ) (b : Body) (tree : Seq) → IsSpelled items k b tree → IsValidCode (context_at items k b) (read_of b).code tree
 spelled_is_valid items k b tree s =
     let c = context_of items in
-    let is = spelled_is_read b.first b.bytes s.groups s.tokens tree s.nests s.spelled s.few in
+    let is = spelled_is_read b.counted b.first b.bytes s.groups s.tokens tree s.nests s.spelled s.few in
     record {
       whole = is.whole;
       tree_is = subst (λ (ts : List (ℕ × Token)). Tree (tokens_of ts) tree) (sym is.code) s.nests;

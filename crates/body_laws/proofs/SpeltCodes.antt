@@ -1,10 +1,11 @@
 -- Bodies are read as they are encoded.
-use Rattle.std.proofs.Common.{◌≡◌, ◌≤◌, ◌<◌, ℕ, zero, suc, ◌+◌, ◌-◌, ltb, List, [], ◌∷◌, ◌++◌, length, None, refl, sym, ap, subst, ◌∙◌, arith, length-append}
+use Rattle.std.proofs.Common.{Bool, ◌≡◌, ◌≤◌, ◌<◌, ℕ, zero, suc, ◌+◌, ◌-◌, ltb, List, [], ◌∷◌, ◌++◌, length, None, refl, sym, ap, subst, ◌∙◌, arith, length-append}
 use Rattle.std.proofs.lemmas.Bool.{le-ltb}
 use Rattle.wasm_defs.proofs.NumberLaws.{AreBytes}
 use Rattle.wasm_defs.specs.declared.fault.Kind.TheVariants.{Limit}
 use Rattle.wasm_defs.specs.declared.token.Plain.{Plain}
-use Rattle.wasm_defs.specs.declared.token.Plain.TheVariants.{Unreachable, Nop, Br, BrIf, BrTable, Return, Call, CallIndirect, Discard, Select, LocalGet, LocalSet, LocalTee, GlobalGet, GlobalSet, Load, Store, MemorySize, MemoryGrow, Const, Operate}
+use Rattle.wasm_defs.specs.declared.token.BulkOp.TheVariants.{Fill, Copy, Init}
+use Rattle.wasm_defs.specs.declared.token.Plain.TheVariants.{Unreachable, Nop, Br, BrIf, BrTable, Return, Call, CallIndirect, Discard, Select, LocalGet, LocalSet, LocalTee, GlobalGet, GlobalSet, Load, Store, MemorySize, MemoryGrow, Bulk, DataDrop, Const, Operate}
 use Rattle.wasm_defs.specs.declared.token.Token.{Token}
 use Rattle.wasm_defs.specs.declared.token.Token.TheVariants as token
 use Rattle.wasm_defs.specs.Limits.{max_locals}
@@ -54,36 +55,40 @@ one_byte e = omega (arith, ap length e)
 bytes_behind_one : {b : ℕ} {s : Spelling} {at : ℕ} {bytes : List ℕ} → (exactly (b ∷ []) then s) at bytes → 1 ≤ length bytes
 bytes_behind_one j = omega (arith, ap length j.parts, ap length j.first, length-append j.front j.back)
 
-plain_some : (p : Plain) (at : ℕ) (bytes : List ℕ) → plain_is p at bytes → 1 ≤ length bytes
-plain_some Unreachable at bytes s = one_byte s
-plain_some Nop at bytes s = one_byte s
-plain_some (Br l) at bytes s = bytes_behind_one s
-plain_some (BrIf l) at bytes s = bytes_behind_one s
-plain_some (BrTable labels last) at bytes s = bytes_behind_one s
-plain_some Return at bytes s = one_byte s
-plain_some (Call x) at bytes s = bytes_behind_one s
-plain_some (CallIndirect ty table) at bytes s = bytes_behind_one s
-plain_some Discard at bytes s = one_byte s
-plain_some Select at bytes s = one_byte s
-plain_some (LocalGet x) at bytes s = bytes_behind_one s
-plain_some (LocalSet x) at bytes s = bytes_behind_one s
-plain_some (LocalTee x) at bytes s = bytes_behind_one s
-plain_some (GlobalGet x) at bytes s = bytes_behind_one s
-plain_some (GlobalSet x) at bytes s = bytes_behind_one s
-plain_some (Load op m) at bytes s = bytes_behind_one s
-plain_some (Store op m) at bytes s = bytes_behind_one s
-plain_some MemorySize at bytes s = bytes_behind_one s
-plain_some MemoryGrow at bytes s = bytes_behind_one s
-plain_some (Const ty n) at bytes s = bytes_behind_one s
-plain_some (Operate op) at bytes s = one_byte s
+plain_some : (counted : Bool) (p : Plain) (at : ℕ) (bytes : List ℕ) → plain_is counted p at bytes → 1 ≤ length bytes
+plain_some counted Unreachable at bytes s = one_byte s
+plain_some counted Nop at bytes s = one_byte s
+plain_some counted (Br l) at bytes s = bytes_behind_one s
+plain_some counted (BrIf l) at bytes s = bytes_behind_one s
+plain_some counted (BrTable labels last) at bytes s = bytes_behind_one s
+plain_some counted Return at bytes s = one_byte s
+plain_some counted (Call x) at bytes s = bytes_behind_one s
+plain_some counted (CallIndirect ty table) at bytes s = bytes_behind_one s
+plain_some counted Discard at bytes s = one_byte s
+plain_some counted Select at bytes s = one_byte s
+plain_some counted (LocalGet x) at bytes s = bytes_behind_one s
+plain_some counted (LocalSet x) at bytes s = bytes_behind_one s
+plain_some counted (LocalTee x) at bytes s = bytes_behind_one s
+plain_some counted (GlobalGet x) at bytes s = bytes_behind_one s
+plain_some counted (GlobalSet x) at bytes s = bytes_behind_one s
+plain_some counted (Load op m) at bytes s = bytes_behind_one s
+plain_some counted (Store op m) at bytes s = bytes_behind_one s
+plain_some counted MemorySize at bytes s = bytes_behind_one s
+plain_some counted MemoryGrow at bytes s = bytes_behind_one s
+plain_some counted (Bulk Fill) at bytes s = bytes_behind_one s
+plain_some counted (Bulk Copy) at bytes s = bytes_behind_one s
+plain_some counted (Bulk (Init x)) at bytes s = bytes_behind_one s.1
+plain_some counted (DataDrop x) at bytes s = bytes_behind_one s.1
+plain_some counted (Const ty n) at bytes s = bytes_behind_one s
+plain_some counted (Operate op) at bytes s = one_byte s
 
-pub token_some : (t : Token) (at : ℕ) (bytes : List ℕ) → instruction_is t at bytes → 1 ≤ length bytes
-token_some (token.Plain p) at bytes s = plain_some p at bytes s
-token_some (token.Block ty) at bytes s = bytes_behind_one s
-token_some (token.Loop ty) at bytes s = bytes_behind_one s
-token_some (token.If ty) at bytes s = bytes_behind_one s
-token_some token.Else at bytes s = one_byte s
-token_some token.End at bytes s = one_byte s
+pub token_some : (counted : Bool) (t : Token) (at : ℕ) (bytes : List ℕ) → instruction_is counted t at bytes → 1 ≤ length bytes
+token_some counted (token.Plain p) at bytes s = plain_some counted p at bytes s
+token_some counted (token.Block ty) at bytes s = bytes_behind_one s
+token_some counted (token.Loop ty) at bytes s = bytes_behind_one s
+token_some counted (token.If ty) at bytes s = bytes_behind_one s
+token_some counted token.Else at bytes s = one_byte s
+token_some counted token.End at bytes s = one_byte s
 
 -- ---- tokens that are read whole are encoded
 
@@ -92,23 +97,23 @@ goes_on_found last (Got a d) f P R p h e = h a d p e
 goes_on_found last (Fault r) f P R p h e = absurd cc
 goes_on_found last Wants f P R p h e = absurd cc
 
-closed_found : (at : ℕ) (bytes : List ℕ) → (closed at bytes).fault ≡ None → each_is token_is (closed at bytes).tokens at bytes
-closed_found at [] e = refl
-closed_found at (b ∷ bytes) e = absurd cc
+closed_found : (counted : Bool) (at : ℕ) (bytes : List ℕ) → (closed at bytes).fault ≡ None → each_is (token_is counted) (closed at bytes).tokens at bytes
+closed_found counted at [] e = refl
+closed_found counted at (b ∷ bytes) e = absurd cc
 
-tokens_found : (n depth last : ℕ) (c : Cursor) → Ready c → (spelled_from n depth last c).fault ≡ None → each_is token_is (spelled_from n depth last c).tokens c.at c.rest
+tokens_found : (counted : Bool) (n depth last : ℕ) (c : Cursor) → Ready c → (spelled_from counted n depth last c).fault ≡ None → each_is (token_is counted) (spelled_from counted n depth last c).tokens c.at c.rest
 unfolding spelled_from
-tokens_found zero depth last c ready e = absurd cc
-tokens_found (suc n) zero last c ready e = closed_found c.at c.rest e
-tokens_found (suc n) (suc depth) last c ready e =
-    let R : Spelled → Type 0 = λ s. each_is token_is s.tokens c.at c.rest in
+tokens_found counted zero depth last c ready e = absurd cc
+tokens_found counted (suc n) zero last c ready e = closed_found counted c.at c.rest e
+tokens_found counted (suc n) (suc depth) last c ready e =
+    let R : Spelled → Type 0 = λ s. each_is (token_is counted) s.tokens c.at c.rest in
     goes_on_found last (byte c) _ (λ b d. Found (byte_is b.0 b.1) (Unit {0}) c d) R (byte_spelt.sound c ready) (λ b d found whole.
-    goes_on_found last (instruction b.0 b.1 d) (λ t e. after_token b.0 t (spelled_from n (depth_after t (suc depth)) last e)) (λ t e. Found (token_is (b.0, t)) (Unit {0}) c e) R (instruction_found b.0 b.1 c d found (later c d found ready)) (λ t e one whole. record {
+    goes_on_found last (instruction counted b.0 b.1 d) (λ t e. after_token b.0 t (spelled_from counted n (depth_after t (suc depth)) last e)) (λ t e. Found (token_is counted (b.0, t)) (Unit {0}) c e) R (instruction_found counted b.0 b.1 c d found (later c d found ready)) (λ t e one whole. record {
       front = one.taken;
       back = e.rest;
       parts = one.parts;
       first = one.spelled;
-      second = subst (λ (at : ℕ). each_is token_is (spelled_from n (depth_after t (suc depth)) last e).tokens at e.rest) one.at (tokens_found n (depth_after t (suc depth)) last e (later c e one ready) whole);
+      second = subst (λ (at : ℕ). each_is (token_is counted) (spelled_from counted n (depth_after t (suc depth)) last e).tokens at e.rest) one.at (tokens_found counted n (depth_after t (suc depth)) last e (later c e one ready) whole);
     }) whole) e
 
 -- ---- and close all blocks
@@ -117,23 +122,23 @@ closed_closes : (at : ℕ) (bytes : List ℕ) → (closed at bytes).fault ≡ No
 closed_closes at [] e = tt
 closed_closes at (b ∷ bytes) e = absurd cc
 
-tokens_close : (n depth last : ℕ) (c : Cursor) → (spelled_from n depth last c).fault ≡ None → Closes depth (tokens_of (spelled_from n depth last c).tokens)
+tokens_close : (counted : Bool) (n depth last : ℕ) (c : Cursor) → (spelled_from counted n depth last c).fault ≡ None → Closes depth (tokens_of (spelled_from counted n depth last c).tokens)
 unfolding spelled_from
-tokens_close zero depth last c e = absurd cc
-tokens_close (suc n) zero last c e = closed_closes c.at c.rest e
-tokens_close (suc n) (suc depth) last c e =
+tokens_close counted zero depth last c e = absurd cc
+tokens_close counted (suc n) zero last c e = closed_closes c.at c.rest e
+tokens_close counted (suc n) (suc depth) last c e =
     let R : Spelled → Type 0 = λ s. Closes (suc depth) (tokens_of s.tokens) in
     goes_on_found last (byte c) _ (λ b d. Unit {0}) R (always (byte c)) (λ b d u whole.
-    goes_on_found last (instruction b.0 b.1 d) (λ t e. after_token b.0 t (spelled_from n (depth_after t (suc depth)) last e)) (λ t e. Unit {0}) R (always (instruction b.0 b.1 d)) (λ t e u whole.
-    tokens_close n (depth_after t (suc depth)) last e whole) whole) e
+    goes_on_found last (instruction counted b.0 b.1 d) (λ t e. after_token b.0 t (spelled_from counted n (depth_after t (suc depth)) last e)) (λ t e. Unit {0}) R (always (instruction counted b.0 b.1 d)) (λ t e u whole.
+    tokens_close counted n (depth_after t (suc depth)) last e whole) whole) e
 
-code_closes : (last n : ℕ) (x : Read (List Group)) → (read_code last x n).code.fault ≡ None → Closes 1 (tokens_of (read_code last x n).code.tokens)
-code_closes last n (Got gs d) e = tokens_close n 1 last d e
-code_closes last n (Fault r) e = absurd cc
-code_closes last n Wants e = absurd cc
+code_closes : (counted : Bool) (last n : ℕ) (x : Read (List Group)) → (read_code counted last x n).code.fault ≡ None → Closes 1 (tokens_of (read_code counted last x n).code.tokens)
+code_closes counted last n (Got gs d) e = tokens_close counted n 1 last d e
+code_closes counted last n (Fault r) e = absurd cc
+code_closes counted last n Wants e = absurd cc
 
-pub body_closes : (first : ℕ) (bytes : List ℕ) → (body_read first bytes).code.fault ≡ None → Closes 1 (tokens_of (body_read first bytes).code.tokens)
-body_closes first bytes e = code_closes (last_of first bytes) (length bytes + 1) (local_groups (body_cursor first bytes)) e
+pub body_closes : (counted : Bool) (first : ℕ) (bytes : List ℕ) → (body_read counted first bytes).code.fault ≡ None → Closes 1 (tokens_of (body_read counted first bytes).code.tokens)
+body_closes counted first bytes e = code_closes counted (last_of first bytes) (length bytes + 1) (local_groups (body_cursor first bytes)) e
 
 -- ---- tokens that are encoded are read whole
 
@@ -145,36 +150,36 @@ byte_at c (b ∷ w) = refl
 abbrev IsSpelledAs : List (ℕ × Token) → Spelled → Spelled → Type 0
 IsSpelledAs ts s rest = (s.tokens ≡ ts) × (s.fault ≡ rest.fault)
 
-token_goes_on : (last at : ℕ) (x : Read (ℕ × ℕ)) (k : Token → Cursor → Spelled) (t : Token) (e : Cursor) → IfGot (λ b d. b.0 ≡ at) x → then_go x (λ b. instruction b.0 b.1) ≡ Got t e
-    → IsSpelledAs ((at, t) ∷ (k t e).tokens) (goes_on last x (λ b d. goes_on last (instruction b.0 b.1 d) (λ u f. after_token b.0 u (k u f)))) (k t e)
-token_goes_on last at (Got b d) k t e is got =
+token_goes_on : (counted : Bool) (last at : ℕ) (x : Read (ℕ × ℕ)) (k : Token → Cursor → Spelled) (t : Token) (e : Cursor) → IfGot (λ b d. b.0 ≡ at) x → then_go x (λ b. instruction counted b.0 b.1) ≡ Got t e
+    → IsSpelledAs ((at, t) ∷ (k t e).tokens) (goes_on last x (λ b d. goes_on last (instruction counted b.0 b.1 d) (λ u f. after_token b.0 u (k u f)))) (k t e)
+token_goes_on counted last at (Got b d) k t e is got =
     let f : Token → Cursor → Spelled = λ u g. after_token b.0 u (k u g) in
-    let h : goes_on last (instruction b.0 b.1 d) f ≡ f t e = ap (λ (z : Read Token). goes_on last z f) got in
+    let h : goes_on last (instruction counted b.0 b.1 d) f ≡ f t e = ap (λ (z : Read Token). goes_on last z f) got in
     (ap (λ (s : Spelled). s.tokens) h ∙ ap (λ (o : ℕ). (o, t) ∷ (k t e).tokens) is, ap (λ (s : Spelled). s.fault) h)
-token_goes_on last at (Fault r) k t e is got = absurd cc
-token_goes_on last at Wants k t e is got = absurd cc
+token_goes_on counted last at (Fault r) k t e is got = absurd cc
+token_goes_on counted last at Wants k t e is got = absurd cc
 
-token_step : (n depth last : ℕ) (c : Cursor) (t : Token) (e : Cursor) → steady.token c ≡ Got t e → IsSpelledAs ((c.at, t) ∷ (spelled_from n (depth_after t (suc depth)) last e).tokens) (spelled_from (suc n) (suc depth) last c) (spelled_from n (depth_after t (suc depth)) last e)
+token_step : (counted : Bool) (n depth last : ℕ) (c : Cursor) (t : Token) (e : Cursor) → steady.token counted c ≡ Got t e → IsSpelledAs ((c.at, t) ∷ (spelled_from counted n (depth_after t (suc depth)) last e).tokens) (spelled_from counted (suc n) (suc depth) last c) (spelled_from counted n (depth_after t (suc depth)) last e)
 unfolding spelled_from byte
-token_step n depth last c t e got = token_goes_on last c.at (first_of c (window c)) (λ u f. spelled_from n (depth_after u (suc depth)) last f) t e (byte_at c (window c)) got
+token_step counted n depth last c t e got = token_goes_on counted last c.at (first_of c (window c)) (λ u f. spelled_from counted n (depth_after u (suc depth)) last f) t e (byte_at c (window c)) got
 
 closed_read : (at : ℕ) (bytes : List ℕ) → bytes ≡ [] → ((closed at bytes).tokens ≡ []) × ((closed at bytes).fault ≡ None)
 closed_read at bytes e = rw e (refl, refl)
 
-tokens_read : (n depth last at end : ℕ) (bytes : List ℕ) (ts : List (ℕ × Token)) → Closes depth (tokens_of ts) → length bytes < n → at + length bytes ≤ end → each_is token_is ts at bytes
-    → ((spelled_from n depth last (cursor at bytes end)).tokens ≡ ts) × ((spelled_from n depth last (cursor at bytes end)).fault ≡ None)
+tokens_read : (counted : Bool) (n depth last at end : ℕ) (bytes : List ℕ) (ts : List (ℕ × Token)) → Closes depth (tokens_of ts) → length bytes < n → at + length bytes ≤ end → each_is (token_is counted) ts at bytes
+    → ((spelled_from counted n depth last (cursor at bytes end)).tokens ≡ ts) × ((spelled_from counted n depth last (cursor at bytes end)).fault ≡ None)
 unfolding spelled_from
-tokens_read zero depth last at end bytes ts closes lt fits s = absurd (omega arith)
-tokens_read (suc n) zero last at end bytes [] closes lt fits s = closed_read at bytes s
-tokens_read (suc n) zero last at end bytes (t ∷ ts) closes lt fits s = absurd closes
-tokens_read (suc n) (suc depth) last at end bytes [] closes lt fits s = absurd closes
-tokens_read (suc n) (suc depth) last at end bytes (t ∷ ts) closes lt fits j =
+tokens_read counted zero depth last at end bytes ts closes lt fits s = absurd (omega arith)
+tokens_read counted (suc n) zero last at end bytes [] closes lt fits s = closed_read at bytes s
+tokens_read counted (suc n) zero last at end bytes (t ∷ ts) closes lt fits s = absurd closes
+tokens_read counted (suc n) (suc depth) last at end bytes [] closes lt fits s = absurd closes
+tokens_read counted (suc n) (suc depth) last at end bytes (t ∷ ts) closes lt fits j =
     let len : length bytes ≡ length j.front + length j.back = ap length j.parts ∙ length-append j.front j.back in
-    let some = token_some t.1 at j.front j.first.1 in
+    let some = token_some counted t.1 at j.front j.first.1 in
     let e : Cursor = cursor (at + length j.front) j.back end in
-    let got : steady.token (cursor at bytes end) ≡ Got t.1 e = subst (λ (l : List ℕ). steady.token (cursor at l end) ≡ Got t.1 e) (sym j.parts) ((token_read t.1).by at end j.front j.back (omega arith) j.first.1) in
-    let step = token_step n depth last (cursor at bytes end) t.1 e got in
-    let rest = tokens_read n (depth_after t.1 (suc depth)) last (at + length j.front) end j.back ts closes (omega arith) (omega arith) j.second in
+    let got : steady.token counted (cursor at bytes end) ≡ Got t.1 e = subst (λ (l : List ℕ). steady.token counted (cursor at l end) ≡ Got t.1 e) (sym j.parts) ((token_read counted t.1).by at end j.front j.back (omega arith) j.first.1) in
+    let step = token_step counted n depth last (cursor at bytes end) t.1 e got in
+    let rest = tokens_read counted n (depth_after t.1 (suc depth)) last (at + length j.front) end j.back ts closes (omega arith) (omega arith) j.second in
     (step.0 ∙ ap (λ (l : List (ℕ × Token)). (at, t.1) ∷ l) rest.0 ∙ ap (λ (o : ℕ). (o, t.1) ∷ ts) (sym j.first.0), step.1 ∙ rest.1)
 
 -- ---- locals
@@ -230,39 +235,39 @@ locals_read gs few = reads_past u32 _ (length gs) gs (listed_index_is (length gs
 
 -- ---- bodies
 
-code_found : (last n : ℕ) (c : Cursor) (x : Read (List Group)) → Ready c → IfGot (λ gs d. Found (listed_vector_is group_is gs) (Unit {0}) c d) x → (read_code last x n).code.fault ≡ None → Code (read_code last x n).groups (read_code last x n).code.tokens c.at c.rest
-code_found last n c (Got gs d) ready p e = record {
+code_found : (counted : Bool) (last n : ℕ) (c : Cursor) (x : Read (List Group)) → Ready c → IfGot (λ gs d. Found (listed_vector_is group_is gs) (Unit {0}) c d) x → (read_code counted last x n).code.fault ≡ None → Code counted (read_code counted last x n).groups (read_code counted last x n).code.tokens c.at c.rest
+code_found counted last n c (Got gs d) ready p e = record {
   front = p.taken;
   back = d.rest;
   parts = p.parts;
   first = p.spelled;
-  second = subst (λ (at : ℕ). each_is token_is (spelled_from n 1 last d).tokens at d.rest) p.at (tokens_found n 1 last d (later c d p ready) e);
+  second = subst (λ (at : ℕ). each_is (token_is counted) (spelled_from counted n 1 last d).tokens at d.rest) p.at (tokens_found counted n 1 last d (later c d p ready) e);
 }
-code_found last n c (Fault r) ready p e = absurd cc
-code_found last n c Wants ready p e = absurd cc
+code_found counted last n c (Fault r) ready p e = absurd cc
+code_found counted last n c Wants ready p e = absurd cc
 
-pub body_found : (first : ℕ) (bytes : List ℕ) → AreBytes bytes → (body_read first bytes).code.fault ≡ None → Code (body_read first bytes).groups (body_read first bytes).code.tokens first bytes
-body_found first bytes fits e =
+pub body_found : (counted : Bool) (first : ℕ) (bytes : List ℕ) → AreBytes bytes → (body_read counted first bytes).code.fault ≡ None → Code counted (body_read counted first bytes).groups (body_read counted first bytes).code.tokens first bytes
+body_found counted first bytes fits e =
     let c = body_cursor first bytes in
     let ready : Ready c = record { low = omega arith; bytes = fits } in
-    code_found (last_of first bytes) (length bytes + 1) c (local_groups c) ready (locals_found c ready) e
+    code_found counted (last_of first bytes) (length bytes + 1) c (local_groups c) ready (locals_found c ready) e
 
-pub read_is_spelled : (first : ℕ) (bytes : List ℕ) (gs : List Group) (ts : List (ℕ × Token)) → AreBytes bytes → IsReadAs gs ts first bytes → Code gs ts first bytes × LocalsAreFew gs
-read_is_spelled first bytes gs ts fits is =
-    let s = body_found first bytes fits is.whole in
-    let t : Code gs (body_read first bytes).code.tokens first bytes = subst (λ (z : List Group). Code z (body_read first bytes).code.tokens first bytes) is.locals s in
-    (subst (λ (z : List (ℕ × Token)). Code gs z first bytes) is.code t, subst LocalsAreFew is.locals (locals_are_few first bytes))
+pub read_is_spelled : (counted : Bool) (first : ℕ) (bytes : List ℕ) (gs : List Group) (ts : List (ℕ × Token)) → AreBytes bytes → IsReadAs counted gs ts first bytes → Code counted gs ts first bytes × LocalsAreFew gs
+read_is_spelled counted first bytes gs ts fits is =
+    let s = body_found counted first bytes fits is.whole in
+    let t : Code counted gs (body_read counted first bytes).code.tokens first bytes = subst (λ (z : List Group). Code counted z (body_read counted first bytes).code.tokens first bytes) is.locals s in
+    (subst (λ (z : List (ℕ × Token)). Code counted gs z first bytes) is.code t, subst LocalsAreFew is.locals (locals_are_few counted first bytes))
 
-pub spelled_is_read : (first : ℕ) (bytes : List ℕ) (gs : List Group) (ts : List (ℕ × Token)) (tree : Seq) → Tree (tokens_of ts) tree → Code gs ts first bytes → LocalsAreFew gs → IsReadAs gs ts first bytes
-spelled_is_read first bytes gs ts tree nests j few =
+pub spelled_is_read : (counted : Bool) (first : ℕ) (bytes : List ℕ) (gs : List Group) (ts : List (ℕ × Token)) (tree : Seq) → Tree (tokens_of ts) tree → Code counted gs ts first bytes → LocalsAreFew gs → IsReadAs counted gs ts first bytes
+spelled_is_read counted first bytes gs ts tree nests j few =
     let last = last_of first bytes in
     let n = length bytes + 1 in
     let end = first + length bytes + 1 in
     let len : length bytes ≡ length j.front + length j.back = ap length j.parts ∙ length-append j.front j.back in
     let e : Cursor = cursor (first + length j.front) j.back end in
     let got : local_groups (body_cursor first bytes) ≡ Got gs e = subst (λ (l : List ℕ). local_groups (cursor first l end) ≡ Got gs e) (sym j.parts) ((locals_read gs few).by first end j.front j.back (omega arith) j.first) in
-    let whole = ap (λ (x : Read (List Group)). read_code last x n) got in
-    let rest = tokens_read n 1 last (first + length j.front) end j.back ts (tree_closes (tokens_of ts) tree nests) (omega arith) (omega arith) j.second in
+    let whole = ap (λ (x : Read (List Group)). read_code counted last x n) got in
+    let rest = tokens_read counted n 1 last (first + length j.front) end j.back ts (tree_closes (tokens_of ts) tree nests) (omega arith) (omega arith) j.second in
     record {
       locals = ap (λ (b : BodyRead). b.groups) whole;
       code = ap (λ (b : BodyRead). b.code.tokens) whole ∙ rest.0;

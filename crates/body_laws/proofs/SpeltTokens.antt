@@ -1,17 +1,11 @@
 -- Instructions are read as they are encoded.
-use Rattle.std.proofs.Common.{◌≡◌, ◌≤◌, ℕ, ◌-◌, ℤ, Bool, true, not, eqb, nat_lt, nat_le, ◌||◌, List, [], ◌∷◌, length, Option, Some, None, refl, sym, ap, subst, ◌∙◌, suc, ◌+◌, pos, negsuc, inl, inr, arith, false}
+use Rattle.std.proofs.Common.{◌≡◌, ◌≤◌, ℕ, ◌-◌, ℤ, Bool, true, not, eqb, nat_lt, ◌||◌, List, [], ◌∷◌, length, Option, Some, None, refl, sym, ap, subst, ◌∙◌, ◌+◌, pos, negsuc, inl, inr, arith, false}
 use Rattle.std.specs.Prelude.{slice_get, ◌==◌}
 use Rattle.std.specs.List.{All}
 use Rattle.std.proofs.lemmas.Bool.{eqb-true, ltb-false, le-ltb}
 use Rattle.wasm_defs.specs.declared.types.ValType.{ValType}
 use Rattle.wasm_defs.specs.declared.types.ValType.TheVariants.{I32, I64}
-use Rattle.wasm_defs.specs.declared.operation.UnaryOp.TheVariants.{Clz, Ctz, Popcnt}
-use Rattle.wasm_defs.specs.declared.operation.BinaryOp.TheVariants.{Add, Sub, Mul, DivS, DivU, RemS, RemU, And, Or, Xor, Shl, ShrS, ShrU, Rotl, Rotr}
-use Rattle.wasm_defs.specs.declared.operation.CompareOp.TheVariants.{Eq, Ne, LtS, LtU, GtS, GtU, LeS, LeU, GeS, GeU}
-use Rattle.wasm_defs.specs.declared.operation.ConvertOp.TheVariants.{Wrap, ExtendS, ExtendU}
-use Rattle.wasm_defs.specs.declared.operation.ExtendOp.TheVariants.{I32Extend8S, I32Extend16S, I64Extend8S, I64Extend16S, I64Extend32S}
 use Rattle.wasm_defs.specs.declared.operation.Operation.{Operation}
-use Rattle.wasm_defs.specs.declared.operation.Operation.TheVariants.{Unary, Test, Binary, Compare, Convert, Extend}
 use Rattle.wasm_defs.specs.declared.operation.LoadOp.{LoadOp}
 use Rattle.wasm_defs.specs.declared.operation.LoadOp.TheVariants.{I32Load, I64Load, I32Load8S, I32Load8U, I32Load16S, I32Load16U, I64Load8S, I64Load8U, I64Load16S, I64Load16U, I64Load32S, I64Load32U}
 use Rattle.wasm_defs.specs.declared.operation.StoreOp.{StoreOp}
@@ -22,7 +16,8 @@ use Rattle.wasm_defs.specs.declared.token.BlockType.{BlockType}
 use Rattle.wasm_defs.specs.declared.token.BlockType.TheVariants.{Empty, Value, Index}
 use Rattle.wasm_defs.specs.declared.token.MemArg.{MemArg}
 use Rattle.wasm_defs.specs.declared.token.Plain.{Plain}
-use Rattle.wasm_defs.specs.declared.token.Plain.TheVariants.{Unreachable, Nop, Br, BrIf, BrTable, Return, Call, CallIndirect, Discard, Select, LocalGet, LocalSet, LocalTee, GlobalGet, GlobalSet, Load, Store, MemorySize, MemoryGrow, Const, Operate}
+use Rattle.wasm_defs.specs.declared.token.BulkOp.TheVariants.{Fill, Copy, Init}
+use Rattle.wasm_defs.specs.declared.token.Plain.TheVariants.{Unreachable, Nop, Br, BrIf, BrTable, Return, Call, CallIndirect, Discard, Select, LocalGet, LocalSet, LocalTee, GlobalGet, GlobalSet, Load, Store, MemorySize, MemoryGrow, Bulk, DataDrop, Const, Operate}
 use Rattle.wasm_defs.specs.declared.token.Token.{Token}
 use Rattle.wasm_defs.specs.declared.token.Token.TheVariants as token
 use Rattle.wasm_defs.specs.Opcodes.{operations, accesses}
@@ -30,8 +25,8 @@ use Rattle.wasm_defs.specs.Entries.{const_opcode, bits_of}
 use Rattle.wasm_defs.specs.Numbers.{IsLastByte, Spells}
 use Rattle.wasm_defs.specs.Fields.{Cursor, Read, Got, Reader, then_go, ◌>>=◌, byte, number, u32, vector, here}
 use Rattle.wasm_defs.specs.Items.{Spelling, ◌then◌, exactly, byte_is, number_is, vector_is, listed_index_is}
-use Rattle.wasm_defs.specs.Bodies.{plain, with_index, short_type, type_by, block_type, with_type, label, branch_table, zero_byte, indirect, with_zero, mem_arg, accessed, with_mem_arg, constant, control, variable, accessed_at, memory, operated_at, numeric, instruction}
-use Rattle.wasm_defs.specs.Codes.{load_code, store_code, operation_code, listed_vector_is, block_type_is, mem_arg_is, signed_is, plain_is, instruction_is, token_is}
+use Rattle.wasm_defs.specs.Bodies.{plain, with_index, short_type, type_by, block_type, with_type, label, branch_table, zero_byte, indirect, with_zero, initializing, copying, by_number, prefixed, mem_arg, accessed, with_mem_arg, constant, control, variable, accessed_at, memory, operated_at, numeric, instruction}
+use Rattle.wasm_defs.specs.Codes.{load_code, store_code, operation_code, listed_vector_is, block_type_is, mem_arg_is, signed_is, if_counted, plain_is, instruction_is, token_is}
 use Rattle.wasm_laws.specs.Steadiness.{token}
 use Rattle.wasm_laws.proofs.Steady.{IfGot}
 use Rattle.wasm_laws.proofs.Parts.{either_got}
@@ -170,32 +165,32 @@ mem_arg_spelt = record {
 
 -- ---- what is got after an opcode is encoded with it
 
-module _ (o b : ℕ) (c d : Cursor) (found : Found (byte_is o b) (Unit {0}) c d) (ready : Ready d) where
+module _ (counted : Bool) (o b : ℕ) (c d : Cursor) (found : Found (byte_is o b) (Unit {0}) c d) (ready : Ready d) where
   abbrev pub Q : Token → Cursor → Type 0
-  Q t e = Found (token_is (o, t)) (Unit {0}) c e
+  Q t e = Found (token_is counted (o, t)) (Unit {0}) c e
 
   found_code : (n : ℕ) → b ≡ n → Found (byte_is o n) (Unit {0}) c d
   found_code n e = subst (λ (k : ℕ). Found (byte_is o k) (Unit {0}) c d) e found
 
   -- no immediates
-  bare : (n : ℕ) (t : Token) → b ≡ n → ((at : ℕ) (bytes : List ℕ) → exactly (n ∷ []) at bytes → instruction_is t at bytes) → Q t d
-  bare n t e f = found_as (token_is (o, t)) _ c d (found_code n e) (λ at bytes s. (s.0, f at bytes s.1)) tt
+  bare : (n : ℕ) (t : Token) → b ≡ n → ((at : ℕ) (bytes : List ℕ) → exactly (n ∷ []) at bytes → instruction_is counted t at bytes) → Q t d
+  bare n t e f = found_as (token_is counted (o, t)) _ c d (found_code n e) (λ at bytes s. (s.0, f at bytes s.1)) tt
 
   -- these immediates
-  followed : {s : Spelling} {K : Type 0} (n : ℕ) (t : Token) (e : Cursor) → b ≡ n → Found s K d e → ((at : ℕ) (bytes : List ℕ) → (exactly (n ∷ []) then s) at bytes → instruction_is t at bytes) → Q t e
+  followed : {s : Spelling} {K : Type 0} (n : ℕ) (t : Token) (e : Cursor) → b ≡ n → Found s K d e → ((at : ℕ) (bytes : List ℕ) → (exactly (n ∷ []) then s) at bytes → instruction_is counted t at bytes) → Q t e
   followed {s} n t e is behind f =
-      found_as (token_is (o, t)) _ c e (found_then (Unit {0}) c d e (found_code n is) behind tt) (λ at bytes j. let k = opened o n s at bytes j in (k.0, f at bytes k.1)) tt
+      found_as (token_is counted (o, t)) _ c e (found_then (Unit {0}) c d e (found_code n is) behind tt) (λ at bytes j. let k = opened o n s at bytes j in (k.0, f at bytes k.1)) tt
 
   is : (n : ℕ) → eqb b n ≡ true → b ≡ n
   is n e = eqb-true b n e
 
-  indexed : (n : ℕ) (make : ℕ → Plain) → eqb b n ≡ true → ((i at : ℕ) (bytes : List ℕ) → (exactly (n ∷ []) then listed_index_is i) at bytes → plain_is (make i) at bytes) → IfGot Q (with_index make d)
+  indexed : (n : ℕ) (make : ℕ → Plain) → eqb b n ≡ true → ((i at : ℕ) (bytes : List ℕ) → (exactly (n ∷ []) then listed_index_is i) at bytes → plain_is counted (make i) at bytes) → IfGot Q (with_index make d)
   unfolding with_index
   indexed n make e f =
       read _ _ u32 _ _ d u32_spelt ready (λ i g index ready.
       followed n (token.Plain (make i.1)) g (is n e) (found_as (listed_index_is i.1) (Unit {0}) d g index (λ at bytes s. s.1) tt) (f i.1))
 
-  typed : (n : ℕ) (make : BlockType → Token) → eqb b n ≡ true → ((t : BlockType) (at : ℕ) (bytes : List ℕ) → (exactly (n ∷ []) then block_type_is t) at bytes → instruction_is (make t) at bytes) → IfGot Q (with_type make d)
+  typed : (n : ℕ) (make : BlockType → Token) → eqb b n ≡ true → ((t : BlockType) (at : ℕ) (bytes : List ℕ) → (exactly (n ∷ []) then block_type_is t) at bytes → instruction_is counted (make t) at bytes) → IfGot Q (with_type make d)
   unfolding with_type
   typed n make e f = read _ _ block_type _ _ d block_type_spelt ready (λ t g ty ready. followed n (make t) g (is n e) ty (f t))
 
@@ -218,7 +213,7 @@ module _ (o b : ℕ) (c d : Cursor) (found : Found (byte_is o b) (Unit {0}) c d)
       (found_as (listed_index_is table.1) (Unit {0}) f g table_found (λ at bytes s. s.1) tt) tt)
       (λ at bytes s. s)))
 
-  zeroed : (n : ℕ) (p : Plain) → eqb b n ≡ true → ((at : ℕ) (bytes : List ℕ) → (exactly (n ∷ []) then exactly (0x00 ∷ [])) at bytes → plain_is p at bytes) → IfGot Q (with_zero p d)
+  zeroed : (n : ℕ) (p : Plain) → eqb b n ≡ true → ((at : ℕ) (bytes : List ℕ) → (exactly (n ∷ []) then exactly (0x00 ∷ [])) at bytes → plain_is counted p at bytes) → IfGot Q (with_zero p d)
   unfolding with_zero
   zeroed n p e f = read _ _ zero_byte _ _ d zero_spelt ready (λ x g zero ready. followed n (token.Plain p) g (is n e) zero f)
 
@@ -230,6 +225,45 @@ module _ (o b : ℕ) (c d : Cursor) (found : Found (byte_is o b) (Unit {0}) c d)
       as_access : (op : Access) → access_code op ≡ b → (m : MemArg) (g : Cursor) → Found (mem_arg_is m) (Always m) d g → Q (token.Plain (accessed op m)) g
       as_access (access.Load op) e m g arg = followed (load_code op) (token.Plain (Load op m)) g (sym e) arg (λ at bytes s. s)
       as_access (access.Store op) e m g arg = followed (store_code op) (token.Plain (Store op m)) g (sym e) arg (λ at bytes s. s)
+
+  -- after the prefix
+  copies : (g : Cursor) → eqb b 0xFC ≡ true → Found (listed_index_is 10) (Unit {0}) d g → Ready g → IfGot Q (copying g)
+  unfolding copying
+  copies g e number ready =
+      read _ _ zero_byte _ _ g zero_spelt ready (λ x h first ready.
+      read _ _ zero_byte _ _ h zero_spelt ready (λ y k second ready.
+      followed 0xFC (token.Plain (Bulk Copy)) k (is 0xFC e) (found_then (Unit {0}) d g k number (found_then (Unit {0}) g h k first second tt) tt) (λ at bytes s. s)))
+
+  fills : (g : Cursor) → eqb b 0xFC ≡ true → Found (listed_index_is 11) (Unit {0}) d g → Ready g → IfGot Q (with_zero (Bulk Fill) g)
+  unfolding with_zero
+  fills g e number ready =
+      read _ _ zero_byte _ _ g zero_spelt ready (λ x h zero ready. followed 0xFC (token.Plain (Bulk Fill)) h (is 0xFC e) (found_then (Unit {0}) d g h number zero tt) (λ at bytes s. s))
+
+  initializes : (g : Cursor) → counted ≡ true → eqb b 0xFC ≡ true → Found (listed_index_is 8) (Unit {0}) d g → Ready g → IfGot Q (initializing g)
+  unfolding initializing
+  initializes g may e number ready =
+      read _ _ u32 _ _ g u32_spelt ready (λ i h index ready.
+      read _ _ zero_byte _ _ h zero_spelt ready (λ x k zero ready.
+      let named = found_as (listed_index_is i.1) (Unit {0}) g h index (λ at bytes s. s.1) tt in
+      followed 0xFC (token.Plain (Bulk (Init i.1))) k (is 0xFC e) (found_then (Unit {0}) d g k number (found_then (Unit {0}) g h k named zero tt) tt) (λ at bytes s. (may, s))))
+
+  drops : (g : Cursor) → counted ≡ true → eqb b 0xFC ≡ true → Found (listed_index_is 9) (Unit {0}) d g → Ready g → IfGot Q (with_index DataDrop g)
+  unfolding with_index
+  drops g may e number ready =
+      read _ _ u32 _ _ g u32_spelt ready (λ i h index ready.
+      let named = found_as (listed_index_is i.1) (Unit {0}) g h index (λ at bytes s. s.1) tt in
+      followed 0xFC (token.Plain (DataDrop i.1)) h (is 0xFC e) (found_then (Unit {0}) d g h number named tt) (λ at bytes s. (may, s)))
+
+  prefixed_found : eqb b 0xFC ≡ true → IfGot Q (prefixed counted o d)
+  unfolding prefixed by_number
+  prefixed_found e =
+      read _ _ u32 _ _ d u32_spelt ready (λ n g found ready.
+      let number : (k : ℕ) → eqb n.1 k ≡ true → Found (listed_index_is k) (Unit {0}) d g = λ k same. found_as (listed_index_is k) (Unit {0}) d g found (λ at bytes s. subst (λ (m : ℕ). listed_index_is m at bytes) (eqb-true n.1 k same) s.1) tt in
+      either_got Q (eqb n.1 8) _ _ g (λ same. either_got Q counted _ _ g (λ may. initializes g may e (number 8 same) ready) (λ none. tt)) (λ no.
+      either_got Q (eqb n.1 9) _ _ g (λ same. either_got Q counted _ _ g (λ may. drops g may e (number 9 same) ready) (λ none. tt)) (λ no.
+      either_got Q (eqb n.1 10) _ _ g (λ same. copies g e (number 10 same) ready) (λ no.
+      either_got Q (eqb n.1 11) _ _ g (λ same. fills g e (number 11 same) ready) (λ no.
+      either_got Q (nat_lt n.1 18) _ _ g (λ lt. tt) (λ no. tt))))))
 
   constants : (ty : ValType) → eqb b (const_opcode ty) ≡ true → IfGot Q (constant ty d)
   unfolding constant
@@ -279,7 +313,7 @@ module _ (o b : ℕ) (c d : Cursor) (found : Found (byte_is o b) (Unit {0}) c d)
       in_table (Some None) e = tt
       in_table (Some (Some op)) e = accesses_memory op (access_at b op ge e)
 
-  numeric_found : IfGot Q (numeric o b d)
+  numeric_found : IfGot Q (numeric counted o b d)
   unfolding numeric
   numeric_found =
       either_got Q (eqb b 0x41) _ _ d (λ e. constants I32 e) (λ no.
@@ -287,12 +321,12 @@ module _ (o b : ℕ) (c d : Cursor) (found : Found (byte_is o b) (Unit {0}) c d)
       either_got Q (nat_lt b 0x45) _ _ d (λ e. tt) (λ ge.
       in_table (ltb-false b 0x45 ge) (slice_get operations (b - 0x45)) refl)))
     where
-      in_table : 0x45 ≤ b → (row : Option (Option Operation)) → slice_get operations (b - 0x45) ≡ row → IfGot Q (operated_at o b row d)
-      in_table ge None e = either_got Q (eqb b 0xFC) _ _ d (λ y. tt) (λ n. tt)
+      in_table : 0x45 ≤ b → (row : Option (Option Operation)) → slice_get operations (b - 0x45) ≡ row → IfGot Q (operated_at counted o b row d)
+      in_table ge None e = either_got Q (eqb b 0xFC) _ _ d (λ y. prefixed_found y) (λ n. tt)
       in_table ge (Some None) e = tt
       in_table ge (Some (Some op)) e = bare (operation_code op) (token.Plain (Operate op)) (sym (operation_at b op ge e)) (λ at bytes s. s)
 
-  pub instruction_found : IfGot Q (instruction o b d)
+  pub instruction_found : IfGot Q (instruction counted o b d)
   unfolding instruction
   instruction_found =
       either_got Q (nat_lt b 0x20) _ _ d (λ e. control_found) (λ n.
@@ -301,11 +335,11 @@ module _ (o b : ℕ) (c d : Cursor) (found : Found (byte_is o b) (Unit {0}) c d)
 
 -- ---- what is encoded is read
 
-alone : (n : ℕ) (t : Token) → ((o : ℕ) (c : Cursor) → instruction o n c ≡ Got t c) → Reads token t (exactly (n ∷ []))
-alone n t e = reads_only byte _ n t (exactly (n ∷ [])) (byte_reads n) e
+alone : (counted : Bool) (n : ℕ) (t : Token) → ((o : ℕ) (c : Cursor) → instruction counted o n c ≡ Got t c) → Reads (token counted) t (exactly (n ∷ []))
+alone counted n t e = reads_only byte _ n t (exactly (n ∷ [])) (byte_reads n) e
 
-before : (n : ℕ) (t : Token) (s : Spelling) → ((o : ℕ) → Reads (instruction o n) t s) → Reads token t (exactly (n ∷ []) then s)
-before n t s h = reads_past byte _ n t (exactly (n ∷ [])) s (byte_reads n) h
+before : (counted : Bool) (n : ℕ) (t : Token) (s : Spelling) → ((o : ℕ) → Reads (instruction counted o n) t s) → Reads (token counted) t (exactly (n ∷ []) then s)
+before counted n t s h = reads_past byte _ n t (exactly (n ∷ [])) s (byte_reads n) h
 
 index_read : (make : ℕ → Plain) (i : ℕ) → Reads (with_index make) (token.Plain (make i)) (listed_index_is i)
 unfolding with_index
@@ -340,38 +374,38 @@ constant_read : (ty : ValType) (n : ℤ) → Reads (constant ty) (token.Plain (C
 unfolding constant
 constant_read ty n = reads_only (number true (bits_of ty)) _ n _ (signed_is ty n) (λ o. (number_spelt true (bits_of ty)).complete (o, n) tt) (λ o c. refl)
 
-loads : (op : LoadOp) (o : ℕ) → instruction o (load_code op) ≡ with_mem_arg (access.Load op)
+loads : (counted : Bool) (op : LoadOp) (o : ℕ) → instruction counted o (load_code op) ≡ with_mem_arg (access.Load op)
 unfolding instruction memory
-loads I32Load o = refl
-loads I64Load o = refl
-loads I32Load8S o = refl
-loads I32Load8U o = refl
-loads I32Load16S o = refl
-loads I32Load16U o = refl
-loads I64Load8S o = refl
-loads I64Load8U o = refl
-loads I64Load16S o = refl
-loads I64Load16U o = refl
-loads I64Load32S o = refl
-loads I64Load32U o = refl
+loads counted I32Load o = refl
+loads counted I64Load o = refl
+loads counted I32Load8S o = refl
+loads counted I32Load8U o = refl
+loads counted I32Load16S o = refl
+loads counted I32Load16U o = refl
+loads counted I64Load8S o = refl
+loads counted I64Load8U o = refl
+loads counted I64Load16S o = refl
+loads counted I64Load16U o = refl
+loads counted I64Load32S o = refl
+loads counted I64Load32U o = refl
 
-stores : (op : StoreOp) (o : ℕ) → instruction o (store_code op) ≡ with_mem_arg (access.Store op)
+stores : (counted : Bool) (op : StoreOp) (o : ℕ) → instruction counted o (store_code op) ≡ with_mem_arg (access.Store op)
 unfolding instruction memory
-stores I32Store o = refl
-stores I64Store o = refl
-stores I32Store8 o = refl
-stores I32Store16 o = refl
-stores I64Store8 o = refl
-stores I64Store16 o = refl
-stores I64Store32 o = refl
+stores counted I32Store o = refl
+stores counted I64Store o = refl
+stores counted I32Store8 o = refl
+stores counted I32Store16 o = refl
+stores counted I64Store8 o = refl
+stores counted I64Store16 o = refl
+stores counted I64Store32 o = refl
 
 not_true : (b : Bool) → not b ≡ true → b ≡ false
 not_true false e = refl
 not_true true e = absurd cc
 
-operates : (op : Operation) (o : ℕ) → instruction o (operation_code op) ≡ plain (Operate op)
+operates : (counted : Bool) (op : Operation) (o : ℕ) → instruction counted o (operation_code op) ≡ plain (Operate op)
 unfolding instruction numeric
-operates op o =
+operates counted op o =
     let low = not_true _ (each_operation (λ (x : Operation). not (nat_lt (operation_code x) 0x20)) refl op) in
     let variables = not_true _ (each_operation (λ (x : Operation). not (nat_lt (operation_code x) 0x28)) refl op) in
     let memories = not_true _ (each_operation (λ (x : Operation). not (nat_lt (operation_code x) 0x41)) refl op) in
@@ -383,36 +417,72 @@ operates op o =
 as_reads : (p q : Reader Token) (t : Token) (s : Spelling) → p ≡ q → Reads q t s → Reads p t s
 as_reads p q t s e h = subst (λ (r : Reader Token). Reads r t s) (sym e) h
 
-plain_read : (p : Plain) → Reads token (token.Plain p) (plain_is p)
-unfolding instruction control variable memory numeric
-plain_read Unreachable = alone 0x00 _ (λ o c. refl)
-plain_read Nop = alone 0x01 _ (λ o c. refl)
-plain_read (Br l) = before 0x0C _ (listed_index_is l) (λ o. index_read Br l)
-plain_read (BrIf l) = before 0x0D _ (listed_index_is l) (λ o. index_read BrIf l)
-plain_read (BrTable labels last) = before 0x0E _ (listed_vector_is listed_index_is labels then listed_index_is last) (λ o. branches_read labels last)
-plain_read Return = alone 0x0F _ (λ o c. refl)
-plain_read (Call x) = before 0x10 _ (listed_index_is x) (λ o. index_read Call x)
-plain_read (CallIndirect i table) = before 0x11 _ (listed_index_is i then listed_index_is table) (λ o. indirect_read i table)
-plain_read Discard = alone 0x1A _ (λ o c. refl)
-plain_read Select = alone 0x1B _ (λ o c. refl)
-plain_read (LocalGet x) = before 0x20 _ (listed_index_is x) (λ o. index_read LocalGet x)
-plain_read (LocalSet x) = before 0x21 _ (listed_index_is x) (λ o. index_read LocalSet x)
-plain_read (LocalTee x) = before 0x22 _ (listed_index_is x) (λ o. index_read LocalTee x)
-plain_read (GlobalGet x) = before 0x23 _ (listed_index_is x) (λ o. index_read GlobalGet x)
-plain_read (GlobalSet x) = before 0x24 _ (listed_index_is x) (λ o. index_read GlobalSet x)
-plain_read (Load op m) = before (load_code op) _ (mem_arg_is m) (λ o. as_reads _ _ _ (mem_arg_is m) (loads op o) (mem_arg_read (access.Load op) m))
-plain_read (Store op m) = before (store_code op) _ (mem_arg_is m) (λ o. as_reads _ _ _ (mem_arg_is m) (stores op o) (mem_arg_read (access.Store op) m))
-plain_read MemorySize = before 0x3F _ (exactly (0x00 ∷ [])) (λ o. zero_read MemorySize)
-plain_read MemoryGrow = before 0x40 _ (exactly (0x00 ∷ [])) (λ o. zero_read MemoryGrow)
-plain_read (Const I32 n) = before 0x41 _ (signed_is I32 n) (λ o. constant_read I32 n)
-plain_read (Const I64 n) = before 0x42 _ (signed_is I64 n) (λ o. constant_read I64 n)
-plain_read (Operate op) = alone (operation_code op) _ (λ o c. ap (λ (r : Reader Token). r c) (operates op o))
+fill_read : (counted : Bool) (at : ℕ) → Reads (prefixed counted at) (token.Plain (Bulk Fill)) (listed_index_is 11 then exactly (0x00 ∷ []))
+unfolding prefixed by_number
+fill_read counted at = reads_past u32 _ 11 _ (listed_index_is 11) (exactly (0x00 ∷ [])) (index_reads 11) (λ o. zero_read (Bulk Fill))
 
-pub token_read : (t : Token) → Reads token t (instruction_is t)
+zeros_read : Reads copying (token.Plain (Bulk Copy)) (exactly (0x00 ∷ []) then exactly (0x00 ∷ []))
+unfolding copying
+zeros_read =
+    reads_then zero_byte _ tt _ (exactly (0x00 ∷ [])) (exactly (0x00 ∷ [])) (zero_spelt.complete tt tt)
+    (reads_on zero_byte _ tt _ (exactly (0x00 ∷ [])) (zero_spelt.complete tt tt) (λ c. refl))
+
+initializing_read : (i : ℕ) → Reads initializing (token.Plain (Bulk (Init i))) (listed_index_is i then exactly (0x00 ∷ []))
+unfolding initializing
+initializing_read i =
+    reads_past u32 _ i _ (listed_index_is i) (exactly (0x00 ∷ [])) (index_reads i) (λ o. reads_on zero_byte _ tt _ (exactly (0x00 ∷ [])) (zero_spelt.complete tt tt) (λ c. refl))
+
+init_read : (at i : ℕ) → Reads (prefixed true at) (token.Plain (Bulk (Init i))) (listed_index_is 8 then listed_index_is i then exactly (0x00 ∷ []))
+unfolding prefixed by_number
+init_read at i = reads_past u32 _ 8 _ (listed_index_is 8) (listed_index_is i then exactly (0x00 ∷ [])) (index_reads 8) (λ o. initializing_read i)
+
+drop_read : (at i : ℕ) → Reads (prefixed true at) (token.Plain (DataDrop i)) (listed_index_is 9 then listed_index_is i)
+unfolding prefixed by_number
+drop_read at i = reads_past u32 _ 9 _ (listed_index_is 9) (listed_index_is i) (index_reads 9) (λ o. index_read DataDrop i)
+
+-- an instruction on data segments is read where they are counted
+if_counted_read : (counted : Bool) (t : Token) (s : Spelling) → Reads (token true) t s → Reads (token counted) t (if_counted counted s)
+if_counted_read true t s h = reads_as (token true) t s (if_counted true s) (λ at bytes k. k.1) h
+if_counted_read false t s h = record { by = λ at end front back fits k. absurd (let e = k.0 in cc) }
+
+copy_read : (counted : Bool) (at : ℕ) → Reads (prefixed counted at) (token.Plain (Bulk Copy)) (listed_index_is 10 then exactly (0x00 ∷ []) then exactly (0x00 ∷ []))
+unfolding prefixed by_number
+copy_read counted at = reads_past u32 _ 10 _ (listed_index_is 10) (exactly (0x00 ∷ []) then exactly (0x00 ∷ [])) (index_reads 10) (λ o. zeros_read)
+
+plain_read : (counted : Bool) (p : Plain) → Reads (token counted) (token.Plain p) (plain_is counted p)
+unfolding instruction control variable memory numeric
+plain_read counted Unreachable = alone counted 0x00 _ (λ o c. refl)
+plain_read counted Nop = alone counted 0x01 _ (λ o c. refl)
+plain_read counted (Br l) = before counted 0x0C _ (listed_index_is l) (λ o. index_read Br l)
+plain_read counted (BrIf l) = before counted 0x0D _ (listed_index_is l) (λ o. index_read BrIf l)
+plain_read counted (BrTable labels last) = before counted 0x0E _ (listed_vector_is listed_index_is labels then listed_index_is last) (λ o. branches_read labels last)
+plain_read counted Return = alone counted 0x0F _ (λ o c. refl)
+plain_read counted (Call x) = before counted 0x10 _ (listed_index_is x) (λ o. index_read Call x)
+plain_read counted (CallIndirect i table) = before counted 0x11 _ (listed_index_is i then listed_index_is table) (λ o. indirect_read i table)
+plain_read counted Discard = alone counted 0x1A _ (λ o c. refl)
+plain_read counted Select = alone counted 0x1B _ (λ o c. refl)
+plain_read counted (LocalGet x) = before counted 0x20 _ (listed_index_is x) (λ o. index_read LocalGet x)
+plain_read counted (LocalSet x) = before counted 0x21 _ (listed_index_is x) (λ o. index_read LocalSet x)
+plain_read counted (LocalTee x) = before counted 0x22 _ (listed_index_is x) (λ o. index_read LocalTee x)
+plain_read counted (GlobalGet x) = before counted 0x23 _ (listed_index_is x) (λ o. index_read GlobalGet x)
+plain_read counted (GlobalSet x) = before counted 0x24 _ (listed_index_is x) (λ o. index_read GlobalSet x)
+plain_read counted (Load op m) = before counted (load_code op) _ (mem_arg_is m) (λ o. as_reads _ _ _ (mem_arg_is m) (loads counted op o) (mem_arg_read (access.Load op) m))
+plain_read counted (Store op m) = before counted (store_code op) _ (mem_arg_is m) (λ o. as_reads _ _ _ (mem_arg_is m) (stores counted op o) (mem_arg_read (access.Store op) m))
+plain_read counted MemorySize = before counted 0x3F _ (exactly (0x00 ∷ [])) (λ o. zero_read MemorySize)
+plain_read counted MemoryGrow = before counted 0x40 _ (exactly (0x00 ∷ [])) (λ o. zero_read MemoryGrow)
+plain_read counted (Bulk Fill) = before counted 0xFC _ (listed_index_is 11 then exactly (0x00 ∷ [])) (λ o. fill_read counted o)
+plain_read counted (Bulk Copy) = before counted 0xFC _ (listed_index_is 10 then exactly (0x00 ∷ []) then exactly (0x00 ∷ [])) (λ o. copy_read counted o)
+plain_read counted (Bulk (Init x)) = if_counted_read counted _ _ (before true 0xFC _ (listed_index_is 8 then listed_index_is x then exactly (0x00 ∷ [])) (λ o. init_read o x))
+plain_read counted (DataDrop x) = if_counted_read counted _ _ (before true 0xFC _ (listed_index_is 9 then listed_index_is x) (λ o. drop_read o x))
+plain_read counted (Const I32 n) = before counted 0x41 _ (signed_is I32 n) (λ o. constant_read I32 n)
+plain_read counted (Const I64 n) = before counted 0x42 _ (signed_is I64 n) (λ o. constant_read I64 n)
+plain_read counted (Operate op) = alone counted (operation_code op) _ (λ o c. ap (λ (r : Reader Token). r c) (operates counted op o))
+
+pub token_read : (counted : Bool) (t : Token) → Reads (token counted) t (instruction_is counted t)
 unfolding instruction control
-token_read (token.Plain p) = plain_read p
-token_read (token.Block ty) = before 0x02 _ (block_type_is ty) (λ o. type_read token.Block ty)
-token_read (token.Loop ty) = before 0x03 _ (block_type_is ty) (λ o. type_read token.Loop ty)
-token_read (token.If ty) = before 0x04 _ (block_type_is ty) (λ o. type_read token.If ty)
-token_read token.Else = alone 0x05 _ (λ o c. refl)
-token_read token.End = alone 0x0B _ (λ o c. refl)
+token_read counted (token.Plain p) = plain_read counted p
+token_read counted (token.Block ty) = before counted 0x02 _ (block_type_is ty) (λ o. type_read token.Block ty)
+token_read counted (token.Loop ty) = before counted 0x03 _ (block_type_is ty) (λ o. type_read token.Loop ty)
+token_read counted (token.If ty) = before counted 0x04 _ (block_type_is ty) (λ o. type_read token.If ty)
+token_read counted token.Else = alone counted 0x05 _ (λ o c. refl)
+token_read counted token.End = alone counted 0x0B _ (λ o c. refl)

@@ -116,8 +116,8 @@ locals_stop last c ready fits =
 
 -- ---- bodies
 
-pub wrong_locals : (first : ℕ) (bytes : List ℕ) → AreBytes bytes → BeginNoLocals first bytes → (r : Refusal) × (body_read first bytes ≡ no_code (stops (Some r))) × AreLocalsWrong first bytes (last_of first bytes) r
-wrong_locals first bytes are none = of (local_groups c) refl
+pub wrong_locals : (counted : Bool) (first : ℕ) (bytes : List ℕ) → AreBytes bytes → BeginNoLocals first bytes → (r : Refusal) × (body_read counted first bytes ≡ no_code (stops (Some r))) × AreLocalsWrong first bytes (last_of first bytes) r
+wrong_locals counted first bytes are none = of (local_groups c) refl
   where
     c : Cursor
     c = body_cursor first bytes
@@ -131,10 +131,10 @@ wrong_locals first bytes are none = of (local_groups c) refl
     stop : (x : Read (List Group)) → local_groups c ≡ x → IfStops (AreLocalsWrong first bytes last) last x
     stop x e = subst (IfStops (AreLocalsWrong first bytes last) last) e (locals_stop last c ready (omega arith))
 
-    of : (x : Read (List Group)) → local_groups c ≡ x → (r : Refusal) × (body_read first bytes ≡ no_code (stops (Some r))) × AreLocalsWrong first bytes last r
+    of : (x : Read (List Group)) → local_groups c ≡ x → (r : Refusal) × (body_read counted first bytes ≡ no_code (stops (Some r))) × AreLocalsWrong first bytes last r
     of (Got gs d) e =
         let found : Found (listed_vector_is group_is gs) (Unit {0}) c d = subst (IfGot (λ (gs : List Group) (d : Cursor). Found (listed_vector_is group_is gs) (Unit {0}) c d)) e (locals_found c ready) in
-        let few : LocalsAreFew gs = subst LocalsAreFew (ap (λ (x : Read (List Group)). (read_code last x (length bytes + 1)).groups) e) (locals_are_few first bytes) in
+        let few : LocalsAreFew gs = subst LocalsAreFew (ap (λ (x : Read (List Group)). (read_code counted last x (length bytes + 1)).groups) e) (locals_are_few counted first bytes) in
         absurd (none gs found.taken d.rest found.parts found.spelled few)
-    of (Fault r) e = (r, ap (λ (x : Read (List Group)). read_code last x (length bytes + 1)) e, stop (Fault r) e)
-    of Wants e = (record { offset = last; kind = Malformed }, ap (λ (x : Read (List Group)). read_code last x (length bytes + 1)) e, stop Wants e)
+    of (Fault r) e = (r, ap (λ (x : Read (List Group)). read_code counted last x (length bytes + 1)) e, stop (Fault r) e)
+    of Wants e = (record { offset = last; kind = Malformed }, ap (λ (x : Read (List Group)). read_code counted last x (length bytes + 1)) e, stop Wants e)

@@ -1,5 +1,6 @@
 -- Where no token begins, the error is at the first field that isn't encoded.
 use Rattle.std.proofs.Common.{◌≡◌, ◌⊎◌, inl, inr, ℕ, zero, suc, ◌+◌, ◌-◌, ℤ, pos, negsuc, Bool, true, false, cond, nat_lt, nat_le, eqb, ◌||◌, List, [], ◌∷◌, ◌++◌, length, replicate, Option, Some, None, refl, sym, ap, subst, ◌∙◌, append_assoc, arith, length-append}
+use Rattle.std.proofs.lemmas.Bool.{cases_Bool, eqb-true}
 use Rattle.std.proofs.lemmas.List.{append-nil}
 use Rattle.wasm_defs.specs.declared.fault.Kind.{Kind}
 use Rattle.wasm_defs.specs.declared.fault.Kind.TheVariants.{Malformed, Unsupported}
@@ -10,6 +11,7 @@ use Rattle.wasm_defs.specs.declared.operation.Access.{Access}
 use Rattle.wasm_defs.specs.declared.operation.Operation.{Operation}
 use Rattle.wasm_defs.specs.declared.token.BlockType.{BlockType}
 use Rattle.wasm_defs.specs.declared.token.BlockType.TheVariants.{Empty, Value}
+use Rattle.wasm_defs.specs.declared.token.BulkOp.TheVariants.{Fill, Copy, Init}
 use Rattle.wasm_defs.specs.declared.token.Plain.{Plain}
 use Rattle.wasm_defs.specs.declared.token.Plain.TheVariants as plains
 use Rattle.wasm_defs.specs.declared.token.Token.{Token}
@@ -18,7 +20,7 @@ use Rattle.wasm_defs.specs.Entries.{bits_of}
 use Rattle.wasm_defs.specs.Fields.{Cursor, Read, Got, Fault, Reader, then_go, ◌>>=◌, done, refused, repeated, room_of, window, past, first_of, from_reading, byte, number, here, u32, vector}
 use Rattle.wasm_defs.specs.Numbers.{Reading, Number, CutOff, Bad, number_at}
 use Rattle.wasm_defs.specs.Items.{Spelling, ◌then◌, exactly, byte_is, u32_is, number_is, listed_index_is}
-use Rattle.wasm_defs.specs.Bodies.{with_index, short_type, type_by, block_type, with_type, label, branch_table, zero_byte, indirect, with_zero, mem_arg, accessed, with_mem_arg, constant, control, variable, accessed_at, memory, operated_at, numeric, instruction}
+use Rattle.wasm_defs.specs.Bodies.{with_index, short_type, type_by, block_type, with_type, label, branch_table, zero_byte, indirect, with_zero, initializing, copying, by_number, prefixed, mem_arg, accessed, with_mem_arg, constant, control, variable, accessed_at, memory, operated_at, numeric, instruction}
 use Rattle.wasm_defs.specs.Codes.{block_type_is, instruction_is}
 use Rattle.wasm_defs.proofs.NumberLaws.{AreBytes}
 use Rattle.wasm_laws.specs.Sections as sections
@@ -28,7 +30,7 @@ use Rattle.wasm_laws.proofs.Steady.{IfGot}
 use Rattle.wasm_laws.proofs.Parts.{then_got, got_map}
 use Rattle.wasm_laws.proofs.Spelt.{cursor, Ready, Found, later, found_nothing, found_then, found_here}
 use Rattle.wasm_laws.proofs.SpeltFields.{Always, byte_spelt, number_spelt, u32_spelt}
-use Rattle.body_laws.specs.WrongTokens.{Field, Index, Typed, Zero, Signed, field_is, fields_are, Following, Fields, Labels, following_is, IsWrongField, AreWrongFields, IsWrongFollowing, IsWrongToken}
+use Rattle.body_laws.specs.WrongTokens.{Field, Index, Typed, Zero, Signed, field_is, fields_are, Following, Fields, Labels, anything, opcode_is, Numbered, following_is, IsWrongField, AreWrongFields, IsWrongFollowing, IsWrongToken}
 use Rattle.body_laws.proofs.SpeltTokens.{typed_by, block_type_spelt, zero_spelt, token_read}
 use Rattle.body_laws.proofs.WrongFields.{IfStops, stops_then, stops_as, got_as, Fits, fits_behind, got_of, read_wrong, fault_at, cut_place, number_place, u32_place}
 
@@ -305,52 +307,182 @@ memory_known : (at b : ℕ) → Known at (memory at b)
 unfolding memory
 memory_known at b = tested at (eqb b 0x3F) _ _ (zeroed at plains.MemorySize) (tested at (eqb b 0x40) _ _ (zeroed at plains.MemoryGrow) (accessed_known at _))
 
-operated_known : (at b : ℕ) (row : Option (Option Operation)) → Known at (operated_at at b row)
-operated_known at b None = tested at _ _ _ (refuses at Unsupported) (refuses at Malformed)
-operated_known at b (Some None) = refuses at Unsupported
-operated_known at b (Some (Some op)) = bare at _
+operated_known : (counted : Bool) (at b : ℕ) (row : Option (Option Operation)) → eqb b 0xFC ≡ false → Known at (operated_at counted at b row)
+operated_known counted at b None other = rw other (refuses at Malformed)
+operated_known counted at b (Some None) other = refuses at Unsupported
+operated_known counted at b (Some (Some op)) other = bare at _
 
-numeric_known : (at b : ℕ) → Known at (numeric at b)
+numeric_known : (counted : Bool) (at b : ℕ) → eqb b 0xFC ≡ false → Known at (numeric counted at b)
 unfolding numeric
-numeric_known at b =
+numeric_known counted at b other =
     tested at (eqb b 0x41) _ _ (numbered at I32) (
     tested at (eqb b 0x42) _ _ (numbered at I64) (
-    tested at (nat_lt b 0x45) _ _ (refuses at Unsupported) (operated_known at b _)))
+    tested at (nat_lt b 0x45) _ _ (refuses at Unsupported) (operated_known counted at b _ other)))
 
-instruction_known : (at b : ℕ) → Known at (instruction at b)
+-- but for the prefix
+instruction_known : (counted : Bool) (at b : ℕ) → eqb b 0xFC ≡ false → Known at (instruction counted at b)
 unfolding instruction
-instruction_known at b =
+instruction_known counted at b other =
     tested at (nat_lt b 0x20) _ _ (control_known at b) (
     tested at (nat_lt b 0x28) _ _ (variable_known at b) (
-    tested at (nat_lt b 0x41) _ _ (memory_known at b) (numeric_known at b)))
+    tested at (nat_lt b 0x41) _ _ (memory_known at b) (numeric_known counted at b other)))
 
 -- ---- after an opcode
 
 -- what a token's encoding is read as, after its opcode
-token_of : (at b : ℕ) (t : Token) (more : List ℕ) → instruction_is t at (b ∷ more) → instruction at b (cursor (at + 1) (more ++ []) (at + 1 + length more)) ≡ Got t (cursor (at + length (b ∷ more)) [] (at + 1 + length more))
-token_of at b t more s =
+token_of : (counted : Bool) (at b : ℕ) (t : Token) (more : List ℕ) → instruction_is counted t at (b ∷ more) → instruction counted at b (cursor (at + 1) (more ++ []) (at + 1 + length more)) ≡ Got t (cursor (at + length (b ∷ more)) [] (at + 1 + length more))
+token_of counted at b t more s =
     let end = at + 1 + length more in
     let first : byte (cursor at (b ∷ (more ++ [])) end) ≡ Got (at, b) (cursor (at + 1) (more ++ []) end) = (byte_spelt.complete (at, b) tt).by at end (b ∷ []) (more ++ []) (omega arith) (refl, refl) in
-    let whole : steady.token (cursor at ((b ∷ more) ++ []) end) ≡ Got t (cursor (at + length (b ∷ more)) [] end) = (token_read t).by at end (b ∷ more) [] (omega arith) s in
-    sym (ap (λ (z : Read (ℕ × ℕ)). then_go z (λ b. instruction b.0 b.1)) first) ∙ whole
+    let whole : steady.token counted (cursor at ((b ∷ more) ++ []) end) ≡ Got t (cursor (at + length (b ∷ more)) [] end) = (token_read counted t).by at end (b ∷ more) [] (omega arith) s in
+    sym (ap (λ (z : Read (ℕ × ℕ)). then_go z (λ b. instruction counted b.0 b.1)) first) ∙ whole
 
-follows_all : (at b : ℕ) (F : Following) → Follows F (instruction at b) → (t : Token) (more : List ℕ) → sections.AreBytes more → instruction_is t at (b ∷ more) → following_is F (at + 1) more
-follows_all at b F h t more are s =
+found_follows : (counted : Bool) (at b : ℕ) (F : Following) → ((c : Cursor) → Ready c → IfGot (λ t d. Found (following_is F) (Unit {0}) c d) (instruction counted at b c)) → (t : Token) (more : List ℕ) → sections.AreBytes more → instruction_is counted t at (b ∷ more) → following_is F (at + 1) more
+found_follows counted at b F h t more are s =
     let c : Cursor = cursor (at + 1) (more ++ []) (at + 1 + length more) in
     let ready : Ready c = record { low = omega arith; bytes = subst AreBytes (sym (append-nil more)) (each_byte more are) } in
-    let found = got_as (λ (x : Token) (d : Cursor). Found (following_is F) (Unit {0}) c d) (instruction at b c) t _ (token_of at b t more s) (h.found c ready) in
+    let found = got_as (λ (x : Token) (d : Cursor). Found (following_is F) (Unit {0}) c d) (instruction counted at b c) t _ (token_of counted at b t more s) (h c ready) in
     let same : found.taken ≡ more = sym (append-nil found.taken) ∙ sym found.parts ∙ append-nil more in
     subst (λ (l : List ℕ). following_is F (at + 1) l) same found.spelled
 
-none_at : (at b : ℕ) (kind : Kind) → ((c : Cursor) → instruction at b c ≡ Fault (record { offset = at; kind = kind })) → (t : Token) (more : List ℕ) → instruction_is t at (b ∷ more) → ⊥
-none_at at b kind all t more s =
-    let got = token_of at b t more s in
+follows_all : (counted : Bool) (at b : ℕ) (F : Following) → Follows F (instruction counted at b) → (t : Token) (more : List ℕ) → sections.AreBytes more → instruction_is counted t at (b ∷ more) → following_is F (at + 1) more
+follows_all counted at b F h = found_follows counted at b F h.found
+
+none_at : (counted : Bool) (at b : ℕ) (kind : Kind) → ((c : Cursor) → instruction counted at b c ≡ Fault (record { offset = at; kind = kind })) → (t : Token) (more : List ℕ) → instruction_is counted t at (b ∷ more) → ⊥
+none_at counted at b kind all t more s =
+    let got = token_of counted at b t more s in
     let not = all (cursor (at + 1) (more ++ []) (at + 1 + length more)) in
     absurd cc
 
+-- ---- after the prefix
+
+two_zeros : FieldsAre (Zero ∷ Zero ∷ []) copying
+unfolding copying
+two_zeros = then_field Zero (Zero ∷ []) zero_byte _ zero_field (λ x. last_field Zero zero_byte (λ y. token.Plain (plains.Bulk Copy)) zero_field)
+
+initialized : (at : ℕ) → Known at initializing
+unfolding initializing
+initialized at =
+    inr (Fields (Index ∷ Zero ∷ []), as_fields (Index ∷ Zero ∷ []) initializing (then_field Index (Zero ∷ []) u32 _ index_field (λ i. last_field Zero zero_byte (λ x. token.Plain (plains.Bulk (Init i.1))) zero_field)))
+
+by_number_known : (counted : Bool) (at n : ℕ) → Known at (by_number counted at n)
+unfolding by_number
+by_number_known counted at n =
+    tested at (eqb n 8) _ _ (tested at counted _ _ (initialized at) (refuses at Malformed)) (
+    tested at (eqb n 9) _ _ (tested at counted _ _ (indexed at plains.DataDrop) (refuses at Malformed)) (
+    tested at (eqb n 10) _ _ (inr (Fields (Zero ∷ Zero ∷ []), as_fields (Zero ∷ Zero ∷ []) copying two_zeros)) (
+    tested at (eqb n 11) _ _ (zeroed at (plains.Bulk Fill)) (
+    tested at (nat_lt n 18) _ _ (refuses at Unsupported) (refuses at Malformed)))))
+
+-- the number alone
+number_found : (counted : Bool) (at : ℕ) (c : Cursor) → Ready c → IfGot (λ t d. Found (following_is Numbered) (Unit {0}) c d) (prefixed counted at c)
+unfolding prefixed
+number_found counted at c ready =
+    then_got (λ n d. Found (field_is Index) (Unit {0}) c d) (λ t e. Found (following_is Numbered) (Unit {0}) c e) (u32 c) _ (index_field.found c ready) (λ n d found.
+    known_behind at n.1 c d found ready (by_number_known counted at n.1))
+  where
+    known_behind : (at n : ℕ) (c d : Cursor) → Found (field_is Index) (Unit {0}) c d → Ready c → Known at (by_number counted at n) → IfGot (λ t e. Found (following_is Numbered) (Unit {0}) c e) (by_number counted at n d)
+    known_behind at n c d found ready (inl (kind, all)) = subst (IfGot (λ t e. Found (following_is Numbered) (Unit {0}) c e)) (sym (all d)) tt
+    known_behind at n c d found ready (inr (F, h)) =
+        got_map (λ t e. Found (following_is F) (Unit {0}) d e) (λ t e. Found (following_is Numbered) (Unit {0}) c e) (by_number counted at n d) (λ t e behind.
+        found_then (Unit {0}) c d e found (found_here anything (Unit {0}) d e behind tt tt) tt) (h.found d (later c d found ready))
+
+prefix_read : (counted : Bool) (at : ℕ) (c : Cursor) → instruction counted at 0xFC c ≡ prefixed counted at c
+unfolding instruction numeric
+prefix_read counted at c = refl
+
+-- what a token's encoding is read as, after the prefix and its number
+number_of : (counted : Bool) (at n : ℕ) (num : List ℕ) → listed_index_is n (at + 1) num → (t : Token) (more : List ℕ) → instruction_is counted t at (0xFC ∷ (num ++ more))
+    → by_number counted at n (cursor (at + 1 + length num) (more ++ []) (at + 1 + length (num ++ more))) ≡ Got t (cursor (at + length (0xFC ∷ (num ++ more))) [] (at + 1 + length (num ++ more)))
+unfolding prefixed
+number_of counted at n num spelled t more s =
+    let end = at + 1 + length (num ++ more) in
+    let all = sym (prefix_read counted at (cursor (at + 1) ((num ++ more) ++ []) end)) ∙ token_of counted at 0xFC t (num ++ more) s in
+    let first : u32 (cursor (at + 1) (num ++ (more ++ [])) end) ≡ Got (at + 1, n) (cursor (at + 1 + length num) (more ++ []) end) =
+    (u32_spelt.complete (at + 1, n) tt).by (at + 1) end num (more ++ []) (omega (arith, length-append num more)) (refl, spelled) in
+    let same : u32 (cursor (at + 1) ((num ++ more) ++ []) end) ≡ Got (at + 1, n) (cursor (at + 1 + length num) (more ++ []) end) =
+    ap (λ (l : List ℕ). u32 (cursor (at + 1) l end)) (append_assoc num more []) ∙ first in
+    sym (ap (λ (z : Read (ℕ × ℕ)). then_go z (λ n. by_number counted at n.1)) same) ∙ all
+
+module _ (counted : Bool) (last : ℕ) (c d : Cursor) (ready : Ready d) (fits : Fits d) (at : ℕ) (place : at ≡ c.at) (parts : c.rest ≡ 0xFC ∷ d.rest) (behind : d.at ≡ c.at + 1) where
+  abbrev WrongHere : Refusal → Type 0
+  WrongHere = IsWrongToken counted c.at c.rest last
+
+  wrong_number : (r : Refusal) → IsWrongField Index d.at d.rest last r → WrongHere r
+  wrong_number r w = inr (inr (record {
+    opcode = 0xFC ∷ [];
+    behind = d.rest;
+    parts = parts;
+    is = inl (0xFC, refl);
+    following = Numbered;
+    follows = λ t more are s. number_follows t more are s;
+    wrong = subst (λ (o : ℕ). IsWrongField Index o d.rest last r) behind w;
+  }))
+    where
+      number_follows : (t : Token) (more : List ℕ) → sections.AreBytes more → instruction_is counted t c.at (0xFC ∷ more) → following_is Numbered (c.at + 1) more
+      number_follows t more are s = found_follows counted c.at 0xFC Numbered (λ e ready. subst (IfGot (λ t f. Found (following_is Numbered) (Unit {0}) e f)) (sym (prefix_read counted c.at e)) (number_found counted c.at e ready)) t more are s
+
+  module _ (n : ℕ) (g : Cursor) (found : Found (listed_index_is n) (Unit {0}) d g) where
+    abbrev opcode : List ℕ
+    opcode = 0xFC ∷ found.taken
+
+    its : opcode_is c.at opcode
+    its = inr (n, record { front = 0xFC ∷ []; back = found.taken; parts = refl; first = refl; second = subst (λ (o : ℕ). listed_index_is n o found.taken) behind found.spelled })
+
+    its_parts : c.rest ≡ opcode ++ g.rest
+    its_parts = parts ∙ ap (λ (l : List ℕ). 0xFC ∷ l) found.parts
+
+    wrong_behind : (F : Following) → Follows F (by_number counted at n) → (r : Refusal) → IsWrongFollowing F g.at g.rest last r → WrongHere r
+    wrong_behind F h r w = inr (inr (record {
+      opcode = opcode;
+      behind = g.rest;
+      parts = its_parts;
+      is = its;
+      following = F;
+      follows = λ t more are s. its_follows t more are s;
+      wrong = subst (λ (o : ℕ). IsWrongFollowing F o g.rest last r) (found.at ∙ omega (arith, behind)) w;
+    }))
+      where
+        its_follows : (t : Token) (more : List ℕ) → sections.AreBytes more → instruction_is counted t c.at (opcode ++ more) → following_is F (c.at + length opcode) more
+        its_follows t more are s =
+            let e : Cursor = cursor (c.at + 1 + length found.taken) (more ++ []) (c.at + 1 + length (found.taken ++ more)) in
+            let ready : Ready e = record { low = omega (arith, length-append found.taken more); bytes = subst AreBytes (sym (append-nil more)) (each_byte more are) } in
+            let got = number_of counted c.at n found.taken (subst (λ (o : ℕ). listed_index_is n o found.taken) behind found.spelled) t more s in
+            let own : by_number counted at n e ≡ _ = ap (λ (o : ℕ). by_number counted o n e) place ∙ got in
+            let f = got_as (λ (x : Token) (d : Cursor). Found (following_is F) (Unit {0}) e d) (by_number counted at n e) t _ own (h.found e ready) in
+            let same : f.taken ≡ more = sym (append-nil f.taken) ∙ sym f.parts ∙ append-nil more in
+            let there : c.at + 1 + length found.taken ≡ c.at + length opcode = omega arith in
+            subst (λ (o : ℕ). following_is F o more) there (subst (λ (l : List ℕ). following_is F (c.at + 1 + length found.taken) l) same f.spelled)
+
+    no_token : (kind : Kind) → ((e : Cursor) → by_number counted at n e ≡ Fault (record { offset = at; kind = kind })) → WrongHere (record { offset = at; kind = kind })
+    no_token kind all = inr (inl (record { opcode = opcode; behind = g.rest; parts = its_parts; is = its; none = λ t more s. never t more s; place = place }))
+      where
+        never : (t : Token) (more : List ℕ) → instruction_is counted t c.at (opcode ++ more) → ⊥
+        never t more s =
+            let e : Cursor = cursor (c.at + 1 + length found.taken) (more ++ []) (c.at + 1 + length (found.taken ++ more)) in
+            let got = number_of counted c.at n found.taken (subst (λ (o : ℕ). listed_index_is n o found.taken) behind found.spelled) t more s in
+            let own : by_number counted at n e ≡ _ = ap (λ (o : ℕ). by_number counted o n e) place ∙ got in
+            let not = all e in
+            absurd cc
+
+    behind_number : Known at (by_number counted at n) → IfStops WrongHere last (by_number counted at n g)
+    behind_number (inl (kind, all)) = subst (IfStops WrongHere last) (sym (all g)) (no_token kind all)
+    behind_number (inr (F, h)) = stops_as (IsWrongFollowing F g.at g.rest last) WrongHere last (by_number counted at n g) (λ r w. wrong_behind F h r w) (h.wrong last g (later d g found ready) (fits_behind d g found fits))
+
+  prefixed_wrong : IfStops WrongHere last (prefixed counted at d)
+  unfolding prefixed
+  prefixed_wrong =
+      stops_then WrongHere last (u32 d) _ (stops_as (IsWrongField Index d.at d.rest last) WrongHere last (u32 d) (λ r w. wrong_number r w) (index_field.wrong last d fits)) (λ n g e.
+      let found = got_as (λ (n : ℕ × ℕ) (g : Cursor). Found (u32_is n) (Always n) d g) (u32 d) n g e (u32_spelt.sound d ready) in
+      behind_number n.1 g (found_here (listed_index_is n.1) (Unit {0}) d g found found.spelled.1 tt) (by_number_known counted at n.1))
+
 -- where the instruction after an opcode isn't read
-pub opcode_wrong : (last : ℕ) (c : Cursor) (b : ℕ × ℕ) (d : Cursor) → Ready c → Fits c → Found (byte_is b.0 b.1) (Unit {0}) c d → IfStops (IsWrongToken c.at c.rest last) last (instruction b.0 b.1 d)
-opcode_wrong last c b d ready fits found = of (instruction_known b.0 b.1)
+pub opcode_wrong : (counted : Bool) (last : ℕ) (c : Cursor) (b : ℕ × ℕ) (d : Cursor) → Ready c → Fits c → Found (byte_is b.0 b.1) (Unit {0}) c d → IfStops (IsWrongToken counted c.at c.rest last) last (instruction counted b.0 b.1 d)
+opcode_wrong counted last c b d ready fits found =
+    elim (cases_Bool (eqb b.1 0xFC)) [
+      | inl prefix ↦ prefix_so (eqb-true b.1 0xFC prefix)
+      | inr other ↦ of (instruction_known counted b.0 b.1 other)
+    ]
   where
     here : b.0 ≡ c.at
     here = found.spelled.0
@@ -361,19 +493,26 @@ opcode_wrong last c b d ready fits found = of (instruction_known b.0 b.1)
     behind : d.at ≡ c.at + 1
     behind = omega (arith, found.at, ap length found.spelled.1)
 
-    refused_so : (r : Refusal) → r.offset ≡ b.0 → ((t : Token) (more : List ℕ) → instruction_is t b.0 (b.1 ∷ more) → ⊥) → IsWrongToken c.at c.rest last r
-    refused_so r place none = inr (inl (record { opcode = b.1; behind = d.rest; parts = parts; none = λ t more s. none t more (subst (λ (o : ℕ). instruction_is t o (b.1 ∷ more)) (sym here) s); place = place ∙ here }))
+    refused_so : (r : Refusal) → r.offset ≡ b.0 → ((t : Token) (more : List ℕ) → instruction_is counted t b.0 (b.1 ∷ more) → ⊥) → IsWrongToken counted c.at c.rest last r
+    refused_so r place none = inr (inl (record { opcode = b.1 ∷ []; behind = d.rest; parts = parts; is = inl (b.1, refl); none = λ t more s. none t more (subst (λ (o : ℕ). instruction_is counted t o (b.1 ∷ more)) (sym here) s); place = place ∙ here }))
 
-    wrong_so : (F : Following) → Follows F (instruction b.0 b.1) → (r : Refusal) → IsWrongFollowing F d.at d.rest last r → IsWrongToken c.at c.rest last r
+    wrong_so : (F : Following) → Follows F (instruction counted b.0 b.1) → (r : Refusal) → IsWrongFollowing F d.at d.rest last r → IsWrongToken counted c.at c.rest last r
     wrong_so F h r w = inr (inr (record {
-      opcode = b.1;
+      opcode = b.1 ∷ [];
       behind = d.rest;
       parts = parts;
+      is = inl (b.1, refl);
       following = F;
-      follows = subst (λ (o : ℕ). (t : Token) (more : List ℕ) → sections.AreBytes more → instruction_is t o (b.1 ∷ more) → following_is F (o + 1) more) here (follows_all b.0 b.1 F h);
+      follows = subst (λ (o : ℕ). (t : Token) (more : List ℕ) → sections.AreBytes more → instruction_is counted t o (b.1 ∷ more) → following_is F (o + 1) more) here (follows_all counted b.0 b.1 F h);
       wrong = subst (λ (o : ℕ). IsWrongFollowing F o d.rest last r) behind w;
     }))
 
-    of : Known b.0 (instruction b.0 b.1) → IfStops (IsWrongToken c.at c.rest last) last (instruction b.0 b.1 d)
-    of (inl (kind, all)) = subst (IfStops (IsWrongToken c.at c.rest last) last) (sym (all d)) (refused_so (record { offset = b.0; kind = kind }) refl (none_at b.0 b.1 kind all))
-    of (inr (F, h)) = stops_as (IsWrongFollowing F d.at d.rest last) (IsWrongToken c.at c.rest last) last (instruction b.0 b.1 d) (λ r w. wrong_so F h r w) (h.wrong last d (later c d found ready) (fits_behind c d found fits))
+    prefix_so : b.1 ≡ 0xFC → IfStops (IsWrongToken counted c.at c.rest last) last (instruction counted b.0 b.1 d)
+    prefix_so is =
+        subst (λ (n : ℕ). IfStops (IsWrongToken counted c.at c.rest last) last (instruction counted b.0 n d)) (sym is)
+        (subst (IfStops (IsWrongToken counted c.at c.rest last) last) (sym (prefix_read counted b.0 d))
+        (prefixed_wrong counted last c d (later c d found ready) (fits_behind c d found fits) b.0 here (parts ∙ ap (λ (n : ℕ). n ∷ d.rest) is) behind))
+
+    of : Known b.0 (instruction counted b.0 b.1) → IfStops (IsWrongToken counted c.at c.rest last) last (instruction counted b.0 b.1 d)
+    of (inl (kind, all)) = subst (IfStops (IsWrongToken counted c.at c.rest last) last) (sym (all d)) (refused_so (record { offset = b.0; kind = kind }) refl (none_at counted b.0 b.1 kind all))
+    of (inr (F, h)) = stops_as (IsWrongFollowing F d.at d.rest last) (IsWrongToken counted c.at c.rest last) last (instruction counted b.0 b.1 d) (λ r w. wrong_so F h r w) (h.wrong last d (later c d found ready) (fits_behind c d found fits))

@@ -18,7 +18,7 @@ use Rattle.wasm_laws.specs.Sections.{AreSectionsOf}
 pub record IsSpelled (items : List Item) (k : ℕ) (b : Body) (tree : Seq) : Type 0 where
   pub groups : List Group
   pub tokens : List (ℕ × Token)
-  pub spelled : Code groups tokens b.first b.bytes
+  pub spelled : Code b.counted groups tokens b.first b.bytes
   pub few : LocalsAreFew groups
   pub nests : Tree (tokens_of tokens) tree
   pub typed : IsBody (body_context (context_of items) (type_of_function (context_of items) (import_count items + k)) groups) tree

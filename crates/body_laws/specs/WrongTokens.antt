@@ -1,5 +1,5 @@
 -- Where the tokens of a body are wrong (WebAssembly Core 1.0, 5.4): at an opcode, or after it at the first field that isn't encoded.
-use Rattle.std.specs.Prelude.{◌≡◌, ◌⊎◌, ℕ, ℤ, ◌+◌, List, [], ◌∷◌, ◌++◌, length, replicate}
+use Rattle.std.specs.Prelude.{Bool, ◌≡◌, ◌⊎◌, ℕ, ℤ, ◌+◌, List, [], ◌∷◌, ◌++◌, length, replicate}
 use Rattle.wasm_defs.specs.declared.fault.Kind.TheVariants.{Malformed}
 use Rattle.wasm_defs.specs.declared.fault.Refusal.{Refusal}
 use Rattle.wasm_defs.specs.declared.token.BlockType.{BlockType}
@@ -28,14 +28,24 @@ abbrev pub fields_are : List Field → Spelling
 fields_are [] = exactly []
 fields_are (f ∷ fs) = field_is f then fields_are fs
 
--- some fields; or a table of labels, which are so many, and one more
+-- some fields; a table of labels, which are so many, and one more; or a number, and what depends on it
 pub data Following : Type 0 where
   Fields : (fs : List Field) → Following
   Labels : Following
+  Numbered : Following
+
+-- whatever bytes
+abbrev pub anything : Spelling
+anything = λ at bytes. Unit {0}
 
 abbrev pub following_is : Following → Spelling
 following_is (Fields fs) = fields_are fs
 following_is Labels = λ at bytes. (n : ℕ) × (listed_index_is n then fields_are (replicate n Index) then field_is Index) at bytes
+following_is Numbered = field_is Index then anything
+
+-- an opcode: a byte; or the prefix FC, and the number after it
+abbrev pub opcode_is : Spelling
+opcode_is = λ at bytes. ((b : ℕ) × (bytes ≡ b ∷ [])) ⊎ ((n : ℕ) × (exactly (0xFC ∷ []) then listed_index_is n) at bytes)
 
 -- ---- wrong
 
@@ -62,28 +72,31 @@ pub record AreWrongLabels (at : ℕ) (bytes : List ℕ) (last : ℕ) (r : Refusa
 abbrev pub IsWrongFollowing : Following → (at : ℕ) → List ℕ → (last : ℕ) → Refusal → Type 0
 IsWrongFollowing (Fields fs) at bytes last r = AreWrongFields fs at bytes last r
 IsWrongFollowing Labels at bytes last r = IsWrongField Index at bytes last r ⊎ AreWrongLabels at bytes last r
+IsWrongFollowing Numbered at bytes last r = IsWrongField Index at bytes last r
 
--- the first byte begins no token
-pub record IsNoOpcode (at : ℕ) (bytes : List ℕ) (r : Refusal) : Type 0 where
-  pub opcode : ℕ
+-- the first byte, or the prefix with its number, begins no token
+pub record IsNoOpcode (counted : Bool) (at : ℕ) (bytes : List ℕ) (r : Refusal) : Type 0 where
+  pub opcode : List ℕ
   pub behind : List ℕ
-  pub parts : bytes ≡ opcode ∷ behind
-  pub none : (t : Token) (more : List ℕ) → instruction_is t at (opcode ∷ more) → ⊥
+  pub parts : bytes ≡ opcode ++ behind
+  pub is : opcode_is at opcode
+  pub none : (t : Token) (more : List ℕ) → instruction_is counted t at (opcode ++ more) → ⊥
   pub place : r.offset ≡ at
 
 -- it is an opcode, which is followed so in all tokens; and here that is wrong
-pub record IsWrongBehindOpcode (at : ℕ) (bytes : List ℕ) (last : ℕ) (r : Refusal) : Type 0 where
-  pub opcode : ℕ
+pub record IsWrongBehindOpcode (counted : Bool) (at : ℕ) (bytes : List ℕ) (last : ℕ) (r : Refusal) : Type 0 where
+  pub opcode : List ℕ
   pub behind : List ℕ
-  pub parts : bytes ≡ opcode ∷ behind
+  pub parts : bytes ≡ opcode ++ behind
+  pub is : opcode_is at opcode
   pub following : Following
-  pub follows : (t : Token) (more : List ℕ) → AreBytes more → instruction_is t at (opcode ∷ more) → following_is following (at + 1) more
-  pub wrong : IsWrongFollowing following (at + 1) behind last r
+  pub follows : (t : Token) (more : List ℕ) → AreBytes more → instruction_is counted t at (opcode ++ more) → following_is following (at + length opcode) more
+  pub wrong : IsWrongFollowing following (at + length opcode) behind last r
 
 -- the bytes begin no token: the error is at the first field that isn't encoded; or, where the bytes end before it does, at the body's
 -- last byte
-abbrev pub IsWrongToken : (at : ℕ) → List ℕ → (last : ℕ) → Refusal → Type 0
-IsWrongToken at bytes last r =
+abbrev pub IsWrongToken : Bool → (at : ℕ) → List ℕ → (last : ℕ) → Refusal → Type 0
+IsWrongToken counted at bytes last r =
     ((bytes ≡ []) × (r ≡ record { offset = last; kind = Malformed }))
-    ⊎ IsNoOpcode at bytes r
-    ⊎ IsWrongBehindOpcode at bytes last r
+    ⊎ IsNoOpcode counted at bytes r
+    ⊎ IsWrongBehindOpcode counted at bytes last r

@@ -1,6 +1,6 @@
 //! The laws of the grammar of bodies: it says which bytes are read whole, and which groups and tokens they are.
 
-ghost use Rattle.std.specs.Prelude.{◌≡◌, ◌↔◌, ◌+◌, ◌-◌, ◌≤◌, ℕ, List, ◌++◌, length, Some, slice_get};
+ghost use Rattle.std.specs.Prelude.{Bool, ◌≡◌, ◌↔◌, ◌+◌, ◌-◌, ◌≤◌, ℕ, List, ◌++◌, length, Some, slice_get};
 ghost use Rattle.wasm_defs.specs.declared.operation.Access.TheVariants.{Load, Store};
 ghost use Rattle.wasm_defs.specs.declared.operation.LoadOp.{LoadOp};
 ghost use Rattle.wasm_defs.specs.declared.operation.Operation.{Operation};
@@ -32,32 +32,32 @@ pub fn opcodes_are_rows()
 /// Bodies are what the grammar encodes: where tokens nest, bytes are read whole as some groups and these tokens exactly if the
 /// bytes are their encoding and the locals keep their limit.
 pub fn bodies_are_spelled()
-    ensures { (first : ℕ) (bytes : List ℕ) (groups : List Group) (tokens : List (ℕ × Token)) (tree : Seq) →
+    ensures { (counted : Bool) (first : ℕ) (bytes : List ℕ) (groups : List Group) (tokens : List (ℕ × Token)) (tree : Seq) →
         AreBytes bytes → Tree (tokens_of tokens) tree →
-        IsReadAs groups tokens first bytes ↔ (Code groups tokens first bytes × LocalsAreFew groups) }
+        IsReadAs counted groups tokens first bytes ↔ (Code counted groups tokens first bytes × LocalsAreFew groups) }
 {}
 
 /// The grammar has one reading of any bytes: groups and tokens with the same encoding are the same.
 pub fn codes_are_one()
-    ensures { (first : ℕ) (bytes : List ℕ) (gs hs : List Group) (ts us : List (ℕ × Token)) →
-        Code gs ts first bytes → Code hs us first bytes → (gs ≡ hs) × (ts ≡ us) }
+    ensures { (counted : Bool) (first : ℕ) (bytes : List ℕ) (gs hs : List Group) (ts us : List (ℕ × Token)) →
+        Code counted gs ts first bytes → Code counted hs us first bytes → (gs ≡ hs) × (ts ≡ us) }
 {}
 
 /// Of wrong bytes the longest prefix is read: after groups of locals that keep their limit, the tokens are those that a prefix
 /// encodes, and what follows begins with no token, unless the body is closed before it. The error is there: at the opcode, or after
 /// it at the first field that isn't encoded; or, where the bytes end before that field does, at the last one.
 pub fn fronts_are_read()
-    ensures { (first : ℕ) (front back : List ℕ) (groups : List Group) →
+    ensures { (counted : Bool) (first : ℕ) (front back : List ℕ) (groups : List Group) →
         AreBytes (front ++ back) → listed_vector_is group_is groups first front → LocalsAreFew groups →
-        IsReadThrough groups (first + length front) back (last_of first (front ++ back)) (body_read first (front ++ back)) }
+        IsReadThrough counted groups (first + length front) back (last_of first (front ++ back)) (body_read counted first (front ++ back)) }
 {}
 
 /// Of bytes that don't begin with the encoding of groups of locals that keep their limit, nothing is read. After the fields of
 /// groups that are encoded comes one that isn't, and the error is there; or the bytes end in it, and the error is at the last one;
 /// or a count is encoded with which the locals pass their limit, and the error is at that count.
 pub fn wrong_locals_are_told()
-    ensures { (first : ℕ) (bytes : List ℕ) → AreBytes bytes → BeginNoLocals first bytes →
-        (r : Refusal) × (body_read first bytes ≡ no_code (stops (Some r))) × AreLocalsWrong first bytes (last_of first bytes) r }
+    ensures { (counted : Bool) (first : ℕ) (bytes : List ℕ) → AreBytes bytes → BeginNoLocals first bytes →
+        (r : Refusal) × (body_read counted first bytes ≡ no_code (stops (Some r))) × AreLocalsWrong first bytes (last_of first bytes) r }
 {}
 
 /// A module is what is encoded, its bodies too: the sections keep the grammar and the rules, and the bytes of each body encode the

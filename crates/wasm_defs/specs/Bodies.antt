@@ -1,5 +1,5 @@
 -- A body's fields: its locals, and its tokens up to the `end` that closes it (WebAssembly Core 1.0, 5.4 and 5.5.13).
-use Rattle.std.specs.Prelude.{ℕ, zero, suc, ◌+◌, ◌-◌, ℤ, pos, negsuc, ◌||◌, ◌==◌, true, List, [], ◌∷◌, length, Option, None, Some, slice_get, nat_lt, if◌then◌else◌}
+use Rattle.std.specs.Prelude.{ℕ, zero, suc, ◌+◌, ◌-◌, ℤ, pos, negsuc, Bool, ◌||◌, ◌==◌, true, List, [], ◌∷◌, length, Option, None, Some, slice_get, nat_lt, if◌then◌else◌}
 use Rattle.wasm_defs.specs.declared.fault.Kind.TheVariants.{Malformed, Unsupported, Limit}
 use Rattle.wasm_defs.specs.declared.fault.Refusal.{Refusal}
 use Rattle.wasm_defs.specs.declared.types.ValType.{ValType}
@@ -10,8 +10,9 @@ use Rattle.wasm_defs.specs.declared.operation.Access.TheVariants as access
 use Rattle.wasm_defs.specs.declared.token.BlockType.{BlockType}
 use Rattle.wasm_defs.specs.declared.token.BlockType.TheVariants.{Empty, Value, Index}
 use Rattle.wasm_defs.specs.declared.token.MemArg.{MemArg}
+use Rattle.wasm_defs.specs.declared.token.BulkOp.TheVariants.{Fill, Copy, Init}
 use Rattle.wasm_defs.specs.declared.token.Plain.{Plain}
-use Rattle.wasm_defs.specs.declared.token.Plain.TheVariants.{Unreachable, Nop, Br, BrIf, BrTable, Return, Call, CallIndirect, Discard, Select, LocalGet, LocalSet, LocalTee, GlobalGet, GlobalSet, Load, Store, MemorySize, MemoryGrow, Const, Operate}
+use Rattle.wasm_defs.specs.declared.token.Plain.TheVariants.{Unreachable, Nop, Br, BrIf, BrTable, Return, Call, CallIndirect, Discard, Select, LocalGet, LocalSet, LocalTee, GlobalGet, GlobalSet, Load, Store, MemorySize, MemoryGrow, Bulk, DataDrop, Const, Operate}
 use Rattle.wasm_defs.specs.declared.token.Token.{Token}
 use Rattle.wasm_defs.specs.declared.token.Token.TheVariants as token
 use Rattle.wasm_defs.specs.Limits.{max_locals}
@@ -178,29 +179,63 @@ memory at b =
     else if b == 0x40 then with_zero MemoryGrow
     else accessed_at at (slice_get accesses (b - 0x28))
 
--- after the table of operations: the prefix FC is left out, and nothing else is an opcode
-abbrev pub past_table : ℕ → ℕ → Reader Token
-past_table at b = if b == 0xFC then refused Unsupported at else refused Malformed at
+-- two memories, which both have the index 0
+unfoldable pub copying : Reader Token
+copying = do
+  first ← zero_byte
+  second ← zero_byte
+  plain (Bulk Copy)
 
-abbrev pub operated_at : ℕ → ℕ → Option (Option Operation) → Reader Token
-operated_at at b None = past_table at b
-operated_at at b (Some None) = refused Unsupported at
-operated_at at b (Some (Some op)) = plain (Operate op)
+-- a data segment, and the memory, whose index is 0
+unfoldable pub initializing : Reader Token
+initializing = do
+  segment ← u32
+  memory ← zero_byte
+  plain (Bulk (Init segment.1))
+
+-- an instruction on data segments is there only where the module counts them (Core 2.0, 5.5.16)
+abbrev pub if_counted : Bool → ℕ → Reader Token → Reader Token
+if_counted counted at p = if counted then p else refused Malformed at
+
+-- after the prefix FC, by the number that follows it (Core 2.0, 5.4.5 to 5.4.7)
+unfoldable pub by_number : Bool → ℕ → ℕ → Reader Token
+by_number counted at n =
+    if n == 8 then if_counted counted at initializing
+    else if n == 9 then if_counted counted at (with_index DataDrop)
+    else if n == 10 then copying
+    else if n == 11 then with_zero (Bulk Fill)
+    else if nat_lt n 18 then refused Unsupported at
+    else refused Malformed at
+
+unfoldable pub prefixed : Bool → ℕ → Reader Token
+prefixed counted at = do
+  n ← u32
+  by_number counted at n.1
+
+-- after the table of operations nothing but the prefix FC is an opcode
+abbrev pub past_table : Bool → ℕ → ℕ → Reader Token
+past_table counted at b = if b == 0xFC then prefixed counted at else refused Malformed at
+
+abbrev pub operated_at : Bool → ℕ → ℕ → Option (Option Operation) → Reader Token
+operated_at counted at b None = past_table counted at b
+operated_at counted at b (Some None) = refused Unsupported at
+operated_at counted at b (Some (Some op)) = plain (Operate op)
 
 -- numeric instructions (5.4.5)
-unfoldable pub numeric : ℕ → ℕ → Reader Token
-numeric at b =
+unfoldable pub numeric : Bool → ℕ → ℕ → Reader Token
+numeric counted at b =
     if b == 0x41 then constant I32
     else if b == 0x42 then constant I64
     else if nat_lt b 0x45 then refused Unsupported at
-    else operated_at at b (slice_get operations (b - 0x45))
+    else operated_at counted at b (slice_get operations (b - 0x45))
 
-unfoldable pub instruction : ℕ → ℕ → Reader Token
-instruction at b =
+-- in a module that counts its data segments, or doesn't
+unfoldable pub instruction : Bool → ℕ → ℕ → Reader Token
+instruction counted at b =
     if nat_lt b 0x20 then control at b
     else if nat_lt b 0x28 then variable at b
     else if nat_lt b 0x41 then memory at b
-    else numeric at b
+    else numeric counted at b
 
 -- ---- a body's tokens
 
@@ -240,12 +275,12 @@ goes_on last (Fault r) f = stops (Some r)
 goes_on last Wants f = malformed_at last
 
 -- at most so many tokens, with so many blocks open
-unfoldable pub spelled_from : ℕ → ℕ → ℕ → Cursor → Spelled
-spelled_from zero depth last c = malformed_at last
-spelled_from (suc n) zero last c = closed c.at c.rest
-spelled_from (suc n) (suc depth) last c =
+unfoldable pub spelled_from : Bool → ℕ → ℕ → ℕ → Cursor → Spelled
+spelled_from counted zero depth last c = malformed_at last
+spelled_from counted (suc n) zero last c = closed c.at c.rest
+spelled_from counted (suc n) (suc depth) last c =
     goes_on last (byte c) (λ b d.
-    goes_on last (instruction b.0 b.1 d) (λ t e. after_token b.0 t (spelled_from n (depth_after t (suc depth)) last e)))
+    goes_on last (instruction counted b.0 b.1 d) (λ t e. after_token b.0 t (spelled_from counted n (depth_after t (suc depth)) last e)))
 
 -- in a body a field is never cut off by an end that is near, but by the bytes alone
 abbrev pub body_cursor : ℕ → List ℕ → Cursor
@@ -261,11 +296,11 @@ pub record BodyRead : Type 0 where
 abbrev pub no_code : Spelled → BodyRead
 no_code s = record { groups = []; code = s }
 
-abbrev pub read_code : ℕ → Read (List Group) → ℕ → BodyRead
-read_code last (Got gs c) n = record { groups = gs; code = spelled_from n 1 last c }
-read_code last (Fault r) n = no_code (stops (Some r))
-read_code last Wants n = no_code (malformed_at last)
+abbrev pub read_code : Bool → ℕ → Read (List Group) → ℕ → BodyRead
+read_code counted last (Got gs c) n = record { groups = gs; code = spelled_from counted n 1 last c }
+read_code counted last (Fault r) n = no_code (stops (Some r))
+read_code counted last Wants n = no_code (malformed_at last)
 
--- a body whose first byte has that offset; each token takes a byte
-abbrev pub body_read : ℕ → List ℕ → BodyRead
-body_read first bytes = read_code (last_of first bytes) (local_groups (body_cursor first bytes)) (length bytes + 1)
+-- a body whose first byte has that offset, in a module that counts its data segments or doesn't; each token takes a byte
+abbrev pub body_read : Bool → ℕ → List ℕ → BodyRead
+body_read counted first bytes = read_code counted (last_of first bytes) (local_groups (body_cursor first bytes)) (length bytes + 1)

@@ -46,11 +46,12 @@ pub record Instance : Type 0 where
 
 -- ---- what does
 
--- what outlives a frame (4.2.3): the memory and the globals; and beside them the calls that were made of imported functions,
--- in order, and the replies that the host still has
+-- what outlives a frame (4.2.3): the memory, the globals, and the bytes of the data segments (Core 2.0, 4.2.10); also the
+-- calls that were made of imported functions, in order, and the replies that the host still has
 pub record Store : Type 0 where
   pub memory : List ℕ
   pub globals : List Value
+  pub segments : List (List ℕ)
   pub calls : List HostCall
   pub replies : List Reply
 

@@ -1,9 +1,10 @@
 -- A module's context: what its items declare, each list the items of that sort in order (WebAssembly Core 1.0, 3.1 and
 -- 3.4.10).
 use Rattle.std.specs.Prelude.{ℕ, suc, ◌+◌, List, [], ◌∷◌, ◌++◌, length, replicate, reverse, Option, None, Some, slice_get, if◌then◌else◌}
+use Rattle.wasm_defs.specs.Entries.{or_zero}
 use Rattle.wasm_defs.specs.declared.context.GlobalType.{GlobalType}
 use Rattle.wasm_defs.specs.declared.item.Item.{Item}
-use Rattle.wasm_defs.specs.declared.item.Item.TheVariants.{Signature, Imported, Function, Table, Memory, Global}
+use Rattle.wasm_defs.specs.declared.item.Item.TheVariants.{Signature, Imported, Function, Table, Memory, Global, DataCount, Passive, Segment}
 use Rattle.wasm_defs.specs.declared.item.Limits.{Limits}
 use Rattle.wasm_defs.specs.declared.types.FuncType.{FuncType}
 use Rattle.wasm_defs.specs.Bodies.{Group}
@@ -46,6 +47,18 @@ globals_of [] = []
 globals_of (Global ty mutable init ∷ xs) = record { ty = ty.1; mutable = mutable.1 } ∷ globals_of xs
 globals_of (_ ∷ xs) = globals_of xs
 
+-- the data count, where there is one; and how many data segments there are
+abbrev pub data_count_of : List Item → Option ℕ
+data_count_of [] = None
+data_count_of (DataCount count ∷ xs) = Some count.1
+data_count_of (_ ∷ xs) = data_count_of xs
+
+abbrev pub segment_count_of : List Item → ℕ
+segment_count_of [] = 0
+segment_count_of (Passive form bytes ∷ xs) = suc (segment_count_of xs)
+segment_count_of (Segment form memory place bytes ∷ xs) = suc (segment_count_of xs)
+segment_count_of (_ ∷ xs) = segment_count_of xs
+
 -- what every body of the module may name
 abbrev pub context_of : List Item → Context
 context_of items = record {
@@ -53,6 +66,7 @@ context_of items = record {
   functions = functions_of items;
   tables = length (tables_of items);
   memories = length (memories_of items);
+  segments = or_zero (data_count_of items);
   globals = globals_of items;
   locals = [];
   results = [];

@@ -1,5 +1,5 @@
 -- What the instructions that neither branch nor call do (WebAssembly Core 1.0, 4.4.1 to 4.4.4, and `nop`, 4.4.5.1).
-use Rattle.std.specs.Prelude.{ℕ, ◌+◌, ◌-◌, ◌^◌, ◌==◌, List, ◌∷◌, Option, Some, None, if◌then◌else◌, slice_get, slice_set, nat_lt, length}
+use Rattle.std.specs.Prelude.{ℕ, ◌+◌, ◌-◌, ◌^◌, ◌==◌, List, [], ◌∷◌, Option, Some, None, if◌then◌else◌, slice_get, slice_set, nat_lt, length}
 use Rattle.wasm_defs.specs.declared.types.ValType.{ValType}
 use Rattle.wasm_defs.specs.declared.types.ValType.TheVariants.{I32}
 use Rattle.wasm_defs.specs.declared.value.TrapKind.{TrapKind}
@@ -7,12 +7,13 @@ use Rattle.wasm_defs.specs.declared.value.TrapKind.TheVariants.{DivideByZero, Ov
 use Rattle.wasm_defs.specs.declared.operation.Operation.{Operation}
 use Rattle.wasm_defs.specs.declared.operation.Operation.TheVariants.{Unary, Test, Binary, Compare, Convert, Extend}
 use Rattle.wasm_defs.specs.declared.operation.LoadOp.{LoadOp}
+use Rattle.wasm_defs.specs.declared.token.BulkOp.TheVariants.{Fill, Copy, Init}
 use Rattle.wasm_defs.specs.declared.token.Plain.{Plain}
-use Rattle.wasm_defs.specs.declared.token.Plain.TheVariants.{Nop, Discard, Select, LocalGet, LocalSet, LocalTee, GlobalGet, GlobalSet, Load, Store, MemorySize, MemoryGrow, Const, Operate}
+use Rattle.wasm_defs.specs.declared.token.Plain.TheVariants.{Nop, Discard, Select, LocalGet, LocalSet, LocalTee, GlobalGet, GlobalSet, Load, Store, MemorySize, MemoryGrow, Bulk, DataDrop, Const, Operate}
 use Rattle.wasm_defs.specs.Typing.{load_type, extend_type}
 use Rattle.wasm_defs.specs.Values.{Value, unsigned}
 use Rattle.wasm_defs.specs.Integers.{Computed, Number, DividesByZero, Overflows, binary, unary, ieqz, compare, converted, converted_type, sign_extended}
-use Rattle.wasm_defs.specs.Memory.{pages_of, number_of, bytes_of, bytes_at, written_at, load_count, store_count, extended, grown}
+use Rattle.wasm_defs.specs.Memory.{pages_of, number_of, bytes_of, bytes_at, written_at, filled_at, copied_at, load_count, store_count, extended, grown}
 use Rattle.wasm_defs.specs.Configurations as run
 
 -- the store, the locals and the operands after an instruction; or a trap; or none, where it finds other than it takes
@@ -68,6 +69,15 @@ module _ (store : run.Store) (locals : List Value) where
   grew below None = Gives store locals (value I32 (2 ^ 32 - 1) ∷ below)
   grew below (Some memory) = Gives (record store { memory = memory }) locals (value I32 (pages_of store.memory) ∷ below)
 
+  -- bytes that come from a data segment
+  abbrev pub copied : List Value → (place from count : ℕ) → Option (List ℕ) → Effect
+  copied below place from count None = Fails
+  copied below place from count (Some bytes) = stored below (copied_at bytes store.memory place from count)
+
+  abbrev pub data_drop : ℕ → List Value → Effect
+  data_drop x operands =
+      if nat_lt x (length store.segments) then Gives (record store { segments = slice_set store.segments x [] }) locals operands else Fails
+
   -- ---- a row for each instruction; the memory may have so many pages
 
   abbrev pub effect : (cap : ℕ) → Plain → List Value → Effect
@@ -83,6 +93,15 @@ module _ (store : run.Store) (locals : List Value) where
   effect cap (Store op m) (v ∷ a ∷ below) = stored below (written_at store.memory (a.number + m.offset) (bytes_of (store_count op) v.number))
   effect cap MemorySize operands = Gives store locals (value I32 (pages_of store.memory) ∷ operands)
   effect cap MemoryGrow (n ∷ below) = grew below (grown store.memory n.number cap)
+  effect cap (Bulk Fill) (n ∷ v ∷ d ∷ below) = stored below (filled_at store.memory d.number v.number n.number)
+  effect cap (Bulk Copy) (n ∷ s ∷ d ∷ below) = stored below (copied_at store.memory store.memory d.number s.number n.number)
+  effect cap (Bulk (Init x)) (n ∷ s ∷ d ∷ below) = copied below d.number s.number n.number (slice_get store.segments x)
+  effect cap (DataDrop x) operands = data_drop x operands
   effect cap (Const t n) operands = Gives store locals (value t (unsigned t n) ∷ operands)
   effect cap (Operate op) operands = operated op operands
   effect cap p operands = Fails
+
+-- what an instruction weighs above 1: one for each byte that it writes
+abbrev pub bytes_written : Plain → List Value → ℕ
+bytes_written (Bulk op) (n ∷ below) = n.number
+bytes_written p operands = 0

@@ -1,5 +1,5 @@
 -- Entries of the sections: each item's fields in order, and where one is refused (WebAssembly Core 1.0, 5.5).
-use Rattle.std.specs.Prelude.{ℕ, ◌+◌, Bool, true, false, ◌&&◌, ◌||◌, ◌==◌, Some, None, is_some, nat_lt, nat_le, if◌then◌else◌}
+use Rattle.std.specs.Prelude.{ℕ, ◌+◌, Bool, true, false, ◌&&◌, ◌||◌, ◌==◌, Option, Some, None, is_some, nat_lt, nat_le, if◌then◌else◌}
 use Rattle.std.specs.FinMap as map
 use Rattle.std.specs.Cmp.Lexicographic.{slice_cmp}
 use Rattle.std.specs.Ordering.{nat_cmp}
@@ -12,8 +12,8 @@ use Rattle.wasm_defs.specs.declared.item.Extern.TheVariants as extern
 use Rattle.wasm_defs.specs.declared.item.Limits.{Limits}
 use Rattle.wasm_defs.specs.declared.item.Constant.{Constant}
 use Rattle.wasm_defs.specs.declared.item.Item.{Item}
-use Rattle.wasm_defs.specs.declared.item.Item.TheVariants.{Signature, Imported, Function, Table, Memory, Global, Exported, Start, Element, Code, Segment}
-use Rattle.wasm_defs.specs.Limits.{max_params, max_results, max_table, max_pages, top_pages, top_rows}
+use Rattle.wasm_defs.specs.declared.item.Item.TheVariants.{Signature, Imported, Function, Table, Memory, Global, Exported, Start, Element, Code, DataCount, Passive, Segment}
+use Rattle.wasm_defs.specs.Limits.{max_params, max_results, max_entries, max_table, max_pages, top_pages, top_rows}
 use Rattle.wasm_defs.specs.Fields.{Reader, ◌>>=◌, done, refused, byte, number, u32, count, vector, stop, counted_bytes, name}
 
 -- the names that were exported, each with its offset
@@ -21,7 +21,8 @@ abbrev pub Names : Type 0
 Names = map.FinMap (slice_cmp nat_cmp) ℕ
 
 -- what the items before say of the next one: how many there are of each sort (functions: with the imported ones; declared:
--- without), the exported names, whether the code section's count came, and the last section's place in the order
+-- without), the exported names, whether the code section's count came, the data count where one came, and the last section's
+-- position in the order
 pub record Seen : Type 0 where
   pub types : ℕ
   pub functions : ℕ
@@ -31,10 +32,16 @@ pub record Seen : Type 0 where
   pub globals : ℕ
   pub names : Names
   pub counted : Bool
+  pub data_count : Option ℕ
   pub last : ℕ
 
 abbrev pub nothing : Seen
-nothing = record { types = 0; functions = 0; declared = 0; tables = 0; memories = 0; globals = 0; names = map.empty; counted = false; last = 0 }
+nothing = record { types = 0; functions = 0; declared = 0; tables = 0; memories = 0; globals = 0; names = map.empty; counted = false; data_count = None; last = 0 }
+
+-- the data count, or 0 where there is none
+abbrev pub or_zero : Option ℕ → ℕ
+or_zero None = 0
+or_zero (Some n) = n
 
 abbrev pub note : Seen → Item → Seen
 note s (Signature form params results ty) = record s { types = s.types + 1 }
@@ -47,7 +54,9 @@ note s (Exported label kind index) = record s { names = map.insert s.names label
 note s (Start index) = s
 note s (Element table place functions) = s
 note s (Code count end) = record s { counted = true }
-note s (Segment memory place bytes) = s
+note s (DataCount count) = record s { data_count = Some count.1 }
+note s (Passive form bytes) = s
+note s (Segment form memory place bytes) = s
 
 -- ---- parts of entries
 
@@ -93,9 +102,13 @@ within low high n = nat_le low n && nat_le n high
 abbrev pub is_opcode : ℕ → Bool
 is_opcode b = within 0x00 0x05 b || within 0x0B 0x11 b || within 0x1A 0x1B b || within 0x20 0x24 b || within 0x28 0xC4 b
 
--- opcodes that are left out: constants of float types, and the prefix FC
+-- opcodes that are left out: constants of float types
 abbrev pub is_left_out : ℕ → Bool
-is_left_out b = within 0x43 0x44 b || b == 0xFC
+is_left_out b = within 0x43 0x44 b
+
+-- the same of the number after the prefix FC (Core 2.0, 5.4.5 to 5.4.7)
+abbrev pub wrong_number : ℕ → Kind
+wrong_number n = if within 8 11 n then Invalid else if nat_lt n 18 then Unsupported else Malformed
 
 -- an opcode that is in a constant expression in place of the right one
 abbrev pub wrong_opcode : ℕ → Kind
@@ -109,6 +122,14 @@ abbrev pub bits_of : ValType → ℕ
 bits_of I32 = 32
 bits_of I64 = 64
 
+-- an opcode in place of the right one is refused at its offset; after the prefix FC its number has to be whole
+unfoldable pub refused_opcode : {A : Type 0} → ℕ × ℕ → Reader A
+refused_opcode b =
+    if b.1 == 0xFC then (do
+      n ← u32
+      refused (wrong_number n.1) b.0)
+    else refused (wrong_opcode b.1) b.0
+
 -- a constant expression of a type (3.3.7, 5.4.6)
 unfoldable pub constant : ValType → Reader Constant
 constant ty = do
@@ -117,8 +138,8 @@ constant ty = do
     value ← number true (bits_of ty)
     end ← byte
     if end.1 == 0x0B then done (record { opcode = opcode.0; value = value; end = end.0 })
-        else refused (wrong_opcode end.1) end.0)
-      else refused (wrong_opcode opcode.1) opcode.0
+        else refused_opcode end)
+      else refused_opcode opcode
 
 -- ---- entries
 
@@ -229,9 +250,34 @@ code seen = do
     done (Code n end))
       else refused Malformed n.0
 
+-- the data count (Core 2.0, 5.5.15)
+unfoldable pub data_count : Seen → Reader Item
+data_count seen = do
+  n ← count max_entries
+  done (DataCount n)
+
+-- the index of an active segment's memory, which form 2 has; form 0 means the memory of index 0
+unfoldable pub memory_of : Seen → ℕ × ℕ → Reader (Option (ℕ × ℕ))
+memory_of seen form =
+    if form.1 == 2 then (do
+      i ← sole seen.memories
+      done (Some i))
+    else if nat_lt 0 seen.memories then done None
+    else refused Invalid form.0
+
+unfoldable pub passive : ℕ → Reader Item
+passive form = do
+  bytes ← counted_bytes
+  done (Passive form bytes)
+
+-- a data segment has one of three forms (Core 2.0, 5.5.14): active, passive, and active with a memory's index
 unfoldable pub segment : Seen → Reader Item
 segment seen = do
-  i ← sole seen.memories
-  place ← constant I32
-  bytes ← counted_bytes
-  done (Segment i place bytes)
+  form ← u32
+  if nat_lt 2 form.1 then refused Malformed form.0
+      else if form.1 == 1 then passive form.0
+      else (do
+        m ← memory_of seen form
+        place ← constant I32
+        bytes ← counted_bytes
+        done (Segment form.0 m place bytes))

@@ -110,7 +110,7 @@ IsCodeFault c code r = IsTokenFault c code.tokens r ⊎ IsSpellingFault c code.t
 
 -- what is read of a body, and its context: it is the k-th of a module with these items before it
 abbrev pub read_of : Body → BodyRead
-read_of b = body_read b.first b.bytes
+read_of b = body_read b.counted b.first b.bytes
 
 abbrev pub context_at : List Item → ℕ → Body → Context
 context_at items k b =

@@ -2,9 +2,10 @@
 -- both are determined by the module.
 use Rattle.std.specs.Prelude.{ℕ, suc, ◌+◌, ◌*◌, ◌&&◌, Bool, true, List, [], ◌∷◌, ◌++◌, map, take, drop, length, replicate, min, Option, None, Some, nat_le, slice_get, if◌then◌else◌}
 use Rattle.std.specs.Str.{bytes_eq}
+use Rattle.wasm_defs.specs.Entries.{or_zero}
 use Rattle.wasm_defs.specs.declared.types.ValType.TheVariants.{I32}
 use Rattle.wasm_defs.specs.declared.item.Item.{Item}
-use Rattle.wasm_defs.specs.declared.item.Item.TheVariants.{Imported, Global, Exported, Start, Element, Segment}
+use Rattle.wasm_defs.specs.declared.item.Item.TheVariants.{Imported, Global, Exported, Start, Element, Passive, Segment}
 use Rattle.wasm_defs.specs.declared.item.Extern.TheVariants as extern
 use Rattle.wasm_defs.specs.declared.item.Limits.{Limits}
 use Rattle.wasm_defs.specs.declared.item.Constant.{Constant}
@@ -13,7 +14,7 @@ use Rattle.wasm_defs.specs.Outside.{Body}
 use Rattle.wasm_defs.specs.Trees.{Seq}
 use Rattle.wasm_defs.specs.Typing.{Context}
 use Rattle.wasm_defs.specs.Places.{places_of, greatest}
-use Rattle.wasm_defs.specs.Context.{context_of, import_count, tables_of, memories_of, declared_types, type_of_function, type_or_empty}
+use Rattle.wasm_defs.specs.Context.{context_of, data_count_of, import_count, tables_of, memories_of, declared_types, type_of_function, type_or_empty}
 use Rattle.wasm_defs.specs.Faults.{read_of, offsets_of, context_at, Module}
 use Rattle.wasm_defs.specs.Values.{Value, unsigned}
 use Rattle.wasm_defs.specs.Memory.{page}
@@ -86,8 +87,15 @@ elements_of (_ ∷ xs) = elements_of xs
 
 abbrev pub data_of : List Item → List (Written ℕ)
 data_of [] = []
-data_of (Segment memory place bytes ∷ xs) = (i32_value place, bytes.1) ∷ data_of xs
+data_of (Segment form memory place bytes ∷ xs) = (i32_value place, bytes.1) ∷ data_of xs
 data_of (_ ∷ xs) = data_of xs
+
+-- the bytes of each segment, which is dropped where it was active (Core 2.0, 4.5.4)
+abbrev pub segments_of : List Item → List (List ℕ)
+segments_of [] = []
+segments_of (Passive form bytes ∷ xs) = bytes.1 ∷ segments_of xs
+segments_of (Segment form memory place bytes ∷ xs) = [] ∷ segments_of xs
+segments_of (_ ∷ xs) = segments_of xs
 
 -- ---- the table, the memory and the globals
 
@@ -137,6 +145,7 @@ abbrev pub store_of : Module → List Reply → run.Store
 store_of m replies = record {
   memory = all_over (replicate (page * pages_of m.items) 0) (data_of m.items);
   globals = values_of m.items;
+  segments = take (or_zero (data_count_of m.items)) (segments_of m.items);
   calls = [];
   replies = replies;
 }

@@ -1,6 +1,7 @@
 -- Which bytes are a module outside its bodies (WebAssembly Core 1.0, 5.5): encodings joined one after the other, with no
 -- reader. What the items must keep to besides is said in Rules.
-use Rattle.std.specs.Prelude.{◌≡◌, ◌≢◌, ◌<◌, ◌≤◌, ℕ, ◌+◌, ℤ, pos, Bool, true, false, List, [], ◌∷◌, ◌++◌, length, Option, Some, None}
+use Rattle.std.specs.Prelude.{◌≡◌, ◌≢◌, ◌<◌, ◌≤◌, ℕ, ◌+◌, ℤ, pos, Bool, true, false, List, [], ◌∷◌, ◌++◌, length, Option, Some, None, is_some}
+use Rattle.std.specs.List.{All}
 use Rattle.std.specs.Str.{IsUtf8}
 use Rattle.wasm_defs.specs.declared.types.ValType.{ValType}
 use Rattle.wasm_defs.specs.declared.types.ValType.TheVariants.{I32, I64}
@@ -9,11 +10,11 @@ use Rattle.wasm_defs.specs.declared.item.Extern.TheVariants as extern
 use Rattle.wasm_defs.specs.declared.item.Limits.{Limits}
 use Rattle.wasm_defs.specs.declared.item.Constant.{Constant}
 use Rattle.wasm_defs.specs.declared.item.Item.{Item}
-use Rattle.wasm_defs.specs.declared.item.Item.TheVariants.{Signature, Imported, Function, Table, Memory, Global, Exported, Start, Element, Code, Segment}
+use Rattle.wasm_defs.specs.declared.item.Item.TheVariants.{Signature, Imported, Function, Table, Memory, Global, Exported, Start, Element, Code, DataCount, Passive, Segment}
 use Rattle.wasm_defs.specs.Numbers.{Spells}
 use Rattle.wasm_defs.specs.Entries.{const_opcode, bits_of}
-use Rattle.wasm_defs.specs.Context.{declared_count}
-use Rattle.wasm_defs.specs.Outside.{Body, magic, version}
+use Rattle.wasm_defs.specs.Context.{declared_count, data_count_of, segment_count_of}
+use Rattle.wasm_defs.specs.Outside.{Body, magic, version, agrees, id_of}
 
 -- ---- encodings
 
@@ -118,7 +119,7 @@ extern_code extern.Table = 0x01
 extern_code extern.Memory = 0x02
 extern_code extern.Global = 0x03
 
--- ---- items (5.3.3, and 5.5.5 to 5.5.14): the start function and the code's count are in no vector
+-- ---- items (5.3.3, and 5.5.5 to 5.5.14): the start function, the code's count and the data count are in no vector
 
 abbrev pub item_is : Item → Spelling
 item_is (Signature form params results ty) = byte_is form 0x60 then vector_is listed_type_is params ty.params then vector_is listed_type_is results ty.results
@@ -131,9 +132,12 @@ item_is (Exported label kind index) = name_is label then byte_is kind.0 (extern_
 item_is (Start index) = λ at bytes. ⊥
 item_is (Element table place functions) = u32_is table then constant_is I32 place then vector_is listed_index_is functions.0 functions.1
 item_is (Code count end) = λ at bytes. ⊥
-item_is (Segment memory place bytes) = u32_is memory then constant_is I32 place then bytes_are bytes
+item_is (DataCount count) = λ at bytes. ⊥
+item_is (Passive form bytes) = u32_is (form, 1) then bytes_are bytes
+item_is (Segment form None place bytes) = u32_is (form, 0) then constant_is I32 place then bytes_are bytes
+item_is (Segment form (Some memory) place bytes) = u32_is (form, 2) then u32_is memory then constant_is I32 place then bytes_are bytes
 
--- the id of the section that an item is in (5.5.2)
+-- the position of the section that an item is in (5.5.2)
 abbrev pub section_of : Item → ℕ
 section_of (Signature form params results ty) = 1
 section_of (Imported from what kind type_index) = 2
@@ -144,12 +148,14 @@ section_of (Global ty mutable init) = 6
 section_of (Exported label kind index) = 7
 section_of (Start index) = 8
 section_of (Element table place functions) = 9
-section_of (Code count end) = 10
-section_of (Segment memory place bytes) = 11
+section_of (DataCount count) = 10
+section_of (Code count end) = 11
+section_of (Passive form bytes) = 12
+section_of (Segment form memory place bytes) = 12
 
 abbrev pub AllOf : ℕ → List Item → Type 0
-AllOf id [] = Unit {0}
-AllOf id (x ∷ xs) = (section_of x ≡ id) × AllOf id xs
+AllOf position [] = Unit {0}
+AllOf position (x ∷ xs) = (section_of x ≡ position) × AllOf position xs
 
 -- a body (5.5.13): its size, and its bytes, which are two at least, the count of its locals and the `end` of its code
 abbrev pub body_is : Body → Spelling
@@ -157,28 +163,35 @@ body_is b = Sized b.size (λ at bytes. (b.first ≡ at) × (bytes ≡ b.bytes) �
 
 -- ---- sections (5.5.2)
 
--- what a section holds: a name, and any bytes (5.5.3); the items of a vector, and the offset of their count; the start
--- function; or the bodies, the offset of their count, and that where the section ends
+-- what a section holds: a name, and any bytes (5.5.3); the items of a vector, by their section's position, and the offset of their
+-- count; the start function; the data count (Core 2.0, 5.5.15); or the bodies, the offset of their count, and that where the section
+-- ends
 pub data Payload : Type 0 where
   Custom : (name : ℕ × List ℕ) → Payload
-  Vector : (id count : ℕ) (items : List Item) → Payload
+  Vector : (position count : ℕ) (items : List Item) → Payload
   Starting : (index : ℕ × ℕ) → Payload
+  Counting : (count : ℕ × ℕ) → Payload
   Bodies : (count end : ℕ) (bodies : List Body) → Payload
 
+abbrev pub payload_position : Payload → ℕ
+payload_position (Custom name) = 0
+payload_position (Vector position count items) = position
+payload_position (Starting index) = 8
+payload_position (Counting count) = 10
+payload_position (Bodies count end bodies) = 11
+
 abbrev pub payload_id : Payload → ℕ
-payload_id (Custom name) = 0
-payload_id (Vector id count items) = id
-payload_id (Starting index) = 8
-payload_id (Bodies count end bodies) = 10
+payload_id p = id_of (payload_position p)
 
 -- the sections that hold a vector of items
 abbrev pub HoldsVector : ℕ → Type 0
-HoldsVector id = (1 ≤ id) × (id ≤ 11) × (id ≢ 8) × (id ≢ 10)
+HoldsVector position = (1 ≤ position) × (position ≤ 12) × (position ≢ 8) × (position ≢ 11) × (position ≢ 10)
 
 abbrev pub payload_is : Payload → Spelling
 payload_is (Custom name) = name_is name then (λ at bytes. Unit {0})
-payload_is (Vector id count items) = λ at bytes. HoldsVector id × AllOf id items × vector_is item_is count items at bytes
+payload_is (Vector position count items) = λ at bytes. HoldsVector position × AllOf position items × vector_is item_is count items at bytes
 payload_is (Starting index) = u32_is index
+payload_is (Counting count) = u32_is count
 payload_is (Bodies count end bodies) = λ at bytes. (end ≡ at + length bytes) × vector_is body_is count bodies at bytes
 
 -- a section: the offsets of its id and of its size, and what it holds
@@ -194,14 +207,16 @@ section_is s = byte_is s.id (payload_id s.payload) then Sized s.size (payload_is
 
 abbrev pub payload_items : Payload → List Item
 payload_items (Custom name) = []
-payload_items (Vector id count items) = items
+payload_items (Vector position count items) = items
 payload_items (Starting index) = Start index ∷ []
+payload_items (Counting count) = DataCount count ∷ []
 payload_items (Bodies count end bodies) = Code (count, length bodies) end ∷ []
 
 abbrev pub payload_bodies : Payload → List Body
 payload_bodies (Custom name) = []
-payload_bodies (Vector id count items) = []
+payload_bodies (Vector position count items) = []
 payload_bodies (Starting index) = []
+payload_bodies (Counting count) = []
 payload_bodies (Bodies count end bodies) = bodies
 
 abbrev pub items_in : List Section → List Item
@@ -212,21 +227,24 @@ abbrev pub bodies_in : List Section → List Body
 bodies_in [] = []
 bodies_in (s ∷ sections) = payload_bodies s.payload ++ bodies_in sections
 
--- sections are in the order of their ids, each once; custom ones are anywhere
+-- sections are in the order of their positions, each once; custom ones are anywhere
 abbrev pub StandsBehind : ℕ → Payload → Type 0
 StandsBehind last (Custom name) = Unit {0}
-StandsBehind last p = last < payload_id p
+StandsBehind last p = last < payload_position p
 
 abbrev pub last_with : ℕ → Payload → ℕ
 last_with last (Custom name) = last
-last_with last p = payload_id p
+last_with last p = payload_position p
 
 abbrev pub AreInOrder : ℕ → List Section → Type 0
 AreInOrder last [] = Unit {0}
 AreInOrder last (s ∷ sections) = StandsBehind last s.payload × AreInOrder (last_with last s.payload) sections
 
--- the bytes are a module of these sections: magic, version and the sections, with a body for each declared function
+-- the bytes are a module of these sections: magic, version and the sections, with a body for each declared function; where there is a
+-- data count, with as many data segments; and each body is told whether there is one
 pub record Items (bytes : List ℕ) (sections : List Section) : Type 0 where
   pub spelled : (exactly magic then exactly version then each_is section_is sections) 0 bytes
   pub ordered : AreInOrder 0 sections
   pub matched : length (bodies_in sections) ≡ declared_count (items_in sections)
+  pub counted : agrees (data_count_of (items_in sections)) (segment_count_of (items_in sections)) ≡ true
+  pub told : All (λ b. b.counted ≡ is_some (data_count_of (items_in sections))) (bodies_in sections)

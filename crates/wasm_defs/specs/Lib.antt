@@ -1,6 +1,7 @@
 pub mod Numbers
 pub mod Text
 pub mod Limits
+pub mod SmallTypes
 pub mod Fields
 pub mod Entries
 pub mod Outside

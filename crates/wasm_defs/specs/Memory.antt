@@ -33,6 +33,18 @@ abbrev pub written_at : List ℕ → (place : ℕ) → List ℕ → Option (List
 written_at memory place bytes =
     if nat_le (place + length bytes) (length memory) then Some (take place memory ++ (bytes ++ drop (place + length bytes) memory)) else None
 
+-- so many bytes of one value, of which the low eight bits count (Core 2.0, 4.4.7)
+abbrev pub filled_at : List ℕ → (place value count : ℕ) → Option (List ℕ)
+filled_at memory place value count = written_at memory place (replicate count (value % 256))
+
+-- so many bytes of a source from an index on, if all are there
+abbrev pub written_with : List ℕ → (place : ℕ) → Option (List ℕ) → Option (List ℕ)
+written_with memory place None = None
+written_with memory place (Some bytes) = written_at memory place bytes
+
+abbrev pub copied_at : (source memory : List ℕ) → (place from count : ℕ) → Option (List ℕ)
+copied_at source memory place from count = written_with memory place (bytes_at source from count)
+
 -- how many bytes a load reads, and a store writes
 abbrev pub load_count : LoadOp → ℕ
 load_count op = 2 ^ load_alignment op

@@ -1,22 +1,23 @@
 -- A module outside its bodies, read from the left: what is in it, in order, and how reading ends (WebAssembly Core 1.0,
 -- 5.5).
-use Rattle.std.specs.Prelude.{ℕ, zero, suc, ◌+◌, Bool, ◌&&◌, ◌||◌, ◌==◌, not, List, [], ◌∷◌, length, nat_lt, nat_le, if◌then◌else◌}
-use Rattle.wasm_defs.specs.declared.fault.Kind.TheVariants.{Malformed, Unsupported, Limit, Invalid}
+use Rattle.std.specs.Prelude.{ℕ, zero, suc, ◌+◌, ◌-◌, Bool, true, Option, Some, None, is_some, ◌&&◌, ◌||◌, ◌==◌, not, List, [], ◌∷◌, length, nat_lt, nat_le, if◌then◌else◌}
+use Rattle.wasm_defs.specs.declared.fault.Kind.TheVariants.{Malformed, Limit, Invalid}
 use Rattle.wasm_defs.specs.declared.fault.Refusal.{Refusal}
 use Rattle.wasm_defs.specs.declared.item.Item.{Item}
 use Rattle.wasm_defs.specs.Limits.{max_entries, max_body, max_module}
 use Rattle.wasm_defs.specs.Fields.{Cursor, Read, Got, Fault, Wants, Reader, ◌>>=◌, done, refused, room_of, byte, u32, count, run, room, here, name, fixed}
-use Rattle.wasm_defs.specs.Entries.{Seen, nothing, note, signature, imported, function, table, memory, global, exported, start, element, code, segment}
+use Rattle.wasm_defs.specs.Entries.{Seen, nothing, or_zero, note, signature, imported, function, table, memory, global, exported, start, element, code, data_count, segment}
 
--- a body: the offsets of its size and of its first byte, and its bytes
+-- a body: whether the module counts its data segments, the offsets of its size and of its first byte, and its bytes
 pub record Body : Type 0 where
+  pub counted : Bool
   pub size : ℕ
   pub first : ℕ
   pub bytes : List ℕ
 
--- what reading meets: the id byte of a section, an item, or a body
+-- what reading meets: a section, by the offset of its id and its position in the order; an item; or a body
 pub data Part : Type 0 where
-  Section : (at id : ℕ) → Part
+  Section : (at position : ℕ) → Part
   Listed : (x : Item) → Part
   Coded : (b : Body) → Part
 
@@ -52,6 +53,17 @@ function_count seen = do
   n ← u32
   if nat_lt max_entries (seen.functions + n.1) then refused Limit n.0 else done n.1
 
+-- as many segments as the data count says
+abbrev pub agrees : Option ℕ → ℕ → Bool
+agrees None n = true
+agrees (Some count) n = n == count
+
+unfoldable pub segment_count : Seen → Reader ℕ
+segment_count seen = do
+  n ← u32
+  if agrees seen.data_count n.1 then (if nat_lt max_entries n.1 then refused Limit n.0 else done n.1)
+      else refused Malformed n.0
+
 unfoldable pub custom_name : Reader ℕ
 custom_name = do
   n ← name
@@ -64,8 +76,8 @@ listed p = do
   done (Listed x)
 
 -- a body's size, and its bytes
-unfoldable pub body : Reader Part
-body = do
+unfoldable pub body : Bool → Reader Part
+body counted = do
   n ← u32
   left ← room
   if nat_lt n.1 2 || nat_lt left n.1 then refused Malformed n.0
@@ -73,9 +85,16 @@ body = do
       else (do
         at ← here
         bytes ← run n.1
-        done (Coded (record { size = n.0; first = at; bytes = bytes })))
+        done (Coded (record { counted = counted; size = n.0; first = at; bytes = bytes })))
 
--- ---- sections: a row for each id
+-- ---- sections, by their positions in the order: that of their ids, but that the data count comes before the code (Core 2.0, 5.5.16).
+-- Custom sections have position 0 and are anywhere
+
+abbrev pub position_of : ℕ → ℕ
+position_of id = if id == 12 then 10 else if id == 10 || id == 11 then id + 1 else id
+
+abbrev pub id_of : ℕ → ℕ
+id_of position = if position == 10 then 12 else if position == 11 || position == 12 then position - 1 else position
 
 -- what a section has before its entries, which gives their number; each entry; what it has after them
 pub record Row : Type 0 where
@@ -88,53 +107,57 @@ entries_of front entry = record { front = front; entry = λ s. listed (entry s);
 
 -- the code section's count, and then its bodies
 abbrev pub code_entry : Seen → Reader Part
-code_entry seen = if seen.counted then body else listed (code seen)
+code_entry seen = if seen.counted then body (is_some seen.data_count) else listed (code seen)
 
+-- a row for each position
 abbrev pub row : ℕ → Row
-row id =
-    if id == 1 then entries_of (λ s. number_of max_entries) signature
-    else if id == 2 then entries_of (λ s. number_of max_entries) imported
-    else if id == 3 then entries_of function_count function
-    else if id == 4 then entries_of (λ s. at_most_one) table
-    else if id == 5 then entries_of (λ s. at_most_one) memory
-    else if id == 6 then entries_of (λ s. number_of max_entries) global
-    else if id == 7 then entries_of (λ s. number_of max_entries) exported
-    else if id == 8 then entries_of (λ s. done 1) start
-    else if id == 9 then entries_of (λ s. number_of max_entries) element
-    else if id == 10 then record { front = λ s. done (s.declared + 1); entry = code_entry; back = nothing_more }
-    else if id == 11 then entries_of (λ s. number_of max_entries) segment
+row position =
+    if position == 1 then entries_of (λ s. number_of max_entries) signature
+    else if position == 2 then entries_of (λ s. number_of max_entries) imported
+    else if position == 3 then entries_of function_count function
+    else if position == 4 then entries_of (λ s. at_most_one) table
+    else if position == 5 then entries_of (λ s. at_most_one) memory
+    else if position == 6 then entries_of (λ s. number_of max_entries) global
+    else if position == 7 then entries_of (λ s. number_of max_entries) exported
+    else if position == 8 then entries_of (λ s. done 1) start
+    else if position == 9 then entries_of (λ s. number_of max_entries) element
+    else if position == 10 then entries_of (λ s. done 1) data_count
+    else if position == 11 then record { front = λ s. done (s.declared + 1); entry = code_entry; back = nothing_more }
+    else if position == 12 then entries_of segment_count segment
     else record { front = λ s. custom_name; entry = λ s. listed (start s); back = rest_of_section }
-
--- the order of sections; custom ones are anywhere
-abbrev pub order_of : ℕ → ℕ
-order_of id = id
 
 -- functions are declared, and no code section came
 abbrev pub owes_code : Seen → Bool
-owes_code seen = nat_lt 0 seen.declared && nat_lt seen.last (order_of 10)
+owes_code seen = nat_lt 0 seen.declared && nat_lt seen.last 11
+
+-- data segments are counted, and no data section came
+abbrev pub owes_data : Seen → Bool
+owes_data seen = nat_lt 0 (or_zero seen.data_count) && nat_lt seen.last 12
+
+abbrev pub owes : Seen → Bool
+owes seen = owes_code seen || owes_data seen
 
 abbrev pub is_misplaced : Seen → ℕ → Bool
-is_misplaced seen id =
-    nat_lt 12 id || (not (id == 0) && nat_le (order_of id) seen.last) || (id == 11 && owes_code seen)
+is_misplaced seen position =
+    nat_lt 12 position || (not (position == 0) && nat_le position seen.last) || (position == 12 && owes_code seen)
 
--- a section's id, and where it ends
+-- a section's position, and where it ends
 unfoldable pub header : Seen → Reader (ℕ × ℕ)
 header seen = do
   id ← byte
-  if is_misplaced seen id.1 then refused Malformed id.0
-      else if id.1 == 12 then refused Unsupported id.0
+  if is_misplaced seen (position_of id.1) then refused Malformed id.0
       else if nat_le max_module id.0 then refused Limit id.0
       else (do
         size ← u32
         at ← here
-        if nat_lt max_module (at + size.1) then refused Limit size.0 else done (id.1, at + size.1))
+        if nat_lt max_module (at + size.1) then refused Limit size.0 else done (position_of id.1, at + size.1))
 
 abbrev pub entered : Seen → ℕ → Seen
-entered seen id = if id == 0 then seen else record seen { last = order_of id }
+entered seen position = if position == 0 then seen else record seen { last = position }
 
 -- what an item or a body adds to what was seen
 abbrev pub noted : Seen → Part → Seen
-noted seen (Section at id) = seen
+noted seen (Section at position) = seen
 noted seen (Listed x) = note seen x
 noted seen (Coded b) = seen
 
@@ -194,11 +217,11 @@ section next = λ seen c. runs_on (header seen c) (λ h d. contents (row h.0) ne
 
 -- where the bytes end between two sections
 abbrev pub at_the_end : Seen → Run
-at_the_end seen = if owes_code seen then ends Owed else ends (Whole seen)
+at_the_end seen = if owes seen then ends Owed else ends (Whole seen)
 
 abbrev pub or_section : Next → Seen → Cursor → List ℕ → Run
 or_section next seen c [] = at_the_end seen
-or_section next seen c (b ∷ bytes) = after_part (Section c.at b) (section next seen c)
+or_section next seen c (b ∷ bytes) = after_part (Section c.at (position_of b)) (section next seen c)
 
 -- so many sections at most
 unfoldable pub sections_up_to : ℕ → Next

@@ -2,7 +2,7 @@
 --
 -- A weight is one reduction, or one constant that is moved to the operands. A call and the entry of the declared function that it
 -- leads to are one together, and owe one more for each declared local. A branch or a return that carries several values, and the
--- end of a function that does, owe one more for each of them.
+-- end of a function that does, owe one more for each of them. So does an instruction that writes many bytes, for each byte.
 --
 -- A trap has its place in the module: the function and the offset of the instruction's first byte. Where the stack has no room, it is
 -- the callee and the first byte of its body, or of the import.
@@ -18,7 +18,7 @@ use Rattle.wasm_defs.specs.Places.{shape}
 use Rattle.wasm_defs.specs.Values.{Value, zero_of}
 use Rattle.wasm_defs.specs.Host.{Reply, Taken, Goes, Stops, taken}
 use Rattle.wasm_defs.specs.Configurations.{Func, Function, Imported, Declared, type_of, Instance, Store, Label, Frame, Invocation, Config, State, Outside, Inside, Carrying, Step, To, Returned, Trapped, Stopped, Waiting, Stuck, place_of, place_of_body, place_of_import, used, need_of, need, max_slots}
-use Rattle.wasm_defs.specs.Effects.{Effect, Gives, Traps, Fails, effect}
+use Rattle.wasm_defs.specs.Effects.{Effect, Gives, Traps, Fails, effect, bytes_written}
 
 -- ---- returns and entries (4.4.7)
 
@@ -86,11 +86,12 @@ goes_on c store locals operands code labels =
 abbrev pub proceeds : Config → List Value → Seq → Step
 proceeds c operands code = goes_on c c.store c.frame.locals operands code c.frame.labels
 
--- an instruction of a place
-abbrev pub applied : Config → Place → Seq → Effect → Step
-applied c here rest (Gives store locals operands) = goes_on c store locals operands rest c.frame.labels
-applied c here rest (Traps kind) = Trapped c.store kind here
-applied c here rest Fails = Stuck
+-- an instruction at an offset, which owes so much weight if it doesn't trap
+abbrev pub applied : Config → Place → Seq → (owed : ℕ) → Effect → Step
+applied c here rest owed (Gives store locals operands) =
+    To (Inside (record c { store = store; frame = record c.frame { locals = locals; operands = operands; code = rest }; owed = owed }))
+applied c here rest owed (Traps kind) = Trapped c.store kind here
+applied c here rest owed Fails = Stuck
 
 -- the function returns (4.4.5.9, 4.4.7.2)
 abbrev pub returns : Config → List Value → Step
@@ -174,7 +175,7 @@ module _ (i : Instance) where
   simple c Return rest = returns c c.frame.operands
   simple c (Call f) rest = call c rest c.frame.operands (slice_get i.functions f)
   simple c (CallIndirect type table) rest = call_indirect c (place_of c.frame (Simple (CallIndirect type table) rest)) rest type c.frame.operands
-  simple c p rest = applied c (place_of c.frame (Simple p rest)) rest (effect c.store c.frame.locals i.cap p c.frame.operands)
+  simple c p rest = applied c (place_of c.frame (Simple p rest)) rest (bytes_written p c.frame.operands) (effect c.store c.frame.locals i.cap p c.frame.operands)
 
   -- a rule for each instruction, and for the end of a sequence
   abbrev pub reduce : Config → Seq → Step

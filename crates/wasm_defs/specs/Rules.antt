@@ -4,11 +4,11 @@ use Rattle.std.specs.Prelude.{◌≡◌, ◌<◌, ◌≤◌, ℕ, ◌+◌, ◌||
 use Rattle.std.specs.List.{All}
 use Rattle.std.specs.FinMap as map
 use Rattle.wasm_defs.specs.declared.item.Item.{Item}
-use Rattle.wasm_defs.specs.declared.item.Item.TheVariants.{Signature, Imported, Function, Table, Memory, Global, Exported, Start, Element, Code, Segment}
+use Rattle.wasm_defs.specs.declared.item.Item.TheVariants.{Signature, Imported, Function, Table, Memory, Global, Exported, Start, Element, Code, DataCount, Passive, Segment}
 use Rattle.wasm_defs.specs.declared.item.Limits.{Limits}
 use Rattle.wasm_defs.specs.Limits.{max_module, max_entries, max_params, max_results, max_table, max_pages, top_pages, top_rows, max_body, max_name}
 use Rattle.wasm_defs.specs.Entries.{Seen, nothing, note, space}
-use Rattle.wasm_defs.specs.Items.{Section, Payload, Custom, Vector, Starting, Bodies, payload_items}
+use Rattle.wasm_defs.specs.Items.{Section, Payload, Custom, Vector, Starting, Bodies, Counting, payload_items}
 
 -- ---- items
 
@@ -36,7 +36,10 @@ Keeps s (Exported label kind index) = (length label.1 ≤ max_name) × (is_some 
 Keeps s (Start index) = index.1 < s.functions
 Keeps s (Element table place functions) = IsSole table s.tables × All (λ i. i < s.functions) functions.1
 Keeps s (Code count end) = Unit {0}
-Keeps s (Segment memory place bytes) = IsSole memory s.memories
+Keeps s (DataCount count) = count.1 ≤ max_entries
+Keeps s (Passive form bytes) = Unit {0}
+Keeps s (Segment form None place bytes) = 0 < s.memories
+Keeps s (Segment form (Some memory) place bytes) = IsSole memory s.memories
 
 abbrev pub AllKeep : Seen → List Item → Type 0
 AllKeep s [] = Unit {0}
@@ -50,13 +53,14 @@ all_noted s (x ∷ xs) = all_noted (note s x) xs
 
 -- how many items a section lists: one table and one memory (3.4.10), and of others as many as the limit says
 abbrev pub most_of : ℕ → ℕ
-most_of id = if id == 4 || id == 5 then 1 else max_entries
+most_of position = if position == 4 || position == 5 then 1 else max_entries
 
 -- the limits on what a section holds; imports and functions together have one
 abbrev pub IsSmall : Seen → Payload → Type 0
 IsSmall s (Custom name) = length name.1 ≤ max_name
-IsSmall s (Vector id count items) = (length items ≤ most_of id) × (id ≡ 3 → s.functions + length items ≤ max_entries)
+IsSmall s (Vector position count items) = (length items ≤ most_of position) × (position ≡ 3 → s.functions + length items ≤ max_entries)
 IsSmall s (Starting index) = Unit {0}
+IsSmall s (Counting count) = Unit {0}
 IsSmall s (Bodies count end bodies) = All (λ b. length b.bytes ≤ max_body) bodies
 
 abbrev pub SectionsKeep : Seen → List Section → Type 0

@@ -16,8 +16,10 @@ use Rattle.wasm_defs.specs.declared.operation.LoadOp.{LoadOp}
 use Rattle.wasm_defs.specs.declared.operation.LoadOp.TheVariants.{I32Load, I64Load, I32Load8S, I32Load8U, I32Load16S, I32Load16U, I64Load8S, I64Load8U, I64Load16S, I64Load16U, I64Load32S, I64Load32U}
 use Rattle.wasm_defs.specs.declared.operation.StoreOp.{StoreOp}
 use Rattle.wasm_defs.specs.declared.operation.StoreOp.TheVariants.{I32Store, I64Store, I32Store8, I32Store16, I64Store8, I64Store16, I64Store32}
+use Rattle.wasm_defs.specs.declared.token.BulkOp.{BulkOp}
+use Rattle.wasm_defs.specs.declared.token.BulkOp.TheVariants.{Fill, Copy, Init}
 use Rattle.wasm_defs.specs.declared.token.Plain.{Plain}
-use Rattle.wasm_defs.specs.declared.token.Plain.TheVariants.{Unreachable, Nop, Br, BrIf, BrTable, Return, Call, CallIndirect, Discard, Select, LocalGet, LocalSet, LocalTee, GlobalGet, GlobalSet, Load, Store, MemorySize, MemoryGrow, Const, Operate}
+use Rattle.wasm_defs.specs.declared.token.Plain.TheVariants.{Unreachable, Nop, Br, BrIf, BrTable, Return, Call, CallIndirect, Discard, Select, LocalGet, LocalSet, LocalTee, GlobalGet, GlobalSet, Load, Store, MemorySize, MemoryGrow, Bulk, DataDrop, Const, Operate}
 use Rattle.wasm_defs.specs.Trees.{Seq, Nothing, Simple, Block, Loop, If, IfElse}
 
 abbrev pub Types : Type 0
@@ -33,12 +35,13 @@ abbrev pub signature_of : FuncType → Signature
 signature_of f = record { params = reverse f.params; results = reverse f.results }
 
 -- what the instructions of a body may name (Core 3.1): functions by the indices of their types, the imported ones first;
--- how many tables and memories there are
+-- how many tables and memories there are; and how many data segments they may name
 pub record Context : Type 0 where
   pub types : List FuncType
   pub functions : List ℕ
   pub tables : ℕ
   pub memories : ℕ
+  pub segments : ℕ
   pub globals : List GlobalType
   pub locals : Types
   pub results : Types
@@ -175,6 +178,12 @@ only_if false rule = Untyped
 abbrev pub accesses : Context → ℕ → ℕ → Bool
 accesses c align most = nat_lt 0 c.memories && nat_le align most
 
+-- the segment that is read, if one is, is there (Core 2.0, 3.3.7)
+abbrev pub reads_segment : Context → BulkOp → Bool
+reads_segment c Fill = true
+reads_segment c Copy = true
+reads_segment c (Init x) = nat_lt x c.segments
+
 -- the type of a function
 abbrev pub function_type : Context → ℕ → Option FuncType
 function_type c f = type_at c (slice_get c.functions f)
@@ -208,6 +217,8 @@ rule_of c (Load op m) = only_if (accesses c m.align (load_alignment op)) (Fixed 
 rule_of c (Store op m) = only_if (accesses c m.align (store_alignment op)) (Fixed (store_type op ∷ I32 ∷ []) [])
 rule_of c MemorySize = only_if (nat_lt 0 c.memories) (Fixed [] (I32 ∷ []))
 rule_of c MemoryGrow = only_if (nat_lt 0 c.memories) (Fixed (I32 ∷ []) (I32 ∷ []))
+rule_of c (Bulk op) = only_if (nat_lt 0 c.memories && reads_segment c op) (Fixed (I32 ∷ I32 ∷ I32 ∷ []) [])
+rule_of c (DataDrop x) = only_if (nat_lt x c.segments) (Fixed [] [])
 rule_of c (Const t n) = Fixed [] (t ∷ [])
 rule_of c (Operate op) = Fixed (operated op).params (operated op).results
 

@@ -86,9 +86,19 @@ pub enum Item {
         count: (u64, u32),
         end: u64,
     },
-    /// A data segment (Core 5.5.14).
+    /// The data count: the number of data segments, which comes before the code (Core 2.0, 5.5.15).
+    DataCount {
+        count: (u64, u32),
+    },
+    /// A passive data segment: the offset of its form, and its bytes (Core 2.0, 5.5.14).
+    Passive {
+        form: u64,
+        bytes: (u64, Bytes),
+    },
+    /// An active data segment: the offset of its form, and the index of its memory, where the form has one (Core 2.0, 5.5.14).
     Segment {
-        memory: (u64, u32),
+        form: u64,
+        memory: Option<(u64, u32)>,
         place: Constant,
         bytes: (u64, Bytes),
     },

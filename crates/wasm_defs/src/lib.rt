@@ -32,6 +32,6 @@ pub use operation::{
 };
 pub use place::Place;
 pub use text::Inside;
-pub use token::{BlockType, MemArg, Plain, Token};
+pub use token::{BlockType, BulkOp, MemArg, Plain, Token};
 pub use types::{FuncType, ValType};
 pub use value::{TrapKind, Value};

@@ -19,6 +19,17 @@ pub struct MemArg {
     pub offset: u32,
 }
 
+/// The instructions that write many bytes of the memory (Core 2.0, 2.4.6).
+#[derive(Clone, Copy, Debug, PartialEq, Eq)]
+pub enum BulkOp {
+    /// `memory.fill`
+    Fill,
+    /// `memory.copy`
+    Copy,
+    /// `memory.init`, from the data segment of an index.
+    Init(u32),
+}
+
 /// An instruction that holds no others, with its immediates (Core 2.4, and `plaininstr` of 6.5).
 #[derive(Debug, Drop)]
 pub enum Plain {
@@ -46,6 +57,9 @@ pub enum Plain {
     Store(StoreOp, MemArg),
     MemorySize,
     MemoryGrow,
+    Bulk(BulkOp),
+    /// `data.drop`, of a data segment's index.
+    DataDrop(u32),
     /// The number as a signed one.
     Const(ValType, i64),
     Operate(Operation),

@@ -1,11 +1,12 @@
 -- After a body are data segments alone, so that the items before it say all that bodies may name.
-use Rattle.std.proofs.Common.{◌≡◌, ℕ, suc, ◌+◌, ◌≤◌, List, [], ◌∷◌, ◌++◌, length, max, refl, ap, subst, sym, ◌∙◌, append_assoc, arith}
+use Rattle.std.proofs.Common.{◌≡◌, ℕ, suc, ◌+◌, ◌≤◌, List, [], ◌∷◌, ◌++◌, length, max, Option, refl, ap, subst, sym, ◌∙◌, append_assoc, arith}
 use Rattle.wasm_defs.specs.declared.context.GlobalType.{GlobalType}
 use Rattle.wasm_defs.specs.declared.item.Item.{Item}
-use Rattle.wasm_defs.specs.declared.item.Item.TheVariants.{Signature, Imported, Function, Table, Memory, Global, Segment}
+use Rattle.wasm_defs.specs.declared.item.Item.TheVariants.{Signature, Imported, Function, Table, Memory, Global, DataCount, Passive, Segment}
 use Rattle.wasm_defs.specs.declared.item.Limits.{Limits}
 use Rattle.wasm_defs.specs.declared.types.FuncType.{FuncType}
-use Rattle.wasm_defs.specs.Context.{types_of, functions_of, import_count, declared_count, tables_of, memories_of, globals_of, context_of, body_context, type_of_function}
+use Rattle.wasm_defs.specs.Context.{types_of, functions_of, import_count, declared_count, tables_of, memories_of, globals_of, data_count_of, context_of, body_context, type_of_function}
+use Rattle.wasm_defs.specs.Entries.{or_zero}
 use Rattle.wasm_defs.specs.Faults.{items_of, bodies_of, read_of, context_at, IsValidCode, AreValid, Module, IsModule}
 use Rattle.wasm_defs.specs.Outside.{Body, Part, Section, Listed, Coded, module_read}
 use Rattle.wasm_defs.specs.Trees.{Seq}
@@ -17,14 +18,16 @@ use Rattle.wasm_laws.proofs.Sorted.{AreSorted, parts_are_sorted}
 
 types_end : (xs ys : List Item) → AreSegments ys → types_of (xs ++ ys) ≡ types_of xs
 types_end [] [] h = refl
-types_end [] (Segment memory place bytes ∷ ys) h = types_end [] ys h
+types_end [] (Passive form bytes ∷ ys) h = types_end [] ys h
+types_end [] (Segment form memory place bytes ∷ ys) h = types_end [] ys h
 types_end [] (_ ∷ ys) h = absurd h
 types_end (Signature form params results ty ∷ xs) ys h = ap (λ (l : List FuncType). ty ∷ l) (types_end xs ys h)
 types_end (_ ∷ xs) ys h = types_end xs ys h
 
 functions_end : (xs ys : List Item) → AreSegments ys → functions_of (xs ++ ys) ≡ functions_of xs
 functions_end [] [] h = refl
-functions_end [] (Segment memory place bytes ∷ ys) h = functions_end [] ys h
+functions_end [] (Passive form bytes ∷ ys) h = functions_end [] ys h
+functions_end [] (Segment form memory place bytes ∷ ys) h = functions_end [] ys h
 functions_end [] (_ ∷ ys) h = absurd h
 functions_end (Imported from what kind i ∷ xs) ys h = ap (λ (l : List ℕ). i.1 ∷ l) (functions_end xs ys h)
 functions_end (Function i ∷ xs) ys h = ap (λ (l : List ℕ). i.1 ∷ l) (functions_end xs ys h)
@@ -32,46 +35,60 @@ functions_end (_ ∷ xs) ys h = functions_end xs ys h
 
 imports_end : (xs ys : List Item) → AreSegments ys → import_count (xs ++ ys) ≡ import_count xs
 imports_end [] [] h = refl
-imports_end [] (Segment memory place bytes ∷ ys) h = imports_end [] ys h
+imports_end [] (Passive form bytes ∷ ys) h = imports_end [] ys h
+imports_end [] (Segment form memory place bytes ∷ ys) h = imports_end [] ys h
 imports_end [] (_ ∷ ys) h = absurd h
 imports_end (Imported from what kind i ∷ xs) ys h = ap (λ (n : ℕ). n + 1) (imports_end xs ys h)
 imports_end (_ ∷ xs) ys h = imports_end xs ys h
 
 declared_end : (xs ys : List Item) → AreSegments ys → declared_count (xs ++ ys) ≡ declared_count xs
 declared_end [] [] h = refl
-declared_end [] (Segment memory place bytes ∷ ys) h = declared_end [] ys h
+declared_end [] (Passive form bytes ∷ ys) h = declared_end [] ys h
+declared_end [] (Segment form memory place bytes ∷ ys) h = declared_end [] ys h
 declared_end [] (_ ∷ ys) h = absurd h
 declared_end (Function i ∷ xs) ys h = ap (λ (n : ℕ). n + 1) (declared_end xs ys h)
 declared_end (_ ∷ xs) ys h = declared_end xs ys h
 
 tables_end : (xs ys : List Item) → AreSegments ys → tables_of (xs ++ ys) ≡ tables_of xs
 tables_end [] [] h = refl
-tables_end [] (Segment memory place bytes ∷ ys) h = tables_end [] ys h
+tables_end [] (Passive form bytes ∷ ys) h = tables_end [] ys h
+tables_end [] (Segment form memory place bytes ∷ ys) h = tables_end [] ys h
 tables_end [] (_ ∷ ys) h = absurd h
 tables_end (Table element limits ∷ xs) ys h = ap (λ (l : List Limits). limits ∷ l) (tables_end xs ys h)
 tables_end (_ ∷ xs) ys h = tables_end xs ys h
 
 memories_end : (xs ys : List Item) → AreSegments ys → memories_of (xs ++ ys) ≡ memories_of xs
 memories_end [] [] h = refl
-memories_end [] (Segment memory place bytes ∷ ys) h = memories_end [] ys h
+memories_end [] (Passive form bytes ∷ ys) h = memories_end [] ys h
+memories_end [] (Segment form memory place bytes ∷ ys) h = memories_end [] ys h
 memories_end [] (_ ∷ ys) h = absurd h
 memories_end (Memory limits ∷ xs) ys h = ap (λ (l : List Limits). limits ∷ l) (memories_end xs ys h)
 memories_end (_ ∷ xs) ys h = memories_end xs ys h
 
 globals_end : (xs ys : List Item) → AreSegments ys → globals_of (xs ++ ys) ≡ globals_of xs
 globals_end [] [] h = refl
-globals_end [] (Segment memory place bytes ∷ ys) h = globals_end [] ys h
+globals_end [] (Passive form bytes ∷ ys) h = globals_end [] ys h
+globals_end [] (Segment form memory place bytes ∷ ys) h = globals_end [] ys h
 globals_end [] (_ ∷ ys) h = absurd h
 globals_end (Global ty mutable init ∷ xs) ys h = ap (λ (l : List GlobalType). record { ty = ty.1; mutable = mutable.1 } ∷ l) (globals_end xs ys h)
 globals_end (_ ∷ xs) ys h = globals_end xs ys h
 
--- a context of these lists
-abbrev made_of : List FuncType → List ℕ → List Limits → List Limits → List GlobalType → Context
-made_of types functions tables memories globals = record {
+data_count_end : (xs ys : List Item) → AreSegments ys → data_count_of (xs ++ ys) ≡ data_count_of xs
+data_count_end [] [] h = refl
+data_count_end [] (Passive form bytes ∷ ys) h = data_count_end [] ys h
+data_count_end [] (Segment form memory place bytes ∷ ys) h = data_count_end [] ys h
+data_count_end [] (_ ∷ ys) h = absurd h
+data_count_end (DataCount count ∷ xs) ys h = refl
+data_count_end (_ ∷ xs) ys h = data_count_end xs ys h
+
+-- a context of these lists, and of so many data segments
+abbrev made_of : List FuncType → List ℕ → List Limits → List Limits → Option ℕ → List GlobalType → Context
+made_of types functions tables memories data_count globals = record {
   types = types;
   functions = functions;
   tables = length tables;
   memories = length memories;
+  segments = or_zero data_count;
   globals = globals;
   locals = [];
   results = [];
@@ -85,8 +102,10 @@ segments_say_nothing xs ys h =
     let tables = tables_end xs ys h in
     let memories = memories_end xs ys h in
     let globals = globals_end xs ys h in
-    let context : made_of (types_of (xs ++ ys)) (functions_of (xs ++ ys)) (tables_of (xs ++ ys)) (memories_of (xs ++ ys)) (globals_of (xs ++ ys)) ≡ made_of (types_of xs) (functions_of xs) (tables_of xs) (memories_of xs) (globals_of xs) = rw (types, functions, tables, memories, globals) refl in
-    record { context = context; imports = imports_end xs ys h; declared = declared_end xs ys h; tables = tables; memories = memories }
+    let counted = data_count_end xs ys h in
+    let context : made_of (types_of (xs ++ ys)) (functions_of (xs ++ ys)) (tables_of (xs ++ ys)) (memories_of (xs ++ ys)) (data_count_of (xs ++ ys)) (globals_of (xs ++ ys))
+    ≡ made_of (types_of xs) (functions_of xs) (tables_of xs) (memories_of xs) (data_count_of xs) (globals_of xs) = rw (types, functions, tables, memories, globals, counted) refl in
+    record { context = context; imports = imports_end xs ys h; declared = declared_end xs ys h; tables = tables; memories = memories; data_count = counted }
 
 -- ---- after a body
 
@@ -96,22 +115,23 @@ items_around (Section at id ∷ front) b back = items_around front b back
 items_around (Listed x ∷ front) b back = ap (λ (l : List Item). x ∷ l) (items_around front b back)
 items_around (Coded a ∷ front) b back = items_around front b back
 
-sorted_behind : (before id : ℕ) (front : List Part) (b : Body) (back : List Part) → AreSorted before id (front ++ Coded b ∷ back) → AreSorted 10 10 back
+sorted_behind : (before id : ℕ) (front : List Part) (b : Body) (back : List Part) → AreSorted before id (front ++ Coded b ∷ back) → AreSorted 11 11 back
 sorted_behind before id [] b back h = h.2
 sorted_behind before id (Section at next ∷ front) b back h = sorted_behind (max before id) next front b back h
 sorted_behind before id (Listed x ∷ front) b back h = sorted_behind before id front b back h.2
-sorted_behind before id (Coded a ∷ front) b back h = sorted_behind 10 10 front b back h.2
+sorted_behind before id (Coded a ∷ front) b back h = sorted_behind 11 11 front b back h.2
 
 -- no section but that of data segments comes after the code section
-late_are_segments : (before id : ℕ) (parts : List Part) → 10 ≤ before → AreSorted before id parts → AreSegments (items_of parts)
+late_are_segments : (before id : ℕ) (parts : List Part) → 11 ≤ before → AreSorted before id parts → AreSegments (items_of parts)
 late_are_segments before id [] le h = tt
 late_are_segments before id (Section at next ∷ parts) le h = late_are_segments (max before id) next parts (omega arith) h
-late_are_segments before id (Listed (Segment memory place bytes) ∷ parts) le h = late_are_segments before id parts le h.2
+late_are_segments before id (Listed (Passive form bytes) ∷ parts) le h = late_are_segments before id parts le h.2
+late_are_segments before id (Listed (Segment form memory place bytes) ∷ parts) le h = late_are_segments before id parts le h.2
 late_are_segments before id (Listed x ∷ parts) le h = absurd (omega (arith, h.0, h.1))
-late_are_segments before id (Coded b ∷ parts) le h = late_are_segments 10 10 parts (omega arith) h.2
+late_are_segments before id (Coded b ∷ parts) le h = late_are_segments 11 11 parts (omega arith) h.2
 
 pub segments_behind : (bytes : List ℕ) (front : List Part) (b : Body) (back : List Part) → (module_read bytes).parts ≡ front ++ Coded b ∷ back → AreSegments (items_of back)
-segments_behind bytes front b back e = late_are_segments 10 10 back (omega arith) (sorted_behind 0 0 front b back (subst (AreSorted 0 0) e (parts_are_sorted bytes)))
+segments_behind bytes front b back e = late_are_segments 11 11 back (omega arith) (sorted_behind 0 0 front b back (subst (AreSorted 0 0) e (parts_are_sorted bytes)))
 
 pub bodies_stand_behind : (bytes : List ℕ) (front : List Part) (b : Body) (back : List Part) → (module_read bytes).parts ≡ front ++ Coded b ∷ back → StandBehind (module_read bytes).parts front back
 bodies_stand_behind bytes front b back e =

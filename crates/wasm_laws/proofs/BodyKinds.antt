@@ -1,5 +1,5 @@
 -- The error that stops reading, of a body or of what is outside bodies, isn't Ended.
-use Rattle.std.proofs.Common.{◌≡◌, ◌<◌, ℕ, zero, suc, ◌+◌, ◌-◌, ℤ, pos, negsuc, true, eqb, nat_lt, ◌||◌, List, [], ◌∷◌, length, Option, Some, None, subst, inl, inr}
+use Rattle.std.proofs.Common.{◌≡◌, ◌<◌, ℕ, zero, suc, ◌+◌, ◌-◌, ℤ, pos, negsuc, Bool, true, eqb, nat_lt, ◌||◌, List, [], ◌∷◌, length, Option, Some, None, subst, inl, inr}
 use Rattle.std.proofs.lemmas.Bool.{cases_Bool}
 use Rattle.wasm_defs.specs.declared.fault.Kind.TheVariants.{Malformed, Unsupported}
 use Rattle.wasm_defs.specs.declared.fault.Refusal.{Refusal}
@@ -13,8 +13,8 @@ use Rattle.wasm_defs.specs.declared.types.ValType.{ValType}
 use Rattle.wasm_defs.specs.declared.types.ValType.TheVariants.{I32, I64}
 use Rattle.wasm_defs.specs.Fields.{Cursor, Read, Got, Fault, Wants, byte}
 use Rattle.wasm_defs.specs.Entries.{Seen, nothing}
-use Rattle.wasm_defs.specs.Bodies.{Group, Spelled, group, groups, local_groups, with_index, short_type, type_by, block_type, with_type, label, branch_table, zero_byte, indirect, with_zero, mem_arg, with_mem_arg, constant, control, variable, accessed_at, memory, operated_at, numeric, instruction, malformed_at, closed, goes_on, depth_after, spelled_from, read_code, last_of, body_cursor, body_read}
-use Rattle.wasm_defs.specs.Outside.{Row, row, entered, noted, inside, Ending, Whole, Refused, Owed, Run, runs_on, Next, finish, entries, contents, section, owes_code, or_section, sections_up_to, beginning, module_read}
+use Rattle.wasm_defs.specs.Bodies.{Group, Spelled, group, groups, local_groups, with_index, short_type, type_by, block_type, with_type, label, branch_table, zero_byte, indirect, with_zero, initializing, copying, by_number, prefixed, mem_arg, with_mem_arg, constant, control, variable, accessed_at, memory, operated_at, numeric, instruction, malformed_at, closed, goes_on, depth_after, spelled_from, read_code, last_of, body_cursor, body_read}
+use Rattle.wasm_defs.specs.Outside.{Row, row, entered, noted, inside, Ending, Whole, Refused, Owed, Run, runs_on, Next, finish, entries, contents, section, owes, or_section, sections_up_to, beginning, module_read}
 use Rattle.wasm_defs.specs.Faults.{rank}
 use Rattle.wasm_laws.proofs.FieldKinds.{Lasts, Lasting, LastingRow, lasting, value_type_lasts, bind, done_lasts, refused_lasts, either, unsupported, malformed, byte_lasts, number_lasts, here_lasts, header_lasts, preamble_lasts, end_lasts, row_lasts}
 
@@ -76,6 +76,14 @@ with_zero_lasts : (p : Plain) → Lasting (with_zero p)
 unfolding with_zero
 with_zero_lasts p = search (zero_byte_lasts, lasting) depth 40
 
+initializing_lasts : Lasting initializing
+unfolding initializing
+initializing_lasts = search (zero_byte_lasts, lasting) depth 40
+
+copying_lasts : Lasting copying
+unfolding copying
+copying_lasts = search (zero_byte_lasts, lasting) depth 40
+
 mem_arg_lasts : Lasting mem_arg
 unfolding mem_arg
 mem_arg_lasts = search lasting depth 40
@@ -109,18 +117,26 @@ memory_lasts : (at b : ℕ) → Lasting (memory at b)
 unfolding memory
 memory_lasts at b = search (accessed_lasts, immediates) depth 40
 
-operated_lasts : (at b : ℕ) (row : Option (Option Operation)) → Lasting (operated_at at b row)
-operated_lasts at b None = either _ _ _ (refused_lasts _ at unsupported) (refused_lasts _ at malformed)
-operated_lasts at b (Some None) = refused_lasts _ at unsupported
-operated_lasts at b (Some (Some op)) = done_lasts _
+by_number_lasts : (counted : Bool) (at n : ℕ) → Lasting (by_number counted at n)
+unfolding by_number
+by_number_lasts counted at n = search (initializing_lasts, copying_lasts, immediates) depth 40
 
-numeric_lasts : (at b : ℕ) → Lasting (numeric at b)
+prefixed_lasts : (counted : Bool) (at : ℕ) → Lasting (prefixed counted at)
+unfolding prefixed
+prefixed_lasts counted at = search (by_number_lasts, lasting) depth 40
+
+operated_lasts : (counted : Bool) (at b : ℕ) (row : Option (Option Operation)) → Lasting (operated_at counted at b row)
+operated_lasts counted at b None = either _ _ _ (prefixed_lasts counted at) (refused_lasts _ at malformed)
+operated_lasts counted at b (Some None) = refused_lasts _ at unsupported
+operated_lasts counted at b (Some (Some op)) = done_lasts _
+
+numeric_lasts : (counted : Bool) (at b : ℕ) → Lasting (numeric counted at b)
 unfolding numeric
-numeric_lasts at b = search (operated_lasts, immediates) depth 40
+numeric_lasts counted at b = search (operated_lasts, immediates) depth 40
 
-instruction_lasts : (at b : ℕ) → Lasting (instruction at b)
+instruction_lasts : (counted : Bool) (at b : ℕ) → Lasting (instruction counted at b)
 unfolding instruction
-instruction_lasts at b = search (control_lasts, variable_lasts, memory_lasts, numeric_lasts, immediates) depth 40
+instruction_lasts counted at b = search (control_lasts, variable_lasts, memory_lasts, numeric_lasts, immediates) depth 40
 
 -- ---- bodies
 
@@ -142,20 +158,21 @@ closed_lasts : (at : ℕ) (rest : List ℕ) → SpellingLasts (closed at rest)
 closed_lasts at [] r e = absurd cc
 closed_lasts at (b ∷ rest) r e = malformed_lasts at r e
 
-spelled_lasts : (n depth last : ℕ) (c : Cursor) → SpellingLasts (spelled_from n depth last c)
+spelled_lasts : (counted : Bool) (n depth last : ℕ) (c : Cursor) → SpellingLasts (spelled_from counted n depth last c)
 unfolding spelled_from
-spelled_lasts zero depth last c = malformed_lasts last
-spelled_lasts (suc n) zero last c = closed_lasts c.at c.rest
-spelled_lasts (suc n) (suc depth) last c =
-    goes_lasts last (byte c) _ (byte_lasts.by c) (λ b d. goes_lasts last (instruction b.0 b.1 d) _ ((instruction_lasts b.0 b.1).by d) (λ t e. spelled_lasts n (depth_after t (suc depth)) last e))
+spelled_lasts counted zero depth last c = malformed_lasts last
+spelled_lasts counted (suc n) zero last c = closed_lasts c.at c.rest
+spelled_lasts counted (suc n) (suc depth) last c =
+    goes_lasts last (byte c) _ (byte_lasts.by c)
+    (λ b d. goes_lasts last (instruction counted b.0 b.1 d) _ ((instruction_lasts counted b.0 b.1).by d) (λ t e. spelled_lasts counted n (depth_after t (suc depth)) last e))
 
-code_lasts : (last : ℕ) (x : Read (List Group)) (n : ℕ) → Lasts x → SpellingLasts (read_code last x n).code
-code_lasts last (Got gs c) n h = spelled_lasts n 1 last c
-code_lasts last (Fault s) n h = λ r e. stop_lasts s r h e
-code_lasts last Wants n h = malformed_lasts last
+code_lasts : (counted : Bool) (last : ℕ) (x : Read (List Group)) (n : ℕ) → Lasts x → SpellingLasts (read_code counted last x n).code
+code_lasts counted last (Got gs c) n h = spelled_lasts counted n 1 last c
+code_lasts counted last (Fault s) n h = λ r e. stop_lasts s r h e
+code_lasts counted last Wants n h = malformed_lasts last
 
-pub body_fault_lasts : (first : ℕ) (bytes : List ℕ) → SpellingLasts (body_read first bytes).code
-body_fault_lasts first bytes = code_lasts (last_of first bytes) (local_groups (body_cursor first bytes)) (length bytes + 1) (local_groups_last.by (body_cursor first bytes))
+pub body_fault_lasts : (counted : Bool) (first : ℕ) (bytes : List ℕ) → SpellingLasts (body_read counted first bytes).code
+body_fault_lasts counted first bytes = code_lasts counted (last_of first bytes) (local_groups (body_cursor first bytes)) (length bytes + 1) (local_groups_last.by (body_cursor first bytes))
 
 -- ---- modules
 
@@ -187,7 +204,7 @@ section_lasts : (next : Next) → LastingNext next → LastingNext (section next
 section_lasts next h seen c = runs_last _ _ ((header_lasts seen).by c) (λ x d. contents_last (row x.0) (row_lasts x.0) next h (entered seen x.0) (inside d x.1))
 
 or_lasts : (next : Next) → LastingNext next → (seen : Seen) (c : Cursor) (rest : List ℕ) → EndingLasts (or_section next seen c rest).ending
-or_lasts next h seen c [] = elim (cases_Bool (owes_code seen)) [ inl e ↦ rw e tt | inr e ↦ rw e tt ]
+or_lasts next h seen c [] = elim (cases_Bool (owes seen)) [ inl e ↦ rw e tt | inr e ↦ rw e tt ]
 or_lasts next h seen c (b ∷ rest) = section_lasts next h seen c
 
 up_to_lasts : (n : ℕ) → LastingNext (sections_up_to n)

@@ -1,5 +1,5 @@
 -- What a body is read by is steady: its locals, and an instruction after its opcode.
-use Rattle.std.proofs.Common.{ℕ, zero, suc, ◌+◌, ◌-◌, ℤ, pos, negsuc, true, eqb, nat_lt, ◌||◌, List, ◌∷◌, Option, Some, None}
+use Rattle.std.proofs.Common.{ℕ, zero, suc, ◌+◌, ◌-◌, ℤ, pos, negsuc, Bool, true, eqb, nat_lt, ◌||◌, List, ◌∷◌, Option, Some, None}
 use Rattle.wasm_defs.specs.declared.fault.Kind.TheVariants.{Malformed, Unsupported}
 use Rattle.wasm_defs.specs.declared.operation.Access.{Access}
 use Rattle.wasm_defs.specs.declared.operation.Operation.{Operation}
@@ -10,7 +10,7 @@ use Rattle.wasm_defs.specs.declared.token.Token.{Token}
 use Rattle.wasm_defs.specs.declared.types.ValType.{ValType}
 use Rattle.wasm_defs.specs.declared.types.ValType.TheVariants.{I32, I64}
 use Rattle.wasm_defs.specs.Fields.{u32, byte, number, here}
-use Rattle.wasm_defs.specs.Bodies.{group, groups, local_groups, with_index, short_type, type_by, block_type, with_type, label, branch_table, zero_byte, indirect, with_zero, mem_arg, with_mem_arg, constant, control, variable, accessed_at, memory, operated_at, numeric, instruction}
+use Rattle.wasm_defs.specs.Bodies.{group, groups, local_groups, with_index, short_type, type_by, block_type, with_type, label, branch_table, zero_byte, indirect, with_zero, initializing, copying, by_number, prefixed, mem_arg, with_mem_arg, constant, control, variable, accessed_at, memory, operated_at, numeric, instruction}
 use Rattle.wasm_laws.specs.Steadiness.{token}
 use Rattle.wasm_laws.proofs.Steady.{Steady, In, here_in, bind, bind_field, either, done_steady, refused_steady}
 use Rattle.wasm_laws.proofs.Windows.{byte_field, number_field}
@@ -80,6 +80,14 @@ pub with_zero_steady : (marks : List ℕ) (p : Plain) → Steady marks (with_zer
 unfolding with_zero
 with_zero_steady marks p = search (zero_byte_steady, steady) depth 40
 
+pub copying_steady : (marks : List ℕ) → Steady marks copying
+unfolding copying
+copying_steady marks = search (zero_byte_steady, steady) depth 40
+
+pub initializing_steady : (marks : List ℕ) → Steady marks initializing
+unfolding initializing
+initializing_steady marks = search (zero_byte_steady, steady) depth 40
+
 pub mem_arg_steady : (marks : List ℕ) → Steady marks mem_arg
 unfolding mem_arg
 mem_arg_steady marks = search steady depth 40
@@ -113,19 +121,27 @@ pub memory_steady : (marks : List ℕ) (at b : ℕ) → In at marks → Steady m
 unfolding memory
 memory_steady marks at b i = search (accessed_at_steady, immediates) depth 40
 
-pub operated_at_steady : (marks : List ℕ) (at b : ℕ) (row : Option (Option Operation)) → In at marks → Steady marks (operated_at at b row)
-operated_at_steady marks at b None i = either marks _ _ _ (refused_steady marks _ at i) (refused_steady marks _ at i)
-operated_at_steady marks at b (Some None) i = refused_steady marks _ at i
-operated_at_steady marks at b (Some (Some op)) i = done_steady marks _
+pub by_number_steady : (marks : List ℕ) (counted : Bool) (at n : ℕ) → In at marks → Steady marks (by_number counted at n)
+unfolding by_number
+by_number_steady marks counted at n i = search (initializing_steady, copying_steady, immediates) depth 40
 
-pub numeric_steady : (marks : List ℕ) (at b : ℕ) → In at marks → Steady marks (numeric at b)
+pub prefixed_steady : (marks : List ℕ) (counted : Bool) (at : ℕ) → In at marks → Steady marks (prefixed counted at)
+unfolding prefixed
+prefixed_steady marks counted at i = search (by_number_steady, steady) depth 40
+
+pub operated_at_steady : (marks : List ℕ) (counted : Bool) (at b : ℕ) (row : Option (Option Operation)) → In at marks → Steady marks (operated_at counted at b row)
+operated_at_steady marks counted at b None i = either marks _ _ _ (prefixed_steady marks counted at i) (refused_steady marks _ at i)
+operated_at_steady marks counted at b (Some None) i = refused_steady marks _ at i
+operated_at_steady marks counted at b (Some (Some op)) i = done_steady marks _
+
+pub numeric_steady : (marks : List ℕ) (counted : Bool) (at b : ℕ) → In at marks → Steady marks (numeric counted at b)
 unfolding numeric
-numeric_steady marks at b i = search (operated_at_steady, immediates) depth 40
+numeric_steady marks counted at b i = search (operated_at_steady, immediates) depth 40
 
-pub instruction_steady : (marks : List ℕ) (at b : ℕ) → In at marks → Steady marks (instruction at b)
+pub instruction_steady : (marks : List ℕ) (counted : Bool) (at b : ℕ) → In at marks → Steady marks (instruction counted at b)
 unfolding instruction
-instruction_steady marks at b i = search (control_steady, variable_steady, memory_steady, numeric_steady, immediates) depth 40
+instruction_steady marks counted at b i = search (control_steady, variable_steady, memory_steady, numeric_steady, immediates) depth 40
 
 -- an opcode and its instruction
-pub token_steady : (marks : List ℕ) → Steady marks token
-token_steady marks = bind_field marks byte _ byte_field (λ b. instruction_steady (b.0 ∷ marks) b.0 b.1 here_in)
+pub token_steady : (marks : List ℕ) (counted : Bool) → Steady marks (token counted)
+token_steady marks counted = bind_field marks byte _ byte_field (λ b. instruction_steady (b.0 ∷ marks) counted b.0 b.1 here_in)

@@ -1,5 +1,5 @@
 -- Tokens and the error of encoding are in order in a body.
-use Rattle.std.proofs.Common.{◌≡◌, ℕ, zero, suc, ◌+◌, ◌≤◌, ◌<◌, List, [], ◌∷◌, Some, length, refl, arith}
+use Rattle.std.proofs.Common.{Bool, ◌≡◌, ℕ, zero, suc, ◌+◌, ◌≤◌, ◌<◌, List, [], ◌∷◌, Some, length, refl, arith}
 use Rattle.wasm_defs.specs.declared.fault.Refusal.{Refusal}
 use Rattle.wasm_defs.specs.declared.token.Token.{Token}
 use Rattle.wasm_defs.specs.Fields.{Cursor, Read, Got, Fault, Wants, room_of, byte}
@@ -58,32 +58,32 @@ byte_stands from last c (Got b d) f p le le' q m s h = h b d q m
 byte_stands from last c (Fault r) f p le le' q m s h = fault_stands c.at from last c r p le s
 byte_stands from last c Wants f p le le' q m s h = missing_stands c.at from last le'
 
-spelled_stands : (n depth from last : ℕ) (c : Cursor) → InBody last c → from ≤ c.at → from ≤ last → IsSpelledFrom c.at from last (spelled_from n depth last c)
+spelled_stands : (counted : Bool) (n depth from last : ℕ) (c : Cursor) → InBody last c → from ≤ c.at → from ≤ last → IsSpelledFrom c.at from last (spelled_from counted n depth last c)
 unfolding spelled_from
-spelled_stands zero depth from last c p le le' = missing_stands c.at from last le'
-spelled_stands (suc n) zero from last c p le le' = closed_stands c.at from last c.at c.rest le le' p.sum
-spelled_stands (suc n) (suc depth) from last c p le le' =
+spelled_stands counted zero depth from last c p le le' = missing_stands c.at from last le'
+spelled_stands counted (suc n) zero from last c p le le' = closed_stands c.at from last c.at c.rest le le' p.sum
+spelled_stands counted (suc n) (suc depth) from last c p le le' =
     let s = byte_field.steady [] in
     byte_stands from last c (byte c) _ p le le' (s.moves c) (byte_field.marked c) (s.place c.at c (omega arith) tt)
     (λ b d q m.
-    let w = instruction_steady (b.0 ∷ []) b.0 b.1 here_in in
+    let w = instruction_steady (b.0 ∷ []) counted b.0 b.1 here_in in
     let i = body_on last c d p q in
-    instruction_stands c.at from last b d (instruction b.0 b.1 d) (λ t e. spelled_from n (depth_after t (suc depth)) last e) m.0 (omega (arith, m.0)) m.1 i (w.moves d) (w.place b.0 d (omega (arith, m.1)) (omega arith, m.1, tt))
-    (λ t e j le''. spelled_stands n (depth_after t (suc depth)) b.0 last e j le'' (omega (arith, i.sum, m.1))))
+    instruction_stands c.at from last b d (instruction counted b.0 b.1 d) (λ t e. spelled_from counted n (depth_after t (suc depth)) last e) m.0 (omega (arith, m.0)) m.1 i (w.moves d) (w.place b.0 d (omega (arith, m.1)) (omega arith, m.1, tt))
+    (λ t e j le''. spelled_stands counted n (depth_after t (suc depth)) b.0 last e j le'' (omega (arith, i.sum, m.1))))
 
-groups_stand : (first last n : ℕ) (c : Cursor) (x : Read (List Group)) → c.at ≡ first → InBody last c → first ≤ last → Advances c x → StandsIn first c x → IsSpelledIn first last (read_code last x n).code
-groups_stand first last n c (Got gs d) e p le q s =
+groups_stand : (counted : Bool) (first last n : ℕ) (c : Cursor) (x : Read (List Group)) → c.at ≡ first → InBody last c → first ≤ last → Advances c x → StandsIn first c x → IsSpelledIn first last (read_code counted last x n).code
+groups_stand counted first last n c (Got gs d) e p le q s =
     let m = moves_of c d q in
     let from : first ≤ d.at = omega (arith, m.at) in
-    let r = spelled_stands n 1 first last d (body_on last c d p q) from le in
-    let body = spelled_from n 1 last d in
+    let r = spelled_stands counted n 1 first last d (body_on last c d p q) from le in
+    let body = spelled_from counted n 1 last d in
     let stop = stop_of last body.fault in
     record { tokens = rising_wider d.at first stop body.tokens from r.tokens; after = r.after; within = r.within }
-groups_stand first last n c (Fault r) e p le q s = record { tokens = tt; after = s.from; within = omega (arith, p.sum, s.at_a_byte p.far) }
-groups_stand first last n c Wants e p le q s = record { tokens = tt; after = le; within = omega arith }
+groups_stand counted first last n c (Fault r) e p le q s = record { tokens = tt; after = s.from; within = omega (arith, p.sum, s.at_a_byte p.far) }
+groups_stand counted first last n c Wants e p le q s = record { tokens = tt; after = le; within = omega arith }
 
-pub body_is_ordered : (first : ℕ) (bytes : List ℕ) → 0 < length bytes → IsSpelledIn first (last_of first bytes) (body_read first bytes).code
-body_is_ordered first bytes some =
+pub body_is_ordered : (counted : Bool) (first : ℕ) (bytes : List ℕ) → 0 < length bytes → IsSpelledIn first (last_of first bytes) (body_read counted first bytes).code
+body_is_ordered counted first bytes some =
     let c = body_cursor first bytes in
     let s = local_groups_steady [] in
-    groups_stand first (last_of first bytes) (length bytes + 1) c (local_groups c) refl (record { sum = omega arith; far = omega arith }) (omega arith) (s.moves c) (s.place first c (omega arith) tt)
+    groups_stand counted first (last_of first bytes) (length bytes + 1) c (local_groups c) refl (record { sum = omega arith; far = omega arith }) (omega arith) (s.moves c) (s.place first c (omega arith) tt)

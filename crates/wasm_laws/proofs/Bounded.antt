@@ -1,12 +1,12 @@
 -- Reading goes no further than the limit on a module's bytes.
-use Rattle.std.proofs.Common.{◌≡◌, ℕ, zero, suc, ◌+◌, ◌-◌, ◌≤◌, ◌<◌, eqb, List, [], ◌∷◌, ◌++◌, length, drop, refl, sym, ap, ◌∙◌, arith, length-drop, length-take, inl, inr}
+use Rattle.std.proofs.Common.{◌≡◌, ℕ, zero, suc, ◌+◌, ◌-◌, ◌≤◌, ◌<◌, List, [], ◌∷◌, ◌++◌, length, drop, refl, sym, ap, ◌∙◌, arith, length-drop, length-take, inl, inr}
 use Rattle.std.specs.Prelude.{nat_lt, if◌then◌else◌}
 use Rattle.std.proofs.lemmas.Bool.{cases_Bool, cases_lt, lt-ltb, le-ltb, le-leb, lt-leb}
 use Rattle.wasm_defs.specs.declared.fault.Kind.TheVariants.{Limit}
 use Rattle.wasm_defs.specs.Limits.{max_module}
 use Rattle.wasm_defs.specs.Fields.{Cursor, Read, Got, Fault, Wants, Reader, ◌>>=◌, done, refused, past, room_of, window, byte, u32, here, fixed}
 use Rattle.wasm_defs.specs.Entries.{Seen, nothing}
-use Rattle.wasm_defs.specs.Outside.{Row, row, header, is_misplaced, entered, noted, inside, no_end, Ending, Refused, Run, runs_on, Next, finish, entries, contents, section, or_section, sections_up_to, magic, version, preamble, beginning, module_read}
+use Rattle.wasm_defs.specs.Outside.{Row, row, header, is_misplaced, entered, noted, inside, no_end, position_of, Ending, Refused, Run, runs_on, Next, finish, entries, contents, section, or_section, sections_up_to, magic, version, preamble, beginning, module_read}
 use Rattle.wasm_laws.specs.Runs.{GoesOn, deciding_length, IsRefused}
 use Rattle.wasm_laws.proofs.Steady.{IfGot, Advance, Moves, moves_of, moves_then, IsThere}
 use Rattle.wasm_laws.proofs.FieldLaws.{u32_field}
@@ -73,14 +73,11 @@ header_comes seen c p =
     let some : 1 ≤ length (window c) = omega (arith, p.low, p.there, p.far, length-take (c.end - c.at) c.rest) in
     then_comes (λ b d. (b.0 ≡ c.at) × (d ≡ past c 1)) Enters (byte c) _ (byte_comes c some)
     (λ b d q.
-    elim (cases_Bool (is_misplaced seen b.1)) [
+    elim (cases_Bool (is_misplaced seen (position_of b.1))) [
       | inl wrong ↦ rw wrong tt
-      | inr right ↦ rw right (elim (cases_Bool (eqb b.1 12)) [
-        | inl left_out ↦ rw left_out tt
-        | inr known ↦ rw known (elim (cases_lt b.0 max_module) [
-          | inr late ↦ rw (le-leb max_module b.0 late) tt
-          | inl early ↦ rw (lt-leb max_module b.0 early) (rw q.1 (sized_comes c (past c 1) b.1 p (moves_of c (past c 1) (past_advance c 1 some)) (omega (arith, q.0)) p.far))
-        ])
+      | inr right ↦ rw right (elim (cases_lt b.0 max_module) [
+        | inr late ↦ rw (le-leb max_module b.0 late) tt
+        | inl early ↦ rw (lt-leb max_module b.0 early) (rw q.1 (sized_comes c (past c 1) (position_of b.1) p (moves_of c (past c 1) (past_advance c 1 some)) (omega (arith, q.0)) p.far))
       ])
     ])
 

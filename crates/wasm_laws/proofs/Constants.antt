@@ -1,17 +1,17 @@
 -- The constants of globals are numbers of their types.
-use Rattle.std.proofs.Common.{◌≡◌, ◌≢◌, ℕ, zero, suc, ◌+◌, ◌<◌, true, eqb, List, [], ◌∷◌, length, ap, sym, subst, inl, inr}
+use Rattle.std.proofs.Common.{◌≡◌, ◌≢◌, ℕ, zero, suc, ◌+◌, ◌<◌, true, eqb, List, [], ◌∷◌, length, ap, sym, subst, inl, inr, is_some}
 use Rattle.std.proofs.lemmas.Bool.{cases_Bool, cases_eq}
 use Rattle.wasm_defs.proofs.NumberLaws.{AreBytes}
 use Rattle.wasm_defs.specs.declared.item.Constant.{Constant}
 use Rattle.wasm_defs.specs.declared.item.Item.{Item}
-use Rattle.wasm_defs.specs.declared.item.Item.TheVariants.{Signature, Imported, Function, Table, Memory, Global, Exported, Start, Element, Code, Segment}
+use Rattle.wasm_defs.specs.declared.item.Item.TheVariants.{Signature, Global}
 use Rattle.wasm_defs.specs.declared.types.ValType.{ValType}
 use Rattle.wasm_defs.specs.declared.types.ValType.TheVariants.{I32, I64}
 use Rattle.wasm_defs.specs.Fields.{Cursor, Read, Got, Fault, Wants, byte, number}
 use Rattle.wasm_defs.specs.Entries.{Seen, nothing, value_type, mutability, const_opcode, bits_of, constant, global, code}
 use Rattle.wasm_defs.specs.Faults.{items_of}
 use Rattle.wasm_defs.specs.Items.{section_of}
-use Rattle.wasm_defs.specs.Outside.{Part, Section, Listed, Coded, listed, body, code_entry, custom_name, row, header, entered, noted, inside, section_end, Run, after_part, runs_on, Next, finish, entries, contents, section, owes_code, at_the_end, or_section, sections_up_to, preamble, beginning, module_read}
+use Rattle.wasm_defs.specs.Outside.{Part, Section, Listed, Coded, listed, body, code_entry, custom_name, row, header, entered, noted, inside, section_end, Run, after_part, runs_on, Next, finish, entries, contents, section, position_of, owes, at_the_end, or_section, sections_up_to, preamble, beginning, module_read}
 use Rattle.wasm_laws.specs.Kept.{FitsType, ConstantsFit}
 use Rattle.wasm_laws.specs.Sections as sections
 use Rattle.wasm_laws.specs.Steadiness.{Advances, Leaves}
@@ -23,7 +23,7 @@ use Rattle.wasm_laws.proofs.RowLaws.{row_steady, end_steady}
 use Rattle.wasm_laws.proofs.Spelt.{bytes_behind}
 use Rattle.wasm_laws.proofs.Ranges.{HasBytes, number_got, wide_number_got}
 use Rattle.wasm_laws.proofs.Sorts.{IsItem, IsBody, listed_yields, body_yields}
-use Rattle.wasm_laws.proofs.Parts.{then_got, got_both, got_map, either_got}
+use Rattle.wasm_laws.proofs.Parts.{then_got, got_both, got_map, either_got, refused_got}
 use Rattle.wasm_laws.proofs.Headers.{Follows, header_tells}
 use Rattle.wasm_laws.proofs.Sorted.{IsOf, row_is_sorted, code_sort, no_entries}
 
@@ -49,13 +49,13 @@ constant_got ty c fits =
     then_got (λ opcode d. HasBytes d) (Fits ty) (byte c) _ (bytes_later c (byte c) ((byte_field.steady []).moves c) fits)
     (λ opcode d behind.
     elim (cases_Bool (eqb opcode.1 (const_opcode ty))) [
-      | inr other ↦ rw other tt
+      | inr other ↦ rw other (refused_got (Fits ty) opcode d)
       | inl right ↦ rw right (then_got (λ n e. FitsType ty n.1) (Fits ty) (number true (bits_of ty) d) _ (typed_number ty d behind)
           (λ n e fit.
           then_got (λ b f. Unit {0}) (Fits ty) (byte e) _ (always (byte e))
           (λ b f t.
           elim (cases_Bool (eqb b.1 0x0B)) [
-            | inr another ↦ rw another tt
+            | inr another ↦ rw another (refused_got (Fits ty) b f)
             | inl ended ↦ rw ended fit
           ])))
     ])
@@ -97,14 +97,14 @@ body_part_fits (Coded b) p = tt
 
 code_part_fits : (seen : Seen) (c : Cursor) → IfGot (λ x d. PartFits x) (code_entry seen c)
 code_part_fits seen c =
-    either_got (λ x d. PartFits x) seen.counted body (listed (code seen)) c
-    (λ e. got_map (λ x d. IsBody x) (λ x d. PartFits x) (body c) (λ x d p. body_part_fits x p) (body_yields.got c))
-    (λ e. got_map (λ x d. IsItem (IsOf 10) x) (λ x d. PartFits x) (listed (code seen) c) (λ x d p. item_part_fits 10 x (λ six. absurd cc) p) ((listed_yields (IsOf 10) (code seen) (code_sort seen)).got c))
+    either_got (λ x d. PartFits x) seen.counted (body (is_some seen.data_count)) (listed (code seen)) c
+    (λ e. got_map (λ x d. IsBody x) (λ x d. PartFits x) (body (is_some seen.data_count) c) (λ x d p. body_part_fits x p) ((body_yields (is_some seen.data_count)).got c))
+    (λ e. got_map (λ x d. IsItem (IsOf 11) x) (λ x d. PartFits x) (listed (code seen) c) (λ x d p. item_part_fits 11 x (λ six. absurd cc) p) ((listed_yields (IsOf 11) (code seen) (code_sort seen)).got c))
 
 -- the entries of a section that isn't custom
-entry_fits : (k : ℕ) → k < 12 → k ≢ 0 → (seen : Seen) (c : Cursor) → HasBytes c → IfGot (λ x d. PartFits x) ((row k).entry seen c)
+entry_fits : (k : ℕ) → k < 13 → k ≢ 0 → (seen : Seen) (c : Cursor) → HasBytes c → IfGot (λ x d. PartFits x) ((row k).entry seen c)
 entry_fits k known some seen c fits =
-    elim (cases_eq k 10) [
+    elim (cases_eq k 11) [
       | inl ten ↦ subst (λ (n : ℕ). IfGot (λ x d. PartFits x) ((row n).entry seen c)) (sym ten) (code_part_fits seen c)
       | inr items ↦
           elim (cases_eq k 6) [
@@ -145,7 +145,7 @@ module _ (id : ℕ) (next : Next) (rest : RunsFit next) where
       runs_fit (λ x d. HasBytes d) ((row id).back c) _ (bytes_later c ((row id).back c) ((row_steady id).back.moves c) fits)
       (λ x d behind. runs_fit (λ y e. HasBytes e) (section_end d) _ (end_bytes d (section_end d) (end_steady.leaves d) behind) (λ y e later. rest seen e later))
 
-  module _ (known : id < 12) (some : id ≢ 0) where
+  module _ (known : id < 13) (some : id ≢ 0) where
     entries_fit : (n : ℕ) → RunsFit (entries n (row id) next)
     entries_fit zero seen c fits = finish_fits seen c fits
     entries_fit (suc n) seen c fits =
@@ -174,11 +174,11 @@ section_fits next rest seen c fits =
     ])
 
 ends_fit : (seen : Seen) → Fit (at_the_end seen)
-ends_fit seen = elim (cases_Bool (owes_code seen)) [ inl owed ↦ rw owed (record { constants = tt }) | inr none ↦ rw none (record { constants = tt }) ]
+ends_fit seen = elim (cases_Bool (owes seen)) [ inl owed ↦ rw owed (record { constants = tt }) | inr none ↦ rw none (record { constants = tt }) ]
 
 or_fits : (next : Next) → RunsFit next → (seen : Seen) (c : Cursor) (rest : List ℕ) → HasBytes c → Fit (or_section next seen c rest)
 or_fits next h seen c [] fits = ends_fit seen
-or_fits next h seen c (b ∷ rest) fits = after_fits (Section c.at b) (section next seen c) tt (section_fits next h seen c fits)
+or_fits next h seen c (b ∷ rest) fits = after_fits (Section c.at (position_of b)) (section next seen c) tt (section_fits next h seen c fits)
 
 up_to_fit : (n : ℕ) → RunsFit (sections_up_to n)
 unfolding sections_up_to

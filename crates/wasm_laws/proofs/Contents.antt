@@ -1,23 +1,23 @@
 -- What is in the sections of a whole run: it is encoded, keeps the rules, and comes to the run's parts.
-use Rattle.std.proofs.Common.{◌≡◌, ◌≢◌, ◌≤◌, ◌<◌, ℕ, zero, suc, true, false, List, [], ◌∷◌, ◌++◌, length, map, refl, sym, ap, subst, ◌∙◌, append_assoc, add-one, arith, inl, inr}
+use Rattle.std.proofs.Common.{◌≡◌, ◌≢◌, ◌≤◌, ◌<◌, ℕ, zero, suc, true, false, List, [], ◌∷◌, ◌++◌, length, map, refl, sym, ap, subst, ◌∙◌, append_assoc, add-one, arith, inl, inr, is_some}
 use Rattle.std.specs.List.{All}
 use Rattle.std.proofs.lemmas.Bool.{cases_Bool, cases_eq, ne_eqb}
 use Rattle.std.proofs.lemmas.List.Elements.{All-nil, All-cons}
 use Rattle.wasm_defs.specs.declared.item.Item.{Item}
-use Rattle.wasm_defs.specs.declared.item.Item.TheVariants.{Start, Code}
+use Rattle.wasm_defs.specs.declared.item.Item.TheVariants.{Start, DataCount, Code}
 use Rattle.wasm_defs.specs.Limits.{max_module, max_body}
 use Rattle.wasm_defs.specs.Fields.{Cursor, Reader, room_of}
-use Rattle.wasm_defs.specs.Entries.{Seen, note, code, start}
+use Rattle.wasm_defs.specs.Entries.{Seen, note, code, data_count, start}
 use Rattle.wasm_defs.specs.Outside as outside
-use Rattle.wasm_defs.specs.Outside.{Body, Part, Listed, Coded, Nothing, listed, body, custom_name, rest_of_section, code_entry, Row, entries_of, row, is_misplaced, header, entered, noted, inside, no_end, left_over, section_end, Ending, Whole, Refused, Owed, Run, ends, after_part, runs_on, Next, finish, entries, contents, section, owes_code, at_the_end, or_section, sections_up_to}
-use Rattle.wasm_defs.specs.Items.{Spelling, exactly, each_is, u32_is, body_is, listed_index_is, item_is, section_of, AllOf, Custom, Vector, Starting, Bodies, HoldsVector, payload_is}
+use Rattle.wasm_defs.specs.Outside.{Body, Part, Listed, Coded, Nothing, listed, body, custom_name, rest_of_section, code_entry, Row, entries_of, row, position_of, is_misplaced, header, entered, noted, inside, no_end, left_over, section_end, Ending, Whole, Refused, Owed, Run, ends, after_part, runs_on, Next, finish, entries, contents, section, owes, at_the_end, or_section, sections_up_to}
+use Rattle.wasm_defs.specs.Items.{Spelling, exactly, each_is, u32_is, body_is, listed_index_is, item_is, section_of, AllOf, Custom, Vector, Starting, Counting, Bodies, HoldsVector, payload_is}
 use Rattle.wasm_defs.specs.Rules.{AllKeep, all_noted}
 use Rattle.wasm_laws.proofs.Steady.{IfGot}
 use Rattle.wasm_laws.proofs.Parts.{then_got, got_both, either_got}
 use Rattle.wasm_laws.proofs.Headers.{Follows, header_tells}
 use Rattle.wasm_laws.proofs.Spelt.{Ready, Found, found_nothing, found_then, found_alone, found_here, later}
 use Rattle.wasm_laws.proofs.SpeltItems.{SpeltEntry, Belongs}
-use Rattle.wasm_laws.proofs.SpeltRows.{IsFew, VectorRow, vector_row, StartFound, start_found, CustomFound, custom_found, anything, rest_found, CodeFound, code_found, BodyFound, body_found}
+use Rattle.wasm_laws.proofs.SpeltRows.{IsFew, IsCounted, VectorRow, vector_row, StartFound, start_found, CountFound, data_count_found, CustomFound, custom_found, anything, rest_found, CodeFound, code_found, BodyFound, body_found}
 use Rattle.wasm_laws.proofs.RowLaws.{end_steady}
 use Rattle.wasm_laws.proofs.Sorts.{notes}
 use Rattle.wasm_laws.proofs.Lasts.{note_counted}
@@ -26,7 +26,7 @@ use Rattle.wasm_laws.proofs.Describing.{IfWhole, whole_on, whole_as, Rest, Betwe
 -- ---- where a section ends
 
 abbrev Uncounted : Seen → Type 0
-Uncounted seen = seen.last < 10 → seen.counted ≡ false
+Uncounted seen = seen.last < 11 → seen.counted ≡ false
 
 -- what follows the entries, and takes all bytes of the section
 record Finished (t : Spelling) (seen : Seen) (c : Cursor) (parts : List Part) : Type 0 where
@@ -91,7 +91,7 @@ item_found : (id : ℕ) (entry : Seen → Reader Item) → SpeltEntry id entry �
 item_found id entry h seen c ready =
     then_got (λ x d. Found (item_is x) (Belongs id seen x) c d) (λ y d. ItemFound id seen c d y) (entry seen c) _ ((h seen).sound c ready) (λ x d found. record { item = x; is = refl; found = found })
 
-module _ (id : ℕ) (other : id ≢ 10) (r : VectorRow id) (next : Next) (describes : Describes next) where
+module _ (id : ℕ) (other : id ≢ 11) (r : VectorRow id) (next : Next) (describes : Describes next) where
   one_counts : (seen : Seen) (x : Item) → section_of x ≡ id → Uncounted seen → Uncounted (note seen x)
   one_counts seen x e h lt = note_counted seen x (λ k. other (sym e ∙ k)) ∙ h (omega (arith, (notes seen x).last))
 
@@ -110,12 +110,12 @@ module _ (id : ℕ) (other : id ≢ 10) (r : VectorRow id) (next : Next) (descri
 
   vector_found : HoldsVector id → (seen : Seen) (c : Cursor) → Ready c → c.end ≤ max_module → Uncounted seen → IfWhole (Content seen id c) (contents (entries_of r.front r.entry) next seen c)
   vector_found holds seen c ready short uncounted =
-      whole_on (λ n d. Found (listed_index_is n) (IsFew id seen n) c d) (Content seen id c) (r.front seen c) _ ((r.few seen).sound c ready)
+      whole_on (λ n d. Found (listed_index_is n) (IsFew id seen n × IsCounted id seen n) c d) (Content seen id c) (r.front seen c) _ ((r.few seen).sound c ready)
       (λ n d found.
       whole_as (Listing id n seen d) (Content seen id c) (entries n (entries_of r.front r.entry) next seen d) (λ parts l. content n d found parts l)
       (items_found n seen d (later c d found ready) (omega (arith, found.end)) uncounted))
     where
-      content : (n : ℕ) (d : Cursor) → Found (listed_index_is n) (IsFew id seen n) c d → (parts : List Part) → Listing id n seen d parts → Content seen id c parts
+      content : (n : ℕ) (d : Cursor) → Found (listed_index_is n) (IsFew id seen n × IsCounted id seen n) c d → (parts : List Part) → Listing id n seen d parts → Content seen id c parts
       content n d found parts l =
           let count = found_here (u32_is (c.at, length l.items)) (Unit {0}) c d found (refl, subst (λ (k : ℕ). listed_index_is k c.at found.taken) (sym l.count) found.spelled) tt in
           let vector = found_then (Unit {0}) c d l.stop count l.found tt in
@@ -125,7 +125,7 @@ module _ (id : ℕ) (other : id ≢ 10) (r : VectorRow id) (next : Next) (descri
             found = found_here (payload_is (Vector id c.at l.items)) (Unit {0}) c l.stop vector (holds, l.all, vector.spelled) tt;
             over = l.over;
             id_is = refl;
-            small = subst (λ (k : ℕ). IsFew id seen k) (sym l.count) found.kept;
+            small = subst (λ (k : ℕ). IsFew id seen k) (sym l.count) found.kept.0;
             kept = l.kept;
             tail = l.tail;
             is = l.is;
@@ -181,6 +181,32 @@ start_content next describes seen c ready short uncounted =
           rest = f.rest;
         }
 
+-- ---- the data count
+
+count_content : (next : Next) → Describes next → (seen : Seen) (c : Cursor) → Ready c → c.end ≤ max_module → Uncounted seen → IfWhole (Content seen 10 c) (contents (row 10) next seen c)
+count_content next describes seen c ready short uncounted =
+    whole_on (λ y d. CountFound c d y) (Content seen 10 c) (listed (data_count seen) c) _ (data_count_found seen c ready)
+    (λ y d x.
+    subst (λ (z : Part). IfWhole (Content seen 10 c) (after_part z (finish (row 10) next (noted seen z) d))) (sym x.is)
+    (one d y x (finish_found (row 10) (exactly []) nothing_found next describes (note seen (DataCount x.number)) d (later c d x.found ready) (omega (arith, x.found.end)) uncounted)))
+  where
+    one : (d : Cursor) (y : Part) (x : CountFound c d y) → IfWhole (Finished (exactly []) (note seen (DataCount x.number)) d) (finish (row 10) next (note seen (DataCount x.number)) d)
+        → IfWhole (Content seen 10 c) (after_part (Listed (DataCount x.number)) (finish (row 10) next (note seen (DataCount x.number)) d))
+    one d y x h s e =
+        let f = h s e in
+        record {
+          payload = Counting x.number;
+          stop = f.stop;
+          found = found_alone (Unit {0}) c d f.stop x.found f.found tt;
+          over = f.over;
+          id_is = refl;
+          small = tt;
+          kept = (x.found.kept, tt);
+          tail = (finish (row 10) next (note seen (DataCount x.number)) d).parts;
+          is = refl;
+          rest = f.rest;
+        }
+
 -- ---- the code section
 
 -- so many bodies, which take all bytes of the section
@@ -212,27 +238,27 @@ more_bodies n seen c d b parts found l = record {
 }
 
 module _ (next : Next) (describes : Describes next) where
-  bodies_found : (n : ℕ) (seen : Seen) (c : Cursor) → Ready c → c.end ≤ max_module → seen.last ≡ 10 → seen.counted ≡ true → IfWhole (Coding n seen c) (entries n (row 10) next seen c)
+  bodies_found : (n : ℕ) (seen : Seen) (c : Cursor) → Ready c → c.end ≤ max_module → seen.last ≡ 11 → seen.counted ≡ true → IfWhole (Coding n seen c) (entries n (row 11) next seen c)
   bodies_found zero seen c ready short last counted =
-      whole_as (Finished (exactly []) seen c) (Coding 0 seen c) (finish (row 10) next seen c) (λ parts x. no_bodies seen c parts x)
-      (finish_found (row 10) (exactly []) nothing_found next describes seen c ready short (λ lt. absurd (omega arith)))
+      whole_as (Finished (exactly []) seen c) (Coding 0 seen c) (finish (row 11) next seen c) (λ parts x. no_bodies seen c parts x)
+      (finish_found (row 11) (exactly []) nothing_found next describes seen c ready short (λ lt. absurd (omega arith)))
   bodies_found (suc n) seen c ready short last counted =
-      whole_on (λ y d. BodyFound c d y) (Coding (suc n) seen c) (code_entry seen c) _ (either_got (λ y d. BodyFound c d y) seen.counted body (listed (code seen)) c (λ e. body_found c ready) (λ e. absurd cc))
+      whole_on (λ y d. BodyFound (is_some seen.data_count) c d y) (Coding (suc n) seen c) (code_entry seen c) _ (either_got (λ y d. BodyFound (is_some seen.data_count) c d y) seen.counted (body (is_some seen.data_count)) (listed (code seen)) c (λ e. body_found (is_some seen.data_count) c ready) (λ e. absurd cc))
       (λ y d x.
-      subst (λ (z : Part). IfWhole (Coding (suc n) seen c) (after_part z (entries n (row 10) next (noted seen z) d))) (sym x.is)
+      subst (λ (z : Part). IfWhole (Coding (suc n) seen c) (after_part z (entries n (row 11) next (noted seen z) d))) (sym x.is)
       (one_more d x.«body» x.found (bodies_found n seen d (later c d x.found ready) (omega (arith, x.found.end)) last counted)))
     where
-      one_more : (d : Cursor) (b : Body) → Found (body_is b) (length b.bytes ≤ max_body) c d → IfWhole (Coding n seen d) (entries n (row 10) next seen d) → IfWhole (Coding (suc n) seen c) (after_part (Coded b) (entries n (row 10) next seen d))
+      one_more : (d : Cursor) (b : Body) → Found (body_is b) (length b.bytes ≤ max_body) c d → IfWhole (Coding n seen d) (entries n (row 11) next seen d) → IfWhole (Coding (suc n) seen c) (after_part (Coded b) (entries n (row 11) next seen d))
       one_more d b found h s e = more_bodies n seen c d b _ found (h s e)
 
-  code_content : (seen : Seen) (c : Cursor) → Ready c → c.end ≤ max_module → seen.last ≡ 10 → seen.counted ≡ false → IfWhole (Content seen 10 c) (contents (row 10) next seen c)
+  code_content : (seen : Seen) (c : Cursor) → Ready c → c.end ≤ max_module → seen.last ≡ 11 → seen.counted ≡ false → IfWhole (Content seen 11 c) (contents (row 11) next seen c)
   code_content seen c ready short last uncounted =
-      rw add-one (whole_on (λ y d. CodeFound seen c d y) (Content seen 10 c) (code_entry seen c) _ (either_got (λ y d. CodeFound seen c d y) seen.counted body (listed (code seen)) c (λ e. absurd cc) (λ e. code_found seen c ready))
+      rw add-one (whole_on (λ y d. CodeFound seen c d y) (Content seen 11 c) (code_entry seen c) _ (either_got (λ y d. CodeFound seen c d y) seen.counted (body (is_some seen.data_count)) (listed (code seen)) c (λ e. absurd cc) (λ e. code_found seen c ready))
       (λ y d x.
-      subst (λ (z : Part). IfWhole (Content seen 10 c) (after_part z (entries seen.declared (row 10) next (noted seen z) d))) (sym x.is)
+      subst (λ (z : Part). IfWhole (Content seen 11 c) (after_part z (entries seen.declared (row 11) next (noted seen z) d))) (sym x.is)
       (one d y x (bodies_found seen.declared (record seen { counted = true }) d (later c d x.found ready) (omega (arith, x.found.end)) last refl))))
     where
-      one : (d : Cursor) (y : Part) (x : CodeFound seen c d y) → IfWhole (Coding seen.declared (record seen { counted = true }) d) (entries seen.declared (row 10) next (record seen { counted = true }) d) → IfWhole (Content seen 10 c) (after_part (Listed (Code x.count c.end)) (entries seen.declared (row 10) next (record seen { counted = true }) d))
+      one : (d : Cursor) (y : Part) (x : CodeFound seen c d y) → IfWhole (Coding seen.declared (record seen { counted = true }) d) (entries seen.declared (row 11) next (record seen { counted = true }) d) → IfWhole (Content seen 11 c) (after_part (Listed (Code x.count c.end)) (entries seen.declared (row 11) next (record seen { counted = true }) d))
       one d y x h s e =
           let l = h s e in
           let many : x.count.1 ≡ length l.bodies = x.found.kept ∙ sym l.count in
@@ -247,13 +273,13 @@ module _ (next : Next) (describes : Describes next) where
             small = l.small;
             kept = (tt, tt);
             tail = l.tail;
-            is = ap (λ (k : ℕ). Listed (Code (x.count.0, k) c.end) ∷ (entries seen.declared (row 10) next (record seen { counted = true }) d).parts) many ∙ ap (λ (k : List Part). Listed (Code (x.count.0, length l.bodies) c.end) ∷ k) l.is;
+            is = ap (λ (k : ℕ). Listed (Code (x.count.0, k) c.end) ∷ (entries seen.declared (row 11) next (record seen { counted = true }) d).parts) many ∙ ap (λ (k : List Part). Listed (Code (x.count.0, length l.bodies) c.end) ∷ k) l.is;
             rest = l.rest;
           }
 
 -- ---- sections
 
--- the sections of 1.0 have ids up to 11
+-- a section, by its position
 section_content : (next : Next) → Describes next → (seen : Seen) (id : ℕ) (c : Cursor) → Follows seen id → Uncounted seen → Ready c → c.end ≤ max_module → IfWhole (Content (entered seen id) id c) (contents (row id) next (entered seen id) c)
 section_content next describes seen id c follows uncounted ready short =
     elim (cases_eq id 0) [
@@ -263,9 +289,11 @@ section_content next describes seen id c follows uncounted ready short =
             | inl e ↦ at_id 8 e (start_content next describes (record seen { last = 8 }) c ready short (λ lt. uncounted (omega (arith, follows.later n0))))
             | inr n8 ↦
                 elim (cases_eq id 10) [
-                  | inl e ↦ at_id 10 e (code_content next describes (record seen { last = 10 }) c ready short refl (uncounted (omega (arith, follows.later n0))))
-                  | inr n10 ↦
-                      vector n0 n8 n10
+                  | inl e ↦ at_id 10 e (count_content next describes (record seen { last = 10 }) c ready short (λ lt. uncounted (omega (arith, follows.later n0))))
+                  | inr n10 ↦ elim (cases_eq id 11) [
+                    | inl e ↦ at_id 11 e (code_content next describes (record seen { last = 11 }) c ready short refl (uncounted (omega (arith, follows.later n0))))
+                    | inr n11 ↦ vector n0 n8 n10 n11
+                  ]
                 ]
           ]
     ]
@@ -273,33 +301,33 @@ section_content next describes seen id c follows uncounted ready short =
     at_id : (k : ℕ) → id ≡ k → IfWhole (Content (entered seen k) k c) (contents (row k) next (entered seen k) c) → IfWhole (Content (entered seen id) id c) (contents (row id) next (entered seen id) c)
     at_id k e h = subst (λ (n : ℕ). IfWhole (Content (entered seen n) n c) (contents (row n) next (entered seen n) c)) (sym e) h
 
-    vector : id ≢ 0 → id ≢ 8 → id ≢ 10 → IfWhole (Content (entered seen id) id c) (contents (row id) next (entered seen id) c)
-    vector n0 n8 n10 =
-        let holds : HoldsVector id = (omega arith, omega (arith, follows.known), n8, n10) in
+    vector : id ≢ 0 → id ≢ 8 → id ≢ 10 → id ≢ 11 → IfWhole (Content (entered seen id) id c) (contents (row id) next (entered seen id) c)
+    vector n0 n8 n10 n11 =
+        let holds : HoldsVector id = (omega arith, omega (arith, follows.known), n8, n11, n10) in
         let r = vector_row id holds in
         let t : Seen = record seen { last = id } in
         let same : entered seen id ≡ t = rw (ne_eqb id 0 n0) refl in
-        let found : IfWhole (Content t id c) (contents (entries_of r.front r.entry) next t c) = vector_found id n10 r next describes holds t c ready short (λ lt. uncounted (omega (arith, follows.later n0))) in
+        let found : IfWhole (Content t id c) (contents (entries_of r.front r.entry) next t c) = vector_found id n11 r next describes holds t c ready short (λ lt. uncounted (omega (arith, follows.later n0))) in
         subst (λ (s : Seen). IfWhole (Content s id c) (contents (row id) next s c)) (sym same) (subst (λ (w : Row). IfWhole (Content t id c) (contents w next t c)) (sym r.is) found)
 
-section_found : (next : Next) → Describes next → (seen : Seen) (c : Cursor) (b : ℕ) (rest : List ℕ) → c.rest ≡ b ∷ rest → Between seen c → IfWhole (λ parts. Rest seen c (outside.Section c.at b ∷ parts)) (section next seen c)
+section_found : (next : Next) → Describes next → (seen : Seen) (c : Cursor) (b : ℕ) (rest : List ℕ) → c.rest ≡ b ∷ rest → Between seen c → IfWhole (λ parts. Rest seen c (outside.Section c.at (position_of b) ∷ parts)) (section next seen c)
 section_found next describes seen c b rest e between =
-    whole_on (λ h d. HeaderFound c d h × Follows seen h.0) (λ parts. Rest seen c (outside.Section c.at b ∷ parts)) (header seen c) _ (got_both (λ h d. HeaderFound c d h) (λ h d. Follows seen h.0) (header seen c) (header_found seen c between.ready) (header_tells seen c))
+    whole_on (λ h d. HeaderFound c d h × Follows seen h.0) (λ parts. Rest seen c (outside.Section c.at (position_of b) ∷ parts)) (header seen c) _ (got_both (λ h d. HeaderFound c d h) (λ h d. Follows seen h.0) (header seen c) (header_found seen c between.ready) (header_tells seen c))
     (λ h d p.
-    whole_as (Content (entered seen h.0) h.0 (inside d h.1)) (λ parts. Rest seen c (outside.Section c.at b ∷ parts)) (contents (row h.0) next (entered seen h.0) (inside d h.1))
-    (λ parts x. subst (λ (k : ℕ). Rest seen c (outside.Section c.at k ∷ parts)) (first_byte d h p.0) (content_rest c d h seen parts p.0 p.1 x))
+    whole_as (Content (entered seen h.0) h.0 (inside d h.1)) (λ parts. Rest seen c (outside.Section c.at (position_of b) ∷ parts)) (contents (row h.0) next (entered seen h.0) (inside d h.1))
+    (λ parts x. subst (λ (k : ℕ). Rest seen c (outside.Section c.at k ∷ parts)) (sym p.0.position ∙ ap position_of (first_byte d h p.0)) (content_rest c d h seen parts p.0 p.1 x))
     (section_content next describes seen h.0 (inside d h.1) p.1 between.uncounted (record { low = omega (arith, p.0.end); bytes = (later c d p.0.found between.ready).bytes }) p.0.short))
   where
-    first_byte : (d : Cursor) (h : ℕ × ℕ) → HeaderFound c d h → h.0 ≡ b
+    first_byte : (d : Cursor) (h : ℕ × ℕ) (p : HeaderFound c d h) → p.id ≡ b
     first_byte d h p =
         let s = p.found.spelled in
-        let whole : h.0 ∷ (s.back ++ d.rest) ≡ b ∷ rest =
+        let whole : p.id ∷ (s.back ++ d.rest) ≡ b ∷ rest =
         ap (λ (l : List ℕ). l ++ (s.back ++ d.rest)) (sym s.first.1) ∙ sym (append_assoc s.front s.back d.rest) ∙ ap (λ (l : List ℕ). l ++ d.rest) (sym s.parts) ∙ sym p.found.parts ∙ e in
         cc
 
 ends_found : (seen : Seen) (c : Cursor) → c.rest ≡ [] → c.at ≤ max_module → IfWhole (Rest seen c) (at_the_end seen)
 ends_found seen c e low =
-    elim (cases_Bool (owes_code seen)) [
+    elim (cases_Bool (owes seen)) [
       | inl owes ↦ rw owes (λ s k. absurd cc)
       | inr none ↦ rw none (λ s k. record { sections = []; spelled = e; ordered = tt; kept = tt; is = refl; short = omega (arith, ap length e) })
     ]

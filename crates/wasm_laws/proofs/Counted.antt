@@ -1,11 +1,11 @@
 -- Of each section but that of code, so many entries come at most: it comes once, and its count has that limit.
-use Rattle.std.proofs.Common.{◌≡◌, ◌≢◌, ℕ, zero, suc, ◌+◌, ◌≤◌, ◌<◌, Bool, true, false, cond, eqb, List, [], ◌∷◌, length, refl, sym, subst, ◌∙◌, arith, inl, inr}
+use Rattle.std.proofs.Common.{◌≡◌, ◌≢◌, ℕ, zero, suc, ◌+◌, ◌≤◌, ◌<◌, Bool, true, false, cond, eqb, List, [], ◌∷◌, length, refl, sym, subst, ◌∙◌, arith, inl, inr, is_some}
 use Rattle.std.proofs.lemmas.Bool.{cases_Bool, cases_eq, cases_lt, ne_eqb, lt-ltb, le-ltb}
 use Rattle.wasm_defs.specs.declared.item.Item.{Item}
 use Rattle.wasm_defs.specs.Fields.{Cursor, Read, Got, Fault, Wants, u32, count}
 use Rattle.wasm_defs.specs.Entries.{Seen, nothing, code}
 use Rattle.wasm_defs.specs.Limits.{max_entries}
-use Rattle.wasm_defs.specs.Outside.{Part, Section, Listed, Coded, listed, body, number_of, at_most_one, function_count, custom_name, code_entry, Row, row, header, entered, noted, inside, section_end, Ending, Run, ends, after_part, runs_on, Next, finish, entries, contents, section, owes_code, at_the_end, or_section, sections_up_to, preamble, beginning, module_read}
+use Rattle.wasm_defs.specs.Outside.{Part, Section, Listed, Coded, listed, body, number_of, at_most_one, function_count, agrees, segment_count, custom_name, code_entry, Row, row, header, entered, noted, inside, section_end, Ending, Run, ends, after_part, runs_on, Next, finish, entries, contents, section, position_of, owes, at_the_end, or_section, sections_up_to, preamble, beginning, module_read}
 use Rattle.wasm_defs.specs.Items.{section_of}
 use Rattle.wasm_defs.specs.Faults.{items_of}
 use Rattle.wasm_laws.proofs.Steady.{IfGot, always}
@@ -46,6 +46,19 @@ functions_few seen c =
       | inr fits ↦ rw (le-ltb max_entries (seen.functions + n.1) fits) (omega (arith, fits))
     ])
 
+segments_few : (seen : Seen) (c : Cursor) → IfGot (λ n d. n ≤ max_entries) (segment_count seen c)
+unfolding segment_count
+segments_few seen c =
+    then_got (λ n d. Unit {0}) (λ n d. n ≤ max_entries) (u32 c) _ (always (u32 c))
+    (λ n d t.
+    elim (cases_Bool (agrees seen.data_count n.1)) [
+      | inr other ↦ rw other tt
+      | inl same ↦ rw same (elim (cases_lt max_entries n.1) [
+        | inl over ↦ rw (lt-ltb max_entries n.1 over) tt
+        | inr fits ↦ rw (le-ltb max_entries n.1 fits) (omega (arith, fits))
+      ])
+    ])
+
 custom_few : (c : Cursor) → IfGot (λ n d. n ≤ max_entries) (custom_name c)
 custom_few c = got_map (λ n d. n ≡ 0) (λ n d. n ≤ max_entries) (custom_name c) (λ n d e. omega (arith, e)) (no_entries c)
 
@@ -56,7 +69,7 @@ either_row : (b : Bool) (p q : Row) → FewRow p → FewRow q → FewRow (cond b
 either_row true p q hp hq = hp
 either_row false p q hp hq = hq
 
-row_is_few : (id : ℕ) → id ≢ 10 → FewRow (row id)
+row_is_few : (id : ℕ) → id ≢ 11 → FewRow (row id)
 row_is_few id not_code =
     either_row (eqb id 1) _ _ (record { front = λ s c. number_few c })
     (either_row (eqb id 2) _ _ (record { front = λ s c. number_few c })
@@ -67,9 +80,10 @@ row_is_few id not_code =
     (either_row (eqb id 7) _ _ (record { front = λ s c. number_few c })
     (either_row (eqb id 8) _ _ (record { front = λ s c. omega arith })
     (either_row (eqb id 9) _ _ (record { front = λ s c. number_few c })
-    (rw (ne_eqb id 10 not_code)
-    (either_row (eqb id 11) _ _ (record { front = λ s c. number_few c })
-    (record { front = λ s c. custom_few c })))))))))))
+    (either_row (eqb id 10) _ _ (record { front = λ s c. omega arith })
+    (rw (ne_eqb id 11 not_code)
+    (either_row (eqb id 12) _ _ (record { front = segments_few })
+    (record { front = λ s c. custom_few c }))))))))))))
 
 -- ---- runs
 
@@ -82,7 +96,7 @@ record AreFew (id last : ℕ) (r : Run) : Type 0 where
 record UpTo (id n : ℕ) (r : Run) : Type 0 where
   few : entries_in id (items_of r.parts) ≤ n
 
-module _ (id : ℕ) (not_code : id ≢ 10) where
+module _ (id : ℕ) (not_code : id ≢ 11) where
   abbrev CountsFew : Next → Type 0
   CountsFew next = (seen : Seen) (c : Cursor) → AreFew id seen.last (next seen c)
 
@@ -153,13 +167,13 @@ module _ (id : ℕ) (not_code : id ≢ 10) where
 
   code_is_other : (seen : Seen) (c : Cursor) → IfGot (λ x d. IsOther x) (code_entry seen c)
   code_is_other seen c =
-      either_got (λ x d. IsOther x) seen.counted body (listed (code seen)) c
-      (λ e. got_map (λ x d. IsBody x) (λ x d. IsOther x) (body c) (λ x d p. body_is_other x p) (body_yields.got c))
-      (λ e. got_map (λ x d. IsItem (IsOf 10) x) (λ x d. IsOther x) (listed (code seen) c) (λ x d p. item_is_other 10 x (λ ten. not_code (sym ten)) p) ((listed_yields (IsOf 10) (code seen) (code_sort seen)).got c))
+      either_got (λ x d. IsOther x) seen.counted (body (is_some seen.data_count)) (listed (code seen)) c
+      (λ e. got_map (λ x d. IsBody x) (λ x d. IsOther x) (body (is_some seen.data_count) c) (λ x d p. body_is_other x p) ((body_yields (is_some seen.data_count)).got c))
+      (λ e. got_map (λ x d. IsItem (IsOf 11) x) (λ x d. IsOther x) (listed (code seen) c) (λ x d p. item_is_other 11 x (λ ten. not_code (sym ten)) p) ((listed_yields (IsOf 11) (code seen) (code_sort seen)).got c))
 
-  row_is_other : (k : ℕ) → k < 12 → k ≢ 0 → k ≢ id → (seen : Seen) (c : Cursor) → IfGot (λ x d. IsOther x) ((row k).entry seen c)
+  row_is_other : (k : ℕ) → k < 13 → k ≢ 0 → k ≢ id → (seen : Seen) (c : Cursor) → IfGot (λ x d. IsOther x) ((row k).entry seen c)
   row_is_other k known some other seen c =
-      elim (cases_eq k 10) [
+      elim (cases_eq k 11) [
         | inl ten ↦ subst (λ (n : ℕ). IfGot (λ x d. IsOther x) ((row n).entry seen c)) (sym ten) (code_is_other seen c)
         | inr items ↦ got_map (λ x d. IsItem (IsOf k) x) (λ x d. IsOther x) ((row k).entry seen c) (λ x d p. item_is_other k x other p) (((row_is_sorted k known some items).entry seen).got c)
       ]
@@ -205,14 +219,14 @@ module _ (id : ℕ) (not_code : id ≢ 10) where
       runs_few (λ h d. Follows seen h.0) seen.last (header seen c) _ (header_tells seen c) (λ h d f. contents_few next few seen h.0 (inside d h.1) f)
 
   ends_few : (seen : Seen) → AreFew id seen.last (at_the_end seen)
-  ends_few seen = elim (cases_Bool (owes_code seen)) [ inl code ↦ rw code none_more | inr none ↦ rw none none_more ]
+  ends_few seen = elim (cases_Bool (owes seen)) [ inl code ↦ rw code none_more | inr none ↦ rw none none_more ]
     where
       none_more : {ending : Ending} → AreFew id seen.last (ends ending)
       none_more = record { all = omega arith; later = λ le. refl }
 
   or_few : (next : Next) → CountsFew next → (seen : Seen) (c : Cursor) (rest : List ℕ) → AreFew id seen.last (or_section next seen c rest)
   or_few next few seen c [] = ends_few seen
-  or_few next few seen c (b ∷ rest) = after_other seen.last (Section c.at b) (section next seen c) tt (section_few next few seen c)
+  or_few next few seen c (b ∷ rest) = after_other seen.last (Section c.at (position_of b)) (section next seen c) tt (section_few next few seen c)
 
   up_to_few : (n : ℕ) → CountsFew (sections_up_to n)
   unfolding sections_up_to

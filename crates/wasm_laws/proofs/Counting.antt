@@ -1,5 +1,5 @@
 -- Each token takes a byte.
-use Rattle.std.proofs.Common.{ℕ, zero, suc, ◌+◌, ◌≤◌, List, [], ◌∷◌, length, arith}
+use Rattle.std.proofs.Common.{Bool, ℕ, zero, suc, ◌+◌, ◌≤◌, List, [], ◌∷◌, length, arith}
 use Rattle.wasm_defs.specs.declared.token.Token.{Token}
 use Rattle.wasm_defs.specs.Bodies.{Group, local_groups, instruction, depth_after, Spelled, closed, after_token, goes_on, spelled_from, body_cursor, last_of, read_code, body_read}
 use Rattle.wasm_defs.specs.Fields.{Cursor, Read, Got, Fault, Wants, byte}
@@ -32,20 +32,20 @@ closed_few : (most at : ℕ) (rest : List ℕ) → Few most (closed at rest)
 closed_few most at [] = record { tokens = omega arith }
 closed_few most at (b ∷ rest) = record { tokens = omega arith }
 
-spelled_few : (n depth last : ℕ) (c : Cursor) → Few (length c.rest) (spelled_from n depth last c)
+spelled_few : (counted : Bool) (n depth last : ℕ) (c : Cursor) → Few (length c.rest) (spelled_from counted n depth last c)
 unfolding spelled_from
-spelled_few zero depth last c = record { tokens = omega arith }
-spelled_few (suc n) zero last c = closed_few (length c.rest) c.at c.rest
-spelled_few (suc n) (suc depth) last c =
+spelled_few counted zero depth last c = record { tokens = omega arith }
+spelled_few counted (suc n) zero last c = closed_few (length c.rest) c.at c.rest
+spelled_few counted (suc n) (suc depth) last c =
     opcode_few last c (byte c) _ ((field_takes byte byte_field).some c)
-    (λ b d. token_few last b d (instruction b.0 b.1 d) (λ t e. spelled_from n (depth_after t (suc depth)) last e) ((instruction_steady (b.0 ∷ []) b.0 b.1 here_in).moves d) (λ t e. spelled_few n (depth_after t (suc depth)) last e))
+    (λ b d. token_few last b d (instruction counted b.0 b.1 d) (λ t e. spelled_from counted n (depth_after t (suc depth)) last e) ((instruction_steady (b.0 ∷ []) counted b.0 b.1 here_in).moves d) (λ t e. spelled_few counted n (depth_after t (suc depth)) last e))
 
-read_few : (last n : ℕ) (c : Cursor) (x : Read (List Group)) → Advances c x → Few (length c.rest) (read_code last x n).code
-read_few last n c (Got gs d) moves = let m = moves_of c d moves in few_more (length d.rest) (length c.rest) (spelled_from n 1 last d) (omega (arith, m.rest)) (spelled_few n 1 last d)
-read_few last n c (Fault r) moves = record { tokens = omega arith }
-read_few last n c Wants moves = record { tokens = omega arith }
+read_few : (counted : Bool) (last n : ℕ) (c : Cursor) (x : Read (List Group)) → Advances c x → Few (length c.rest) (read_code counted last x n).code
+read_few counted last n c (Got gs d) moves = let m = moves_of c d moves in few_more (length d.rest) (length c.rest) (spelled_from counted n 1 last d) (omega (arith, m.rest)) (spelled_few counted n 1 last d)
+read_few counted last n c (Fault r) moves = record { tokens = omega arith }
+read_few counted last n c Wants moves = record { tokens = omega arith }
 
-pub tokens_are_few : (first : ℕ) (bytes : List ℕ) → length (body_read first bytes).code.tokens ≤ length bytes
-tokens_are_few first bytes =
+pub tokens_are_few : (counted : Bool) (first : ℕ) (bytes : List ℕ) → length (body_read counted first bytes).code.tokens ≤ length bytes
+tokens_are_few counted first bytes =
     let c = body_cursor first bytes in
-    (read_few (last_of first bytes) (length bytes + 1) c (local_groups c) ((local_groups_steady []).moves c)).tokens
+    (read_few counted (last_of first bytes) (length bytes + 1) c (local_groups c) ((local_groups_steady []).moves c)).tokens

@@ -1,18 +1,18 @@
 -- A module has a body for each function that it declares.
-use Rattle.std.proofs.Common.{◌≡◌, ◌≢◌, ℕ, zero, suc, ◌+◌, ◌≤◌, ◌<◌, true, false, List, [], ◌∷◌, length, refl, sym, subst, ◌∙◌, arith, add-one, inl, inr}
+use Rattle.std.proofs.Common.{◌≡◌, ◌≢◌, ℕ, zero, suc, ◌+◌, ◌≤◌, ◌<◌, true, false, List, [], ◌∷◌, length, refl, sym, subst, ◌∙◌, arith, add-one, inl, inr, is_some}
 use Rattle.std.proofs.lemmas.Bool.{cases_Bool, cases_eq, cases_lt}
 use Rattle.wasm_defs.specs.declared.item.Item.{Item}
 use Rattle.wasm_defs.specs.declared.item.Item.TheVariants.{Function, Code}
 use Rattle.wasm_defs.specs.Fields.{Cursor, Read, Got, Fault, Wants}
 use Rattle.wasm_defs.specs.Entries.{Seen, nothing, note, code}
-use Rattle.wasm_defs.specs.Outside.{Body, Part, Section, Listed, Coded, listed, body, code_entry, Row, row, header, entered, noted, inside, section_end, Ending, Whole, Refused, Owed, Run, ends, after_part, runs_on, Next, finish, entries, contents, section, owes_code, at_the_end, or_section, sections_up_to, preamble, beginning, module_read}
+use Rattle.wasm_defs.specs.Outside.{Body, Part, Section, Listed, Coded, listed, body, code_entry, Row, row, header, entered, noted, inside, section_end, Ending, Whole, Refused, Owed, Run, ends, after_part, runs_on, Next, finish, entries, contents, section, position_of, owes, at_the_end, or_section, sections_up_to, preamble, beginning, module_read}
 use Rattle.wasm_defs.specs.Context.{declared_count}
 use Rattle.wasm_defs.specs.Faults.{items_of, bodies_of}
 use Rattle.wasm_laws.specs.Counts.{AreDeclared}
 use Rattle.wasm_laws.proofs.Steady.{IfGot, always}
 use Rattle.wasm_laws.proofs.Sorts.{IsPlain, IsFunction, IsCode, IsItem, IsBody, Yields, listed_yields, function_yields, code_yields, body_yields, row_is_plain, count_cons, notes, plain_keeps}
 use Rattle.wasm_laws.proofs.Parts.{got_map, either_got}
-use Rattle.wasm_laws.proofs.Headers.{Follows, header_tells, entered_as, owes_none}
+use Rattle.wasm_laws.proofs.Headers.{Follows, header_tells, entered_as, owes_none, owes_parts}
 
 -- ---- no functions are declared after their section
 
@@ -63,13 +63,13 @@ body_is_silent (Coded b) p = tt
 
 code_entry_is_silent : (seen : Seen) (c : Cursor) → IfGot (λ x d. IsSilent x) (code_entry seen c)
 code_entry_is_silent seen c =
-    either_got (λ x d. IsSilent x) seen.counted body (listed (code seen)) c
-    (λ e. got_map (λ x d. IsBody x) (λ x d. IsSilent x) (body c) (λ x d p. body_is_silent x p) (body_yields.got c))
+    either_got (λ x d. IsSilent x) seen.counted (body (is_some seen.data_count)) (listed (code seen)) c
+    (λ e. got_map (λ x d. IsBody x) (λ x d. IsSilent x) (body (is_some seen.data_count) c) (λ x d p. body_is_silent x p) ((body_yields (is_some seen.data_count)).got c))
     (λ e. got_map (λ x d. IsItem IsCode x) (λ x d. IsSilent x) (listed (code seen) c) (λ x d p. code_is_silent x p) ((listed_yields IsCode (code seen) (code_yields seen)).got c))
 
 row_is_silent : (id : ℕ) → id ≢ 3 → SilentRow (row id)
 row_is_silent id not_functions =
-    elim (cases_eq id 10) [
+    elim (cases_eq id 11) [
       | inl code ↦ rw code (record { entry = code_entry_is_silent })
       | inr other ↦ record { entry = λ seen c. got_map (λ x d. IsItem IsPlain x) (λ x d. IsSilent x) ((row id).entry seen c) (λ x d p. item_is_silent seen x p) (((row_is_plain id not_functions other).entry seen).got c) }
     ]
@@ -101,11 +101,11 @@ section_silent next rest seen c h =
     contents_silent (row x.0) (row_is_silent x.0 (λ e. absurd (omega (arith, f.later (λ z. omega arith))))) next rest (entered seen x.0) (inside d x.1) (entered_late seen x.0 f h))
 
 ends_silent : (seen : Seen) → Undeclaring (at_the_end seen)
-ends_silent seen = elim (cases_Bool (owes_code seen)) [ inl code ↦ rw code (record { none = refl }) | inr none ↦ rw none (record { none = refl }) ]
+ends_silent seen = elim (cases_Bool (owes seen)) [ inl code ↦ rw code (record { none = refl }) | inr none ↦ rw none (record { none = refl }) ]
 
 or_silent : (next : Next) → Silent next → (seen : Seen) (c : Cursor) (rest : List ℕ) → 3 ≤ seen.last → Undeclaring (or_section next seen c rest)
 or_silent next silent seen c [] h = ends_silent seen
-or_silent next silent seen c (b ∷ rest) h = after_silent (Section c.at b) (section next seen c) tt (section_silent next silent seen c h)
+or_silent next silent seen c (b ∷ rest) h = after_silent (Section c.at (position_of b)) (section next seen c) tt (section_silent next silent seen c h)
 
 up_to_silent : (n : ℕ) → Silent (sections_up_to n)
 unfolding sections_up_to
@@ -135,8 +135,8 @@ after_body declared bodies b r lt none p = record { each = (record { before = lt
 
 -- between sections: no bodies came before the code section, and one for each function with it
 record Counts (seen : Seen) (bodies : ℕ) : Type 0 where
-  before : seen.last < 10 → (bodies ≡ 0) × (seen.counted ≡ false)
-  behind : 10 ≤ seen.last → bodies ≡ seen.declared
+  before : seen.last < 11 → (bodies ≡ 0) × (seen.counted ≡ false)
+  behind : 11 ≤ seen.last → bodies ≡ seen.declared
 
 abbrev Agrees : Next → Type 0
 Agrees next = (seen : Seen) (c : Cursor) (bodies : ℕ) → Counts seen bodies → RunCounts seen.declared bodies (next seen c)
@@ -147,7 +147,7 @@ after_section declared bodies at id r p = record { each = p.each; all = p.all }
 -- an item of a section keeps that, if it is no count of bodies, and no function that comes late
 record Keeps (last : ℕ) (P : Item → Type 0) : Type 0 where
   counted : (s : Seen) (x : Item) → P x → (note s x).counted ≡ s.counted
-  none : (s : Seen) (x : Item) → P x → 10 ≤ last → declared_count (x ∷ []) ≡ 0
+  none : (s : Seen) (x : Item) → P x → 11 ≤ last → declared_count (x ∷ []) ≡ 0
 
 note_counts : (last : ℕ) (P : Item → Type 0) → Keeps last P → (seen : Seen) (x : Item) (bodies : ℕ) → seen.last ≡ last → P x → Counts seen bodies → Counts (note seen x) bodies
 note_counts last P keeps seen x bodies e p h =
@@ -191,31 +191,31 @@ functions_keep = record { counted = function_counted; none = λ s x p h. absurd 
 -- ---- the code section
 
 module _ (next : Next) (agrees : Agrees next) (silent : Silent next) where
-  body_agrees : (n : ℕ) (seen : Seen) (d : Cursor) (bodies : ℕ) (x : Part) → ((d : Cursor) (bodies : ℕ) → bodies + n ≡ seen.declared → RunCounts seen.declared bodies (entries n (row 10) next seen d)) → bodies + suc n ≡ seen.declared → seen.last ≡ 10 → IsBody x → RunCounts seen.declared bodies (after_part x (entries n (row 10) next (noted seen x) d))
+  body_agrees : (n : ℕ) (seen : Seen) (d : Cursor) (bodies : ℕ) (x : Part) → ((d : Cursor) (bodies : ℕ) → bodies + n ≡ seen.declared → RunCounts seen.declared bodies (entries n (row 11) next seen d)) → bodies + suc n ≡ seen.declared → seen.last ≡ 11 → IsBody x → RunCounts seen.declared bodies (after_part x (entries n (row 11) next (noted seen x) d))
   body_agrees n seen d bodies (Section at id) h e l p = absurd p
   body_agrees n seen d bodies (Listed x) h e l p = absurd p
   body_agrees n seen d bodies (Coded b) h e l p =
-      after_body seen.declared bodies b (entries n (row 10) next seen d) (omega arith) (entries_silent (row 10) (record { entry = code_entry_is_silent }) next silent n seen d (omega arith)) (h d (suc bodies) (omega arith))
+      after_body seen.declared bodies b (entries n (row 11) next seen d) (omega arith) (entries_silent (row 11) (record { entry = code_entry_is_silent }) next silent n seen d (omega arith)) (h d (suc bodies) (omega arith))
 
-  bodies_agree : (n : ℕ) (seen : Seen) (c : Cursor) (bodies : ℕ) → bodies + n ≡ seen.declared → seen.counted ≡ true → seen.last ≡ 10 → RunCounts seen.declared bodies (entries n (row 10) next seen c)
+  bodies_agree : (n : ℕ) (seen : Seen) (c : Cursor) (bodies : ℕ) → bodies + n ≡ seen.declared → seen.counted ≡ true → seen.last ≡ 11 → RunCounts seen.declared bodies (entries n (row 11) next seen c)
   bodies_agree zero seen c bodies e t l =
-      finish_agrees (row 10) next agrees seen c bodies (record { before = λ lt. absurd (omega arith); behind = λ le. omega arith })
+      finish_agrees (row 11) next agrees seen c bodies (record { before = λ lt. absurd (omega arith); behind = λ le. omega arith })
   bodies_agree (suc n) seen c bodies e t l =
-      runs_count (λ x d. IsBody x) seen.declared bodies (code_entry seen c) _ (either_got (λ x d. IsBody x) seen.counted body (listed (code seen)) c (λ u. body_yields.got c) (λ u. absurd cc))
+      runs_count (λ x d. IsBody x) seen.declared bodies (code_entry seen c) _ (either_got (λ x d. IsBody x) seen.counted (body (is_some seen.data_count)) (listed (code seen)) c (λ u. (body_yields (is_some seen.data_count)).got c) (λ u. absurd cc))
       (λ x d p. body_agrees n seen d bodies x (λ f k i. bodies_agree n seen f k i t l) e l p)
 
-  count_agrees : (seen : Seen) (d : Cursor) (x : Part) → seen.last ≡ 10 → IsItem IsCode x → RunCounts seen.declared 0 (after_part x (entries seen.declared (row 10) next (noted seen x) d))
+  count_agrees : (seen : Seen) (d : Cursor) (x : Part) → seen.last ≡ 11 → IsItem IsCode x → RunCounts seen.declared 0 (after_part x (entries seen.declared (row 11) next (noted seen x) d))
   count_agrees seen d (Section at id) l p = absurd p
   count_agrees seen d (Listed (Code count end)) l p =
       let later = record seen { counted = true } in
       let zero_more : seen.declared + 0 ≡ seen.declared = omega arith in
-      after_item seen.declared 0 (Code count end) (entries seen.declared (row 10) next later d) (rw zero_more (bodies_agree seen.declared later d 0 (omega arith) refl l))
+      after_item seen.declared 0 (Code count end) (entries seen.declared (row 11) next later d) (rw zero_more (bodies_agree seen.declared later d 0 (omega arith) refl l))
   count_agrees seen d (Listed x) l p = absurd p
   count_agrees seen d (Coded b) l p = absurd p
 
-  code_agrees : (seen : Seen) (c : Cursor) → seen.counted ≡ false → seen.last ≡ 10 → RunCounts seen.declared 0 (contents (row 10) next seen c)
+  code_agrees : (seen : Seen) (c : Cursor) → seen.counted ≡ false → seen.last ≡ 11 → RunCounts seen.declared 0 (contents (row 11) next seen c)
   code_agrees seen c f l =
-      rw add-one (runs_count (λ x d. IsItem IsCode x) seen.declared 0 (code_entry seen c) _ (either_got (λ x d. IsItem IsCode x) seen.counted body (listed (code seen)) c (λ u. absurd cc) (λ u. (listed_yields IsCode (code seen) (code_yields seen)).got c))
+      rw add-one (runs_count (λ x d. IsItem IsCode x) seen.declared 0 (code_entry seen c) _ (either_got (λ x d. IsItem IsCode x) seen.counted (body (is_some seen.data_count)) (listed (code seen)) c (λ u. absurd cc) (λ u. (listed_yields IsCode (code seen) (code_yields seen)).got c))
       (λ x d p. count_agrees seen d x l p))
 
 -- ---- sections
@@ -228,7 +228,7 @@ entered_declared seen id =
     ]
 
 -- a section other than the code section keeps the counts
-entered_counts : (seen : Seen) (id bodies : ℕ) → Follows seen id → id ≢ 10 → Counts seen bodies → Counts (entered seen id) bodies
+entered_counts : (seen : Seen) (id bodies : ℕ) → Follows seen id → id ≢ 11 → Counts seen bodies → Counts (entered seen id) bodies
 entered_counts seen id bodies f other h =
     elim (entered_as seen id) [
       | inl none ↦ rw none.1 h
@@ -236,7 +236,7 @@ entered_counts seen id bodies f other h =
           let later = f.later some.0 in
           rw some.1 (record {
             before = λ lt. h.before (omega arith);
-            behind = λ le. elim (cases_lt seen.last 10) [
+            behind = λ le. elim (cases_lt seen.last 11) [
               | inl early ↦
                   let none = owes_none seen (f.owed (omega (arith, f.known))) early in
                   omega (arith, (h.before early).0)
@@ -246,7 +246,7 @@ entered_counts seen id bodies f other h =
     ]
 
 -- in a section other than the code section
-other_counts : (next : Next) → Agrees next → (s : Seen) (d : Cursor) (bodies id : ℕ) → id ≢ 10 → (id ≡ 3 → s.last ≡ 3) → Counts s bodies → RunCounts s.declared bodies (contents (row id) next s d)
+other_counts : (next : Next) → Agrees next → (s : Seen) (d : Cursor) (bodies id : ℕ) → id ≢ 11 → (id ≡ 3 → s.last ≡ 3) → Counts s bodies → RunCounts s.declared bodies (contents (row id) next s d)
 other_counts next agrees s d bodies id other last h =
     elim (cases_eq id 3) [
       | inl functions ↦
@@ -264,11 +264,11 @@ entered_last seen id e =
 
 section_counts : (next : Next) → Agrees next → Silent next → (seen : Seen) (d : Cursor) (bodies id : ℕ) → Follows seen id → Counts seen bodies → RunCounts seen.declared bodies (contents (row id) next (entered seen id) d)
 section_counts next agrees silent seen d bodies id f h =
-    elim (cases_eq id 10) [
+    elim (cases_eq id 11) [
       | inl is_code ↦
           let b = h.before (omega (arith, f.later (λ z. omega arith))) in
-          let of_ten = code_agrees next agrees silent (record seen { last = 10 }) d b.1 refl in
-          let none = subst (λ (k : ℕ). RunCounts seen.declared k (contents (row 10) next (entered seen 10) d)) (sym b.0) of_ten in
+          let of_ten = code_agrees next agrees silent (record seen { last = 11 }) d b.1 refl in
+          let none = subst (λ (k : ℕ). RunCounts seen.declared k (contents (row 11) next (entered seen 11) d)) (sym b.0) of_ten in
           subst (λ (n : ℕ). RunCounts seen.declared bodies (contents (row n) next (entered seen n) d)) (sym is_code) none
       | inr other ↦
           subst (λ (n : ℕ). RunCounts n bodies (contents (row id) next (entered seen id) d)) (entered_declared seen id)
@@ -277,12 +277,12 @@ section_counts next agrees silent seen d bodies id f h =
 
 ends_agree : (seen : Seen) (bodies : ℕ) → Counts seen bodies → RunCounts seen.declared bodies (at_the_end seen)
 ends_agree seen bodies h =
-    elim (cases_Bool (owes_code seen)) [
+    elim (cases_Bool (owes seen)) [
       | inl owes ↦ rw owes (refused_counts seen.declared bodies Owed (λ s e. cc))
       | inr none ↦ rw none (record {
         each = tt;
-        all = λ s e. elim (cases_lt seen.last 10) [
-          | inl early ↦ omega (arith, owes_none seen none early, (h.before early).0)
+        all = λ s e. elim (cases_lt seen.last 11) [
+          | inl early ↦ omega (arith, owes_none seen (owes_parts seen none).0 early, (h.before early).0)
           | inr late ↦ omega (arith, h.behind late)
         ];
       })
@@ -291,7 +291,7 @@ ends_agree seen bodies h =
 or_agrees : (next : Next) → Agrees next → Silent next → (seen : Seen) (c : Cursor) (bodies : ℕ) (rest : List ℕ) → Counts seen bodies → RunCounts seen.declared bodies (or_section next seen c rest)
 or_agrees next agrees silent seen c bodies [] h = ends_agree seen bodies h
 or_agrees next agrees silent seen c bodies (b ∷ rest) h =
-    after_section seen.declared bodies c.at b (section next seen c) (runs_count (λ x d. Follows seen x.0) seen.declared bodies (header seen c) _ (header_tells seen c)
+    after_section seen.declared bodies c.at (position_of b) (section next seen c) (runs_count (λ x d. Follows seen x.0) seen.declared bodies (header seen c) _ (header_tells seen c)
     (λ x d f. section_counts next agrees silent seen (inside d x.1) bodies x.0 f h))
 
 up_to_agrees : (n : ℕ) → Agrees (sections_up_to n)

@@ -1,12 +1,12 @@
 -- The parts of a module are cut from its bytes.
-use Rattle.std.proofs.Common.{◌≡◌, ℕ, zero, suc, ◌+◌, ◌-◌, ◌≤◌, Bool, true, false, cond, eqb, ltb, ◌||◌, List, [], ◌∷◌, length, take, drop, refl, sym, ap, ◌∙◌, arith, length-take, inl, inr}
+use Rattle.std.proofs.Common.{◌≡◌, ℕ, zero, suc, ◌+◌, ◌-◌, ◌≤◌, Bool, true, false, cond, eqb, ltb, ◌||◌, List, [], ◌∷◌, length, take, drop, refl, sym, ap, ◌∙◌, arith, length-take, inl, inr, is_some}
 use Rattle.std.proofs.lemmas.Bool.{cases_Bool, cases_lt, lt-ltb, le-ltb}
 use Rattle.std.proofs.lemmas.List.{drop-drop, drop_at, take-take}
 use Rattle.wasm_defs.specs.declared.item.Item.{Item}
 use Rattle.wasm_defs.specs.Limits.{max_body}
 use Rattle.wasm_defs.specs.Fields.{Cursor, Read, Got, Fault, Wants, Reader, then_go, done, room_of, window, u32, room, here, run}
 use Rattle.wasm_defs.specs.Entries.{Seen, nothing, code}
-use Rattle.wasm_defs.specs.Outside.{Part, Section, Listed, Coded, listed, body, entries_of, code_entry, Row, row, header, entered, noted, inside, no_end, section_end, Run, after_part, runs_on, Next, finish, entries, contents, section, owes_code, at_the_end, or_section, sections_up_to, preamble, beginning, module_read}
+use Rattle.wasm_defs.specs.Outside.{Part, Section, Listed, Coded, listed, body, entries_of, code_entry, Row, row, header, entered, noted, inside, no_end, section_end, Run, after_part, runs_on, Next, finish, entries, contents, section, position_of, owes, at_the_end, or_section, sections_up_to, preamble, beginning, module_read}
 use Rattle.wasm_laws.specs.Order.{AreCutFrom}
 use Rattle.wasm_laws.proofs.Steady.{IfGot, Advance}
 use Rattle.wasm_laws.proofs.Windows.{cut_got}
@@ -14,6 +14,7 @@ use Rattle.wasm_laws.proofs.FieldLaws.{u32_field}
 use Rattle.wasm_laws.proofs.EntryLaws.{header_steady, preamble_steady}
 use Rattle.wasm_laws.proofs.RowLaws.{SteadyRow, row_steady, end_steady}
 use Rattle.wasm_laws.proofs.Parts.{then_got, got_both, either_got}
+use Rattle.wasm_laws.proofs.Positions.{id_again}
 
 module _ (bytes : List ℕ) where
   -- a cursor has what follows its offset
@@ -39,9 +40,9 @@ module _ (bytes : List ℕ) where
             rw (le-ltb (length (window c)) n ge, len, ← s.rest) (sym (take-take n (c.end - c.at) c.rest room))
       ]
 
-  body_is_cut : (c : Cursor) → Shows c → IfGot (λ x d. IsCutFrom x) (body c)
+  body_is_cut : (counted : Bool) (c : Cursor) → Shows c → IfGot (λ x d. IsCutFrom x) (body counted c)
   unfolding body room here
-  body_is_cut c s =
+  body_is_cut counted c s =
       then_got (λ n d. Advance c d) (λ x d. IsCutFrom x) (u32 c) _ ((u32_field.steady []).moves c)
       (λ n d p.
       elim (cases_Bool (ltb n.1 2 || ltb (room_of d) n.1)) [
@@ -64,7 +65,7 @@ module _ (bytes : List ℕ) where
   items_are_cut front entry = record { entry = λ seen c s. listed_is_cut c (entry seen c) }
 
   code_is_cut : (seen : Seen) (c : Cursor) → Shows c → IfGot (λ x d. IsCutFrom x) (code_entry seen c)
-  code_is_cut seen c s = either_got (λ x d. IsCutFrom x) seen.counted body (listed (code seen)) c (λ e. body_is_cut c s) (λ e. listed_is_cut c (code seen c))
+  code_is_cut seen c s = either_got (λ x d. IsCutFrom x) seen.counted (body (is_some seen.data_count)) (listed (code seen)) c (λ e. body_is_cut (is_some seen.data_count) c s) (λ e. listed_is_cut c (code seen c))
 
   either_row : (b : Bool) (p q : Row) → CutRow p → CutRow q → CutRow (cond b p q)
   either_row true p q hp hq = hp
@@ -81,9 +82,10 @@ module _ (bytes : List ℕ) where
       (either_row (eqb id 7) _ _ (items_are_cut _ _)
       (either_row (eqb id 8) _ _ (items_are_cut _ _)
       (either_row (eqb id 9) _ _ (items_are_cut _ _)
-      (either_row (eqb id 10) _ _ (record { entry = code_is_cut })
-      (either_row (eqb id 11) _ _ (items_are_cut _ _)
-      (record { entry = λ seen c s. listed_is_cut c _ })))))))))))
+      (either_row (eqb id 10) _ _ (items_are_cut _ _)
+      (either_row (eqb id 11) _ _ (record { entry = code_is_cut })
+      (either_row (eqb id 12) _ _ (items_are_cut _ _)
+      (record { entry = λ seen c s. listed_is_cut c _ }))))))))))))
 
   -- ---- runs
 
@@ -130,12 +132,12 @@ module _ (bytes : List ℕ) where
       (λ h d p. contents_cut (row h.0) (row_steady h.0) (row_is_cut h.0) next cuts (entered seen h.0) (inside d h.1) (shows_inside d h.1 (shows_on c d s p)))
 
   ends_cut : (seen : Seen) → RunIsCut (at_the_end seen)
-  ends_cut seen = elim (cases_Bool (owes_code seen)) [ inl code ↦ rw code (record { parts = tt }) | inr none ↦ rw none (record { parts = tt }) ]
+  ends_cut seen = elim (cases_Bool (owes seen)) [ inl code ↦ rw code (record { parts = tt }) | inr none ↦ rw none (record { parts = tt }) ]
 
   or_cuts : (next : Next) → Cuts next → (seen : Seen) (c : Cursor) (rest : List ℕ) → c.rest ≡ rest → Shows c → RunIsCut (or_section next seen c rest)
   or_cuts next cuts seen c [] e s = ends_cut seen
   or_cuts next cuts seen c (b ∷ rest) e s =
-      after_cut (Section c.at b) (section next seen c) (ap (λ (l : List ℕ). take 1 l) (sym s.rest ∙ e), tt) (section_cuts next cuts seen c s)
+      after_cut (Section c.at (position_of b)) (section next seen c) (ap (λ (l : List ℕ). take 1 l) (sym s.rest ∙ e) ∙ ap (λ (id : ℕ). id ∷ []) (sym (id_again b)), tt) (section_cuts next cuts seen c s)
 
   up_to_cuts : (n : ℕ) → Cuts (sections_up_to n)
   unfolding sections_up_to

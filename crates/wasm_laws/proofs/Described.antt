@@ -1,18 +1,19 @@
 -- A module that is read whole is encoded by sections that keep the rules.
-use Rattle.std.proofs.Common.{◌≡◌, ℕ, ◌+◌, List, [], ◌∷◌, ◌++◌, length, map, None, refl, sym, ap, subst, ◌∙◌, append_assoc, arith, length-append}
+use Rattle.std.proofs.Common.{◌≡◌, ℕ, ◌+◌, List, [], ◌∷◌, ◌++◌, length, map, true, None, refl, sym, ap, subst, ◌∙◌, append_assoc, arith, length-append}
 use Rattle.wasm_defs.proofs.NumberLaws as numbers
 use Rattle.wasm_defs.specs.declared.item.Item.{Item}
 use Rattle.wasm_defs.specs.declared.item.Item.TheVariants.{Code}
-use Rattle.wasm_defs.specs.Context.{declared_count}
+use Rattle.wasm_defs.specs.Context.{declared_count, data_count_of, segment_count_of}
 use Rattle.wasm_defs.specs.Fields.{Cursor, fixed}
 use Rattle.wasm_defs.specs.Entries.{Seen, nothing}
-use Rattle.wasm_defs.specs.Outside.{Body, Part, Listed, Coded, Ending, Whole, Refused, Owed, Run, sections, magic, version, preamble, beginning, module_read}
+use Rattle.wasm_defs.specs.Outside.{Body, Part, Listed, Coded, Ending, Whole, Refused, Owed, Run, agrees, sections, magic, version, preamble, beginning, module_read}
 use Rattle.wasm_defs.specs.Faults.{items_of, bodies_of, ending_fault, Module, IsModule}
-use Rattle.wasm_defs.specs.Items.{◌then◌, exactly, each_is, Section, Payload, Custom, Vector, Starting, Bodies, section_is, payload_items, payload_bodies, items_in, bodies_in}
+use Rattle.wasm_defs.specs.Items.{◌then◌, exactly, each_is, Section, Payload, Custom, Vector, Starting, Counting, Bodies, section_is, payload_items, payload_bodies, items_in, bodies_in}
 use Rattle.wasm_laws.specs.Sections.{parts_of, parts_in, AreSectionsOf}
 use Rattle.wasm_laws.proofs.Steady.{IfGot}
 use Rattle.wasm_laws.proofs.Parts.{then_got}
 use Rattle.wasm_laws.proofs.Counts.{bodies_match}
+use Rattle.wasm_laws.proofs.DataCounts.{AreToldOf, bodies_are_told, segments_agree}
 use Rattle.wasm_laws.proofs.Spelt.{Ready, Found, found_then, later}
 use Rattle.wasm_laws.proofs.SpeltFields.{fixed_found}
 use Rattle.wasm_laws.proofs.Describing.{IfWhole, whole_on, whole_as, Rest, Between}
@@ -40,12 +41,14 @@ payload_items_of : (p : Payload) (parts : List Part) → items_of (parts_of p ++
 payload_items_of (Custom name) parts = refl
 payload_items_of (Vector id count items) parts = items_before items parts
 payload_items_of (Starting index) parts = refl
+payload_items_of (Counting count) parts = refl
 payload_items_of (Bodies count end bodies) parts = ap (λ (l : List Item). Code (count, length bodies) end ∷ l) (items_skip bodies parts)
 
 payload_bodies_of : (p : Payload) (parts : List Part) → bodies_of (parts_of p ++ parts) ≡ payload_bodies p ++ bodies_of parts
 payload_bodies_of (Custom name) parts = refl
 payload_bodies_of (Vector id count items) parts = bodies_skip items parts
 payload_bodies_of (Starting index) parts = refl
+payload_bodies_of (Counting count) parts = refl
 payload_bodies_of (Bodies count end bodies) parts = bodies_before bodies parts
 
 pub items_of_parts : (sections : List Section) → items_of (parts_in sections) ≡ items_in sections
@@ -82,13 +85,19 @@ module_found bytes fits =
     let between : Between nothing d = record { ready = later (beginning bytes) d found ready; low = omega (arith, found.at); far = found.end; uncounted = λ lt. refl } in
     whole_as (Rest nothing d) (Behind bytes) (sections nothing d) (λ parts rest. record { stop = d; found = found; rest = rest }) (up_to_found (length d.rest + 1) nothing d between))
 
-described : (bytes : List ℕ) (parts : List Part) → Behind bytes parts → length (bodies_of parts) ≡ declared_count (items_of parts) → (sections : List Section) × AreSectionsOf sections bytes × (parts ≡ parts_in sections)
-described bytes parts b match =
+-- as many data segments as the data count says, of which the bodies are told
+abbrev HasSegments : List Part → Type 0
+HasSegments parts = (agrees (data_count_of (items_of parts)) (segment_count_of (items_of parts)) ≡ true) × AreToldOf (data_count_of (items_of parts)) (bodies_of parts)
+
+described : (bytes : List ℕ) (parts : List Part) → Behind bytes parts → length (bodies_of parts) ≡ declared_count (items_of parts) → HasSegments parts → (sections : List Section) × AreSectionsOf sections bytes × (parts ≡ parts_in sections)
+described bytes parts b match has =
     let s = b.found.spelled in
     let rest = b.rest in
     let place : b.stop.at ≡ 0 + length s.front + length s.back = omega (arith, b.found.at, ap length s.parts, length-append s.front s.back) in
     let bodies = bodies_of_parts rest.sections in
-    let items = items_of_parts rest.sections in (
+    let items = items_of_parts rest.sections in
+    let same_items : items_of parts ≡ items_in rest.sections = ap items_of rest.is ∙ items in
+    let same_bodies : bodies_of parts ≡ bodies_in rest.sections = ap bodies_of rest.is ∙ bodies in (
       rest.sections,
       record {
         spelled = record {
@@ -100,6 +109,8 @@ described bytes parts b match =
             second = record { front = s.back; back = b.stop.rest; parts = refl; first = s.second; second = subst (λ (k : ℕ). each_is section_is rest.sections k b.stop.rest) place rest.spelled };
           };
           ordered = rest.ordered;
+          counted = subst (λ (l : List Item). agrees (data_count_of l) (segment_count_of l) ≡ true) same_items has.0;
+          told = subst (λ (z : List Item × List Body). AreToldOf (data_count_of z.0) z.1) (λ i. (same_items i, same_bodies i)) has.1;
           matched = ap length (sym bodies) ∙ ap (λ (l : List Part). length (bodies_of l)) (sym rest.is) ∙ match ∙ ap (λ (l : List Part). declared_count (items_of l)) rest.is ∙ ap declared_count items;
         };
         kept = record { short = omega (arith, ap length b.found.parts, length-append b.found.taken b.stop.rest, b.found.at, rest.short); each = rest.kept };
@@ -112,7 +123,7 @@ pub whole_is_described : (bytes : List ℕ) (parts : List Part) → numbers.AreB
 whole_is_described bytes parts fits seen e =
     let same : (module_read bytes).parts ≡ parts = ap (λ (r : Run). r.parts) e in
     let ends : (module_read bytes).ending ≡ Whole seen = ap (λ (r : Run). r.ending) e in
-    described bytes parts (subst (Behind bytes) same (module_found bytes fits seen ends)) (subst (λ (l : List Part). length (bodies_of l) ≡ declared_count (items_of l)) same (bodies_match bytes seen ends))
+    described bytes parts (subst (Behind bytes) same (module_found bytes fits seen ends)) (subst (λ (l : List Part). length (bodies_of l) ≡ declared_count (items_of l)) same (bodies_match bytes seen ends)) (subst HasSegments same (segments_agree bytes seen ends, bodies_are_told bytes))
 
 no_fault : (len : ℕ) (ending : Ending) → ending_fault len ending ≡ None → (seen : Seen) × (ending ≡ Whole seen)
 no_fault len (Whole seen) e = (seen, refl)

@@ -1,9 +1,9 @@
 -- Entries of sections, and what is before and after them, are steady.
-use Rattle.std.proofs.Common.{ℕ, List}
+use Rattle.std.proofs.Common.{ℕ, Bool, List}
 use Rattle.wasm_defs.specs.declared.types.ValType.{ValType}
-use Rattle.wasm_defs.specs.Entries.{Seen, index, value_type, listed_type, limits, constant, signature, imported, function, table, memory, mutability, global, extern_kind, exported, start, sole, listed_index, element, code, segment}
-use Rattle.wasm_defs.specs.Outside.{rest_of_section, number_of, at_most_one, function_count, custom_name, body, header, preamble}
-use Rattle.wasm_laws.proofs.Steady.{Steady}
+use Rattle.wasm_defs.specs.Entries.{Seen, index, value_type, listed_type, limits, refused_opcode, constant, signature, imported, function, table, memory, mutability, global, extern_kind, exported, start, sole, listed_index, element, code, data_count, memory_of, passive, segment}
+use Rattle.wasm_defs.specs.Outside.{rest_of_section, number_of, at_most_one, function_count, segment_count, custom_name, body, header, preamble}
+use Rattle.wasm_laws.proofs.Steady.{Steady, In}
 use Rattle.wasm_laws.proofs.FieldLaws.{readers, count_steady, vector_steady, counted_bytes_steady}
 use Rattle.wasm_laws.proofs.Names.{name_field}
 
@@ -27,9 +27,13 @@ pub limits_steady : (marks : List ℕ) (most top : ℕ) → Steady marks (limits
 unfolding limits
 limits_steady marks most top = search steady depth 40
 
+refused_opcode_steady : {A : Type 0} (marks : List ℕ) (b : ℕ × ℕ) → In b.0 marks → Steady marks (refused_opcode {A = A} b)
+unfolding refused_opcode
+refused_opcode_steady marks b i = search steady depth 40
+
 pub constant_steady : (marks : List ℕ) (ty : ValType) → Steady marks (constant ty)
 unfolding constant
-constant_steady marks ty = search steady depth 40
+constant_steady marks ty = search (refused_opcode_steady, steady) depth 40
 
 pub mutability_steady : (marks : List ℕ) → Steady marks mutability
 unfolding mutability
@@ -47,7 +51,15 @@ pub listed_index_steady : (marks : List ℕ) (most : ℕ) → Steady marks (list
 unfolding listed_index
 listed_index_steady marks most = search (index_steady, steady) depth 40
 
-pub ruleset parts = (index_steady, value_type_steady, listed_type_steady, limits_steady, constant_steady, mutability_steady, extern_kind_steady, sole_steady, listed_index_steady, steady)
+pub memory_of_steady : (marks : List ℕ) (seen : Seen) (form : ℕ × ℕ) → In form.0 marks → Steady marks (memory_of seen form)
+unfolding memory_of
+memory_of_steady marks seen form i = search (sole_steady, steady) depth 40
+
+pub passive_steady : (marks : List ℕ) (form : ℕ) → Steady marks (passive form)
+unfolding passive
+passive_steady marks form = search steady depth 40
+
+pub ruleset parts = (memory_of_steady, passive_steady, index_steady, value_type_steady, listed_type_steady, limits_steady, constant_steady, mutability_steady, extern_kind_steady, sole_steady, listed_index_steady, steady)
 
 -- ---- entries
 
@@ -91,13 +103,17 @@ pub code_steady : (marks : List ℕ) (seen : Seen) → Steady marks (code seen)
 unfolding code
 code_steady marks seen = search parts depth 40
 
+pub data_count_steady : (marks : List ℕ) (seen : Seen) → Steady marks (data_count seen)
+unfolding data_count
+data_count_steady marks seen = search parts depth 40
+
 pub segment_steady : (marks : List ℕ) (seen : Seen) → Steady marks (segment seen)
 unfolding segment
 segment_steady marks seen = search parts depth 40
 
-pub body_steady : (marks : List ℕ) → Steady marks body
+pub body_steady : (marks : List ℕ) (counted : Bool) → Steady marks (body counted)
 unfolding body
-body_steady marks = search parts depth 40
+body_steady marks counted = search parts depth 40
 
 -- ---- what comes before and after entries
 
@@ -116,6 +132,10 @@ at_most_one_steady marks = search parts depth 40
 pub function_count_steady : (marks : List ℕ) (seen : Seen) → Steady marks (function_count seen)
 unfolding function_count
 function_count_steady marks seen = search parts depth 40
+
+pub segment_count_steady : (marks : List ℕ) (seen : Seen) → Steady marks (segment_count seen)
+unfolding segment_count
+segment_count_steady marks seen = search parts depth 40
 
 pub custom_name_steady : (marks : List ℕ) → Steady marks custom_name
 unfolding custom_name

@@ -13,7 +13,8 @@ use Rattle.wasm_defs.specs.Faults.{items_of}
 use Rattle.wasm_defs.specs.Instances.{exports_of, named}
 use Rattle.wasm_defs.specs.Outside.{module_read}
 use Rattle.wasm_defs.specs.Typing.{Context}
-use Rattle.wasm_laws.specs.Kept.{TypeIsSmall, TypesAreSmall, IsThere, AreThere}
+use Rattle.wasm_defs.specs.SmallTypes.{TypeIsSmall, TypesAreSmall}
+use Rattle.wasm_laws.specs.Kept.{IsThere, AreThere}
 use Rattle.wasm_laws.proofs.Typed.{AreIndexed, AreBelow, own_below, function_has_type, items_are_indexed}
 use Rattle.wasm_laws.proofs.Kept.{AreKept, items_are_kept}
 

@@ -3,7 +3,7 @@ use Rattle.std.proofs.Common.{◌≡◌, ℕ, zero, suc, ◌+◌, ◌≤◌, ◌
 use Rattle.std.proofs.lemmas.Bool.{cases_Bool}
 use Rattle.wasm_defs.specs.Fields.{Cursor, Read, Got, Fault, Wants}
 use Rattle.wasm_defs.specs.Entries.{Seen, nothing}
-use Rattle.wasm_defs.specs.Outside.{Part, Section, Row, row, header, entered, noted, inside, Run, after_part, runs_on, Next, finish, entries, contents, section, owes_code, at_the_end, or_section, sections_up_to, preamble, beginning, module_read}
+use Rattle.wasm_defs.specs.Outside.{Part, Section, Row, row, header, entered, noted, inside, Run, after_part, runs_on, Next, finish, entries, contents, section, position_of, owes, at_the_end, or_section, sections_up_to, preamble, beginning, module_read}
 use Rattle.wasm_laws.specs.Steadiness.{Advances, LeavesFewer, Leaves, SteadyRow}
 use Rattle.wasm_laws.proofs.Steady.{moves_of}
 use Rattle.wasm_laws.proofs.EntryLaws.{preamble_steady}
@@ -63,11 +63,11 @@ same_few : (n at : ℕ) (a b : ℕ) (r : Run) → Few n (after_part (Section at 
 same_few n at a b r h = record { parts = h.parts }
 
 ends_few : (seen : Seen) → Few 0 (at_the_end seen)
-ends_few seen = elim (cases_Bool (owes_code seen)) [ inl e ↦ rw e (record { parts = omega arith }) | inr e ↦ rw e (record { parts = omega arith }) ]
+ends_few seen = elim (cases_Bool (owes seen)) [ inl e ↦ rw e (record { parts = omega arith }) | inr e ↦ rw e (record { parts = omega arith }) ]
 
 or_few : (next : Next) → IsFew next → (seen : Seen) (c : Cursor) (rest : List ℕ) → c.rest ≡ rest → Few (length c.rest) (or_section next seen c rest)
 or_few next few seen c [] e = few_more 0 (length c.rest) _ (omega arith) (ends_few seen)
-or_few next few seen c (b ∷ rest) e = same_few (length c.rest) c.at 0 b (section next seen c) (section_few next few seen c (omega (arith, ap length e)))
+or_few next few seen c (b ∷ rest) e = same_few (length c.rest) c.at 0 (position_of b) (section next seen c) (section_few next few seen c (omega (arith, ap length e)))
 
 up_to_few : (n : ℕ) → IsFew (sections_up_to n)
 unfolding sections_up_to

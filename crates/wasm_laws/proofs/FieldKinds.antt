@@ -9,8 +9,8 @@ use Rattle.wasm_defs.specs.Limits.{max_name}
 use Rattle.wasm_defs.specs.Numbers.{Reading, Number, CutOff, Bad, number_at}
 use Rattle.wasm_defs.specs.Text.{between, completes}
 use Rattle.wasm_defs.specs.Fields.{Cursor, Read, Got, Fault, Wants, Reader, then_go, ◌>>=◌, done, refused, repeated, room_of, window, cut, first_of, byte, from_reading, number, u32, count, vector, run, room, here, stop, counted_bytes, text_after, least, name_from, nat_of, name, agree, fixed}
-use Rattle.wasm_defs.specs.Entries.{Seen, is_left_out, is_opcode, wrong_opcode, index, value_type, listed_type, limits, constant, signature, imported, function, table, memory, mutability, global, extern_kind, exported, start, sole, listed_index, element, code, segment}
-use Rattle.wasm_defs.specs.Outside.{Row, row, listed, entries_of, code_entry, left_over, rest_of_section, number_of, at_most_one, function_count, custom_name, body, header, preamble, section_end}
+use Rattle.wasm_defs.specs.Entries.{Seen, within, is_left_out, is_opcode, wrong_opcode, wrong_number, refused_opcode, index, value_type, listed_type, limits, constant, signature, imported, function, table, memory, mutability, global, extern_kind, exported, start, sole, listed_index, element, code, data_count, memory_of, passive, segment}
+use Rattle.wasm_defs.specs.Outside.{Row, row, listed, entries_of, code_entry, left_over, rest_of_section, number_of, at_most_one, function_count, segment_count, custom_name, body, header, preamble, section_end}
 use Rattle.wasm_defs.specs.Faults.{rank}
 
 abbrev pub Lasts : {A : Type 0} → Read A → Type 0
@@ -63,6 +63,13 @@ wrong b =
     elim (cases_Bool (is_left_out b)) [
       | inl out ↦ rw out (omega arith)
       | inr other ↦ rw other (elim (cases_Bool (is_opcode b)) [ inl h ↦ rw h (omega arith) | inr h ↦ rw h (omega arith) ])
+    ]
+
+pub wrong_after : (n : ℕ) → rank (wrong_number n) < 4
+wrong_after n =
+    elim (cases_Bool (within 8 11 n)) [
+      | inl known ↦ rw known (omega arith)
+      | inr other ↦ rw other (elim (cases_Bool (ltb n 18)) [ inl h ↦ rw h (omega arith) | inr h ↦ rw h (omega arith) ])
     ]
 
 -- ---- fields
@@ -135,7 +142,7 @@ pub name_lasts : Lasting name
 unfolding name
 name_lasts = record { by = λ c. name_from_lasts c (number_at false 32 (window c)) }
 
-pub ruleset leaves = (bind, either, done_lasts, refused_lasts, malformed, unsupported, limit, invalid, wrong, repeated_lasts, byte_lasts, number_lasts, run_lasts, room_lasts, here_lasts, stop_lasts, fixed_lasts, name_lasts)
+pub ruleset leaves = (bind, either, done_lasts, refused_lasts, malformed, unsupported, limit, invalid, wrong, wrong_after, repeated_lasts, byte_lasts, number_lasts, run_lasts, room_lasts, here_lasts, stop_lasts, fixed_lasts, name_lasts)
 
 pub u32_lasts : Lasting u32
 unfolding u32
@@ -173,9 +180,13 @@ limits_lasts : (most top : ℕ) → Lasting (limits most top)
 unfolding limits
 limits_lasts most top = search lasting depth 40
 
+refused_opcode_lasts : {A : Type 0} (b : ℕ × ℕ) → Lasting (refused_opcode {A = A} b)
+unfolding refused_opcode
+refused_opcode_lasts b = search lasting depth 40
+
 constant_lasts : (ty : ValType) → Lasting (constant ty)
 unfolding constant
-constant_lasts ty = search lasting depth 40
+constant_lasts ty = search (refused_opcode_lasts, lasting) depth 40
 
 mutability_lasts : Lasting mutability
 unfolding mutability
@@ -235,13 +246,25 @@ code_lasts : (seen : Seen) → Lasting (code seen)
 unfolding code
 code_lasts seen = search parts depth 40
 
+data_count_lasts : (seen : Seen) → Lasting (data_count seen)
+unfolding data_count
+data_count_lasts seen = search parts depth 40
+
+memory_of_lasts : (seen : Seen) (form : ℕ × ℕ) → Lasting (memory_of seen form)
+unfolding memory_of
+memory_of_lasts seen form = search parts depth 40
+
+passive_lasts : (form : ℕ) → Lasting (passive form)
+unfolding passive
+passive_lasts form = search parts depth 40
+
 segment_lasts : (seen : Seen) → Lasting (segment seen)
 unfolding segment
-segment_lasts seen = search parts depth 40
+segment_lasts seen = search (memory_of_lasts, passive_lasts, parts) depth 40
 
-body_lasts : Lasting body
+body_lasts : (counted : Bool) → Lasting (body counted)
 unfolding body
-body_lasts = search parts depth 40
+body_lasts counted = search parts depth 40
 
 rest_lasts : Lasting rest_of_section
 unfolding rest_of_section
@@ -258,6 +281,10 @@ at_most_one_lasts = search parts depth 40
 function_count_lasts : (seen : Seen) → Lasting (function_count seen)
 unfolding function_count
 function_count_lasts seen = search parts depth 40
+
+segment_count_lasts : (seen : Seen) → Lasting (segment_count seen)
+unfolding segment_count
+segment_count_lasts seen = search parts depth 40
 
 custom_name_lasts : Lasting custom_name
 unfolding custom_name
@@ -290,7 +317,7 @@ listed_lasts : (p : Reader Item) → Lasting p → Lasting (listed p)
 listed_lasts p h = bind p _ h (λ x. done_lasts _)
 
 code_entry_lasts : (seen : Seen) → Lasting (code_entry seen)
-code_entry_lasts seen = either _ _ _ body_lasts (listed_lasts _ (code_lasts seen))
+code_entry_lasts seen = either _ _ _ (body_lasts _) (listed_lasts _ (code_lasts seen))
 
 entries_last : (front : Seen → Reader ℕ) (entry : Seen → Reader Item) → ((seen : Seen) → Lasting (front seen)) → ((seen : Seen) → Lasting (entry seen)) → LastingRow (entries_of front entry)
 entries_last front entry hf he = record { front = hf; entry = λ s. listed_lasts _ (he s); back = done_lasts tt }
@@ -310,6 +337,7 @@ row_lasts id =
     (either_row (eqb id 7) _ _ (entries_last _ _ (λ s. number_of_lasts _) exported_lasts)
     (either_row (eqb id 8) _ _ (entries_last _ _ (λ s. done_lasts 1) start_lasts)
     (either_row (eqb id 9) _ _ (entries_last _ _ (λ s. number_of_lasts _) element_lasts)
-    (either_row (eqb id 10) _ _ (record { front = λ s. done_lasts _; entry = code_entry_lasts; back = done_lasts tt })
-    (either_row (eqb id 11) _ _ (entries_last _ _ (λ s. number_of_lasts _) segment_lasts)
-    (record { front = λ s. custom_name_lasts; entry = λ s. listed_lasts _ (start_lasts s); back = rest_lasts })))))))))))
+    (either_row (eqb id 10) _ _ (entries_last _ _ (λ s. done_lasts 1) data_count_lasts)
+    (either_row (eqb id 11) _ _ (record { front = λ s. done_lasts _; entry = code_entry_lasts; back = done_lasts tt })
+    (either_row (eqb id 12) _ _ (entries_last _ _ segment_count_lasts segment_lasts)
+    (record { front = λ s. custom_name_lasts; entry = λ s. listed_lasts _ (start_lasts s); back = rest_lasts }))))))))))))

@@ -1,9 +1,9 @@
 -- The items of a module hold no more bytes than the module has.
-use Rattle.std.proofs.Common.{◌≡◌, ℕ, ◌+◌, ◌≤◌, List, [], ◌∷◌, ◌++◌, length, ap, arith, length-append}
+use Rattle.std.proofs.Common.{◌≡◌, ℕ, ◌+◌, ◌≤◌, List, [], ◌∷◌, ◌++◌, length, Some, None, ap, arith, length-append}
 use Rattle.wasm_defs.specs.declared.item.Item.{Item}
-use Rattle.wasm_defs.specs.declared.item.Item.TheVariants.{Signature, Imported, Function, Table, Memory, Global, Exported, Start, Element, Code, Segment}
+use Rattle.wasm_defs.specs.declared.item.Item.TheVariants.{Signature, Imported, Function, Table, Memory, Global, Exported, Start, Element, Code, DataCount, Passive, Segment}
 use Rattle.wasm_defs.specs.Faults.{Module, IsModule}
-use Rattle.wasm_defs.specs.Items.{each_is, name_is, bytes_are, item_is, Section, Payload, Custom, Vector, Starting, Bodies, payload_is, payload_items, section_is, items_in}
+use Rattle.wasm_defs.specs.Items.{each_is, name_is, bytes_are, item_is, Section, Payload, Custom, Vector, Starting, Counting, Bodies, payload_is, payload_items, section_is, items_in}
 use Rattle.wasm_laws.specs.Held.{held_bytes, all_held}
 use Rattle.wasm_laws.specs.Sections.{AreBytes}
 use Rattle.wasm_laws.proofs.Bytes.{each_byte}
@@ -31,10 +31,19 @@ item_holds (Exported label kind index) at bytes s =
 item_holds (Start index) at bytes s = absurd s
 item_holds (Element table place functions) at bytes s = omega arith
 item_holds (Code count end) at bytes s = absurd s
-item_holds (Segment memory place run) at bytes s =
+item_holds (DataCount count) at bytes s = absurd s
+item_holds (Passive form run) at bytes s =
+    let last = run_holds run (at + length s.front) s.back s.second in
+    omega (arith, last, ap length s.parts, length-append s.front s.back)
+item_holds (Segment form None place run) at bytes s =
     let inner = s.second in
     let last = run_holds run (at + length s.front + length inner.front) inner.back inner.second in
     omega (arith, last, ap length s.parts, length-append s.front s.back, ap length inner.parts, length-append inner.front inner.back)
+item_holds (Segment form (Some memory) place run) at bytes s =
+    let after = s.second in
+    let inner = after.second in
+    let last = run_holds run (at + length s.front + length after.front + length inner.front) inner.back inner.second in
+    omega (arith, last, ap length s.parts, length-append s.front s.back, ap length after.parts, length-append after.front after.back, ap length inner.parts, length-append inner.front inner.back)
 
 items_hold : (xs : List Item) (at : ℕ) (bytes : List ℕ) → each_is item_is xs at bytes → all_held xs ≤ length bytes
 items_hold [] at bytes s = omega arith
@@ -50,6 +59,7 @@ payload_holds (Vector id count items) at bytes s =
     let each = items_hold items (at + length vector.front) vector.back vector.second in
     omega (arith, each, ap length vector.parts, length-append vector.front vector.back)
 payload_holds (Starting index) at bytes s = omega arith
+payload_holds (Counting count) at bytes s = omega arith
 payload_holds (Bodies count end bodies) at run s = omega arith
 
 pub held_append : (xs ys : List Item) → all_held (xs ++ ys) ≡ all_held xs + all_held ys

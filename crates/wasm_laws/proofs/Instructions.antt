@@ -1,5 +1,5 @@
 -- What holds of what each opcode encodes holds of every instruction, and of each token of a body.
-use Rattle.std.proofs.Common.{ℕ, zero, suc, ◌+◌, ◌-◌, ◌||◌, eqb, nat_lt, inl, inr, List, [], ◌∷◌, Option, None, Some, length}
+use Rattle.std.proofs.Common.{Bool, ℕ, zero, suc, ◌+◌, ◌-◌, eqb, nat_lt, inl, inr, List, [], ◌∷◌, Option, None, Some, length}
 use Rattle.std.specs.Prelude.{slice_get, if◌then◌else◌}
 use Rattle.std.proofs.lemmas.Bool.{cases_Bool}
 use Rattle.wasm_defs.specs.declared.fault.Kind.TheVariants.{Unsupported}
@@ -11,7 +11,7 @@ use Rattle.wasm_defs.specs.declared.token.Token.TheVariants as token
 use Rattle.wasm_defs.specs.declared.types.ValType.TheVariants.{I32, I64}
 use Rattle.wasm_defs.specs.Opcodes.{operations, accesses}
 use Rattle.wasm_defs.specs.Fields.{Cursor, Read, Got, Fault, Wants, byte, Reader, refused}
-use Rattle.wasm_defs.specs.Bodies.{Group, local_groups, with_index, constant, control, variable, past_table, operated_at, numeric, instruction, depth_after, Spelled, closed, after_token, goes_on, spelled_from, body_cursor, last_of, read_code, body_read, with_type, branch_table, indirect, with_zero, with_mem_arg, memory, accessed_at}
+use Rattle.wasm_defs.specs.Bodies.{Group, local_groups, with_index, constant, control, variable, prefixed, past_table, operated_at, numeric, instruction, depth_after, Spelled, closed, after_token, goes_on, spelled_from, body_cursor, last_of, read_code, body_read, with_type, branch_table, indirect, with_zero, with_mem_arg, memory, accessed_at}
 use Rattle.wasm_laws.proofs.Steady.{IfGot, Advance, Advances, here_in}
 use Rattle.wasm_laws.proofs.Windows.{byte_field}
 use Rattle.wasm_laws.proofs.BodyLaws.{local_groups_steady, instruction_steady}
@@ -19,7 +19,7 @@ use Rattle.wasm_laws.proofs.BodyLaws.{local_groups_steady, instruction_steady}
 -- ---- instructions
 
 -- it holds of what each opcode encodes
-pub record Spells (P : Token → Cursor → Type 0) (d : Cursor) : Type 0 where
+pub record Spells (counted : Bool) (P : Token → Cursor → Type 0) (d : Cursor) : Type 0 where
   pub unreachables : P (token.Plain Unreachable) d
   pub nops : P (token.Plain Nop) d
   pub blocks : IfGot P (with_type token.Block d)
@@ -43,12 +43,13 @@ pub record Spells (P : Token → Cursor → Type 0) (d : Cursor) : Type 0 where
   pub accesses_at : (op : Access) → IfGot P (with_mem_arg op d)
   pub sizes : IfGot P (with_zero MemorySize d)
   pub grows : IfGot P (with_zero MemoryGrow d)
+  pub prefixes : (at : ℕ) → IfGot P (prefixed counted at d)
   pub narrow : IfGot P (constant I32 d)
   pub wide : IfGot P (constant I64 d)
   pub computes : (op : Operation) → P (token.Plain (Operate op)) d
 
 -- so it holds of each instruction
-module _ (P : Token → Cursor → Type 0) (at b : ℕ) (d : Cursor) (s : Spells P d) where
+module _ (counted : Bool) (P : Token → Cursor → Type 0) (at b : ℕ) (d : Cursor) (s : Spells counted P d) where
   or_else : (k : ℕ) (x y : Reader Token) → IfGot P (x d) → IfGot P (y d) → IfGot P ((if eqb b k then x else y) d)
   or_else k x y h rest =
       elim (cases_Bool (eqb b k)) [
@@ -76,30 +77,30 @@ module _ (P : Token → Cursor → Type 0) (at b : ℕ) (d : Cursor) (s : Spells
   unfolding memory
   of_memory = or_else 0x3F _ _ s.sizes (or_else 0x40 _ _ s.grows (of_access (slice_get accesses (b - 0x28))))
 
-  past_numbers : IfGot P (past_table at b d)
+  past_numbers : IfGot P (past_table counted at b d)
   past_numbers =
       elim (cases_Bool (eqb b 0xFC)) [
-        | inl left_out ↦ rw left_out tt
+        | inl prefix ↦ rw prefix (s.prefixes at)
         | inr none ↦ rw none tt
       ]
 
-  of_table : (o : Option (Option Operation)) → IfGot P (operated_at at b o d)
+  of_table : (o : Option (Option Operation)) → IfGot P (operated_at counted at b o d)
   of_table None = past_numbers
   of_table (Some None) = tt
   of_table (Some (Some op)) = s.computes op
 
-  of_floats : IfGot P ((if nat_lt b 0x45 then refused Unsupported at else operated_at at b (slice_get operations (b - 0x45))) d)
+  of_floats : IfGot P ((if nat_lt b 0x45 then refused Unsupported at else operated_at counted at b (slice_get operations (b - 0x45))) d)
   of_floats =
       elim (cases_Bool (nat_lt b 0x45)) [
         | inl floats ↦ rw floats tt
         | inr h ↦ rw h (of_table (slice_get operations (b - 0x45)))
       ]
 
-  of_numbers : IfGot P (numeric at b d)
+  of_numbers : IfGot P (numeric counted at b d)
   unfolding numeric
   of_numbers = or_else 0x41 _ _ s.narrow (or_else 0x42 _ _ s.wide of_floats)
 
-  pub by_opcode : IfGot P (instruction at b d)
+  pub by_opcode : IfGot P (instruction counted at b d)
   unfolding instruction
   by_opcode =
       elim (cases_Bool (nat_lt b 0x20)) [
@@ -120,7 +121,7 @@ Each P [] = Unit {0}
 Each P (t ∷ ts) = P t.1 × Each P ts
 
 -- what holds of each instruction holds of each token, where that holds of what follows any bytes, too
-module _ (B : Cursor → Type 0) (on : (c d : Cursor) → Advance c d → B c → B d) (P : Token → Type 0) (each : (at b : ℕ) (d : Cursor) → B d → IfGot (λ t e. P t) (instruction at b d)) where
+module _ (B : Cursor → Type 0) (on : (c d : Cursor) → Advance c d → B c → B d) (P : Token → Type 0) (counted : Bool) (each : (at b : ℕ) (d : Cursor) → B d → IfGot (λ t e. P t) (instruction counted at b d)) where
   token_on : (last at : ℕ) (d : Cursor) (x : Read Token) (f : Token → Cursor → Spelled) → B d → Advances d x → IfGot (λ t e. P t) x → ((t : Token) (e : Cursor) → B e → Each P (f t e).tokens) → Each P (goes_on last x (λ t e. after_token at t (f t e))).tokens
   token_on last at d (Got t e) f known moves p h = (p, h t e (on d e moves known))
   token_on last at d (Fault r) f known moves p h = tt
@@ -135,22 +136,22 @@ module _ (B : Cursor → Type 0) (on : (c d : Cursor) → Advance c d → B c �
   closed_on at [] = tt
   closed_on at (b ∷ rest) = tt
 
-  each_spelled : (n depth last : ℕ) (c : Cursor) → B c → Each P (spelled_from n depth last c).tokens
+  each_spelled : (n depth last : ℕ) (c : Cursor) → B c → Each P (spelled_from counted n depth last c).tokens
   unfolding spelled_from
   each_spelled zero depth last c known = tt
   each_spelled (suc n) zero last c known = closed_on c.at c.rest
   each_spelled (suc n) (suc depth) last c known =
       opcode_on last c (byte c) _ known ((byte_field.steady []).moves c)
       (λ b d known.
-      token_on last b.0 d (instruction b.0 b.1 d) (λ t e. spelled_from n (depth_after t (suc depth)) last e) known ((instruction_steady (b.0 ∷ []) b.0 b.1 here_in).moves d) (each b.0 b.1 d known)
+      token_on last b.0 d (instruction counted b.0 b.1 d) (λ t e. spelled_from counted n (depth_after t (suc depth)) last e) known ((instruction_steady (b.0 ∷ []) counted b.0 b.1 here_in).moves d) (each b.0 b.1 d known)
       (λ t e known. each_spelled n (depth_after t (suc depth)) last e known))
 
-  each_read : (last n : ℕ) (c : Cursor) (x : Read (List Group)) → B c → Advances c x → Each P (read_code last x n).code.tokens
+  each_read : (last n : ℕ) (c : Cursor) (x : Read (List Group)) → B c → Advances c x → Each P (read_code counted last x n).code.tokens
   each_read last n c (Got gs d) known moves = each_spelled n 1 last d (on c d moves known)
   each_read last n c (Fault r) known moves = tt
   each_read last n c Wants known moves = tt
 
-  pub each_token : (first : ℕ) (bytes : List ℕ) → B (body_cursor first bytes) → Each P (body_read first bytes).code.tokens
+  pub each_token : (first : ℕ) (bytes : List ℕ) → B (body_cursor first bytes) → Each P (body_read counted first bytes).code.tokens
   each_token first bytes known =
       let c = body_cursor first bytes in
       each_read (last_of first bytes) (length bytes + 1) c (local_groups c) known ((local_groups_steady []).moves c)

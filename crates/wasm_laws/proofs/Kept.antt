@@ -5,15 +5,15 @@ use Rattle.std.proofs.lemmas.Bool.{cases_Bool, cases_lt, lt-ltb, le-ltb, ltb-fal
 use Rattle.wasm_defs.specs.declared.item.Extern.{Extern}
 use Rattle.wasm_defs.specs.declared.item.Extern.TheVariants as extern
 use Rattle.wasm_defs.specs.declared.item.Item.{Item}
-use Rattle.wasm_defs.specs.declared.item.Item.TheVariants.{Signature, Imported, Function, Table, Memory, Exported}
+use Rattle.wasm_defs.specs.declared.item.Item.TheVariants.{Signature, Imported, Function, Table, Memory, Exported, DataCount}
 use Rattle.wasm_defs.specs.declared.item.Limits.{Limits}
 use Rattle.wasm_defs.specs.Fields.{Cursor, Reader, repeated, byte, u32, count, vector, name}
-use Rattle.wasm_defs.specs.Entries.{Seen, note, space, index, listed_type, limits, signature, imported, function, table, memory, global, extern_kind, exported, start, element, code, segment}
-use Rattle.wasm_defs.specs.Limits.{max_params, max_results, max_table, max_pages, top_rows, top_pages}
+use Rattle.wasm_defs.specs.Entries.{Seen, note, space, index, listed_type, limits, signature, imported, function, table, memory, global, extern_kind, exported, start, element, code, data_count, passive, segment}
+use Rattle.wasm_defs.specs.Limits.{max_params, max_results, max_entries, max_table, max_pages, top_rows, top_pages}
 use Rattle.wasm_defs.specs.Outside.{entered, module_read}
 use Rattle.wasm_defs.specs.Context.{functions_of}
 use Rattle.wasm_defs.specs.Faults.{items_of}
-use Rattle.wasm_laws.specs.Kept.{TypeIsSmall}
+use Rattle.wasm_defs.specs.SmallTypes.{TypeIsSmall}
 use Rattle.wasm_laws.proofs.Steady.{IfGot, always}
 use Rattle.wasm_laws.proofs.Sorts.{Yields, yielding}
 use Rattle.wasm_laws.proofs.Parts.{then_got}
@@ -33,12 +33,13 @@ pub record IsMinimum (most : ℕ) (limits : Limits) : Type 0 where
   pub low : limits.min.1 ≤ most
   pub ordered : (max : ℕ × ℕ) → limits.max ≡ Some max → limits.min.1 ≤ max.1
 
--- types, tables and memories keep to their limits, and an export's function is one of so many
+-- types, tables, memories and the data count keep to their limits, and an export's function is one of so many
 abbrev pub IsKept : ℕ → Item → Type 0
 IsKept functions (Signature form params outs ty) = TypeIsSmall ty
 IsKept functions (Table element limits) = IsMinimum max_table limits
 IsKept functions (Memory limits) = IsMinimum max_pages limits
 IsKept functions (Exported label kind index) = IsAmong functions kind.1 index.1
+IsKept functions (DataCount count) = count.1 ≤ max_entries
 IsKept functions _ = Unit {0}
 
 -- so of each item, where so many functions are before the items
@@ -183,8 +184,14 @@ code_keeps : Keeps code
 unfolding code
 code_keeps seen = search yielding depth 40
 
+data_count_keeps : Keeps data_count
+unfolding data_count
+data_count_keeps seen = record {
+  got = λ c. then_got (λ n d. n.1 ≤ max_entries) (λ x d. IsKept seen.functions x) (count max_entries c) _ (count_up_to max_entries c) (λ n d le. le);
+}
+
 segment_keeps : Keeps segment
-unfolding segment
+unfolding segment passive
 segment_keeps seen = search yielding depth 40
 
 -- ---- modules
@@ -208,6 +215,7 @@ all_keep = record {
   starts = start_keeps;
   elements = element_keeps;
   codes = code_keeps;
+  data_counts = data_count_keeps;
   segments = segment_keeps;
 }
 

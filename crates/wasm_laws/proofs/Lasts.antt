@@ -1,12 +1,12 @@
 -- The rules don't ask which section came last, nor do items change that.
-use Rattle.std.proofs.Common.{◌≡◌, ℕ, ◌+◌, List, [], ◌∷◌, refl, ap, ◌∙◌, sym, arith}
+use Rattle.std.proofs.Common.{◌≡◌, ℕ, ◌+◌, List, [], ◌∷◌, None, Some, refl, ap, ◌∙◌, sym, arith}
 use Rattle.wasm_defs.specs.declared.item.Extern.{Extern}
 use Rattle.wasm_defs.specs.declared.item.Extern.TheVariants as extern
 use Rattle.wasm_defs.specs.declared.item.Item.{Item}
-use Rattle.wasm_defs.specs.declared.item.Item.TheVariants.{Signature, Imported, Function, Table, Memory, Global, Exported, Start, Element, Code, Segment}
+use Rattle.wasm_defs.specs.declared.item.Item.TheVariants.{Signature, Exported, Code, Segment}
 use Rattle.wasm_defs.specs.Context.{declared_count}
 use Rattle.wasm_defs.specs.Entries.{Seen, note, space}
-use Rattle.wasm_defs.specs.Items.{section_of, AllOf, Section, Payload, Custom, Vector, Starting, Bodies, payload_items}
+use Rattle.wasm_defs.specs.Items.{section_of, AllOf, Section, Payload, Custom, payload_items}
 use Rattle.wasm_defs.specs.Rules.{Keeps, AllKeep, all_noted, IsSmall, SectionsKeep}
 use Rattle.wasm_laws.proofs.Sorts.{notes, count_cons}
 
@@ -17,17 +17,10 @@ space_last s l extern.Function = refl
 space_last s l p = refl
 
 keeps_last : (s : Seen) (l : ℕ) (x : Item) → Keeps s x → Keeps (record s { last = l }) x
-keeps_last s l (Signature form params results ty) h = h
-keeps_last s l (Imported from what kind type_index) h = h
-keeps_last s l (Function type_index) h = h
-keeps_last s l (Table element limits) h = h
-keeps_last s l (Memory limits) h = h
-keeps_last s l (Global ty mutable init) h = h
 keeps_last s l (Exported label kind index) h = (h.0, h.1, omega (arith, h.2, space_last s l kind.1))
-keeps_last s l (Start index) h = h
-keeps_last s l (Element table place functions) h = h
-keeps_last s l (Code count end) h = h
-keeps_last s l (Segment memory place bytes) h = h
+keeps_last s l (Segment form None place bytes) h = h
+keeps_last s l (Segment form (Some memory) place bytes) h = h
+keeps_last s l p h = h
 
 note_last : (s : Seen) (l : ℕ) (x : Item) → note (record s { last = l }) x ≡ record (note s x) { last = l }
 note_last s l (Signature form params results ty) = refl
@@ -43,9 +36,7 @@ all_noted_last s l (x ∷ xs) = ap (λ (t : Seen). all_noted t xs) (note_last s 
 
 pub small_last : (s : Seen) (l : ℕ) (p : Payload) → IsSmall s p → IsSmall (record s { last = l }) p
 small_last s l (Custom name) h = h
-small_last s l (Vector id count items) h = h
-small_last s l (Starting index) h = h
-small_last s l (Bodies count end bodies) h = h
+small_last s l p h = h
 
 pub sections_keep_last : (s : Seen) (l : ℕ) (xs : List Section) → SectionsKeep s xs → SectionsKeep (record s { last = l }) xs
 sections_keep_last s l [] h = tt
@@ -66,19 +57,10 @@ all_declared s [] = omega arith
 all_declared s (x ∷ xs) = omega (arith, all_declared (note s x) xs, (notes s x).declared, count_cons x xs)
 
 -- only the code section's count counts
-pub note_counted : (s : Seen) (x : Item) → (section_of x ≡ 10 → ⊥) → (note s x).counted ≡ s.counted
-note_counted s (Signature form params results ty) h = refl
-note_counted s (Imported from what kind type_index) h = refl
-note_counted s (Function type_index) h = refl
-note_counted s (Table element limits) h = refl
-note_counted s (Memory limits) h = refl
-note_counted s (Global ty mutable init) h = refl
-note_counted s (Exported label kind index) h = refl
-note_counted s (Start index) h = refl
-note_counted s (Element table place functions) h = refl
+pub note_counted : (s : Seen) (x : Item) → (section_of x ≡ 11 → ⊥) → (note s x).counted ≡ s.counted
 note_counted s (Code count end) h = absurd (h refl)
-note_counted s (Segment memory place bytes) h = refl
+note_counted s p h = refl
 
-pub all_counted : (id : ℕ) (s : Seen) (xs : List Item) → (id ≡ 10 → ⊥) → AllOf id xs → (all_noted s xs).counted ≡ s.counted
+pub all_counted : (id : ℕ) (s : Seen) (xs : List Item) → (id ≡ 11 → ⊥) → AllOf id xs → (all_noted s xs).counted ≡ s.counted
 all_counted id s [] other h = refl
 all_counted id s (x ∷ xs) other h = all_counted id (note s x) xs other h.1 ∙ note_counted s x (λ e. other (sym h.0 ∙ e))

@@ -12,11 +12,13 @@ pub mod Faulty
 pub mod Verdicts
 pub mod Comes
 pub mod Bounded
+pub mod Positions
 pub mod Parts
 pub mod Order
 pub mod Sorts
 pub mod Headers
 pub mod Counts
+pub mod DataCounts
 pub mod Cuts
 pub mod BodyOrder
 pub mod Few
@@ -35,6 +37,7 @@ pub mod Describing
 pub mod Contents
 pub mod Described
 pub mod Rereading
+pub mod Matched
 pub mod WholeModules
 pub mod OneReading
 pub mod Sorted

@@ -1,5 +1,5 @@
 -- Bodies keep to the limits on their bytes and on their locals.
-use Rattle.std.proofs.Common.{◌≡◌, ℕ, zero, suc, ◌+◌, ◌≤◌, List, [], ◌∷◌, replicate, length, arith, length-append, inl, inr}
+use Rattle.std.proofs.Common.{Bool, ◌≡◌, ℕ, zero, suc, ◌+◌, ◌≤◌, List, [], ◌∷◌, replicate, length, arith, length-append, inl, inr}
 use Rattle.std.proofs.Math.ListN.{length-replicate}
 use Rattle.std.proofs.lemmas.Bool.{cases_lt, lt-ltb, le-ltb}
 use Rattle.wasm_defs.specs.Bodies.{Group, group, groups, local_groups, body_cursor, last_of, read_code, body_read}
@@ -50,13 +50,13 @@ locals_fit c =
     fitting (Fault r) h = tt
     fitting Wants h = tt
 
-read_fits : (last n : ℕ) (x : Read (List Group)) → IfGot (λ gs d. LocalsAreFew gs) x → LocalsAreFew (read_code last x n).groups
-read_fits last n (Got gs d) h = h
-read_fits last n (Fault r) h = omega arith
-read_fits last n Wants h = omega arith
+read_fits : (counted : Bool) (last n : ℕ) (x : Read (List Group)) → IfGot (λ gs d. LocalsAreFew gs) x → LocalsAreFew (read_code counted last x n).groups
+read_fits counted last n (Got gs d) h = h
+read_fits counted last n (Fault r) h = omega arith
+read_fits counted last n Wants h = omega arith
 
-pub locals_are_few : (first : ℕ) (bytes : List ℕ) → LocalsAreFew (body_read first bytes).groups
-locals_are_few first bytes = let c = body_cursor first bytes in read_fits (last_of first bytes) (length bytes + 1) (local_groups c) (locals_fit c)
+pub locals_are_few : (counted : Bool) (first : ℕ) (bytes : List ℕ) → LocalsAreFew (body_read counted first bytes).groups
+locals_are_few counted first bytes = let c = body_cursor first bytes in read_fits counted (last_of first bytes) (length bytes + 1) (local_groups c) (locals_fit c)
 
 -- ---- bodies
 
@@ -66,7 +66,7 @@ ordered_are_small low last (Section at id ∷ parts) h = ordered_are_small (suc 
 ordered_are_small low last (Listed x ∷ parts) h = ordered_are_small (behind_use low (use_of x)) last parts h.1
 ordered_are_small low last (Coded b ∷ parts) h =
     let stands = h.0 in
-    (record { least = stands.least; most = stands.most; locals = locals_are_few b.first b.bytes }, ordered_are_small (end_of b) last parts h.1)
+    (record { least = stands.least; most = stands.most; locals = locals_are_few b.counted b.first b.bytes }, ordered_are_small (end_of b) last parts h.1)
 
 pub bodies_are_small : (bytes : List ℕ) → BodiesAreSmall (bodies_of (module_read bytes).parts)
 bodies_are_small bytes = ordered_are_small first_section (length bytes) (module_read bytes).parts (parts_in_module bytes)

@@ -1,10 +1,10 @@
 -- What holds of each item that an entry gives, by what was seen before it, holds of all items of a module.
-use Rattle.std.proofs.Common.{◌≡◌, ℕ, zero, suc, ◌+◌, Bool, true, false, cond, eqb, List, [], ◌∷◌, length, subst, inl, inr}
+use Rattle.std.proofs.Common.{◌≡◌, ℕ, zero, suc, ◌+◌, Bool, true, false, cond, eqb, List, [], ◌∷◌, length, subst, inl, inr, is_some}
 use Rattle.std.proofs.lemmas.Bool.{cases_Bool}
 use Rattle.wasm_defs.specs.declared.item.Item.{Item}
 use Rattle.wasm_defs.specs.Fields.{Cursor, Read, Got, Fault, Wants, Reader}
-use Rattle.wasm_defs.specs.Entries.{Seen, nothing, note, signature, imported, function, table, memory, global, exported, start, element, code, segment}
-use Rattle.wasm_defs.specs.Outside.{Part, Section, Listed, Coded, listed, body, entries_of, code_entry, Row, row, header, entered, noted, inside, section_end, Run, after_part, runs_on, Next, finish, entries, contents, section, owes_code, at_the_end, or_section, sections_up_to, preamble, beginning, module_read}
+use Rattle.wasm_defs.specs.Entries.{Seen, nothing, note, signature, imported, function, table, memory, global, exported, start, element, code, data_count, segment}
+use Rattle.wasm_defs.specs.Outside.{Part, Section, Listed, Coded, listed, body, entries_of, code_entry, Row, row, header, entered, noted, inside, section_end, Run, after_part, runs_on, Next, finish, entries, contents, section, position_of, owes, at_the_end, or_section, sections_up_to, preamble, beginning, module_read}
 use Rattle.wasm_defs.specs.Faults.{items_of}
 use Rattle.wasm_laws.proofs.Steady.{IfGot, always}
 use Rattle.wasm_laws.proofs.Sorts.{IsItem, IsBody, Yields, listed_yields, body_yields}
@@ -22,6 +22,7 @@ pub record OfEntries (P : (Seen → Reader Item) → Type 0) : Type 0 where
   pub starts : P start
   pub elements : P element
   pub codes : P code
+  pub data_counts : P data_count
   pub segments : P segment
 
 -- what holds of an item where so many were seen before, and of items after so many
@@ -55,8 +56,8 @@ module _ (many : Seen → ℕ) (Is : ℕ → Item → Type 0) (Are : ℕ → Lis
 
   of_code : Yield code → (seen : Seen) (c : Cursor) → IfGot (λ x d. IsPart (many seen) x) (code_entry seen c)
   of_code h seen c =
-      either_got (λ x d. IsPart (many seen) x) seen.counted body (listed (code seen)) c
-      (λ e. got_map (λ x d. IsBody x) (λ x d. IsPart (many seen) x) (body c) (λ x d p. of_body (many seen) x p) (body_yields.got c))
+      either_got (λ x d. IsPart (many seen) x) seen.counted (body (is_some seen.data_count)) (listed (code seen)) c
+      (λ e. got_map (λ x d. IsBody x) (λ x d. IsPart (many seen) x) (body (is_some seen.data_count) c) (λ x d p. of_body (many seen) x p) ((body_yields (is_some seen.data_count)).got c))
       (λ e. of_listed code h seen c)
 
   of_items : (front : Seen → Reader ℕ) (entry : Seen → Reader Item) → Yield entry → OfRow (entries_of front entry)
@@ -77,9 +78,10 @@ module _ (many : Seen → ℕ) (Is : ℕ → Item → Type 0) (Are : ℕ → Lis
       (either_row (eqb id 7) _ _ (of_items _ _ all.exports)
       (either_row (eqb id 8) _ _ (of_items _ _ all.starts)
       (either_row (eqb id 9) _ _ (of_items _ _ all.elements)
-      (either_row (eqb id 10) _ _ (record { entry = of_code all.codes })
-      (either_row (eqb id 11) _ _ (of_items _ _ all.segments)
-      (record { entry = of_listed start all.starts })))))))))))
+      (either_row (eqb id 10) _ _ (of_items _ _ all.data_counts)
+      (either_row (eqb id 11) _ _ (record { entry = of_code all.codes })
+      (either_row (eqb id 12) _ _ (of_items _ _ all.segments)
+      (record { entry = of_listed start all.starts }))))))))))))
 
   -- ---- runs
 
@@ -121,11 +123,11 @@ module _ (many : Seen → ℕ) (Is : ℕ → Item → Type 0) (Are : ℕ → Lis
         (λ h d t. subst (λ (n : ℕ). OfRun n (contents (row h.0) next (entered seen h.0) (inside d h.1))) (enters seen h.0) (of_contents (row h.0) (of_row all h.0) next rest (entered seen h.0) (inside d h.1)))
 
     of_end : (seen : Seen) → OfRun (many seen) (at_the_end seen)
-    of_end seen = elim (cases_Bool (owes_code seen)) [ inl owed ↦ rw owed (record { items = none (many seen) }) | inr over ↦ rw over (record { items = none (many seen) }) ]
+    of_end seen = elim (cases_Bool (owes seen)) [ inl owed ↦ rw owed (record { items = none (many seen) }) | inr over ↦ rw over (record { items = none (many seen) }) ]
 
     of_either : (next : Next) → OfNext next → (seen : Seen) (c : Cursor) (rest : List ℕ) → OfRun (many seen) (or_section next seen c rest)
     of_either next h seen c [] = of_end seen
-    of_either next h seen c (b ∷ rest) = after seen (Section c.at b) (section next seen c) tt (of_section next h seen c)
+    of_either next h seen c (b ∷ rest) = after seen (Section c.at (position_of b)) (section next seen c) tt (of_section next h seen c)
 
     up_to : (n : ℕ) → OfNext (sections_up_to n)
     unfolding sections_up_to

@@ -1,6 +1,8 @@
 -- The grammar has one reading of any bytes.
-use Rattle.std.proofs.Common.{◌≡◌, ◌≢◌, ◌⊎◌, inl, inr, ◌≤◌, ℕ, ◌+◌, ℤ, pos, Bool, true, false, List, [], ◌∷◌, ◌++◌, length, take, Option, Some, None, refl, sym, ap, subst, ◌∙◌, append_assoc, arith, length-append}
-use Rattle.std.proofs.lemmas.List.{append_cancel_left, take_at}
+use Rattle.std.proofs.Common.{◌≡◌, ◌≢◌, ◌≤◌, ℕ, ◌+◌, ℤ, pos, Bool, true, false, List, [], ◌∷◌, ◌++◌, length, map, take, is_some, Option, Some, None, refl, sym, ap, subst, ◌∙◌, append_assoc, arith, length-append}
+use Rattle.std.specs.List.{All}
+use Rattle.std.proofs.lemmas.List.{append_cancel_left, take_at, length-map}
+use Rattle.std.proofs.lemmas.List.Elements.{All-head, All-tail}
 use Rattle.wasm_defs.proofs.NumberLaws.{prefix_free}
 use Rattle.wasm_defs.specs.declared.types.ValType.{ValType}
 use Rattle.wasm_defs.specs.declared.types.ValType.TheVariants.{I32, I64}
@@ -9,10 +11,13 @@ use Rattle.wasm_defs.specs.declared.item.Extern.TheVariants as extern
 use Rattle.wasm_defs.specs.declared.item.Limits.{Limits}
 use Rattle.wasm_defs.specs.declared.item.Constant.{Constant}
 use Rattle.wasm_defs.specs.declared.item.Item.{Item}
-use Rattle.wasm_defs.specs.declared.item.Item.TheVariants.{Signature, Imported, Function, Table, Memory, Global, Exported, Start, Element, Code, Segment}
+use Rattle.wasm_defs.specs.declared.item.Item.TheVariants.{Signature, Imported, Function, Table, Memory, Global, Exported, Start, Element, Code, DataCount, Passive, Segment}
 use Rattle.wasm_defs.specs.Entries.{const_opcode, bits_of}
-use Rattle.wasm_defs.specs.Outside.{Body}
-use Rattle.wasm_defs.specs.Items.{Spelling, Joined, ◌then◌, exactly, each_is, byte_is, number_is, u32_is, vector_is, Sized, bytes_are, name_is, type_code, listed_type_is, bounds_are, limits_are, mutability_code, listed_index_is, constant_is, extern_code, item_is, section_of, body_is, AllOf, Section, Payload, Custom, Vector, Starting, Bodies, payload_id, HoldsVector, payload_is, section_is, Items}
+use Rattle.wasm_defs.specs.Context.{data_count_of}
+use Rattle.wasm_defs.specs.Outside.{Body, position_of}
+use Rattle.wasm_laws.proofs.Positions.{position_again}
+use Rattle.wasm_laws.proofs.DataCounts.{all_front, all_back}
+use Rattle.wasm_defs.specs.Items.{Spelling, Joined, ◌then◌, exactly, each_is, byte_is, number_is, u32_is, vector_is, Sized, bytes_are, name_is, type_code, listed_type_is, bounds_are, limits_are, mutability_code, listed_index_is, constant_is, extern_code, item_is, section_of, body_is, AllOf, Section, Payload, Custom, Vector, Starting, Counting, Bodies, payload_id, payload_position, HoldsVector, payload_is, payload_items, payload_bodies, items_in, bodies_in, section_is, Items}
 
 -- two things that bytes begin with are one, and so is what is left
 pub record Same {A : Type 0} (x y : A) (f g b c : List ℕ) : Type 0 where
@@ -199,6 +204,11 @@ name_one m n at f g b c s t e = bytes_one m n at f g b c s.1 t.1 e
 
 -- ---- items
 
+forms_differ : {A : Type 0} (p q : Spelling) (m n : ℕ × ℕ) (x y : A) → m.1 ≢ n.1 → AreOne (u32_is m then p) (u32_is n then q) x y
+forms_differ p q m n x y other at f g b c s t e =
+    let h = u32_one m n at s.front t.front (s.back ++ b) (t.back ++ c) s.first t.first (fronts (u32_is m) p (u32_is n) q at f g b c s t e) in
+    absurd (other (ap (λ (z : ℕ × ℕ). z.1) h.value))
+
 item_one : (x y : Item) → section_of x ≡ section_of y → AreOne (item_is x) (item_is y) x y
 item_one (Signature form params outs ty) (Signature form2 params2 outs2 ty2) same =
     as_one (λ (z : (ℕ × ℕ) × ((ℕ × List ValType) × (ℕ × List ValType))). Signature z.0.0 z.1.0.0 z.1.1.0 (record { params = z.1.0.1; results = z.1.1.1 })) _ _ ((form, 0x60), ((params, ty.params), (outs, ty.results))) ((form2, 0x60), ((params2, ty2.params), (outs2, ty2.results)))
@@ -226,9 +236,22 @@ item_one (Element i place fs) (Element i2 place2 fs2) same =
     as_one (λ (z : (ℕ × ℕ) × (Constant × (ℕ × List ℕ))). Element z.0 z.1.0 z.1.1) _ _ (i, (place, fs)) (i2, (place2, fs2))
     (two_one _ _ _ _ _ _ _ _ (u32_one i i2) (λ d. two_one _ _ _ _ _ _ _ _ (constant_one I32 place place2) (λ d. vector_one listed_index_is listed_index_one fs fs2)))
 item_one (Code count end) (Code count2 end2) same = λ at f g b c s t e. absurd s
-item_one (Segment i place bytes) (Segment i2 place2 bytes2) same =
-    as_one (λ (z : (ℕ × ℕ) × (Constant × (ℕ × List ℕ))). Segment z.0 z.1.0 z.1.1) _ _ (i, (place, bytes)) (i2, (place2, bytes2))
-    (two_one _ _ _ _ _ _ _ _ (u32_one i i2) (λ d. two_one _ _ _ _ _ _ _ _ (constant_one I32 place place2) (λ d. bytes_one bytes bytes2)))
+item_one (DataCount count) (DataCount count2) same = λ at f g b c s t e. absurd s
+item_one (Passive form bytes) (Passive form2 bytes2) same =
+    as_one (λ (z : (ℕ × ℕ) × (ℕ × List ℕ)). Passive z.0.0 z.1) _ _ ((form, 1), bytes) ((form2, 1), bytes2) (two_one _ _ _ _ _ _ _ _ (u32_one (form, 1) (form2, 1)) (λ d. bytes_one bytes bytes2))
+item_one (Segment form None place bytes) (Segment form2 None place2 bytes2) same =
+    as_one (λ (z : (ℕ × ℕ) × (Constant × (ℕ × List ℕ))). Segment z.0.0 None z.1.0 z.1.1) _ _ ((form, 0), (place, bytes)) ((form2, 0), (place2, bytes2))
+    (two_one _ _ _ _ _ _ _ _ (u32_one (form, 0) (form2, 0)) (λ d. two_one _ _ _ _ _ _ _ _ (constant_one I32 place place2) (λ d. bytes_one bytes bytes2)))
+item_one (Segment form (Some i) place bytes) (Segment form2 (Some i2) place2 bytes2) same =
+    as_one (λ (z : (ℕ × ℕ) × ((ℕ × ℕ) × (Constant × (ℕ × List ℕ)))). Segment z.0.0 (Some z.1.0) z.1.1.0 z.1.1.1) _ _ ((form, 2), (i, (place, bytes))) ((form2, 2), (i2, (place2, bytes2)))
+    (two_one _ _ _ _ _ _ _ _ (u32_one (form, 2) (form2, 2))
+    (λ d. two_one _ _ _ _ _ _ _ _ (u32_one i i2) (λ d. two_one _ _ _ _ _ _ _ _ (constant_one I32 place place2) (λ d. bytes_one bytes bytes2))))
+item_one (Passive form bytes) (Segment form2 None place2 bytes2) same = forms_differ _ _ (form, 1) (form2, 0) _ _ (λ e. omega arith)
+item_one (Passive form bytes) (Segment form2 (Some i2) place2 bytes2) same = forms_differ _ _ (form, 1) (form2, 2) _ _ (λ e. omega arith)
+item_one (Segment form None place bytes) (Passive form2 bytes2) same = forms_differ _ _ (form, 0) (form2, 1) _ _ (λ e. omega arith)
+item_one (Segment form None place bytes) (Segment form2 (Some i2) place2 bytes2) same = forms_differ _ _ (form, 0) (form2, 2) _ _ (λ e. omega arith)
+item_one (Segment form (Some i) place bytes) (Passive form2 bytes2) same = forms_differ _ _ (form, 2) (form2, 1) _ _ (λ e. omega arith)
+item_one (Segment form (Some i) place bytes) (Segment form2 None place2 bytes2) same = forms_differ _ _ (form, 2) (form2, 0) _ _ (λ e. omega arith)
 item_one x y same = λ at f g b c s t e. absurd (omega (arith, same))
 
 -- items of one section
@@ -248,57 +271,94 @@ items_one id m n a o at f g b c s t e = vector_one (StandsIn id) (standing_one i
     standing : (m : ℕ × List Item) → AllOf id m.1 → (f : List ℕ) → vector_is item_is m.0 m.1 at f → vector_is (StandsIn id) m.0 m.1 at f
     standing m a f s = record { front = s.front; back = s.back; parts = s.parts; first = s.first; second = each_stands id m.1 (at + length s.front) s.back a s.second }
 
--- ---- bodies
+-- ---- bodies: their bytes don't say whether the module counts its data segments, so they are compared as if it didn't
 
-body_one : IsOne body_is
+abbrev told_as : Bool → Body → Body
+told_as counted b = record b { counted = counted }
+
+abbrev told_is : Body → Spelling
+told_is b = λ at bytes. (b.counted ≡ false) × body_is b at bytes
+
+body_one : IsOne told_is
 body_one x y at f g b c s t e =
-    let h = sized_one x.size y.size (λ at bytes. (x.first ≡ at) × (bytes ≡ x.bytes) × (2 ≤ length bytes)) (λ at bytes. (y.first ≡ at) × (bytes ≡ y.bytes) × (2 ≤ length bytes)) at f g b c s t e in
+    let h = sized_one x.size y.size (λ at bytes. (x.first ≡ at) × (bytes ≡ x.bytes) × (2 ≤ length bytes)) (λ at bytes. (y.first ≡ at) × (bytes ≡ y.bytes) × (2 ≤ length bytes)) at f g b c s.1 t.1 e in
+    let counted : x.counted ≡ y.counted = s.0 ∙ sym t.0 in
     let first : x.first ≡ y.first = h.first.0 ∙ sym h.second.0 in
     let bytes : x.bytes ≡ y.bytes = sym h.first.1 ∙ h.second.1 in
     record {
-      value = ap (λ (z : ℕ). record { size = z; first = x.first; bytes = x.bytes }) h.offset ∙ ap (λ (z : ℕ). record { size = y.size; first = z; bytes = x.bytes }) first ∙ ap (λ (z : List ℕ). record { size = y.size; first = y.first; bytes = z }) bytes;
+      value =
+          ap (λ (z : Bool). record { counted = z; size = x.size; first = x.first; bytes = x.bytes }) counted
+          ∙ ap (λ (z : ℕ). record { counted = y.counted; size = z; first = x.first; bytes = x.bytes }) h.offset
+          ∙ ap (λ (z : ℕ). record { counted = y.counted; size = y.size; first = z; bytes = x.bytes }) first
+          ∙ ap (λ (z : List ℕ). record { counted = y.counted; size = y.size; first = y.first; bytes = z }) bytes;
       front = h.front;
       back = h.back;
     }
 
+each_untold : (bs : List Body) (at : ℕ) (f : List ℕ) → each_is body_is bs at f → each_is told_is (map (told_as false) bs) at f
+each_untold [] at f s = s
+each_untold (b ∷ bs) at f s = record { front = s.front; back = s.back; parts = s.parts; first = (refl, s.first); second = each_untold bs (at + length s.front) s.back s.second }
+
+bodies_untold : (count : ℕ) (bs : List Body) (at : ℕ) (f : List ℕ) → vector_is body_is count bs at f → vector_is told_is count (map (told_as false) bs) at f
+bodies_untold count bs at f s = record {
+  front = s.front;
+  back = s.back;
+  parts = s.parts;
+  first = subst (λ (k : ℕ). u32_is (count, k) at s.front) (sym (length-map bs (told_as false))) s.first;
+  second = each_untold bs (at + length s.front) s.back s.second;
+}
+
 -- ---- sections
 
--- a vector's section has an id of its own
-vector_id : (id k : ℕ) → HoldsVector id → (k ≡ 0) ⊎ ((k ≡ 8) ⊎ (k ≡ 10)) → id ≡ k → ⊥
-vector_id id k h (inl e) d = omega (arith, h.0)
-vector_id id k h (inr (inl e)) d = h.2 (d ∙ e)
-vector_id id k h (inr (inr e)) d = h.3 (d ∙ e)
+abbrev payload_told : Bool → Payload → Payload
+payload_told counted (Bodies count end bodies) = Bodies count end (map (told_as counted) bodies)
+payload_told counted p = p
 
-payload_one : (p q : Payload) → payload_id p ≡ payload_id q → (at : ℕ) (content : List ℕ) → payload_is p at content → payload_is q at content → p ≡ q
+abbrev section_told : Bool → Section → Section
+section_told counted s = record s { payload = payload_told counted s.payload }
+
+-- a vector's section has a position of its own
+abbrev HoldsNone : Payload → Type 0
+HoldsNone (Vector id count items) = ⊥
+HoldsNone p = Unit {0}
+
+no_vector : (id : ℕ) (p : Payload) → HoldsNone p → HoldsVector id → id ≡ payload_position p → ⊥
+no_vector id (Vector k count items) none h e = none
+no_vector id (Custom name) none h e = omega (arith, h.0)
+no_vector id (Starting index) none h e = h.2 e
+no_vector id (Counting count) none h e = h.4 e
+no_vector id (Bodies count end bodies) none h e = h.3 e
+
+payload_one : (p q : Payload) → payload_position p ≡ payload_position q → (at : ℕ) (content : List ℕ) → payload_is p at content → payload_is q at content → payload_told false p ≡ payload_told false q
 payload_one (Custom name) (Custom other) same at content s t = ap Custom (name_one name other at s.front t.front s.back t.back s.first t.first (sym s.parts ∙ t.parts)).value
-payload_one (Custom name) (Vector id count items) same at content s t = absurd (vector_id id 0 t.0 (inl refl) (sym same))
-payload_one (Custom name) (Starting index) same at content s t = absurd (omega arith)
-payload_one (Custom name) (Bodies count end bodies) same at content s t = absurd (omega arith)
-payload_one (Vector id count items) (Custom name) same at content s t = absurd (vector_id id 0 s.0 (inl refl) same)
 payload_one (Vector id count items) (Vector id2 count2 items2) same at content s t =
     let h = items_one id (count, items) (count2, items2) s.1 (subst (λ (z : ℕ). AllOf z items2) (sym same) t.1) at content content [] [] s.2 t.2 refl in
     ap (λ (z : ℕ). Vector z count items) same ∙ ap (λ (z : ℕ × List Item). Vector id2 z.0 z.1) h.value
-payload_one (Vector id count items) (Starting index) same at content s t = absurd (vector_id id 8 s.0 (inr (inl refl)) same)
-payload_one (Vector id count items) (Bodies count2 end bodies) same at content s t = absurd (vector_id id 10 s.0 (inr (inr refl)) same)
-payload_one (Starting index) (Custom name) same at content s t = absurd (omega arith)
-payload_one (Starting index) (Vector id count items) same at content s t = absurd (vector_id id 8 t.0 (inr (inl refl)) (sym same))
 payload_one (Starting index) (Starting index2) same at content s t = ap Starting (u32_one index index2 at content content [] [] s t refl).value
-payload_one (Starting index) (Bodies count end bodies) same at content s t = absurd (omega arith)
-payload_one (Bodies count end bodies) (Custom name) same at content s t = absurd (omega arith)
-payload_one (Bodies count end bodies) (Vector id count2 items) same at content s t = absurd (vector_id id 10 t.0 (inr (inr refl)) (sym same))
-payload_one (Bodies count end bodies) (Starting index) same at content s t = absurd (omega arith)
+payload_one (Counting count) (Counting count2) same at content s t = ap Counting (u32_one count count2 at content content [] [] s t refl).value
 payload_one (Bodies count end bodies) (Bodies count2 end2 bodies2) same at content s t =
-    let h = vector_one body_is body_one (count, bodies) (count2, bodies2) at content content [] [] s.1 t.1 refl in
-    ap (λ (z : ℕ). Bodies count z bodies) (s.0 ∙ sym t.0) ∙ ap (λ (z : ℕ × List Body). Bodies z.0 end2 z.1) h.value
+    let x : ℕ × List Body = (count, map (told_as false) bodies) in
+    let y : ℕ × List Body = (count2, map (told_as false) bodies2) in
+    let h = vector_one told_is body_one x y at content content [] [] (bodies_untold count bodies at content s.1) (bodies_untold count2 bodies2 at content t.1) refl in
+    ap (λ (z : ℕ). Bodies count z x.1) (s.0 ∙ sym t.0) ∙ ap (λ (z : ℕ × List Body). Bodies z.0 end2 z.1) h.value
+payload_one (Vector id count items) q same at content s t = absurd (no_vector id q tt s.0 same)
+payload_one p (Vector id count items) same at content s t = absurd (no_vector id p tt t.0 (sym same))
+payload_one p q same at content s t = absurd (omega (arith, same))
 
-held_one : (m n : ℕ) (p q : Payload) → payload_id p ≡ payload_id q → AreOne {A = ℕ × Payload} (Sized m (payload_is p)) (Sized n (payload_is q)) (m, p) (n, q)
+held_one : (m n : ℕ) (p q : Payload) → payload_id p ≡ payload_id q → AreOne {A = ℕ × Payload} (Sized m (payload_is p)) (Sized n (payload_is q)) (m, payload_told false p) (n, payload_told false q)
 held_one m n p q same at f g b c s t e =
     let h = sized_one m n (payload_is p) (payload_is q) at f g b c s t e in
-    record { value = ap (λ (z : ℕ). (z, p)) h.offset ∙ ap (λ (z : Payload). (n, z)) (payload_one p q same h.place h.content h.first h.second); front = h.front; back = h.back }
+    let position : payload_position p ≡ payload_position q = sym (position_again (payload_position p)) ∙ ap position_of same ∙ position_again (payload_position q) in
+    record {
+      value = ap (λ (z : ℕ). (z, payload_told false p)) h.offset ∙ ap (λ (z : Payload). (n, z)) (payload_one p q position h.place h.content h.first h.second);
+      front = h.front;
+      back = h.back;
+    }
 
-section_one : IsOne section_is
+section_one : (x y : Section) → AreOne (section_is x) (section_is y) (section_told false x) (section_told false y)
 section_one x y =
-    as_one (λ (z : (ℕ × ℕ) × (ℕ × Payload)). record { id = z.0.0; size = z.1.0; payload = z.1.1 }) _ _ ((x.id, payload_id x.payload), (x.size, x.payload)) ((y.id, payload_id y.payload), (y.size, y.payload))
+    as_one (λ (z : (ℕ × ℕ) × (ℕ × Payload)). record { id = z.0.0; size = z.1.0; payload = z.1.1 }) _ _
+    ((x.id, payload_id x.payload), (x.size, payload_told false x.payload)) ((y.id, payload_id y.payload), (y.size, payload_told false y.payload))
     (two_one _ _ _ _ _ _ _ _ (byte_one (x.id, payload_id x.payload) (y.id, payload_id y.payload)) (λ d. held_one x.size y.size x.payload y.payload (ap (λ (z : ℕ × ℕ). z.1) d)))
 
 -- ---- modules
@@ -309,14 +369,46 @@ some_section x xs at f s e =
     let len : length j.front ≡ 1 = ap length j.first.1 in
     omega (arith, ap length e, ap length s.parts, length-append s.front s.back, ap length j.parts, length-append j.front j.back)
 
-sections_one : (xs ys : List Section) (at : ℕ) (f g : List ℕ) → each_is section_is xs at f → each_is section_is ys at g → f ≡ g → xs ≡ ys
+sections_one : (xs ys : List Section) (at : ℕ) (f g : List ℕ) → each_is section_is xs at f → each_is section_is ys at g → f ≡ g → map (section_told false) xs ≡ map (section_told false) ys
 sections_one [] [] at f g s t e = refl
 sections_one [] (y ∷ ys) at f g s t e = absurd (some_section y ys at g t (sym e ∙ s))
 sections_one (x ∷ xs) [] at f g s t e = absurd (some_section x xs at f s (e ∙ t))
 sections_one (x ∷ xs) (y ∷ ys) at f g s t e =
     let h = section_one x y at s.front t.front s.back t.back s.first t.first (sym s.parts ∙ e ∙ t.parts) in
     let rest = sections_one xs ys (at + length s.front) s.back t.back s.second (subst (λ (z : List ℕ). each_is section_is ys (at + length z) t.back) (sym h.front) t.second) h.back in
-    ap (λ (z : Section). z ∷ xs) h.value ∙ ap (λ (z : List Section). y ∷ z) rest
+    ap (λ (z : Section). z ∷ map (section_told false) xs) h.value ∙ ap (λ (z : List Section). section_told false y ∷ z) rest
+
+-- ---- what bodies are told is the module's
+
+items_told : (xs : List Section) → items_in (map (section_told false) xs) ≡ items_in xs
+items_told [] = refl
+items_told (x ∷ xs) = ap (λ (l : List Item). l ++ items_in (map (section_told false) xs)) (of_payload x.payload) ∙ ap (λ (l : List Item). payload_items x.payload ++ l) (items_told xs)
+  where
+    of_payload : (p : Payload) → payload_items (payload_told false p) ≡ payload_items p
+    of_payload (Bodies count end bodies) = ap (λ (n : ℕ). Code (count, n) end ∷ []) (length-map bodies (told_as false))
+    of_payload p = refl
+
+module _ (counted : Bool) where
+  abbrev AreTold : List Body → Type 0
+  AreTold bs = All (λ b. b.counted ≡ counted) bs
+
+  bodies_again : (bs : List Body) → AreTold bs → map (told_as counted) (map (told_as false) bs) ≡ bs
+  bodies_again [] h = refl
+  bodies_again (b ∷ bs) h =
+      ap (λ (z : Bool). record b { counted = z } ∷ map (told_as counted) (map (told_as false) bs)) (sym (All-head (λ b. b.counted ≡ counted) b bs h))
+      ∙ ap (λ (l : List Body). b ∷ l) (bodies_again bs (All-tail (λ b. b.counted ≡ counted) b bs h))
+
+  payload_again : (p : Payload) → AreTold (payload_bodies p) → payload_told counted (payload_told false p) ≡ p
+  payload_again (Bodies count end bodies) h = ap (λ (l : List Body). Bodies count end l) (bodies_again bodies h)
+  payload_again p h = refl
+
+  sections_again : (xs : List Section) → AreTold (bodies_in xs) → map (section_told counted) (map (section_told false) xs) ≡ xs
+  sections_again [] h = refl
+  sections_again (x ∷ xs) h =
+      let here = all_front (λ b. b.counted ≡ counted) (payload_bodies x.payload) (bodies_in xs) h in
+      let rest = all_back (λ b. b.counted ≡ counted) (payload_bodies x.payload) (bodies_in xs) h in
+      ap (λ (p : Payload). record x { payload = p } ∷ map (section_told counted) (map (section_told false) xs)) (payload_again x.payload here)
+      ∙ ap (λ (l : List Section). x ∷ l) (sections_again xs rest)
 
 pub modules_are_one : (bytes : List ℕ) (xs ys : List Section) → Items bytes xs → Items bytes ys → xs ≡ ys
 modules_are_one bytes xs ys m n =
@@ -329,4 +421,8 @@ modules_are_one bytes xs ys m n =
     let second : u.front ≡ v.front = u.first ∙ sym v.first in
     let rest = same_length u.front v.front u.back v.back (ap length second) (sym u.parts ∙ behind.1 ∙ v.parts) in
     let place : 0 + length t.front + length v.front ≡ 0 + length s.front + length u.front = omega (arith, ap length first, ap length second) in
-    sections_one xs ys (0 + length s.front + length u.front) u.back v.back u.second (subst (λ (z : ℕ). each_is section_is ys z v.back) place v.second) rest.1
+    let untold = sections_one xs ys (0 + length s.front + length u.front) u.back v.back u.second (subst (λ (z : ℕ). each_is section_is ys z v.back) place v.second) rest.1 in
+    let items : items_in xs ≡ items_in ys = sym (items_told xs) ∙ ap items_in untold ∙ items_told ys in
+    let counted = is_some (data_count_of (items_in xs)) in
+    let told : All (λ b. b.counted ≡ counted) (bodies_in ys) = subst (λ (l : List Item). All (λ b. b.counted ≡ is_some (data_count_of l)) (bodies_in ys)) (sym items) n.told in
+    sym (sections_again counted xs m.told) ∙ ap (λ (l : List Section). map (section_told counted) l) untold ∙ sections_again counted ys told

@@ -6,7 +6,7 @@ use Rattle.wasm_defs.specs.declared.item.Item.{Item}
 use Rattle.wasm_defs.specs.declared.fault.Kind.TheVariants.{Ended}
 use Rattle.wasm_defs.specs.Fields.{Cursor, Read, Got, Fault, Wants, room_of, fixed}
 use Rattle.wasm_defs.specs.Entries.{Seen, nothing}
-use Rattle.wasm_defs.specs.Outside.{Body, Part, Section, Listed, Coded, Row, row, entered, noted, inside, no_end, Ending, Whole, Refused, Owed, Run, after_part, runs_on, Next, finish, entries, contents, section, owes_code, at_the_end, or_section, sections_up_to, magic, version, preamble, beginning, module_read}
+use Rattle.wasm_defs.specs.Outside.{Body, Part, Section, Listed, Coded, Row, row, entered, noted, inside, no_end, Ending, Whole, Refused, Owed, Run, after_part, runs_on, Next, finish, entries, contents, section, owes, at_the_end, or_section, sections_up_to, magic, version, preamble, beginning, module_read}
 use Rattle.wasm_defs.specs.Faults.{ending_fault, Use, use_of}
 use Rattle.wasm_laws.specs.Order.{end_of, BodyStands, UseStands, behind_use, AreOrdered, first_section}
 use Rattle.wasm_laws.proofs.Steady.{IfGot, Advance, moves_of, StandsIn}
@@ -180,7 +180,7 @@ section_orders len next orders seen c e =
 
 ends_ordered : (len : ℕ) (seen : Seen) (at : ℕ) → at ≤ len → IsOrdered at at len (at_the_end seen)
 ends_ordered len seen at le =
-    elim (cases_Bool (owes_code seen)) [
+    elim (cases_Bool (owes seen)) [
       | inl code ↦ rw code (record { parts = tt; after = le; within = omega arith })
       | inr none ↦ rw none (record { parts = tt; after = le; within = omega arith })
     ]

@@ -1,15 +1,15 @@
 -- What an entry of a section is: an item, or in the code section a body that is in what was taken.
-use Rattle.std.proofs.Common.{◌≡◌, ℕ, ◌+◌, ◌≤◌, ◌<◌, Bool, true, false, cond, ltb, ◌||◌, eqb, List, [], length, Option, None, Some, refl, ap, arith, length-take, inl, inr}
+use Rattle.std.proofs.Common.{◌≡◌, ℕ, ◌+◌, ◌≤◌, ◌<◌, Bool, true, false, cond, ltb, ◌||◌, eqb, List, [], length, Option, None, Some, is_some, refl, ap, arith, length-take, inl, inr}
 use Rattle.std.proofs.lemmas.Bool.{cases_Bool, cases_lt, lt-ltb, le-ltb, or_parts, ltb-false}
 use Rattle.wasm_defs.specs.declared.item.Item.{Item}
 use Rattle.wasm_defs.specs.declared.fault.Kind.TheVariants.{Invalid}
 use Rattle.wasm_defs.specs.Limits.{max_body}
 use Rattle.wasm_defs.specs.Fields.{Cursor, Read, Got, Fault, Wants, Reader, then_go, past, room_of, window, byte, u32, name, room, here, run, agree, fixed, done, refused}
-use Rattle.wasm_defs.specs.Entries.{Seen, index, signature, imported, function, table, memory, global, exported, start, element, code, segment}
+use Rattle.wasm_defs.specs.Entries.{Seen, refused_opcode, index, signature, imported, function, table, memory, global, exported, start, element, code, data_count, passive, segment}
 use Rattle.wasm_defs.specs.Outside.{Body, Part, Section, Listed, Coded, listed, body, entries_of, code_entry, Row, row}
 use Rattle.wasm_defs.specs.Faults.{Use, use_of}
 use Rattle.wasm_laws.specs.Order.{end_of}
-use Rattle.wasm_laws.proofs.Steady.{IfGot, Advance, advance_then, IsMarked}
+use Rattle.wasm_laws.proofs.Steady.{IfGot, always, Advance, advance_then, IsMarked}
 use Rattle.wasm_laws.proofs.Windows.{cut_got, byte_field}
 use Rattle.wasm_laws.proofs.FieldLaws.{u32_field}
 use Rattle.wasm_laws.proofs.Names.{name_field}
@@ -33,6 +33,10 @@ got_map P Q Wants h p = tt
 pub either_got : {A : Type 0} (P : A → Cursor → Type 0) (b : Bool) (p q : Reader A) (c : Cursor) → (b ≡ true → IfGot P (p c)) → (b ≡ false → IfGot P (q c)) → IfGot P (cond b p q c)
 either_got P true p q c hp hq = hp refl
 either_got P false p q c hp hq = hq refl
+
+pub refused_got : {A : Type 0} (P : A → Cursor → Type 0) (b : ℕ × ℕ) (c : Cursor) → IfGot P (refused_opcode b c)
+unfolding refused_opcode
+refused_got P b c = either_got P (eqb b.1 0xFC) _ _ c (λ prefix. then_got (λ n d. Unit {0}) P (u32 c) _ (always (u32 c)) (λ n d t. tt)) (λ no. tt)
 
 pub fixed_got : (bytes : List ℕ) (c : Cursor) → IfGot (λ v d. d.at ≡ c.at + length bytes) (fixed bytes c)
 unfolding fixed
@@ -73,9 +77,9 @@ run_got n c =
       | inr ge ↦ rw (le-ltb (length (window c)) n ge) (omega (arith, length-take n (window c)), refl)
     ]
 
-body_lies : (c : Cursor) → IfGot (PartLies c) (body c)
+body_lies : (counted : Bool) (c : Cursor) → IfGot (PartLies c) (body counted c)
 unfolding body room here
-body_lies c =
+body_lies counted c =
     then_got (IsMarked c) (PartLies c) (u32 c) _ (u32_field.marked c)
     (λ n d q.
     elim (cases_Bool (ltb n.1 2 || ltb (room_of d) n.1)) [
@@ -142,8 +146,12 @@ code_other : (seen : Seen) → Yields IsOther (code seen)
 unfolding code
 code_other seen = search yielding depth 40
 
+data_count_other : (seen : Seen) → Yields IsOther (data_count seen)
+unfolding data_count
+data_count_other seen = search yielding depth 40
+
 segment_other : (seen : Seen) → Yields IsOther (segment seen)
-unfolding segment
+unfolding segment passive
 segment_other seen = search yielding depth 40
 
 index_lies : (most : ℕ) (c : Cursor) → IfGot (IsMarked c) (index most c)
@@ -192,7 +200,7 @@ items_lie : (front : Seen → Reader ℕ) (entry : Seen → Reader Item) → ((s
 items_lie front entry lie = record { entry = λ seen c. listed_lies c (entry seen c) (lie seen c) }
 
 code_lies : (seen : Seen) (c : Cursor) → IfGot (PartLies c) (code_entry seen c)
-code_lies seen c = either_got (PartLies c) seen.counted body (listed (code seen)) c (λ e. body_lies c) (λ e. listed_lies c (code seen c) (others_lie code code_other seen c))
+code_lies seen c = either_got (PartLies c) seen.counted (body (is_some seen.data_count)) (listed (code seen)) c (λ e. body_lies (is_some seen.data_count) c) (λ e. listed_lies c (code seen c) (others_lie code code_other seen c))
 
 pub row_lies : (id : ℕ) → LyingRow (row id)
 row_lies id =
@@ -205,6 +213,7 @@ row_lies id =
     (either_row (eqb id 7) _ _ (items_lie _ _ (others_lie exported exported_other))
     (either_row (eqb id 8) _ _ (items_lie _ _ start_lies)
     (either_row (eqb id 9) _ _ (items_lie _ _ (others_lie element element_other))
-    (either_row (eqb id 10) _ _ (record { entry = code_lies })
-    (either_row (eqb id 11) _ _ (items_lie _ _ (others_lie segment segment_other))
-    (record { entry = λ seen c. listed_lies c _ (start_lies seen c) })))))))))))
+    (either_row (eqb id 10) _ _ (items_lie _ _ (others_lie data_count data_count_other))
+    (either_row (eqb id 11) _ _ (record { entry = code_lies })
+    (either_row (eqb id 12) _ _ (items_lie _ _ (others_lie segment segment_other))
+    (record { entry = λ seen c. listed_lies c _ (start_lies seen c) }))))))))))))

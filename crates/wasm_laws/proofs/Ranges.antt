@@ -1,18 +1,19 @@
 -- The immediates of code are in range.
-use Rattle.std.proofs.Common.{◌≡◌, ℕ, ◌+◌, ◌-◌, ◌*◌, ◌^◌, ◌<◌, ◌≤◌, ◌||◌, ◌==◌, eqb, nat_lt, nat_le, inl, inr, true, false, List, [], ◌∷◌, sym, subst, ap, ◌∙◌, arith, ℤ, pos, zero, suc}
-use Rattle.std.specs.Prelude.{negsuc, neg_ℤ, ◌≤ℤ◌, ◌<ℤ◌, FitsSigned, if◌then◌else◌}
+use Rattle.std.proofs.Common.{Bool, ◌≡◌, ℕ, ◌+◌, ◌-◌, ◌*◌, ◌^◌, ◌<◌, ◌≤◌, ◌||◌, eqb, nat_lt, inl, inr, true, false, List, [], ◌∷◌, sym, subst, ap, ◌∙◌, arith, ℤ, pos, zero, suc}
+use Rattle.std.specs.Prelude.{negsuc, neg_ℤ, ◌≤ℤ◌, ◌<ℤ◌, FitsSigned}
 use Rattle.std.specs.Int.{w32, w64}
-use Rattle.std.proofs.lemmas.Bool.{cases_Bool, cases_lt, lt-ltb, le-ltb}
+use Rattle.std.proofs.lemmas.Bool.{cases_lt, lt-ltb, le-ltb}
 use Rattle.std.proofs.lemmas.Int.{ints}
 use Rattle.std.proofs.lemmas.Nat.{pow_pos, pow-add}
 use Rattle.wasm_defs.proofs.NumberLaws.{AreBytes, reading_small}
 use Rattle.wasm_defs.specs.Numbers.{Reading, Number, CutOff, Bad, last_byte, after_byte, number_at, IsSmall}
 use Rattle.wasm_defs.specs.Faults.{tokens_of}
 use Rattle.wasm_defs.specs.Fields.{Cursor, nat_of, window, room_of, from_reading, number, here, u32, vector, repeated, Read, Got, Fault, Wants}
-use Rattle.wasm_defs.specs.Bodies.{with_index, constant, instruction, body_read, type_by, block_type, with_type, branch_table, label, indirect, with_zero, with_mem_arg, mem_arg, zero_byte}
+use Rattle.wasm_defs.specs.Bodies.{with_index, constant, instruction, body_read, type_by, block_type, with_type, branch_table, label, indirect, with_zero, copying, by_number, prefixed, with_mem_arg, mem_arg, zero_byte, initializing}
 use Rattle.wasm_defs.specs.Trees.{Seq, Nothing, Simple, Block, Loop, If, IfElse, spelled, Tree}
 use Rattle.wasm_defs.specs.declared.token.Plain.{Plain}
-use Rattle.wasm_defs.specs.declared.token.Plain.TheVariants.{LocalGet, LocalSet, LocalTee, Br, BrIf, Call, GlobalGet, GlobalSet, MemorySize, MemoryGrow}
+use Rattle.wasm_defs.specs.declared.token.BulkOp.TheVariants.{Fill}
+use Rattle.wasm_defs.specs.declared.token.Plain.TheVariants.{LocalGet, LocalSet, LocalTee, Br, BrIf, Call, GlobalGet, GlobalSet, MemorySize, MemoryGrow, Bulk, DataDrop}
 use Rattle.wasm_defs.specs.declared.token.Token.{Token}
 use Rattle.wasm_defs.specs.declared.types.ValType.TheVariants.{I32, I64}
 use Rattle.wasm_defs.specs.Values.{unsigned}
@@ -222,8 +223,30 @@ unfolding with_mem_arg
 access_in_range (access.Load op) d fits = then_got (λ m e. (m.align < 2 ^ 32) × (m.offset < 2 ^ 32)) InRange (mem_arg d) _ (mem_arg_got d fits) (λ m e h. h)
 access_in_range (access.Store op) d fits = then_got (λ m e. (m.align < 2 ^ 32) × (m.offset < 2 ^ 32)) InRange (mem_arg d) _ (mem_arg_got d fits) (λ m e h. h)
 
-all_in_range : (d : Cursor) → HasBytes d → Spells InRange d
-all_in_range d fits = record {
+initializing_in_range : (d : Cursor) → HasBytes d → IfGot InRange (initializing d)
+unfolding initializing
+initializing_in_range d fits =
+    then_got (λ i e. i.1 < 2 ^ 32) InRange (u32 d) _ (u32_got d fits) (λ i e lt.
+    then_got (λ x f. Unit {0}) InRange (zero_byte e) _ (always (zero_byte e)) (λ x f u. lt))
+
+copying_in_range : (d : Cursor) → IfGot InRange (copying d)
+unfolding copying
+copying_in_range d =
+    then_got (λ x e. Unit {0}) InRange (zero_byte d) _ (always (zero_byte d)) (λ x e u.
+    then_got (λ x f. Unit {0}) InRange (zero_byte e) _ (always (zero_byte e)) (λ y f u. tt))
+
+prefixed_in_range : (counted : Bool) (at : ℕ) (d : Cursor) → HasBytes d → IfGot InRange (prefixed counted at d)
+unfolding prefixed by_number
+prefixed_in_range counted at d fits =
+    then_got (λ n e. (n.1 < 2 ^ 32) × HasBytes e) InRange (u32 d) _ (index_got d fits) (λ n e h.
+    either_got _ (eqb n.1 8) _ _ e (λ is. either_got _ counted _ _ e (λ yes. initializing_in_range e h.1) (λ no. tt)) (λ no.
+    either_got _ (eqb n.1 9) _ _ e (λ is. either_got _ counted _ _ e (λ yes. index_in_range DataDrop e h.1 (λ i lt. lt)) (λ no. tt)) (λ no.
+    either_got _ (eqb n.1 10) _ _ e (λ is. copying_in_range e) (λ no.
+    either_got _ (eqb n.1 11) _ _ e (λ is. zero_in_range (Bulk Fill) e tt) (λ no.
+    either_got _ (nat_lt n.1 18) _ _ e (λ lt. tt) (λ no. tt))))))
+
+all_in_range : (counted : Bool) (d : Cursor) → HasBytes d → Spells counted InRange d
+all_in_range counted d fits = record {
   unreachables = tt;
   nops = tt;
   blocks = type_in_range token.Block d fits (λ t is. is);
@@ -247,13 +270,14 @@ all_in_range d fits = record {
   accesses_at = λ op. access_in_range op d fits;
   sizes = zero_in_range MemorySize d tt;
   grows = zero_in_range MemoryGrow d tt;
+  prefixes = λ at. prefixed_in_range counted at d fits;
   narrow = narrow_in_range d fits;
   wide = wide_in_range d fits;
   computes = λ op. tt;
 }
 
-pub instruction_in_range : (at b : ℕ) (d : Cursor) → HasBytes d → IfGot InRange (instruction at b d)
-instruction_in_range at b d fits = by_opcode InRange at b d (all_in_range d fits)
+pub instruction_in_range : (counted : Bool) (at b : ℕ) (d : Cursor) → HasBytes d → IfGot InRange (instruction counted at b d)
+instruction_in_range counted at b d fits = by_opcode counted InRange at b d (all_in_range counted d fits)
 
 -- ---- bodies
 
@@ -261,10 +285,10 @@ tokens_in_range : (ts : List (ℕ × Token)) → Each TokenIsInRange ts → Toke
 tokens_in_range [] h = tt
 tokens_in_range (t ∷ ts) h = (h.0, tokens_in_range ts h.1)
 
-pub tokens_are_in_range : (first : ℕ) (bytes : List ℕ) → AreBytes bytes → TokensAreInRange (tokens_of (body_read first bytes).code.tokens)
-tokens_are_in_range first bytes fits =
-    tokens_in_range (body_read first bytes).code.tokens
-    (each_token HasBytes (λ c d p known. bytes_behind p.taken d.rest (subst AreBytes p.parts known)) TokenIsInRange instruction_in_range first bytes fits)
+pub tokens_are_in_range : (counted : Bool) (first : ℕ) (bytes : List ℕ) → AreBytes bytes → TokensAreInRange (tokens_of (body_read counted first bytes).code.tokens)
+tokens_are_in_range counted first bytes fits =
+    tokens_in_range (body_read counted first bytes).code.tokens
+    (each_token HasBytes (λ c d p known. bytes_behind p.taken d.rest (subst AreBytes p.parts known)) TokenIsInRange counted (instruction_in_range counted) first bytes fits)
 
 -- of the tokens that encode a sequence, and those after
 both_in_range : (tree : Seq) (after : List Token) → TokensAreInRange (spelled tree after) → TreeIsInRange tree × TokensAreInRange after
@@ -288,5 +312,5 @@ both_in_range (IfElse type body other rest) after h =
     let more = both_in_range rest after second.1.1 in
     ((h.0, first.0, second.0, more.0), more.1)
 
-pub tree_is_in_range : (first : ℕ) (bytes : List ℕ) (tree : Seq) → AreBytes bytes → Tree (tokens_of (body_read first bytes).code.tokens) tree → TreeIsInRange tree
-tree_is_in_range first bytes tree fits e = (both_in_range tree (token.End ∷ []) (subst TokensAreInRange e (tokens_are_in_range first bytes fits))).0
+pub tree_is_in_range : (counted : Bool) (first : ℕ) (bytes : List ℕ) (tree : Seq) → AreBytes bytes → Tree (tokens_of (body_read counted first bytes).code.tokens) tree → TreeIsInRange tree
+tree_is_in_range counted first bytes tree fits e = (both_in_range tree (token.End ∷ []) (subst TokensAreInRange e (tokens_are_in_range counted first bytes fits))).0

@@ -1,22 +1,23 @@
 -- Sections that keep the rules are read whole, with their parts.
-use Rattle.std.proofs.Common.{◌≡◌, ◌≤◌, ◌<◌, ℕ, suc, ◌+◌, ◌-◌, Bool, true, false, not, ◌&&◌, ltb, leb, eqb, cond, if◌then◌else◌, List, [], ◌∷◌, ◌++◌, length, map, refl, sym, ap, ◌∙◌, append_assoc, add-one, arith, length-append, inl, inr}
+use Rattle.std.proofs.Common.{◌≡◌, ◌≤◌, ◌<◌, ℕ, suc, ◌+◌, ◌-◌, Bool, true, false, is_some, not, ◌&&◌, ltb, leb, eqb, cond, if◌then◌else◌, List, [], ◌∷◌, ◌++◌, length, map, refl, sym, ap, ◌∙◌, append_assoc, add-one, arith, length-append, inl, inr}
 use Rattle.std.specs.List.{All}
 use Rattle.std.proofs.lemmas.Bool.{cases_eq, eq-eqb, ne_eqb, le-ltb, lt-leb}
 use Rattle.std.proofs.lemmas.List.Elements.{All-head, All-tail}
-use Rattle.wasm_defs.specs.declared.fault.Kind.TheVariants.{Malformed, Unsupported, Limit}
+use Rattle.wasm_defs.specs.declared.fault.Kind.TheVariants.{Malformed, Limit}
 use Rattle.wasm_defs.specs.declared.item.Item.{Item}
-use Rattle.wasm_defs.specs.declared.item.Item.TheVariants.{Start, Code}
-use Rattle.wasm_defs.specs.Limits.{max_module, max_body}
+use Rattle.wasm_defs.specs.declared.item.Item.TheVariants.{Start, DataCount, Code}
+use Rattle.wasm_defs.specs.Limits.{max_module, max_entries, max_body}
 use Rattle.wasm_defs.specs.Fields.{Cursor, Read, Got, Reader, then_go, ◌>>=◌, done, refused, u32, here}
 use Rattle.wasm_defs.specs.Entries.{Seen, nothing, note, code}
-use Rattle.wasm_defs.specs.Outside.{Body, Part, Listed, Coded, Nothing, listed, body, code_entry, Row, entries_of, row, is_misplaced, header, noted, no_end, section_end, Run, after_part, runs_on, Next, finish, entries, contents, owes_code}
+use Rattle.wasm_defs.specs.Outside.{Body, Part, Listed, Coded, Nothing, listed, body, code_entry, Row, entries_of, row, position_of, id_of, is_misplaced, header, noted, no_end, section_end, Run, after_part, runs_on, Next, finish, entries, contents, owes_code}
 use Rattle.wasm_defs.specs.Items.{Spelling, Joined, ◌then◌, each_is, u32_is, name_is, body_is, item_is, AllOf, Custom, Vector, Bodies, payload_is}
 use Rattle.wasm_defs.specs.Rules.{AllKeep, all_noted, IsSmall}
 use Rattle.wasm_laws.specs.Sections.{parts_of}
 use Rattle.wasm_laws.proofs.Headers.{Follows}
+use Rattle.wasm_laws.proofs.Positions.{position_again}
 use Rattle.wasm_laws.proofs.Spelt.{cursor, reads_on}
 use Rattle.wasm_laws.proofs.SpeltFields.{byte_spelt, u32_spelt}
-use Rattle.wasm_laws.proofs.SpeltRows.{VectorRow, start_read, custom_read, rest_read, code_read, body_read}
+use Rattle.wasm_laws.proofs.SpeltRows.{VectorRow, IsCounted, start_read, data_count_read, custom_read, rest_read, code_read, body_read}
 
 -- parts before those of a run
 abbrev pub prepend : List Part → Run → Run
@@ -43,10 +44,10 @@ not_misplaced seen id f =
       | inr some ↦ rw (ne_eqb id 0 some, lt-leb id seen.last (f.later some)) refl
     ]
 
-    owed : (eqb id 11 && owes_code seen) ≡ false
-    owed = elim (cases_eq id 11) [
-      | inl data_section ↦ rw (eq-eqb id 11 data_section, f.owed data_section) refl
-      | inr other ↦ rw (ne_eqb id 11 other) refl
+    owed : (eqb id 12 && owes_code seen) ≡ false
+    owed = elim (cases_eq id 12) [
+      | inl data_section ↦ rw (eq-eqb id 12 data_section, f.owed data_section) refl
+      | inr other ↦ rw (ne_eqb id 12 other) refl
     ]
 
 -- a header after its id
@@ -61,14 +62,15 @@ sized_read id size at front back fits s =
 
 -- a header's tests of its id
 abbrev tested : Seen → ℕ × ℕ → Reader (ℕ × ℕ)
-tested seen id = if is_misplaced seen id.1 then refused Malformed id.0 else if eqb id.1 12 then refused Unsupported id.0 else if leb max_module id.0 then refused Limit id.0 else sized id.1
+tested seen id = if is_misplaced seen (position_of id.1) then refused Malformed id.0 else if leb max_module id.0 then refused Limit id.0 else sized (position_of id.1)
 
-pub header_read : (seen : Seen) (id : ℕ) (size : ℕ × ℕ) (at : ℕ) (front back : List ℕ) → Follows seen id → at + 1 + length front + size.1 ≤ max_module → u32_is size (at + 1) front → header seen (cursor at (id ∷ (front ++ back)) no_end) ≡ Got (id, at + 1 + length front + size.1) (cursor (at + 1 + length front) back no_end)
+pub header_read : (seen : Seen) (position : ℕ) (size : ℕ × ℕ) (at : ℕ) (front back : List ℕ) → Follows seen position → at + 1 + length front + size.1 ≤ max_module → u32_is size (at + 1) front
+    → header seen (cursor at (id_of position ∷ (front ++ back)) no_end) ≡ Got (position, at + 1 + length front + size.1) (cursor (at + 1 + length front) back no_end)
 unfolding header
-header_read seen id size at front back follows fits s =
-    let other : eqb id 12 ≡ false = ne_eqb id 12 (λ e. omega (arith, follows.known)) in
+header_read seen position size at front back follows fits s =
+    let id = id_of position in
     ap (λ (z : Read (ℕ × ℕ)). then_go z (tested seen)) ((byte_spelt.complete (at, id) tt).by at no_end (id ∷ []) (front ++ back) (omega arith) (refl, refl))
-    ∙ rw (not_misplaced seen id follows, other, lt-leb max_module at (omega arith)) (sized_read id size (at + 1) front back fits s)
+    ∙ rw (position_again position, not_misplaced seen position follows, lt-leb max_module at (omega arith)) (sized_read position size (at + 1) front back fits s)
 
 -- ---- where a section ends
 
@@ -107,11 +109,11 @@ module _ (id : ℕ) (r : VectorRow id) (next : Next) where
       ∙ ap (λ (z : Read Part). runs_on z (λ y d. after_part y (entries (length xs) (entries_of r.front r.entry) next (noted seen y) d))) first
       ∙ ap (after_part (Listed x)) rest
 
-  pub vector_read : (count : ℕ) (items : List Item) (seen : Seen) (at end : ℕ) (front back : List ℕ) → at + length front ≡ end → payload_is (Vector id count items) at front → IsSmall seen (Vector id count items) → AllKeep seen items
+  pub vector_read : (count : ℕ) (items : List Item) (seen : Seen) (at end : ℕ) (front back : List ℕ) → at + length front ≡ end → payload_is (Vector id count items) at front → IsSmall seen (Vector id count items) → IsCounted id seen (length items) → AllKeep seen items
       → contents (entries_of r.front r.entry) next seen (cursor at (front ++ back) end) ≡ prepend (map Listed items) (next (all_noted seen items) (cursor end back no_end))
-  vector_read count items seen at end front back e s small k =
+  vector_read count items seen at end front back e s small counted k =
       let j = joined_behind (u32_is (count, length items)) (each_is item_is items) at front back s.2 in
-      let first = ((r.few seen).complete (length items) small).by at end j.0 (j.1 ++ back) (omega arith) j.4.1 in
+      let first = ((r.few seen).complete (length items) (small, counted)).by at end j.0 (j.1 ++ back) (omega arith) j.4.1 in
       let rest = items_read items seen (at + length j.0) end j.1 back (omega arith) j.5 k s.1 in
       ap (λ (l : List ℕ). contents (entries_of r.front r.entry) next seen (cursor at l end)) j.2
       ∙ ap (λ (z : Read ℕ). runs_on z (λ n d. entries n (entries_of r.front r.entry) next seen d)) first
@@ -134,27 +136,36 @@ start_read_whole index next seen at end front back e s lt =
     ap (λ (z : Read Part). runs_on z (λ y d. after_part y (finish (row 8) next (noted seen y) d))) ((start_read seen index lt).by at end front back (omega arith) s)
     ∙ ap (after_part (Listed (Start index))) (finish_here (row 8) next seen (at + length front) end [] back (λ c. refl) (omega arith) refl)
 
+-- ---- the data count
+
+pub count_read_whole : (count : ℕ × ℕ) (next : Next) (seen : Seen) (at end : ℕ) (front back : List ℕ) → at + length front ≡ end → u32_is count at front → count.1 ≤ max_entries
+    → contents (row 10) next seen (cursor at (front ++ back) end) ≡ prepend (Listed (DataCount count) ∷ []) (next (note seen (DataCount count)) (cursor end back no_end))
+count_read_whole count next seen at end front back e s le =
+    ap (λ (z : Read Part). runs_on z (λ y d. after_part y (finish (row 10) next (noted seen y) d))) ((data_count_read seen count le).by at end front back (omega arith) s)
+    ∙ ap (after_part (Listed (DataCount count))) (finish_here (row 10) next (note seen (DataCount count)) (at + length front) end [] back (λ c. refl) (omega arith) refl)
+
 -- ---- the code section
 
-bodies_read : (next : Next) (bodies : List Body) (seen : Seen) (at end : ℕ) (front back : List ℕ) → at + length front ≡ end → each_is body_is bodies at front → All (λ b. length b.bytes ≤ max_body) bodies → seen.counted ≡ true
-    → entries (length bodies) (row 10) next seen (cursor at (front ++ back) end) ≡ prepend (map Coded bodies) (next seen (cursor end back no_end))
-bodies_read next [] seen at end front back e s small counted = finish_here (row 10) next seen at end front back (λ c. refl) e s
-bodies_read next (b ∷ bs) seen at end front back e s small counted =
+bodies_read : (next : Next) (bodies : List Body) (seen : Seen) (at end : ℕ) (front back : List ℕ) → at + length front ≡ end → each_is body_is bodies at front → All (λ b. length b.bytes ≤ max_body) bodies → All (λ b. b.counted ≡ is_some seen.data_count) bodies → seen.counted ≡ true
+    → entries (length bodies) (row 11) next seen (cursor at (front ++ back) end) ≡ prepend (map Coded bodies) (next seen (cursor end back no_end))
+bodies_read next [] seen at end front back e s small told counted = finish_here (row 11) next seen at end front back (λ c. refl) e s
+bodies_read next (b ∷ bs) seen at end front back e s small told counted =
     let j = joined_behind (body_is b) (each_is body_is bs) at front back s in
-    let first : code_entry seen (cursor at (j.0 ++ (j.1 ++ back)) end) ≡ Got (Coded b) (cursor (at + length j.0) (j.1 ++ back) end) = ap (λ (b : Bool). cond b body (listed (code seen)) (cursor at (j.0 ++ (j.1 ++ back)) end)) counted ∙ ((body_read b (All-head (λ b. length b.bytes ≤ max_body) b bs small)).by at end j.0 (j.1 ++ back) (omega arith) j.4) in
-    let rest = bodies_read next bs seen (at + length j.0) end j.1 back (omega arith) j.5 (All-tail (λ b. length b.bytes ≤ max_body) b bs small) counted in
-    ap (λ (l : List ℕ). entries (suc (length bs)) (row 10) next seen (cursor at l end)) j.2
-    ∙ ap (λ (z : Read Part). runs_on z (λ y d. after_part y (entries (length bs) (row 10) next (noted seen y) d))) first
+    let first : code_entry seen (cursor at (j.0 ++ (j.1 ++ back)) end) ≡ Got (Coded b) (cursor (at + length j.0) (j.1 ++ back) end) = ap (λ (b : Bool). cond b (body (is_some seen.data_count)) (listed (code seen)) (cursor at (j.0 ++ (j.1 ++ back)) end)) counted
+    ∙ ap (λ (t : Bool). body t (cursor at (j.0 ++ (j.1 ++ back)) end)) (sym (All-head (λ b. b.counted ≡ is_some seen.data_count) b bs told)) ∙ ((body_read b (All-head (λ b. length b.bytes ≤ max_body) b bs small)).by at end j.0 (j.1 ++ back) (omega arith) j.4) in
+    let rest = bodies_read next bs seen (at + length j.0) end j.1 back (omega arith) j.5 (All-tail (λ b. length b.bytes ≤ max_body) b bs small) (All-tail (λ b. b.counted ≡ is_some seen.data_count) b bs told) counted in
+    ap (λ (l : List ℕ). entries (suc (length bs)) (row 11) next seen (cursor at l end)) j.2
+    ∙ ap (λ (z : Read Part). runs_on z (λ y d. after_part y (entries (length bs) (row 11) next (noted seen y) d))) first
     ∙ ap (after_part (Coded b)) rest
 
-pub code_read_whole : (count end : ℕ) (bodies : List Body) (next : Next) (seen : Seen) (at : ℕ) (front back : List ℕ) → payload_is (Bodies count end bodies) at front → All (λ b. length b.bytes ≤ max_body) bodies → seen.counted ≡ false → length bodies ≡ seen.declared
-    → contents (row 10) next seen (cursor at (front ++ back) end) ≡ prepend (parts_of (Bodies count end bodies)) (next (record seen { counted = true }) (cursor end back no_end))
-code_read_whole count end bodies next seen at front back s small uncounted many =
+pub code_read_whole : (count end : ℕ) (bodies : List Body) (next : Next) (seen : Seen) (at : ℕ) (front back : List ℕ) → payload_is (Bodies count end bodies) at front → All (λ b. length b.bytes ≤ max_body) bodies → All (λ b. b.counted ≡ is_some seen.data_count) bodies → seen.counted ≡ false → length bodies ≡ seen.declared
+    → contents (row 11) next seen (cursor at (front ++ back) end) ≡ prepend (parts_of (Bodies count end bodies)) (next (record seen { counted = true }) (cursor end back no_end))
+code_read_whole count end bodies next seen at front back s small told uncounted many =
     let j = joined_behind (u32_is (count, length bodies)) (each_is body_is bodies) at front back s.1 in
     let stop = s.0 in
-    let first : code_entry seen (cursor at (j.0 ++ (j.1 ++ back)) end) ≡ Got (Listed (Code (count, length bodies) end)) (cursor (at + length j.0) (j.1 ++ back) end) = ap (λ (b : Bool). cond b body (listed (code seen)) (cursor at (j.0 ++ (j.1 ++ back)) end)) uncounted ∙ code_read seen (count, length bodies) many at end j.0 (j.1 ++ back) (omega arith) j.4 in
-    let rest = bodies_read next bodies (record seen { counted = true }) (at + length j.0) end j.1 back (omega arith) j.5 small refl in
-    ap (λ (l : List ℕ). contents (row 10) next seen (cursor at l end)) j.2
-    ∙ ap (λ (n : ℕ). entries n (row 10) next seen (cursor at (j.0 ++ (j.1 ++ back)) end)) (add-one seen.declared ∙ ap suc (sym many))
-    ∙ ap (λ (z : Read Part). runs_on z (λ y d. after_part y (entries (length bodies) (row 10) next (noted seen y) d))) first
+    let first : code_entry seen (cursor at (j.0 ++ (j.1 ++ back)) end) ≡ Got (Listed (Code (count, length bodies) end)) (cursor (at + length j.0) (j.1 ++ back) end) = ap (λ (b : Bool). cond b (body (is_some seen.data_count)) (listed (code seen)) (cursor at (j.0 ++ (j.1 ++ back)) end)) uncounted ∙ code_read seen (count, length bodies) many at end j.0 (j.1 ++ back) (omega arith) j.4 in
+    let rest = bodies_read next bodies (record seen { counted = true }) (at + length j.0) end j.1 back (omega arith) j.5 small told refl in
+    ap (λ (l : List ℕ). contents (row 11) next seen (cursor at l end)) j.2
+    ∙ ap (λ (n : ℕ). entries n (row 11) next seen (cursor at (j.0 ++ (j.1 ++ back)) end)) (add-one seen.declared ∙ ap suc (sym many))
+    ∙ ap (λ (z : Read Part). runs_on z (λ y d. after_part y (entries (length bodies) (row 11) next (noted seen y) d))) first
     ∙ ap (after_part (Listed (Code (count, length bodies) end))) rest

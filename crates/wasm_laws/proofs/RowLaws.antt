@@ -8,8 +8,8 @@ use Rattle.wasm_defs.specs.Outside.{Nothing, listed, entries_of, code_entry, Row
 pub use Rattle.wasm_laws.specs.Steadiness.{SteadyRow, Leaves, SteadyEnd}
 use Rattle.wasm_laws.proofs.Steady.{with_more, Extends, got, faulty, owed, StandsIn, IsDecided, Steady, bind, either, done_steady}
 use Rattle.wasm_laws.proofs.Windows.{stands_here}
-use Rattle.wasm_laws.proofs.EntryLaws.{signature_steady, imported_steady, function_steady, table_steady, memory_steady, global_steady, exported_steady, start_steady, element_steady, code_steady, segment_steady, body_steady, rest_steady, number_of_steady, at_most_one_steady, function_count_steady, custom_name_steady}
-use Rattle.wasm_laws.proofs.Takes.{Takes, listed_takes, code_entry_takes, signature_takes, imported_takes, function_takes, table_takes, memory_takes, global_takes, exported_takes, start_takes, element_takes, segment_takes}
+use Rattle.wasm_laws.proofs.EntryLaws.{signature_steady, imported_steady, function_steady, table_steady, memory_steady, global_steady, exported_steady, start_steady, element_steady, code_steady, data_count_steady, segment_steady, body_steady, rest_steady, number_of_steady, at_most_one_steady, function_count_steady, segment_count_steady, custom_name_steady}
+use Rattle.wasm_laws.proofs.Takes.{Takes, listed_takes, code_entry_takes, signature_takes, imported_takes, function_takes, table_takes, memory_takes, global_takes, exported_takes, start_takes, element_takes, data_count_takes, segment_takes}
 
 -- ---- rows
 
@@ -17,7 +17,7 @@ pub listed_steady : (marks : List ℕ) (p : Reader Item) → Steady marks p → 
 listed_steady marks p h = bind marks p _ h (λ x. done_steady marks _)
 
 pub code_entry_steady : (marks : List ℕ) (seen : Seen) → Steady marks (code_entry seen)
-code_entry_steady marks seen = either marks _ _ _ (body_steady marks) (listed_steady marks _ (code_steady marks seen))
+code_entry_steady marks seen = either marks _ _ _ (body_steady marks _) (listed_steady marks _ (code_steady marks seen))
 
 entries_steady : (front : Seen → Reader ℕ) (entry : Seen → Reader Item) → ((seen : Seen) → Steady [] (front seen)) → ((seen : Seen) → Steady [] (entry seen)) → ((seen : Seen) → Takes (entry seen)) → SteadyRow (entries_of front entry)
 entries_steady front entry hf he ht = record { front = hf; entry = λ s. listed_steady [] _ (he s); back = done_steady [] tt; takes = λ s. listed_takes _ (ht s) }
@@ -37,9 +37,10 @@ row_steady id =
     (either_row (eqb id 7) _ _ (entries_steady _ _ (λ s. number_of_steady [] _) (exported_steady []) exported_takes)
     (either_row (eqb id 8) _ _ (entries_steady _ _ (λ s. done_steady [] 1) (start_steady []) start_takes)
     (either_row (eqb id 9) _ _ (entries_steady _ _ (λ s. number_of_steady [] _) (element_steady []) element_takes)
-    (either_row (eqb id 10) _ _ (record { front = λ s. done_steady [] _; entry = code_entry_steady []; back = done_steady [] tt; takes = code_entry_takes })
-    (either_row (eqb id 11) _ _ (entries_steady _ _ (λ s. number_of_steady [] _) (segment_steady []) segment_takes)
-    (record { front = λ s. custom_name_steady []; entry = λ s. listed_steady [] _ (start_steady [] s); back = rest_steady []; takes = λ s. listed_takes _ (start_takes s) })))))))))))
+    (either_row (eqb id 10) _ _ (entries_steady _ _ (λ s. done_steady [] 1) (data_count_steady []) data_count_takes)
+    (either_row (eqb id 11) _ _ (record { front = λ s. done_steady [] _; entry = code_entry_steady []; back = done_steady [] tt; takes = code_entry_takes })
+    (either_row (eqb id 12) _ _ (entries_steady _ _ (segment_count_steady []) (segment_steady []) segment_takes)
+    (record { front = λ s. custom_name_steady []; entry = λ s. listed_steady [] _ (start_steady [] s); back = rest_steady []; takes = λ s. listed_takes _ (start_takes s) }))))))))))))
 
 -- ---- where a section ends
 

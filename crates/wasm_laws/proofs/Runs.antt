@@ -3,7 +3,7 @@ use Rattle.std.proofs.Common.{◌≡◌, ℕ, zero, suc, ◌+◌, ◌-◌, ◌�
 use Rattle.std.proofs.lemmas.Bool.{cases_Bool, cases_eq}
 use Rattle.wasm_defs.specs.Fields.{Cursor, Read, Got, Fault, Wants}
 use Rattle.wasm_defs.specs.Entries.{Seen, nothing}
-use Rattle.wasm_defs.specs.Outside.{Part, Section, Nothing, Row, row, header, entered, noted, inside, Ending, Whole, Refused, Owed, Run, after_part, runs_on, Next, finish, entries, contents, section, owes_code, at_the_end, or_section, sections_up_to, sections, beginning, module_read}
+use Rattle.wasm_defs.specs.Outside.{Part, Section, Nothing, Row, row, header, entered, noted, inside, Ending, Whole, Refused, Owed, Run, after_part, runs_on, Next, finish, entries, contents, section, position_of, owes, at_the_end, or_section, sections_up_to, sections, beginning, module_read}
 use Rattle.wasm_laws.specs.Runs.{Becomes, GoesOn}
 use Rattle.wasm_laws.proofs.Steady.{with_more, Extends, got, faulty, owed, Advances, moves_of}
 use Rattle.wasm_laws.proofs.EntryLaws.{header_steady, preamble_steady}
@@ -41,7 +41,7 @@ section_goes next goes seen c more = runs_extend more _ _ _ ((header_steady [] s
 
 end_becomes : (seen : Seen) (later : Run) → GoesOn (at_the_end seen) later
 end_becomes seen later =
-    elim (cases_Bool (owes_code seen)) [
+    elim (cases_Bool (owes seen)) [
       | inl code ↦ rw code (later.parts, refl)
       | inr none ↦ rw none (later.parts, refl)
     ]
@@ -50,7 +50,7 @@ or_goes : (next : Next) → SteadyNext next → (seen : Seen) (c : Cursor) (more
 or_goes next goes seen c more [] = end_becomes seen _
 or_goes next goes seen c more (b ∷ rest) =
     let r = section next seen c in
-    after_becomes (Section c.at b) r.parts r.ending (section next seen (with_more c more)) (section_goes next goes seen c more)
+    after_becomes (Section c.at (position_of b)) r.parts r.ending (section next seen (with_more c more)) (section_goes next goes seen c more)
 
 pub up_to_goes : (n : ℕ) → SteadyNext (sections_up_to n)
 unfolding sections_up_to
@@ -103,7 +103,7 @@ section_same most f g seen c same h = runs_same most _ _ _ (fewer (header seen c
 
 or_same : (most : ℕ) (f g : Next) (seen : Seen) (c : Cursor) (rest : List ℕ) → Same most f g → length c.rest ≤ suc most → or_section f seen c rest ≡ or_section g seen c rest
 or_same most f g seen c [] same h = refl
-or_same most f g seen c (b ∷ rest) same h = ap (after_part (Section c.at b)) (section_same most f g seen c same h)
+or_same most f g seen c (b ∷ rest) same h = ap (after_part (Section c.at (position_of b))) (section_same most f g seen c same h)
 
 no_bytes : (f g : Next) (seen : Seen) (c : Cursor) (rest : List ℕ) → length rest ≤ 0 → or_section f seen c rest ≡ or_section g seen c rest
 no_bytes f g seen c [] h = refl

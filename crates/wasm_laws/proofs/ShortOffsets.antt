@@ -6,7 +6,7 @@ use Rattle.wasm_defs.specs.declared.token.Token.{Token}
 use Rattle.wasm_defs.specs.Bodies.{body_read, last_of}
 use Rattle.wasm_defs.specs.Outside.{Part, Listed, Coded, module_read}
 use Rattle.wasm_defs.specs.Outside as outside
-use Rattle.wasm_defs.specs.Items.{item_is, each_is, Payload, Custom, Vector, Starting, Bodies, payload_is, payload_items, Section, section_is, items_in}
+use Rattle.wasm_defs.specs.Items.{item_is, each_is, Payload, Custom, Vector, Starting, Counting, Bodies, payload_is, payload_items, Section, section_is, items_in}
 use Rattle.wasm_defs.specs.Faults.{Module, IsModule, bodies_of, offsets_of, use_of}
 use Rattle.wasm_laws.specs.BodyOrder.{AreRising, stop_of}
 use Rattle.wasm_laws.specs.Order.{end_of, behind_use, AreOrdered, first_section}
@@ -40,6 +40,7 @@ module _ (most : ℕ) (small : most < 2 ^ 32) where
       let listed = s.2 in
       items_short items (at + length listed.front) listed.back (omega (arith, le, ap length listed.parts, length-append listed.front listed.back)) listed.second
   payload_short (Starting index) at bytes le s = tt
+  payload_short (Counting count) at bytes le s = tt
   payload_short (Bodies count end bodies) at bytes le s = tt
 
   sections_short : (xs : List Section) (at : ℕ) (bytes : List ℕ) → at + length bytes ≤ most → each_is section_is xs at bytes → AreShortImports (items_in xs)
@@ -67,8 +68,8 @@ module _ (most : ℕ) (small : most < 2 ^ 32) where
       let stands = h.0 in
       let before = stands.before in
       let least = stands.least in
-      let spelled = body_is_ordered b.first b.bytes (omega arith) in
-      let code = (body_read b.first b.bytes).code in
+      let spelled = body_is_ordered b.counted b.first b.bytes (omega arith) in
+      let code = (body_read b.counted b.first b.bytes).code in
       let stop = spelled.within in (
         omega (arith, before, le, small),
         rising_short b.first (stop_of (last_of b.first b.bytes) code.fault) (omega (arith, stop, before, le)) code.tokens spelled.tokens,

@@ -1,12 +1,12 @@
 -- Items are in the sections of their sort, in order, and the code section ends with its bodies.
-use Rattle.std.proofs.Common.{◌≡◌, ◌≢◌, ℕ, zero, suc, ◌+◌, ◌≤◌, ◌<◌, ◌⊎◌, true, false, cond, eqb, leb, ltb, List, [], ◌∷◌, length, take, max, refl, sym, subst, ◌∙◌, arith, add-one, inl, inr}
+use Rattle.std.proofs.Common.{◌≡◌, ◌≢◌, ℕ, zero, suc, ◌+◌, ◌≤◌, ◌<◌, ◌⊎◌, true, false, is_some, cond, eqb, leb, ltb, List, [], ◌∷◌, length, take, max, refl, ap, sym, subst, ◌∙◌, arith, add-one, inl, inr}
 use Rattle.std.proofs.lemmas.Bool.{cases_Bool, cases_eq, eqb-true, eqb-false, ne_eqb}
 use Rattle.wasm_defs.specs.declared.item.Item.{Item}
 use Rattle.wasm_defs.specs.declared.item.Item.TheVariants.{Code}
 use Rattle.wasm_defs.specs.Fields.{Cursor, Read, Got, Fault, Wants, Reader, window, room_of, first_of, byte, u32, here, name}
-use Rattle.wasm_defs.specs.Entries.{Seen, nothing, note, signature, imported, function, table, memory, global, exported, start, element, code, segment}
+use Rattle.wasm_defs.specs.Entries.{Seen, nothing, note, signature, imported, function, table, memory, global, exported, start, element, code, data_count, passive, segment}
 use Rattle.wasm_defs.specs.Limits.{max_module}
-use Rattle.wasm_defs.specs.Outside.{Part, Section, Listed, Coded, listed, body, custom_name, entries_of, code_entry, Row, row, is_misplaced, header, entered, noted, inside, section_end, Run, after_part, runs_on, Next, finish, entries, contents, section, owes_code, at_the_end, or_section, sections_up_to, preamble, beginning, module_read}
+use Rattle.wasm_defs.specs.Outside.{Part, Section, Listed, Coded, listed, body, custom_name, entries_of, code_entry, Row, row, is_misplaced, header, entered, noted, inside, section_end, Run, after_part, runs_on, Next, finish, entries, contents, section, position_of, owes, at_the_end, or_section, sections_up_to, preamble, beginning, module_read}
 use Rattle.wasm_defs.specs.Items.{section_of}
 use Rattle.wasm_laws.proofs.Steady.{IfGot, always}
 use Rattle.wasm_laws.proofs.Windows.{cut_got}
@@ -15,13 +15,13 @@ use Rattle.wasm_laws.proofs.Parts.{then_got, got_both, got_map, either_got}
 use Rattle.wasm_laws.proofs.Headers.{Follows, header_tells}
 use Rattle.wasm_laws.proofs.Lasts.{note_counted}
 
--- parts in a section of that id, after sections whose ids are up to before: an item is in a section of its sort, after none
+-- parts in a section of that position, after sections whose positions are up to before: an item is in a section of its sort, after none
 -- of a later sort, and after no body
 abbrev pub AreSorted : ℕ → ℕ → List Part → Type 0
 AreSorted before id [] = Unit {0}
 AreSorted before id (Section at next ∷ parts) = AreSorted (max before id) next parts
 AreSorted before id (Listed x ∷ parts) = (section_of x ≡ id) × (before < id) × AreSorted before id parts
-AreSorted before id (Coded b ∷ parts) = (id ≡ 10) × (before ≤ 10) × AreSorted 10 10 parts
+AreSorted before id (Coded b ∷ parts) = (id ≡ 11) × (before ≤ 11) × AreSorted 11 11 parts
 
 -- ---- items of a section
 
@@ -64,12 +64,16 @@ element_sort : (seen : Seen) → Yields (IsOf 9) (element seen)
 unfolding element
 element_sort seen = search yielding depth 40
 
-pub code_sort : (seen : Seen) → Yields (IsOf 10) (code seen)
+pub code_sort : (seen : Seen) → Yields (IsOf 11) (code seen)
 unfolding code
 code_sort seen = search yielding depth 40
 
-segment_sort : (seen : Seen) → Yields (IsOf 11) (segment seen)
-unfolding segment
+pub data_count_sort : (seen : Seen) → Yields (IsOf 10) (data_count seen)
+unfolding data_count
+data_count_sort seen = search yielding depth 40
+
+pub segment_sort : (seen : Seen) → Yields (IsOf 12) (segment seen)
+unfolding segment passive
 segment_sort seen = search yielding depth 40
 
 -- ---- rows
@@ -88,7 +92,7 @@ either_row id k p q hp hq = by (cases_Bool (eqb id k))
     by (inr e) = rw e (hq (eqb-false id k e))
 
 -- a section that is neither custom nor of code holds items of its sort
-pub row_is_sorted : (id : ℕ) → id < 12 → id ≢ 0 → id ≢ 10 → SortedRow id (row id)
+pub row_is_sorted : (id : ℕ) → id < 13 → id ≢ 0 → id ≢ 11 → SortedRow id (row id)
 row_is_sorted id known not_custom not_code =
     either_row id 1 _ _ (sorted_items id 1 _ _ signature_sort) (λ n1.
     either_row id 2 _ _ (sorted_items id 2 _ _ imported_sort) (λ n2.
@@ -99,9 +103,10 @@ row_is_sorted id known not_custom not_code =
     either_row id 7 _ _ (sorted_items id 7 _ _ exported_sort) (λ n7.
     either_row id 8 _ _ (sorted_items id 8 _ _ start_sort) (λ n8.
     either_row id 9 _ _ (sorted_items id 9 _ _ element_sort) (λ n9.
-    either_row id 10 _ _ (λ e. absurd (not_code e)) (λ n10.
-    either_row id 11 _ _ (sorted_items id 11 _ _ segment_sort) (λ n11.
-    absurd (omega arith))))))))))))
+    either_row id 10 _ _ (sorted_items id 10 _ _ data_count_sort) (λ n10.
+    either_row id 11 _ _ (λ e. absurd (not_code e)) (λ n11.
+    either_row id 12 _ _ (sorted_items id 12 _ _ segment_sort) (λ n12.
+    absurd (omega arith)))))))))))))
 
 pub no_entries : (c : Cursor) → IfGot (λ n d. n ≡ 0) (custom_name c)
 unfolding custom_name
@@ -120,7 +125,7 @@ runs_sorted P before id Wants f p h = record { parts = tt }
 -- between two sections, or in one: no bodies were counted before the code section
 record Stays (seen : Seen) (before id : ℕ) : Type 0 where
   last : max before id ≡ seen.last
-  uncounted : seen.last < 10 → seen.counted ≡ false
+  uncounted : seen.last < 11 → seen.counted ≡ false
 
 abbrev Sorts : Next → Type 0
 Sorts next = (seen : Seen) (c : Cursor) (before id : ℕ) → Stays seen before id → Sorted before id (next seen c)
@@ -131,7 +136,7 @@ finish_sorted r next sorts seen c before id h =
 
 -- ---- sections of items
 
-module _ (id : ℕ) (r : Row) (sorted : SortedRow id r) (other : id ≢ 10) (next : Next) (sorts : Sorts next) where
+module _ (id : ℕ) (r : Row) (sorted : SortedRow id r) (other : id ≢ 11) (next : Next) (sorts : Sorts next) where
   item_sorted : (before : ℕ) (f : Next) → ((s : Seen) (d : Cursor) → Stays s before id → Sorted before id (f s d)) → (seen : Seen) (d : Cursor) (x : Part) → before < id → Stays seen before id → IsItem (IsOf id) x → Sorted before id (after_part x (f (noted seen x) d))
   item_sorted before f h seen d (Section at k) lt s p = absurd p
   item_sorted before f h seen d (Listed x) lt s p =
@@ -159,18 +164,18 @@ custom_sorted next sorts seen c before s =
 -- ---- the code section
 
 module _ (next : Next) (sorts : Sorts next) where
-  body_sorted : (before : ℕ) (f : Next) (seen : Seen) (d : Cursor) (x : Part) → before ≤ 10 → Sorted 10 10 (f seen d) → IsBody x → Sorted before 10 (after_part x (f (noted seen x) d))
+  body_sorted : (before : ℕ) (f : Next) (seen : Seen) (d : Cursor) (x : Part) → before ≤ 11 → Sorted 11 11 (f seen d) → IsBody x → Sorted before 11 (after_part x (f (noted seen x) d))
   body_sorted before f seen d (Section at k) le h p = absurd p
   body_sorted before f seen d (Listed x) le h p = absurd p
   body_sorted before f seen d (Coded b) le h p = record { parts = (refl, le, h.parts) }
 
-  bodies_sorted : (n : ℕ) (seen : Seen) (c : Cursor) (before : ℕ) → before ≤ 10 → seen.last ≡ 10 → seen.counted ≡ true → Sorted before 10 (entries n (row 10) next seen c)
-  bodies_sorted zero seen c before le last counted = finish_sorted (row 10) next sorts seen c before 10 (record { last = omega arith; uncounted = λ lt. absurd (omega arith) })
+  bodies_sorted : (n : ℕ) (seen : Seen) (c : Cursor) (before : ℕ) → before ≤ 11 → seen.last ≡ 11 → seen.counted ≡ true → Sorted before 11 (entries n (row 11) next seen c)
+  bodies_sorted zero seen c before le last counted = finish_sorted (row 11) next sorts seen c before 11 (record { last = omega arith; uncounted = λ lt. absurd (omega arith) })
   bodies_sorted (suc n) seen c before le last counted =
-      runs_sorted (λ x d. IsBody x) before 10 (code_entry seen c) _ (either_got (λ x d. IsBody x) seen.counted body (listed (code seen)) c (λ e. body_yields.got c) (λ e. absurd cc))
-      (λ x d p. body_sorted before (entries n (row 10) next) seen d x le (bodies_sorted n seen d 10 (omega arith) last counted) p)
+      runs_sorted (λ x d. IsBody x) before 11 (code_entry seen c) _ (either_got (λ x d. IsBody x) seen.counted (body (is_some seen.data_count)) (listed (code seen)) c (λ e. (body_yields (is_some seen.data_count)).got c) (λ e. absurd cc))
+      (λ x d p. body_sorted before (entries n (row 11) next) seen d x le (bodies_sorted n seen d 11 (omega arith) last counted) p)
 
-  count_sorted : (seen : Seen) (d : Cursor) (before : ℕ) (x : Part) → before < 10 → seen.last ≡ 10 → IsItem (IsOf 10) x → Sorted before 10 (after_part x (entries seen.declared (row 10) next (noted seen x) d))
+  count_sorted : (seen : Seen) (d : Cursor) (before : ℕ) (x : Part) → before < 11 → seen.last ≡ 11 → IsItem (IsOf 11) x → Sorted before 11 (after_part x (entries seen.declared (row 11) next (noted seen x) d))
   count_sorted seen d before (Section at k) lt last p = absurd p
   count_sorted seen d before (Listed (Code count end)) lt last p =
       let later = bodies_sorted seen.declared (record seen { counted = true }) d before (omega arith) last refl in
@@ -178,12 +183,12 @@ module _ (next : Next) (sorts : Sorts next) where
   count_sorted seen d before (Listed x) lt last p = absurd (omega arith)
   count_sorted seen d before (Coded b) lt last p = absurd p
 
-  code_sorted : (seen : Seen) (c : Cursor) (before : ℕ) → before < 10 → seen.last ≡ 10 → seen.counted ≡ false → Sorted before 10 (contents (row 10) next seen c)
+  code_sorted : (seen : Seen) (c : Cursor) (before : ℕ) → before < 11 → seen.last ≡ 11 → seen.counted ≡ false → Sorted before 11 (contents (row 11) next seen c)
   code_sorted seen c before lt last uncounted =
-      rw add-one (runs_sorted (λ x d. IsItem (IsOf 10) x) before 10 (code_entry seen c) _ (either_got (λ x d. IsItem (IsOf 10) x) seen.counted body (listed (code seen)) c (λ e. absurd cc) (λ e. (listed_yields (IsOf 10) (code seen) (code_sort seen)).got c))
+      rw add-one (runs_sorted (λ x d. IsItem (IsOf 11) x) before 11 (code_entry seen c) _ (either_got (λ x d. IsItem (IsOf 11) x) seen.counted (body (is_some seen.data_count)) (listed (code seen)) c (λ e. absurd cc) (λ e. (listed_yields (IsOf 11) (code seen) (code_sort seen)).got c))
       (λ x d p. count_sorted seen d before x lt last p))
 
--- ---- the id of a section is its first byte
+-- ---- the first byte of a section tells its position
 
 abbrev BeginsWith : ℕ → List ℕ → Type 0
 BeginsWith b [] = ⊥
@@ -202,37 +207,43 @@ byte_begins : (c : Cursor) → IfGot (λ b d. BeginsWith b.1 c.rest) (byte c)
 unfolding byte
 byte_begins c = got_map (λ b d. BeginsWith b.1 (window c)) (λ b d. BeginsWith b.1 c.rest) (first_of c (window c)) (λ b d h. begins_so (room_of c) b.1 c.rest h) (first_begins c (window c))
 
-header_begins : (seen : Seen) (c : Cursor) → IfGot (λ h d. BeginsWith h.0 c.rest) (header seen c)
+-- a position is that of the first byte
+abbrev BeginsAt : ℕ → List ℕ → Type 0
+BeginsAt position [] = ⊥
+BeginsAt position (x ∷ xs) = position ≡ position_of x
+
+begins_at : (b : ℕ) (xs : List ℕ) → BeginsWith b xs → BeginsAt (position_of b) xs
+begins_at b [] h = h
+begins_at b (x ∷ xs) h = ap position_of h
+
+header_begins : (seen : Seen) (c : Cursor) → IfGot (λ h d. BeginsAt h.0 c.rest) (header seen c)
 unfolding header here
 header_begins seen c =
-    then_got (λ b d. BeginsWith b.1 c.rest) (λ h d. BeginsWith h.0 c.rest) (byte c) _ (byte_begins c)
+    then_got (λ b d. BeginsWith b.1 c.rest) (λ h d. BeginsAt h.0 c.rest) (byte c) _ (byte_begins c)
     (λ b d t.
-    elim (cases_Bool (is_misplaced seen b.1)) [
+    elim (cases_Bool (is_misplaced seen (position_of b.1))) [
       | inl wrong ↦ rw wrong tt
-      | inr right ↦ rw right (elim (cases_Bool (eqb b.1 12)) [
-        | inl left_out ↦ rw left_out tt
-        | inr known ↦ rw known (elim (cases_Bool (leb max_module b.0)) [
-          | inl late ↦ rw late tt
-          | inr early ↦ rw early (then_got (λ n e. Unit {0}) (λ h e. BeginsWith h.0 c.rest) (u32 d) _ (always (u32 d))
-              (λ n e u.
-              elim (cases_Bool (ltb max_module (e.at + n.1))) [
-                | inl over ↦ rw over tt
-                | inr fits ↦ rw fits t
-              ]))
-        ])
+      | inr right ↦ rw right (elim (cases_Bool (leb max_module b.0)) [
+        | inl late ↦ rw late tt
+        | inr early ↦ rw early (then_got (λ n e. Unit {0}) (λ h e. BeginsAt h.0 c.rest) (u32 d) _ (always (u32 d))
+            (λ n e u.
+            elim (cases_Bool (ltb max_module (e.at + n.1))) [
+              | inl over ↦ rw over tt
+              | inr fits ↦ rw fits (begins_at b.1 c.rest t)
+            ]))
       ])
     ])
 
 -- ---- sections
 
 -- the section of that id, after what was read
-id_sorted : (next : Next) → Sorts next → (seen : Seen) (d : Cursor) (before id : ℕ) → Follows seen id → before ≡ seen.last → (seen.last < 10 → seen.counted ≡ false) → Sorted before id (contents (row id) next (entered seen id) d)
+id_sorted : (next : Next) → Sorts next → (seen : Seen) (d : Cursor) (before id : ℕ) → Follows seen id → before ≡ seen.last → (seen.last < 11 → seen.counted ≡ false) → Sorted before id (contents (row id) next (entered seen id) d)
 id_sorted next sorts seen d before id f e uncounted =
     elim (cases_eq id 0) [
       | inl custom ↦ at_id 0 custom (custom_sorted next sorts seen d before (record { last = omega arith; uncounted = uncounted }))
       | inr some ↦
-          elim (cases_eq id 10) [
-            | inl is_code ↦ at_id 10 is_code (code_sorted next sorts (record seen { last = 10 }) d before (omega (arith, f.later some)) refl (uncounted (omega (arith, f.later some))))
+          elim (cases_eq id 11) [
+            | inl is_code ↦ at_id 11 is_code (code_sorted next sorts (record seen { last = 11 }) d before (omega (arith, f.later some)) refl (uncounted (omega (arith, f.later some))))
             | inr other ↦
                 let t : Seen = record seen { last = id } in
                 let same : entered seen id ≡ t = rw (ne_eqb id 0 some) refl in
@@ -244,16 +255,16 @@ id_sorted next sorts seen d before id f e uncounted =
     at_id : (k : ℕ) → id ≡ k → Sorted before k (contents (row k) next (entered seen k) d) → Sorted before id (contents (row id) next (entered seen id) d)
     at_id k e h = subst (λ (n : ℕ). Sorted before n (contents (row n) next (entered seen n) d)) (sym e) h
 
-section_sorted : (next : Next) → Sorts next → (seen : Seen) (c : Cursor) (before id b : ℕ) (rest : List ℕ) → c.rest ≡ b ∷ rest → Stays seen before id → Sorted (max before id) b (section next seen c)
+section_sorted : (next : Next) → Sorts next → (seen : Seen) (c : Cursor) (before id b : ℕ) (rest : List ℕ) → c.rest ≡ b ∷ rest → Stays seen before id → Sorted (max before id) (position_of b) (section next seen c)
 section_sorted next sorts seen c before id b rest e s =
-    runs_sorted (λ h d. Follows seen h.0 × BeginsWith h.0 c.rest) (max before id) b (header seen c) _ (got_both (λ h d. Follows seen h.0) (λ h d. BeginsWith h.0 c.rest) (header seen c) (header_tells seen c) (header_begins seen c))
+    runs_sorted (λ h d. Follows seen h.0 × BeginsAt h.0 c.rest) (max before id) (position_of b) (header seen c) _ (got_both (λ h d. Follows seen h.0) (λ h d. BeginsAt h.0 c.rest) (header seen c) (header_tells seen c) (header_begins seen c))
     (λ h d p.
-    let same : h.0 ≡ b = subst (λ (l : List ℕ). BeginsWith h.0 l) e p.1 in
+    let same : h.0 ≡ position_of b = subst (λ (l : List ℕ). BeginsAt h.0 l) e p.1 in
     subst (λ (n : ℕ). Sorted (max before id) n (contents (row h.0) next (entered seen h.0) (inside d h.1))) same
     (id_sorted next sorts seen (inside d h.1) (max before id) h.0 p.0 s.last s.uncounted))
 
 ends_sorted : (seen : Seen) (before id : ℕ) → Sorted before id (at_the_end seen)
-ends_sorted seen before id = elim (cases_Bool (owes_code seen)) [ inl code ↦ rw code (record { parts = tt }) | inr none ↦ rw none (record { parts = tt }) ]
+ends_sorted seen before id = elim (cases_Bool (owes seen)) [ inl code ↦ rw code (record { parts = tt }) | inr none ↦ rw none (record { parts = tt }) ]
 
 or_sorted : (next : Next) → Sorts next → (seen : Seen) (c : Cursor) (before id : ℕ) (rest : List ℕ) → c.rest ≡ rest → Stays seen before id → Sorted before id (or_section next seen c rest)
 or_sorted next sorts seen c before id [] e s = ends_sorted seen before id

@@ -3,9 +3,9 @@ use Rattle.std.proofs.Common.{◌≡◌, ◌≢◌, ℕ, ◌+◌, Bool, true, fa
 use Rattle.std.proofs.lemmas.Bool.{eqb-true}
 use Rattle.wasm_defs.specs.declared.fault.Kind.{Kind}
 use Rattle.wasm_defs.specs.declared.item.Item.{Item}
-use Rattle.wasm_defs.specs.declared.item.Item.TheVariants.{Signature, Imported, Function, Table, Memory, Global, Exported, Start, Element, Code, Segment}
+use Rattle.wasm_defs.specs.declared.item.Item.TheVariants.{Signature, Function, Code}
 use Rattle.wasm_defs.specs.Fields.{Cursor, Read, Got, Fault, Wants, Reader, then_go, ◌>>=◌, done, refused}
-use Rattle.wasm_defs.specs.Entries.{Seen, note, signature, imported, function, table, memory, global, exported, start, element, code, segment}
+use Rattle.wasm_defs.specs.Entries.{Seen, note, signature, imported, function, table, memory, global, exported, start, element, code, data_count, passive, segment}
 use Rattle.wasm_defs.specs.Outside.{Part, Section, Listed, Coded, listed, body, entries_of, Row, row}
 use Rattle.wasm_defs.specs.Context.{declared_count}
 use Rattle.wasm_laws.proofs.Steady.{IfGot}
@@ -14,17 +14,9 @@ use Rattle.wasm_laws.proofs.Steady.{IfGot}
 
 -- all but declared functions and the code section's count
 abbrev pub IsPlain : Item → Type 0
-IsPlain (Signature form params results ty) = Unit {0}
-IsPlain (Imported from what kind type_index) = Unit {0}
 IsPlain (Function type_index) = ⊥
-IsPlain (Table element limits) = Unit {0}
-IsPlain (Memory limits) = Unit {0}
-IsPlain (Global ty mutable init) = Unit {0}
-IsPlain (Exported label kind index) = Unit {0}
-IsPlain (Start index) = Unit {0}
-IsPlain (Element table place functions) = Unit {0}
 IsPlain (Code count end) = ⊥
-IsPlain (Segment memory place bytes) = Unit {0}
+IsPlain _ = Unit {0}
 
 -- a function
 abbrev pub IsFunction : Item → Type 0
@@ -93,8 +85,12 @@ element_yields : (seen : Seen) → Yields IsPlain (element seen)
 unfolding element
 element_yields seen = search yielding depth 40
 
+data_count_yields : (seen : Seen) → Yields IsPlain (data_count seen)
+unfolding data_count
+data_count_yields seen = search yielding depth 40
+
 segment_yields : (seen : Seen) → Yields IsPlain (segment seen)
-unfolding segment
+unfolding segment passive
 segment_yields seen = search yielding depth 40
 
 pub function_yields : (seen : Seen) → Yields IsFunction (function seen)
@@ -126,9 +122,9 @@ listed_on P Wants h = tt
 pub listed_yields : (P : Item → Type 0) (p : Reader Item) → Yields P p → Yields (IsItem P) (listed p)
 listed_yields P p h = record { got = λ c. listed_on P (p c) (h.got c) }
 
-pub body_yields : Yields IsBody body
+pub body_yields : (counted : Bool) → Yields IsBody (body counted)
 unfolding body
-body_yields = search yielding depth 40
+body_yields counted = search yielding depth 40
 
 -- ---- rows
 
@@ -143,7 +139,7 @@ either_row true p q hp hq = hp refl
 either_row false p q hp hq = hq
 
 -- all sections but those of functions and code
-pub row_is_plain : (id : ℕ) → id ≢ 3 → id ≢ 10 → PlainRow (row id)
+pub row_is_plain : (id : ℕ) → id ≢ 3 → id ≢ 11 → PlainRow (row id)
 row_is_plain id not_functions not_code =
     either_row (eqb id 1) _ _ (λ e. plain_items _ _ signature_yields)
     (either_row (eqb id 2) _ _ (λ e. plain_items _ _ imported_yields)
@@ -154,9 +150,10 @@ row_is_plain id not_functions not_code =
     (either_row (eqb id 7) _ _ (λ e. plain_items _ _ exported_yields)
     (either_row (eqb id 8) _ _ (λ e. plain_items _ _ start_yields)
     (either_row (eqb id 9) _ _ (λ e. plain_items _ _ element_yields)
-    (either_row (eqb id 10) _ _ (λ e. absurd (not_code (eqb-true id 10 e)))
-    (either_row (eqb id 11) _ _ (λ e. plain_items _ _ segment_yields)
-    (record { entry = λ s. listed_yields IsPlain (start s) (start_yields s) })))))))))))
+    (either_row (eqb id 10) _ _ (λ e. plain_items _ _ data_count_yields)
+    (either_row (eqb id 11) _ _ (λ e. absurd (not_code (eqb-true id 11 e)))
+    (either_row (eqb id 12) _ _ (λ e. plain_items _ _ segment_yields)
+    (record { entry = λ s. listed_yields IsPlain (start s) (start_yields s) }))))))))))))
 
 -- ---- what items add to the counts
 
@@ -170,27 +167,10 @@ pub record Notes (s : Seen) (x : Item) : Type 0 where
   pub last : (note s x).last ≡ s.last
 
 pub notes : (s : Seen) (x : Item) → Notes s x
-notes s (Signature form params results ty) = record { declared = omega arith; last = refl }
-notes s (Imported from what kind type_index) = record { declared = omega arith; last = refl }
 notes s (Function type_index) = record { declared = omega arith; last = refl }
-notes s (Table element limits) = record { declared = omega arith; last = refl }
-notes s (Memory limits) = record { declared = omega arith; last = refl }
-notes s (Global ty mutable init) = record { declared = omega arith; last = refl }
-notes s (Exported label kind index) = record { declared = omega arith; last = refl }
-notes s (Start index) = record { declared = omega arith; last = refl }
-notes s (Element table place functions) = record { declared = omega arith; last = refl }
-notes s (Code count end) = record { declared = omega arith; last = refl }
-notes s (Segment memory place bytes) = record { declared = omega arith; last = refl }
+notes s p = record { declared = omega arith; last = refl }
 
 pub plain_keeps : (s : Seen) (x : Item) → IsPlain x → (declared_count (x ∷ []) ≡ 0) × ((note s x).counted ≡ s.counted)
-plain_keeps s (Signature form params results ty) h = (refl, refl)
-plain_keeps s (Imported from what kind type_index) h = (refl, refl)
 plain_keeps s (Function type_index) h = absurd h
-plain_keeps s (Table element limits) h = (refl, refl)
-plain_keeps s (Memory limits) h = (refl, refl)
-plain_keeps s (Global ty mutable init) h = (refl, refl)
-plain_keeps s (Exported label kind index) h = (refl, refl)
-plain_keeps s (Start index) h = (refl, refl)
-plain_keeps s (Element table place functions) h = (refl, refl)
 plain_keeps s (Code count end) h = absurd h
-plain_keeps s (Segment memory place bytes) h = (refl, refl)
+plain_keeps s p h = (refl, refl)

@@ -1,11 +1,12 @@
 -- Tables, memories and globals keep to their limits.
 use Rattle.std.proofs.Common.{◌≡◌, ℕ, ◌+◌, ◌≤◌, List, [], ◌∷◌, length, Option, None, Some, refl, arith}
 use Rattle.wasm_defs.specs.declared.item.Item.{Item}
-use Rattle.wasm_defs.specs.declared.item.Item.TheVariants.{Table, Memory, Global}
-use Rattle.wasm_defs.specs.Context.{functions_of}
+use Rattle.wasm_defs.specs.declared.item.Item.TheVariants.{Table, Memory, Global, DataCount}
+use Rattle.wasm_defs.specs.Context.{functions_of, data_count_of}
+use Rattle.wasm_defs.specs.Entries.{or_zero}
 use Rattle.wasm_defs.specs.Faults.{items_of}
 use Rattle.wasm_defs.specs.Instances.{rows_of, pages_of, cap_of, values_of, capped}
-use Rattle.wasm_defs.specs.Limits.{max_table, max_pages}
+use Rattle.wasm_defs.specs.Limits.{max_entries, max_table, max_pages}
 use Rattle.wasm_defs.specs.Outside.{module_read}
 use Rattle.wasm_laws.specs.Kept.{SpacesAreSmall}
 use Rattle.wasm_laws.proofs.Kept.{AreKept, items_are_kept}
@@ -39,6 +40,11 @@ values_counted [] = refl
 values_counted (Global ty mutable init ∷ xs) = omega (arith, values_counted xs)
 values_counted (x ∷ xs) = values_counted xs
 
+kept_segments : (functions : ℕ) (items : List Item) → AreKept functions items → or_zero (data_count_of items) ≤ max_entries
+kept_segments functions [] h = omega arith
+kept_segments functions (DataCount count ∷ xs) h = h.0
+kept_segments functions (x ∷ xs) h = kept_segments (functions + length (functions_of (x ∷ []))) xs h.1
+
 pub spaces_are_small : (bytes : List ℕ) → SpacesAreSmall (items_of (module_read bytes).parts)
 spaces_are_small bytes =
     let items = items_of (module_read bytes).parts in
@@ -48,4 +54,5 @@ spaces_are_small bytes =
       pages = kept_pages 0 items kept;
       cap = cap_is_small items;
       globals = omega (arith, values_counted items, entries_are_few 6 (λ ten. absurd cc) bytes);
+      segments = kept_segments 0 items kept;
     }

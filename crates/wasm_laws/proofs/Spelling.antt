@@ -1,5 +1,5 @@
 -- The offsets of a body's tokens, and of the error that stops its reading.
-use Rattle.std.proofs.Common.{◌≡◌, ◌≤◌, ◌<◌, ℕ, zero, suc, ◌+◌, ◌⊎◌, inl, inr, List, [], ◌∷◌, length, None, Some, refl, ap, arith, leb}
+use Rattle.std.proofs.Common.{◌≡◌, ◌≤◌, ◌<◌, ℕ, zero, suc, ◌+◌, Bool, ◌⊎◌, inl, inr, List, [], ◌∷◌, length, None, Some, refl, ap, arith, leb}
 use Rattle.std.proofs.lemmas.Bool.{leb-true}
 use Rattle.std.proofs.lemmas.Bool.{cases_Bool}
 use Rattle.wasm_defs.specs.declared.fault.Kind.TheVariants.{Malformed}
@@ -77,22 +77,23 @@ cut_places high last c f o =
       | inr short ↦ rw short (missing c.at high last)
     ]
 
-opcode_places : (high last : ℕ) (c : Cursor) (w : List ℕ) (k : Token → Cursor → Spelled) → IsOpen high c → window c ≡ w → ((t : Token) (e : Cursor) → IsOpen high e → Places e.at high last (k t e))
-    → Places c.at high last (goes_on last (first_of c w) (λ b d. goes_on last (instruction b.0 b.1 d) (λ t e. after_token b.0 t (k t e))))
-opcode_places high last c [] k o is h = cut_places high last c _ o
-opcode_places high last c (b ∷ w) k o is h =
+opcode_places : (counted : Bool) (high last : ℕ) (c : Cursor) (w : List ℕ) (k : Token → Cursor → Spelled) → IsOpen high c → window c ≡ w → ((t : Token) (e : Cursor) → IsOpen high e → Places e.at high last (k t e))
+    → Places c.at high last (goes_on last (first_of c w) (λ b d. goes_on last (instruction counted b.0 b.1 d) (λ t e. after_token b.0 t (k t e))))
+opcode_places counted high last c [] k o is h = cut_places high last c _ o
+opcode_places counted high last c (b ∷ w) k o is h =
     let d = past c 1 in
     let short = window_short c in
     let some : 1 ≤ length (window c) = omega (arith, ap length is) in
     let lt : c.at < high = omega (arith, o.high_is, short.0) in
     let here = open_later high c d (past_advance c 1 some) o in
-    let s = instruction_steady (c.at ∷ []) c.at b here_in in
-    goes_on_places c.at high last d (instruction c.at b d) _ here (s.moves d) (s.place c.at d (omega arith) (omega arith, omega arith, tt))
+    let s = instruction_steady (c.at ∷ []) counted c.at b here_in in
+    goes_on_places c.at high last d (instruction counted c.at b d) _ here (s.moves d) (s.place c.at d (omega arith) (omega arith, omega arith, tt))
     (λ t e p. with_token c.at high last t _ lt (places_lower c.at e.at high last (k t e) (omega (arith, p.at)) (h t e (open_later high d e p here))))
 
-pub spelled_places : (n depth high last : ℕ) (c : Cursor) → IsOpen high c → Places c.at high last (spelled_from n depth last c)
+pub spelled_places : (counted : Bool) (n depth high last : ℕ) (c : Cursor) → IsOpen high c → Places c.at high last (spelled_from counted n depth last c)
 unfolding spelled_from byte
-spelled_places zero depth high last c o = missing c.at high last
-spelled_places (suc n) zero high last c o = closed_at high last c c.rest refl o.high_is
-spelled_places (suc n) (suc depth) high last c o =
-    opcode_places high last c (window c) (λ t e. spelled_from n (depth_after t (suc depth)) last e) o refl (λ t e p. spelled_places n (depth_after t (suc depth)) high last e p)
+spelled_places counted zero depth high last c o = missing c.at high last
+spelled_places counted (suc n) zero high last c o = closed_at high last c c.rest refl o.high_is
+spelled_places counted (suc n) (suc depth) high last c o =
+    opcode_places counted high last c (window c) (λ t e. spelled_from counted n (depth_after t (suc depth)) last e) o refl
+    (λ t e p. spelled_places counted n (depth_after t (suc depth)) high last e p)

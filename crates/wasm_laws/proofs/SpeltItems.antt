@@ -1,20 +1,21 @@
 -- Items are read as they are encoded, and keep their rules.
-use Rattle.std.proofs.Common.{◌≡◌, ◌≤◌, ◌<◌, ℕ, ltb, eqb, List, length, is_some, refl, arith}
+use Rattle.std.proofs.Common.{◌≡◌, ◌≢◌, ◌≤◌, ◌<◌, ℕ, ltb, eqb, List, length, Option, Some, None, is_some, subst, refl, arith}
 use Rattle.std.specs.List.{All}
 use Rattle.std.specs.FinMap as map
-use Rattle.std.proofs.lemmas.Bool.{ltb-false, eqb-true}
+use Rattle.std.proofs.lemmas.Bool.{ltb-false, ltb-true, lt-ltb, eqb-true, eqb-false}
 use Rattle.wasm_defs.specs.declared.fault.Kind.TheVariants.{Malformed, Unsupported, Invalid}
 use Rattle.wasm_defs.specs.declared.types.ValType.{ValType}
 use Rattle.wasm_defs.specs.declared.types.ValType.TheVariants.{I32}
 use Rattle.wasm_defs.specs.declared.item.Item.{Item}
-use Rattle.wasm_defs.specs.declared.item.Item.TheVariants.{Signature, Imported, Function, Table, Memory, Global, Exported, Element, Segment}
+use Rattle.wasm_defs.specs.declared.item.Item.TheVariants.{Signature, Imported, Function, Table, Memory, Global, Exported, Element, Passive, Segment}
 use Rattle.wasm_defs.specs.Limits.{max_params, max_results, max_table, max_pages, top_pages, top_rows}
-use Rattle.wasm_defs.specs.Fields.{Cursor, Reader, byte, u32, count, vector, counted_bytes, name}
-use Rattle.wasm_defs.specs.Entries.{Seen, space, index, value_type, listed_type, limits, constant, signature, imported, function, table, memory, mutability, global, extern_kind, exported, sole, listed_index, element, segment}
+use Rattle.wasm_defs.specs.Fields.{Cursor, Reader, ◌>>=◌, done, byte, u32, count, vector, counted_bytes, name}
+use Rattle.wasm_defs.specs.Entries.{Seen, space, index, value_type, listed_type, limits, constant, signature, imported, function, table, memory, mutability, global, extern_kind, exported, sole, listed_index, element, memory_of, passive, segment}
 use Rattle.wasm_defs.specs.Items.{u32_is, vector_is, listed_type_is, listed_index_is, limits_are, item_is, section_of}
-use Rattle.wasm_defs.specs.Rules.{Keeps}
+use Rattle.wasm_defs.specs.Rules.{IsSole, Keeps}
 use Rattle.wasm_laws.proofs.Steady.{IfGot}
-use Rattle.wasm_laws.proofs.Spelt.{Ready, Found, found_then, found_as, read, unless, provided, Reads, reads_then, reads_on, reads_else, Spelt}
+use Rattle.wasm_laws.proofs.Spelt.{Ready, Found, later, found_then, found_as, read, unless, provided, Reads, reads_then, reads_on, reads_last, reads_else, Spelt}
+use Rattle.wasm_laws.proofs.Parts.{then_got, either_got}
 use Rattle.wasm_laws.proofs.SpeltFields.{Always, byte_spelt, u32_spelt}
 use Rattle.wasm_laws.proofs.SpeltLists.{vector_spelt, counted_bytes_spelt}
 use Rattle.wasm_laws.proofs.SpeltNames.{name_spelt}
@@ -205,21 +206,75 @@ element_read seen x k = absurd (omega (arith, k.1))
 pub element_spelt : SpeltEntry 9 element
 element_spelt seen = record { sound = element_found seen; complete = element_read seen }
 
-segment_found : (seen : Seen) (c : Cursor) → Ready c → IfGot (λ x d. Found (item_is x) (Belongs 11 seen x) c d) (segment seen c)
+-- a form that was found to be another
+form_as : (form : ℕ × ℕ) (n : ℕ) (K : Type 0) (c d : Cursor) → form.1 ≡ n → Found (u32_is form) K c d → Found (u32_is (form.0, n)) K c d
+form_as form n K c d e found = subst (λ (k : ℕ). Found (u32_is (form.0, k)) K c d) e found
+
+passive_found : (seen : Seen) (form : ℕ × ℕ) (K : Type 0) (c d : Cursor) → Ready d → form.1 ≡ 1 → Found (u32_is form) K c d → IfGot (λ x e. Found (item_is x) (Belongs 12 seen x) c e) (passive form.0 d)
+unfolding passive
+passive_found seen form K c d ready one form_found =
+    read _ _ counted_bytes _ _ d counted_bytes_spelt ready (λ bytes e bytes_found ready. found_then _ c d e (form_as form 1 K c d one form_found) bytes_found (tt, refl))
+
+-- an active segment after its form and its memory
+abbrev active : ℕ → Option (ℕ × ℕ) → Reader Item
+active form m = constant I32 >>= (λ place. counted_bytes >>= (λ bytes. done (Segment form m place bytes)))
+
+-- what an active segment's form tells of its memory
+abbrev FormTells : Seen → ℕ × ℕ → Cursor → Option (ℕ × ℕ) → Cursor → Type 0
+FormTells seen form d None e = (form.1 ≡ 0) × (d ≡ e) × (0 < seen.memories)
+FormTells seen form d (Some i) e = (form.1 ≡ 2) × Found (u32_is i) (IsSole i seen.memories) d e
+
+memory_found_by : (seen : Seen) (form : ℕ × ℕ) (d : Cursor) → Ready d → form.1 ≤ 2 → form.1 ≢ 1 → IfGot (FormTells seen form d) (memory_of seen form d)
+unfolding memory_of
+memory_found_by seen form d ready low active =
+    either_got _ (eqb form.1 2) _ _ d
+    (λ two. read _ _ (sole seen.memories) _ _ d (sole_spelt seen.memories) ready (λ i e found ready. (eqb-true form.1 2 two, found_as (u32_is i) _ d e found (λ at bytes s. s) found.kept.1)))
+    (λ no. either_got _ (ltb 0 seen.memories) _ _ d (λ some. (omega (arith, eqb-false form.1 2 no), refl, ltb-true 0 seen.memories some)) (λ none. tt))
+
+active_found : (seen : Seen) (form : ℕ × ℕ) (K : Type 0) (c d : Cursor) → Ready d → form.1 ≤ 2 → form.1 ≢ 1 → Found (u32_is form) K c d
+    → IfGot (λ x e. Found (item_is x) (Belongs 12 seen x) c e) ((memory_of seen form >>= active form.0) d)
+active_found seen form K c d ready low is form_found =
+    then_got (FormTells seen form d) (λ x e. Found (item_is x) (Belongs 12 seen x) c e) (memory_of seen form d) _ (memory_found_by seen form d ready low is) (λ m e tells. by m e tells)
+  where
+    by : (m : Option (ℕ × ℕ)) (e : Cursor) → FormTells seen form d m e → IfGot (λ x e. Found (item_is x) (Belongs 12 seen x) c e) (active form.0 m e)
+    by None e t =
+        subst (λ (z : Cursor). IfGot (λ x e. Found (item_is x) (Belongs 12 seen x) c e) (active form.0 None z)) t.1
+        (read _ _ (constant I32) _ _ d (constant_spelt I32) ready (λ place f place_found ready.
+        read _ _ counted_bytes _ _ f counted_bytes_spelt ready (λ bytes g bytes_found ready.
+        found_then _ c d g (form_as form 0 K c d t.0 form_found) (found_then (Unit {0}) d f g place_found bytes_found tt) (t.2, refl))))
+    by (Some i) e t =
+        read _ _ (constant I32) _ _ e (constant_spelt I32) (later d e t.1 ready) (λ place f place_found ready.
+        read _ _ counted_bytes _ _ f counted_bytes_spelt ready (λ bytes g bytes_found ready.
+        found_then _ c d g (form_as form 2 K c d t.0 form_found) (found_then (Unit {0}) d e g t.1 (found_then (Unit {0}) e f g place_found bytes_found tt) tt) (t.1.kept, refl)))
+
+segment_found : (seen : Seen) (c : Cursor) → Ready c → IfGot (λ x d. Found (item_is x) (Belongs 12 seen x) c d) (segment seen c)
 unfolding segment
 segment_found seen c ready =
-    read _ _ (sole seen.memories) _ _ c (sole_spelt seen.memories) ready (λ i d i_found ready.
-    read _ _ (constant I32) _ _ d (constant_spelt I32) ready (λ place e place_found ready.
-    read _ _ counted_bytes _ _ e counted_bytes_spelt ready (λ bytes f bytes_found ready.
-    found_then _ c d f i_found (found_then (Unit {0}) d e f place_found bytes_found tt) (i_found.kept.1, refl))))
+    read _ _ u32 _ _ c u32_spelt ready (λ form d form_found ready.
+    unless _ (ltb 2 form.1) Malformed form.0 _ d (λ known.
+    either_got _ (eqb form.1 1) _ _ d
+    (λ one. passive_found seen form _ c d ready (eqb-true form.1 1 one) form_found)
+    (λ other. active_found seen form _ c d ready (ltb-false 2 form.1 known) (eqb-false form.1 1 other) form_found)))
 
-segment_read : (seen : Seen) (x : Item) → Belongs 11 seen x → Reads (segment seen) x (item_is x)
-unfolding segment
-segment_read seen (Segment i place bytes) k =
-    reads_then (sole seen.memories) _ i _ _ _ ((sole_spelt seen.memories).complete i (tt, k.0))
+named_read : (seen : Seen) (form : ℕ) (i : ℕ × ℕ) → IsSole i seen.memories → Reads (memory_of seen (form, 2)) (Some i) (u32_is i)
+unfolding memory_of
+named_read seen form i k = reads_last (sole seen.memories) Some i (u32_is i) ((sole_spelt seen.memories).complete i (tt, k))
+
+segment_read : (seen : Seen) (x : Item) → Belongs 12 seen x → Reads (segment seen) x (item_is x)
+unfolding segment passive memory_of
+segment_read seen (Passive form bytes) k =
+    reads_then u32 _ (form, 1) _ _ _ (u32_spelt.complete (form, 1) tt)
+    (reads_on counted_bytes _ bytes _ _ (counted_bytes_spelt.complete bytes tt) (λ c. refl))
+segment_read seen (Segment form None place bytes) k =
+    reads_then u32 _ (form, 0) _ _ _ (u32_spelt.complete (form, 0) tt)
+    (rw (lt-ltb 0 seen.memories k.0) (reads_then (constant I32) _ place _ _ _ ((constant_spelt I32).complete place tt)
+    (reads_on counted_bytes _ bytes _ _ (counted_bytes_spelt.complete bytes tt) (λ c. refl))))
+segment_read seen (Segment form (Some i) place bytes) k =
+    reads_then u32 _ (form, 2) _ _ _ (u32_spelt.complete (form, 2) tt)
+    (reads_then (memory_of seen (form, 2)) _ (Some i) _ _ _ (named_read seen form i k.0)
     (reads_then (constant I32) _ place _ _ _ ((constant_spelt I32).complete place tt)
-    (reads_on counted_bytes _ bytes _ _ (counted_bytes_spelt.complete bytes tt) (λ c. refl)))
+    (reads_on counted_bytes _ bytes _ _ (counted_bytes_spelt.complete bytes tt) (λ c. refl))))
 segment_read seen x k = absurd (omega (arith, k.1))
 
-pub segment_spelt : SpeltEntry 11 segment
+pub segment_spelt : SpeltEntry 12 segment
 segment_spelt seen = record { sound = segment_found seen; complete = segment_read seen }

@@ -16,7 +16,7 @@ use Rattle.wasm_laws.proofs.Steady.{IfGot}
 use Rattle.wasm_laws.proofs.Spelt.{Ready, Found, found_then, found_as, read, unless, provided, Reads, reads_then, reads_on, reads_if, reads_else, Spelt}
 use Rattle.wasm_laws.proofs.SpeltFields.{Always, byte_spelt, number_spelt, u32_spelt}
 use Rattle.wasm_laws.proofs.SpeltLists.{checked_spelt}
-use Rattle.wasm_laws.proofs.Parts.{either_got}
+use Rattle.wasm_laws.proofs.Parts.{either_got, refused_got}
 
 -- ---- numbers with a rule
 
@@ -176,13 +176,17 @@ constant_found : (ty : ValType) (c : Cursor) → Ready c → IfGot (λ x d. Foun
 unfolding constant
 constant_found ty c ready =
     read _ _ byte _ _ c byte_spelt ready (λ opcode d opcode_found ready.
-    provided _ (eqb opcode.1 (const_opcode ty)) _ opcode.0 _ d (λ right.
+    either_got _ (eqb opcode.1 (const_opcode ty)) _ _ d
+    (λ right.
     read _ _ (number true (bits_of ty)) _ _ d (number_spelt true (bits_of ty)) ready (λ value e value_found ready.
     read _ _ byte _ _ e byte_spelt ready (λ end f end_found ready.
-    provided _ (eqb end.1 0x0B) _ end.0 _ f (λ closed.
+    either_got _ (eqb end.1 0x0B) _ _ f
+    (λ closed.
     found_then (Unit {0}) c d f (byte_as opcode.0 opcode.1 (const_opcode ty) _ c d (eqb-true opcode.1 (const_opcode ty) right) opcode_found)
     (found_then (Unit {0}) d e f value_found (byte_as end.0 end.1 0x0B _ e f (eqb-true end.1 0x0B closed) end_found) tt)
-    tt)))))
+    tt)
+    (λ another. refused_got _ end f))))
+    (λ other. refused_got _ opcode d))
 
 constant_read : (ty : ValType) (x : Constant) → Reads (constant ty) x (constant_is ty x)
 unfolding constant

@@ -1,8 +1,8 @@
 -- Each entry of a section takes a byte at least, and so does a section.
 use Rattle.std.proofs.Common.{ℕ, ◌<◌, Bool, true, false, cond, [], ◌∷◌, length, arith}
 use Rattle.wasm_defs.specs.declared.item.Item.{Item}
-use Rattle.wasm_defs.specs.Fields.{Cursor, Read, Got, Fault, Wants, Reader, then_go, ◌>>=◌}
-use Rattle.wasm_defs.specs.Entries.{Seen, index, value_type, limits, signature, imported, function, table, memory, global, exported, start, sole, element, code, segment}
+use Rattle.wasm_defs.specs.Fields.{Cursor, Read, Got, Fault, Wants, Reader, then_go, ◌>>=◌, count}
+use Rattle.wasm_defs.specs.Entries.{Seen, index, value_type, limits, signature, imported, function, table, memory, global, exported, start, sole, element, code, data_count, segment}
 use Rattle.wasm_defs.specs.Outside.{listed, code_entry, body, header}
 pub use Rattle.wasm_laws.specs.Steadiness.{LeavesFewer, Takes}
 use Rattle.wasm_laws.proofs.Steady.{Advances, moves_of, Steady, IfGot, IsMarked, Field, done_steady}
@@ -97,13 +97,17 @@ pub code_takes : (seen : Seen) → Takes (code seen)
 unfolding code
 code_takes seen = search firsts depth 40
 
+pub data_count_takes : (seen : Seen) → Takes (data_count seen)
+unfolding data_count count
+data_count_takes seen = search firsts depth 40
+
 pub segment_takes : (seen : Seen) → Takes (segment seen)
 unfolding segment
 segment_takes seen = search firsts depth 40
 
-pub body_takes : Takes body
+pub body_takes : (counted : Bool) → Takes (body counted)
 unfolding body
-body_takes = search firsts depth 40
+body_takes counted = search firsts depth 40
 
 pub header_takes : (seen : Seen) → Takes (header seen)
 unfolding header
@@ -113,4 +117,4 @@ pub listed_takes : (p : Reader Item) → Takes p → Takes (listed p)
 listed_takes p h = from_taking p _ h (λ x. done_steady [] _)
 
 pub code_entry_takes : (seen : Seen) → Takes (code_entry seen)
-code_entry_takes seen = either_takes _ _ _ body_takes (listed_takes _ (code_takes seen))
+code_entry_takes seen = either_takes _ _ _ (body_takes _) (listed_takes _ (code_takes seen))

@@ -9,7 +9,7 @@ use Rattle.wasm_defs.specs.declared.item.Item.{Item}
 use Rattle.wasm_defs.specs.declared.item.Item.TheVariants.{Signature, Imported, Function}
 use Rattle.wasm_defs.specs.declared.types.FuncType.{FuncType}
 use Rattle.wasm_defs.specs.Fields.{Cursor, Reader, ◌>>=◌, done, refused, u32}
-use Rattle.wasm_defs.specs.Entries.{Seen, note, index, signature, imported, function, table, memory, global, exported, start, element, code, segment}
+use Rattle.wasm_defs.specs.Entries.{Seen, note, index, signature, imported, function, table, memory, global, exported, start, element, code, data_count, passive, segment}
 use Rattle.wasm_defs.specs.Outside.{Part, Section, Listed, Coded, entered, module_read}
 use Rattle.wasm_defs.specs.Context.{types_of, functions_of, import_count, declared_count, context_of}
 use Rattle.wasm_defs.specs.Faults.{items_of}
@@ -113,8 +113,12 @@ code_indexes : Indexes code
 unfolding code
 code_indexes seen = search yielding depth 40
 
+data_count_indexes : Indexes data_count
+unfolding data_count
+data_count_indexes seen = search yielding depth 40
+
 segment_indexes : Indexes segment
-unfolding segment
+unfolding segment passive
 segment_indexes seen = search yielding depth 40
 
 -- ---- modules
@@ -138,6 +142,7 @@ all_indexes = record {
   starts = start_indexes;
   elements = element_indexes;
   codes = code_indexes;
+  data_counts = data_count_indexes;
   segments = segment_indexes;
 }
 

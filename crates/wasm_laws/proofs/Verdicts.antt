@@ -31,22 +31,22 @@ code_fault_once c code r s (inr f) (inr g) = some_once code.fault r s f.is g.is
 
 -- ---- a body's error is in the body
 
-read_places : (first : ℕ) (bytes : List ℕ) (x : Read (List Group)) → 1 ≤ length bytes → Advances (body_cursor first bytes) x → StandsIn first (body_cursor first bytes) x
-    → Places first (first + length bytes) (last_of first bytes) (read_code (last_of first bytes) x (length bytes + 1)).code
-read_places first bytes (Got gs d) some p q =
+read_places : (counted : Bool) (first : ℕ) (bytes : List ℕ) (x : Read (List Group)) → 1 ≤ length bytes → Advances (body_cursor first bytes) x → StandsIn first (body_cursor first bytes) x
+    → Places first (first + length bytes) (last_of first bytes) (read_code counted (last_of first bytes) x (length bytes + 1)).code
+read_places counted first bytes (Got gs d) some p q =
     let high = first + length bytes in
     let last = last_of first bytes in
     let begin : IsOpen high (body_cursor first bytes) = record { far = omega arith; high_is = refl } in
-    places_lower first d.at high last _ (omega (arith, p.at)) (spelled_places (length bytes + 1) 1 high last d (open_later high (body_cursor first bytes) d p begin))
-read_places first bytes (Fault r) some p q =
+    places_lower first d.at high last _ (omega (arith, p.at)) (spelled_places counted (length bytes + 1) 1 high last d (open_later high (body_cursor first bytes) d p begin))
+read_places counted first bytes (Fault r) some p q =
     stops_at first (first + length bytes) (last_of first bytes) r (inl (q.from, q.at_a_byte (omega arith)))
-read_places first bytes Wants some p q = missing first (first + length bytes) (last_of first bytes)
+read_places counted first bytes Wants some p q = missing first (first + length bytes) (last_of first bytes)
 
-pub body_places : (first : ℕ) (bytes : List ℕ) → 1 ≤ length bytes → Places first (first + length bytes) (last_of first bytes) (body_read first bytes).code
-body_places first bytes some =
+pub body_places : (counted : Bool) (first : ℕ) (bytes : List ℕ) → 1 ≤ length bytes → Places first (first + length bytes) (last_of first bytes) (body_read counted first bytes).code
+body_places counted first bytes some =
     let s = local_groups_steady [] in
     let c = body_cursor first bytes in
-    read_places first bytes (local_groups c) some (s.moves c) (s.place first c (omega arith) tt)
+    read_places counted first bytes (local_groups c) some (s.moves c) (s.place first c (omega arith) tt)
 
 within_list : {A : Type 0} (low high : ℕ) (before after : List (ℕ × A)) (x : ℕ × A) → AllWithin low high (before ++ x ∷ after) → (low ≤ x.0) × (x.0 < high)
 within_list low high [] after x p = (p.0, p.1)
@@ -54,11 +54,11 @@ within_list low high (y ∷ before) after x p = within_list low high before afte
 
 pub code_fault_inside : (c : Context) (b : Body) (r : Refusal) → 1 ≤ length b.bytes → IsCodeFault c (read_of b).code r → (b.first ≤ r.offset) × (r.offset < b.first + length b.bytes)
 code_fault_inside c b r some (inl t) =
-    let places : Places b.first (b.first + length b.bytes) (last_of b.first b.bytes) (read_of b).code = body_places b.first b.bytes some in
+    let places : Places b.first (b.first + length b.bytes) (last_of b.first b.bytes) (read_of b).code = body_places b.counted b.first b.bytes some in
     let h = within_list b.first (b.first + length b.bytes) t.before t.after (t.at, t.token) (rw t.parts at places.tokens) in
     (omega (arith, h.0, t.place), omega (arith, h.1, t.place))
 code_fault_inside c b r some (inr s) =
-    let places : Places b.first (b.first + length b.bytes) (last_of b.first b.bytes) (read_of b).code = body_places b.first b.bytes some in
+    let places : Places b.first (b.first + length b.bytes) (last_of b.first b.bytes) (read_of b).code = body_places b.counted b.first b.bytes some in
     elim (places.fault r s.is) [
       | inl h ↦ h
       | inr h ↦ (omega arith, omega arith)

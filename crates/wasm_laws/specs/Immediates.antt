@@ -5,8 +5,9 @@ use Rattle.std.specs.Int.{w32, w64}
 use Rattle.wasm_defs.specs.declared.types.ValType.TheVariants.{I32, I64}
 use Rattle.wasm_defs.specs.declared.token.BlockType.{BlockType}
 use Rattle.wasm_defs.specs.declared.token.BlockType.TheVariants.{Index}
+use Rattle.wasm_defs.specs.declared.token.BulkOp.TheVariants.{Init}
 use Rattle.wasm_defs.specs.declared.token.Plain.{Plain}
-use Rattle.wasm_defs.specs.declared.token.Plain.TheVariants.{Br, BrIf, BrTable, Call, CallIndirect, LocalGet, LocalSet, LocalTee, GlobalGet, GlobalSet, Load, Store, Const}
+use Rattle.wasm_defs.specs.declared.token.Plain.TheVariants.{Br, BrIf, BrTable, Call, CallIndirect, LocalGet, LocalSet, LocalTee, GlobalGet, GlobalSet, Load, Store, Bulk, DataDrop, Const}
 use Rattle.wasm_defs.specs.declared.token.Token.{Token}
 use Rattle.wasm_defs.specs.declared.token.Token.TheVariants as token
 use Rattle.wasm_defs.specs.Trees.{Seq, Nothing, Simple, Block, Loop, If, IfElse}
@@ -34,6 +35,8 @@ IsInRange (GlobalGet x) = x < 2 ^ 32
 IsInRange (GlobalSet x) = x < 2 ^ 32
 IsInRange (Load op m) = (m.align < 2 ^ 32) × (m.offset < 2 ^ 32)
 IsInRange (Store op m) = (m.align < 2 ^ 32) × (m.offset < 2 ^ 32)
+IsInRange (Bulk (Init x)) = x < 2 ^ 32
+IsInRange (DataDrop x) = x < 2 ^ 32
 IsInRange (Const I32 n) = FitsSigned w32 n
 IsInRange (Const I64 n) = FitsSigned w64 n
 IsInRange _ = Unit {0}

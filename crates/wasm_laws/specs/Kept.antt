@@ -1,5 +1,5 @@
--- Limits that types, locals, bodies, tables, memories and globals keep to, and functions that exports name (WebAssembly Core 1.0,
--- 3.2.2, 3.4.10, 4.5.3 and 5.5.13).
+-- Limits that locals, bodies, tables, memories and globals keep to, and functions that exports name (WebAssembly Core 1.0, 3.2.2,
+-- 3.4.10, 4.5.3 and 5.5.13).
 use Rattle.std.specs.Prelude.{◌≡◌, ◌≤◌, ◌<◌, ℕ, ℤ, List, [], ◌∷◌, length, FitsSigned, IsSome, slice_get}
 use Rattle.std.specs.Int.{w32, w64}
 use Rattle.wasm_defs.specs.declared.item.Item.{Item}
@@ -7,21 +7,14 @@ use Rattle.wasm_defs.specs.declared.item.Item.TheVariants.{Global, Imported}
 use Rattle.wasm_defs.specs.declared.types.FuncType.{FuncType}
 use Rattle.wasm_defs.specs.declared.types.ValType.{ValType}
 use Rattle.wasm_defs.specs.declared.types.ValType.TheVariants.{I32, I64}
-use Rattle.wasm_defs.specs.Bodies.{Group, body_read}
-use Rattle.wasm_defs.specs.Context.{declared_types, type_or_empty}
-use Rattle.wasm_defs.specs.Limits.{max_entries, max_params, max_results, max_locals, max_body, max_table, max_pages}
+use Rattle.wasm_defs.specs.Bodies.{Group}
+use Rattle.wasm_defs.specs.Faults.{read_of}
+use Rattle.wasm_defs.specs.Context.{data_count_of, declared_types, type_or_empty}
+use Rattle.wasm_defs.specs.Entries.{or_zero}
+use Rattle.wasm_defs.specs.Limits.{max_entries, max_locals, max_body, max_table, max_pages}
 use Rattle.wasm_defs.specs.Instances.{rows_of, pages_of, cap_of, values_of}
 use Rattle.wasm_defs.specs.Outside.{Body}
 use Rattle.wasm_defs.specs.Typing.{Context, function_type}
-
--- a type's parameters, and its results
-pub record TypeIsSmall (f : FuncType) : Type 0 where
-  pub params : length f.params ≤ max_params
-  pub results : length f.results ≤ max_results
-
-abbrev pub TypesAreSmall : List FuncType → Type 0
-TypesAreSmall [] = Unit {0}
-TypesAreSmall (f ∷ fs) = TypeIsSmall f × TypesAreSmall fs
 
 -- locals that are declared
 abbrev pub LocalsAreFew : List Group → Type 0
@@ -31,18 +24,19 @@ LocalsAreFew groups = length (declared_types groups) ≤ max_locals
 pub record BodyIsSmall (b : Body) : Type 0 where
   pub least : 2 ≤ length b.bytes
   pub most : length b.bytes ≤ max_body
-  pub locals : LocalsAreFew (body_read b.first b.bytes).groups
+  pub locals : LocalsAreFew (read_of b).groups
 
 abbrev pub BodiesAreSmall : List Body → Type 0
 BodiesAreSmall [] = Unit {0}
 BodiesAreSmall (b ∷ bodies) = BodyIsSmall b × BodiesAreSmall bodies
 
--- the rows of the table, the pages of the memory at first and at most, and the globals that are declared
+-- the rows of the table, the pages of the memory at first and at most, the globals that are declared, and the data count
 pub record SpacesAreSmall (items : List Item) : Type 0 where
   pub rows : rows_of items ≤ max_table
   pub pages : pages_of items ≤ cap_of items
   pub cap : cap_of items ≤ max_pages
   pub globals : length (values_of items) ≤ max_entries
+  pub segments : or_zero (data_count_of items) ≤ max_entries
 
 -- a signed number of a type's bits
 abbrev pub FitsType : ValType → ℤ → Type 0

@@ -1,7 +1,7 @@
 -- Where the parts of a module are: one after the other, before the error that ends reading (WebAssembly Core 1.0, 5.5).
 use Rattle.std.specs.Prelude.{◌≡◌, ◌≤◌, ◌<◌, ℕ, suc, ◌+◌, List, [], ◌∷◌, length, take, drop, Option, None, Some}
 use Rattle.wasm_defs.specs.Limits.{max_body}
-use Rattle.wasm_defs.specs.Outside.{Body, Part, Section, Listed, Coded}
+use Rattle.wasm_defs.specs.Outside.{Body, Part, Section, Listed, Coded, id_of}
 use Rattle.wasm_defs.specs.Faults.{Use, use_of}
 
 -- the offset after a body
@@ -38,7 +38,7 @@ AreOrdered low last (Coded b ∷ parts) = BodyStands low last b × AreOrdered (e
 -- offset of its first one on
 abbrev pub AreCutFrom : List ℕ → List Part → Type 0
 AreCutFrom bytes [] = Unit {0}
-AreCutFrom bytes (Section at id ∷ parts) = (take 1 (drop at bytes) ≡ id ∷ []) × AreCutFrom bytes parts
+AreCutFrom bytes (Section at position ∷ parts) = (take 1 (drop at bytes) ≡ id_of position ∷ []) × AreCutFrom bytes parts
 AreCutFrom bytes (Listed x ∷ parts) = AreCutFrom bytes parts
 AreCutFrom bytes (Coded b ∷ parts) = (take (length b.bytes) (drop b.first bytes) ≡ b.bytes) × AreCutFrom bytes parts
 

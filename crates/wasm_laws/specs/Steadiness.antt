@@ -1,7 +1,7 @@
 -- What every reader of fields keeps to (WebAssembly Core 1.0, 5.2 to 5.5): more bytes after those that it read change
 -- nothing but where more were owed; it takes bytes from the front, and none past the section's end; an error is at a byte
 -- that is there, or where the bytes end; and nothing is owed where the whole section is there.
-use Rattle.std.specs.Prelude.{◌≡◌, ◌≤◌, ◌<◌, ℕ, ◌+◌, List, [], ◌∷◌, ◌++◌, length}
+use Rattle.std.specs.Prelude.{◌≡◌, ◌≤◌, ◌<◌, ℕ, ◌+◌, Bool, List, [], ◌∷◌, ◌++◌, length}
 use Rattle.wasm_defs.specs.declared.fault.Refusal.{Refusal}
 use Rattle.wasm_defs.specs.declared.token.Token.{Token}
 use Rattle.wasm_defs.specs.Fields.{Cursor, Read, Got, Fault, Wants, Reader, ◌>>=◌, byte, room_of}
@@ -103,7 +103,7 @@ pub record SteadyEnd (p : Reader Nothing) : Type 0 where
   pub decides : (c : Cursor) → IsThere c → IsDecided (p c)
 
 -- a token of a body: an opcode, and what follows it (5.4)
-abbrev pub token : Reader Token
-token = do
+abbrev pub token : Bool → Reader Token
+token counted = do
   b ← byte
-  instruction b.0 b.1
+  instruction counted b.0 b.1

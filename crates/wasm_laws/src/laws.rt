@@ -1,13 +1,14 @@
 //! The laws of how a module's bytes are read.
 
-ghost use Rattle.std.specs.Prelude.{◌≡◌, ◌≤◌, ◌<◌, ◌*◌, ℕ, Bool, length, List, [], Some, suc, ◌∷◌, ◌++◌};
+ghost use Rattle.std.specs.Prelude.{◌≡◌, ◌≤◌, ◌<◌, ◌*◌, ℕ, Bool, true, is_some, length, List, [], Some, suc, ◌∷◌, ◌++◌};
+ghost use Rattle.std.specs.List.{All};
 ghost use Rattle.wasm_defs.specs.Bodies.{body_read, instruction, last_of, local_groups};
-ghost use Rattle.wasm_defs.specs.Context.{context_of, declared_count, functions_of, types_of};
+ghost use Rattle.wasm_defs.specs.Context.{context_of, data_count_of, declared_count, functions_of, segment_count_of, types_of};
 ghost use Rattle.wasm_defs.specs.Entries.{Seen};
 ghost use Rattle.wasm_defs.specs.Faults.{bodies_of, ending_fault, IsModule, items_of, Module, tokens_of};
 ghost use Rattle.wasm_defs.specs.Fields.{Cursor, Wants, byte, fixed, name, number, room_of};
 ghost use Rattle.wasm_defs.specs.Instances.{exports_of, named, start_of};
-ghost use Rattle.wasm_defs.specs.Outside.{Body, Coded, header, module_read, Part, preamble, row, Section, section_end, Whole};
+ghost use Rattle.wasm_defs.specs.Outside.{agrees, Body, Coded, header, module_read, Part, preamble, row, Section, section_end, Whole};
 ghost use Rattle.wasm_defs.specs.Places.{greatest, places_of};
 ghost use Rattle.wasm_defs.specs.Trees.{Seq, Tree};
 ghost use Rattle.wasm_defs.specs.Typing.{Context, function_type};
@@ -19,7 +20,8 @@ ghost use Rattle.wasm_laws.specs.Behind.{AreValidIn, StandBehind};
 ghost use Rattle.wasm_laws.specs.BodyOrder.{IsSpelledIn};
 ghost use Rattle.wasm_laws.specs.Completing.{Completes, CompletesOrPasses};
 ghost use Rattle.wasm_laws.specs.Counts.{AreDeclared};
-ghost use Rattle.wasm_laws.specs.Kept.{AreThere, BodiesAreSmall, ConstantsFit, ImportsReturnOne, IsThere, LocalsAreFew, SpacesAreSmall, TakesNothing, TypesAreSmall};
+ghost use Rattle.wasm_defs.specs.SmallTypes.{TypesAreSmall};
+ghost use Rattle.wasm_laws.specs.Kept.{AreThere, BodiesAreSmall, ConstantsFit, ImportsReturnOne, IsThere, LocalsAreFew, SpacesAreSmall, TakesNothing};
 ghost use Rattle.wasm_laws.specs.Order.{AreCutFrom, AreOrdered, BodyStands, end_of, first_section};
 ghost use Rattle.wasm_laws.specs.Runs.{deciding_length, GoesOn, IsRefused};
 ghost use Rattle.wasm_laws.specs.Sections.{AreBytes};
@@ -40,8 +42,8 @@ pub fn sections_are_steady()
 /// The fields of bodies are steady (Core 5.4 and 5.5.13): the locals, and each instruction, whose error may be at its opcode.
 pub fn bodies_are_steady()
     ensures locals { Steady [] local_groups }
-    ensures instruction { (at b : ℕ) → Steady (at ∷ []) (instruction at b) }
-    ensures token { Steady [] token }
+    ensures instruction { (counted : Bool) (at b : ℕ) → Steady (at ∷ []) (instruction counted at b) }
+    ensures token { (counted : Bool) → Steady [] (token counted) }
 {}
 
 /// A field that wants more bytes can be completed in its section (Core 5.2): what no bytes complete is refused at once. A name
@@ -91,8 +93,8 @@ pub fn others_stand_around()
 /// A body's tokens are in order, each after the one before, and no later than the error of encoding, which is at a byte of the body
 /// (Core 5.4).
 pub fn bodies_are_in_order()
-    ensures { (first : ℕ) (bytes : List ℕ) → 0 < length bytes →
-        IsSpelledIn first (last_of first bytes) (body_read first bytes).code }
+    ensures { (counted : Bool) (first : ℕ) (bytes : List ℕ) → 0 < length bytes →
+        IsSpelledIn first (last_of first bytes) (body_read counted first bytes).code }
 {}
 
 /// A body belongs to a declared function (Core 5.5.13): more functions are declared before a body than bodies come before it, none
@@ -103,6 +105,18 @@ pub fn bodies_match_functions()
         let run = module_read bytes in
         run.ending ≡ Whole seen →
         length (bodies_of run.parts) ≡ declared_count (items_of run.parts) }
+{}
+
+/// As many data segments come as the data count says, where there is one, and each body is told whether there is one, since only then
+/// it may name them (Core 2.0, 5.5.16).
+pub fn segments_match_the_data_count()
+    ensures told { (bytes : List ℕ) →
+        let parts = (module_read bytes).parts in
+        All (λ b. b.counted ≡ is_some (data_count_of (items_of parts))) (bodies_of parts) }
+    ensures whole { (bytes : List ℕ) (seen : Seen) →
+        let run = module_read bytes in
+        run.ending ≡ Whole seen →
+        agrees (data_count_of (items_of run.parts)) (segment_count_of (items_of run.parts)) ≡ true }
 {}
 
 /// A body's function has a type (Core 2.5.1 and 3.4.1): the function whose index counts the imported functions and the bodies
@@ -124,10 +138,10 @@ pub fn bodies_stand_behind_items()
 /// The immediates of a body's instructions have the bits that bytes encode, a block's type that is one of the module's too, and
 /// each token has a byte.
 pub fn immediates_are_in_range()
-    ensures range { (first : ℕ) (bytes : List ℕ) (tree : Seq) → AreBytes bytes →
-        let code = (body_read first bytes).code in
+    ensures range { (counted : Bool) (first : ℕ) (bytes : List ℕ) (tree : Seq) → AreBytes bytes →
+        let code = (body_read counted first bytes).code in
         Tree (tokens_of code.tokens) tree → TreeIsInRange tree }
-    ensures count { (first : ℕ) (bytes : List ℕ) → length (body_read first bytes).code.tokens ≤ length bytes }
+    ensures count { (counted : Bool) (first : ℕ) (bytes : List ℕ) → length (body_read counted first bytes).code.tokens ≤ length bytes }
 {}
 
 /// Types keep to their limits: each has so many parameters at most, and so many results.
@@ -135,8 +149,8 @@ pub fn types_keep_limits()
     ensures { (bytes : List ℕ) → TypesAreSmall (types_of (items_of (module_read bytes).parts)) }
 {}
 
-/// Tables, memories and globals keep to their limits (Core 4.5.3): so many rows, pages and globals at most, and no more pages at
-/// first than the memory may grow to. Each global's constant is a number of the global's type (Core 3.3.7 and 5.2.2).
+/// Tables, memories, globals and the data count keep to their limits (Core 4.5.3): so many rows, pages, globals and data segments at
+/// most, and no more pages at first than the memory may grow to. Each global's constant is a number of the global's type (Core 3.3.7 and 5.2.2).
 pub fn spaces_keep_limits()
     ensures limits { (bytes : List ℕ) → SpacesAreSmall (items_of (module_read bytes).parts) }
     ensures constants { (bytes : List ℕ) → AreBytes bytes → ConstantsFit (items_of (module_read bytes).parts) }
@@ -144,7 +158,7 @@ pub fn spaces_keep_limits()
 
 /// Bodies keep to the limits on their bytes and on the locals that they declare (Core 5.5.13).
 pub fn locals_keep_limits()
-    ensures locals { (first : ℕ) (bytes : List ℕ) → LocalsAreFew (body_read first bytes).groups }
+    ensures locals { (counted : Bool) (first : ℕ) (bytes : List ℕ) → LocalsAreFew (body_read counted first bytes).groups }
     ensures bodies { (bytes : List ℕ) → BodiesAreSmall (bodies_of (module_read bytes).parts) }
 {}
 

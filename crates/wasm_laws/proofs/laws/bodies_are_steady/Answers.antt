@@ -6,6 +6,6 @@ use Rattle.wasm_laws.proofs.laws.bodies_are_steady.Goals as goal
 pub returns : goal.returns
 returns c = record {
   locals = local_groups_steady [];
-  instruction = λ at b. instruction_steady (at ∷ []) at b here_in;
+  instruction = λ counted at b. instruction_steady (at ∷ []) counted at b here_in;
   token = token_steady [];
 }
