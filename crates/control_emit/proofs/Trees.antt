@@ -5,14 +5,14 @@ use Rattle.rv_isa.specs.declared.compiled.Relocation.{Relocation}
 use Rattle.rv_isa.specs.declared.operations.Op.{Op}
 use Rattle.rv_isa.specs.Words.{word_of}
 use Rattle.wasm_defs.specs.declared.token.Plain.{Plain}
-use Rattle.wasm_defs.specs.declared.token.Plain.TheVariants.{Unreachable, Nop, Br, BrIf, BrTable, Return, Call, CallIndirect, Discard, Select, LocalGet, LocalSet, LocalTee, GlobalGet, GlobalSet, Load, Store, MemorySize, MemoryGrow, Const, Operate}
+use Rattle.wasm_defs.specs.declared.token.Plain.TheVariants.{Unreachable}
 use Rattle.wasm_defs.specs.declared.token.Token.{Token}
 use Rattle.wasm_defs.specs.declared.token.Token.TheVariants as token
 use Rattle.wasm_defs.specs.declared.token.BlockType.{BlockType}
 use Rattle.wasm_defs.specs.declared.token.BlockType.TheVariants.{Empty, Value, Index}
 use Rattle.wasm_defs.specs.Places.{Place, moved, shape, after_rule, after_block, after_if, end_of, places, places_of}
 use Rattle.wasm_defs.specs.Trees.{Seq, Nothing, Simple, Block, Loop, If, IfElse, Tree, spelled, tokens_in}
-use Rattle.wasm_defs.specs.Typing.{Types, Signature, Context, Rule, Untyped, Fixed, Stops, Discards, Selects, inside, rule_of}
+use Rattle.wasm_defs.specs.Typing.{Types, Signature, Context, Rule, Untyped, inside, rule_of}
 use Rattle.frame_layout.specs.Templates.{Label, Around, words}
 use Rattle.frame_layout.specs.Functions.{label, over, test_words, size, code, call_of, calls, Trap, traps_of, traps, body_place, body_size, body_traps}
 use Rattle.control_emit.specs.Pending.{Pending, Shape, shape_of, shapes, Ends, named, meaning}

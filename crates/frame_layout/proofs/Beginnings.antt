@@ -21,7 +21,7 @@ use Rattle.frame_layout.proofs.Constants.{block_leaves, const_33_leaves}
 use Rattle.frame_layout.proofs.SlotLaws.{store_slot_leaves, slot_written, slot_other, size_stays}
 use Rattle.frame_layout.proofs.Steps.{does_leave, does_then, does_with, does_count, does_nothing, leaves_then, frame_stays, frame_written}
 use Rattle.frame_layout.proofs.Jumps.{passed_does, taken_does, trap_traps, traps_after}
-use Rattle.frame_layout.proofs.Zeroing.{zeroed, zeroed_size, zeroed_below, zeroed_above, zeroed_zero, zeroed_globals, zeroed_table, zeroed_memory, loop_words, loop_does, address}
+use Rattle.frame_layout.proofs.Zeroing.{zeroed, zeroed_size, zeroed_below, zeroed_above, zeroed_zero, zeroed_globals, zeroed_table, zeroed_memory, zeroed_passive, loop_words, loop_does, address}
 
 -- ---- the address of a slot, into a register
 
@@ -167,6 +167,7 @@ entered code s i base l first has at frame small fits short =
       globals = zeroed_globals l.locals (base + l.params) put;
       table = zeroed_table l.locals (base + l.params) put;
       memory = zeroed_memory l.locals (base + l.params) put;
+      passive = zeroed_passive l.locals (base + l.params) put;
     }
 
 pub prologue_does : PrologueLaw

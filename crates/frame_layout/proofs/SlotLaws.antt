@@ -4,7 +4,7 @@ use Rattle.std.proofs.Common.{◌≡◌, ℕ, ◌+◌, ◌*◌, ◌^◌, ◌<◌
 use Rattle.std.specs.Prelude.{◌≢◌}
 use Rattle.std.proofs.lemmas.Bool.{cases_lt}
 use Rattle.rv_isa.specs.declared.operations.Op.{Op}
-use Rattle.rv_isa.specs.declared.stepping.Region.TheVariants.{Stack, Globals, Table, Memory}
+use Rattle.rv_isa.specs.declared.stepping.Region.TheVariants.{Stack, Globals, Table, Memory, Passive}
 use Rattle.rv_isa.specs.Values.{u_value, plus}
 use Rattle.rv_isa.specs.Steps.{reg, Bytes, State, le_bytes}
 use Rattle.rv_isa.specs.Runs.{place, HasAt, FitWindows, LiesIn, Leaves, hi}
@@ -34,6 +34,7 @@ windows_stay b i v size inside fit Stack = omega (arith, size_stays b i v size i
 windows_stay b i v size inside fit Globals = fit Globals
 windows_stay b i v size inside fit Table = fit Table
 windows_stay b i v size inside fit Memory = fit Memory
+windows_stay b i v size inside fit Passive = fit Passive
 
 -- ---- slots of the frame
 

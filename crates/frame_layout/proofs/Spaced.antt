@@ -8,8 +8,9 @@ use Rattle.wasm_defs.specs.declared.operation.Operation.{Operation}
 use Rattle.wasm_defs.specs.declared.operation.Operation.TheVariants.{Unary, Test, Binary, Compare, Convert, Extend}
 use Rattle.wasm_defs.specs.declared.operation.BinaryOp.{BinaryOp}
 use Rattle.wasm_defs.specs.declared.operation.BinaryOp.TheVariants as binary
+use Rattle.wasm_defs.specs.declared.token.BulkOp.TheVariants.{Fill, Copy, Init}
 use Rattle.wasm_defs.specs.declared.token.Plain.{Plain}
-use Rattle.wasm_defs.specs.declared.token.Plain.TheVariants.{Unreachable, CallIndirect, Load, Store, Operate}
+use Rattle.wasm_defs.specs.declared.token.Plain.TheVariants.{Unreachable, CallIndirect, Load, Store, Bulk, Operate}
 use Rattle.wasm_defs.specs.Configurations.{Origin}
 use Rattle.wasm_defs.specs.Trees.{Seq, Nothing, Simple, Block, Loop, If, IfElse, tokens_in}
 use Rattle.wasm_defs.specs.Typing.{Context, inside, rule_of}
@@ -68,6 +69,9 @@ module _ (w : Around) where
   plain_spaced c labels h here (CallIndirect i table) = (omega arith, (omega arith, (omega arith, omega arith)))
   plain_spaced c labels h here (Load o m) = (omega arith, omega arith)
   plain_spaced c labels h here (Store o m) = (omega arith, omega arith)
+  plain_spaced c labels h here (Bulk Fill) = (omega arith, omega arith)
+  plain_spaced c labels h here (Bulk Copy) = (omega arith, (omega arith, omega arith))
+  plain_spaced c labels h here (Bulk (Init x)) = (omega arith, (omega arith, omega arith))
   plain_spaced c labels h here (Operate op) = operation_spaced h op
   plain_spaced c labels h here p = omega arith
 

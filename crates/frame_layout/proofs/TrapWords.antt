@@ -15,8 +15,9 @@ use Rattle.wasm_defs.specs.declared.operation.CompareOp.{CompareOp}
 use Rattle.wasm_defs.specs.declared.operation.CompareOp.TheVariants as compare
 use Rattle.wasm_defs.specs.declared.operation.ConvertOp.TheVariants.{Wrap, ExtendS, ExtendU}
 use Rattle.wasm_defs.specs.declared.operation.ExtendOp.TheVariants.{I32Extend8S, I32Extend16S, I64Extend8S, I64Extend16S, I64Extend32S}
+use Rattle.wasm_defs.specs.declared.token.BulkOp.TheVariants.{Fill, Copy, Init}
 use Rattle.wasm_defs.specs.declared.token.Plain.{Plain}
-use Rattle.wasm_defs.specs.declared.token.Plain.TheVariants.{Unreachable, Nop, Br, BrIf, BrTable, Return, Call, CallIndirect, Discard, Select, LocalGet, LocalSet, LocalTee, GlobalGet, GlobalSet, Load, Store, MemorySize, MemoryGrow, Const, Operate}
+use Rattle.wasm_defs.specs.declared.token.Plain.TheVariants.{Unreachable, Nop, Br, BrIf, BrTable, Return, Call, CallIndirect, Discard, Select, LocalGet, LocalSet, LocalTee, GlobalGet, GlobalSet, Load, Store, MemorySize, MemoryGrow, Bulk, DataDrop, Const, Operate}
 use Rattle.wasm_defs.specs.Typing.{Context}
 use Rattle.wasm_defs.specs.Values.{unsigned}
 use Rattle.frame_layout.specs.Macros.{x0, t0, t1, distance, far}
@@ -105,6 +106,9 @@ module _ (w : Around) where
   plain_found c labels h here Return = found-none false 0 (words w c labels h here Return) (jump_none h here (last_label w labels))
   plain_found c labels h here (Const t n) = found-none false 0 (words w c labels h here (Const t n)) (const_none h t (unsigned t n))
   plain_found c labels h here (Operate op) = operation_found h op
+  plain_found c labels h here (Bulk Fill) = refl
+  plain_found c labels h here (Bulk Copy) = refl
+  plain_found c labels h here (Bulk (Init x)) = refl
   plain_found c labels h here p = refl
 
 pub traps_are_found : TrapsLaw

@@ -75,6 +75,10 @@ pub zeroed_memory : (n from : ℕ) (b : Bytes) → (zeroed n from b).memory ≡ 
 zeroed_memory zero from b = refl
 zeroed_memory (suc n) from b = zeroed_memory n (suc from) (with_slot b from 0)
 
+pub zeroed_passive : (n from : ℕ) (b : Bytes) → (zeroed n from b).passive ≡ b.passive
+zeroed_passive zero from b = refl
+zeroed_passive (suc n) from b = zeroed_passive n (suc from) (with_slot b from 0)
+
 -- ---- the loop
 
 abbrev pub loop_words : List Op

@@ -42,7 +42,7 @@ pub record IsFrame (base : ℕ) (s : State) : Type 0 where
 
 -- registers that instructions use for themselves
 abbrev pub is_scratch : ℕ → Bool
-is_scratch r = r == t0 || r == t1 || r == t2 || r == t3
+is_scratch r = r == t0 || r == t1 || r == t2 || r == t3 || r == a0
 
 -- so many steps lead past so many words, with these bytes; other registers stay
 pub record Does (code : List (Option Op)) (steps words : ℕ) (s : State) (bytes : Bytes) : Type 0 where
@@ -120,6 +120,7 @@ pub record Enters (code : List (Option Op)) (l : Layout) (base : ℕ) (s : State
   pub globals : bytes.globals ≡ s.bytes.globals
   pub table : bytes.table ≡ s.bytes.table
   pub memory : bytes.memory ≡ s.bytes.memory
+  pub passive : bytes.passive ≡ s.bytes.passive
 
 abbrev pub PrologueLaw : Type 0
 PrologueLaw =

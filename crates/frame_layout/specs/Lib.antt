@@ -1,6 +1,7 @@
 pub mod Slots
 pub mod Macros
 pub mod Bodies
+pub mod BulkWords
 pub mod Templates
 pub mod Traps
 pub mod Functions

@@ -11,8 +11,10 @@ use Rattle.wasm_defs.specs.declared.operation.Operation.{Operation}
 use Rattle.wasm_defs.specs.declared.operation.Operation.TheVariants.{Binary}
 use Rattle.wasm_defs.specs.declared.operation.BinaryOp.{BinaryOp}
 use Rattle.wasm_defs.specs.declared.operation.BinaryOp.TheVariants.{DivS, DivU, RemS, RemU}
+use Rattle.wasm_defs.specs.declared.token.BulkOp.{BulkOp}
+use Rattle.wasm_defs.specs.declared.token.BulkOp.TheVariants.{Fill, Copy, Init}
 use Rattle.wasm_defs.specs.declared.token.Plain.{Plain}
-use Rattle.wasm_defs.specs.declared.token.Plain.TheVariants.{Unreachable, CallIndirect, Load, Store, Operate}
+use Rattle.wasm_defs.specs.declared.token.Plain.TheVariants.{Unreachable, CallIndirect, Load, Store, Bulk, Operate}
 use Rattle.frame_layout.specs.Macros.{x0, a7}
 
 -- ---- among any operations
@@ -54,12 +56,19 @@ abbrev pub operation_places : Operation → List ℕ
 operation_places (Binary t op) = division_places t op
 operation_places op = []
 
+-- the end of the memory comes first, or the end of the source
+abbrev pub bulk_places : BulkOp → List ℕ
+bulk_places Fill = 14 ∷ []
+bulk_places Copy = 19 ∷ 24 ∷ []
+bulk_places (Init x) = 22 ∷ 27 ∷ []
+
 -- an indirect call: past the table, of a row without a function, of a function of another type
 abbrev pub trap_places : Plain → List ℕ
 trap_places Unreachable = 2 ∷ []
 trap_places (CallIndirect i table) = 13 ∷ 20 ∷ 30 ∷ []
 trap_places (Load o m) = 15 ∷ []
 trap_places (Store o m) = 15 ∷ []
+trap_places (Bulk op) = bulk_places op
 trap_places (Operate op) = operation_places op
 trap_places p = []
 

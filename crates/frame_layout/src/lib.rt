@@ -8,6 +8,7 @@
 mod laws;
 mod layout;
 pub mod macros;
+pub mod registers;
 mod slots;
 mod traps;
 pub mod words;

@@ -1,11 +1,11 @@
 //! Where the traps of an instruction are among its instruction words.
 
 ghost use Rattle.std.specs.Prelude.{◌≡◌, ◌+◌, [], ◌∷◌, ◌++◌, map, length, OnOk};
-ghost use Rattle.frame_layout.specs.Traps.{division_places, trap_places, site_at};
+ghost use Rattle.frame_layout.specs.Traps.{division_places, bulk_places, trap_places, site_at};
 
 use rv_isa::TrapSite;
 use std::alloc::AllocError;
-use wasm_defs::{BinaryOp, Operation, Plain, ValType};
+use wasm_defs::{BinaryOp, BulkOp, Operation, Plain, ValType};
 
 /// Notes a trap.
 fn note(sites: &mut Vec<TrapSite>, place: usize, offset: u64) -> Result<(), AllocError>
@@ -40,6 +40,29 @@ fn note_division(
     }
 }
 
+/// Notes the traps of `memory.fill`, `memory.copy` or `memory.init`.
+fn note_bulk(
+    sites: &mut Vec<TrapSite>,
+    words: &[u32],
+    offset: u64,
+    op: BulkOp,
+) -> Result<(), AllocError>
+    ensures { OnOk result (sites.new.items ≡ sites.old.items ++ map (site_at (length words.now) offset) (bulk_places op)) }
+{
+    let here = words.len();
+    match op {
+        BulkOp::Fill => note(sites, here + 14, offset),
+        BulkOp::Copy => {
+            note(sites, here + 19, offset)?;
+            note(sites, here + 24, offset)
+        }
+        BulkOp::Init(_) => {
+            note(sites, here + 22, offset)?;
+            note(sites, here + 27, offset)
+        }
+    }
+}
+
 /// Notes the traps of an instruction at a reachable point, whose instruction words follow these: the index of each one's ECALL, and
 /// the offset of the instruction in the module.
 pub fn note_traps(
@@ -59,6 +82,7 @@ pub fn note_traps(
             note(sites, here + 20, offset)?;
             note(sites, here + 30, offset)
         }
+        Plain::Bulk(op) => note_bulk(sites, words, offset, *op),
         Plain::Operate(Operation::Binary(ty, op)) => note_division(sites, words, offset, *ty, *op),
         _ => Ok(()),
     }

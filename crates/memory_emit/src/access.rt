@@ -7,8 +7,8 @@ ghost use Rattle.frame_layout.specs.Slots.{operand};
 ghost use Rattle.frame_layout.specs.Templates.{Around, address, machine_load, machine_store, load_words, store_words};
 ghost use Rattle.memory_emit.specs.Sorts.{IsLoad, IsStore, access_words};
 
-use crate::registers::{memory, memory_size};
 use frame_layout::Layout;
+use frame_layout::registers::{memory, memory_size};
 use frame_layout::words::{const_32, slot_load, slot_store, trap, zero_extend};
 use rv_isa::{
     BranchOp, Imm12, ImmOp, LoadOp as MachineLoad, RegOp, Register, StoreOp as MachineStore,

@@ -5,8 +5,8 @@ ghost use Rattle.rv_isa.specs.Words.{word_of};
 ghost use Rattle.frame_layout.specs.Slots.{operand};
 ghost use Rattle.frame_layout.specs.Templates.{Around, global_get_words, global_set_words};
 
-use crate::registers::globals;
 use frame_layout::Layout;
+use frame_layout::registers::globals;
 use frame_layout::words::{load_behind, slot_load, slot_store, store_behind};
 use rv_isa::{Register, WordBuffer};
 use std::alloc::AllocError;

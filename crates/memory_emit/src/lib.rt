@@ -6,7 +6,6 @@ mod access;
 mod globals;
 mod locals;
 mod pages;
-mod registers;
 mod select;
 
 pub use access::{emit_load, emit_store};

@@ -5,8 +5,8 @@ ghost use Rattle.rv_isa.specs.Words.{word_of};
 ghost use Rattle.frame_layout.specs.Slots.{operand};
 ghost use Rattle.frame_layout.specs.Templates.{Around, size_words, grow_words};
 
-use crate::registers::memory_size;
 use frame_layout::Layout;
+use frame_layout::registers::memory_size;
 use frame_layout::words::{slot_load, slot_store};
 use rv_isa::{
     Imm12, ImmOp, Register, Shamt6, ShiftOp, WordBuffer, encode_ecall, encode_imm, encode_shift,

@@ -42,7 +42,7 @@ pub results_moved : (l : Layout) (base results index : ℕ) (b : Bytes) → leng
 results_moved l base zero index b size windows room small = record {
   size = refl;
   windows = windows;
-  beside = record { globals = refl; table = refl; memory = refl };
+  beside = record { globals = refl; table = refl; memory = refl; passive = refl };
   others = λ k apart. refl;
   moved = λ k low high. absurd (omega arith);
 }
@@ -58,7 +58,7 @@ results_moved l base (suc n) index b size windows room small =
     record {
       size = x.size ∙ stack_stays b max_slots (base + index) word size inside;
       windows = x.windows;
-      beside = record { globals = x.beside.globals; table = x.beside.table; memory = x.beside.memory };
+      beside = record { globals = x.beside.globals; table = x.beside.table; memory = x.beside.memory; passive = x.beside.passive };
       others = λ k apart. x.others k (⊎_elim (λ low. inl (omega (arith, low))) (λ high. inr (omega (arith, high))) apart) ∙ other k (λ e. ⊎_elim (λ low. omega (arith, e, low)) (λ high. omega (arith, e, high)) apart);
       moved = λ k low high.
           ⊎_elim

@@ -1,7 +1,7 @@
--- What the instruction words of `global.set`, of stores and of `memory.grow` come to on a running image: the store after them, and
--- the operands.
-use Rattle.std.proofs.Common.{◌≡◌, ℕ, suc, ◌+◌, ◌-◌, ◌*◌, ◌^◌, ◌<◌, ◌≤◌, ◌⊎◌, inl, inr, List, [], ◌∷◌, length, Option, None, Some, refl, sym, ap, ◌∙◌, subst, arith}
-use Rattle.std.specs.Prelude.{slice_get, nat_lt}
+-- What the instruction words of `global.set`, of stores, of `memory.grow`, of bulk memory and of `data.drop` come to on a running
+-- image: the store after them, and the operands.
+use Rattle.std.proofs.Common.{◌≡◌, ℕ, suc, ◌+◌, ◌-◌, ◌*◌, ◌^◌, ◌<◌, ◌≤◌, ◌⊎◌, true, inl, inr, List, [], ◌∷◌, length, Option, None, Some, refl, sym, ap, ◌∙◌, subst, arith}
+use Rattle.std.specs.Prelude.{slice_get, nat_lt, ◌&&◌}
 use Rattle.std.proofs.lemmas.List.{length-take}
 use Rattle.rv_isa.specs.declared.operations.Op.{Op}
 use Rattle.rv_isa.specs.Steps.{Bytes}
@@ -9,14 +9,15 @@ use Rattle.rv_isa.specs.Runs.{place, HasAt}
 use Rattle.wasm_defs.specs.declared.types.ValType.TheVariants.{I32}
 use Rattle.wasm_defs.specs.declared.operation.StoreOp.{StoreOp}
 use Rattle.wasm_defs.specs.declared.token.MemArg.{MemArg}
+use Rattle.wasm_defs.specs.declared.token.BulkOp.{BulkOp}
 use Rattle.wasm_defs.specs.declared.token.Plain.{Plain}
-use Rattle.wasm_defs.specs.declared.token.Plain.TheVariants.{GlobalSet, MemoryGrow}
+use Rattle.wasm_defs.specs.declared.token.Plain.TheVariants.{GlobalSet, MemoryGrow, Bulk, DataDrop}
 use Rattle.wasm_defs.specs.declared.token.Plain.TheVariants as plain
-use Rattle.wasm_defs.specs.Typing.{Types, Context, Moves, Fixed, store_type, store_alignment, accesses, rule_of}
+use Rattle.wasm_defs.specs.Typing.{Types, Context, Moves, Fixed, store_type, store_alignment, accesses, reads_segment, rule_of}
 use Rattle.wasm_defs.specs.Values.{Value, word, types_of_values}
 use Rattle.wasm_defs.specs.Memory.{page, pages_of, grown}
 use Rattle.wasm_defs.specs.Configurations.{Store}
-use Rattle.wasm_defs.specs.Effects.{Gives, effect, grew, value}
+use Rattle.wasm_defs.specs.Effects.{Gives, effect, grew, value, bytes_written}
 use Rattle.frame_layout.specs.Slots.{operand}
 use Rattle.frame_layout.specs.Macros.{s0, s5}
 use Rattle.frame_layout.specs.Templates.{Label, Around, global_set_words, store_words, grow_words, words}
@@ -26,7 +27,7 @@ use Rattle.image_format.specs.Environment.{code_of_image}
 use Rattle.image_format.specs.ImageRun.{Running}
 use Rattle.sim_memory.specs.StoreStands.{StoreStands}
 use Rattle.sim_frames.specs.Covered.{IsStraightStep}
-use Rattle.sim_frames.specs.Functions.{global_types}
+use Rattle.sim_frames.specs.Functions.{StoreFits}
 use Rattle.sim_frames.proofs.Puts.{put_stands}
 use Rattle.sim_frames.proofs.Rules.{MovesFixed, moves_fixed, OnLocal, on_global, moves_set, moves_only}
 use Rattle.sim_frames.proofs.Values.{Agree, Holds, Matches}
@@ -34,6 +35,7 @@ use Rattle.simulation.proofs.Goings.{Goes, goes_by}
 use Rattle.simulation.proofs.GrowingMemory.{Grown, GrownBy, grow_goes}
 use Rattle.simulation.proofs.Steps.{with_machine}
 use Rattle.simulation.proofs.Straight.Instructions.{most_steps, Halts}
+use Rattle.simulation.proofs.Straight.Bulk.{moves_if, bulk_comes, drop_changes}
 use Rattle.simulation.proofs.Straight.Memories.{Changes, global_set_changes, store_comes}
 use Rattle.simulation.proofs.Straight.Operations.{typed_word, typed_range}
 
@@ -42,6 +44,8 @@ abbrev pub ChangesStore : Plain → Type 0
 ChangesStore (GlobalSet x) = Unit {0}
 ChangesStore (plain.Store o m) = Unit {0}
 ChangesStore MemoryGrow = Unit {0}
+ChangesStore (Bulk op) = Unit {0}
+ChangesStore (DataDrop x) = Unit {0}
 ChangesStore p = ⊥
 
 -- so many steps lead to where the frame holds other operands, and the regions another store
@@ -53,8 +57,10 @@ pub record Passes (image : Image) (c : Context) (labels : List Label) (w : Aroun
   pub calls_stay : store_after.calls ≡ store.calls
   pub replies_stay : store_after.replies ≡ store.replies
   pub globals_stay : types_of_values store_after.globals ≡ types_of_values store.globals
+  pub segments_stay : length store_after.segments ≡ length store.segments
   pub steps : ℕ
-  pub short : steps ≤ most_steps
+  pub some : 0 < steps
+  pub short : steps ≤ most_steps + 128 * bytes_written p operands
   pub last : Running
   pub goes : Goes image steps r last
   pub pc_is : last.machine.pc ≡ r.machine.pc + 4 * length (words w c labels (length operands) here p)
@@ -69,7 +75,7 @@ pub record Passes (image : Image) (c : Context) (labels : List Label) (w : Aroun
   pub later : last.later ≡ r.later
 
 module _ (image : Image) (near : length (code_of_image image) ≤ 2 ^ 26) (few : page * image.cap ≤ 2 ^ 28) (c : Context) (labels : List Label) (w : Around) (base there : ℕ) (store : Store) (locals : List Value) (here : ℕ) (r : Running)
-    (i : ℕ) (at : r.machine.pc ≡ place i) (holds : StoreStands store r.pages image.cap r.machine) (globals_are : global_types c.globals ≡ types_of_values store.globals) where
+    (i : ℕ) (at : r.machine.pc ≡ place i) (holds : StoreStands store r.pages image.cap r.machine) (fits_store : StoreFits c store) where
   abbrev code : List (Option Op)
   code = code_of_image image
 
@@ -93,7 +99,9 @@ module _ (image : Image) (near : length (code_of_image image) ≤ 2 ^ 26) (few :
     calls_stay = x.calls_stay;
     replies_stay = x.replies_stay;
     globals_stay = x.globals_stay;
+    segments_stay = x.segments_stay;
     steps = x.steps;
+    some = x.some;
     short = x.short;
     last = with_machine r x.end;
     goes = goes_by image x.steps r x.end x.reaches;
@@ -136,12 +144,32 @@ module _ (image : Image) (near : length (code_of_image image) ≤ 2 ^ 26) (few :
       stored_passes y x below mid o mem
       (store_comes code c labels w base there r.machine.bytes store image.cap locals here r.machine i at r.pages holds y x below o mem y_ty x_ty low m mid (rest ∙ sym f.after) small has near)
 
+  -- ---- many bytes
+
+  either_passes : (operands : List Value) (p : Plain) (mid : Types) → Changes (code_of_image image) c labels w base there r.machine.bytes store image.cap r.pages locals operands p mid here r.machine ⊎ Halting operands p → Passing operands p mid ⊎ Halting operands p
+  either_passes operands p mid (inl z) = inl (moved operands p mid z)
+  either_passes operands p mid (inr z) = inr z
+
+  bulk_passes : (op : BulkOp) (operands : List Value) (mid : Types) → (nat_lt 0 c.memories && reads_segment c op) ≡ true → MovesFixed (I32 ∷ I32 ∷ I32 ∷ []) [] (types_of_values operands) mid → length operands ≤ w.layout.greatest
+      → HasAt (code_of_image image) i (words w c labels (length operands) here (Bulk op)) → Holding operands → Passing operands (Bulk op) mid ⊎ Halting operands (Bulk op)
+  bulk_passes op [] mid there f low has m = let e = f.before in absurd cc
+  bulk_passes op (n ∷ []) mid there f low has m = let e = f.before in absurd cc
+  bulk_passes op (n ∷ v ∷ []) mid there f low has m = let e = f.before in absurd cc
+  bulk_passes op (n ∷ v ∷ d ∷ below) mid reads f low has m =
+      let e = f.before in
+      let n_ty : n.ty ≡ I32 = cc in
+      let v_ty : v.ty ≡ I32 = cc in
+      let d_ty : d.ty ≡ I32 = cc in
+      let rest : types_of_values below ≡ f.below = cc in
+      either_passes (n ∷ v ∷ d ∷ below) (Bulk op) mid
+      (bulk_comes code near c labels w base there r.machine.bytes store image.cap locals here r.machine i at r.pages holds fits_store n v d below n_ty v_ty d_ty low m op mid (rest ∙ sym f.after) reads has)
+
   -- ---- growing
 
   module _ (x : Value) (below : List Value) (mid : Types) (types : I32 ∷ types_of_values below ≡ mid) (high : suc (length below) ≤ w.layout.greatest) (m : Holding (x ∷ below)) where
-    grown_passes : (number pages : ℕ) (after : Store) → number < 2 ^ 32 → effect store locals image.cap MemoryGrow (x ∷ below) ≡ Gives after locals (value I32 number ∷ below) → after.calls ≡ store.calls → after.replies ≡ store.replies → after.globals ≡ store.globals
+    grown_passes : (number pages : ℕ) (after : Store) → number < 2 ^ 32 → effect store locals image.cap MemoryGrow (x ∷ below) ≡ Gives after locals (value I32 number ∷ below) → after.calls ≡ store.calls → after.replies ≡ store.replies → after.globals ≡ store.globals → after.segments ≡ store.segments
         → Grown image r (base + operand w.layout (suc (length below) - 1)) number pages after → Passing (x ∷ below) MemoryGrow mid
-    grown_passes number pages after small gives calls replies globals g =
+    grown_passes number pages after small gives calls replies globals segments g =
         let top : suc (length below) - 1 ≡ length below = omega arith in
         let bytes_are = g.bytes_are ∙ ap (λ (j : ℕ). with_slot r.machine.bytes (base + operand w.layout j) (word I32 number)) top in
         let first = g.others s0 refl in
@@ -156,7 +184,9 @@ module _ (image : Image) (near : length (code_of_image image) ≤ 2 ^ 26) (few :
           calls_stay = calls;
           replies_stay = replies;
           globals_stay = ap types_of_values globals;
+          segments_stay = ap length segments;
           steps = 8;
+          some = omega arith;
           short = omega arith;
           last = g.last;
           goes = g.goes;
@@ -181,9 +211,9 @@ module _ (image : Image) (near : length (code_of_image image) ≤ 2 ^ 26) (few :
         omega arith
 
     by_memory : (o : Option (List ℕ)) → grown store.memory x.number image.cap ≡ o → GrownBy image r (base + operand w.layout (suc (length below) - 1)) x.number store o → Passing (x ∷ below) MemoryGrow mid
-    by_memory None e g = grown_passes (2 ^ 32 - 1) r.pages store (omega arith) (ap (grew store locals below) e) refl refl refl g
+    by_memory None e g = grown_passes (2 ^ 32 - 1) r.pages store (omega arith) (ap (grew store locals below) e) refl refl refl refl g
     by_memory (Some memory) e g =
-        grown_passes (pages_of store.memory) (r.pages + x.number) (record store { memory = memory }) pages_few (ap (grew store locals below) e) refl refl refl g
+        grown_passes (pages_of store.memory) (r.pages + x.number) (record store { memory = memory }) pages_few (ap (grew store locals below) e) refl refl refl refl g
 
     grow_passes : x.ty ≡ I32 → HasAt (code_of_image image) i (grow_words w (suc (length below))) → Passing (x ∷ below) MemoryGrow mid
     grow_passes x_ty has =
@@ -211,11 +241,18 @@ module _ (image : Image) (near : length (code_of_image image) ≤ 2 ^ 26) (few :
       → Passes image c labels w base there store locals operands p mid here r ⊎ Halts (code_of_image image) store image.cap locals operands p r.machine
   passes (GlobalSet x) operands mid h one moves low has m =
       let set = moves_set (slice_get c.globals x) (types_of_values operands) mid moves in
-      inl (global_set_passes operands mid x (on_global c.globals store.globals x (λ t. t ∷ []) (λ t. []) (types_of_values operands) mid (slice_get c.globals x) globals_are refl set) low has m)
+      inl (global_set_passes operands mid x (on_global c.globals store.globals x (λ t. t ∷ []) (λ t. []) (types_of_values operands) mid (slice_get c.globals x) fits_store.globals refl set) low has m)
   passes (plain.Store o mem) operands mid h one moves low has m =
       let allowed = moves_only (accesses c mem.align (store_alignment o)) (Fixed (store_type o ∷ I32 ∷ []) []) (types_of_values operands) mid moves in
       store_passes operands mid o mem h (moves_fixed (store_type o ∷ I32 ∷ []) [] (types_of_values operands) mid allowed) low has m
   passes MemoryGrow operands mid h one moves low has m =
       let allowed = moves_only (nat_lt 0 c.memories) (Fixed (I32 ∷ []) (I32 ∷ [])) (types_of_values operands) mid moves in
       inl (grow_one operands mid (moves_fixed (I32 ∷ []) (I32 ∷ []) (types_of_values operands) mid allowed) low has m)
+  passes (Bulk op) operands mid h one moves low has m =
+      let allowed = moves_only (nat_lt 0 c.memories && reads_segment c op) (Fixed (I32 ∷ I32 ∷ I32 ∷ []) []) (types_of_values operands) mid moves in
+      bulk_passes op operands mid (moves_if (nat_lt 0 c.memories && reads_segment c op) (Fixed (I32 ∷ I32 ∷ I32 ∷ []) []) (types_of_values operands) mid moves) (moves_fixed (I32 ∷ I32 ∷ I32 ∷ []) [] (types_of_values operands) mid allowed) low has m
+  passes (DataDrop x) operands mid h one moves low has m =
+      let allowed = moves_only (nat_lt x c.segments) (Fixed [] []) (types_of_values operands) mid moves in
+      let f = moves_fixed [] [] (types_of_values operands) mid allowed in
+      inl (moved operands (DataDrop x) mid (drop_changes code near c labels w base there r.machine.bytes store image.cap locals here r.machine i at r.pages holds fits_store operands mid x (moves_if (nat_lt x c.segments) (Fixed [] []) (types_of_values operands) mid moves) (f.before ∙ sym f.after) has m))
   passes p operands mid h one moves low has m = absurd one

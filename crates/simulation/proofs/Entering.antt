@@ -1,21 +1,22 @@
 -- What is called from outside next: where a function that was called from outside has ended, the environment enters it.
-use Rattle.std.proofs.Common.{◌≡◌, ℕ, ◌+◌, ◌*◌, ◌/◌, ◌^◌, ◌<◌, ◌≤◌, ◌==◌, List, ◌∷◌, length, take, drop, Some, refl, sym, ap, ◌∙◌, subst, arith}
+use Rattle.std.proofs.Common.{◌≡◌, ℕ, ◌+◌, ◌*◌, ◌^◌, ◌<◌, ◌≤◌, ◌==◌, List, ◌∷◌, length, take, drop, Some, refl, sym, ap, ◌∙◌, subst, arith}
 use Rattle.std.specs.Prelude.{slice_get}
 use Rattle.std.proofs.lemmas.Bool.{cond-true, eq-eqb}
-use Rattle.rv_isa.specs.declared.stepping.Region.TheVariants.{Stack, Globals, Table, Memory}
+use Rattle.rv_isa.specs.declared.stepping.Region.TheVariants.{Stack, Globals, Table, Memory, Passive}
 use Rattle.rv_isa.specs.Steps.{State, Bytes, reg, text_base, value_at}
 use Rattle.rv_isa.specs.Runs.{AreBytes, FitWindows}
 use Rattle.wasm_defs.specs.declared.types.ValType.{ValType}
 use Rattle.wasm_defs.specs.Limits.{max_params}
 use Rattle.wasm_defs.specs.Memory.{page}
-use Rattle.wasm_defs.specs.Values.{Value, word_of, words_of, types_of_values}
+use Rattle.wasm_defs.specs.Values.{Value, word_of, words_of}
 use Rattle.wasm_defs.specs.Configurations.{Function, type_of, Instance, Store, Invocation, max_slots}
 use Rattle.frame_layout.specs.Macros.{a7}
 use Rattle.image_format.specs.Contents.{Image}
-use Rattle.image_format.specs.Environment.{Entry, entered, words_at, word_at, with_words}
+use Rattle.image_format.specs.Environment.{Entry, entered, word_at, with_words}
 use Rattle.image_format.specs.ImageRun.{Running, To, finish, environment}
 use Rattle.sim_memory.specs.StoreStands.{StoreStands}
-use Rattle.sim_frames.specs.Functions.{TextPlaces, global_types}
+use Rattle.sim_memory.proofs.StoreStanding.{globals_kept, segments_kept}
+use Rattle.sim_frames.specs.Functions.{TextPlaces, StoreFits}
 use Rattle.sim_frames.proofs.Rules.{types_length}
 use Rattle.sim_frames.proofs.Values.{SameBeside}
 use Rattle.sim_frames.proofs.Words.{word_small}
@@ -45,13 +46,13 @@ module _ (image : Image) (inst : Instance) (places : TextPlaces) where
     pub function : Function
     pub is : slice_get inst.functions next.function ≡ Some function
     pub invoked : IsInvoked (type_of function) (places.function next.function) image.cap store next.arguments r
-    pub types : global_types inst.context.globals ≡ types_of_values store.globals
+    pub types : StoreFits inst.context store
     pub table : TableHolds inst places r.machine.bytes
     pub entries : AreEntries inst places later r.later
 
   -- the machine follows the call that ends a function; what is outside the stack is as before
   module _ (store : Store) (r : Running) (t : State) (size : length t.bytes.stack ≡ 8 * max_slots) (windows : FitWindows t.bytes) (beside : SameBeside r.machine.bytes t.bytes)
-      (calls : r.calls ≡ store.calls) (replies : r.replies ≡ store.replies) (stands : StoreStands store r.pages image.cap r.machine) (types : global_types inst.context.globals ≡ types_of_values store.globals) (table : TableHolds inst places r.machine.bytes)
+      (calls : r.calls ≡ store.calls) (replies : r.replies ≡ store.replies) (stands : StoreStands store r.pages image.cap r.machine) (types : StoreFits inst.context store) (table : TableHolds inst places r.machine.bytes)
       (next : Invocation) (more : List Invocation) (e : Entry × List ValType) (es : List (Entry × List ValType)) (is : IsEntry inst places next e) (others : AreEntries inst places more es) where
     abbrev pub entering : Running
     entering = record r { machine = entered r.pages t.bytes e.0; results = e.1; later = es }
@@ -78,6 +79,7 @@ module _ (image : Image) (inst : Instance) (places : TextPlaces) where
     fit Globals = windows Globals
     fit Table = windows Table
     fit Memory = windows Memory
+    fit Passive = windows Passive
 
     pub enters : Enters store next more (record r { machine = entered r.pages t.bytes e.0; results = e.1; later = es })
     enters = record {
@@ -97,8 +99,10 @@ module _ (image : Image) (inst : Instance) (places : TextPlaces) where
           room = record { within = stands.room.within; size = ap length beside.memory ∙ stands.room.size; zeros = ap (drop (page * r.pages)) beside.memory ∙ stands.room.zeros };
           memory = ap (take (page * r.pages)) beside.memory ∙ stands.memory;
           are_bytes = subst AreBytes (sym beside.memory) stands.are_bytes;
-          globals = ap (λ (l : List ℕ). words_at l 0 (length l / 8)) beside.globals ∙ stands.globals;
+          globals = globals_kept r.machine.bytes (entered r.pages t.bytes e.0).bytes store.globals beside.globals stands.globals;
           in_range = stands.in_range;
+          segments = segments_kept r.machine.bytes (entered r.pages t.bytes e.0).bytes (length store.globals) store.segments beside.globals beside.passive stands.segments;
+          passive = subst AreBytes (sym beside.passive) stands.passive;
         };
       };
       types = types;

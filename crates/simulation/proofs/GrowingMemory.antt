@@ -21,7 +21,7 @@ use Rattle.image_format.specs.Environment.{code_of_image}
 use Rattle.image_format.specs.ImageRun.{Running, memory_of}
 use Rattle.sim_memory.specs.Regions.{memory_now}
 use Rattle.sim_memory.specs.MemoryLaws.{AsksForPages}
-use Rattle.sim_memory.specs.StoreLaws.{all_globals, HasRoom, Answered, Grows}
+use Rattle.sim_memory.specs.StoreLaws.{GlobalsStand, SegmentsStand, HasRoom, Answered, Grows}
 use Rattle.sim_memory.specs.StoreStands.{StoreStands}
 use Rattle.sim_memory.proofs.Answering.{grows_does}
 use Rattle.sim_memory.proofs.Growing.{grow_does, grown_does}
@@ -44,8 +44,10 @@ stands_asked {code} {steps} {words} {number} {pages} {cap} {s} store asks h =
       room = subst (HasRoom cap pages) (sym same) h.room;
       memory = ap (memory_now pages) same ∙ h.memory;
       are_bytes = subst (λ (b : Bytes). AreBytes b.memory) (sym same) h.are_bytes;
-      globals = ap all_globals same ∙ h.globals;
+      globals = subst (λ (b : Bytes). GlobalsStand b store.globals) (sym same) h.globals;
       in_range = h.in_range;
+      segments = subst (λ (b : Bytes). SegmentsStand b (length store.globals) store.segments) (sym same) h.segments;
+      passive = subst (λ (b : Bytes). AreBytes b.passive) (sym same) h.passive;
     }
 
 stands_answered : {number : ℕ} (i : Image) (r : Running) (store : Store) → StoreStands store r.pages i.cap r.machine → (a : Answered i r number r.pages) → StoreStands store r.pages i.cap a.to.machine
@@ -56,8 +58,10 @@ stands_answered {number} i r store h a =
       room = a.room;
       memory = ap (memory_now r.pages) same ∙ h.memory;
       are_bytes = subst (λ (b : Bytes). AreBytes b.memory) (sym same) h.are_bytes;
-      globals = ap all_globals same ∙ h.globals;
+      globals = subst (λ (b : Bytes). GlobalsStand b store.globals) (sym same) h.globals;
       in_range = h.in_range;
+      segments = subst (λ (b : Bytes). SegmentsStand b (length store.globals) store.segments) (sym same) h.segments;
+      passive = subst (λ (b : Bytes). AreBytes b.passive) (sym same) h.passive;
     }
 
 module _ (image : Image) where
@@ -112,7 +116,7 @@ module _ (image : Image) where
           pc_is = omega arith;
           bytes_are = d.bytes_are ∙ ap (λ (b : Bytes). with_slot b slot (word I32 number)) (a.bytes_are ∙ asks.bytes_are);
           pages_are = a.pages_are;
-          stands = store_kept (code_of_image image) after pages image.cap 3 3 a.to.machine (with_slot a.to.machine.bytes slot (word I32 number)) stands refl refl d;
+          stands = store_kept (code_of_image image) after pages image.cap 3 3 a.to.machine (with_slot a.to.machine.bytes slot (word I32 number)) stands refl refl refl d;
           others = λ q e.
               let outer = or_parts (is_passed q) (q == s2) e in
               d.others q (passed_kept q outer.0) ∙ a.others q (kept q e) ∙ asks.others q outer.0;

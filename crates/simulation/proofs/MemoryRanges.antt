@@ -11,9 +11,9 @@ use Rattle.rv_isa.specs.declared.operations.RegOp.TheVariants.{Add}
 use Rattle.rv_isa.specs.Words.{IsInRange}
 use Rattle.rv_isa.specs.Runs.{AllInRange, load_behind, store_behind}
 use Rattle.wasm_defs.specs.declared.operation.LoadOp.{LoadOp}
-use Rattle.wasm_defs.specs.declared.operation.LoadOp.TheVariants.{I32Load, I64Load, I32Load8S, I32Load8U, I32Load16S, I32Load16U, I64Load8S, I64Load8U, I64Load16S, I64Load16U, I64Load32S, I64Load32U}
+use Rattle.wasm_defs.specs.declared.operation.LoadOp.TheVariants.{I32Load}
 use Rattle.wasm_defs.specs.declared.operation.StoreOp.{StoreOp}
-use Rattle.wasm_defs.specs.declared.operation.StoreOp.TheVariants.{I32Store, I64Store, I32Store8, I32Store16, I64Store8, I64Store16, I64Store32}
+use Rattle.wasm_defs.specs.declared.operation.StoreOp.TheVariants.{I32Store}
 use Rattle.wasm_defs.specs.Memory.{load_count, store_count}
 use Rattle.frame_layout.specs.Slots.{operand}
 use Rattle.frame_layout.specs.Macros.{x0, t0, t1, t2, t3, s1, s2, s3, a0, a7, forward, trap, zero_extend, const_32}

@@ -9,14 +9,14 @@ use Rattle.wasm_defs.specs.Typing.{Types, Context, Moves, Typed, rule_of}
 use Rattle.wasm_defs.specs.Values.{Value, types_of_values, trap_number}
 use Rattle.wasm_defs.specs.Configurations.{Instance, Store, Config, Step, Trapped, place_of, belows, used}
 use Rattle.wasm_defs.specs.Reductions.{applied, simple}
-use Rattle.wasm_defs.specs.Effects.{Effect, Gives, Traps, Fails, effect}
+use Rattle.wasm_defs.specs.Effects.{Effect, Gives, Traps, Fails, effect, bytes_written}
 use Rattle.frame_layout.specs.Laws.{TrapsAt}
 use Rattle.frame_layout.specs.Templates.{Label, words}
 use Rattle.image_format.specs.Contents.{Image}
 use Rattle.image_format.specs.Environment.{code_of_image}
 use Rattle.image_format.specs.ImageRun.{Running}
 use Rattle.sim_frames.specs.Covered.{IsStraightStep}
-use Rattle.sim_frames.specs.Functions.{TextPlaces, global_types}
+use Rattle.sim_frames.specs.Functions.{TextPlaces, global_types, StoreFits}
 use Rattle.sim_frames.proofs.Frames.{labels_of, under, Compiled, SitsAt, FramesStay}
 use Rattle.sim_frames.proofs.Follows.{matches_now, stands_on, ahead, labels_ahead, halts_at}
 use Rattle.sim_frames.proofs.Rules.{types_append}
@@ -26,7 +26,7 @@ use Rattle.simulation.specs.Laws.{EnvironmentStands}
 use Rattle.simulation.proofs.Changing.{ChangesStore, Passes, passes}
 use Rattle.simulation.proofs.Entering.{table_kept}
 use Rattle.simulation.proofs.Matching.{StoreStays, Matches, Leads, lifted}
-use Rattle.simulation.proofs.Straight.Effects.{above, enough, effect_above}
+use Rattle.simulation.proofs.Straight.Effects.{above, enough, effect_above, written_above}
 use Rattle.simulation.proofs.Straight.Instructions as one
 use Rattle.simulation.proofs.Straight.Lifts.{simple_applied, behind, moves_all, low_now, has_now, told_now, size_now}
 
@@ -59,15 +59,22 @@ module _ (im : Image) (near : length (code_of_image im) ≤ 2 ^ 26) (inst : Inst
   abbrev Stops : Type 0
   Stops = one.Halts (code_of_image im) c.store im.cap c.frame.locals (c.frame.operands ++ belows c.frame.labels) p r.machine
 
+  -- what the function's context says holds of the store
+  fits_now : StoreFits (under m.running.compiled.context m.running.os) c.store
+  fits_now = record {
+    globals = ap global_types k.globals_are ∙ x.store.types.globals;
+    segments = subst (λ (n : ℕ). n ≤ length c.store.segments) (sym k.segments_are) x.store.types.segments;
+  }
+
   module _ (mid : Types) (moves : Moves (rule_of at p) (types_of_values c.frame.operands) mid) (typed : Typed at rest mid m.running.to) where
     comes : Goes mid ⊎ Stops
     comes =
-        passes im near environment.few at labels k.around (used c.callers) m.address c.store c.frame.locals m.here r (k.begin + m.here) m.at x.store.stands (ap global_types k.globals_are ∙ x.store.types) p (c.frame.operands ++ belows c.frame.labels)
+        passes im near environment.few at labels k.around (used c.callers) m.address c.store c.frame.locals m.here r (k.begin + m.here) m.at x.store.stands fits_now p (c.frame.operands ++ belows c.frame.labels)
         (mid ++ types_of_values (belows c.frame.labels)) step changes (moves_all text near inst places outer c r.machine p rest step m mid moves) (low_now text near inst places outer c r.machine p rest step m) (has_now text near inst places outer c r.machine p rest step m)
         (matches_now text inst places outer (record c.frame { code = Simple p rest }) c.callers r.machine m)
 
     abbrev Goal : Effect → Type 0
-    Goal e = Leads im inst places outer 128 size r (applied c (place_of c.frame (Simple p rest)) rest e)
+    Goal e = Leads im inst places outer 128 size r (applied c (place_of c.frame (Simple p rest)) rest (bytes_written p c.frame.operands) e)
 
     by_effect : (e : Effect) → Whole (above (belows c.frame.labels) e) → Goes mid ⊎ Stops → Goal e
     by_effect (Gives store locals operands) whole_is (inl y) =
@@ -77,6 +84,7 @@ module _ (im : Image) (near : length (code_of_image im) ≤ 2 ^ 26) (inst : Inst
         let after_is : y.after ≡ operands ++ lower = cc in
         let all : types_of_values operands ++ types_of_values lower ≡ mid ++ types_of_values lower = sym (types_append operands lower) ∙ ap types_of_values (sym after_is) ∙ y.types_are in
         let types_are : types_of_values operands ≡ mid = append_cancel_right (types_of_values operands) mid (types_of_values lower) all in
+        let owed : bytes_written p (c.frame.operands ++ lower) ≡ bytes_written p c.frame.operands = written_above p c.frame.operands lower step (enough at p c.frame.operands mid step moves) in
         let pc_is = y.pc_is in
         let at_is = m.at in
         let count = size_now text near inst places outer c r.machine p rest step m in
@@ -84,8 +92,8 @@ module _ (im : Image) (near : length (code_of_image im) ≤ 2 ^ 26) (inst : Inst
         let sits = behind text near inst places outer c r.machine p rest step m mid moves typed in
         record {
           steps = y.steps;
-          within = omega (arith, y.short);
-          moves = inr (omega arith);
+          within = omega (arith, y.short, owed);
+          moves = inl y.some;
           to = y.last;
           goes = y.goes;
           matches = record {
@@ -96,7 +104,7 @@ module _ (im : Image) (near : length (code_of_image im) ≤ 2 ^ 26) (inst : Inst
                 (subst (λ (ts : Types). SitsAt text inst places k m.running.os (Some (length ts + length lower)) ts here rest m.running.to m.running.there) (sym types_are) sits)
                 m.running.fit;
             store = subst (λ (st : Store). StoreStays im inst places st y.last) store_is
-                (record { calls = y.calls ∙ x.store.calls ∙ sym y.calls_stay; replies = y.replies ∙ x.store.replies ∙ sym y.replies_stay; stands = y.stands; types = x.store.types ∙ sym y.globals_stay; table = table_kept inst places r.machine.bytes y.last.machine.bytes y.table_stays x.store.table; told = x.store.told });
+                (record { calls = y.calls ∙ x.store.calls ∙ sym y.calls_stay; replies = y.replies ∙ x.store.replies ∙ sym y.replies_stay; stands = y.stands; types = record { globals = x.store.types.globals ∙ sym y.globals_stay; segments = subst (λ (n : ℕ). inst.context.segments ≤ n) (sym y.segments_stay) x.store.types.segments }; table = table_kept inst places r.machine.bytes y.last.machine.bytes y.table_stays x.store.table; told = x.store.told });
             results = y.results ∙ x.results;
             later = subst (AreEntries inst places c.later) (sym y.later) x.later;
           };
@@ -119,7 +127,7 @@ module _ (im : Image) (near : length (code_of_image im) ≤ 2 ^ 26) (inst : Inst
       let typed = m.running.sits.typed in
       let mid = typed.0 in
       let moves = typed.1 in
-      let same_cap = ap (λ (n : ℕ). applied c (place_of c.frame (Simple p rest)) rest (effect c.store c.frame.locals n p c.frame.operands)) (sym environment.cap) in
+      let same_cap = ap (λ (n : ℕ). applied c (place_of c.frame (Simple p rest)) rest (bytes_written p c.frame.operands) (effect c.store c.frame.locals n p c.frame.operands)) (sym environment.cap) in
       subst (λ (next : Step). Leads im inst places outer 128 size r next) (sym (simple_applied inst c p rest step ∙ same_cap))
       (by_effect mid moves typed.2 (effect c.store c.frame.locals im.cap p c.frame.operands)
       (effect_above c.store c.frame.locals lower im.cap p c.frame.operands step (enough at p c.frame.operands mid step moves)) (comes mid moves typed.2))

@@ -5,3 +5,4 @@ pub mod Outcomes
 pub mod Effects
 pub mod Lifts
 pub mod Memories
+pub mod Bulk

@@ -5,14 +5,14 @@ use Rattle.std.proofs.lemmas.Bool.{cases_lt, cond-true, cond-false, lt-ltb, le-l
 use Rattle.std.proofs.lemmas.List.{length-append, length-map}
 use Rattle.std.proofs.lemmas.Option.{slice_get_within}
 use Rattle.rv_isa.specs.declared.operations.Op.{Op}
-use Rattle.rv_isa.specs.declared.stepping.Region.TheVariants.{Stack, Globals, Table, Memory}
+use Rattle.rv_isa.specs.declared.stepping.Region.TheVariants.{Stack, Globals, Table, Memory, Passive}
 use Rattle.rv_isa.specs.Steps.{State, Bytes, reg, window, Spent}
 use Rattle.rv_isa.specs.Runs.{place, HasAt, Reaches, FitWindows}
 use Rattle.wasm_defs.specs.declared.types.ValType.{ValType}
 use Rattle.wasm_defs.specs.declared.value.TrapKind.TheVariants.{StackExhausted}
 use Rattle.wasm_defs.specs.Typing.{Types, Context, Typed, inside}
 use Rattle.wasm_defs.specs.Places.{Place, end_of}
-use Rattle.wasm_defs.specs.Configurations.{Func, Instance, Store, Invocation, Frame, Config, Inside, Step, To, Trapped, place_of_body, belows, part, used, max_slots}
+use Rattle.wasm_defs.specs.Configurations.{Func, Instance, Store, Invocation, Frame, Step, place_of_body, belows, used, max_slots}
 use Rattle.wasm_defs.specs.Configurations as config
 use Rattle.wasm_defs.specs.Reductions.{enter}
 use Rattle.wasm_defs.specs.Values.{Value, zero_of, types_of_values}
@@ -43,6 +43,7 @@ same_windows b c e same fit Stack = let fits = fit Stack in omega arith
 same_windows b c e same fit Globals = subst (λ (l : List ℕ). length l ≤ window) (sym same.globals) (fit Globals)
 same_windows b c e same fit Table = subst (λ (l : List ℕ). length l ≤ window) (sym same.table) (fit Table)
 same_windows b c e same fit Memory = subst (λ (l : List ℕ). length l ≤ window) (sym same.memory) (fit Memory)
+same_windows b c e same fit Passive = subst (λ (l : List ℕ). length l ≤ window) (sym same.passive) (fit Passive)
 
 zero_holds : (x : ℕ) (v : Value) (t : ValType) → v ≡ zero_of t → x ≡ 0 → Holds x v
 zero_holds x v t e none = subst (Holds x) (sym e) (record { is = none ∙ sym (zero_word t); range = modulus_positive t })
@@ -158,7 +159,7 @@ module _ (text : List (Option Op)) (near : length text ≤ 2 ^ 26) (inst : Insta
 
     module _ (e : Enters text l (used callers) s) (room : used callers + need l ≤ max_slots) where
       beside : SameBeside s.bytes e.does.end.bytes
-      beside = subst (SameBeside s.bytes) (sym e.does.bytes_are) (record { globals = e.globals; table = e.table; memory = e.memory })
+      beside = subst (SameBeside s.bytes) (sym e.does.bytes_are) (record { globals = e.globals; table = e.table; memory = e.memory; passive = e.passive })
 
       low : Agree (used callers) s.bytes e.does.end.bytes
       low = subst (Agree (used callers) s.bytes) (sym e.does.bytes_are) (record { by = λ i less. e.below i (omega arith) })

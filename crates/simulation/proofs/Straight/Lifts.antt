@@ -5,7 +5,7 @@ use Rattle.rv_isa.specs.declared.operations.Op.{Op}
 use Rattle.rv_isa.specs.Steps.{State}
 use Rattle.rv_isa.specs.Runs.{HasAt}
 use Rattle.wasm_defs.specs.declared.token.Plain.{Plain}
-use Rattle.wasm_defs.specs.declared.token.Plain.TheVariants.{Nop, Discard, Select, LocalGet, LocalSet, LocalTee, GlobalGet, GlobalSet, Load, Store, MemorySize, MemoryGrow, Const, Operate}
+use Rattle.wasm_defs.specs.declared.token.Plain.TheVariants.{Nop, Discard, Select, LocalGet, LocalSet, LocalTee, GlobalGet, GlobalSet, Load, Store, MemorySize, MemoryGrow, Bulk, DataDrop, Const, Operate}
 use Rattle.wasm_defs.specs.Trees.{Seq, Simple}
 use Rattle.wasm_defs.specs.Typing.{Types, Context, Moves, Typed, rule_of}
 use Rattle.wasm_defs.specs.Places.{Place, after_rule}
@@ -14,7 +14,7 @@ use Rattle.wasm_defs.specs.declared.value.TrapKind.{TrapKind}
 use Rattle.frame_layout.specs.Laws.{TrapsAt}
 use Rattle.wasm_defs.specs.Configurations.{Instance, Config, Step, place_of, belows, used}
 use Rattle.wasm_defs.specs.Reductions.{applied, simple}
-use Rattle.wasm_defs.specs.Effects.{Effect, Gives, Traps, Fails, effect}
+use Rattle.wasm_defs.specs.Effects.{Effect, Gives, Traps, Fails, effect, bytes_written}
 use Rattle.frame_layout.specs.Traps.{trap_places}
 use Rattle.frame_layout.specs.Templates.{Label, words}
 use Rattle.sim_frames.specs.Covered.{IsStraightStep}
@@ -27,11 +27,11 @@ use Rattle.sim_frames.proofs.Sited.{IsIn}
 use Rattle.sim_frames.proofs.Sitting.{has_words, trap_told, sits_rest}
 use Rattle.simulation.proofs.Straight.Effects.{above, enough, effect_above}
 use Rattle.simulation.proofs.Straight.Instructions as one
-use Rattle.simulation.proofs.Straight.Outcomes.{KeepsStore, outcome}
+use Rattle.simulation.proofs.Straight.Outcomes.{KeepsStore, none_written, outcome}
 use Rattle.sim_memory.specs.StoreStands.{StoreStands}
 use Rattle.sim_frames.specs.Functions.{TextPlaces, global_types}
 
-pub simple_applied : (inst : Instance) (c : Config) (p : Plain) (rest : Seq) → IsStraightStep p → simple inst c p rest ≡ applied c (place_of c.frame (Simple p rest)) rest (effect c.store c.frame.locals inst.cap p c.frame.operands)
+pub simple_applied : (inst : Instance) (c : Config) (p : Plain) (rest : Seq) → IsStraightStep p → simple inst c p rest ≡ applied c (place_of c.frame (Simple p rest)) rest (bytes_written p c.frame.operands) (effect c.store c.frame.locals inst.cap p c.frame.operands)
 simple_applied inst c Nop rest h = refl
 simple_applied inst c Discard rest h = refl
 simple_applied inst c Select rest h = refl
@@ -44,6 +44,8 @@ simple_applied inst c (Load o a) rest h = refl
 simple_applied inst c (Store o a) rest h = refl
 simple_applied inst c MemorySize rest h = refl
 simple_applied inst c MemoryGrow rest h = refl
+simple_applied inst c (Bulk op) rest h = refl
+simple_applied inst c (DataDrop x) rest h = refl
 simple_applied inst c (Const t n) rest h = refl
 simple_applied inst c (Operate op) rest h = refl
 simple_applied inst c p rest h = absurd h
@@ -132,7 +134,7 @@ module _ (text : List (Option Op)) (near : length text ≤ 2 ^ 26) (inst : Insta
           (matches_now text inst places outer (record c.frame { code = Simple p rest }) c.callers s m)
 
       abbrev Goal : Effect → Type 0
-      Goal e = Follows text inst places outer c.store c.later 128 (ahead (Simple p rest) + labels_ahead c.frame.labels) s (applied c (place_of c.frame (Simple p rest)) rest e)
+      Goal e = Follows text inst places outer c.store c.later 128 (ahead (Simple p rest) + labels_ahead c.frame.labels) s (applied c (place_of c.frame (Simple p rest)) rest 0 e)
 
       by_effect : Typed at rest mid m.running.to → (e : Effect) → Whole (above (belows c.frame.labels) e) → Goes mid ⊎ Stops → Goal e
       by_effect typed (Gives store locals operands) whole_is (inl x) =
@@ -176,6 +178,6 @@ module _ (text : List (Option Op)) (near : length text ≤ 2 ^ 26) (inst : Insta
         let typed = m.running.sits.typed in
         let mid = typed.0 in
         let moves = typed.1 in
-        subst (λ (x : Step). Follows text inst places outer c.store c.later 128 (ahead (Simple p rest) + labels_ahead c.frame.labels) s x) (sym (simple_applied inst c p rest step))
+        subst (λ (x : Step). Follows text inst places outer c.store c.later 128 (ahead (Simple p rest) + labels_ahead c.frame.labels) s x) (sym (simple_applied inst c p rest step ∙ ap (λ (n : ℕ). applied c (place_of c.frame (Simple p rest)) rest n (effect c.store c.frame.locals inst.cap p c.frame.operands)) (none_written p c.frame.operands keeps)))
         (by_effect mid moves typed.2 (effect c.store c.frame.locals inst.cap p c.frame.operands)
         (effect_above c.store c.frame.locals (belows c.frame.labels) inst.cap p c.frame.operands step (enough at p c.frame.operands mid step moves)) (comes mid moves keeps typed.2))

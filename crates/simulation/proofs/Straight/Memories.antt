@@ -8,7 +8,7 @@ use Rattle.rv_isa.specs.declared.operations.Op.{Op}
 use Rattle.rv_isa.specs.Steps.{reg, State, Bytes, value_at, le_bytes, window}
 use Rattle.rv_isa.proofs.ByteLaws.{length-put, length-le_bytes}
 use Rattle.rv_isa.specs.Runs.{place, HasAt, AreBytes, Reaches, FitWindows}
-use Rattle.rv_isa.specs.declared.stepping.Region.TheVariants.{Stack, Globals, Table, Memory}
+use Rattle.rv_isa.specs.declared.stepping.Region.TheVariants.{Stack, Globals, Table, Memory, Passive}
 use Rattle.wasm_defs.specs.declared.types.ValType.TheVariants.{I32}
 use Rattle.wasm_defs.specs.declared.value.TrapKind.TheVariants.{MemoryBounds}
 use Rattle.wasm_defs.specs.declared.operation.LoadOp.{LoadOp}
@@ -21,7 +21,7 @@ use Rattle.wasm_defs.specs.Typing.{Types, Context, load_type, store_type}
 use Rattle.wasm_defs.specs.Configurations.{Store}
 use Rattle.wasm_defs.specs.Values.{Value, word, word_of, types_of_values}
 use Rattle.wasm_defs.specs.Memory.{page, pages_of, number_of, bytes_at, bytes_of, written_at, load_count, store_count, extended}
-use Rattle.wasm_defs.specs.Effects.{Gives, effect, loaded, stored, pushed, value}
+use Rattle.wasm_defs.specs.Effects.{Gives, effect, loaded, stored, pushed, value, bytes_written}
 use Rattle.frame_layout.specs.Slots.{link, operand}
 use Rattle.frame_layout.specs.declared.layout.Layout.{Layout}
 use Rattle.frame_layout.specs.Macros.{s0, s5}
@@ -35,7 +35,7 @@ use Rattle.sim_memory.proofs.Globals.{global_get_does, global_set_does}
 use Rattle.sim_memory.proofs.Growing.{size_does, pages_now}
 use Rattle.sim_memory.proofs.Loads.{load_does}
 use Rattle.sim_memory.proofs.Parts.{load_range}
-use Rattle.sim_memory.proofs.Standing.{global_inside, global_read, written_stands}
+use Rattle.sim_memory.proofs.Standing.{global_inside, global_read, written_stands, bytes_of_are}
 use Rattle.sim_memory.proofs.Stores.{store_law_does}
 use Rattle.sim_memory.proofs.StoreStanding.{store_set, store_stored}
 use Rattle.sim_frames.proofs.Sets.{set_types}
@@ -106,7 +106,7 @@ agrees old bytes same n = record { by = λ k less. slot_kept old bytes same k }
 
 module _ {code : List (Option Op)} {l : Layout} {base there : ℕ} {b : Bytes} {locals operands : List Value} {s : State} {steps words : ℕ} (bytes : Bytes) (same : bytes.stack ≡ s.bytes.stack) (fit : FitWindows bytes)
     (m : Matches l base there b locals operands s) (others : List Value) (live : Operands s.bytes (base + operand l 0) others) where
-  beside_matches : (d : Does code steps words s bytes) → Matches l base there (record d.end.bytes { stack = b.stack }) locals others d.end
+  pub beside_matches : (d : Does code steps words s bytes) → Matches l base there (record d.end.bytes { stack = b.stack }) locals others d.end
   beside_matches d =
       let is = d.bytes_are in
       record {
@@ -121,7 +121,7 @@ module _ {code : List (Option Op)} {l : Layout} {base there : ℕ} {b : Bytes} {
         values = subst (λ (c : Bytes). Locals c base locals) (sym is) (locals_kept s.bytes bytes base locals (agrees s.bytes bytes same (base + length locals)) m.values);
         live = subst (λ (c : Bytes). Operands c (base + operand l 0) others) (sym is) (operands_kept s.bytes bytes (base + operand l 0) others (agrees s.bytes bytes same (base + operand l 0 + length others)) live);
         link_is = ap (λ (c : Bytes). slot_at c (base + link l)) is ∙ slot_kept s.bytes bytes same (base + link l) ∙ m.link_is;
-        beside = record { globals = refl; table = refl; memory = refl };
+        beside = record { globals = refl; table = refl; memory = refl; passive = refl };
         low = record { by = λ k less. ap (λ (c : Bytes). slot_at c k) is ∙ slot_kept s.bytes bytes same k ∙ m.low.by k less };
       }
 
@@ -134,8 +134,10 @@ pub record Changes (code : List (Option Op)) (c : Context) (labels : List Label)
   pub calls_stay : store_after.calls ≡ store.calls
   pub replies_stay : store_after.replies ≡ store.replies
   pub globals_stay : types_of_values store_after.globals ≡ types_of_values store.globals
+  pub segments_stay : length store_after.segments ≡ length store.segments
   pub steps : ℕ
-  pub short : steps ≤ most_steps
+  pub some : 0 < steps
+  pub short : steps ≤ most_steps + 128 * bytes_written p operands
   pub end : State
   pub reaches : Reaches code steps s end
   pub pc_is : end.pc ≡ s.pc + 4 * length (words w c labels (length operands) here p)
@@ -166,7 +168,9 @@ module _ (code : List (Option Op)) (c : Context) (labels : List Label) (w : Arou
         calls_stay = refl;
         replies_stay = refl;
         globals_stay = set_types store.globals x u v is same;
+        segments_stay = refl;
         steps = 6;
+        some = omega arith;
         short = omega arith;
         end = d.end;
         reaches = d.reaches;
@@ -182,6 +186,7 @@ module _ (code : List (Option Op)) (c : Context) (labels : List Label) (w : Arou
       fits bytes small fit Globals = small
       fits bytes small fit Table = fit Table
       fits bytes small fit Memory = fit Memory
+      fits bytes small fit Passive = fit Passive
 
   module _ (y x : Value) (below : List Value) (o : StoreOp) (mem : MemArg) (y_ty : y.ty ≡ store_type o) (x_ty : x.ty ≡ I32) (high : suc (suc (length below)) ≤ w.layout.greatest) (m : Matches w.layout base there b locals (y ∷ x ∷ below) s) where
     abbrev Comes : Types → Type 0
@@ -192,6 +197,7 @@ module _ (code : List (Option Op)) (c : Context) (labels : List Label) (w : Arou
     fits memory small fit Globals = fit Globals
     fits memory small fit Table = fit Table
     fits memory small fit Memory = small
+    fits memory small fit Passive = fit Passive
 
     stored_comes : (mid : Types) (r : Option (List ℕ)) → types_of_values below ≡ mid → written_at store.memory (x.number + mem.offset) (bytes_of (store_count o) y.number) ≡ r → Stored code s r → Comes mid
     stored_comes mid None types e traps = inr (record { kind = MemoryBounds; gives = ap (stored store locals below) e; steps = 16; short = omega arith; behind = 16; traps = traps; word = 15; ends = refl; among = inl refl })
@@ -206,7 +212,9 @@ module _ (code : List (Option Op)) (c : Context) (labels : List Label) (w : Arou
           calls_stay = refl;
           replies_stay = refl;
           globals_stay = refl;
+          segments_stay = refl;
           steps = 18;
+          some = omega arith;
           short = omega arith;
           end = d.end;
           reaches = d.reaches;
@@ -214,7 +222,7 @@ module _ (code : List (Option Op)) (c : Context) (labels : List Label) (w : Arou
           others = d.others;
           matches = beside_matches (with_memory s.bytes memory) refl (fits memory (subst (λ (n : ℕ). n ≤ window) (sym now.size) (m.frame.windows Memory)) m.frame.windows) m below m.live.1.1 d;
           table_stays = ap (λ (c : Bytes). c.table) d.bytes_are;
-          stands = store_stored code store pages cap 18 21 (x.number + mem.offset) (store_count o) y.number memory s holds e d;
+          stands = store_stored code store pages cap 18 21 memory s holds (record { place = x.number + mem.offset; bytes = bytes_of (store_count o) y.number; sound = bytes_of_are (store_count o) y.number; is = e }) d;
         })
 
     pub store_comes : (mid : Types) → types_of_values below ≡ mid → mem.offset < 2 ^ 32 → HasAt code i (store_words w (suc (suc (length below))) o mem.offset) → length code ≤ 2 ^ 26 → Comes mid

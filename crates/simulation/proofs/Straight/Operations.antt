@@ -11,7 +11,7 @@ use Rattle.wasm_defs.specs.declared.operation.Operation.{Operation}
 use Rattle.wasm_defs.specs.declared.operation.Operation.TheVariants.{Unary, Test, Binary, Compare, Convert, Extend}
 use Rattle.wasm_defs.specs.declared.operation.UnaryOp.{UnaryOp}
 use Rattle.wasm_defs.specs.declared.operation.BinaryOp.{BinaryOp}
-use Rattle.wasm_defs.specs.declared.operation.BinaryOp.TheVariants.{Add, Sub, Mul, DivS, DivU, RemS, RemU, And, Or, Xor, Shl, ShrS, ShrU, Rotl, Rotr}
+use Rattle.wasm_defs.specs.declared.operation.BinaryOp.TheVariants.{Add, DivS, DivU, RemS, RemU}
 use Rattle.wasm_defs.specs.declared.operation.CompareOp.{CompareOp}
 use Rattle.wasm_defs.specs.declared.operation.ConvertOp.{ConvertOp}
 use Rattle.wasm_defs.specs.declared.operation.ConvertOp.TheVariants.{Wrap, ExtendS, ExtendU}

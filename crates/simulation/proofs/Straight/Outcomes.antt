@@ -7,13 +7,14 @@ use Rattle.rv_isa.specs.Runs.{place, HasAt}
 use Rattle.wasm_defs.specs.declared.types.ValType.{ValType}
 use Rattle.wasm_defs.specs.declared.types.ValType.TheVariants.{I32, I64}
 use Rattle.wasm_defs.specs.declared.token.Plain.{Plain}
-use Rattle.wasm_defs.specs.declared.token.Plain.TheVariants.{Nop, Discard, Select, LocalGet, LocalSet, LocalTee, GlobalGet, GlobalSet, Load, MemorySize, MemoryGrow, Const, Operate}
+use Rattle.wasm_defs.specs.declared.token.Plain.TheVariants.{Nop, Discard, Select, LocalGet, LocalSet, LocalTee, GlobalGet, GlobalSet, Load, MemorySize, MemoryGrow, Bulk, DataDrop, Const, Operate}
 use Rattle.wasm_defs.specs.declared.token.Plain.TheVariants as plain
 use Rattle.wasm_defs.specs.declared.operation.LoadOp.{LoadOp}
 use Rattle.wasm_defs.specs.declared.token.MemArg.{MemArg}
 use Rattle.wasm_defs.specs.Typing.{Types, Context, Moves, Fixed, operated, load_type, load_alignment, accesses, rule_of}
 use Rattle.wasm_defs.specs.Configurations.{Store}
 use Rattle.wasm_defs.specs.Values.{Value, types_of_values}
+use Rattle.wasm_defs.specs.Effects.{bytes_written}
 use Rattle.frame_layout.specs.Templates.{Label, Around, const_words, load_words, words}
 use Rattle.sim_frames.specs.Covered.{IsStraightStep}
 use Rattle.sim_frames.proofs.Rules.{types_length, MovesFixed, moves_fixed, discards, selects, on_local, on_global, moves_only}
@@ -30,7 +31,15 @@ abbrev pub KeepsStore : Plain → Type 0
 KeepsStore (GlobalSet x) = ⊥
 KeepsStore (plain.Store o m) = ⊥
 KeepsStore MemoryGrow = ⊥
+KeepsStore (Bulk op) = ⊥
+KeepsStore (DataDrop x) = ⊥
 KeepsStore p = Unit {0}
+
+-- they write no bytes
+pub none_written : (p : Plain) (operands : List Value) → KeepsStore p → bytes_written p operands ≡ 0
+none_written (Bulk op) operands keeps = absurd keeps
+none_written (DataDrop x) operands keeps = absurd keeps
+none_written p operands keeps = refl
 
 const_short : (w : Around) (h : ℕ) (t : ValType) (n : ℕ) → length (const_words w h t n) ≤ most_steps
 const_short w h I32 n = omega arith
@@ -88,6 +97,8 @@ module _ (code : List (Option Op)) (near : length code ≤ 2 ^ 26) (c : Context)
       let is : I32 ∷ types_of_values operands ≡ mid = ap (λ (ts : Types). I32 ∷ ts) f.before ∙ sym f.after in
       inl (size_follows code c labels w base there b store cap locals here s i at pages holds operands mid is (fits_one_more operands I32 mid is high) has m)
   outcome MemoryGrow operands mid h keeps moves low high has m = absurd keeps
+  outcome (Bulk op) operands mid h keeps moves low high has m = absurd keeps
+  outcome (DataDrop x) operands mid h keeps moves low high has m = absurd keeps
   outcome (Const t n) operands mid h keeps moves low high has m =
       let f = moves_fixed [] (t ∷ []) (types_of_values operands) mid moves in
       let is : t ∷ types_of_values operands ≡ mid = ap (λ (ts : Types). t ∷ ts) f.before ∙ sym f.after in

@@ -1,0 +1,11 @@
+pub mod Lists
+pub mod Loops
+pub mod Moved
+pub mod Three
+pub mod Parts
+pub mod Fill
+pub mod Choosing
+pub mod Operands
+pub mod Copy
+pub mod Init
+pub mod Over
