@@ -55,14 +55,14 @@ table-within w c t h d ends = (0, omega arith)
 
 -- ---- a body
 
-pub too_long : (c : Context) (last at b : ℕ) (before d e : Cursor) (t : Token) (h : ℕ) (check : Checked) (code : Spelled) (layout : Layout) (front : List ℕ) (old : CallingDraft) → (k : IsCompiling c last before check code layout front old)
-    → byte before ≡ Got (at, b) d → (check.checker.frames ≡ [] → ⊥) → instruction at b d ≡ Got t e
+pub too_long : (counted : Bool) (c : Context) (last at b : ℕ) (before d e : Cursor) (t : Token) (h : ℕ) (check : Checked) (code : Spelled) (layout : Layout) (front : List ℕ) (old : CallingDraft) → (k : IsCompiling counted c last before check code layout front old)
+    → byte before ≡ Got (at, b) d → (check.checker.frames ≡ [] → ⊥) → instruction counted at b d ≡ Got t e
     → ((more : List Token) (tree : Seq) → Tree (tokens_of k.going.tokens ++ t ∷ more) tree → IsBody check.context tree → slice_get (places_of check.context tree) (length (tokens_of k.going.tokens)) ≡ Some (Some h))
     → PassesText old.draft.labels old.draft.words t
     → IsTooLong c code layout old.rows front
-too_long c last at b before d e t h check code layout front old k here goes is placed many = λ tree valid w g l near.
+too_long counted c last at b before d e t h check code layout front old k here goes is placed many = λ tree valid w g l near.
     let tokens = tokens_of k.going.tokens in
-    let all = tokens_behind c last at b before d e t check code k.going here goes is in
+    let all = tokens_behind counted c last at b before d e t check code k.going here goes is in
     let more = all.0 in
     let spells : Tree (tokens ++ t ∷ more) tree = sym all.1 ∙ valid.tree_is in
     let r = k.placed (t ∷ more) tree spells valid.typed in
@@ -81,10 +81,10 @@ too_long c last at b before d e t h check code layout front old k here goes is p
 
 -- ---- one token more, whether or not the code is too long
 
-pub takes_behind : (c module_context : Context) (last at b : ℕ) (before d e : Cursor) (t : Token) (s : Taken_step) (check later : Checked) (code : Spelled) (layout : Layout) (front : List ℕ) (old new : CallingDraft) (was is_now : Bool) → (k : IsTaking was c last before check code layout front old)
-    → byte before ≡ Got (at, b) d → (check.checker.frames ≡ [] → ⊥) → instruction at b d ≡ Got t e
+pub takes_behind : (counted : Bool) (c module_context : Context) (last at b : ℕ) (before d e : Cursor) (t : Token) (s : Taken_step) (check later : Checked) (code : Spelled) (layout : Layout) (front : List ℕ) (old new : CallingDraft) (was is_now : Bool) → (k : IsTaking counted was c last before check code layout front old)
+    → byte before ≡ Got (at, b) d → (check.checker.frames ≡ [] → ⊥) → instruction counted at b d ≡ Got t e
     → step_checker check.context t check.checker ≡ Some later.checker → later.context ≡ check.context
-    → let tokens = tokens_of (going_of was c last before check code layout front old k).tokens in
+    → let tokens = tokens_of (going_of counted was c last before check code layout front old k).tokens in
     IsReached (tokens ++ t ∷ []) later
     → ((more : List Token) (tree : Seq) → Tree (tokens ++ t ∷ more) tree → IsBody check.context tree → slice_get (places_of check.context tree) (length tokens) ≡ Some (guarded s.live s.height_before))
     → HaveSameFunctions check.context module_context
@@ -92,15 +92,15 @@ pub takes_behind : (c module_context : Context) (last at b : ℕ) (before d e : 
     → ((w : Around) (c : Context) → w.layout ≡ layout → IsUnlinked old.rows module_context.types w → HaveSameFunctions c module_context → Step w c t (appended_at is_now t (guarded s.live s.height_before)) old.draft new.draft)
     → ((w : Around) → new.calls ≡ old.calls ++ token_calls w t (guarded s.live s.height_before) (length old.draft.words))
     → new.sites ≡ old.sites ++ token_sites t (guarded s.live s.height_before) (length old.draft.words) at
-    → new.rows ≡ old.rows → IsTaking is_now c last e later code layout front new
-takes_behind c m last at b before d e t s check later code layout front old new false false k h more is stepped same reached placed functions gets steps calls sites rows =
-    compiles_behind c m last at b before d e t s check later code layout front old new k h more is stepped same reached placed functions steps calls sites rows
-takes_behind c m last at b before d e t s check later code layout front old new false true k h more is stepped same reached placed functions gets steps calls sites rows =
+    → new.rows ≡ old.rows → IsTaking counted is_now c last e later code layout front new
+takes_behind counted c m last at b before d e t s check later code layout front old new false false k h more is stepped same reached placed functions gets steps calls sites rows =
+    compiles_behind counted c m last at b before d e t s check later code layout front old new k h more is stepped same reached placed functions steps calls sites rows
+takes_behind counted c m last at b before d e t s check later code layout front old new false true k h more is stepped same reached placed functions gets steps calls sites rows =
     let live : guarded s.live s.height_before ≡ Some s.height_before = ap (λ (l : Bool). guarded l s.height_before) gets.0 in
-    let long = too_long c last at b before d e t s.height_before check code layout front old k h more is (λ others tree spells body. placed others tree spells body ∙ ap (λ (q : Place). Some q) live) gets.1 in (
-      (goes_behind c last at b before d e t check later code k.going h more is stepped same reached).going,
+    let long = too_long counted c last at b before d e t s.height_before check code layout front old k h more is (λ others tree spells body. placed others tree spells body ∙ ap (λ (q : Place). Some q) live) gets.1 in (
+      (goes_behind counted c last at b before d e t check later code k.going h more is stepped same reached).going,
       subst (λ (n : ℕ). IsTooLong c code layout n front) (sym rows) long,
     )
-takes_behind c m last at b before d e t s check later code layout front old new true true k h more is stepped same reached placed functions gets steps calls sites rows =
-    ((goes_behind c last at b before d e t check later code k.0 h more is stepped same reached).going, subst (λ (n : ℕ). IsTooLong c code layout n front) (sym rows) k.1)
-takes_behind c m last at b before d e t s check later code layout front old new true false k h more is stepped same reached placed functions gets steps calls sites rows = absurd gets
+takes_behind counted c m last at b before d e t s check later code layout front old new true true k h more is stepped same reached placed functions gets steps calls sites rows =
+    ((goes_behind counted c last at b before d e t check later code k.0 h more is stepped same reached).going, subst (λ (n : ℕ). IsTooLong c code layout n front) (sym rows) k.1)
+takes_behind counted c m last at b before d e t s check later code layout front old new true false k h more is stepped same reached placed functions gets steps calls sites rows = absurd gets

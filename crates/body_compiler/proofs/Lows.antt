@@ -1,5 +1,5 @@
 -- Heights rise with each token that is taken, by no more than a type has parameters or results.
-use Rattle.std.proofs.Common.{◌≡◌, ◌≤◌, ℕ, zero, suc, ◌+◌, ◌-◌, ◌*◌, Bool, true, false, List, [], ◌∷◌, ◌++◌, length, Option, None, Some, refl, sym, ap, ◌∙◌, subst, arith, length-append}
+use Rattle.std.proofs.Common.{◌≡◌, ◌≤◌, ℕ, zero, suc, ◌+◌, ◌-◌, ◌*◌, Bool, true, false, ◌&&◌, List, [], ◌∷◌, ◌++◌, length, Option, None, Some, refl, sym, ap, ◌∙◌, subst, arith, length-append}
 use Rattle.std.specs.Prelude.{slice_get, nat_lt}
 use Rattle.std.proofs.lemmas.List.{length-reverse}
 use Rattle.wasm_defs.specs.declared.operation.Operation.{Operation}
@@ -8,14 +8,14 @@ use Rattle.wasm_defs.specs.declared.operation.ConvertOp.TheVariants.{Wrap, Exten
 use Rattle.wasm_defs.specs.declared.token.BlockType.{BlockType}
 use Rattle.wasm_defs.specs.declared.token.BlockType.TheVariants.{Empty, Value, Index}
 use Rattle.wasm_defs.specs.declared.token.Plain.{Plain}
-use Rattle.wasm_defs.specs.declared.token.Plain.TheVariants.{Unreachable, Nop, Br, BrIf, BrTable, Return, Call, CallIndirect, Discard, Select, LocalGet, LocalSet, LocalTee, GlobalGet, GlobalSet, Load, Store, MemorySize, MemoryGrow, Const, Operate}
+use Rattle.wasm_defs.specs.declared.token.Plain.TheVariants.{Unreachable, Nop, Br, BrIf, BrTable, Return, Call, CallIndirect, Discard, Select, LocalGet, LocalSet, LocalTee, GlobalGet, GlobalSet, Load, Store, MemorySize, MemoryGrow, Bulk, DataDrop, Const, Operate}
 use Rattle.wasm_defs.specs.declared.token.Token.{Token}
 use Rattle.wasm_defs.specs.declared.token.Token.TheVariants as token
 use Rattle.wasm_defs.specs.declared.types.FuncType.{FuncType}
 use Rattle.wasm_defs.specs.declared.types.ValType.{ValType}
 use Rattle.wasm_defs.specs.declared.types.ValType.TheVariants.{I32}
 use Rattle.wasm_defs.specs.Places.{higher}
-use Rattle.wasm_defs.specs.Typing.{Types, Signature, Context, Rule, Untyped, Fixed, Stops, Discards, Selects, with_type, only_if, accesses, load_type, load_alignment, store_type, store_alignment, are_labels, function_type, called, rule_of, operated, option_signature, signature_of, block_type}
+use Rattle.wasm_defs.specs.Typing.{Types, Signature, Context, Rule, Untyped, Fixed, Stops, Discards, Selects, with_type, only_if, accesses, reads_segment, load_type, load_alignment, store_type, store_alignment, are_labels, function_type, called, rule_of, operated, option_signature, signature_of, block_type}
 use Rattle.body_validator.specs.declared.stack.Opening.{Opening}
 use Rattle.body_validator.specs.declared.stack.Opening.TheVariants.{Block as Blocks, Loop as Loops, If as Ifs, Else as Elses}
 use Rattle.body_validator.specs.Checking.{Operand, Operands, Frame, Frames, ◌>>=◌, guarded, known, take_one, take_all, Taken, take_any, joined, put, apply, applied, label_of, at, enter, fresh, receive, step, height, starts_live, place_of, measured, Checker, step_checker}
@@ -142,6 +142,8 @@ plain_low c (Load op m) small functions = only_low (accesses c m.align (load_ali
 plain_low c (Store op m) small functions = only_low (accesses c m.align (store_alignment op)) (Fixed (store_type op ∷ I32 ∷ []) []) (omega arith)
 plain_low c MemorySize small functions = only_low (nat_lt 0 c.memories) (Fixed [] (I32 ∷ [])) (omega arith)
 plain_low c MemoryGrow small functions = only_low (nat_lt 0 c.memories) (Fixed (I32 ∷ []) (I32 ∷ [])) (omega arith)
+plain_low c (Bulk op) small functions = only_low (nat_lt 0 c.memories && reads_segment c op) (Fixed (I32 ∷ I32 ∷ I32 ∷ []) []) (omega arith)
+plain_low c (DataDrop x) small functions = only_low (nat_lt x c.segments) (Fixed [] []) (omega arith)
 plain_low c (Const t n) small functions = omega arith
 plain_low c (Operate op) small functions = operation_low op
 

@@ -78,6 +78,7 @@ fn take_instruction(
     check: &mut Check<'_>,
     draft: &mut Draft,
     sites: &mut Vec<TrapSite>,
+    counted: bool,
     last: u64,
     at: u64,
     opcode: u8,
@@ -94,9 +95,9 @@ fn take_instruction(
     ensures bytes { OnOk result (AreBytes fields.new.rest) }
     ensures tied { OnOk result (AreTied draft.new.labels check.new (length fields.new.rest)) }
     ensures grows { OnOk result (length draft.old.words ≤ length draft.new.words) }
-    ensures goes { (c : ContextGiven) (code : SpelledGiven) (before : CursorGiven) (front : List ℕ) → IsTaking draft.old.too_long c last before check.old code draft.old.layout front (calling draft.old.labels draft.old.words draft.old.calls.items draft.old.rows sites.old.items) → byte before ≡ Got (at, opcode) fields.old → check.old.checker.frames ≢ [] → Goes c last code draft.old.layout front result draft.new.too_long fields.new check.new (calling draft.new.labels draft.new.words draft.new.calls.items draft.new.rows sites.new.items) }
+    ensures goes { (c : ContextGiven) (code : SpelledGiven) (before : CursorGiven) (front : List ℕ) → IsTaking counted draft.old.too_long c last before check.old code draft.old.layout front (calling draft.old.labels draft.old.words draft.old.calls.items draft.old.rows sites.old.items) → byte before ≡ Got (at, opcode) fields.old → check.old.checker.frames ≢ [] → Goes counted c last code draft.old.layout front result draft.new.too_long fields.new check.new (calling draft.new.labels draft.new.words draft.new.calls.items draft.new.rows sites.new.items) }
 {
-    let token = match instruction(fields, alloc, at, opcode) {
+    let token = match instruction(fields, alloc, counted, at, opcode) {
         Ok(token) => token,
         Err(stop) => return Err(stop_of(stop, last)),
     };
@@ -115,14 +116,16 @@ fn take_instruction(
     }
 }
 
-/// Validates and compiles the code of a body whose last byte has the offset `last`, and notes where it traps. Where its instruction
-/// words are more than a text may have, it is validated to its end all the same, and not all of them are made.
+/// Validates and compiles the code of a body whose last byte has the offset `last`, in a module that counts its data segments or doesn't,
+/// and notes where it traps. Where its instruction words are more than a text may have, it is validated to its end all the same, and not
+/// all of them are made.
 pub fn judge_code(
     alloc: Global,
     fields: &mut Fields<'_>,
     check: &mut Check<'_>,
     draft: &mut Draft,
     sites: &mut Vec<TrapSite>,
+    counted: bool,
     last: u64,
 ) -> Result<(), BodyStop>
     requires held { IsHeld (drafted draft.old.labels draft.old.words) }
@@ -136,12 +139,14 @@ pub fn judge_code(
     ensures over { OnOk result (check.new.checker.frames ≡ []) }
     ensures most { OnOk result (check.new.checker.greatest ≤ max_lift * max_body) }
     ensures grows { OnOk result (length draft.old.words ≤ length draft.new.words) }
-    ensures judges { (c : ContextGiven) (code : SpelledGiven) (front : List ℕ) → IsCompiling c last fields.old check.old code draft.old.layout front (calling draft.old.labels draft.old.words draft.old.calls.items draft.old.rows sites.old.items) → Judges c code draft.old.layout front result check.new (calling draft.new.labels draft.new.words draft.new.calls.items draft.new.rows sites.new.items) }
+    ensures judges { (c : ContextGiven) (code : SpelledGiven) (front : List ℕ) → IsCompiling counted c last fields.old check.old code draft.old.layout front (calling draft.old.labels draft.old.words draft.old.calls.items draft.old.rows sites.old.items) → Judges c code draft.old.layout front result check.new (calling draft.new.labels draft.new.words draft.new.calls.items draft.new.rows sites.new.items) }
 {
     while !check.is_over() {
         match fields.byte() {
             Ok((at, opcode)) => {
-                match take_instruction(alloc, fields, check, draft, sites, last, at, opcode) {
+                match take_instruction(
+                    alloc, fields, check, draft, sites, counted, last, at, opcode,
+                ) {
                     Ok(()) => {}
                     Err(stop) => return Err(stop),
                 }

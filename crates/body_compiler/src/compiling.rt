@@ -1,13 +1,13 @@
 //! A whole body.
 
-ghost use Rattle.std.specs.Prelude.{◌≡◌, ◌+◌, ◌<◌, ◌≤◌, ◌^◌, [], IsSome, length};
+ghost use Rattle.std.specs.Prelude.{◌≡◌, ◌+◌, ◌<◌, ◌≤◌, ◌^◌, [], IsSome, is_some, length};
 ghost use Rattle.wasm_defs.specs.Bodies.{body_read, Spelled as SpelledGiven};
 ghost use Rattle.wasm_defs.specs.Context.{type_of_function};
 ghost use Rattle.wasm_defs.specs.Instances.{first_minimum};
 ghost use Rattle.wasm_defs.specs.Limits.{max_body, max_locals};
 ghost use Rattle.wasm_defs.specs.Typing.{Context as ContextGiven, function_type};
 ghost use Rattle.index_spaces.specs.Spaces.{context_in};
-ghost use Rattle.wasm_laws.specs.Kept.{TypeIsSmall};
+ghost use Rattle.wasm_defs.specs.SmallTypes.{TypeIsSmall};
 ghost use Rattle.wasm_laws.specs.Sections.{AreBytes};
 ghost use Rattle.body_validator.specs.Checking.{start_checker};
 ghost use Rattle.body_compiler.specs.Compiling.{Compiles};
@@ -27,7 +27,7 @@ use std::alloc::Global;
 use wasm_defs::FuncType;
 
 /// Compiles the code of a body whose first byte has the offset `first` and whose last one `last`, of a function of that type with so many
-/// declared locals, in a module whose table has so many rows at first.
+/// declared locals, in a module whose table has so many rows at first and which counts its data segments or doesn't.
 fn compile_code(
     alloc: Global,
     rows: u32,
@@ -35,6 +35,7 @@ fn compile_code(
     locals: u32,
     fields: &mut Fields<'_>,
     mut check: Check<'_>,
+    counted: bool,
     first: u64,
     last: u64,
 ) -> Result<Code, BodyStop>
@@ -46,7 +47,7 @@ fn compile_code(
     requires unlabelled { check.context.labels ≡ [] }
     requires functions { FunctionsAreSmall check.context }
     requires results { length check.context.results ≡ length function.now.results }
-    ensures { (c : ContextGiven) (code : SpelledGiven) (g : IsGoing c last fields.old check.entry code) → g.tokens ≡ [] → length c.results ≡ length function.now.results → Makes rows first c code (record { params = length function.now.params; locals = locals; greatest = 0 }) (length function.now.results) result }
+    ensures { (c : ContextGiven) (code : SpelledGiven) (g : IsGoing counted c last fields.old check.entry code) → g.tokens ≡ [] → length c.results ≡ length function.now.results → Makes rows first c code (record { params = length function.now.params; locals = locals; greatest = 0 }) (length function.now.results) result }
 {
     let layout = Layout {
         params: function.params.as_slice().len() as u32,
@@ -59,7 +60,9 @@ fn compile_code(
         return Err(BodyStop::NoMemory);
     };
     let mut sites = Vec::new(alloc);
-    match judge_code(alloc, fields, &mut check, &mut draft, &mut sites, last) {
+    match judge_code(
+        alloc, fields, &mut check, &mut draft, &mut sites, counted, last,
+    ) {
         Ok(()) => {}
         Err(stop) => return Err(stop),
     }
@@ -80,7 +83,8 @@ fn rows_of(context: &Context) -> u32
     }
 }
 
-/// Compiles the body of a function: its bytes are all there, and the first one has the offset.
+/// Compiles the body of a function: its bytes are all there, and the first one has the offset. Instructions on data segments are there
+/// only where the context has a data count.
 ///
 /// A body that is encoded correctly to its end (Core 5.4 and 5.5.13) and valid in the context (Core 3.4.1) becomes the instruction
 /// words of its function (`Functions` of `frame_layout`), whose calls have no distances yet, the indices of these calls, where its
@@ -96,9 +100,10 @@ pub fn compile(
     requires function { IsSome (function_type (context_in context.now) index) }
     requires most { length bytes.now ≤ max_body }
     requires fits { offset + length bytes.now < 2 ^ 63 }
-    ensures { Compiles (first_minimum context.now.tables) offset (context_in context.now) index (body_read offset bytes.now) result }
+    ensures { Compiles (first_minimum context.now.tables) offset (context_in context.now) index (body_read (is_some context.now.data_count) offset bytes.now) result }
 {
     context.keeps_limits();
+    let counted = context.data_count().is_some();
     let len = bytes.len() as u64;
     let last = offset + len.saturating_sub(1);
     let mut fields = Fields::new(bytes, offset, offset + len + 1);
@@ -116,6 +121,7 @@ pub fn compile(
                 locals,
                 &mut fields,
                 check,
+                counted,
                 offset,
                 last,
             )

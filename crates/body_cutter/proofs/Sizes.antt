@@ -99,7 +99,7 @@ module _ (index n at end : ℕ) (front more : List ℕ) where
 
 -- a body whose bytes are all there
 pub body_read : (size len first end : ℕ) (bytes more : List ℕ) → length bytes ≡ len → first + len ≤ end
-    → sized size len (from_there first (bytes ++ more) end) ≡ Got (Coded (record { size = size; first = first; bytes = bytes })) (from_there (first + len) more end)
+    → sized size len (from_there first (bytes ++ more) end) ≡ Got (Coded (record { counted = false; size = size; first = first; bytes = bytes })) (from_there (first + len) more end)
 unfolding sized here run
 body_read size len first end bytes more e le =
     let within : length bytes ≤ end - first = omega arith in

@@ -1,5 +1,5 @@
 -- A code section's bodies, read from the left: those that are complete, and what ends them (WebAssembly Core 1.0, 5.5.13).
-use Rattle.std.specs.Prelude.{ℕ, zero, suc, ◌||◌, List, [], ◌∷◌, ◌++◌, Option, Some, None, nat_lt, if◌then◌else◌}
+use Rattle.std.specs.Prelude.{ℕ, zero, suc, false, ◌||◌, List, [], ◌∷◌, ◌++◌, Option, Some, None, nat_lt, if◌then◌else◌}
 use Rattle.wasm_defs.specs.declared.fault.Kind.{Kind}
 use Rattle.wasm_defs.specs.declared.fault.Kind.TheVariants.{Malformed, Limit}
 use Rattle.wasm_defs.specs.declared.fault.Refusal.{Refusal}
@@ -35,17 +35,18 @@ goes_on (Got x c) f = f x c
 goes_on (Fault r) f = ends (Faulty r)
 goes_on Wants f = ends Owed
 
--- so many bodies, the first of which is that of the function of this index, and the section's end
+-- so many bodies, the first of which is that of the function of this index, and the section's end; what is given doesn't say
+-- whether data segments are counted
 unfoldable pub bodies_from : ℕ → ℕ → Cursor → Given
 bodies_from index zero c = goes_on (section_end c) (λ x d. ends Whole)
-bodies_from index (suc n) c = goes_on (body c) (λ part d. with_part index part (bodies_from (suc index) n d))
+bodies_from index (suc n) c = goes_on (body false c) (λ part d. with_part index part (bodies_from (suc index) n d))
 
 -- the bytes of a body whose size has that offset, and is right
 unfoldable pub sized : ℕ → ℕ → Reader Part
 sized size len = do
   at ← here
   bytes ← run len
-  done (Coded (record { size = size; first = at; bytes = bytes }))
+  done (Coded (record { counted = false; size = size; first = at; bytes = bytes }))
 
 -- what is wrong with a size after which the section has so many bytes, as `body` validates it
 abbrev pub size_fault : ℕ → ℕ → Option Kind

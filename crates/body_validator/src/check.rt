@@ -204,10 +204,11 @@ impl<'a> Check<'a> {
         })
     }
 
-    /// The context of the module, which functions and types are named by.
+    /// The context of the module, which functions, types and globals are named by.
     pub fn context(&self) -> &Context
         ensures types { (context_in result.now).types ≡ self.now.context.types }
         ensures functions { (context_in result.now).functions ≡ self.now.context.functions }
+        ensures globals { (context_in result.now).globals ≡ self.now.context.globals }
     {
         self.scope.context
     }

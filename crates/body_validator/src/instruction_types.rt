@@ -12,7 +12,7 @@ use crate::scope::Scope;
 use crate::stack::Stack;
 use wasm_defs::ValType::{I32, I64};
 use wasm_defs::{
-    BlockType, ConvertOp, ExtendOp, FuncType, GlobalType, LoadOp, MemArg, Operation, Plain,
+    BlockType, BulkOp, ConvertOp, ExtendOp, FuncType, GlobalType, LoadOp, MemArg, Operation, Plain,
     StoreOp, ValType,
 };
 
@@ -48,6 +48,13 @@ fn two<'a>(t: ValType) -> &'a [ValType]
         ValType::I32 => &[ValType::I32, ValType::I32],
         ValType::I64 => &[ValType::I64, ValType::I64],
     }
+}
+
+/// Three numbers: two addresses or a value, and how many bytes.
+fn three_words<'a>() -> &'a [ValType]
+    ensures { result.now ≡ ValType.I32 ∷ ValType.I32 ∷ ValType.I32 ∷ [] }
+{
+    &[ValType::I32, ValType::I32, ValType::I32]
 }
 
 /// An address, and a value above it.
@@ -212,6 +219,17 @@ fn store<'a>(scope: &Scope<'a>, op: StoreOp, place: MemArg) -> Option<Rule<'a>>
     )
 }
 
+/// `memory.fill`, `memory.copy` and `memory.init` (Core 2.0, 3.3.7).
+fn bulk<'a>(scope: &Scope<'a>, op: BulkOp) -> Option<Rule<'a>>
+    ensures { rule_meant result ≡ rule_of scope.now (Plain.Bulk op) }
+{
+    let is_there = match op {
+        BulkOp::Fill | BulkOp::Copy => true,
+        BulkOp::Init(segment) => scope.has_segment(segment),
+    };
+    only_if(scope.has_memory() && is_there, fixed(three_words(), none()))
+}
+
 /// The types of a plain instruction in the innermost frame, one row for each or each group (Core 3.3.1 to 3.3.5).
 pub fn rule_for<'a>(scope: &Scope<'a>, stack: &Stack<'a>, plain: &Plain) -> Option<Rule<'a>>
     ensures { rule_meant result ≡ rule_of (with_labels scope.now (labels stack.now)) plain.now }
@@ -236,6 +254,8 @@ pub fn rule_for<'a>(scope: &Scope<'a>, stack: &Stack<'a>, plain: &Plain) -> Opti
         Plain::Store(op, place) => store(scope, *op, *place),
         Plain::MemorySize => only_if(scope.has_memory(), fixed(none(), one(I32))),
         Plain::MemoryGrow => only_if(scope.has_memory(), fixed(one(I32), one(I32))),
+        Plain::Bulk(op) => bulk(scope, *op),
+        Plain::DataDrop(segment) => only_if(scope.has_segment(*segment), fixed(none(), none())),
         Plain::Const(t, _) => fixed(none(), one(*t)),
         Plain::Operate(op) => operation(*op),
     }

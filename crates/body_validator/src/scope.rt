@@ -94,6 +94,13 @@ impl<'a> Scope<'a> {
         self.context.has_memory()
     }
 
+    /// Whether there is a data segment of that index.
+    pub fn has_segment(&self, index: u32) -> bool
+        ensures { result ≡ nat_lt index self.now.segments }
+    {
+        index < self.context.segment_count()
+    }
+
     /// Whether there is a memory that may be accessed there, with an alignment of at most that.
     pub fn can_access(&self, place: MemArg, most: u32) -> bool
         ensures { result ≡ accesses self.now place.align most }

@@ -1,5 +1,5 @@
 -- The bodies of a drill encode their trees.
-use Rattle.std.proofs.Common.{◌≡◌, ℕ, zero, suc, ◌+◌, ◌^◌, ◌<◌, ◌≤◌, pos, List, [], ◌∷◌, ◌++◌, length, refl, ap, inl, arith, append_assoc}
+use Rattle.std.proofs.Common.{◌≡◌, ℕ, zero, suc, ◌+◌, ◌^◌, ◌<◌, ◌≤◌, pos, false, List, [], ◌∷◌, ◌++◌, length, refl, ap, inl, arith, append_assoc}
 use Rattle.std.specs.List.{flat_map, range_with_len}
 use Rattle.wasm_defs.specs.declared.types.ValType.TheVariants.{I32}
 use Rattle.wasm_defs.specs.declared.operation.BinaryOp.TheVariants.{Add}
@@ -17,18 +17,18 @@ use Rattle.drill_laws.specs.Functions.{adder_tree, calls_from, runner_tree}
 use Rattle.drill_laws.proofs.Spellings.{one_byte, signed_spells, unsigned_spells}
 
 -- a token at the start of others
-token_then : (at : ℕ) (t : Token) (ts : List (ℕ × Token)) (front back : List ℕ) → instruction_is t at front → each_is token_is ts (at + length front) back
-    → each_is token_is ((at, t) ∷ ts) at (front ++ back)
+token_then : (at : ℕ) (t : Token) (ts : List (ℕ × Token)) (front back : List ℕ) → instruction_is false t at front → each_is (token_is false) ts (at + length front) back
+    → each_is (token_is false) ((at, t) ∷ ts) at (front ++ back)
 token_then at t ts front back is rest = record { front = front; back = back; parts = refl; first = (refl, is); second = rest }
 
-ends : (at : ℕ) → each_is token_is ((at, token.End) ∷ []) at (0x0B ∷ [])
+ends : (at : ℕ) → each_is (token_is false) ((at, token.End) ∷ []) at (0x0B ∷ [])
 ends at = token_then at token.End [] (0x0B ∷ []) [] refl refl
 
 -- no groups of locals, and then tokens
 abbrev pub Spell : List (ℕ × Token) → ℕ → List ℕ → Type 0
-Spell ts = Code [] ts
+Spell ts = Code false [] ts
 
-no_locals : (at : ℕ) (ts : List (ℕ × Token)) (bytes : List ℕ) → each_is token_is ts (at + 1) bytes → Spell ts at (0x00 ∷ bytes)
+no_locals : (at : ℕ) (ts : List (ℕ × Token)) (bytes : List ℕ) → each_is (token_is false) ts (at + 1) bytes → Spell ts at (0x00 ∷ bytes)
 no_locals at ts bytes rest = record {
   front = 0x00 ∷ [];
   back = bytes;
@@ -74,11 +74,11 @@ abbrev pub call_tokens : (at first count : ℕ) → List (ℕ × Token)
 call_tokens at first zero = (at, token.End) ∷ []
 call_tokens at first (suc k) = (at, token.Plain (Call first)) ∷ call_tokens (at + length (call first)) (first + 1) k
 
-call_is : (at i : ℕ) → i < 2 ^ 32 → instruction_is (token.Plain (Call i)) at (call i)
+call_is : (at i : ℕ) → i < 2 ^ 32 → instruction_is false (token.Plain (Call i)) at (call i)
 unfolding call
 call_is at i small = record { front = 0x10 ∷ []; back = unsigned i; parts = refl; first = refl; second = unsigned_spells i small }
 
-calls_spelled : (at first count : ℕ) → first + count ≤ 2 ^ 32 → each_is token_is (call_tokens at first count) at (flat_map call (range_with_len first count) ++ 0x0B ∷ [])
+calls_spelled : (at first count : ℕ) → first + count ≤ 2 ^ 32 → each_is (token_is false) (call_tokens at first count) at (flat_map call (range_with_len first count) ++ 0x0B ∷ [])
 calls_spelled at first zero small = ends at
 calls_spelled at first (suc k) small =
     let one = call_is at first (omega (arith, small)) in
@@ -89,7 +89,7 @@ calls_spelled at first (suc k) small =
 abbrev pub runner_tokens : (first n : ℕ) → List (ℕ × Token)
 runner_tokens first n = (first + 1, token.Plain (Const I32 (pos 0))) ∷ call_tokens (first + 1 + 2) 0 n
 
-zero_spells : (at : ℕ) → instruction_is (token.Plain (Const I32 (pos 0))) at (0x41 ∷ 0x00 ∷ [])
+zero_spells : (at : ℕ) → instruction_is false (token.Plain (Const I32 (pos 0))) at (0x41 ∷ 0x00 ∷ [])
 zero_spells at = record { front = 0x41 ∷ []; back = 0x00 ∷ []; parts = refl; first = refl; second = inl (omega arith, omega arith, refl) }
 
 pub runner_spelled : (first n : ℕ) → n ≤ 2 ^ 32 → Spell (runner_tokens first n) first (runner_content n)

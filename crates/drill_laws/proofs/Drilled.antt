@@ -1,11 +1,11 @@
 -- The module of a drill, and its sections.
-use Rattle.std.proofs.Common.{◌≡◌, ◌∙◌, ℕ, zero, suc, ◌+◌, List, [], ◌∷◌, ◌++◌, length, refl, ap, arith}
+use Rattle.std.proofs.Common.{◌≡◌, ◌∙◌, ℕ, zero, suc, ◌+◌, false, List, [], ◌∷◌, ◌++◌, length, None, refl, ap, arith}
 use Rattle.std.specs.List.{flat_map}
 use Rattle.std.specs.Prelude.{replicate}
 use Rattle.wasm_defs.specs.declared.item.Extern.TheVariants as extern
 use Rattle.wasm_defs.specs.declared.item.Item.{Item}
 use Rattle.wasm_defs.specs.declared.item.Item.TheVariants.{Code, Exported, Function, Signature}
-use Rattle.wasm_defs.specs.Context.{context_of, declared_count, functions_of, globals_of, import_count, memories_of, tables_of, types_of}
+use Rattle.wasm_defs.specs.Context.{context_of, data_count_of, declared_count, functions_of, globals_of, import_count, memories_of, tables_of, types_of}
 use Rattle.wasm_defs.specs.Faults.{Module}
 use Rattle.wasm_defs.specs.Items.{Bodies, Section, Vector}
 use Rattle.wasm_defs.specs.Outside.{Body}
@@ -21,7 +21,7 @@ abbrev pub inside_of : (at : ℕ) (content : List ℕ) → ℕ
 inside_of at content = at + 1 + length (unsigned (length content))
 
 abbrev pub body_at : (at : ℕ) (content : List ℕ) → Body
-body_at at content = record { size = at; first = at + length (unsigned (length content)); bytes = content }
+body_at at content = record { counted = false; size = at; first = at + length (unsigned (length content)); bytes = content }
 
 -- ---- items
 
@@ -142,19 +142,22 @@ module _ {A : Type 0} (f : List Item → A) (passes : (i : ℕ × ℕ) (xs : Lis
   passed at zero behind = passes (at, 1) behind
   passed at (suc n) behind = passes (at, 0) (function_items (at + 1) n ++ behind) ∙ passed (at + 1) n behind
 
-context_made : (all : List Item) (n : ℕ) → types_of all ≡ [] → functions_of all ≡ replicate n 0 ++ 1 ∷ [] → tables_of all ≡ [] → memories_of all ≡ [] → globals_of all ≡ []
+context_made : (all : List Item) (n : ℕ) → types_of all ≡ [] → functions_of all ≡ replicate n 0 ++ 1 ∷ [] → tables_of all ≡ [] → memories_of all ≡ [] → data_count_of all ≡ None → globals_of all ≡ []
     → context_of (signatures ++ all) ≡ drill_context n
-context_made all n t f u m g = rw (t, f, u, m, g) refl
+context_made all n t f u m d g = rw (t, f, u, m, d, g) refl
 
 pub context_is : (n : ℕ) → context_of (drill_items n) ≡ drill_context n
 context_is n =
     let at = functions_inside n + length (unsigned (n + 1)) in
     let behind = behind_functions n in
     context_made (function_items at n ++ behind) n (passed types_of (λ i xs. refl) at n behind) (functions_say at n behind) (passed tables_of (λ i xs. refl) at n behind)
-    (passed memories_of (λ i xs. refl) at n behind) (passed globals_of (λ i xs. refl) at n behind)
+    (passed memories_of (λ i xs. refl) at n behind) (passed data_count_of (λ i xs. refl) at n behind) (passed globals_of (λ i xs. refl) at n behind)
 
 pub none_imported : (n : ℕ) → import_count (drill_items n) ≡ 0
 none_imported n = passed import_count (λ i xs. refl) (functions_inside n + length (unsigned (n + 1))) n (behind_functions n)
 
 pub all_declared : (n : ℕ) → declared_count (drill_items n) ≡ n + 1
 all_declared n = let all = declared_are (functions_inside n + length (unsigned (n + 1))) n (behind_functions n) in omega (arith, all)
+
+pub none_counted : (n : ℕ) → data_count_of (drill_items n) ≡ None
+none_counted n = passed data_count_of (λ i xs. refl) (functions_inside n + length (unsigned (n + 1))) n (behind_functions n)

@@ -1,5 +1,5 @@
 -- The bytes of a drill are its module.
-use Rattle.std.proofs.Common.{◌≡◌, ◌∙◌, ℕ, zero, suc, ◌+◌, ◌*◌, ◌<◌, ◌≤◌, true, List, [], ◌∷◌, ◌++◌, length, Option, Some, refl, ap, sym, subst, arith}
+use Rattle.std.proofs.Common.{◌≡◌, ◌∙◌, ℕ, zero, suc, ◌+◌, ◌*◌, ◌<◌, ◌≤◌, Bool, false, true, List, [], ◌∷◌, ◌++◌, length, Option, Some, refl, ap, sym, subst, arith}
 use Rattle.std.proofs.lemmas.List.{append-nil}
 use Rattle.std.specs.Prelude.{map, reverse, slice_get}
 use Rattle.wasm_defs.specs.declared.item.Item.{Item}
@@ -7,6 +7,7 @@ use Rattle.wasm_defs.specs.declared.item.Item.TheVariants.{Function}
 use Rattle.wasm_defs.specs.declared.token.Token.{Token}
 use Rattle.wasm_defs.specs.declared.types.FuncType.{FuncType}
 use Rattle.wasm_defs.specs.Bodies.{Group}
+use Rattle.wasm_defs.specs.Codes.{Code}
 use Rattle.wasm_defs.specs.Configurations.{Declared, Func}
 use Rattle.wasm_defs.specs.Configurations.{Invocation, Step}
 use Rattle.wasm_defs.specs.Configurations as configured
@@ -51,20 +52,20 @@ module _ (n : ℕ) (most : n ≤ 50000) (items : List Item) (says : context_of i
     context_here : body_context (context_of items) (type_of_function (context_of items) (import_count items + j)) [] ≡ body_context (drill_context n) t []
     context_here = same_body (context_of items) (drill_context n) (type_of_function (context_of items) (import_count items + j)) t says (type_is j t typed)
 
-    made_spelled : (b : Body) (ts : List (ℕ × Token)) (tree : Seq) → Spell ts b.first b.bytes → Tree (tokens_of ts) tree → IsBody (body_context (drill_context n) t []) tree → IsSpelled items j b tree
-    made_spelled b ts tree spelled nests is = record {
+    made_spelled : (b : Body) (uncounted : false ≡ b.counted) (ts : List (ℕ × Token)) (tree : Seq) → Spell ts b.first b.bytes → Tree (tokens_of ts) tree → IsBody (body_context (drill_context n) t []) tree → IsSpelled items j b tree
+    made_spelled b uncounted ts tree spelled nests is = record {
       groups = [];
       tokens = ts;
-      spelled = spelled;
+      spelled = subst (λ (counted : Bool). Code counted [] ts b.first b.bytes) uncounted spelled;
       few = omega arith;
       nests = nests;
       typed = subst (λ (c : Context). IsBody c tree) (sym context_here) is;
     }
 
-    made_function : (b : Body) (ts : List (ℕ × Token)) (tree : Seq) → Spell ts b.first b.bytes → Tree (tokens_of ts) tree → greatest (places_of (body_context (drill_context n) t []) tree) ≤ 2
+    made_function : (b : Body) (uncounted : false ≡ b.counted) (ts : List (ℕ × Token)) (tree : Seq) → Spell ts b.first b.bytes → Tree (tokens_of ts) tree → greatest (places_of (body_context (drill_context n) t []) tree) ≤ 2
         → IsFunction t tree (function_of items j b tree)
-    made_function b ts tree spelled nests low =
-        let read = spelled_is_read b.first b.bytes [] ts tree nests spelled (omega arith) in
+    made_function b uncounted ts tree spelled nests low =
+        let read = spelled_is_read b.counted b.first b.bytes [] ts tree nests (subst (λ (counted : Bool). Code counted [] ts b.first b.bytes) uncounted spelled) (omega arith) in
         let same : context_at items j b ≡ body_context (drill_context n) t [] =
         ap (λ (gs : List Group). body_context (context_of items) (type_of_function (context_of items) (import_count items + j)) gs) read.locals ∙ context_here in
         record {
@@ -79,25 +80,25 @@ module _ (n : ℕ) (most : n ≤ 50000) (items : List Item) (says : context_of i
   adder_is : (at j : ℕ) → j < n → IsSpelled items j (body_at at (adder_content j)) (adder_tree j)
   adder_is at j below =
       let first = (body_at at (adder_content j)).first in
-      made_spelled j adder_type (adders_have_types n j below) (body_at at (adder_content j)) (adder_tokens first j) (adder_tree j)
+      made_spelled j adder_type (adders_have_types n j below) (body_at at (adder_content j)) refl (adder_tokens first j) (adder_tree j)
       (adder_spelled first j (omega (arith, below, most))) (adder_nests first j) (adder_typed n j)
 
   adder_function : (at j : ℕ) → j < n → IsFunction adder_type (adder_tree j) (function_of items j (body_at at (adder_content j)) (adder_tree j))
   adder_function at j below =
       let first = (body_at at (adder_content j)).first in
-      made_function j adder_type (adders_have_types n j below) (body_at at (adder_content j)) (adder_tokens first j) (adder_tree j)
+      made_function j adder_type (adders_have_types n j below) (body_at at (adder_content j)) refl (adder_tokens first j) (adder_tree j)
       (adder_spelled first j (omega (arith, below, most))) (adder_nests first j) (adder_low n j)
 
   runner_is : (at : ℕ) → IsSpelled items n (body_at at (runner_content n)) (runner_tree n)
   runner_is at =
       let first = (body_at at (runner_content n)).first in
-      made_spelled n runner_type (runner_has_type n) (body_at at (runner_content n)) (runner_tokens first n) (runner_tree n)
+      made_spelled n runner_type (runner_has_type n) (body_at at (runner_content n)) refl (runner_tokens first n) (runner_tree n)
       (runner_spelled first n (omega (arith, most))) (runner_nests first n) (runner_typed n)
 
   runner_function : (at : ℕ) → IsFunction runner_type (runner_tree n) (function_of items n (body_at at (runner_content n)) (runner_tree n))
   runner_function at =
       let first = (body_at at (runner_content n)).first in
-      made_function n runner_type (runner_has_type n) (body_at at (runner_content n)) (runner_tokens first n) (runner_tree n)
+      made_function n runner_type (runner_has_type n) (body_at at (runner_content n)) refl (runner_tokens first n) (runner_tree n)
       (runner_spelled first n (omega (arith, most))) (runner_nests first n) (runner_low n)
 
   -- ---- all of them

@@ -1,5 +1,5 @@
 -- The bytes of a drill are its sections, which keep the rules.
-use Rattle.std.proofs.Common.{◌≡◌, ◌∙◌, ℕ, zero, suc, ◌+◌, ◌<◌, ◌≤◌, [], ◌∷◌, ◌++◌, length, refl, ap, sym, subst, arith}
+use Rattle.std.proofs.Common.{◌≡◌, ◌∙◌, ℕ, zero, suc, ◌+◌, ◌<◌, ◌≤◌, Bool, false, [], ◌∷◌, ◌++◌, length, Option, refl, ap, sym, subst, arith}
 use Rattle.std.proofs.lemmas.List.{append-nil, length-append}
 use Rattle.std.proofs.lemmas.List.Elements.{All-cons, All-nil}
 use Rattle.std.specs.List.{All}
@@ -9,16 +9,16 @@ use Rattle.std.specs.Ordering.{nat_cmp}
 use Rattle.std.specs.Prelude.{is_some}
 use Rattle.wasm_defs.specs.declared.item.Item.TheVariants.{Signature}
 use Rattle.drill_laws.specs.Functions.{adder_type, runner_type}
-use Rattle.wasm_defs.specs.Context.{declared_count}
+use Rattle.wasm_defs.specs.Context.{data_count_of, declared_count, segment_count_of}
 use Rattle.wasm_defs.specs.Entries.{Names, Seen, note, nothing}
 use Rattle.wasm_defs.specs.Items.{bodies_in, items_in}
 use Rattle.wasm_defs.specs.Limits.{max_body, max_module}
-use Rattle.wasm_defs.specs.Outside.{Body}
+use Rattle.wasm_defs.specs.Outside.{Body, agrees}
 use Rattle.wasm_defs.specs.Rules.{AllKeep, SectionsKeep, all_noted}
 use Rattle.wasm_laws.specs.Sections.{AreSectionsOf}
 use Rattle.module_gen.specs.Drill.{adder, code, drill_bytes, exports, functions, types}
 use Rattle.module_gen.specs.Numbers.{unsigned}
-use Rattle.drill_laws.proofs.Drilled.{all_bodies, all_declared, all_functions, bodies_count, bodies_from, body_at, code_content, code_inside, code_section, drill_sections, exports_content, exports_section, function_items, functions_content, functions_count, functions_inside, run_name}
+use Rattle.drill_laws.proofs.Drilled.{all_bodies, all_declared, bodies_count, bodies_from, body_at, code_content, code_inside, code_section, drill_items, drill_sections, exports_content, exports_section, function_items, functions_content, functions_count, functions_inside, none_counted, run_name}
 use Rattle.drill_laws.proofs.Codes.{adder_content, runner_content}
 use Rattle.drill_laws.proofs.Sections.{adder_content_short, code_length, drill_spelled, functions_length, runner_short, types_length}
 use Rattle.drill_laws.proofs.Spellings.{sized_short, unsigned_short}
@@ -46,6 +46,13 @@ bodies_keep at first (suc k) n most =
     let few = adder_content_short first in
     All-cons (λ (b : Body). length b.bytes ≤ max_body) (body_at at (adder_content first)) (bodies_from (at + length (adder first)) (first + 1) k n) (omega (arith, few))
     (bodies_keep (at + length (adder first)) (first + 1) k n most)
+
+-- no data segments are counted
+bodies_told : (counted : Bool) → false ≡ counted → (at first count n : ℕ) → All (λ (b : Body). b.counted ≡ counted) (bodies_from at first count n)
+bodies_told counted none at first zero n = All-cons (λ (b : Body). b.counted ≡ counted) (body_at at (runner_content n)) [] none (All-nil (λ (b : Body). b.counted ≡ counted))
+bodies_told counted none at first (suc k) n =
+    All-cons (λ (b : Body). b.counted ≡ counted) (body_at at (adder_content first)) (bodies_from (at + length (adder first)) (first + 1) k n) none
+    (bodies_told counted none (at + length (adder first)) (first + 1) k n)
 
 module _ (n : ℕ) (most : n ≤ 50000) where
   -- after the types
@@ -95,8 +102,20 @@ module _ (n : ℕ) (most : n ≤ 50000) where
       let bodies = bodies_count (code_inside n + length (unsigned (n + 1))) 0 n n in
       ap length all ∙ bodies ∙ sym (all_declared n)
 
+  told : All (λ (b : Body). b.counted ≡ is_some (data_count_of (drill_items n))) (bodies_in (drill_sections n))
+  told =
+      let counted = is_some (data_count_of (drill_items n)) in
+      subst (All (λ (b : Body). b.counted ≡ counted)) (sym (append-nil (all_bodies n)))
+      (bodies_told counted (sym (ap is_some (none_counted n))) (code_inside n + length (unsigned (n + 1))) 0 n n)
+
   pub are_sections : AreSectionsOf (drill_sections n) (drill_bytes n)
   are_sections = record {
-    spelled = record { spelled = drill_spelled n most; ordered = (omega arith, (omega arith, (omega arith, (omega arith, tt)))); matched = matched };
+    spelled = record {
+      spelled = drill_spelled n most;
+      ordered = (omega arith, (omega arith, (omega arith, (omega arith, tt))));
+      matched = matched;
+      counted = ap (λ (o : Option ℕ). agrees o (segment_count_of (drill_items n))) (none_counted n);
+      told = told;
+    };
     kept = record { short = short; each = sections_keep };
   }

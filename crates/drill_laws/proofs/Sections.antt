@@ -171,7 +171,7 @@ signatures_spelled = vector_of item_is 10 signatures _ (omega arith) (record {
 
 types_spelled : section_is types_section 8 types
 unfolding spelling types_content
-types_spelled = section_made 8 1 types_content (Vector 1 10 signatures) refl (omega arith) ((omega arith, omega arith, λ e. absurd (omega (arith, e)), λ e. absurd (omega (arith, e))), (refl, (refl, tt)), signatures_spelled)
+types_spelled = section_made 8 1 types_content (Vector 1 10 signatures) refl (omega arith) ((omega arith, omega arith, λ e. absurd (omega (arith, e)), λ e. absurd (omega (arith, e)), λ e. absurd (omega (arith, e))), (refl, (refl, tt)), signatures_spelled)
 
 pub types_length : length types ≡ 12
 unfolding spelling
@@ -216,7 +216,7 @@ module _ (n : ℕ) (most : n ≤ 50000) where
   functions_section_spelled =
       let few = functions_length in
       section_made functions_at 3 (functions_content n) (functions_section n).payload refl (omega (arith, few, most)) (
-        (omega arith, omega arith, λ e. absurd (omega (arith, e)), λ e. absurd (omega (arith, e))),
+        (omega arith, omega arith, λ e. absurd (omega (arith, e)), λ e. absurd (omega (arith, e)), λ e. absurd (omega (arith, e))),
         all_are_functions (functions_inside n + length (unsigned (n + 1))) n,
         vector_made item_is (functions_inside n) (n + 1) (all_functions n) (replicate n 0x00 ++ 0x01 ∷ []) (functions_count (functions_inside n + length (unsigned (n + 1))) n) (omega (arith, most))
             (functions_spelled (functions_inside n + length (unsigned (n + 1))) n),
@@ -226,7 +226,7 @@ module _ (n : ℕ) (most : n ≤ 50000) where
   exports_section_spelled =
       let few = unsigned_short n in
       section_made (exports_at n) 7 (exports_content n) (exports_section n).payload refl (omega (arith, few))
-      ((omega arith, omega arith, λ e. absurd (omega (arith, e)), λ e. absurd (omega (arith, e))), (refl, tt), export_spelled (exports_inside n) n (omega (arith, most)))
+      ((omega arith, omega arith, λ e. absurd (omega (arith, e)), λ e. absurd (omega (arith, e)), λ e. absurd (omega (arith, e))), (refl, tt), export_spelled (exports_inside n) n (omega (arith, most)))
 
   pub code_length : length (code_content n) ≤ 22 * n + 20
   code_length =

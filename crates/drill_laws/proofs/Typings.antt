@@ -15,6 +15,7 @@ drill_context n = record {
   functions = replicate n 0 ++ 1 ∷ [];
   tables = 0;
   memories = 0;
+  segments = 0;
   globals = [];
   locals = [];
   results = [];

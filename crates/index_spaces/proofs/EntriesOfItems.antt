@@ -2,14 +2,14 @@
 use Rattle.std.proofs.Common.{◌≡◌, ℕ, suc, List, [], ◌∷◌, map, length, Option, Some, refl, ap, arith}
 use Rattle.wasm_defs.specs.declared.item.Extern.TheVariants as extern
 use Rattle.wasm_defs.specs.declared.item.Item.{Item}
-use Rattle.wasm_defs.specs.declared.item.Item.TheVariants.{Imported, Global, Exported, Element, Segment}
+use Rattle.wasm_defs.specs.declared.item.Item.TheVariants.{Imported, Global, Exported, Element, Passive, Segment}
 use Rattle.wasm_defs.specs.Typing.{Context}
 use Rattle.wasm_defs.specs.Context.{import_count, globals_of, type_or_empty}
-use Rattle.wasm_defs.specs.Instances.{imports_from, exports_of, elements_of, data_of, values_of, i32_value}
+use Rattle.wasm_defs.specs.Instances.{imports_from, exports_of, elements_of, data_of, segments_of, values_of, i32_value}
 use Rattle.wasm_defs.specs.Values.{unsigned}
 use Rattle.wasm_defs.specs.Configurations as run
 use Rattle.std.specs.Prelude.{slice_get}
-use Rattle.index_spaces.specs.Entries.{imports_of, all_exports_of, element_rows_of, data_rows_of, initials_of, imported_functions, function_exports, written_rows, written_segments, initial_values}
+use Rattle.index_spaces.specs.Entries.{imports_of, all_exports_of, element_rows_of, data_rows_of, initials_of, imported_functions, function_exports, written_rows, written_segments, segments_at_first, initial_values}
 
 pub imports_are_counted : (items : List Item) → length (imports_of items) ≡ import_count items
 imports_are_counted [] = refl
@@ -38,8 +38,14 @@ elements_are_of_items (_ ∷ xs) = elements_are_of_items xs
 
 pub segments_are_of_items : (items : List Item) → written_segments (data_rows_of items) ≡ data_of items
 segments_are_of_items [] = refl
-segments_are_of_items (Segment memory place bytes ∷ xs) = ap (λ (l : List (ℕ × List ℕ)). (i32_value place, bytes.1) ∷ l) (segments_are_of_items xs)
+segments_are_of_items (Segment form memory place bytes ∷ xs) = ap (λ (l : List (ℕ × List ℕ)). (i32_value place, bytes.1) ∷ l) (segments_are_of_items xs)
 segments_are_of_items (_ ∷ xs) = segments_are_of_items xs
+
+pub bytes_are_of_items : (items : List Item) → segments_at_first (data_rows_of items) ≡ segments_of items
+bytes_are_of_items [] = refl
+bytes_are_of_items (Passive form bytes ∷ xs) = ap (λ (l : List (List ℕ)). bytes.1 ∷ l) (bytes_are_of_items xs)
+bytes_are_of_items (Segment form memory place bytes ∷ xs) = ap (λ (l : List (List ℕ)). [] ∷ l) (bytes_are_of_items xs)
+bytes_are_of_items (_ ∷ xs) = bytes_are_of_items xs
 
 pub values_are_of_items : (items : List Item) → initial_values (globals_of items) (initials_of items) ≡ values_of items
 values_are_of_items [] = refl

@@ -3,8 +3,8 @@ use Rattle.std.proofs.Common.{◌≡◌, ℕ, ◌+◌, List, [], ◌∷◌, ◌+
 use Rattle.std.proofs.Common.{length-append}
 use Rattle.std.specs.Option.{option_or}
 use Rattle.wasm_defs.specs.declared.item.Item.{Item}
-use Rattle.wasm_defs.specs.declared.item.Item.TheVariants.{Signature, Imported, Function, Table, Memory, Global, Exported, Start, Element, Code, Segment}
-use Rattle.wasm_defs.specs.Context.{types_of, functions_of, import_count, declared_count, tables_of, memories_of, globals_of}
+use Rattle.wasm_defs.specs.declared.item.Item.TheVariants.{Signature, Imported, Function, Table, Memory, Global, Exported, Start, Element, Code, DataCount, Passive, Segment}
+use Rattle.wasm_defs.specs.Context.{types_of, functions_of, import_count, declared_count, tables_of, memories_of, globals_of, data_count_of}
 use Rattle.wasm_defs.specs.Context.{context_of}
 use Rattle.wasm_defs.specs.Instances.{start_of, i32_value}
 use Rattle.index_spaces.specs.Entries.{imports_of, all_exports_of, element_rows_of, data_rows_of, initials_of}
@@ -63,13 +63,19 @@ element_rows_of-append (_ ∷ xs) ys = element_rows_of-append xs ys
 
 data_rows_of-append : (xs ys : List Item) → data_rows_of (xs ++ ys) ≡ data_rows_of xs ++ data_rows_of ys
 data_rows_of-append [] ys = refl
-data_rows_of-append (Segment memory place bytes ∷ xs) ys = ap (λ l. record { place = i32_value place; bytes = bytes.1 } ∷ l) (data_rows_of-append xs ys)
+data_rows_of-append (Passive form bytes ∷ xs) ys = ap (λ l. record { place = None; bytes = bytes.1 } ∷ l) (data_rows_of-append xs ys)
+data_rows_of-append (Segment form memory place bytes ∷ xs) ys = ap (λ l. record { place = Some (i32_value place); bytes = bytes.1 } ∷ l) (data_rows_of-append xs ys)
 data_rows_of-append (_ ∷ xs) ys = data_rows_of-append xs ys
 
 initials_of-append : (xs ys : List Item) → initials_of (xs ++ ys) ≡ initials_of xs ++ initials_of ys
 initials_of-append [] ys = refl
 initials_of-append (Global ty mutable init ∷ xs) ys = ap (λ l. init.value.1 ∷ l) (initials_of-append xs ys)
 initials_of-append (_ ∷ xs) ys = initials_of-append xs ys
+
+data_count_of-append : (xs ys : List Item) → data_count_of (xs ++ ys) ≡ option_or (data_count_of xs) (data_count_of ys)
+data_count_of-append [] ys = refl
+data_count_of-append (DataCount count ∷ xs) ys = refl
+data_count_of-append (_ ∷ xs) ys = data_count_of-append xs ys
 
 start_of-append : (xs ys : List Item) → start_of (xs ++ ys) ≡ option_or (start_of xs) (start_of ys)
 start_of-append [] ys = refl
@@ -88,7 +94,7 @@ functions_of-counts (Function type_index ∷ xs) = omega (arith, functions_of-co
 functions_of-counts (_ ∷ xs) = functions_of-counts xs
 
 -- one more declaration of a sort follows the others, and all other sorts stay
-ruleset appends = (types_of-append, functions_of-append, tables_of-append, memories_of-append, globals_of-append, import_count-append, declared_count-append, imports_of-append, all_exports_of-append, element_rows_of-append, data_rows_of-append, initials_of-append, start_of-append, option_or-none, append-nil, add-zero, length-append)
+ruleset appends = (types_of-append, functions_of-append, tables_of-append, memories_of-append, globals_of-append, import_count-append, declared_count-append, imports_of-append, all_exports_of-append, element_rows_of-append, data_rows_of-append, initials_of-append, data_count_of-append, start_of-append, option_or-none, append-nil, add-zero, length-append)
 
 pub spaces_of-append : (items : List Item) (x : Item) → spaces_of (items ++ x ∷ []) ≡ with_item (spaces_of items) x
 spaces_of-append items (Signature form params results ty) = simp appends
@@ -101,7 +107,9 @@ spaces_of-append items (Exported name kind index) = simp appends
 spaces_of-append items (Start index) = simp appends
 spaces_of-append items (Element table place functions) = simp appends
 spaces_of-append items (Code count end) = simp appends
-spaces_of-append items (Segment memory place bytes) = simp appends
+spaces_of-append items (DataCount count) = simp appends
+spaces_of-append items (Passive form bytes) = simp appends
+spaces_of-append items (Segment form memory place bytes) = simp appends
 
 pub context_of-append : (items : List Item) (x : Item) → context_of (items ++ x ∷ []) ≡ context_in (with_item (spaces_of items) x)
 context_of-append items x = ap context_in (spaces_of-append items x)

@@ -1,11 +1,11 @@
 -- What a module imports, exports and writes into its table and its memory, and the numbers of its globals' constants: each list the
 -- items of that sort in order (WebAssembly Core 1.0, 2.5).
-use Rattle.std.specs.Prelude.{ℕ, suc, ℤ, Bool, true, false, List, [], ◌∷◌, map, filter, Option, Some, slice_get}
+use Rattle.std.specs.Prelude.{ℕ, suc, ℤ, Bool, true, false, List, [], ◌∷◌, map, filter, Option, None, Some, slice_get}
 use Rattle.wasm_defs.specs.declared.context.GlobalType.{GlobalType}
 use Rattle.wasm_defs.specs.declared.item.Extern.{Extern}
 use Rattle.wasm_defs.specs.declared.item.Extern.TheVariants as extern
 use Rattle.wasm_defs.specs.declared.item.Item.{Item}
-use Rattle.wasm_defs.specs.declared.item.Item.TheVariants.{Imported, Global, Exported, Element, Segment}
+use Rattle.wasm_defs.specs.declared.item.Item.TheVariants.{Imported, Global, Exported, Element, Passive, Segment}
 use Rattle.wasm_defs.specs.Typing.{Context}
 use Rattle.wasm_defs.specs.Context.{type_or_empty}
 use Rattle.wasm_defs.specs.Values.{Value, unsigned}
@@ -34,7 +34,8 @@ element_rows_of (_ ∷ xs) = element_rows_of xs
 
 abbrev pub data_rows_of : List Item → List DataRow
 data_rows_of [] = []
-data_rows_of (Segment memory place bytes ∷ xs) = record { place = i32_value place; bytes = bytes.1 } ∷ data_rows_of xs
+data_rows_of (Passive form bytes ∷ xs) = record { place = None; bytes = bytes.1 } ∷ data_rows_of xs
+data_rows_of (Segment form memory place bytes ∷ xs) = record { place = Some (i32_value place); bytes = bytes.1 } ∷ data_rows_of xs
 data_rows_of (_ ∷ xs) = data_rows_of xs
 
 -- the numbers of the globals' constants, as signed ones
@@ -62,8 +63,22 @@ function_exports exports = map (λ e. (e.name, e.index)) (filter (λ e. is_funct
 abbrev pub written_rows : List ElementRow → List (Written (Option ℕ))
 written_rows rows = map (λ r. (r.place, map Some r.functions)) rows
 
+abbrev pub written_before : Option ℕ → List ℕ → List (Written ℕ) → List (Written ℕ)
+written_before None bytes others = others
+written_before (Some place) bytes others = (place, bytes) ∷ others
+
+-- what active segments write
 abbrev pub written_segments : List DataRow → List (Written ℕ)
-written_segments rows = map (λ r. (r.place, r.bytes)) rows
+written_segments [] = []
+written_segments (r ∷ rows) = written_before r.place r.bytes (written_segments rows)
+
+-- the bytes of each segment when a run begins: an active one is dropped then
+abbrev pub bytes_at_first : Option ℕ → List ℕ → List ℕ
+bytes_at_first None bytes = bytes
+bytes_at_first (Some place) bytes = []
+
+abbrev pub segments_at_first : List DataRow → List (List ℕ)
+segments_at_first rows = map (λ r. bytes_at_first r.place r.bytes) rows
 
 -- the values of globals of these types, by the numbers of their constants
 abbrev pub initial_values : List GlobalType → List ℤ → List Value

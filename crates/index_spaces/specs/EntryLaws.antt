@@ -3,8 +3,8 @@ use Rattle.std.specs.Prelude.{◌≡◌, ℕ, List, length}
 use Rattle.wasm_defs.specs.declared.item.Item.{Item}
 use Rattle.wasm_defs.specs.Typing.{Context}
 use Rattle.wasm_defs.specs.Context.{import_count, globals_of}
-use Rattle.wasm_defs.specs.Instances.{imports_from, exports_of, elements_of, data_of, values_of}
-use Rattle.index_spaces.specs.Entries.{imports_of, all_exports_of, element_rows_of, data_rows_of, initials_of, imported_functions, function_exports, written_rows, written_segments, initial_values}
+use Rattle.wasm_defs.specs.Instances.{imports_from, exports_of, elements_of, data_of, segments_of, values_of}
+use Rattle.index_spaces.specs.Entries.{imports_of, all_exports_of, element_rows_of, data_rows_of, initials_of, imported_functions, function_exports, written_rows, written_segments, segments_at_first, initial_values}
 
 -- as many as the functions that are imported, which they are in the same order
 abbrev pub ImportsAreFunctions : Type 0
@@ -18,7 +18,7 @@ abbrev pub ElementsAreOfItems : Type 0
 ElementsAreOfItems = (items : List Item) → written_rows (element_rows_of items) ≡ elements_of items
 
 abbrev pub SegmentsAreOfItems : Type 0
-SegmentsAreOfItems = (items : List Item) → written_segments (data_rows_of items) ≡ data_of items
+SegmentsAreOfItems = (items : List Item) → (written_segments (data_rows_of items) ≡ data_of items) × (segments_at_first (data_rows_of items) ≡ segments_of items)
 
 abbrev pub ValuesAreOfItems : Type 0
 ValuesAreOfItems = (items : List Item) → initial_values (globals_of items) (initials_of items) ≡ values_of items

@@ -1,12 +1,13 @@
 -- The index spaces of a module (WebAssembly Core 1.0, 2.5.1 and 3.1), item by item, and what it imports, exports and begins with.
-use Rattle.std.specs.Prelude.{ℕ, ℤ, ◌+◌, List, [], ◌∷◌, ◌++◌, length, Option, Some}
+use Rattle.std.specs.Prelude.{ℕ, ℤ, ◌+◌, List, [], ◌∷◌, ◌++◌, length, Option, None, Some}
 use Rattle.std.specs.Option.{option_or}
 use Rattle.wasm_defs.specs.declared.context.GlobalType.{GlobalType}
 use Rattle.wasm_defs.specs.declared.item.Item.{Item}
-use Rattle.wasm_defs.specs.declared.item.Item.TheVariants.{Signature, Imported, Function, Table, Memory, Global, Exported, Start, Element, Segment}
+use Rattle.wasm_defs.specs.declared.item.Item.TheVariants.{Signature, Imported, Function, Table, Memory, Global, Exported, Start, Element, DataCount, Passive, Segment}
 use Rattle.wasm_defs.specs.declared.item.Limits.{Limits}
 use Rattle.wasm_defs.specs.declared.types.FuncType.{FuncType}
-use Rattle.wasm_defs.specs.Context.{types_of, functions_of, import_count, declared_count, tables_of, memories_of, globals_of}
+use Rattle.wasm_defs.specs.Context.{types_of, functions_of, import_count, declared_count, tables_of, memories_of, globals_of, data_count_of}
+use Rattle.wasm_defs.specs.Entries.{or_zero}
 use Rattle.wasm_defs.specs.Instances.{start_of, i32_value}
 use Rattle.wasm_defs.specs.Typing.{Context}
 use Rattle.index_spaces.specs.declared.entries.Import.{Import}
@@ -17,7 +18,7 @@ use Rattle.index_spaces.specs.Entries.{imports_of, all_exports_of, element_rows_
 
 -- the types; the functions by the indices of their types, the imported ones first; tables, memories and globals, and the numbers
 -- of the globals' constants; how many functions are imported, and how many declared; imports, exports, element segments and data
--- segments; and the index of the start function, where there is one
+-- segments; the data count and the index of the start function, where there is one
 pub record Spaces : Type 0 where
   pub types : List FuncType
   pub functions : List ℕ
@@ -31,6 +32,7 @@ pub record Spaces : Type 0 where
   pub exports : List Export
   pub elements : List ElementRow
   pub segments : List DataRow
+  pub data_count : Option ℕ
   pub start : Option ℕ
 
 -- what every body of the module may name
@@ -40,6 +42,7 @@ context_in s = record {
   functions = s.functions;
   tables = length s.tables;
   memories = length s.memories;
+  segments = or_zero s.data_count;
   globals = s.globals;
   locals = [];
   results = [];
@@ -61,6 +64,7 @@ spaces_of items = record {
   exports = all_exports_of items;
   elements = element_rows_of items;
   segments = data_rows_of items;
+  data_count = data_count_of items;
   start = start_of items;
 }
 
@@ -93,6 +97,10 @@ with_elements s row = record s { elements = s.elements ++ row ∷ [] }
 abbrev pub with_segment : Spaces → DataRow → Spaces
 with_segment s row = record s { segments = s.segments ++ row ∷ [] }
 
+-- a module has one data count; of several the first stays
+abbrev pub with_data_count : Spaces → ℕ → Spaces
+with_data_count s count = record s { data_count = option_or s.data_count (Some count) }
+
 -- a module has one start function; of several the first stays
 abbrev pub with_start : Spaces → ℕ → Spaces
 with_start s index = record s { start = option_or s.start (Some index) }
@@ -108,5 +116,7 @@ with_item s (Global ty mutable init) = with_global s (record { ty = ty.1; mutabl
 with_item s (Exported name kind index) = with_export s (record { name = name.1; kind = kind.1; index = index.1 })
 with_item s (Start index) = with_start s index.1
 with_item s (Element table place functions) = with_elements s (record { place = i32_value place; functions = functions.1 })
-with_item s (Segment memory place bytes) = with_segment s (record { place = i32_value place; bytes = bytes.1 })
+with_item s (DataCount count) = with_data_count s count.1
+with_item s (Passive form bytes) = with_segment s (record { place = None; bytes = bytes.1 })
+with_item s (Segment form memory place bytes) = with_segment s (record { place = Some (i32_value place); bytes = bytes.1 })
 with_item s _ = s

@@ -14,7 +14,7 @@ pub enum AddStop {
     /// 1.0, 3.4.7). Or an import's type has several results: the module is unsupported at the type's index.
     #[error("refused at {offset}: {kind:?}", offset = .0.offset, kind = .0.kind)]
     Refused(Refusal),
-    /// Memory ran out.
+    /// Memory ran out, or the context has 100,000 globals already, which are all that a module may have.
     #[error("memory ran out")]
     NoMemory,
 }

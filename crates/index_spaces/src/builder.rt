@@ -103,14 +103,11 @@ fn element_row_of(
     })
 }
 
-fn data_row_of(alloc: Global, place: &Constant, bytes: &Bytes) -> Result<DataRow, AllocError>
-    ensures { IfOk result (λ r. r ≡ record { place = i32_value place.now; bytes = bytes.now }) }
+fn data_row_of(alloc: Global, place: Option<u64>, bytes: &Bytes) -> Result<DataRow, AllocError>
+    ensures { IfOk result (λ r. r ≡ record { place = place; bytes = bytes.now }) }
 {
     let bytes = Bytes::new(Vec::from_slice(alloc, bytes.as_slice())?);
-    Ok(DataRow {
-        place: i32_value(place),
-        bytes,
-    })
+    Ok(DataRow { place, bytes })
 }
 
 /// Whether a function may be the start function (WebAssembly Core 1.0, 3.4.7).
@@ -245,8 +242,13 @@ impl ContextBuilder {
                 functions,
                 ..
             } => context.add_elements(element_row_of(alloc, place, &functions.1)?),
+            Item::DataCount { count } => {
+                context.add_data_count(count.1);
+                Ok(())
+            }
+            Item::Passive { bytes, .. } => context.add_segment(data_row_of(alloc, None, &bytes.1)?),
             Item::Segment { place, bytes, .. } => {
-                context.add_segment(data_row_of(alloc, place, &bytes.1)?)
+                context.add_segment(data_row_of(alloc, Some(i32_value(place)), &bytes.1)?)
             }
             Item::Code { .. } => Ok(()),
         }?;

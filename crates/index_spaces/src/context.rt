@@ -3,19 +3,19 @@
 ghost use Rattle.std.specs.Prelude.{◌≡◌, ◌^◌, ◌<◌, ◌↔◌, [], length, IsTrue, IsSome, IfSome, is_some, Some, OnOk, OnErr, slice_get};
 ghost use Rattle.wasm_defs.specs.Typing.{function_type};
 ghost use Rattle.wasm_defs.specs.Context.{like};
-ghost use Rattle.wasm_laws.specs.Kept.{TypeIsSmall, TypesAreSmall};
-ghost use Rattle.index_spaces.specs.Spaces.{context_in, spaces_of, with_type, with_import, with_function, with_table, with_memory, with_global, with_export, with_elements, with_segment, with_start};
+ghost use Rattle.wasm_defs.specs.SmallTypes.{TypeIsSmall, TypesAreSmall};
+ghost use Rattle.index_spaces.specs.Spaces.{context_in, spaces_of, with_type, with_import, with_function, with_table, with_memory, with_global, with_export, with_elements, with_segment, with_data_count, with_start};
 
 use crate::entries::{DataRow, ElementRow, Export, Import};
 use crate::type_space::TypeSpace;
 use std::alloc::{AllocError, Global};
 use std::marker::Model;
-use wasm_defs::{FuncType, GlobalType, Limits};
+use wasm_defs::{FuncType, GlobalType, Limits, MAX_ENTRIES};
 
 /// A module's index spaces: its types, and what its functions may name of functions, tables, memories and globals, imported ones
 /// first (Core 3.1). An index is the position in its space, from 0 on. And what the module imports and exports, what its globals,
 /// its table and its memory begin with, and its start function (Core 2.5). Each type has at most 1,000 parameters and at most
-/// 1,000 results.
+/// 1,000 results, and there are at most 100,000 globals.
 #[derive(Drop)]
 pub struct Context {
     types: TypeSpace,
@@ -28,12 +28,14 @@ pub struct Context {
     exports: Vec<Export>,
     elements: Vec<ElementRow>,
     segments: Vec<DataRow>,
+    data_count: Option<u32>,
     start: Option<u32>,
 }
 
 impl Model for Context {
     ghost use Rattle.std.specs.Prelude.{◌≡◌, ◌-◌, ◌≤◌, length};
-    ghost use Rattle.wasm_laws.specs.Kept.{TypesAreSmall};
+    ghost use Rattle.wasm_defs.specs.Limits.{max_entries};
+    ghost use Rattle.wasm_defs.specs.SmallTypes.{TypesAreSmall};
     ghost use Rattle.index_spaces.specs.Spaces.{Spaces};
 
     ghost Value = { Spaces };
@@ -51,10 +53,12 @@ impl Model for Context {
       exports = c.exports.items;
       elements = c.elements.items;
       segments = c.segments.items;
+      data_count = c.data_count;
       start = c.start;
     } };
 
-    ghost invariant = { λ c. (length c.imports.items ≤ length c.functions.items) × (length c.initials.items ≡ length c.globals.items) × TypesAreSmall c.types };
+    ghost invariant = { λ c. (length c.imports.items ≤ length c.functions.items) × (length c.initials.items ≡ length c.globals.items) × TypesAreSmall c.types
+        × (length c.globals.items ≤ max_entries) };
 }
 
 impl Context {
@@ -73,6 +77,7 @@ impl Context {
             exports: Vec::new(alloc),
             elements: Vec::new(alloc),
             segments: Vec::new(alloc),
+            data_count: None,
             start: None,
         }
     }
@@ -122,10 +127,14 @@ impl Context {
         Ok(())
     }
 
+    /// After 100,000 globals, which are all that a module may have, there is no room for another one.
     pub(crate) fn add_global(&mut self, ty: GlobalType, initial: i64) -> Result<(), AllocError>
         ensures ok { OnOk result (self.new ≡ with_global self.old ty initial) }
         ensures err { OnErr result (self.new ≡ self.old) }
     {
+        if self.globals.len() >= MAX_ENTRIES as usize {
+            return Err(AllocError);
+        }
         self.globals.reserve(1)?;
         self.initials.push(initial)?;
         self.globals.push(ty)?;
@@ -154,6 +163,13 @@ impl Context {
     {
         self.segments.push(row)?;
         Ok(())
+    }
+
+    /// A second data count, which no module has, changes nothing.
+    pub(crate) fn add_data_count(&mut self, count: u32)
+        ensures { self.new ≡ with_data_count self.old count }
+    {
+        self.data_count = self.data_count.or(Some(count));
     }
 
     /// A second start function, which no module has, changes nothing.
@@ -205,6 +221,13 @@ impl Context {
         self.globals.as_slice()
     }
 
+    /// How many globals there are.
+    pub fn global_count(&self) -> u32
+        ensures { result ≡ length self.now.globals }
+    {
+        self.globals.len() as u32
+    }
+
     /// The numbers of the globals' constants (Core 2.5.6), as signed ones, by the indices of the globals.
     pub fn initials(&self) -> &[i64]
         ensures { result.now ≡ self.now.initials }
@@ -241,11 +264,25 @@ impl Context {
         self.elements.as_slice()
     }
 
-    /// The data segments in order (Core 2.5.8).
+    /// The data segments in order (Core 2.0, 2.5.8).
     pub fn segments(&self) -> &[DataRow]
         ensures { result.now ≡ self.now.segments }
     {
         self.segments.as_slice()
+    }
+
+    /// The number in the data count section (Core 2.0, 5.5.15), where there is one.
+    pub fn data_count(&self) -> Option<u32>
+        ensures { result ≡ self.now.data_count }
+    {
+        self.data_count
+    }
+
+    /// How many data segments instructions may name (Core 2.0, 3.1.1): the data count, and without one none.
+    pub fn segment_count(&self) -> u32
+        ensures { result ≡ (context_in self.now).segments }
+    {
+        self.data_count.unwrap_or(0)
     }
 
     /// The index of the start function (Core 2.5.9), where there is one.

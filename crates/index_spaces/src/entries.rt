@@ -28,10 +28,10 @@ pub struct ElementRow {
     pub functions: Indices,
 }
 
-/// A data segment (Core 2.5.8): the byte of the memory that it begins at, and the bytes that it writes from there on. The address
+/// A data segment (Core 2.0, 2.5.8): its bytes, and for an active one the address in the memory that it writes them to. The address
 /// is the value of an `i32` constant as an unsigned number, so it is below 2^32 wherever the constant has that type's range.
 #[derive(Debug, Drop)]
 pub struct DataRow {
-    pub place: u64,
+    pub place: Option<u64>,
     pub bytes: Bytes,
 }

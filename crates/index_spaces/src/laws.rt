@@ -32,7 +32,7 @@ pub fn elements_are_of_items()
     ensures { ElementsAreOfItems }
 {}
 
-/// The data segments of some items are those that a run's memory is made with.
+/// The data segments of some items are those that a run's memory is made with, and those that its instructions begin with.
 pub fn segments_are_of_items()
     ensures { SegmentsAreOfItems }
 {}

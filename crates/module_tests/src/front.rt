@@ -47,12 +47,13 @@ const MODULES: &str = "\
 # A field that the section cuts off stands at its own first byte.
 01 02 01 60 00 = Malformed at byte 12
 01 03 01 60 80 00 = Malformed at byte 12
-# Ids and their order.
+# Sections and their order.
 01 01 00 01 01 00 = Malformed at byte 11
 03 01 00 01 01 00 = Malformed at byte 11
-0C 01 00 = Unsupported at byte 8
 0D 00 = Malformed at byte 8
 0B 80 80 80 20 = Limit at byte 9
+0B 01 00 0C 01 00 = Malformed at byte 11
+0C 01 00 09 01 00 = Malformed at byte 11
 # What the tables of 1.0 do not list.
 01 05 01 60 01 7B 00 = Malformed at byte 13
 01 05 01 60 01 7D 00 = Unsupported at byte 13
@@ -80,6 +81,16 @@ const MODULES: &str = "\
 05 03 02 00 00 = Invalid at byte 10
 04 06 01 70 00 A1 8D 06 = Limit at byte 13
 0B 05 01 00 41 00 0B = Invalid at byte 11
+# The data count, and as many segments.
+0C 01 00 = 1 items, the whole module
+0C 03 A1 8D 06 = Limit at byte 10
+0C 01 02 = 1 items, Ended at byte 11
+0C 01 01 0B 01 00 = 1 items, Malformed at byte 13
+0C 01 01 0B 04 01 01 01 61 = 2 items, the whole module
+# Data segments: one that is active in a memory that it names, in one that isn't there, and one whose form isn't there.
+05 03 01 00 01 0B 07 01 02 00 41 00 0B 00 = 2 items, the whole module
+05 03 01 00 01 0B 07 01 02 01 41 00 0B 00 = 1 items, Invalid at byte 17
+0B 02 01 03 = Malformed at byte 11
 # Imports and functions together.
 03 03 A1 8D 06 = Limit at byte 10
 03 03 A0 8D 06 = Malformed at byte 13
@@ -217,7 +228,7 @@ const LONG: &str = "\
 00 F3 FF FF 1F; 67108851; ; 65536 = the whole module
 00 F3 FF FF 1F; 67108851; ; 67108865 = the whole module
 00 F3 FF FF 1F; 67108851; 00; 67108865 = Limit at byte 67108864
-00 F3 FF FF 1F; 67108851; 0C; 67108865 = Unsupported at byte 67108864
+00 F3 FF FF 1F; 67108851; 0C; 67108865 = Limit at byte 67108864
 00 F3 FF FF 1F; 67108851; 0D; 67108865 = Malformed at byte 67108864";
 
 /// How the reading of a longer module ends.

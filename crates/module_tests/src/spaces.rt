@@ -22,7 +22,8 @@ globals [GlobalType { ty: I64, mutable: true }] from [-7]
 imports [Import { offset: 18, module: Sequence { elements: [101, 110, 118] }, name: Sequence { elements: [108, 111, 103] }, type_index: 0 }]
 exports [Export { name: Sequence { elements: [109, 101, 109] }, kind: Memory, index: 0 }, Export { name: Sequence { elements: [114, 117, 110] }, kind: Function, index: 1 }]
 elements [ElementRow { place: 3, functions: Sequence { elements: [1, 0] } }, ElementRow { place: 4294967295, functions: Sequence { elements: [] } }]
-data [DataRow { place: 65535, bytes: Sequence { elements: [97, 98] } }, DataRow { place: 4294967295, bytes: Sequence { elements: [] } }]
+data [DataRow { place: Some(65535), bytes: Sequence { elements: [97, 98] } }, DataRow { place: Some(4294967295), bytes: Sequence { elements: [] } }, DataRow { place: None, bytes: Sequence { elements: [99] } }]
+data count Some(3)
 start Some(1)
 [true, true, false] [true, true, false] [Some(0), Some(1), None] (2, 1, 1) (true, true, false)
 18 FuncType { params: Sequence { elements: [I64] }, results: Sequence { elements: [] } } FuncType { params: Sequence { elements: [I64] }, results: Sequence { elements: [] } } GlobalType { ty: I64, mutable: true } -7
@@ -96,14 +97,24 @@ fn segment(alloc: Global, place: i64, bytes: &[u8]) -> Result<Item, AllocError>
     ensures { IfOk result HasSmallType }
 {
     Ok(Item::Segment {
-        memory: (90, 0),
+        form: 90,
+        memory: None,
         place: constant(place),
         bytes: (95, Bytes::new(Vec::from_slice(alloc, bytes)?)),
     })
 }
 
+fn passive(alloc: Global, bytes: &[u8]) -> Result<Item, AllocError>
+    ensures { IfOk result HasSmallType }
+{
+    Ok(Item::Passive {
+        form: 110,
+        bytes: (111, Bytes::new(Vec::from_slice(alloc, bytes)?)),
+    })
+}
+
 /// An item by its number, in the order in which a module lists them: two types, an imported function and one of the module's own, a
-/// memory, a global, two exports, a start function, two element segments and two data segments.
+/// memory, a global, two exports, a start function, two element segments, the data count, two active data segments and a passive one.
 fn item(alloc: Global, number: u32) -> Result<Item, AllocError>
     ensures { IfOk result HasSmallType }
 {
@@ -131,8 +142,10 @@ fn item(alloc: Global, number: u32) -> Result<Item, AllocError>
         8 => Ok(Item::Start { index: (68, 1) }),
         9 => element(alloc, 3, &[1, 0]),
         10 => element(alloc, -1, &[]),
-        11 => segment(alloc, 65_535, b"ab"),
-        _ => segment(alloc, -1, &[]),
+        11 => Ok(Item::DataCount { count: (80, 3) }),
+        12 => segment(alloc, 65_535, b"ab"),
+        13 => segment(alloc, -1, &[]),
+        _ => passive(alloc, b"c"),
     }
 }
 
@@ -150,14 +163,14 @@ fn add_items(alloc: Global, builder: &mut ContextBuilder, items: u32) -> Result<
 /// The context of all items.
 fn context_of(alloc: Global) -> Result<Context, AddStop> {
     let mut builder = ContextBuilder::new(alloc);
-    add_items(alloc, &mut builder, 13)?;
+    add_items(alloc, &mut builder, 15)?;
     Ok(builder.finish())
 }
 
 /// What a context has of each kind, in the order of the indices.
 fn lists_of(alloc: Global, context: &Context) -> Result<String, AllocError> {
     format!(in alloc;
-        "types {:?}\nfunctions of types {:?}\ntables {:?}\nmemories {:?}\nglobals {:?} from {:?}\nimports {:?}\nexports {:?}\nelements {:?}\ndata {:?}\nstart {:?}\n",
+        "types {:?}\nfunctions of types {:?}\ntables {:?}\nmemories {:?}\nglobals {:?} from {:?}\nimports {:?}\nexports {:?}\nelements {:?}\ndata {:?}\ndata count {:?}\nstart {:?}\n",
         context.types(),
         context.type_indices(),
         context.tables(),
@@ -168,6 +181,7 @@ fn lists_of(alloc: Global, context: &Context) -> Result<String, AllocError> {
         context.exports(),
         context.elements(),
         context.segments(),
+        context.data_count(),
         context.start(),
     )
 }

@@ -1,19 +1,19 @@
 -- Bytes that may come before an entry is read again.
-use Rattle.std.proofs.Common.{◌≡◌, ℕ, ◌+◌, ◌-◌, ◌<◌, ◌≤◌, List, [], ◌++◌, length, refl, sym, ap, ◌∙◌, arith, length-take, length-append}
-use Rattle.std.proofs.lemmas.Bool.{lt-ltb, le-ltb, lt-leb}
+use Rattle.std.proofs.Common.{◌≡◌, ◌≢◌, ℕ, ◌+◌, ◌-◌, ◌<◌, ◌≤◌, Option, List, [], ◌∷◌, ◌++◌, length, refl, sym, ap, ◌∙◌, arith, length-take, length-append}
+use Rattle.std.proofs.lemmas.Bool.{ne_eqb, lt-ltb, le-ltb, lt-leb}
 use Rattle.wasm_defs.specs.declared.types.ValType.{ValType}
 use Rattle.wasm_defs.specs.declared.types.ValType.TheVariants.{I32}
 use Rattle.wasm_defs.specs.declared.item.Constant.{Constant}
 use Rattle.wasm_defs.specs.Limits.{max_params, max_results}
 use Rattle.wasm_defs.specs.Fields.{Cursor, Read, Got, Wants, Reader, then_go, ◌>>=◌, done, repeated, window, room_of, past, byte, u32, count, vector, room, run, counted_bytes, name}
-use Rattle.wasm_defs.specs.Entries.{Seen, sole, constant, listed_type, listed_index, signature, imported, exported, element, segment}
+use Rattle.wasm_defs.specs.Entries.{Seen, sole, constant, listed_type, listed_index, signature, imported, exported, element, memory_of, passive, segment}
 use Rattle.wasm_defs.specs.Outside.{Nothing, custom_name}
 use Rattle.wasm_laws.specs.Steadiness.{with_more, Advance}
-use Rattle.wasm_laws.proofs.Steady.{field_steady, advance_then, repeated_steady}
+use Rattle.wasm_laws.proofs.Steady.{here_in, field_steady, advance_then, repeated_steady}
 use Rattle.wasm_laws.proofs.FieldLaws.{u32_field, count_steady, vector_steady}
 use Rattle.wasm_laws.proofs.Windows.{byte_field}
 use Rattle.wasm_laws.proofs.Names.{name_field}
-use Rattle.wasm_laws.proofs.EntryLaws.{sole_steady, constant_steady, listed_type_steady}
+use Rattle.wasm_laws.proofs.EntryLaws.{sole_steady, memory_of_steady, constant_steady, listed_type_steady}
 use Rattle.section_reader.specs.declared.stage.Stage.{Stage}
 use Rattle.section_reader.specs.declared.stage.Stage.TheVariants.{Contents}
 use Rattle.section_reader.specs.declared.wait.Element.{Element}
@@ -68,15 +68,23 @@ module _ (P : List ℕ → Type 0) where
       (on_awaits (vector u32 (listed_index seen.functions)) _ e
       (then_awaits u32 _ e f n (field_steady [] u32 u32_field).by third (on_awaits (repeated n.1 (listed_index seen.functions)) _ f h))))
 
-  segment_wants : (seen : Seen) (c d e f : Cursor) (i : ℕ × ℕ) (place : Constant) (n : ℕ × ℕ) → sole seen.memories c ≡ Got i d → constant I32 d ≡ Got place e → u32 e ≡ Got n f
-      → n.1 ≤ room_of f → WantsIf (run n.1) f P → WantsIf (segment seen) c P
-  unfolding segment counted_bytes room
-  segment_wants seen c d e f i place n first second third fits h =
-      then_awaits (sole seen.memories) _ c d i (sole_steady [] seen.memories).by first
-      (then_awaits (constant I32) _ d e place (constant_steady [] I32).by second
-      (on_awaits counted_bytes _ e
-      (then_awaits u32 _ e f n (field_steady [] u32 u32_field).by third
-      (λ more passes. rw (le-ltb (room_of f) n.1 fits) (ap (λ (r : Read (List ℕ)). then_go r (λ bytes. done (n.0, bytes))) (h more passes))))))
+  bytes_want : (c d : Cursor) (n : ℕ × ℕ) → u32 c ≡ Got n d → n.1 ≤ room_of d → WantsIf (run n.1) d P → WantsIf counted_bytes c P
+  unfolding counted_bytes room
+  bytes_want c d n first fits h =
+      then_awaits u32 _ c d n (field_steady [] u32 u32_field).by first
+      (λ more passes. rw (le-ltb (room_of d) n.1 fits) (ap (λ (r : Read (List ℕ)). then_go r (λ bytes. done (n.0, bytes))) (h more passes)))
+
+  passive_wants : (seen : Seen) (c d : Cursor) (form : ℕ × ℕ) → u32 c ≡ Got form d → form.1 ≡ 1 → WantsIf counted_bytes d P → WantsIf (segment seen) c P
+  unfolding segment passive
+  passive_wants seen c d form first is h = then_awaits u32 _ c d form (field_steady [] u32 u32_field).by first (rw is (on_awaits counted_bytes _ d h))
+
+  active_wants : (seen : Seen) (c d e f : Cursor) (form : ℕ × ℕ) (memory : Option (ℕ × ℕ)) (place : Constant) → u32 c ≡ Got form d → form.1 ≤ 2 → form.1 ≢ 1 → memory_of seen form d ≡ Got memory e → constant I32 e ≡ Got place f
+      → WantsIf counted_bytes f P → WantsIf (segment seen) c P
+  unfolding segment
+  active_wants seen c d e f form memory place first low other second third h =
+      then_awaits u32 _ c d form (field_steady [] u32 u32_field).by first
+      (rw (le-ltb 2 form.1 low, ne_eqb form.1 1 other) (then_awaits (memory_of seen form) _ d e memory (memory_of_steady (form.0 ∷ []) seen form here_in).by second
+      (then_awaits (constant I32) _ e f place (constant_steady [] I32).by third (on_awaits counted_bytes _ f h))))
 
 pub never : {A : Type 0} (p : Reader A) (c : Cursor) → Awaits p c wait.Nothing
 never p c = λ more passes. absurd passes
@@ -149,11 +157,16 @@ unfolding run
 run_wants n c free fits owed = λ more few.
     rw (lt-ltb (length (window (with_more c more))) n (omega (arith, length-take (room_of c) (c.rest ++ more), length-append c.rest more)), lt-leb (room_of c) (length (c.rest ++ more)) (omega (arith, length-append c.rest more))) refl
 
--- the bytes of a data segment
-pub segment_awaits : (seen : Seen) (c d e f : Cursor) (i : ℕ × ℕ) (place : Constant) (n : ℕ × ℕ) (free : ℕ)
-    → sole seen.memories c ≡ Got i d → constant I32 d ≡ Got place e → u32 e ≡ Got n f → n.1 ≤ room_of f → length f.rest + free < n.1 → Awaits (segment seen) c (wait.Bytes free)
-segment_awaits seen c d e f i place n free first second third fits owed =
-    segment_wants (λ more. length more ≤ free) seen c d e f i place n first second third fits (run_wants n.1 f free fits owed)
+-- the bytes of a data segment, after its number of them
+pub bytes_await : (c d from : Cursor) (n : ℕ × ℕ) (free : ℕ) → u32 c ≡ Got n d → n.1 ≤ room_of d → length d.rest + free < n.1 → AwaitsAt counted_bytes c (wait.Bytes free) from
+bytes_await c d from n free first fits owed = bytes_want (λ more. length more ≤ free) c d n first fits (run_wants n.1 d free fits owed)
+
+pub passive_awaits : (seen : Seen) (c d : Cursor) (form : ℕ × ℕ) (w : Wait) → u32 c ≡ Got form d → form.1 ≡ 1 → AwaitsAt counted_bytes d w c → Awaits (segment seen) c w
+passive_awaits seen c d form w first is h = passive_wants (Passes w c) seen c d form first is h
+
+pub active_awaits : (seen : Seen) (c d e f : Cursor) (form : ℕ × ℕ) (memory : Option (ℕ × ℕ)) (place : Constant) (w : Wait) → u32 c ≡ Got form d → form.1 ≤ 2 → form.1 ≢ 1 → memory_of seen form d ≡ Got memory e → constant I32 e ≡ Got place f
+    → AwaitsAt counted_bytes f w c → Awaits (segment seen) c w
+active_awaits seen c d e f form memory place w first low other second third h = active_wants (Passes w c) seen c d e f form memory place first low other second third h
 
 -- ---- stages that wait
 

@@ -33,17 +33,17 @@ ending_empty f none kept le =
 
 -- ---- skipping
 
-at_bodies : (stage : Stage) → is_at_bodies stage ≡ true → stage ≡ Entries 10 0
+at_bodies : (stage : Stage) → is_at_bodies stage ≡ true → stage ≡ Entries 11 0
 at_bodies Preamble e = absurd cc
 at_bodies Between e = absurd cc
 at_bodies (Contents id) e = absurd cc
 at_bodies (Entries id n) e =
-    let p = and_parts (eqb id 10) (eqb n 0) e in
-    rw (eqb-true id 10 p.0, eqb-true n 0 p.1) refl
+    let p = and_parts (eqb id 11) (eqb n 0) e in
+    rw (eqb-true id 11 p.0, eqb-true n 0 p.1) refl
 
 -- what `can_skip` tests
 pub record Skips (f : Front) (end : ℕ) : Type 0 where
-  pub stage : f.steps.stage ≡ Entries 10 0
+  pub stage : f.steps.stage ≡ Entries 11 0
   pub kept : f.kept.items ≡ []
   pub waiting : f.waiting ≡ None
   pub refusal : f.refusal ≡ None
@@ -68,7 +68,7 @@ skips f end can =
     }
 
 -- where all of the code section is passed over, the next section comes
-over_there : (seen : Seen) (end : ℕ) (more : List ℕ) → proceed (Entries 10 0) seen (at_bytes end end more) ≡ outline_sections seen (at_bytes end no_end more)
+over_there : (seen : Seen) (end : ℕ) (more : List ℕ) → proceed (Entries 11 0) seen (at_bytes end end more) ≡ outline_sections seen (at_bytes end no_end more)
 unfolding section_end
 over_there seen end more =
     let none : end - end ≡ 0 = omega arith in
@@ -84,7 +84,7 @@ skip_same f end can bytes more sum =
     let before : f.at + length bytes ≡ end = omega (arith, sum, ap length h.kept) in
     ap (λ (r : Run). prepend f.waiting (from_there f.refusal r)) (
     rw (h.stage, h.kept) (
-    pass_leads f.steps.seen f.at f.end 10 bytes refl (omega (arith, before, h.there)) more
+    pass_leads f.steps.seen f.at f.end 11 bytes refl (omega (arith, before, h.there)) more
     ∙ rw (before, ← h.there) (over_there f.steps.seen end more)))
 
 pub skip_onward : (f : Front) (end : ℕ) → can_skip f end ≡ true → (more : List ℕ)

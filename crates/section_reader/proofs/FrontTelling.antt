@@ -4,7 +4,7 @@ use Rattle.wasm_defs.specs.declared.fault.Refusal.{Refusal}
 use Rattle.wasm_defs.specs.declared.item.Item.{Item}
 use Rattle.wasm_defs.specs.Fields.{Cursor}
 use Rattle.wasm_defs.specs.Entries.{Seen}
-use Rattle.wasm_defs.specs.Outside.{Section, Owed, Run, ends, after_part, section, sections, or_section}
+use Rattle.wasm_defs.specs.Outside.{position_of, Section, Owed, Run, ends, after_part, section, sections, or_section}
 use Rattle.wasm_laws.specs.Steadiness.{with_more}
 use Rattle.leb_feed.specs.declared.stop.Stop.TheVariants as stop
 use Rattle.section_reader.specs.declared.stage.Stage.{Stage}
@@ -50,7 +50,7 @@ stalled_at stage seen d at end kept same_at same_end same h = rw (same_at, same_
 section_stalled : (seen : Seen) (c : Cursor) (rest : List ℕ) → 0 < length rest → is_owing_behind (or_section sections seen c rest).parts (or_section sections seen c rest).ending ≡ true
     → or_section sections seen c rest ≡ after_parts (next_part c.at rest) (ends Owed)
 section_stalled seen c [] some e = absurd (omega arith)
-section_stalled seen c (b ∷ rest) some e = ap (after_part (Section c.at b)) (owing_is (section sections seen c).parts (section sections seen c).ending e)
+section_stalled seen c (b ∷ rest) some e = ap (after_part (Section c.at (position_of b))) (owing_is (section sections seen c).parts (section sections seen c).ending e)
 
 pub stalled_is : (stage : Stage) (seen : Seen) (c : Cursor) → 0 < length c.rest → is_stalled stage (onward stage seen c) ≡ true → onward stage seen c ≡ after_parts (begun_section stage c) (ends Owed)
 stalled_is Preamble seen c some e = owing_is _ _ e

@@ -6,7 +6,7 @@ use Rattle.std.proofs.lemmas.List.{append-nil}
 use Rattle.wasm_defs.specs.declared.item.Item.{Item}
 use Rattle.wasm_defs.specs.Fields.{Cursor, Read, Got, Fault, Wants, Reader, past, room_of, window, run}
 use Rattle.wasm_defs.specs.Entries.{Seen, note}
-use Rattle.wasm_defs.specs.Outside.{Section, Listed, Nothing, rest_of_section, header, preamble, section_end, entered, inside, no_end}
+use Rattle.wasm_defs.specs.Outside.{position_of, Section, Listed, Nothing, rest_of_section, header, preamble, section_end, entered, inside, no_end}
 use Rattle.wasm_laws.specs.Steadiness.{IfGot, Advance}
 use Rattle.wasm_laws.proofs.EntryLaws.{header_steady, preamble_steady}
 use Rattle.wasm_laws.proofs.RowLaws.{end_steady}
@@ -133,7 +133,7 @@ module _ (stage : Stage) (seen : Seen) (c d : Cursor) (sound : IsSound seen c) w
         passed = record { taken = p.taken; parts = p.parts; at = p.at };
         tells = tells_from Between None (standing (Contents h.0) (entered seen h.0)) (inside d h.1) is (λ o. record {
           tells = λ _. record {
-            told = Section c.at b ∷ [];
+            told = Section c.at (position_of b) ∷ [];
             sections = tt;
             run = header_run seen c d h b bytes some read;
           };

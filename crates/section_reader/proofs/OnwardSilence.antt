@@ -1,5 +1,5 @@
 -- How a module ends where no byte is there, and how a push reader ends.
-use Rattle.std.proofs.Common.{◌≡◌, ℕ, zero, suc, ◌+◌, ◌-◌, ◌<◌, Bool, true, false, if◌then◌else◌, leb, eqb, inl, inr, List, [], length, drop, Some, None, refl, sym, ap, subst, ◌∙◌, arith, add-zero}
+use Rattle.std.proofs.Common.{◌≡◌, ℕ, zero, suc, ◌+◌, ◌-◌, ◌<◌, Bool, true, false, leb, eqb, inl, inr, List, [], length, drop, Some, None, refl, sym, ap, subst, ◌∙◌, arith, add-zero}
 use Rattle.std.proofs.lemmas.Bool.{cases_Bool, cases_eq, cases_lt, ne_eqb}
 use Rattle.std.proofs.lemmas.List.{append-nil}
 use Rattle.wasm_defs.specs.declared.fault.Kind.TheVariants.{Ended}
@@ -7,7 +7,7 @@ use Rattle.wasm_defs.specs.declared.fault.Refusal.{Refusal}
 use Rattle.wasm_defs.specs.Fields.{Cursor, Read, Got, cut, past, room_of}
 use Rattle.wasm_defs.specs.Entries.{Seen}
 use Rattle.wasm_defs.specs.Faults.{ending_fault}
-use Rattle.wasm_defs.specs.Outside.{Nothing, Refused, Owed, Run, Next, ends, after_part, runs_on, noted, preamble, entries, sections, or_section, section_end, no_end, owes_code, at_the_end}
+use Rattle.wasm_defs.specs.Outside.{Nothing, Refused, Owed, Run, Next, ends, after_part, runs_on, noted, preamble, entries, sections, or_section, section_end, no_end, owes, at_the_end}
 use Rattle.section_reader.specs.declared.stage.Stage.{Stage}
 use Rattle.section_reader.specs.declared.stage.Stage.TheVariants.{Preamble, Between, Contents, Entries}
 use Rattle.section_reader.specs.declared.front.Front.{Front}
@@ -38,7 +38,7 @@ cut_alike c x f g e =
 
 end_alike : (seen : Seen) → EndsAlike (at_the_end seen) (at_the_end seen)
 end_alike seen =
-    elim (cases_Bool (owes_code seen)) [
+    elim (cases_Bool (owes seen)) [
       | inl owes ↦ rw owes refl
       | inr none ↦ rw none refl
     ]
@@ -105,14 +105,14 @@ module _ (seen : Seen) (at end : ℕ) where
     where
       not_there : (id n : ℕ) → is_at_bodies (Entries id (suc n)) ≡ false
       not_there id n =
-          elim (cases_Bool (eqb id 10)) [
+          elim (cases_Bool (eqb id 11)) [
             | inl code ↦ rw (code, ne_eqb (suc n) 0 (λ e. omega (arith, e))) refl
             | inr other ↦ rw other refl
           ]
 
   contents_alike : (id : ℕ) → IsOrdered (Contents id) seen → EndsAlike (onward (Contents id) seen there) (proceed (Contents id) seen there)
   contents_alike id o =
-      elim (cases_eq id 10) [
+      elim (cases_eq id 11) [
         | inl code ↦ given_alike id 0 (rw code refl) o
         | inr other ↦ elim ((row_needs id).front seen) [
           | inl field ↦ contents_are id seen there other ∙ cut_alike there ((outline_row id).front seen there) _ (λ n d. entries n (outline_row id) outline_sections seen d) (field at end)

@@ -1,6 +1,6 @@
 -- The outline's sections, one after the other: each takes a byte, so as many as there are bytes are enough.
 use Rattle.std.proofs.Common.{◌≡◌, ℕ, zero, suc, ◌+◌, ◌-◌, ◌≤◌, ◌<◌, Bool, true, false, eqb, ltb, cond, List, [], ◌∷◌, length, refl, ap, ◌∙◌, arith, add-one, inl, inr}
-use Rattle.std.proofs.lemmas.Bool.{cases_eq, cases_Bool, ne_eqb, ltb-true, ltb-false}
+use Rattle.std.proofs.lemmas.Bool.{cases_eq, cases_Bool, ne_eqb, eqb-true, eqb-false, ltb-true, ltb-false}
 use Rattle.wasm_defs.specs.Fields.{Cursor, Read, Got, Fault, Wants}
 use Rattle.wasm_defs.specs.Entries.{Seen}
 use Rattle.wasm_defs.specs.Outside.{nothing_more, rest_of_section, Row, header, entered, inside, Run, runs_on, Next}
@@ -21,7 +21,7 @@ either_row true p q hp hq = hp
 either_row false p q hp hq = hq
 
 pub outline_steady : (id : ℕ) → SteadyRow (outline_row id)
-outline_steady id = either_row (eqb id 10) _ _ counted_steady (row_steady id)
+outline_steady id = either_row (eqb id 11) _ _ counted_steady (row_steady id)
 
 -- ---- enough sections are enough
 
@@ -67,71 +67,65 @@ outline_is seen c =
 
 pub passed_over : (id : ℕ) → passes id ≡ true → (outline_row id).back ≡ rest_of_section
 passed_over id e =
-    elim (cases_eq id 10) [
+    elim (cases_eq id 11) [
       | inl code ↦ rw code refl
       | inr n10 ↦ elim (cases_eq id 0) [
         | inl custom ↦ rw custom refl
-        | inr n0 ↦ elim (cases_Bool (ltb 11 id)) [
-          | inl high ↦ high_row id (ltb-true 11 id high)
-          | inr low ↦ absurd (let t = rw (ne_eqb id 0 n0, ne_eqb id 10 n10, low) at e in cc)
+        | inr n0 ↦ elim (cases_Bool (ltb 12 id)) [
+          | inl high ↦ high_row id (ltb-true 12 id high)
+          | inr low ↦ absurd (let t = rw (ne_eqb id 0 n0, ne_eqb id 11 n10, low) at e in cc)
         ]
       ]
     ]
   where
-    high_row : (id : ℕ) → 11 < id → (outline_row id).back ≡ rest_of_section
-    high_row id h =
-        rw (ne_eqb id 10 (λ e. omega arith), ne_eqb id 1 (λ e. omega arith), ne_eqb id 2 (λ e. omega arith), ne_eqb id 3 (λ e. omega arith), ne_eqb id 4 (λ e. omega arith), ne_eqb id 5 (λ e. omega arith), ne_eqb id 6 (λ e. omega arith), ne_eqb id 7 (λ e. omega arith), ne_eqb id 8 (λ e. omega arith), ne_eqb id 9 (λ e. omega arith), ne_eqb id 11 (λ e. omega arith)) refl
+    high_row : (id : ℕ) → 12 < id → (outline_row id).back ≡ rest_of_section
+    high_row id h = rw (ne_eqb id 11 (λ e. omega arith), ne_eqb id 1 (λ e. omega arith), ne_eqb id 2 (λ e. omega arith), ne_eqb id 3 (λ e. omega arith), ne_eqb id 4 (λ e. omega arith), ne_eqb id 5 (λ e. omega arith), ne_eqb id 6 (λ e. omega arith), ne_eqb id 7 (λ e. omega arith), ne_eqb id 8 (λ e. omega arith), ne_eqb id 9 (λ e. omega arith), ne_eqb id 10 (λ e. omega arith), ne_eqb id 12 (λ e. omega arith)) refl
+
+record EndsBare (r : Row) : Type 0 where
+  back : r.back ≡ nothing_more
+
+either_bare : (b : Bool) (p q : Row) → (b ≡ true → EndsBare p) → (b ≡ false → EndsBare q) → EndsBare (cond b p q)
+either_bare true p q h k = h refl
+either_bare false p q h k = k refl
 
 -- what the other sections have after their entries is nothing
 pub not_passed : (id : ℕ) → passes id ≡ false → (outline_row id).back ≡ nothing_more
 not_passed id e =
-    elim (cases_eq id 10) [
+    elim (cases_eq id 11) [
       | inl code ↦ absurd (let t = rw code at e in cc)
       | inr n10 ↦ elim (cases_eq id 0) [
         | inl custom ↦ absurd (let t = rw custom at e in cc)
-        | inr n0 ↦ elim (cases_Bool (ltb 11 id)) [
-          | inl high ↦ absurd (let t = rw (ne_eqb id 0 n0, ne_eqb id 10 n10, high) at e in cc)
-          | inr low ↦ low_row id n10 n0 (ltb-false 11 id low)
+        | inr n0 ↦ elim (cases_Bool (ltb 12 id)) [
+          | inl high ↦ absurd (let t = rw (ne_eqb id 0 n0, ne_eqb id 11 n10, high) at e in cc)
+          | inr low ↦ (low_row id n10 n0 (ltb-false 12 id low)).back
         ]
       ]
     ]
   where
-    low_row : (id : ℕ) → (id ≡ 10 → ⊥) → (id ≡ 0 → ⊥) → id ≤ 11 → (outline_row id).back ≡ nothing_more
-    low_row id n10 n0 h =
-        elim (cases_eq id 1) [
-          | inl e ↦ rw e refl
-          | inr n1 ↦
-              elim (cases_eq id 2) [
-                | inl e ↦ rw e refl
-                | inr n2 ↦
-                    elim (cases_eq id 3) [
-                      | inl e ↦ rw e refl
-                      | inr n3 ↦
-                          elim (cases_eq id 4) [
-                            | inl e ↦ rw e refl
-                            | inr n4 ↦
-                                elim (cases_eq id 5) [
-                                  | inl e ↦ rw e refl
-                                  | inr n5 ↦
-                                      elim (cases_eq id 6) [
-                                        | inl e ↦ rw e refl
-                                        | inr n6 ↦
-                                            elim (cases_eq id 7) [
-                                              | inl e ↦ rw e refl
-                                              | inr n7 ↦
-                                                  elim (cases_eq id 8) [
-                                                    | inl e ↦ rw e refl
-                                                    | inr n8 ↦
-                                                        elim (cases_eq id 9) [
-                                                          | inl e ↦ rw e refl
-                                                          | inr n9 ↦
-                                                              elim (cases_eq id 11) [ inl e ↦ rw e refl | inr n11 ↦ absurd (omega (n10, n0, n1, n2, n3, n4, n5, n6, n7, n8, n9, n11, h, arith)) ]
-                                                        ]
-                                                  ]
-                                            ]
-                                      ]
-                                ]
-                          ]
-                    ]
-              ]
-        ]
+    low_row : (id : ℕ) → (id ≡ 11 → ⊥) → (id ≡ 0 → ⊥) → id ≤ 12 → EndsBare (outline_row id)
+    low_row id n11 n0 h =
+        either_bare (eqb id 11) _ _ (λ e. absurd (n11 (eqb-true id 11 e))) (λ o.
+        either_bare (eqb id 1) _ _ (λ e. record { back = refl }) (λ o1.
+        either_bare (eqb id 2) _ _ (λ e. record { back = refl }) (λ o2.
+        either_bare (eqb id 3) _ _ (λ e. record { back = refl }) (λ o3.
+        either_bare (eqb id 4) _ _ (λ e. record { back = refl }) (λ o4.
+        either_bare (eqb id 5) _ _ (λ e. record { back = refl }) (λ o5.
+        either_bare (eqb id 6) _ _ (λ e. record { back = refl }) (λ o6.
+        either_bare (eqb id 7) _ _ (λ e. record { back = refl }) (λ o7.
+        either_bare (eqb id 8) _ _ (λ e. record { back = refl }) (λ o8.
+        either_bare (eqb id 9) _ _ (λ e. record { back = refl }) (λ o9.
+        either_bare (eqb id 10) _ _ (λ e. record { back = refl }) (λ o10.
+        either_bare (eqb id 11) _ _ (λ e. record { back = refl }) (λ o11.
+        either_bare (eqb id 12) _ _ (λ e. record { back = refl }) (λ o12.
+        let n1 = eqb-false id 1 o1 in
+        let n2 = eqb-false id 2 o2 in
+        let n3 = eqb-false id 3 o3 in
+        let n4 = eqb-false id 4 o4 in
+        let n5 = eqb-false id 5 o5 in
+        let n6 = eqb-false id 6 o6 in
+        let n7 = eqb-false id 7 o7 in
+        let n8 = eqb-false id 8 o8 in
+        let n9 = eqb-false id 9 o9 in
+        let n10 = eqb-false id 10 o10 in
+        let n12 = eqb-false id 12 o12 in
+        absurd (omega (arith, n0, n1, n2, n3, n4, n5, n6, n7, n8, n9, n10, n11, n12, h)))))))))))))))

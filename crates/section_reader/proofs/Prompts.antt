@@ -8,8 +8,8 @@ use Rattle.wasm_defs.specs.Numbers.{Reading, Number, CutOff, Bad, number_at, aft
 use Rattle.wasm_defs.specs.Limits.{max_name}
 use Rattle.wasm_defs.specs.Text.{between, completes}
 use Rattle.wasm_defs.specs.Fields.{Cursor, Read, Got, Fault, Wants, Reader, then_go, ◌>>=◌, done, refused, repeated, room_of, window, past, cut, first_of, byte, from_reading, number, nat_of, u32, count, vector, run, room, here, stop, counted_bytes, agree, fixed, text_after, least, length_owed, name_from, name}
-use Rattle.wasm_defs.specs.Entries.{Seen, index, value_type, listed_type, limits, constant, signature, imported, function, table, memory, mutability, global, extern_kind, exported, start, sole, listed_index, element, code, segment}
-use Rattle.wasm_defs.specs.Outside.{listed, Row, entries_of, rest_of_section, number_of, at_most_one, function_count, custom_name, header, preamble, left_over, section_end}
+use Rattle.wasm_defs.specs.Entries.{Seen, index, value_type, listed_type, limits, refused_opcode, constant, signature, imported, function, table, memory, mutability, global, extern_kind, exported, start, sole, listed_index, element, code, data_count, memory_of, passive, segment}
+use Rattle.wasm_defs.specs.Outside.{listed, Row, entries_of, rest_of_section, number_of, at_most_one, function_count, segment_count, custom_name, header, preamble, left_over, section_end}
 use Rattle.wasm_laws.specs.Steadiness.{IfGot, with_more, Extends, got, faulty, owed, Advances}
 use Rattle.wasm_laws.proofs.Steady.{field_steady}
 use Rattle.wasm_laws.proofs.Windows.{all_of, take_over, window_reads_on, LiesIn, number_lies, ReadsOn, byte_field, number_field}
@@ -318,9 +318,13 @@ limits_prompt : (most : ℕ) (top : ℕ) → Prompt (limits most top)
 unfolding limits
 limits_prompt most top = search (u32_prompt, prompts) depth 40
 
+refused_opcode_prompt : {A : Type 0} (b : ℕ × ℕ) → Prompt (refused_opcode {A = A} b)
+unfolding refused_opcode
+refused_opcode_prompt b = search (u32_prompt, prompts) depth 40
+
 constant_prompt : (ty : ValType) → Prompt (constant ty)
 unfolding constant
-constant_prompt ty = search (prompts) depth 40
+constant_prompt ty = search (refused_opcode_prompt, prompts) depth 40
 
 mutability_prompt : Prompt mutability
 unfolding mutability
@@ -382,9 +386,21 @@ code_prompt : (seen : Seen) → Prompt (code seen)
 unfolding code
 code_prompt seen = search parts depth 40
 
+data_count_prompt : (seen : Seen) → Prompt (data_count seen)
+unfolding data_count
+data_count_prompt seen = search parts depth 40
+
+memory_of_prompt : (seen : Seen) (form : ℕ × ℕ) → Prompt (memory_of seen form)
+unfolding memory_of
+memory_of_prompt seen form = search parts depth 40
+
+passive_prompt : (form : ℕ) → Prompt (passive form)
+unfolding passive
+passive_prompt form = search parts depth 40
+
 segment_prompt : (seen : Seen) → Prompt (segment seen)
 unfolding segment
-segment_prompt seen = search parts depth 40
+segment_prompt seen = search (memory_of_prompt, passive_prompt, parts) depth 40
 
 rest_of_section_prompt : Prompt rest_of_section
 unfolding rest_of_section
@@ -401,6 +417,10 @@ at_most_one_prompt = search parts depth 40
 function_count_prompt : (seen : Seen) → Prompt (function_count seen)
 unfolding function_count
 function_count_prompt seen = search parts depth 40
+
+segment_count_prompt : (seen : Seen) → Prompt (segment_count seen)
+unfolding segment_count
+segment_count_prompt seen = search parts depth 40
 
 custom_name_prompt : Prompt custom_name
 unfolding custom_name
@@ -433,9 +453,9 @@ either_row false p q hp hq = hq
 
 pub row_prompt : (id : ℕ) → RowPrompt (outline_row id)
 row_prompt id =
-    elim (cases_eq id 10) [
+    elim (cases_eq id 11) [
       | inl is ↦ rw is (record { front = λ s. done_prompt 1; entry = λ s. listed_prompt (code s) (code_prompt s); back = rest_of_section_prompt })
-      | inr other ↦ rw (ne_eqb id 10 other) (
+      | inr other ↦ rw (ne_eqb id 11 other) (
           either_row (eqb id 1) _ _ (listing _ _ (λ s. number_of_prompt _) signature_prompt)
           (either_row (eqb id 2) _ _ (listing _ _ (λ s. number_of_prompt _) imported_prompt)
           (either_row (eqb id 3) _ _ (listing _ _ function_count_prompt function_prompt)
@@ -445,8 +465,9 @@ row_prompt id =
           (either_row (eqb id 7) _ _ (listing _ _ (λ s. number_of_prompt _) exported_prompt)
           (either_row (eqb id 8) _ _ (listing _ _ (λ s. done_prompt 1) start_prompt)
           (either_row (eqb id 9) _ _ (listing _ _ (λ s. number_of_prompt _) element_prompt)
-          (either_row (eqb id 11) _ _ (listing _ _ (λ s. number_of_prompt _) segment_prompt)
-          (record { front = λ s. custom_name_prompt; entry = λ s. listed_prompt (start s) (start_prompt s); back = rest_of_section_prompt })))))))))))
+          (either_row (eqb id 10) _ _ (listing _ _ (λ s. done_prompt 1) data_count_prompt)
+          (either_row (eqb id 12) _ _ (listing _ _ segment_count_prompt segment_prompt)
+          (record { front = λ s. custom_name_prompt; entry = λ s. listed_prompt (start s) (start_prompt s); back = rest_of_section_prompt }))))))))))))
     ]
 
 left_late : (c : Cursor) (most : ℕ) (rest : List ℕ) → Leaves most (left_over c rest)

@@ -3,7 +3,7 @@ use Rattle.std.proofs.Common.{◌≡◌, ℕ, suc, ◌+◌, ◌-◌, ◌≤◌, 
 use Rattle.std.proofs.lemmas.Bool.{cases_eq}
 use Rattle.wasm_defs.specs.Fields.{Cursor}
 use Rattle.wasm_defs.specs.Entries.{Seen}
-use Rattle.wasm_defs.specs.Outside.{row, header, entered, inside, Section, after_part, Next, section, or_section, sections_up_to, sections}
+use Rattle.wasm_defs.specs.Outside.{position_of, row, header, entered, inside, Section, after_part, Next, section, or_section, sections_up_to, sections}
 use Rattle.wasm_laws.proofs.RowLaws.{row_steady}
 use Rattle.wasm_laws.proofs.Takes.{header_takes}
 use Rattle.wasm_laws.proofs.Runs.{Same, contents_same, enough}
@@ -15,7 +15,7 @@ section_same most f g seen c same h =
 
 or_same : (most : ℕ) (f g : Next) (seen : Seen) (c : Cursor) (rest : List ℕ) → Same most f g → length c.rest ≤ suc most → or_section f seen c rest ≡ or_section g seen c rest
 or_same most f g seen c [] same h = refl
-or_same most f g seen c (b ∷ rest) same h = ap (after_part (Section c.at b)) (section_same most f g seen c same h)
+or_same most f g seen c (b ∷ rest) same h = ap (after_part (Section c.at (position_of b))) (section_same most f g seen c same h)
 
 no_bytes : (f g : Next) (seen : Seen) (c : Cursor) (rest : List ℕ) → length rest ≤ 0 → or_section f seen c rest ≡ or_section g seen c rest
 no_bytes f g seen c [] h = refl

@@ -4,14 +4,14 @@ use Rattle.std.proofs.lemmas.Bool.{cases_Bool, cases_eq, cases_lt, eq-eqb, ne_eq
 use Rattle.wasm_defs.specs.declared.item.Item.{Item}
 use Rattle.wasm_defs.specs.Numbers.{number_at}
 use Rattle.wasm_defs.specs.Fields.{Cursor, Read, Reader, then_go, ◌>>=◌, done, window, room_of, cut, first_of, byte, from_reading, number, u32, count, name_from, name, fixed}
-use Rattle.wasm_defs.specs.Entries.{Seen, index, value_type, limits, sole, signature, imported, function, table, memory, global, exported, start, element, code, segment}
+use Rattle.wasm_defs.specs.Entries.{Seen, index, value_type, limits, sole, signature, imported, function, table, memory, global, exported, start, element, code, data_count, segment}
 use Rattle.wasm_defs.specs.Faults.{ending_fault}
-use Rattle.wasm_defs.specs.Outside.{Nothing, Run, Owed, ends, runs_on, listed, Row, entries_of, body, number_of, at_most_one, function_count, custom_name, magic, preamble, entries, after_part, section_end, no_end, owes_code, noted}
+use Rattle.wasm_defs.specs.Outside.{Nothing, Run, Owed, ends, runs_on, listed, Row, entries_of, body, number_of, at_most_one, function_count, segment_count, custom_name, magic, preamble, entries, after_part, section_end, no_end, owes, noted}
 use Rattle.wasm_laws.proofs.Windows.{all_of}
 use Rattle.section_reader.specs.declared.stage.Stage.{Stage}
 use Rattle.section_reader.specs.declared.stage.Stage.TheVariants.{Preamble, Between, Contents, Entries}
 use Rattle.section_reader.specs.Outline.{outline_row, outline_sections}
-use Rattle.section_reader.specs.Stages.{proceed, passes, cut_there, code_due, silent}
+use Rattle.section_reader.specs.Stages.{proceed, passes, cut_there, due, silent}
 use Rattle.section_reader.proofs.OutlineRuns.{outline_is}
 use Rattle.section_reader.proofs.Leading.{at_bytes, rest_is}
 use Rattle.section_reader.proofs.Going.{nothing_back, rest_back}
@@ -133,13 +133,17 @@ code_needs : (seen : Seen) → Needs (code seen)
 unfolding code
 code_needs seen = bind u32 _ u32_needs
 
+data_count_needs : (seen : Seen) → Needs (data_count seen)
+unfolding data_count
+data_count_needs seen = bind (count _) _ (count_needs _)
+
 segment_needs : (seen : Seen) → Needs (segment seen)
 unfolding segment
-segment_needs seen = bind (sole seen.memories) _ (sole_needs seen.memories)
+segment_needs seen = bind u32 _ u32_needs
 
-body_needs : Needs body
+body_needs : (counted : Bool) → Needs (body counted)
 unfolding body
-body_needs = bind u32 _ u32_needs
+body_needs counted = bind u32 _ u32_needs
 
 number_of_needs : (most : ℕ) → Needs (number_of most)
 unfolding number_of
@@ -152,6 +156,10 @@ at_most_one_needs = bind u32 _ u32_needs
 function_count_needs : (seen : Seen) → Needs (function_count seen)
 unfolding function_count
 function_count_needs seen = bind u32 _ u32_needs
+
+segment_count_needs : (seen : Seen) → Needs (segment_count seen)
+unfolding segment_count
+segment_count_needs seen = bind u32 _ u32_needs
 
 custom_name_needs : Needs custom_name
 unfolding custom_name
@@ -171,7 +179,7 @@ listing front entry hf he = record { front = λ s. inl (hf s); entry = λ s. lis
 
 pub row_needs : (id : ℕ) → RowNeeds (outline_row id)
 row_needs id =
-    either_row (eqb id 10) _ _ (record { front = λ s. inr (0, refl); entry = λ s. listed_needs (code s) (code_needs s) })
+    either_row (eqb id 11) _ _ (record { front = λ s. inr (0, refl); entry = λ s. listed_needs (code s) (code_needs s) })
     (either_row (eqb id 1) _ _ (listing _ _ (λ s. number_of_needs _) signature_needs)
     (either_row (eqb id 2) _ _ (listing _ _ (λ s. number_of_needs _) imported_needs)
     (either_row (eqb id 3) _ _ (listing _ _ function_count_needs function_needs)
@@ -181,9 +189,10 @@ row_needs id =
     (either_row (eqb id 7) _ _ (listing _ _ (λ s. number_of_needs _) exported_needs)
     (either_row (eqb id 8) _ _ (record { front = λ s. inr (0, refl); entry = λ s. listed_needs (start s) (start_needs s) })
     (either_row (eqb id 9) _ _ (listing _ _ (λ s. number_of_needs _) element_needs)
-    (either_row (eqb id 10) _ _ (record { front = λ s. inr (s.declared, ap done (add-one s.declared)); entry = λ s. either s.counted _ _ body_needs (listed_needs (code s) (code_needs s)) })
-    (either_row (eqb id 11) _ _ (listing _ _ (λ s. number_of_needs _) segment_needs)
-    (record { front = λ s. inl custom_name_needs; entry = λ s. listed_needs (start s) (start_needs s) }))))))))))))
+    (either_row (eqb id 10) _ _ (record { front = λ s. inr (0, refl); entry = λ s. listed_needs (data_count s) (data_count_needs s) })
+    (either_row (eqb id 11) _ _ (record { front = λ s. inr (s.declared, ap done (add-one s.declared)); entry = λ s. either s.counted _ _ (body_needs _) (listed_needs (code s) (code_needs s)) })
+    (either_row (eqb id 12) _ _ (listing _ _ segment_count_needs segment_needs)
+    (record { front = λ s. inl custom_name_needs; entry = λ s. listed_needs (start s) (start_needs s) })))))))))))))
 
 -- ---- endings
 
@@ -205,10 +214,10 @@ module _ (seen : Seen) (at end : ℕ) (le : at ≤ end) where
         | inr given ↦ ap (λ (p : Reader ℕ). ending_fault at (runs_on (p (at_bytes at end [])) (λ n d. entries n (outline_row id) outline_sections seen d)).ending) given.1 ∙ entries_end id given.0
       ]
 
-  between_end : (far : ℕ) → ending_fault at (outline_sections seen (at_bytes at far [])).ending ≡ code_due seen at
+  between_end : (far : ℕ) → ending_fault at (outline_sections seen (at_bytes at far [])).ending ≡ due seen at
   between_end far =
       ap (λ (r : Run). ending_fault at r.ending) (outline_is seen (at_bytes at far []))
-      ∙ elim (cases_Bool (owes_code seen)) [
+      ∙ elim (cases_Bool (owes seen)) [
         | inl owes ↦ rw owes refl
         | inr none ↦ rw none refl
       ]
@@ -217,7 +226,7 @@ module _ (seen : Seen) (at end : ℕ) (le : at ≤ end) where
   abbrev after_back : Nothing → Cursor → Run
   after_back = λ x d. runs_on (section_end d) (λ y e. outline_sections seen e)
 
-  end_there : at ≡ end → ending_fault at (after_back tt (at_bytes at end [])).ending ≡ code_due seen at
+  end_there : at ≡ end → ending_fault at (after_back tt (at_bytes at end [])).ending ≡ due seen at
   unfolding section_end
   end_there over = rw (eq-eqb (end - at) 0 (omega arith)) (between_end no_end)
 

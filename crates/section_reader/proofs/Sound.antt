@@ -28,7 +28,9 @@ within_note s (item.Exported label kind index) a b w h = search arith
 within_note s (item.Start index) a b w h = search arith
 within_note s (item.Element table place functions) a b w h = search arith
 within_note s (item.Code count end) a b w h = search arith
-within_note s (item.Segment memory place bytes) a b w h = search arith
+within_note s (item.DataCount count) a b w h = search arith
+within_note s (item.Passive form bytes) a b w h = search arith
+within_note s (item.Segment form memory place bytes) a b w h = search arith
 
 within_entered : (s : Seen) (id a : ℕ) → IsWithin s a → IsWithin (entered s id) a
 within_entered s id a w =

@@ -6,7 +6,7 @@ use Rattle.wasm_defs.specs.declared.item.Item.{Item}
 use Rattle.wasm_defs.specs.declared.item.Item.TheVariants as item
 use Rattle.wasm_defs.specs.Fields.{Cursor, Read, Got, Fault, Wants, Reader, then_go, ◌>>=◌, done, refused, room_of, past, u32, stop}
 use Rattle.wasm_defs.specs.Entries.{Seen, note, function, code}
-use Rattle.wasm_defs.specs.Outside.{Part, Section, Listed, Coded, Nothing, listed, Row, row, Run, ends, Refused, after_part, runs_on, preamble, header, entered, noted, inside, contents, entries, sections, or_section, section_end}
+use Rattle.wasm_defs.specs.Outside.{position_of, Part, Section, Listed, Coded, Nothing, listed, Row, row, Run, ends, Refused, after_part, runs_on, preamble, header, entered, noted, inside, contents, entries, sections, or_section, section_end}
 use Rattle.wasm_laws.specs.Steadiness.{with_more, IfGot}
 use Rattle.wasm_laws.proofs.Headers.{Follows, header_tells, entered_as}
 use Rattle.wasm_laws.proofs.Sorts.{IsPlain, IsFunction, IsItem, listed_yields, function_yields, row_is_plain, notes, plain_keeps}
@@ -75,7 +75,7 @@ code_reads seen c = of_count (u32 c)
 abbrev IsOther : Item → Type 0
 IsOther x = IsPlain x ⊎ IsFunction x
 
-part_is_other : (id : ℕ) → id ≢ 10 → (seen : Seen) (c d : Cursor) (x : Item) → (row id).entry seen c ≡ Got (Listed x) d → IsOther x
+part_is_other : (id : ℕ) → id ≢ 11 → (seen : Seen) (c d : Cursor) (x : Item) → (row id).entry seen c ≡ Got (Listed x) d → IsOther x
 part_is_other id other seen c d x e =
     elim (cases_eq id 3) [
       | inl functions ↦ let h : listed (function seen) c ≡ Got (Listed x) d = rw functions at e in inr (got_is (λ y f. IsItem IsFunction y) (listed (function seen) c) (Listed x) d h ((listed_yields IsFunction (function seen) (function_yields seen)).got c))
@@ -102,28 +102,28 @@ other_behind x h stage seen end e =
 -- ---- rows
 
 -- all sections but the code section have the same row in both definitions
-pub other_row : (id : ℕ) → id ≢ 10 → outline_row id ≡ row id
-other_row id other = rw (ne_eqb id 10 other) refl
+pub other_row : (id : ℕ) → id ≢ 11 → outline_row id ≡ row id
+other_row id other = rw (ne_eqb id 11 other) refl
 
-owed_other : (id n : ℕ) (seen : Seen) → id ≢ 10 → entries_owed id n seen ≡ n
-owed_other id n seen other = rw (ne_eqb id 10 other) refl
+owed_other : (id n : ℕ) (seen : Seen) → id ≢ 11 → entries_owed id n seen ≡ n
+owed_other id n seen other = rw (ne_eqb id 11 other) refl
 
-pub apart_other : (id : ℕ) → is_at_bodies (Entries id 0) ≡ false → id ≢ 10
+pub apart_other : (id : ℕ) → is_at_bodies (Entries id 0) ≡ false → id ≢ 11
 apart_other id apart = λ e. absurd (let t = rw e at apart in cc)
 
 -- where an entry is owed, it is the same one in both definitions
 same_entry : (id n : ℕ) (seen : Seen) → 0 < n → IsOrdered (Entries id n) seen → (row id).entry seen ≡ (outline_row id).entry seen
 same_entry id n seen some o =
-    elim (cases_eq id 10) [
+    elim (cases_eq id 11) [
       | inl e ↦
-          let uncounted : seen.counted ≡ false = (o.code (eq-eqb id 10 e)).counted ∙ ne_eqb n 0 (λ none. omega arith) in
+          let uncounted : seen.counted ≡ false = (o.code (eq-eqb id 11 e)).counted ∙ ne_eqb n 0 (λ none. omega arith) in
           rw e (rw uncounted refl)
       | inr other ↦ ap (λ (r : Row). r.entry seen) (sym (other_row id other))
     ]
 
 owed_one : (id n : ℕ) (seen : Seen) → 0 < n → entries_owed id n seen ≡ suc (entries_owed id (n - 1) seen)
 owed_one id n seen some =
-    elim (cases_Bool (eqb id 10)) [
+    elim (cases_Bool (eqb id 11)) [
       | inl e ↦ rw e (omega arith)
       | inr other ↦ rw other (omega arith)
     ]
@@ -134,10 +134,10 @@ entry_is id n seen f some o =
     ap (λ (k : ℕ). entries k (row id) sections seen f) (owed_one id n seen some)
     ∙ ap (λ (p : Reader Part). runs_on (p f) (λ x g. after_part x (entries (entries_owed id (n - 1) seen) (row id) sections (noted seen x) g))) (same_entry id n seen some o)
 
-pub contents_are : (id : ℕ) (seen : Seen) (f : Cursor) → id ≢ 10 → onward (Contents id) seen f ≡ contents (outline_row id) sections seen f
+pub contents_are : (id : ℕ) (seen : Seen) (f : Cursor) → id ≢ 11 → onward (Contents id) seen f ≡ contents (outline_row id) sections seen f
 contents_are id seen f other = ap (λ (r : Row). contents r sections seen f) (sym (other_row id other))
 
-pub entries_are : (id n : ℕ) (seen : Seen) (f : Cursor) → id ≢ 10 → onward (Entries id n) seen f ≡ entries n (outline_row id) sections seen f
+pub entries_are : (id n : ℕ) (seen : Seen) (f : Cursor) → id ≢ 11 → onward (Entries id n) seen f ≡ entries n (outline_row id) sections seen f
 entries_are id n seen f other =
     ap (λ (k : ℕ). entries k (row id) sections seen f) (owed_other id n seen other)
     ∙ ap (λ (r : Row). entries n r sections seen f) (sym (other_row id other))
@@ -150,11 +150,11 @@ ordered_between stage seen o = record { late = o.late; code = λ e. absurd cc }
 ordered_entered : (seen : Seen) (id : ℕ) → Follows seen id → IsOrdered Between seen → IsOrdered (Contents id) (entered seen id)
 ordered_entered seen id f o =
     elim (entered_as seen id) [
-      | inl custom ↦ rw custom.1 (record { late = o.late; code = λ e. absurd (let h = eqb-true id 10 e in omega (arith, custom.0)) })
+      | inl custom ↦ rw custom.1 (record { late = o.late; code = λ e. absurd (let h = eqb-true id 11 e in omega (arith, custom.0)) })
       | inr other ↦ let later : seen.last < id = f.later other.0 in rw other.1 (record {
-        late = λ e. let h : 10 ≤ seen.last = o.late e in omega arith;
-        code = λ e. let is = eqb-true id 10 e in record {
-          counted = elim (cases_Bool seen.counted) [ inl counted ↦ absurd (let h : 10 ≤ seen.last = o.late counted in omega arith) | inr uncounted ↦ uncounted ];
+        late = λ e. let h : 11 ≤ seen.last = o.late e in omega arith;
+        code = λ e. let is = eqb-true id 11 e in record {
+          counted = elim (cases_Bool seen.counted) [ inl counted ↦ absurd (let h : 11 ≤ seen.last = o.late counted in omega arith) | inr uncounted ↦ uncounted ];
           few = omega arith;
           last = omega arith;
         };
@@ -168,11 +168,11 @@ module _ (seen : Seen) (c d : Cursor) where
   preamble_run v e = λ more. ap (λ (r : Read ℕ). runs_on r (λ x f. sections seen f)) (more_got preamble (preamble_steady []).by c d v e more)
 
   pub header_run : (h : ℕ × ℕ) (b : ℕ) (bytes : List ℕ) → c.rest ≡ b ∷ bytes → header seen c ≡ Got h d → (more : List ℕ)
-      → onward Between seen (with_more c more) ≡ after_part (Section c.at b) (onward (Contents h.0) (entered seen h.0) (with_more (inside d h.1) more))
+      → onward Between seen (with_more c more) ≡ after_part (Section c.at (position_of b)) (onward (Contents h.0) (entered seen h.0) (with_more (inside d h.1) more))
   header_run h b bytes some e = λ more.
       sections_are seen (with_more c more)
       ∙ ap (λ (l : List ℕ). or_section sections seen (with_more c more) (l ++ more)) some
-      ∙ ap (λ (r : Read (ℕ × ℕ)). after_part (Section c.at b) (runs_on r (λ k f. contents (row k.0) sections (entered seen k.0) (inside f k.1)))) (more_got (header seen) (header_steady [] seen).by c d h e more)
+      ∙ ap (λ (r : Read (ℕ × ℕ)). after_part (Section c.at (position_of b)) (runs_on r (λ k f. contents (row k.0) sections (entered seen k.0) (inside f k.1)))) (more_got (header seen) (header_steady [] seen).by c d h e more)
 
   pub header_ordered : (h : ℕ × ℕ) → header seen c ≡ Got h d → IsOrdered Between seen → IsOrdered (Contents h.0) (entered seen h.0)
   header_ordered h e o = ordered_entered seen h.0 (got_is (λ k f. Follows seen k.0) (header seen c) h d e (header_tells seen c)) o
@@ -180,12 +180,12 @@ module _ (seen : Seen) (c d : Cursor) where
   -- the code section's count is one entry, and its bodies are as many as were declared
   pub front_run : (id n : ℕ) → (outline_row id).front seen c ≡ Got n d → (more : List ℕ) → onward (Contents id) seen (with_more c more) ≡ onward (Entries id n) seen (with_more d more)
   front_run id n e = λ more.
-      elim (cases_eq id 10) [
+      elim (cases_eq id 11) [
         | inl is ↦
             let t : Got 1 c ≡ Got n d = rw is at e in
             let one : 1 ≡ n = cc in
             let same : c ≡ d = cc in
-            rw (is, ← one, ← same) (ap (λ (k : ℕ). entries k (row 10) sections seen (with_more c more)) (omega arith))
+            rw (is, ← one, ← same) (ap (λ (k : ℕ). entries k (row 11) sections seen (with_more c more)) (omega arith))
         | inr other ↦
             contents_are id seen (with_more c more) other
             ∙ ap (λ (r : Read ℕ). runs_on r (λ k f. entries k (outline_row id) sections seen f)) (more_got ((outline_row id).front seen) ((outline_steady id).front seen).by c d n e more)
@@ -196,7 +196,7 @@ module _ (seen : Seen) (c d : Cursor) where
   front_ordered id n e o = record {
     late = o.late;
     code = λ h.
-        let t : Got 1 c ≡ Got n d = rw (eqb-true id 10 h) at e in
+        let t : Got 1 c ≡ Got n d = rw (eqb-true id 11 h) at e in
         let one : 1 ≡ n = cc in
         let p = o.code h in
         rw (← one) (record { counted = p.counted; few = omega arith; last = p.last });
@@ -204,9 +204,9 @@ module _ (seen : Seen) (c d : Cursor) where
 
   pub front_apart : (id n : ℕ) → (outline_row id).front seen c ≡ Got n d → is_at_bodies (Entries id n) ≡ false
   front_apart id n e =
-      elim (cases_eq id 10) [
+      elim (cases_eq id 11) [
         | inl is ↦ let t : Got 1 c ≡ Got n d = rw is at e in let one : 1 ≡ n = cc in rw (is, ← one) refl
-        | inr other ↦ rw (ne_eqb id 10 other) refl
+        | inr other ↦ rw (ne_eqb id 11 other) refl
       ]
 
 -- ---- an item
@@ -214,14 +214,14 @@ module _ (seen : Seen) (c d : Cursor) where
 module _ (id n : ℕ) (seen : Seen) (c d : Cursor) (x : Item) (some : 0 < n) (e : (outline_row id).entry seen c ≡ Got (Listed x) d) where
   -- the code section's count, or an item of another section
   record Count : Type 0 where
-    place : id ≡ 10
+    place : id ≡ 11
     count : ℕ × ℕ
     is : x ≡ item.Code count d.end
     declared : count.1 ≡ seen.declared
 
-  which : Count ⊎ ((id ≢ 10) × IsOther x)
+  which : Count ⊎ ((id ≢ 11) × IsOther x)
   which =
-      elim (cases_eq id 10) [
+      elim (cases_eq id 11) [
         | inl place ↦
             let h : listed (code seen) c ≡ Got (Listed x) d = rw place at e in
             let p = got_is (λ y f. CodeRead seen y f) (listed (code seen) c) (Listed x) d h (code_reads seen c) in
@@ -252,14 +252,14 @@ module _ (id n : ℕ) (seen : Seen) (c d : Cursor) (x : Item) (some : 0 < n) (e 
       let last = (notes seen x).last in
       elim which [
         | inl p ↦
-            let h = o.code (eq-eqb id 10 p.place) in
+            let h = o.code (eq-eqb id 11 p.place) in
             let few : n ≤ 1 = h.few in
             let none : n - 1 ≡ 0 = omega arith in
-            let after : 10 ≤ (note seen x).last = omega (arith, h.last, last) in
+            let after : 11 ≤ (note seen x).last = omega (arith, h.last, last) in
             record { late = λ _. after; code = λ _. record { counted = rw (p.is, none) refl; few = omega arith; last = after } }
         | inr p ↦ record {
-          late = λ counted. let h : 10 ≤ seen.last = o.late (sym (other_counted seen x p.1) ∙ counted) in omega (arith, last);
-          code = λ e. absurd (p.0 (eqb-true id 10 e));
+          late = λ counted. let h : 11 ≤ seen.last = o.late (sym (other_counted seen x p.1) ∙ counted) in omega (arith, last);
+          code = λ e. absurd (p.0 (eqb-true id 11 e));
         }
       ]
 
@@ -267,10 +267,10 @@ module _ (id n : ℕ) (seen : Seen) (c d : Cursor) (x : Item) (some : 0 < n) (e 
   entry_behind o =
       elim which [
         | inl p ↦
-            let few : n ≤ 1 = (o.code (eq-eqb id 10 p.place)).few in
+            let few : n ≤ 1 = (o.code (eq-eqb id 11 p.place)).few in
             let none : n - 1 ≡ 0 = omega arith in
             rw (p.is, p.place, none) (record { place = refl; count = λ _. p.declared; there = λ _. refl })
-        | inr p ↦ other_behind x p.1 (Entries id (n - 1)) (note seen x) d.end (rw (ne_eqb id 10 p.0) refl)
+        | inr p ↦ other_behind x p.1 (Entries id (n - 1)) (note seen x) d.end (rw (ne_eqb id 11 p.0) refl)
       ]
 
 -- ---- a section's end
@@ -307,12 +307,12 @@ module _ (seen : Seen) (c : Cursor) where
   header_halts b bytes (stops.Refused r) some h = λ more.
       sections_are seen (with_more c more)
       ∙ ap (λ (l : List ℕ). or_section sections seen (with_more c more) (l ++ more)) some
-      ∙ ap (after_part (Section c.at b)) (runs_refused r _ _ (more_refused (header seen) (header_steady [] seen).by c r h more))
+      ∙ ap (after_part (Section c.at (position_of b))) (runs_refused r _ _ (more_refused (header seen) (header_steady [] seen).by c r h more))
       ∙ sym (ap (λ (l : List ℕ). after_parts (next_part c.at l) (ends (Refused r))) some)
   header_halts b bytes stops.Wants some h =
       sections_are seen c
       ∙ ap (or_section sections seen c) some
-      ∙ ap (after_part (Section c.at b)) (runs_owed _ _ h)
+      ∙ ap (after_part (Section c.at (position_of b))) (runs_owed _ _ h)
       ∙ sym (ap (λ (l : List ℕ). after_parts (next_part c.at l) (between seen l)) some)
   header_halts b bytes stops.NoMemory some h = tt
 
@@ -324,12 +324,12 @@ module _ (seen : Seen) (c : Cursor) where
 
   pub front_halts : (id : ℕ) (s : Stop) → Stops s ((outline_row id).front seen c) → HaltsOnward (Contents id) seen c s
   front_halts id (stops.Refused r) h = λ more.
-      elim (cases_eq id 10) [
+      elim (cases_eq id 11) [
         | inl is ↦ absurd (let t : Got 1 c ≡ Fault r = rw is at h in cc)
         | inr other ↦ contents_are id seen (with_more c more) other ∙ runs_refused r _ _ (more_refused ((outline_row id).front seen) ((outline_steady id).front seen).by c r h more)
       ]
   front_halts id stops.Wants h =
-      elim (cases_eq id 10) [
+      elim (cases_eq id 11) [
         | inl is ↦ absurd (let t : Got 1 c ≡ Wants = rw is at h in cc)
         | inr other ↦ contents_are id seen c other ∙ runs_owed _ _ h
       ]

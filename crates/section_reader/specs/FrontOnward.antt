@@ -60,7 +60,7 @@ pub record BodiesCome (count end : ℕ) (f : Front) : Type 0 where
   pub ahead : total f ≤ end
   pub few : count ≤ total f
   pub counted : f.steps.seen.counted ≡ true
-  pub run : (more : List ℕ) → onward_left f more ≡ entries count (row 10) sections f.steps.seen (record { at = total f; rest = more; end = end })
+  pub run : (more : List ℕ) → onward_left f more ≡ entries count (row 11) sections f.steps.seen (record { at = total f; rest = more; end = end })
 
 -- after the code section's count the bodies come next, and after no other item
 abbrev pub Follows : Item → Front → Type 0

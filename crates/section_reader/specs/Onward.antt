@@ -4,7 +4,7 @@ use Rattle.wasm_defs.specs.declared.item.Item.{Item}
 use Rattle.wasm_defs.specs.declared.item.Item.TheVariants.{Code}
 use Rattle.wasm_defs.specs.Fields.{Cursor}
 use Rattle.wasm_defs.specs.Entries.{Seen}
-use Rattle.wasm_defs.specs.Outside.{Part, Section, Listed, Coded, Ending, Run, Refused, ends, Next, after_part, runs_on, preamble, row, entries, contents, sections}
+use Rattle.wasm_defs.specs.Outside.{Part, Section, Listed, Coded, Ending, Run, Refused, ends, Next, after_part, runs_on, preamble, position_of, row, entries, contents, sections}
 use Rattle.wasm_laws.specs.Steadiness.{with_more}
 use Rattle.leb_feed.specs.declared.stop.Stop.{Stop}
 use Rattle.leb_feed.specs.declared.stop.Stop.TheVariants as stop
@@ -15,7 +15,7 @@ use Rattle.section_reader.specs.Stages.{unfinished, is_owing, is_at_bodies}
 -- how many entries are still to be read of a section, as the module's definition counts them: of the code section its count, if it
 -- isn't read yet, and all bodies
 abbrev pub entries_owed : (id n : ℕ) → Seen → ℕ
-entries_owed id n seen = if id == 10 then n + seen.declared else n
+entries_owed id n seen = if id == 11 then n + seen.declared else n
 
 abbrev pub onward : Stage → Next
 onward Preamble = λ seen c. runs_on (preamble c) (λ x d. sections seen d)
@@ -28,7 +28,7 @@ abbrev pub after_parts : List Part → Run → Run
 after_parts [] r = r
 after_parts (x ∷ parts) r = after_part x (after_parts parts r)
 
--- each is the id of a section: neither an item nor a body
+-- each is a section: neither an item nor a body
 abbrev pub AreSections : List Part → Type 0
 AreSections [] = Unit {0}
 AreSections (Section at id ∷ parts) = AreSections parts
@@ -39,7 +39,7 @@ AreSections (Coded b ∷ parts) = ⊥
 
 abbrev pub next_part : ℕ → List ℕ → List Part
 next_part at [] = []
-next_part at (b ∷ bytes) = Section at b ∷ []
+next_part at (b ∷ bytes) = Section at (position_of b) ∷ []
 
 -- the section whose id comes next, if it is there
 abbrev pub begun_section : Stage → Cursor → List Part
@@ -78,8 +78,8 @@ HaltsOnward stage seen c stop.NoMemory = Unit {0}
 abbrev pub is_in_code : Stage → Bool
 is_in_code Preamble = false
 is_in_code Between = false
-is_in_code (Contents id) = id == 10
-is_in_code (Entries id n) = id == 10
+is_in_code (Contents id) = id == 11
+is_in_code (Entries id n) = id == 11
 
 -- how many entries the outline has still to read of a section: of the code section one, its count
 abbrev pub outline_owes : Stage → ℕ
@@ -92,11 +92,11 @@ outline_owes (Entries id n) = n
 pub record IsInCode (stage : Stage) (seen : Seen) : Type 0 where
   pub counted : seen.counted ≡ (outline_owes stage == 0)
   pub few : outline_owes stage ≤ 1
-  pub last : 10 ≤ seen.last
+  pub last : 11 ≤ seen.last
 
 -- where the code section's count is read, no section before that one comes any more
 pub record IsOrdered (stage : Stage) (seen : Seen) : Type 0 where
-  pub late : seen.counted ≡ true → 10 ≤ seen.last
+  pub late : seen.counted ≡ true → 11 ≤ seen.last
   pub code : is_in_code stage ≡ true → IsInCode stage seen
 
 -- the code section's count: how many bodies it tells, and where they end

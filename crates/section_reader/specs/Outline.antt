@@ -11,7 +11,7 @@ abbrev pub counted_code : Row
 counted_code = record { front = λ s. done 1; entry = λ s. listed (code s); back = rest_of_section }
 
 abbrev pub outline_row : ℕ → Row
-outline_row id = if id == 10 then counted_code else row id
+outline_row id = if id == 11 then counted_code else row id
 
 abbrev pub outline_section : Next → Next
 outline_section next = λ seen c. runs_on (header seen c) (λ h d. contents (outline_row h.0) next (entered seen h.0) (inside d h.1))

@@ -5,7 +5,7 @@ use Rattle.wasm_defs.specs.declared.fault.Refusal.{Refusal}
 use Rattle.wasm_defs.specs.declared.item.Item.{Item}
 use Rattle.wasm_defs.specs.Fields.{Cursor}
 use Rattle.wasm_defs.specs.Entries.{Seen}
-use Rattle.wasm_defs.specs.Outside.{Part, Listed, Ending, Whole, Owed, Refused, Run, Next, ends, after_part, runs_on, preamble, contents, entries, owes_code, at_the_end}
+use Rattle.wasm_defs.specs.Outside.{Part, Listed, Ending, Whole, Owed, Refused, Run, Next, ends, after_part, runs_on, preamble, contents, entries, owes, at_the_end}
 use Rattle.wasm_laws.specs.Steadiness.{with_more}
 use Rattle.leb_feed.specs.declared.stop.Stop.{Stop}
 use Rattle.leb_feed.specs.declared.stop.Stop.TheVariants as stop
@@ -23,7 +23,7 @@ proceed (Entries id n) = entries n (outline_row id) outline_sections
 
 -- what a section has left after its entries is passed over
 abbrev pub passes : ℕ → Bool
-passes id = id == 0 || id == 10 || nat_lt 11 id
+passes id = id == 0 || id == 11 || nat_lt 12 id
 
 -- an item, if there is one, and what comes after it
 abbrev pub prepend : Option Item → Run → Run
@@ -58,17 +58,18 @@ IsOwed stage seen c = 0 < length c.rest → is_owing (proceed stage seen c).part
 abbrev pub cut_there : ℕ → ℕ → Option Refusal
 cut_there at end = Some (record { offset = at; kind = if at == end then Malformed else Ended })
 
-abbrev pub code_due : Seen → ℕ → Option Refusal
-code_due seen at = if owes_code seen then Some (record { offset = at; kind = Ended }) else None
+-- the code section or the data section, which is owed at the end
+abbrev pub due : Seen → ℕ → Option Refusal
+due seen at = if owes seen then Some (record { offset = at; kind = Ended }) else None
 
 -- the error of reading on from there, where all bytes before are read and none comes
 abbrev pub silent : Stage → Seen → ℕ → ℕ → Option Refusal
 silent Preamble seen at end = cut_there at end
-silent Between seen at end = code_due seen at
+silent Between seen at end = due seen at
 silent (Contents id) seen at end = cut_there at end
 silent (Entries id n) seen at end =
     if nat_lt 0 n then cut_there at end
-    else if at == end then code_due seen at
+    else if at == end then due seen at
     else Some (record { offset = at; kind = Ended })
 
 -- before the bodies, or among them
@@ -76,7 +77,7 @@ abbrev pub is_at_bodies : Stage → Bool
 is_at_bodies Preamble = false
 is_at_bodies Between = false
 is_at_bodies (Contents id) = false
-is_at_bodies (Entries id n) = id == 10 && n == 0
+is_at_bodies (Entries id n) = id == 11 && n == 0
 
 -- ---- steps
 

@@ -1,7 +1,8 @@
 //! Entries of the sections (WebAssembly Core 1.0, 5.5): each item's fields in order.
 
 ghost use Rattle.std.specs.Prelude.{◌≡◌};
-ghost use Rattle.wasm_defs.specs.Entries.{signature, imported, function, table, memory, mutability, global, extern_kind, space, exported, start, element, code, segment};
+ghost use Rattle.wasm_defs.specs.Entries.{signature, imported, function, table, memory, mutability, global, extern_kind, space};
+ghost use Rattle.wasm_defs.specs.Entries.{exported, start, element, code, data_count, memory_of, passive, segment};
 ghost use Rattle.leb_feed.specs.Reads.{Reads, NeedsNoMemory};
 
 use crate::entry_fields::{constant, index, indices, limits, sole, value_types};
@@ -9,7 +10,8 @@ use crate::seen::Seen;
 use leb_feed::{Fields, Stop};
 use std::alloc::Global;
 use wasm_defs::{
-    Extern, FuncType, Item, Kind, MAX_PAGES, MAX_PARAMS, MAX_RESULTS, MAX_TABLE, TOP_PAGES, ValType,
+    Extern, FuncType, Item, Kind, MAX_ENTRIES, MAX_PAGES, MAX_PARAMS, MAX_RESULTS, MAX_TABLE,
+    TOP_PAGES, ValType,
 };
 
 /// The greatest maximum that a table may have, in rows: any.
@@ -207,15 +209,61 @@ pub fn code(fields: &mut Fields<'_>, seen: &Seen) -> Result<Item, Stop>
     })
 }
 
-/// A data segment (Core 5.5.14).
+/// The data count (Core 2.0, 5.5.15).
+#[tactic(auto, unfolding(wasm_defs::specs::Entries::data_count))]
+pub fn data_count(fields: &mut Fields<'_>, seen: &Seen) -> Result<Item, Stop>
+    ensures read { Reads (data_count seen.now) (λ n. n) result fields.old fields.new }
+    ensures free { NeedsNoMemory result }
+{
+    let count = fields.count(MAX_ENTRIES)?;
+    Ok(Item::DataCount { count })
+}
+
+/// The index of an active segment's memory, which form 2 has; form 0 means the memory of index 0.
+#[tactic(auto, unfolding(wasm_defs::specs::Entries::memory_of))]
+pub fn memory_of(
+    fields: &mut Fields<'_>,
+    form: (u64, u32),
+    seen: &Seen,
+) -> Result<Option<(u64, u32)>, Stop>
+    ensures read { Reads (memory_of seen.now form) (λ n. n) result fields.old fields.new }
+    ensures free { NeedsNoMemory result }
+{
+    if form.1 == 2 {
+        let memory = sole(fields, seen.memories)?;
+        return Ok(Some(memory));
+    }
+    if 0 < seen.memories {
+        return Ok(None);
+    }
+    Err(Fields::refused(Kind::Invalid, form.0))
+}
+
+#[tactic(auto, unfolding(wasm_defs::specs::Entries::passive))]
+fn passive(fields: &mut Fields<'_>, alloc: Global, form: u64) -> Result<Item, Stop>
+    ensures { Reads (passive form) (λ n. n) result fields.old fields.new }
+{
+    let bytes = fields.counted_bytes(alloc)?;
+    Ok(Item::Passive { form, bytes })
+}
+
+/// A data segment, in one of three forms (Core 2.0, 5.5.14): active, passive, and active with a memory's index.
 #[tactic(auto, unfolding(wasm_defs::specs::Entries::segment))]
 pub fn segment(fields: &mut Fields<'_>, alloc: Global, seen: &Seen) -> Result<Item, Stop>
     ensures { Reads (segment seen.now) (λ n. n) result fields.old fields.new }
 {
-    let memory = sole(fields, seen.memories)?;
+    let form = fields.u32()?;
+    if 2 < form.1 {
+        return Err(Fields::refused(Kind::Malformed, form.0));
+    }
+    if form.1 == 1 {
+        return passive(fields, alloc, form.0);
+    }
+    let memory = memory_of(fields, form, seen)?;
     let place = constant(fields, ValType::I32)?;
     let bytes = fields.counted_bytes(alloc)?;
     Ok(Item::Segment {
+        form: form.0,
         memory,
         place,
         bytes,

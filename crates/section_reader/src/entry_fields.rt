@@ -2,7 +2,7 @@
 
 ghost use Rattle.std.specs.Prelude.{◌≡◌};
 ghost use Rattle.wasm_defs.specs.Fields.{repeated};
-ghost use Rattle.wasm_defs.specs.Entries.{index, listed_index, listed_type, limits, wrong_opcode, constant, sole};
+ghost use Rattle.wasm_defs.specs.Entries.{index, listed_index, listed_type, limits, wrong_opcode, wrong_number, refused_opcode, constant, sole};
 ghost use Rattle.leb_feed.specs.Reads.{Reads, NeedsNoMemory};
 
 use leb_feed::{Fields, Stop};
@@ -112,10 +112,35 @@ fn wrong_opcode(byte: u8) -> Kind
     ensures { result ≡ wrong_opcode byte }
 {
     match byte {
-        0x43..=0x44 | 0xFC => Kind::Unsupported,
+        0x43..=0x44 => Kind::Unsupported,
         0x00..=0x05 | 0x0B..=0x11 | 0x1A..=0x1B | 0x20..=0x24 | 0x28..=0xC4 => Kind::Invalid,
         _ => Kind::Malformed,
     }
+}
+
+/// The same of the number after the prefix FC (Core 2.0, 5.4.5 to 5.4.7).
+fn wrong_number(number: u32) -> Kind
+    ensures { result ≡ wrong_number number }
+{
+    match number {
+        8..=11 => Kind::Invalid,
+        0..=17 => Kind::Unsupported,
+        _ => Kind::Malformed,
+    }
+}
+
+/// Refuses an opcode in place of the right one at its offset; after the prefix FC its number has to be whole.
+#[tactic(auto, unfolding(wasm_defs::specs::Entries::refused_opcode))]
+fn refused_opcode(fields: &mut Fields<'_>, opcode: (u64, u8)) -> Result<Constant, Stop>
+    ensures read { Reads (refused_opcode opcode) (λ n. n) result fields.old fields.new }
+    ensures free { NeedsNoMemory result }
+{
+    let (at, byte) = opcode;
+    if byte == 0xFC {
+        let (_, number) = fields.u32()?;
+        return Err(Fields::refused(wrong_number(number), at));
+    }
+    Err(Fields::refused(wrong_opcode(byte), at))
 }
 
 /// A constant expression of a type (Core 3.3.7, 5.4.6).
@@ -130,12 +155,12 @@ pub fn constant(fields: &mut Fields<'_>, ty: ValType) -> Result<Constant, Stop>
         ValType::I64 => (0x42, 64),
     };
     if byte != wanted {
-        return Err(Fields::refused(wrong_opcode(byte), opcode));
+        return refused_opcode(fields, (opcode, byte));
     }
     let value = fields.signed(bits)?;
     let (end, byte) = fields.byte()?;
     if byte != 0x0B {
-        return Err(Fields::refused(wrong_opcode(byte), end));
+        return refused_opcode(fields, (end, byte));
     }
     Ok(Constant { opcode, value, end })
 }

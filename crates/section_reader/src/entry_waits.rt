@@ -1,11 +1,12 @@
 //! What an entry waits for that isn't whole yet (WebAssembly Core 1.0, 5.5).
 
 ghost use Rattle.std.specs.Prelude.{◌≡◌, ◌≤◌, ◌-◌, length};
-ghost use Rattle.wasm_defs.specs.Fields.{Cursor, name};
+ghost use Rattle.wasm_defs.specs.Fields.{Cursor, counted_bytes, name};
 ghost use Rattle.wasm_defs.specs.Entries.{signature, imported, exported, element, segment};
 ghost use Rattle.section_reader.specs.Outline.{outline_row};
 ghost use Rattle.section_reader.specs.Waits.{Awaits, AwaitsAt, IsPlaced, resumes_at};
 
+use crate::entries::memory_of;
 use crate::entry_fields::{constant, sole, value_types};
 use crate::seen::Seen;
 use crate::wait::{Element, Wait};
@@ -13,17 +14,17 @@ use leb_feed::{Fields, between, state_after};
 use std::alloc::Global;
 use wasm_defs::{MAX_PARAMS, MAX_RESULTS, ValType};
 
-/// What an entry of a section waits for.
-pub fn entry_wait(fields: &Fields<'_>, alloc: Global, id: u8, seen: &Seen) -> Wait
-    ensures awaits { Awaits ((outline_row id).entry seen.now) fields.now result }
+/// What an entry of a section waits for, by the section's position.
+pub fn entry_wait(fields: &Fields<'_>, alloc: Global, position: u8, seen: &Seen) -> Wait
+    ensures awaits { Awaits ((outline_row position).entry seen.now) fields.now result }
     ensures placed { IsPlaced result fields.now }
 {
-    match id {
+    match position {
         1 => signature_wait(fields, alloc, seen),
         2 => imported_wait(fields, alloc, seen),
         7 => exported_wait(fields, seen),
         9 => element_wait(fields, seen),
-        11 => segment_wait(fields, seen),
+        12 => segment_wait(fields, seen),
         _ => Wait::Nothing,
     }
 }
@@ -126,18 +127,36 @@ fn element_wait(fields: &Fields<'_>, seen: &Seen) -> Wait
     list_wait(fields, &next, indices.1, Element::Index(seen.functions))
 }
 
-/// A data segment's bytes: all but the last of those that its length counts.
+/// A data segment's bytes.
 fn segment_wait(fields: &Fields<'_>, seen: &Seen) -> Wait
     ensures awaits { Awaits (segment seen.now) fields.now result }
     ensures place { resumes_at result ≡ 0 }
 {
     let mut next = fields.fork();
-    let Ok(_) = sole(&mut next, seen.memories) else {
+    let Ok(form) = next.u32() else {
+        return Wait::Nothing;
+    };
+    if 2 < form.1 {
+        return Wait::Nothing;
+    }
+    if form.1 == 1 {
+        return bytes_wait(&next);
+    }
+    let Ok(_) = memory_of(&mut next, form, seen) else {
         return Wait::Nothing;
     };
     let Ok(_) = constant(&mut next, ValType::I32) else {
         return Wait::Nothing;
     };
+    bytes_wait(&next)
+}
+
+/// Bytes after their number: all but the last of those that it counts.
+fn bytes_wait(fields: &Fields<'_>) -> Wait
+    ensures awaits { (from : Cursor) → AwaitsAt counted_bytes fields.now result from }
+    ensures place { resumes_at result ≡ 0 }
+{
+    let mut next = fields.fork();
     let Ok(len) = next.u32() else {
         return Wait::Nothing;
     };

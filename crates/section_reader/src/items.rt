@@ -7,18 +7,25 @@ ghost use Rattle.section_reader.specs.Outline.{outline_row};
 ghost use Rattle.section_reader.specs.Stages.{passes};
 
 use crate::entries::{
-    code, element, exported, function, global, imported, memory, segment, signature, start, table,
+    code, data_count, element, exported, function, global, imported, memory, segment, signature,
+    start, table,
 };
+use crate::sections::{CODE, DATA};
 use crate::seen::Seen;
 use leb_feed::{Fields, Stop};
 use std::alloc::Global;
 use wasm_defs::Item;
 
-/// The next entry.
-pub fn next_item(fields: &mut Fields<'_>, alloc: Global, id: u8, seen: &Seen) -> Result<Item, Stop>
-    ensures { Reads ((outline_row id).entry seen.now) Listed result fields.old fields.new }
+/// The next entry of a section, by its position.
+pub fn next_item(
+    fields: &mut Fields<'_>,
+    alloc: Global,
+    position: u8,
+    seen: &Seen,
+) -> Result<Item, Stop>
+    ensures { Reads ((outline_row position).entry seen.now) Listed result fields.old fields.new }
 {
-    let item = match id {
+    let item = match position {
         1 => signature(fields, alloc, seen)?,
         2 => imported(fields, alloc, seen)?,
         3 => function(fields, seen)?,
@@ -28,16 +35,17 @@ pub fn next_item(fields: &mut Fields<'_>, alloc: Global, id: u8, seen: &Seen) ->
         7 => exported(fields, alloc, seen)?,
         8 => start(fields, seen)?,
         9 => element(fields, alloc, seen)?,
-        10 => code(fields, seen)?,
-        11 => segment(fields, alloc, seen)?,
+        10 => data_count(fields, seen)?,
+        11 => code(fields, seen)?,
+        12 => segment(fields, alloc, seen)?,
         _ => start(fields, seen)?,
     };
     Ok(item)
 }
 
 /// Whether what a section has left after its entries is passed over: that of a custom section, and the bodies.
-pub fn is_passed_over(id: u8) -> bool
-    ensures { result ≡ passes id }
+pub fn is_passed_over(position: u8) -> bool
+    ensures { result ≡ passes position }
 {
-    id == 0 || id == 10 || 11 < id
+    position == 0 || position == CODE || DATA < position
 }

@@ -2,7 +2,7 @@
 //! 1.0, 5.5.2).
 
 ghost use Rattle.std.specs.Prelude.{◌≡◌};
-ghost use Rattle.wasm_defs.specs.Outside.{number_of, at_most_one, function_count, custom_name, rest_of_section};
+ghost use Rattle.wasm_defs.specs.Outside.{number_of, at_most_one, function_count, segment_count, custom_name, rest_of_section};
 ghost use Rattle.leb_feed.specs.Reads.{Reads, NeedsNoMemory};
 ghost use Rattle.section_reader.specs.Outline.{outline_row};
 
@@ -46,6 +46,22 @@ fn function_count(fields: &mut Fields<'_>, seen: &Seen) -> Result<u64, Stop>
     Ok(u64::from(n))
 }
 
+/// As many data segments as the data count says, where there is one (Core 2.0, 5.5.16).
+#[tactic(auto, unfolding(wasm_defs::specs::Outside::segment_count))]
+fn segment_count(fields: &mut Fields<'_>, seen: &Seen) -> Result<u64, Stop>
+    ensures read { Reads (segment_count seen.now) (λ n. n) result fields.old fields.new }
+    ensures free { NeedsNoMemory result }
+{
+    let (at, n) = fields.u32()?;
+    if !seen.agrees(n) {
+        return Err(Fields::refused(Kind::Malformed, at));
+    }
+    if MAX_ENTRIES < n {
+        return Err(Fields::refused(Kind::Limit, at));
+    }
+    Ok(u64::from(n))
+}
+
 /// A custom section's name (Core 5.5.3); it has no entries.
 #[tactic(auto, unfolding(wasm_defs::specs::Outside::custom_name))]
 fn custom_name(fields: &mut Fields<'_>, alloc: Global) -> Result<u64, Stop>
@@ -55,15 +71,21 @@ fn custom_name(fields: &mut Fields<'_>, alloc: Global) -> Result<u64, Stop>
     Ok(0)
 }
 
-/// How many entries a section has; the code section has one, its count.
-pub fn entry_count(fields: &mut Fields<'_>, alloc: Global, id: u8, seen: &Seen) -> Result<u64, Stop>
-    ensures { Reads ((outline_row id).front seen.now) (λ n. n) result fields.old fields.new }
+/// How many entries a section has, by its position; the code section has one, its count.
+pub fn entry_count(
+    fields: &mut Fields<'_>,
+    alloc: Global,
+    position: u8,
+    seen: &Seen,
+) -> Result<u64, Stop>
+    ensures { Reads ((outline_row position).front seen.now) (λ n. n) result fields.old fields.new }
 {
-    match id {
-        1 | 2 | 6 | 7 | 9 | 11 => number_of(fields, MAX_ENTRIES),
+    match position {
+        1 | 2 | 6 | 7 | 9 => number_of(fields, MAX_ENTRIES),
         3 => function_count(fields, seen),
         4 | 5 => at_most_one(fields),
-        8 | 10 => Ok(1),
+        8 | 10 | 11 => Ok(1),
+        12 => segment_count(fields, seen),
         _ => custom_name(fields, alloc),
     }
 }

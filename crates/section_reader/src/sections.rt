@@ -2,15 +2,30 @@
 
 ghost use Rattle.std.specs.Prelude.{◌≡◌, ◌≤◌, IfOk};
 ghost use Rattle.wasm_defs.specs.Fields.{here};
-ghost use Rattle.wasm_defs.specs.Outside.{header, section_end, preamble, magic, version};
+ghost use Rattle.wasm_defs.specs.Outside.{header, position_of, section_end, preamble, magic, version};
 ghost use Rattle.leb_feed.specs.Reads.{Reads, NeedsNoMemory};
 
 use crate::seen::Seen;
 use leb_feed::{Fields, Stop};
 use wasm_defs::{Kind, MAX_MODULE};
 
-/// The data count section's id, of a later version of the standard.
-const DATA_COUNT: u8 = 12;
+/// The code section's position in the order.
+pub const CODE: u8 = 11;
+
+/// The data section's position, the last one.
+pub const DATA: u8 = 12;
+
+/// A section's position in the order, by its id: ids rise, but the data count, whose id is 12, comes before the code (Core 2.0,
+/// 5.5.16). Custom sections have position 0, and are anywhere.
+fn position_of(id: u8) -> u8
+    ensures { result ≡ position_of id }
+{
+    match id {
+        10 | 11 => id + 1,
+        12 => 10,
+        _ => id,
+    }
+}
 
 /// The magic bytes and the version.
 #[tactic(auto, unfolding(wasm_defs::specs::Outside::preamble))]
@@ -22,7 +37,7 @@ pub fn preamble(fields: &mut Fields<'_>) -> Result<u64, Stop>
     fields.fixed(&[0x01, 0x00, 0x00, 0x00])
 }
 
-/// A section's id, and where it ends.
+/// A section's position, and where it ends.
 #[tactic(auto, unfolding(wasm_defs::specs::Outside::header, wasm_defs::specs::Fields::here))]
 pub fn header(fields: &mut Fields<'_>, seen: &Seen) -> Result<(u8, u64), Stop>
     ensures read { Reads (header seen.now) (λ n. n) result fields.old fields.new }
@@ -30,11 +45,9 @@ pub fn header(fields: &mut Fields<'_>, seen: &Seen) -> Result<(u8, u64), Stop>
     ensures free { NeedsNoMemory result }
 {
     let (at, id) = fields.byte()?;
-    if seen.is_misplaced(id) {
+    let position = position_of(id);
+    if seen.is_misplaced(position) {
         return Err(Fields::refused(Kind::Malformed, at));
-    }
-    if id == DATA_COUNT {
-        return Err(Fields::refused(Kind::Unsupported, at));
     }
     if MAX_MODULE <= at {
         return Err(Fields::refused(Kind::Limit, at));
@@ -44,7 +57,7 @@ pub fn header(fields: &mut Fields<'_>, seen: &Seen) -> Result<(u8, u64), Stop>
     if u128::from(MAX_MODULE) < end {
         return Err(Fields::refused(Kind::Limit, at));
     }
-    Ok((id, end as u64))
+    Ok((position, end as u64))
 }
 
 /// Ends a section. Bytes that it has left are malformed once one came.

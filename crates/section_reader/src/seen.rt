@@ -3,9 +3,10 @@
 ghost use Rattle.std.specs.Prelude.{◌≡◌, OnOk, OnErr, is_some};
 ghost use Rattle.std.specs.FinMap as map;
 ghost use Rattle.wasm_defs.specs.Entries.{note, nothing};
-ghost use Rattle.wasm_defs.specs.Outside.{entered, owes_code, is_misplaced};
+ghost use Rattle.wasm_defs.specs.Outside.{entered, owes, owes_code, owes_data, agrees, is_misplaced};
 ghost use Rattle.section_reader.specs.Counts.{HasRoom};
 
+use crate::sections::{CODE, DATA};
 use std::alloc::{AllocError, Global};
 use std::collections::BTreeMap;
 use std::marker::Model;
@@ -58,7 +59,7 @@ impl Names {
 }
 
 /// How many items of each sort came before (functions: with the imported ones; declared: without), the exported names,
-/// whether the code section's count came, and the last section's position in the order.
+/// whether the code section's count came, the data count where one came, and the last section's position in the order.
 #[derive(Drop)]
 pub struct Seen {
     pub types: u64,
@@ -69,6 +70,7 @@ pub struct Seen {
     pub globals: u64,
     pub names: Names,
     pub counted: bool,
+    pub data_count: Option<u32>,
     pub last: u8,
 }
 
@@ -80,7 +82,18 @@ impl Model for Seen {
 
     ghost coded = { seen_code };
 
-    ghost view = { λ s. record { types = s.types; functions = s.functions; declared = s.declared; tables = s.tables; memories = s.memories; globals = s.globals; names = s.names; counted = s.counted; last = s.last } };
+    ghost view = { λ s. record {
+      types = s.types;
+      functions = s.functions;
+      declared = s.declared;
+      tables = s.tables;
+      memories = s.memories;
+      globals = s.globals;
+      names = s.names;
+      counted = s.counted;
+      data_count = s.data_count;
+      last = s.last;
+    } };
 }
 
 impl Seen {
@@ -97,30 +110,60 @@ impl Seen {
             globals: 0,
             names: Names::new(alloc),
             counted: false,
+            data_count: None,
             last: 0,
         }
     }
 
     /// Functions are declared, and no code section came.
-    pub fn owes_code(&self) -> bool
+    fn owes_code(&self) -> bool
         ensures { result ≡ owes_code self.now }
     {
-        0 < self.declared && self.last < 10
+        0 < self.declared && self.last < CODE
     }
 
-    /// Whether no section with that id may come next (Core 5.5.2).
-    pub fn is_misplaced(&self, id: u8) -> bool
-        ensures { result ≡ is_misplaced self.now id }
+    /// Data segments are counted, and no data section came.
+    fn owes_data(&self) -> bool
+        ensures { result ≡ owes_data self.now }
     {
-        12 < id || (id != 0 && id <= self.last) || (id == 11 && self.owes_code())
+        match self.data_count {
+            Some(count) => 0 < count && self.last < DATA,
+            None => false,
+        }
+    }
+
+    /// A section has to come yet.
+    pub fn owes(&self) -> bool
+        ensures { result ≡ owes self.now }
+    {
+        self.owes_code() || self.owes_data()
+    }
+
+    /// Whether no section of that position may come next (Core 2.0, 5.5.16).
+    pub fn is_misplaced(&self, position: u8) -> bool
+        ensures { result ≡ is_misplaced self.now position }
+    {
+        DATA < position
+            || (position != 0 && position <= self.last)
+            || (position == DATA && self.owes_code())
+    }
+
+    /// Whether a data section has as many segments as the data count says, where there is one (Core 2.0, 5.5.16).
+    pub fn agrees(&self, segments: u32) -> bool
+        ensures { result ≡ agrees self.now.data_count segments }
+    {
+        match self.data_count {
+            Some(count) => segments == count,
+            None => true,
+        }
     }
 
     /// A section begins.
-    pub fn enter(&mut self, id: u8)
-        ensures { self.new ≡ entered self.old id }
+    pub fn enter(&mut self, position: u8)
+        ensures { self.new ≡ entered self.old position }
     {
-        if id != 0 {
-            self.last = id;
+        if position != 0 {
+            self.last = position;
         }
     }
 
@@ -144,8 +187,12 @@ impl Seen {
                 let (at, name) = name;
                 self.names.insert(alloc, name.as_slice(), *at)?;
             }
+            Item::DataCount { count } => self.data_count = Some(count.1),
             Item::Code { .. } => self.counted = true,
-            Item::Start { .. } | Item::Element { .. } | Item::Segment { .. } => {}
+            Item::Start { .. }
+            | Item::Element { .. }
+            | Item::Passive { .. }
+            | Item::Segment { .. } => {}
         }
         Ok(())
     }

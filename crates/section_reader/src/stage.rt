@@ -1,13 +1,13 @@
 //! Where a push reader is in a module.
 //!
 //! ```text
-//! Preamble ---> Between ---header---> Contents(id) ---count---> Entries(id, n) ---item---> Entries(id, n - 1)
+//! Preamble ---> Between ---header---> Contents(p) ----count---> Entries(p, n) ----item---> Entries(p, n - 1)
 //!                  ^                                                  |
-//!                  +---------------- section's end ------------ Entries(id, 0)
+//!                  +---------------- section's end ------------ Entries(p, 0)
 //! ```
 //!
 //! A custom section has no entries, and the code section one, its count: what these two have left is passed over in
-//! `Entries(id, 0)` as it comes.
+//! `Entries(p, 0)` as it comes.
 
 /// Where reading is.
 #[derive(Clone, Copy, Debug, PartialEq, Eq)]

@@ -4,14 +4,14 @@ ghost use Rattle.std.specs.Prelude.{◌≡◌, ◌<◌, ◌≤◌, ℕ, length, 
 ghost use Rattle.leb_feed.specs.Reads.{NeedsNoMemory};
 ghost use Rattle.section_reader.specs.Counts.{IsSound};
 ghost use Rattle.section_reader.specs.Near.{IsNear};
-ghost use Rattle.section_reader.specs.Stages.{passes, cut_there, code_due, silent, is_at_bodies};
+ghost use Rattle.section_reader.specs.Stages.{passes, cut_there, due, silent, is_at_bodies};
 ghost use Rattle.section_reader.specs.Stepped.{Stepped, Reaches};
 ghost use Rattle.section_reader.specs.Waits.{IsFree, IsPlaced};
 
 use crate::entry_waits::{entry_wait, name_wait};
 use crate::items::{is_passed_over, next_item};
 use crate::rows::{entry_count, rest_of_section};
-use crate::sections::{header, preamble, section_end};
+use crate::sections::{CODE, header, preamble, section_end};
 use crate::seen::Seen;
 use crate::stage::Stage;
 use crate::wait::Wait;
@@ -73,12 +73,12 @@ impl Steps {
     {
         match self.stage {
             Stage::Preamble | Stage::Contents(_) => cut_there(at, end),
-            Stage::Between => self.code_due(at),
+            Stage::Between => self.due(at),
             Stage::Entries(_, n) => {
                 if 0 < n {
                     cut_there(at, end)
                 } else if at == end {
-                    self.code_due(at)
+                    self.due(at)
                 } else {
                     ended(at)
                 }
@@ -86,11 +86,11 @@ impl Steps {
         }
     }
 
-    /// The code section is missing, where functions are declared.
-    fn code_due(&self, at: u64) -> Option<Refusal>
-        ensures { result ≡ code_due self.now.seen at }
+    /// The code section is missing, where functions are declared, or the data section, where segments are counted.
+    fn due(&self, at: u64) -> Option<Refusal>
+        ensures { result ≡ due self.now.seen at }
     {
-        if self.seen.owes_code() {
+        if self.seen.owes() {
             return ended(at);
         }
         None
@@ -113,7 +113,7 @@ impl Steps {
         ensures { result ≡ is_at_bodies self.now.stage }
     {
         match self.stage {
-            Stage::Entries(id, n) => id == 10 && n == 0,
+            Stage::Entries(position, n) => position == CODE && n == 0,
             _ => false,
         }
     }

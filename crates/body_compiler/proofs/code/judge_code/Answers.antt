@@ -39,37 +39,37 @@ loop-alloc-preserved c =
       grows = omega (arith, e.grows, i.grows);
       bytes = e.bytes;
       goes = λ c' code front k.
-          let before = subst (λ (l : Layout). IsTaking c.loop-alloc.draft.too_long c' c.args.last c.loop-alloc.fields c.loop-alloc.check code l front (calling c.loop-alloc.draft.labels c.loop-alloc.draft.words c.loop-alloc.draft.calls.items c.loop-alloc.draft.rows c.loop-alloc.sites.items)) (sym i.layout) (i.goes c' code front k) in
+          let before = subst (λ (l : Layout). IsTaking c.args.counted c.loop-alloc.draft.too_long c' c.args.last c.loop-alloc.fields c.loop-alloc.check code l front (calling c.loop-alloc.draft.labels c.loop-alloc.draft.words c.loop-alloc.draft.calls.items c.loop-alloc.draft.rows c.loop-alloc.sites.items)) (sym i.layout) (i.goes c' code front k) in
           let after = e.goes c' code c.loop-alloc.fields front before c.in-Ok.ensures.read (isnt_over c.is_over.result c.loop-alloc-test.true c.is_over.ensures) in
-          subst (λ (l : Layout). IsTaking c.take_instruction.new.draft.too_long c' c.args.last c.take_instruction.new.fields c.take_instruction.new.check code l front (calling c.take_instruction.new.draft.labels c.take_instruction.new.draft.words c.take_instruction.new.draft.calls.items c.take_instruction.new.draft.rows c.take_instruction.new.sites.items)) i.layout after;
+          subst (λ (l : Layout). IsTaking c.args.counted c.take_instruction.new.draft.too_long c' c.args.last c.take_instruction.new.fields c.take_instruction.new.check code l front (calling c.take_instruction.new.draft.labels c.take_instruction.new.draft.words c.take_instruction.new.draft.calls.items c.take_instruction.new.draft.rows c.take_instruction.new.sites.items)) i.layout after;
     }
 
 pub returns-in-Err-take_instruction-clause-judges : goal.returns-in-Err-take_instruction-clause-judges
 returns-in-Err-take_instruction-clause-judges c = λ c' code front k.
     let i = c.loop-alloc.invariant in
-    let before = subst (λ (l : Layout). IsTaking c.loop-alloc.draft.too_long c' c.args.last c.loop-alloc.fields c.loop-alloc.check code l front (calling c.loop-alloc.draft.labels c.loop-alloc.draft.words c.loop-alloc.draft.calls.items c.loop-alloc.draft.rows c.loop-alloc.sites.items)) (sym i.layout) (i.goes c' code front k) in
-    goes_judges c' c.args.last c.take_instruction.new.fields c.take_instruction.new.check code c.loop-alloc.draft.layout c.args.draft.now.layout front c.take_instruction.new.draft.too_long (calling c.take_instruction.new.draft.labels c.take_instruction.new.draft.words c.take_instruction.new.draft.calls.items c.take_instruction.new.draft.rows c.take_instruction.new.sites.items) c.in-Err-take_instruction.stop
+    let before = subst (λ (l : Layout). IsTaking c.args.counted c.loop-alloc.draft.too_long c' c.args.last c.loop-alloc.fields c.loop-alloc.check code l front (calling c.loop-alloc.draft.labels c.loop-alloc.draft.words c.loop-alloc.draft.calls.items c.loop-alloc.draft.rows c.loop-alloc.sites.items)) (sym i.layout) (i.goes c' code front k) in
+    goes_judges c.args.counted c' c.args.last c.take_instruction.new.fields c.take_instruction.new.check code c.loop-alloc.draft.layout c.args.draft.now.layout front c.take_instruction.new.draft.too_long (calling c.take_instruction.new.draft.labels c.take_instruction.new.draft.words c.take_instruction.new.draft.calls.items c.take_instruction.new.draft.rows c.take_instruction.new.sites.items) c.in-Err-take_instruction.stop
     (c.in-Err-take_instruction.ensures.goes c' code c.loop-alloc.fields front before c.in-Ok.ensures.read (isnt_over c.is_over.result c.loop-alloc-test.true c.is_over.ensures))
 
 pub returns-in-Err-clause-judges : goal.returns-in-Err-clause-judges
 returns-in-Err-clause-judges c = λ c' code front k.
-    let g = going_of c.loop-alloc.draft.too_long c' c.args.last c.loop-alloc.fields c.loop-alloc.check code c.args.draft.now.layout front (calling c.loop-alloc.draft.labels c.loop-alloc.draft.words c.loop-alloc.draft.calls.items c.loop-alloc.draft.rows c.loop-alloc.sites.items) (c.loop-alloc.invariant.goes c' code front k) in
-    rw c.stop_of.ensures (stop_judges c' c.args.last c.loop-alloc.fields c.loop-alloc.check code c.args.draft.now.layout front (calling c.loop-alloc.draft.labels c.loop-alloc.draft.words c.loop-alloc.draft.calls.items c.loop-alloc.draft.rows c.loop-alloc.sites.items) c.in-Err.stop g (isnt_over c.is_over.result c.loop-alloc-test.true c.is_over.ensures) c.in-Err.ensures.read)
+    let g = going_of c.args.counted c.loop-alloc.draft.too_long c' c.args.last c.loop-alloc.fields c.loop-alloc.check code c.args.draft.now.layout front (calling c.loop-alloc.draft.labels c.loop-alloc.draft.words c.loop-alloc.draft.calls.items c.loop-alloc.draft.rows c.loop-alloc.sites.items) (c.loop-alloc.invariant.goes c' code front k) in
+    rw c.stop_of.ensures (stop_judges c.args.counted c' c.args.last c.loop-alloc.fields c.loop-alloc.check code c.args.draft.now.layout front (calling c.loop-alloc.draft.labels c.loop-alloc.draft.words c.loop-alloc.draft.calls.items c.loop-alloc.draft.rows c.loop-alloc.sites.items) c.in-Err.stop g (isnt_over c.is_over.result c.loop-alloc-test.true c.is_over.ensures) c.in-Err.ensures.read)
 
 pub returns-then-not-is_empty-clause-judges : goal.returns-then-not-is_empty-clause-judges
 returns-then-not-is_empty-clause-judges c = λ c' code front k.
-    let g = going_of c.loop-alloc.draft.too_long c' c.args.last c.loop-alloc.fields c.loop-alloc.check code c.args.draft.now.layout front (calling c.loop-alloc.draft.labels c.loop-alloc.draft.words c.loop-alloc.draft.calls.items c.loop-alloc.draft.rows c.loop-alloc.sites.items) (c.loop-alloc.invariant.goes c' code front k) in
-    rw (c.malformed.ensures, c.offset.ensures) (has_more c' c.args.last c.loop-alloc.fields c.loop-alloc.check code g (is_over c.is_over.result c.loop-alloc-test.false c.is_over.ensures)
+    let g = going_of c.args.counted c.loop-alloc.draft.too_long c' c.args.last c.loop-alloc.fields c.loop-alloc.check code c.args.draft.now.layout front (calling c.loop-alloc.draft.labels c.loop-alloc.draft.words c.loop-alloc.draft.calls.items c.loop-alloc.draft.rows c.loop-alloc.sites.items) (c.loop-alloc.invariant.goes c' code front k) in
+    rw (c.malformed.ensures, c.offset.ensures) (has_more c.args.counted c' c.args.last c.loop-alloc.fields c.loop-alloc.check code g (is_over c.is_over.result c.loop-alloc-test.false c.is_over.ensures)
     (tested_some c.loop-alloc.fields.rest c.rest.result.now c.is_empty.result c.rest.ensures c.is_empty.ensures (search rules)))
 
 pub returns-then-is_too_long-clause-judges : goal.returns-then-is_too_long-clause-judges
 returns-then-is_too_long-clause-judges c = λ c' code front k.
-    let x = subst (λ (b : Bool). IsTaking b c' c.args.last c.loop-alloc.fields c.loop-alloc.check code c.args.draft.now.layout front (calling c.loop-alloc.draft.labels c.loop-alloc.draft.words c.loop-alloc.draft.calls.items c.loop-alloc.draft.rows c.loop-alloc.sites.items)) (sym c.is_too_long.ensures ∙ c.if-is_too_long.true) (c.loop-alloc.invariant.goes c' code front k) in
-    let valid = is_valid c' c.args.last c.loop-alloc.fields c.loop-alloc.check code x.0 (is_over c.is_over.result c.loop-alloc-test.false c.is_over.ensures) (tested_empty c.loop-alloc.fields.rest c.rest.result.now c.is_empty.result c.rest.ensures c.is_empty.ensures (search rules)) in
+    let x = subst (λ (b : Bool). IsTaking c.args.counted b c' c.args.last c.loop-alloc.fields c.loop-alloc.check code c.args.draft.now.layout front (calling c.loop-alloc.draft.labels c.loop-alloc.draft.words c.loop-alloc.draft.calls.items c.loop-alloc.draft.rows c.loop-alloc.sites.items)) (sym c.is_too_long.ensures ∙ c.if-is_too_long.true) (c.loop-alloc.invariant.goes c' code front k) in
+    let valid = is_valid c.args.counted c' c.args.last c.loop-alloc.fields c.loop-alloc.check code x.0 (is_over c.is_over.result c.loop-alloc-test.false c.is_over.ensures) (tested_empty c.loop-alloc.fields.rest c.rest.result.now c.is_empty.result c.rest.ensures c.is_empty.ensures (search rules)) in
     (valid.0, valid.1, x.1)
 
 pub returns-clause-judges : goal.returns-clause-judges
 returns-clause-judges c = λ c' code front k.
-    let x = subst (λ (b : Bool). IsTaking b c' c.args.last c.loop-alloc.fields c.loop-alloc.check code c.args.draft.now.layout front (calling c.loop-alloc.draft.labels c.loop-alloc.draft.words c.loop-alloc.draft.calls.items c.loop-alloc.draft.rows c.loop-alloc.sites.items)) (sym c.is_too_long.ensures ∙ c.if-is_too_long.false) (c.loop-alloc.invariant.goes c' code front k) in
-    judged c' c.args.last c.loop-alloc.fields c.loop-alloc.check code c.args.draft.now.layout front (calling c.loop-alloc.draft.labels c.loop-alloc.draft.words c.loop-alloc.draft.calls.items c.loop-alloc.draft.rows c.loop-alloc.sites.items) x (is_over c.is_over.result c.loop-alloc-test.false c.is_over.ensures)
+    let x = subst (λ (b : Bool). IsTaking c.args.counted b c' c.args.last c.loop-alloc.fields c.loop-alloc.check code c.args.draft.now.layout front (calling c.loop-alloc.draft.labels c.loop-alloc.draft.words c.loop-alloc.draft.calls.items c.loop-alloc.draft.rows c.loop-alloc.sites.items)) (sym c.is_too_long.ensures ∙ c.if-is_too_long.false) (c.loop-alloc.invariant.goes c' code front k) in
+    judged c.args.counted c' c.args.last c.loop-alloc.fields c.loop-alloc.check code c.args.draft.now.layout front (calling c.loop-alloc.draft.labels c.loop-alloc.draft.words c.loop-alloc.draft.calls.items c.loop-alloc.draft.rows c.loop-alloc.sites.items) x (is_over c.is_over.result c.loop-alloc-test.false c.is_over.ensures)
     (tested_empty c.loop-alloc.fields.rest c.rest.result.now c.is_empty.result c.rest.ensures c.is_empty.ensures (search rules))

@@ -15,8 +15,8 @@ invariant-loop-alloc l = record {
   tied : AreTied l.draft.labels l.check (length l.fields.rest);
   grows : length l.fn.draft.words ≤ length l.draft.words;
   bytes : AreBytes l.fields.rest;
-  goes : (c : Context) (code : Spelled) (front : List ℕ) → IsCompiling c l.last l.fn.fields l.fn.check code l.fn.draft.layout front (calling l.fn.draft.labels l.fn.draft.words l.fn.draft.calls.items l.fn.draft.rows l.fn.sites.items)
-      → IsTaking l.draft.too_long c l.last l.fields l.check code l.fn.draft.layout front (calling l.draft.labels l.draft.words l.draft.calls.items l.draft.rows l.sites.items);
+  goes : (c : Context) (code : Spelled) (front : List ℕ) → IsCompiling l.counted c l.last l.fn.fields l.fn.check code l.fn.draft.layout front (calling l.fn.draft.labels l.fn.draft.words l.fn.draft.calls.items l.fn.draft.rows l.fn.sites.items)
+      → IsTaking l.counted l.draft.too_long c l.last l.fields l.check code l.fn.draft.layout front (calling l.draft.labels l.draft.words l.draft.calls.items l.draft.rows l.sites.items);
 }
 
 abbrev pub decreases-loop-alloc : goal.decreases-loop-alloc
