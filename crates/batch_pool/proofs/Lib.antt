@@ -1,8 +1,13 @@
+pub mod AfterReading
 pub mod Coding
+pub mod Gathered
+pub mod Handing
 pub mod Moves
+pub mod Placing
 pub mod Pools
 pub mod Rests
 pub mod Rounds
 pub mod Searches
 pub mod Served
+pub mod Tried
 pub mod Turns

@@ -2,6 +2,7 @@
 //!
 //! The feeder has a queue, and so has each hand. A hand takes from its own queue first, and then from the others: what it
 //! steals besides the ticket that it returns goes into its own queue. A worker has a hand, and serves what it takes.
+//! `run_beside` starts a thread for each worker, in parallel with the thread that feeds them, and joins them all.
 #![tactic(auto)]
 
 mod bodies;
@@ -12,6 +13,7 @@ mod pool;
 mod queue;
 mod row;
 mod rule;
+mod scope;
 mod serving;
 mod thief;
 mod ticket;
@@ -21,6 +23,10 @@ pub use feeder::Feeder;
 pub use hand::Hand;
 pub use pool::Pool;
 pub use row::{Row, RowCode, RowCodes, Rows, Stored, Worked};
+pub use scope::{
+    Desk, Joined, Labour, Reading, Settled, by_number, join_all, keep, labour_at, run_beside,
+    settle, take_in,
+};
 pub use serving::{fits, serve, serve_fitting};
 pub use ticket::Ticket;
 pub use worker::work;

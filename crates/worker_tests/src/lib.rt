@@ -1,4 +1,4 @@
-//! Tests of workers in threads, alone and in parallel: `cancel_drain`, `result_cells`, `batch_pool` and `pool_scope`. They stand in a crate of
+//! Tests of workers in threads, alone and in parallel: `cancel_drain`, `result_cells` and `batch_pool`. They stand in a crate of
 //! their own, since a check of tests proves again all that stands beside them.
 #![tactic(auto)]
 

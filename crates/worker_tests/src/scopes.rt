@@ -1,13 +1,12 @@
 //! Workers in threads, and the caller that hands batches over and settles.
 ghost use Rattle.std.specs.Prelude.{◌≡◌, ⊤, length, IfOk};
-ghost use Rattle.pool_scope.specs.Desks.{IsDesk, IsIdle};
+ghost use Rattle.batch_pool.specs.Desks.{IsDesk, IsIdle};
 
-use batch_pool::{Pool, Row};
+use batch_pool::{Desk, Pool, Reading, Row, by_number, run_beside, settle};
 use body_cutter::{Batch, Bodies, Body, BodyBytes};
 use cancel_drain::{Board, Closed};
 use index_spaces::{AddStop, Context, ContextBuilder};
 use io_edges::OpenGate;
-use pool_scope::{Desk, Reading, by_number, run_beside, settle};
 use result_cells::Cells;
 use std::alloc::{AllocError, Global};
 use std::collections::LinkedList;

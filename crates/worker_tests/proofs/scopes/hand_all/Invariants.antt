@@ -1,5 +1,5 @@
 use Rattle.std.proofs.Common.{◌≡◌}
-use Rattle.pool_scope.specs.Desks.{IsDesk, IsIdle}
+use Rattle.batch_pool.specs.Desks.{IsDesk, IsIdle}
 use Rattle.worker_tests.proofs.scopes.hand_all.Given as goal
 
 abbrev pub invariant-loop-number : goal.invariant-loop-number

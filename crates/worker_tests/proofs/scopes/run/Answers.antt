@@ -1,4 +1,4 @@
-use Rattle.pool_scope.proofs.AfterReading.{rows_grown}
+use Rattle.batch_pool.proofs.AfterReading.{rows_grown}
 use Rattle.worker_tests.proofs.scopes.run.Goals as goal
 
 pub by_number-requires : goal.by_number-requires

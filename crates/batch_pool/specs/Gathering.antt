@@ -1,0 +1,28 @@
+-- What workers give back to the thread that started them.
+use Rattle.std.specs.Prelude.{◌≡◌, ℕ, List, Option, Some, None}
+use Rattle.atomic_table.specs.Seated.{TableId}
+use Rattle.index_spaces.specs.Spaces.{Spaces}
+use Rattle.batch_pool.specs.declared.scope.labour.Labour.{Labour}
+use Rattle.cancel_drain.specs.declared.view.View.{View}
+use Rattle.cancel_drain.specs.Handles.{Sitter}
+use Rattle.cancel_drain.specs.Views.{spent_view}
+use Rattle.batch_pool.specs.declared.row.Row.{Row}
+use Rattle.batch_pool.specs.Working.{IsRowOf, Adds}
+
+-- a seat that was split off, with one part
+abbrev pub IsFresh : TableId → Sitter → Type 0
+IsFresh table s = (s.table ≡ table) × ((seen : ℕ) × (s.view ≡ record spent_view { parts = 1; seen = seen }))
+
+-- the rows of some workers, whose seats were joined: nothing of theirs is running
+pub record Gathers (c : Spaces) (cells : List ℕ) (old new : View) (rows rows' : List Row) : Type 0 where
+  pub adds : Adds c cells old new rows rows'
+  pub running : new.running ≡ old.running
+
+-- a promise under this context and these cells, of a seat that was split off
+abbrev pub AreOf : Spaces → List ℕ → TableId → Labour → Type 0
+AreOf spaces cells table p = (p.context.now ≡ spaces) × (p.cells.now ≡ cells) × IsFresh table p.seat.value
+
+-- a row that is at hand is right
+abbrev pub IsRowIf : Spaces → List ℕ → Option Row → Type 0
+IsRowIf c cells None = Unit {0}
+IsRowIf c cells (Some row) = IsRowOf c cells row

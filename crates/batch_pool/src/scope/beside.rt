@@ -1,0 +1,154 @@
+//! Workers in threads of their own, in parallel with a caller that reads.
+ghost use Rattle.std.specs.Prelude.{◌≡◌, ◌<◌, ◌^◌, ◌⊎◌, true, [], length, IfOk, IfErr};
+ghost use Rattle.batch_pool.specs.Desks.{IsDesk, IsIdle, HasRead};
+ghost use Rattle.batch_pool.specs.Working.{IsWorked};
+
+use crate::feeder::Feeder;
+use crate::hand::Hand;
+use crate::row::{Row, Worked};
+use crate::scope::desk::Desk;
+use crate::scope::gathering::{join_all, take_in};
+use crate::scope::labour::{Labour, labour_at};
+use crate::ticket::Ticket;
+use cancel_drain::{Board, BoardSeat};
+use index_spaces::Context;
+use io_edges::Gate;
+use result_cells::Cells;
+use std::alloc::Global;
+use std::snapshot::Snapshot;
+use std::sync::Wait;
+use std::sync::atomic::AtomicU64;
+use std::sync::atomic::Ordering::SeqCst;
+use std::thread;
+use std::thread::{PromisedHandle, Threads};
+
+/// What the thread that reads does while workers compile.
+pub trait Reading {
+    /// Whether it may begin.
+    ghost can_read: { Self → Type 0 };
+
+    /// What it is after the reading.
+    ghost reads: { Self → Self → Type 0 };
+
+    /// Reads, and hands batches over at the desk.
+    fn read(&mut self, board: &Board, context: &Context, desk: &mut Desk)
+        requires desk { IsDesk context.now board.now desk.old }
+        requires can { can_read self.old }
+        ensures desk { IsDesk context.now board.now desk.new }
+        ensures parts { desk.new.seat.view.parts ≡ desk.old.seat.view.parts }
+        ensures idle { IsIdle desk.old desk.new }
+        ensures reads { reads self.old self.new };
+}
+
+/// What the thread that reads has once it joined the workers.
+#[derive(Drop)]
+pub struct Joined<T> {
+    /// The reader, after its reading.
+    pub reader: T,
+    /// The last seat at the board.
+    pub seat: BoardSeat,
+    /// The tickets of all batches that were handed over.
+    pub kept: Vec<Ticket>,
+    /// What the workers made.
+    pub rows: Vec<Row>,
+}
+
+/// Reads while a worker for each hand, as far as threads can be started, works off what is handed over. Err where memory ran out,
+/// with the reader as it is after its reading, or as it was.
+pub fn run_beside<R: Threads + Wait + Sync, G: Gate, T: Reading + Drop>(
+    rt: &R,
+    alloc: Global,
+    board: &Board,
+    seat: BoardSeat,
+    cells: &Cells,
+    context: &Context,
+    gate: &G,
+    hands: Vec<Hand>,
+    feeder: Feeder,
+    reading: T,
+) -> Result<Joined<T>, T>
+    requires table { seat.table ≡ board.now.table }
+    requires first { (seat.view.feeder ≡ true) × (seat.view.running ≡ []) × (seat.view.published ≡ []) }
+    requires parts { length hands.items < seat.view.parts }
+    requires can { T.can_read reading }
+    ensures read { IfOk result (λ j. HasRead context.now cells.now board.now seat.view j.seat j.kept.items j.rows.items) }
+    ensures made { IfOk result (λ j. T.reads reading j.reader) }
+    ensures back { IfErr result (λ r. T.reads reading r ⊎ (r ≡ reading)) }
+{
+    let refused = AtomicU64::new(u64::MAX);
+    let told = &refused;
+    let _all = seat.parts();
+    thread::scope(
+        thread::scope_env(),
+        rt,
+        |scope| -> Result<Joined<T>, T>
+            requires table { seat.table ≡ board.now.table }
+            requires first { (seat.view.feeder ≡ true) × (seat.view.running ≡ []) × (seat.view.published ≡ []) }
+            requires parts { (length hands.items < seat.view.parts) × (seat.view.parts < 2 ^ 64) }
+            requires can { T.can_read reading }
+            ensures read { IfOk result (λ j. HasRead context.entry.now cells.entry.now board.entry.now seat.view j.seat j.kept.items j.rows.items) }
+            ensures made { IfOk result (λ j. T.reads reading j.reader) }
+            ensures back { IfErr result (λ r. T.reads reading r ⊎ (r ≡ reading)) }
+        {
+            let mut seat = seat;
+            let mut rows: Vec<Row> = Vec::new(alloc);
+            let mut handles: Vec<PromisedHandle<Worked, Labour<'_>>> = Vec::new(alloc);
+            let mut number = 0u64;
+            for hand in hands {
+                let part = board.split(&mut seat);
+                let promise = Labour {
+                    context,
+                    cells,
+                    seat: Snapshot::of(&part),
+                };
+                let mine = number;
+                match scope.spawn_with(
+                    promise,
+                    move || -> Worked
+                        requires { part.table ≡ board.now.table }
+                        ensures { IsWorked context.entry.now cells.entry.now part result }
+                    {
+                        labour_at(
+                            rt, alloc, hand, board, part, cells, context, gate, mine, told,
+                        )
+                    },
+                ) {
+                    Ok(handle) => {
+                        let Ok(()) = handles.push(handle) else {
+                            return Err(reading);
+                        };
+                    }
+                    Err(refusal) => {
+                        // Why: docs/DECISIONS.md, "A thread that couldn't be started hands its closure back"
+                        told.store(mine, SeqCst);
+                        let worked = (refusal.value)();
+                        let Some(()) = take_in(board, context, cells, &mut seat, &mut rows, worked)
+                        else {
+                            return Err(reading);
+                        };
+                    }
+                }
+                number = number.wrapping_add(1);
+            }
+            let mut desk = Desk::new(alloc, board, context, seat, feeder);
+            let mut reader = reading;
+            reader.read(board, context, &mut desk);
+            let Desk {
+                mut seat,
+                feeder,
+                kept,
+                last: _,
+            } = desk;
+            feeder.close();
+            let Some(()) = join_all(rt, board, context, cells, &mut seat, &mut rows, handles) else {
+                return Err(reader);
+            };
+            Ok(Joined {
+                reader,
+                seat,
+                kept,
+                rows,
+            })
+        },
+    )
+}

@@ -1,6 +1,0 @@
-use Rattle.std.proofs.Common.{◌≡◌, All, None, length}
-use Rattle.pool_scope.specs.Gathering.{IsRowIf}
-use Rattle.pool_scope.proofs.numbered.places.Given as goal
-
-abbrev pub invariant-loop : goal.invariant-loop
-invariant-loop l = (length l.places.items ≡ l.counter) × All (λ p. p ≡ None) l.places.items × All (IsRowIf l.context l.cells) l.places.items
