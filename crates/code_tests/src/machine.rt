@@ -7,7 +7,7 @@ use std::alloc::{AllocError, Global};
 use std::test::Fail;
 
 /// One step: the operation, its word, what t1, t2 and s0 hold, and how the step ends with what in t0. The loads are of the byte behind
-/// s0, at the bytes 80 91 A2 B3 C4 D5 E6 F7.
+/// s0, at the bytes 80 91 A2 B3 C4 D5 E6 F7 of the memory and of the passive region.
 const STEPS: &str = "\
 div 027342B3 8000000000000000 FFFFFFFFFFFFFFFF 0 = Next 8000000000000000
 div 027342B3 7 0 0 = Next FFFFFFFFFFFFFFFF
@@ -123,7 +123,10 @@ lw 00142283 0 0 50000000 = Next FFFFFFFFB3A29180
 ld 00143283 0 0 50000000 = Next F7E6D5C4B3A29180
 lbu 00144283 0 0 50000000 = Next 80
 lhu 00145283 0 0 50000000 = Next 9180
-lwu 00146283 0 0 50000000 = Next B3A29180";
+lwu 00146283 0 0 50000000 = Next B3A29180
+ld 00143283 0 0 70000000 = Next F7E6D5C4B3A29180
+lbu 00844283 0 0 70000000 = Next F7
+lbu 00944283 0 0 70000000 = Fault(Load) 0";
 
 /// Runs: the words, what t1 and s0 hold, and how many steps at most; how the run ends, where, and the registers that are not 0.
 const RUNS: &str = "\
@@ -141,7 +144,8 @@ a taken branch by 2; 0FF0000F 00000163; 10000000 40000010 3 = Fault(1, Target) 1
 a jump to a register by 2; 0FF0000F 00230067; 10000000 40000010 3 = Fault(1, Target) 10000004 x6=10000000 x8=40000010
 a load at 0; 0FF0000F 00003283; 10000000 40000010 3 = Fault(1, Load) 10000004 x6=10000000 x8=40000010
 a load over the end of the table; 0FF0000F FF943283; 10000000 40000010 3 = Fault(1, Load) 10000004 x6=10000000 x8=40000010
-a store to the table; 0FF0000F 00543023; 10000000 40000010 3 = Fault(1, Store) 10000004 x6=10000000 x8=40000010";
+a store to the table; 0FF0000F 00543023; 10000000 40000010 3 = Fault(1, Store) 10000004 x6=10000000 x8=40000010
+a store to passive bytes; 0FF0000F 00540023; 10000000 70000000 3 = Fault(1, Store) 10000004 x6=10000000 x8=70000000";
 
 /// Stores of t1, 1122334455667788, three bytes before s0: the word, and the bytes of the stack that are not 0 then.
 const STORES: &str = "\
@@ -150,18 +154,16 @@ sh FE641EA3 = 5:88 6:77
 sw FE642EA3 = 5:88 6:77 7:66 8:55
 sd FE643EA3 = 5:88 6:77 7:66 8:55 9:44 10:33 11:22 12:11";
 
-/// A machine with a stack of 64 bytes, a table of 16, and a memory of nine.
+/// A machine with a stack of 64 bytes, a table of 16, a memory of nine, and the same nine as passive bytes.
 fn machine(alloc: Global, text: &[u32]) -> Result<Machine, AllocError>
     requires { 4 * length text.now ≤ 2 ^ 28 }
 {
-    let memory = Vec::from_slice(
-        alloc,
-        &[0x00, 0x80, 0x91, 0xA2, 0xB3, 0xC4, 0xD5, 0xE6, 0xF7],
-    );
-    let (Ok(stack), Ok(table), Ok(memory)) = (
+    let nine = [0x00, 0x80, 0x91, 0xA2, 0xB3, 0xC4, 0xD5, 0xE6, 0xF7];
+    let (Ok(stack), Ok(table), Ok(memory), Ok(passive)) = (
         Vec::from_slice(alloc, &[0; 64]),
         Vec::from_slice(alloc, &[1; 16]),
-        memory,
+        Vec::from_slice(alloc, &nine),
+        Vec::from_slice(alloc, &nine),
     ) else {
         return Err(AllocError);
     };
@@ -171,6 +173,7 @@ fn machine(alloc: Global, text: &[u32]) -> Result<Machine, AllocError>
         globals: Vec::new(alloc),
         table,
         memory: LinearMemory::reserved(memory, size),
+        passive,
     };
     Machine::new(alloc, text, regions)
 }

@@ -1,5 +1,5 @@
 -- A call of an image's function is the call of its module's.
-use Rattle.std.proofs.Common.{◌≡◌, ℕ, ℤ, arith, Bool, true, false, List, [], ◌∷◌, Option, Some, None, refl, sym, ap, ◌∙◌, subst, inl, inr, ◌≢◌, ◌+◌, ◌*◌, ◌≤◌}
+use Rattle.std.proofs.Common.{◌≡◌, ℕ, ℤ, arith, Bool, true, false, List, [], ◌∷◌, length, take, Option, Some, None, refl, sym, ap, ◌∙◌, subst, inl, inr, ◌≢◌, ◌+◌, ◌*◌, ◌≤◌}
 use Rattle.std.specs.Prelude.{not, Result, Ok, Err, IfOk}
 use Rattle.std.proofs.lemmas.Bool.{cases_Bool, lt-ltb}
 use Rattle.std.proofs.Common.{w32, SFits, ◌^◌}
@@ -20,7 +20,7 @@ use Rattle.image_format.specs.declared.image.Export.{Export}
 use Rattle.image_format.specs.ImageRun.{Ending, As, ImageRun, image_run}
 use Rattle.image_linker.specs.ImageOf.{image_of, offset_of}
 use Rattle.image_linker.specs.Same.{Same}
-use Rattle.simulation.specs.SameRuns.{SameRuns, IsOver, as_image}
+use Rattle.simulation.specs.SameRuns.{SameRuns, IsOver, as_image, own_ending, own_run}
 use Rattle.image_run.specs.declared.checks.NotRunnable.TheVariants.{Unlinkable, WrongArguments}
 use Rattle.image_run.specs.declared.outcome.Outcome.{Outcome}
 use Rattle.image_run.specs.declared.outcome.Outcome.TheVariants.{Returned, Trapped, StepsSpent, HostStopped, Fault}
@@ -28,7 +28,7 @@ use Rattle.image_run.specs.Checks.{export_named, unfit}
 use Rattle.image_run.specs.Ends.{IsEnd, run_of_export}
 use Rattle.embedding.specs.Lists.{replies_to}
 use Rattle.stream_compile.proofs.Calls.{Exports, export_is}
-use Rattle.stream_compile.proofs.Lasting.{Lasts, image_stays}
+use Rattle.stream_compile.proofs.Lasting.{Lasts, image_stays, own_lasts}
 use Rattle.embedding.specs.declared.calling.Called.{Called}
 use Rattle.embedding.specs.declared.calling.Called.TheVariants as called
 use Rattle.embedding.specs.declared.compiling.Compiled.TheVariants as compiled
@@ -110,6 +110,14 @@ ends_so StepsSpent memory results runs image n same stays is =
     (k, begins, λ j enough. goes_on (runs j).end (not_over runs image n same stays is j enough) (same.never_fails j))
 ends_so (Fault kind pc) memory results runs image n same stays is = same.never_faults n kind pc is
 
+-- an end says nothing of the globals
+own_is_end : (g : ℕ) (outcome : Outcome) (memory : List ℕ) (results : List Value) (x : Ending) → IsEnd outcome memory results x → IsEnd outcome memory results (own_ending g x)
+own_is_end g (Returned count) memory results x (count_is, globals, is) = (count_is, take g globals, ap (own_ending g) is)
+own_is_end g (Trapped kind place) memory results x (globals, is) = (take g globals, ap (own_ending g) is)
+own_is_end g StepsSpent memory results x is = ap (own_ending g) is
+own_is_end g HostStopped memory results x is = ap (own_ending g) is
+own_is_end g (Fault kind pc) memory results x is = ap (own_ending g) is
+
 -- ---- runs
 
 run_is : (i : Image) (e : Export) (m : Module) (f : ℕ) (arguments : List Value) (replies : List Reply) (n : ℕ) → e.offset ≡ offset_of m f → e.signature ≡ type_of_function (context_of m.items) f
@@ -133,7 +141,14 @@ module _ (m : Module) (name : List ℕ) (argument : ℤ) (numbers : List ℤ) (s
   abbrev image : ℕ → ImageRun
   image = image_run (image_of m) (offset_of m found.function) (type_of_function (context_of m.items) found.function).results arguments r.replies
 
-  alike : SameRuns (module_run m found.function arguments r.replies) image
+  -- of the image's globals the module's alone
+  abbrev g : ℕ
+  g = length (context_of m.items).globals
+
+  abbrev own_image : ℕ → ImageRun
+  own_image n = own_run g (image n)
+
+  alike : SameRuns (module_run m found.function arguments r.replies) own_image
   alike =
       let taken : same_types (I32 ∷ []) (type_of_function (context_of m.items) found.function).params ≡ true = subst (λ (t : FuncType). same_types (I32 ∷ []) t.params ≡ true) found.signature_is checks.fits in
       let are : are_of (type_of_function (context_of m.items) found.function).params arguments ≡ true = rw (turned _ taken, argument_in_range argument fits) refl in
@@ -146,7 +161,11 @@ module _ (m : Module) (name : List ℕ) (argument : ℤ) (numbers : List ℤ) (s
   replies = r.replies_are ∙ ap (λ (x : ImageRun). replies_to numbers x.calls) here
 
   ended : EndsSo steps outcome (image steps).calls r.memory r.results (module_run m found.function arguments r.replies)
-  ended = ends_so outcome r.memory r.results (module_run m found.function arguments r.replies) image steps alike (image_stays (image_of m) (offset_of m found.function) (type_of_function (context_of m.items) found.function).results arguments r.replies) (subst (λ (x : ImageRun). IsEnd outcome r.memory r.results x.end) here r.end)
+  ended =
+      let results = (type_of_function (context_of m.items) found.function).results in
+      let end : IsEnd outcome r.memory r.results (image steps).end = subst (λ (x : ImageRun). IsEnd outcome r.memory r.results x.end) here r.end in
+      ends_so outcome r.memory r.results (module_run m found.function arguments r.replies) own_image steps alike
+      (own_lasts g image (image_stays (image_of m) (offset_of m found.function) results arguments r.replies)) (own_is_end g outcome r.memory r.results (image steps).end end)
 
   pub runs_module : RunsModule m name argument numbers steps outcome first
   runs_module = record {

@@ -13,11 +13,11 @@ use Rattle.image_format.specs.declared.image.Import.{Import}
 use Rattle.image_format.specs.declared.image.Export.{Export}
 use Rattle.image_format.specs.declared.image.TrapPlace.{TrapPlace}
 use Rattle.image_format.specs.declared.version.Version.{Version}
-use Rattle.image_format.specs.declared.version.Version.TheVariants.{One, Two}
+use Rattle.image_format.specs.declared.version.Version.TheVariants.{One, Two, Three}
 use Rattle.image_format.specs.Versions.{number_of}
 use Rattle.image_format.specs.Contents.{Image}
-use Rattle.image_format.specs.ImageBytes.{◌·◌, u32, u64, listed, text, value_type, results, signature, row, segment, import, export, flag, version, place, places, spelling}
-use Rattle.image_format.specs.Sizes.{results_size, signature_size, segment_size, import_size, export_size, places_size, size_of}
+use Rattle.image_format.specs.ImageBytes.{◌·◌, u32, u64, listed, text, value_type, results, signature, row, segment, import, export, flag, version, place, places, passive, spelling}
+use Rattle.image_format.specs.Sizes.{results_size, signature_size, segment_size, import_size, export_size, places_size, passive_size, size_of}
 
 u32_size : (n : ℕ) → length (u32 n) ≡ 4
 unfolding u32
@@ -98,23 +98,30 @@ place_is p =
 places_are : (v : Version) (xs : List TrapPlace) → length (places v xs) ≡ places_size v xs
 places_are One xs = refl
 places_are Two xs = listed_size place (λ p. 12) place_is xs ∙ ap (λ n. 4 + n) (listed_same place (λ p. 12) place_is 12 (λ k. 12 * k) refl (λ k. omega arith) (λ p. refl) xs)
+places_are Three xs = listed_size place (λ p. 12) place_is xs ∙ ap (λ n. 4 + n) (listed_same place (λ p. 12) place_is 12 (λ k. 12 * k) refl (λ k. omega arith) (λ p. refl) xs)
+
+passive_are : (v : Version) (bytes : List ℕ) → length (passive v bytes) ≡ passive_size v bytes
+passive_are One bytes = refl
+passive_are Two bytes = refl
+passive_are Three bytes = joined (u32 (length bytes)) bytes 4 (length bytes) (u32_size (length bytes)) refl
 
 module _ (i : Image) where
-  ends : length (u32 i.start · u32 (flag i.unlinkable) · places i.version i.places) ≡ 8 + places_size i.version i.places
+  ends : length (u32 i.start · u32 (flag i.unlinkable) · places i.version i.places · passive i.version i.passive) ≡ 8 + (places_size i.version i.places + passive_size i.version i.passive)
   ends =
-      let all = joined (u32 i.start) (u32 (flag i.unlinkable) · places i.version i.places) 4 (4 + places_size i.version i.places) (u32_size i.start)
-      (joined (u32 (flag i.unlinkable)) (places i.version i.places) 4 (places_size i.version i.places) (u32_size (flag i.unlinkable)) (places_are i.version i.places)) in
+      let last = joined (places i.version i.places) (passive i.version i.passive) _ _ (places_are i.version i.places) (passive_are i.version i.passive) in
+      let all = joined (u32 i.start) _ 4 (4 + (places_size i.version i.places + passive_size i.version i.passive)) (u32_size i.start)
+      (joined (u32 (flag i.unlinkable)) _ 4 (places_size i.version i.places + passive_size i.version i.passive) (u32_size (flag i.unlinkable)) last) in
       omega (arith, all)
 
-  lists : length (listed segment i.segments · listed import i.imports · listed export i.exports · u32 i.start · u32 (flag i.unlinkable) · places i.version i.places)
-      ≡ (4 + sum_by segment_size i.segments) + ((4 + sum_by import_size i.imports) + ((4 + sum_by export_size i.exports) + (8 + places_size i.version i.places)))
+  lists : length (listed segment i.segments · listed import i.imports · listed export i.exports · u32 i.start · u32 (flag i.unlinkable) · places i.version i.places · passive i.version i.passive)
+      ≡ (4 + sum_by segment_size i.segments) + ((4 + sum_by import_size i.imports) + ((4 + sum_by export_size i.exports) + (8 + (places_size i.version i.places + passive_size i.version i.passive))))
   lists =
       joined (listed segment i.segments) _ _ _ (listed_size segment segment_size segment_is i.segments)
       (joined (listed import i.imports) _ _ _ (listed_size import import_size import_is i.imports)
       (joined (listed export i.exports) _ _ _ (listed_size export export_size export_is i.exports) ends))
 
   front : length (spelling i) ≡ 4 + (4 + ((4 + 4 * length i.text) + ((4 + 8 * length i.globals) + ((4 + 16 * length i.table) + (4 + (4
-      + ((4 + sum_by segment_size i.segments) + ((4 + sum_by import_size i.imports) + ((4 + sum_by export_size i.exports) + (8 + places_size i.version i.places))))))))))
+      + ((4 + sum_by segment_size i.segments) + ((4 + sum_by import_size i.imports) + ((4 + sum_by export_size i.exports) + (8 + (places_size i.version i.places + passive_size i.version i.passive)))))))))))
   unfolding spelling
   front =
       joined (u32 MAGIC) _ _ _ (u32_size MAGIC)

@@ -9,7 +9,7 @@ use Rattle.std.proofs.lemmas.List.Sorted.{IsNonDecreasingBy-from_default}
 use Rattle.std.proofs.lemmas.List.Sums.{fold_push}
 use Rattle.wasm_defs.specs.declared.place.Place.{Place}
 use Rattle.image_format.specs.declared.version.Version.{Version}
-use Rattle.image_format.specs.declared.version.Version.TheVariants.{One, Two}
+use Rattle.image_format.specs.declared.version.Version.TheVariants.{One, Two, Three}
 use Rattle.image_format.specs.declared.image.TrapPlace.{TrapPlace}
 use Rattle.image_format.specs.Bounds.{Each, bound_of, PlaceFits, ArePlaces}
 use Rattle.image_format.specs.ImageRun.{place_told}
@@ -26,6 +26,7 @@ each_rises words front (p ∷ ps) fits =
 pub places_rise : (v : Version) (words : ℕ) (ps : List TrapPlace) → ArePlaces v words ps → Rise 0 ps
 places_rise One words ps fits = subst (Rise 0) (sym fits) tt
 places_rise Two words ps fits = each_rises words [] ps fits.1
+places_rise Three words ps fits = each_rises words [] ps fits.1
 
 above_bound : (bound : ℕ) (ps : List TrapPlace) → Rise bound ps → (j : ℕ) → j < length ps → bound ≤ offset_at ps j
 above_bound bound [] rise j less = absurd (omega arith)

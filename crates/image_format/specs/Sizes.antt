@@ -7,7 +7,7 @@ use Rattle.image_format.specs.declared.image.Import.{Import}
 use Rattle.image_format.specs.declared.image.Export.{Export}
 use Rattle.image_format.specs.declared.image.TrapPlace.{TrapPlace}
 use Rattle.image_format.specs.declared.version.Version.{Version}
-use Rattle.image_format.specs.declared.version.Version.TheVariants.{One, Two}
+use Rattle.image_format.specs.declared.version.Version.TheVariants.{One, Two, Three}
 use Rattle.image_format.specs.Contents.{Image}
 
 abbrev pub results_size : List ValType → ℕ
@@ -31,9 +31,16 @@ export_size e = 8 + length e.name + signature_size e.signature
 abbrev pub places_size : Version → List TrapPlace → ℕ
 places_size One places = 0
 places_size Two places = 4 + 12 * length places
+places_size Three places = 4 + 12 * length places
 
--- twelve numbers of four bytes, among them the lists' lengths; the elements of each list; and the places of traps
+abbrev pub passive_size : Version → List ℕ → ℕ
+passive_size One bytes = 0
+passive_size Two bytes = 0
+passive_size Three bytes = 4 + length bytes
+
+-- twelve numbers of four bytes, among them the lists' lengths; the elements of each list; where traps come from; and the bytes of
+-- passive segments
 abbrev pub size_of : Image → ℕ
 size_of i =
     48 + 4 * length i.text + 8 * length i.globals + 16 * length i.table + sum_by segment_size i.segments + sum_by import_size i.imports + sum_by export_size i.exports
-    + places_size i.version i.places
+    + places_size i.version i.places + passive_size i.version i.passive

@@ -2,7 +2,7 @@
 use Rattle.std.proofs.Common.{◌≡◌, ℕ, zero, suc, ◌+◌, ◌*◌, ◌^◌, ◌<◌, ◌≤◌, Bool, true, false, List, [], ◌∷◌, ◌++◌, map, length, replicate, Option, None, Some, refl, sym, subst, arith}
 use Rattle.std.specs.Prelude.{All, nat_le, slice_get}
 use Rattle.std.proofs.lemmas.Bool.{and_parts, leb-true}
-use Rattle.std.proofs.lemmas.List.{length-map, length-replicate}
+use Rattle.std.proofs.lemmas.List.{length-append, length-map, length-replicate}
 use Rattle.std.proofs.lemmas.List.Elements.{All-nil, All-cons}
 use Rattle.std.proofs.lemmas.List.Sums.{sum_by-append}
 use Rattle.rv_isa.specs.Words.{word_of}
@@ -11,11 +11,12 @@ use Rattle.wasm_defs.specs.declared.item.Item.TheVariants as item
 use Rattle.wasm_defs.specs.Context.{context_of, functions_of}
 use Rattle.wasm_defs.specs.Entries.{nothing}
 use Rattle.wasm_defs.specs.Faults.{Module}
-use Rattle.wasm_defs.specs.Instances.{Written, exports_of, values_of, rows_of, pages_of, elements_of, data_of, is_linkable, instance_of, all_fit, start_of}
+use Rattle.wasm_defs.specs.Instances.{Written, exports_of, values_of, rows_of, pages_of, cap_of, elements_of, data_of, is_linkable, instance_of, all_fit, start_of}
 use Rattle.wasm_defs.specs.Limits.{max_entries, max_module, max_pages}
 use Rattle.wasm_defs.specs.Memory.{page}
 use Rattle.wasm_defs.specs.Values.{word_of as value_word, words_of}
-use Rattle.wasm_laws.specs.Kept.{TypesAreSmall, AreThere}
+use Rattle.wasm_defs.specs.SmallTypes.{TypesAreSmall}
+use Rattle.wasm_laws.specs.Kept.{AreThere}
 use Rattle.wasm_laws.specs.Sections.{AreBytes}
 use Rattle.wasm_laws.proofs.Bytes.{each_byte}
 use Rattle.wasm_laws.proofs.Counted.{entries_in, entries_are_few}
@@ -23,10 +24,12 @@ use Rattle.wasm_laws.proofs.Described.{module_is_described}
 use Rattle.wasm_laws.proofs.Exports.{exports_are_there}
 use Rattle.wasm_defs.specs.Rules.{AllKeep}
 use Rattle.image_format.specs.Contents.{IsImage}
-use Rattle.image_format.specs.Bounds.{IsText, IsOffset, AreGlobals, IsRow, IsTable, Each, SegmentFits, AreSegments, bytes_of, AreImports, AreExports, PlaceFits, ArePlaces}
+use Rattle.image_format.specs.Bounds.{IsText, IsOffset, AreGlobals, IsRow, IsTable, Each, SegmentFits, AreSegments, bytes_of, AreImports, AreExports, PlaceFits, ArePlaces, IsPassive}
+use Rattle.image_format.specs.Versions.{most_pages, most_globals}
+use Rattle.image_format.specs.declared.image.TrapPlace.{TrapPlace}
 use Rattle.image_format.specs.declared.version.Version.TheVariants.{Two}
 use Rattle.image_format.specs.declared.image.Segment.{Segment}
-use Rattle.image_linker.specs.ImageOf.{text_of, offset_of, row_of, table_of, segment_of, placed_segments, imports_of, export_of, start_offset, image_of, front_size, places_of_traps}
+use Rattle.image_linker.specs.ImageOf.{text_of, offset_of, row_of, table_of, segment_of, placed_segments, imports_of, export_of, start_offset, image_of, front_size, places_of_traps, segments_at_first, segment_words, joined, version_for}
 use Rattle.image_linker.specs.Judging.{IsModuleOf, sizes}
 use Rattle.image_linker.specs.Linking.{empty_row}
 use Rattle.image_linker.specs.Laws.{ImagesKeepBounds}
@@ -41,6 +44,7 @@ use Rattle.image_linker.proofs.Placed.{text_length, text_in_range}
 use Rattle.image_linker.proofs.Regions.{AreWords}
 use Rattle.image_linker.proofs.Spread.{Stand, places_fit, traps_stand}
 use Rattle.image_linker.proofs.SegmentFacts.{bytes_in}
+use Rattle.image_linker.proofs.Segmented.{segment_words_length, segment_words_are_words, words_append}
 use Rattle.image_linker.proofs.WordRanges.{words_are_short}
 
 each_word : (ws : List ℕ) → AreWords ws → All (λ value. value < 2 ^ 64) ws
@@ -54,9 +58,10 @@ empty_rows n most le = (omega (arith, length-replicate n empty_row, le), each n)
     each zero = All-nil IsRow
     each (suc n) = All-cons IsRow empty_row (replicate n empty_row) (omega arith, omega arith) (each n)
 
-segments_are_few : (items : List Item) → length (data_of items) ≤ entries_in 11 items
+segments_are_few : (items : List Item) → length (data_of items) ≤ entries_in 12 items
 segments_are_few [] = omega arith
-segments_are_few (item.Segment memory place run ∷ items) = omega (arith, segments_are_few items)
+segments_are_few (item.Passive form run ∷ items) = omega (arith, segments_are_few items)
+segments_are_few (item.Segment form memory place run ∷ items) = omega (arith, segments_are_few items)
 segments_are_few (x ∷ items) = segments_are_few items
 
 -- segments that fit into the memory, after those before them
@@ -69,6 +74,25 @@ segments_fit pages small (w ∷ ws) front fit few =
       record { place = omega (arith, inside, small); inside = omega (arith, inside); together = omega (arith, few) },
       segments_fit pages small ws (front ++ segment_of w ∷ []) parts.1 (omega (arith, together, few)),
     )
+
+-- ---- bounds of the version for so many data segments
+
+globals_fit : (n g : ℕ) → g ≤ max_entries → n ≤ max_entries → g + 2 * n ≤ most_globals (version_for n)
+globals_fit zero g values few = omega arith
+globals_fit (suc n) g values few = omega arith
+
+cap_fits : (n cap : ℕ) → cap ≤ max_pages → cap ≤ most_pages (version_for n)
+cap_fits zero cap small = omega arith
+cap_fits (suc n) cap small = omega arith
+
+places_stay : (n words : ℕ) (places : List TrapPlace) → ArePlaces Two words places → ArePlaces (version_for n) words places
+places_stay zero words places fit = fit
+places_stay (suc n) words places fit = fit
+
+passive_fits : (n : ℕ) (segments : List (List ℕ)) → length segments ≡ n → length (joined segments) ≤ max_module → IsPassive (version_for n) (joined segments)
+passive_fits zero [] all held = refl
+passive_fits zero (s ∷ segments) all held = absurd (omega arith)
+passive_fits (suc n) segments all held = omega (arith, held)
 
 module _ (bytes : List ℕ) (m : Module) (fits : AreBytes bytes) (is : IsModuleOf bytes m) where
   good : IsCoveredModule m
@@ -84,8 +108,22 @@ module _ (bytes : List ℕ) (m : Module) (fits : AreBytes bytes) (is : IsModuleO
     each = words_are_short (text_of m) (text_in_range m good);
   }
 
-  globals : AreGlobals (words_of (values_of m.items))
-  globals = (omega (arith, length-map (values_of m.items) value_word, good.spaces.globals), each_word (words_of (values_of m.items)) (values_are_words m.items good.constants))
+  abbrev counted : List (List ℕ)
+  counted = segments_at_first m
+
+  abbrev count : ℕ
+  count = (context_of m.items).segments
+
+  globals : AreGlobals (version_for count) (words_of (values_of m.items) ++ segment_words 0 counted)
+  globals =
+      let first = words_of (values_of m.items) in
+      let after = segment_words 0 counted in
+      let size : length (first ++ after) ≡ length (values_of m.items) + 2 * count =
+      omega (arith, length-append first after, length-map (values_of m.items) value_word, segment_words_length 0 counted, good.counted.all) in
+      let fit = globals_fit count (length (values_of m.items)) good.spaces.globals good.counted.few in (
+        subst (λ (n : ℕ). n ≤ most_globals (version_for count)) (sym size) fit,
+        each_word (first ++ after) (words_append first after (values_are_words m.items good.constants) (segment_words_are_words 0 counted (omega (arith, good.counted.held)))),
+      )
 
   each_row : (rows : List (Option ℕ)) → ((a : ℕ) (o : Option ℕ) → slice_get rows a ≡ Some o → RowFits m o) → All IsRow (map (row_of m) rows)
   each_row [] fit = All-nil IsRow
@@ -103,7 +141,7 @@ module _ (bytes : List ℕ) (m : Module) (fits : AreBytes bytes) (is : IsModuleO
   segments : (b : Bool) → is_linkable m ≡ b → AreSegments (pages_of m.items) (placed_segments m b)
   segments true can_link =
       let fit = (and_parts (all_fit (rows_of m.items) (elements_of m.items)) (all_fit (page * pages_of m.items) (data_of m.items)) can_link).1 in
-      let listed : entries_in 11 m.items ≤ max_entries = subst (λ (items : List Item). entries_in 11 items ≤ max_entries) (sym is.is.items) (entries_are_few 11 (λ ten. absurd cc) bytes) in
+      let listed : entries_in 12 m.items ≤ max_entries = subst (λ (items : List Item). entries_in 12 items ≤ max_entries) (sym is.is.items) (entries_are_few 12 (λ code. absurd cc) bytes) in
       let small : pages_of m.items ≤ max_pages = omega (arith, good.spaces.pages, good.spaces.cap) in (
         omega (arith, length-map (data_of m.items) segment_of, segments_are_few m.items, listed),
         segments_fit (pages_of m.items) small (data_of m.items) [] fit (omega (arith, good.segments.few)),
@@ -154,8 +192,8 @@ module _ (bytes : List ℕ) (m : Module) (fits : AreBytes bytes) (is : IsModuleO
       places_fit (length (map word_of (text_of m))) (places_of_traps m) text_words
       (subst (Stand 0 (places_of_traps m)) words (traps_stand m good.few_functions good.short_imports good.short_bodies))
 
-  traps : ArePlaces Two (length (map word_of (text_of m))) (places_of_traps m)
-  traps = (omega (arith, spread.0), spread.1)
+  traps : ArePlaces (version_for count) (length (map word_of (text_of m))) (places_of_traps m)
+  traps = places_stay count (length (map word_of (text_of m))) (places_of_traps m) (omega (arith, spread.0), spread.1)
 
   bounds : IsImage (image_of m)
   bounds = record {
@@ -163,12 +201,13 @@ module _ (bytes : List ℕ) (m : Module) (fits : AreBytes bytes) (is : IsModuleO
     globals = globals;
     table = table (is_linkable m) refl;
     pages = good.spaces.pages;
-    cap = omega (arith, good.spaces.cap);
+    cap = cap_fits count (cap_of m.items) good.spaces.cap;
     segments = segments (is_linkable m) refl;
     imports = imports;
     exports = exports;
     start = start;
     places = traps;
+    passive = passive_fits count counted good.counted.all good.counted.held;
   }
 
   -- a third of the words at most are traps

@@ -4,15 +4,16 @@ use Rattle.wasm_defs.specs.declared.item.Item.{Item}
 use Rattle.wasm_defs.specs.declared.item.Item.TheVariants as item
 use Rattle.wasm_defs.specs.declared.types.ValType.TheVariants.{I32, I64}
 use Rattle.wasm_defs.specs.declared.token.Plain.{Plain}
-use Rattle.wasm_defs.specs.declared.token.Plain.TheVariants.{Unreachable, Br, BrIf, BrTable, Return, Call, CallIndirect, Nop, Discard, Select, LocalGet, LocalSet, LocalTee, GlobalGet, GlobalSet, Load, Store, MemorySize, MemoryGrow, Const, Operate}
-use Rattle.wasm_defs.specs.Context.{type_or_empty, type_of_function, context_of, import_count, declared_count, types_of, functions_of}
-use Rattle.wasm_defs.specs.Entries.{Seen}
+use Rattle.wasm_defs.specs.declared.token.Plain.TheVariants.{Unreachable, Br, BrIf, BrTable, Return, Call, CallIndirect, Nop, Discard, Select, LocalGet, LocalSet, LocalTee, GlobalGet, GlobalSet, Load, Store, MemorySize, MemoryGrow, Bulk, DataDrop, Const, Operate}
+use Rattle.wasm_defs.specs.Context.{type_or_empty, type_of_function, context_of, import_count, declared_count, data_count_of, types_of, functions_of}
+use Rattle.wasm_defs.specs.Entries.{Seen, or_zero}
 use Rattle.wasm_defs.specs.Outside.{Body, Ending, Whole, Refused, Owed, module_read}
 use Rattle.wasm_defs.specs.Trees.{Seq, Nothing, Simple, Block, Loop, If, IfElse}
 use Rattle.wasm_defs.specs.Faults.{tokens_of, read_of, context_at, ending_fault, IsValidCode, Module, IsModule}
-use Rattle.wasm_defs.specs.Instances.{rows_of, elements_of, instance_of, exports_of, named, start_of}
+use Rattle.wasm_defs.specs.Instances.{rows_of, elements_of, data_of, segments_of, instance_of, exports_of, named, start_of}
 use Rattle.wasm_laws.specs.Behind.{AreValidIn}
-use Rattle.wasm_laws.specs.Kept.{TypeIsSmall, TypesAreSmall, BodyIsSmall, BodiesAreSmall, SpacesAreSmall, ConstantsFit, AreThere, TakesNothing}
+use Rattle.wasm_defs.specs.SmallTypes.{TypeIsSmall, TypesAreSmall}
+use Rattle.wasm_laws.specs.Kept.{BodyIsSmall, BodiesAreSmall, SpacesAreSmall, ConstantsFit, AreThere, TakesNothing}
 use Rattle.wasm_laws.specs.Sections.{AreBytes}
 use Rattle.wasm_laws.specs.Immediates.{IsInRange, TreeIsInRange}
 use Rattle.wasm_laws.proofs.Behind.{bodies_are_valid}
@@ -20,7 +21,7 @@ use Rattle.wasm_laws.proofs.Bytes.{each_byte, HaveBytes, bodies_have_bytes}
 use Rattle.wasm_laws.proofs.Constants.{constants_fit}
 use Rattle.wasm_laws.proofs.Counts.{bodies_match}
 use Rattle.wasm_laws.proofs.Counted.{entries_in, entries_are_few}
-use Rattle.wasm_defs.specs.Limits.{max_entries}
+use Rattle.wasm_defs.specs.Limits.{max_entries, max_module}
 use Rattle.wasm_laws.proofs.Exports.{types_are_small, function_is_small, exports_are_there, named_is_there}
 use Rattle.wasm_laws.proofs.Counting.{tokens_are_few}
 use Rattle.wasm_laws.proofs.Locals.{bodies_are_small}
@@ -41,10 +42,12 @@ use Rattle.wasm_defs.specs.declared.token.BlockType.TheVariants.{Empty, Value, I
 use Rattle.wasm_defs.specs.declared.token.Token.{Token}
 use Rattle.wasm_defs.specs.declared.token.Token.TheVariants as token
 use Rattle.sim_frames.proofs.Lows.{max_lift, TakesFew, IsFew, FewIn, body_low, tokens_spelled}
-use Rattle.image_linker.proofs.CoveredModules.{IsCoveredBody, AreCoveredBodies, IsCoveredModule}
+use Rattle.image_linker.specs.ImageOf.{segments_at_first}
+use Rattle.image_linker.proofs.CoveredModules.{IsCoveredBody, AreCoveredBodies, AreCounted, IsCoveredModule}
 use Rattle.wasm_laws.proofs.ShortOffsets.{offsets_are_short}
 use Rattle.image_linker.proofs.Imported.{ImportsFirst, imports_come_first}
-use Rattle.image_linker.proofs.SegmentFacts.{segments_are_held}
+use Rattle.image_linker.proofs.NamedRows.{joined_first}
+use Rattle.image_linker.proofs.SegmentFacts.{AreHeld, segments_are_held, segments_are_counted, first_bytes}
 use Rattle.image_linker.proofs.TableRows.{types_are_few}
 use Rattle.image_linker.proofs.ElementFacts.{elements_are_below, row_below}
 
@@ -70,6 +73,8 @@ covered_step (Load o m) range = range.1
 covered_step (Store o m) range = range.1
 covered_step MemorySize range = tt
 covered_step MemoryGrow range = tt
+covered_step (Bulk op) range = tt
+covered_step (DataDrop x) range = tt
 covered_step (Const I32 n) range = constant_fits n range
 covered_step (Const I64 n) range = long_constant_fits n range
 covered_step (Operate op) range = tt
@@ -144,14 +149,14 @@ module _ (items : List Item) (types : TypesAreSmall (context_of items).types) wh
   covered_body k b tree bytes small valid =
       let c = context_at items k b in
       let tokens = (read_of b).code.tokens in
-      let range = tree_is_in_range b.first b.bytes tree (each_byte b.bytes bytes) valid.tree_is in
+      let range = tree_is_in_range b.counted b.first b.bytes tree (each_byte b.bytes bytes) valid.tree_is in
       let ty = function_is_small (context_of items) (import_count items + k) types in
       let tree_is = covered_tree c types tree range in
       let low = body_low c c tree refl (few_in c types refl (omega (arith, ty.results, length-reverse (type_of_function (context_of items) (import_count items + k)).results))) tree_is.1 in
       let count = ap length valid.tree_is in
       let spelt = tokens_spelled tree (token.End ∷ []) in
       let whole = tokens_length tokens in
-      let few = tokens_are_few b.first b.bytes in
+      let few = tokens_are_few b.counted b.first b.bytes in
       let locals = small.locals in
       record {
         covered = tree_is.0;
@@ -226,11 +231,28 @@ module _ (bytes : List ℕ) (m : Module) (fits : AreBytes bytes) (is : IsModule 
       let three : entries_in 3 m.items ≤ max_entries = subst (λ (items : List Item). entries_in 3 items ≤ max_entries) (sym is.items) (entries_are_few 3 (λ ten. absurd cc) bytes) in
       omega (arith, functions_match, functions_are_few m.items, two, three)
 
+  abbrev count : ℕ
+  count = or_zero (data_count_of m.items)
+
+  held : AreHeld (data_of m.items) (segments_of m.items) max_module
+  held = segments_are_held bytes m fits is
+
+  few_segments : count ≤ max_entries
+  few_segments =
+      let small = subst SpacesAreSmall (sym is.items) (spaces_are_small bytes) in
+      small.segments
+
+  named_are_counted : AreCounted count (segments_at_first m)
+  named_are_counted =
+      let segments = segments_of m.items in
+      record { all = segments_are_counted bytes m fits is; few = few_segments; held = omega (arith, joined_first count segments, held.few); bytes = first_bytes count segments held.others }
+
   pub module_is_covered : IsCoveredModule m
   module_is_covered = record {
     spaces = subst SpacesAreSmall (sym is.items) (spaces_are_small bytes);
     constants = subst ConstantsFit (sym is.items) (constants_fit bytes fits);
-    segments = segments_are_held bytes m fits is;
+    segments = held;
+    counted = named_are_counted;
     bodies =
         covered_bodies m.items small_types 0 m.bodies m.trees
         (subst HaveBytes (sym is.bodies) (bodies_have_bytes bytes fits)) (subst BodiesAreSmall (sym is.bodies) (bodies_are_small bytes)) (bodies_are_valid bytes m is);

@@ -1,18 +1,20 @@
 -- Modules that keep their limits and whose bodies are of covered instructions: so are all that are compiled.
 use Rattle.std.proofs.Common.{◌≡◌, ℕ, suc, ◌+◌, ◌^◌, ◌<◌, ◌≤◌, List, [], ◌∷◌, length, Some}
 use Rattle.std.specs.Prelude.{slice_get}
+use Rattle.std.specs.List.{All}
 use Rattle.wasm_defs.specs.declared.item.Item.{Item}
 use Rattle.wasm_defs.specs.Limits.{max_entries, max_module, max_params}
 use Rattle.wasm_defs.specs.Outside.{Body}
 use Rattle.wasm_defs.specs.Trees.{Seq}
 use Rattle.wasm_defs.specs.Typing.{IsBody}
 use Rattle.wasm_defs.specs.Faults.{context_at, Module}
-use Rattle.wasm_defs.specs.Instances.{data_of, exports_of, named, function_of, instance_of, start_of}
-use Rattle.wasm_laws.specs.Kept.{SpacesAreSmall, ConstantsFit, TakesNothing, TypesAreSmall, ImportsReturnOne}
+use Rattle.wasm_defs.specs.Instances.{data_of, segments_of, exports_of, named, function_of, instance_of, start_of}
+use Rattle.wasm_defs.specs.SmallTypes.{TypesAreSmall}
+use Rattle.wasm_laws.specs.Kept.{SpacesAreSmall, ConstantsFit, TakesNothing, ImportsReturnOne}
 use Rattle.frame_layout.specs.Slots.{need}
 use Rattle.sim_frames.specs.Covered.{IsCovered}
 use Rattle.wasm_defs.specs.Context.{context_of, types_of, functions_of, import_count, type_of_function}
-use Rattle.image_linker.specs.ImageOf.{layout_of}
+use Rattle.image_linker.specs.ImageOf.{layout_of, segments_at_first, joined}
 use Rattle.image_linker.proofs.Imported.{ImportsFirst}
 use Rattle.wasm_laws.specs.Short.{AreShortImports, AreShortBodies}
 use Rattle.image_linker.proofs.SegmentFacts.{AreHeld}
@@ -30,10 +32,18 @@ AreCoveredBodies items k [] [] = Unit {0}
 AreCoveredBodies items k (b ∷ bodies) (tree ∷ trees) = IsCoveredBody items k b tree × AreCoveredBodies items (suc k) bodies trees
 AreCoveredBodies items k bodies trees = ⊥
 
+-- data segments that bodies may name: as many as are counted
+pub record AreCounted (count : ℕ) (segments : List (List ℕ)) : Type 0 where
+  pub all : length segments ≡ count
+  pub few : count ≤ max_entries
+  pub held : length (joined segments) ≤ max_module
+  pub bytes : All (λ (b : ℕ). b < 256) (joined segments)
+
 pub record IsCoveredModule (m : Module) : Type 0 where
   pub spaces : SpacesAreSmall m.items
   pub constants : ConstantsFit m.items
-  pub segments : AreHeld (data_of m.items) max_module
+  pub segments : AreHeld (data_of m.items) (segments_of m.items) max_module
+  pub counted : AreCounted (context_of m.items).segments (segments_at_first m)
   pub bodies : AreCoveredBodies m.items 0 m.bodies m.trees
   -- imported functions come first
   pub imports_first : ImportsFirst m.items

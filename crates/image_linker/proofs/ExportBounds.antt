@@ -13,9 +13,10 @@ use Rattle.wasm_defs.specs.Context.{context_of}
 use Rattle.wasm_defs.specs.Entries.{Seen, note}
 use Rattle.wasm_defs.specs.Faults.{Module}
 use Rattle.wasm_defs.specs.Instances.{exports_of}
-use Rattle.wasm_defs.specs.Items.{each_is, item_is, section_is, Section, Payload, Custom, Vector, Starting, Bodies, payload_is, payload_items, items_in}
+use Rattle.wasm_defs.specs.Items.{each_is, item_is, section_is, Section, Payload, Custom, Vector, payload_is, payload_items, items_in}
 use Rattle.wasm_defs.specs.Rules.{AllKeep, all_noted, SectionsKeep}
-use Rattle.wasm_laws.specs.Kept.{TypesAreSmall, AreThere}
+use Rattle.wasm_defs.specs.SmallTypes.{TypesAreSmall}
+use Rattle.wasm_laws.specs.Kept.{AreThere}
 use Rattle.wasm_laws.proofs.Counted.{entries_in}
 use Rattle.wasm_laws.proofs.Exports.{function_is_small}
 use Rattle.image_format.specs.declared.image.Export.{Export}
@@ -60,8 +61,7 @@ items_named (x ∷ xs) at bytes s = (item_named x at s.front s.first, items_name
 payload_named : (p : Payload) (at : ℕ) (bytes : List ℕ) → payload_is p at bytes → AreNamed (payload_items p)
 payload_named (Custom name) at bytes s = tt
 payload_named (Vector id count items) at bytes s = let listed = s.2 in items_named items (at + length listed.front) listed.back listed.second
-payload_named (Starting index) at bytes s = (tt, tt)
-payload_named (Bodies count end bodies) at bytes s = (tt, tt)
+payload_named p at bytes s = (tt, tt)
 
 pub sections_named : (xs : List Section) (at : ℕ) (bytes : List ℕ) → each_is section_is xs at bytes → AreNamed (items_in xs)
 sections_named [] at bytes s = tt

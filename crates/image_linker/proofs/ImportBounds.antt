@@ -8,7 +8,8 @@ use Rattle.wasm_defs.specs.Context.{import_count, type_or_empty}
 use Rattle.wasm_defs.specs.Entries.{Seen, note}
 use Rattle.wasm_defs.specs.Rules.{AllKeep}
 use Rattle.wasm_defs.specs.Typing.{Context}
-use Rattle.wasm_laws.specs.Kept.{TypesAreSmall, ImportsReturnOne}
+use Rattle.wasm_defs.specs.SmallTypes.{TypesAreSmall}
+use Rattle.wasm_laws.specs.Kept.{ImportsReturnOne}
 use Rattle.wasm_laws.proofs.Counted.{entries_in}
 use Rattle.image_format.specs.Bounds.{IsImport}
 use Rattle.image_linker.specs.ImageOf.{imports_of}

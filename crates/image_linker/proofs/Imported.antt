@@ -14,7 +14,8 @@ use Rattle.wasm_defs.specs.Faults.{items_of}
 use Rattle.wasm_defs.specs.Instances.{imports_from}
 use Rattle.wasm_defs.specs.Outside.{Part, Section, Listed, Coded, module_read}
 use Rattle.wasm_defs.specs.Typing.{Context}
-use Rattle.wasm_laws.specs.Kept.{TypeIsSmall, TypesAreSmall, ImportsReturnOne}
+use Rattle.wasm_defs.specs.SmallTypes.{TypeIsSmall, TypesAreSmall}
+use Rattle.wasm_laws.specs.Kept.{ImportsReturnOne}
 use Rattle.wasm_laws.proofs.Sorted.{AreSorted, parts_are_sorted}
 use Rattle.frame_layout.specs.Templates.{import_stub}
 use Rattle.frame_layout.proofs.Standing.{has_first, has_rest}
@@ -139,14 +140,14 @@ late_without_imports before id [] late h = refl
 late_without_imports before id (Section at next ∷ parts) late h = late_without_imports (max before id) next parts (inl (⊎_elim (λ e. omega (arith, e)) (λ e. omega (arith, e)) late)) h
 late_without_imports before id (Listed (Imported from what kind type_index) ∷ parts) late h = absurd (⊎_elim (λ e. omega (arith, e, h.0, h.1)) (λ e. omega (arith, e, h.0, h.1)) late)
 late_without_imports before id (Listed x ∷ parts) late h = late_without_imports before id parts late h.2
-late_without_imports before id (Coded b ∷ parts) late h = late_without_imports 10 10 parts (inl (omega arith)) h.2
+late_without_imports before id (Coded b ∷ parts) late h = late_without_imports 11 11 parts (inl (omega arith)) h.2
 
 sorted_imports_first : (before id : ℕ) (parts : List Part) → AreSorted before id parts → ImportsFirst (items_of parts)
 sorted_imports_first before id [] h = tt
 sorted_imports_first before id (Section at next ∷ parts) h = sorted_imports_first (max before id) next parts h
 sorted_imports_first before id (Listed (Function type_index) ∷ parts) h = late_without_imports before id parts (inr (omega (arith, h.0))) h.2
 sorted_imports_first before id (Listed x ∷ parts) h = sorted_imports_first before id parts h.2
-sorted_imports_first before id (Coded b ∷ parts) h = sorted_imports_first 10 10 parts h.2
+sorted_imports_first before id (Coded b ∷ parts) h = sorted_imports_first 11 11 parts h.2
 
 pub imports_come_first : (bytes : List ℕ) → ImportsFirst (items_of (module_read bytes).parts)
 imports_come_first bytes = sorted_imports_first 0 0 (module_read bytes).parts (parts_are_sorted bytes)

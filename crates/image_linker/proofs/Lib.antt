@@ -19,6 +19,7 @@ pub mod ElementFacts
 pub mod LinkedRows
 pub mod SegmentFacts
 pub mod DataRows
+pub mod NamedRows
 pub mod Called
 pub mod CoveredFacts
 pub mod Modules
@@ -27,3 +28,4 @@ pub mod ExportBounds
 pub mod ImportBounds
 pub mod Bounded
 pub mod Short
+pub mod Segmented

@@ -19,7 +19,7 @@ use Rattle.wasm_defs.specs.Trees.{Seq}
 use Rattle.rv_isa.specs.declared.operations.Op.{Op}
 use Rattle.rv_isa.specs.Runs.{HasAt}
 use Rattle.wasm_defs.specs.Faults.{context_at, Module}
-use Rattle.wasm_defs.specs.Values.{Value, word_of as value_word}
+use Rattle.wasm_defs.specs.Values.{Value, word_of as value_word, words_of}
 use Rattle.wasm_defs.specs.Host.{Reply, are_of}
 use Rattle.wasm_defs.specs.Configurations.{Func, Function, Imported, Declared, Invocation, type_of}
 use Rattle.wasm_defs.specs.Reductions.{run}
@@ -36,14 +36,14 @@ use Rattle.image_format.specs.Bounds.{IsOffset}
 use Rattle.image_format.specs.Environment.{Entry, segments_of as image_segments, loaded}
 use Rattle.image_format.specs.ImageRun.{Running, begin, place_told, steps, image_run}
 use Rattle.image_format.specs.ImageRun as image_run
-use Rattle.simulation.specs.SameRuns.{SameRuns}
-use Rattle.sim_frames.specs.Functions.{TextPlaces, AreSited, Compiled, Known, Placed as IsPlaced}
+use Rattle.simulation.specs.SameRuns.{own_run, SameRuns}
+use Rattle.sim_frames.specs.Functions.{TextPlaces, StoreFits, AreSited, Compiled, Known, Placed as IsPlaced}
 use Rattle.sim_frames.proofs.Sited.{body_traps_alike}
 use Rattle.simulation.specs.Entries.{IsEntry}
 use Rattle.simulation.specs.Tables.{TableHolds}
 use Rattle.simulation.specs.Laws.{IsInvoked, ImportsStand, EnvironmentStands}
 use Rattle.simulation.proofs.Alike.{functions_run_alike}
-use Rattle.image_linker.specs.ImageOf.{around, distances, code_of_function, stub_places, places_from, front_size, places_of_functions, offset_of, row_of, table_of, segment_of, placed_segments, imports_of, stub_size, start_offset, text_of, image_of, place_at as trap_place, stub_traps, traps_of_function, traps_from, places_of_traps}
+use Rattle.image_linker.specs.ImageOf.{around, distances, code_of_function, stub_places, places_from, front_size, places_of_functions, offset_of, row_of, table_of, segment_of, placed_segments, segments_at_first, segment_words, imports_of, stub_size, start_offset, text_of, image_of, place_at as trap_place, stub_traps, traps_of_function, traps_from, places_of_traps}
 use Rattle.image_linker.specs.Judging.{sizes}
 use Rattle.image_linker.specs.Laws.{ImagesBehaveAlike}
 use Rattle.image_linker.specs.Same.{Same}
@@ -56,6 +56,7 @@ use Rattle.image_linker.proofs.Imported.{IsStub, get_left, get_right, index_righ
 use Rattle.image_linker.proofs.Placed.{Placed, code_is_short, text_length, exit_stands, stubs_stand, function_stands}
 use Rattle.image_linker.proofs.Spread.{IsAmong, among_left, among_right, place_in, told_among, all_sited, traps_stand}
 use Rattle.image_linker.proofs.Called.{IsSmall, IsFirst, is_called}
+use Rattle.image_linker.proofs.Segmented.{segment_words_length, segment_words_are_words, words_append}
 
 -- words that are in a text are in it
 has_inside : (code : List (Option Op)) (i : ℕ) (ops : List Op) → 0 < length ops → HasAt code i ops → i + length ops ≤ length code
@@ -80,16 +81,32 @@ module _ (m : Module) (good : IsCoveredModule m) (short : length (text_of m) ≤
   placed_are : is_linkable m ≡ true → image_segments (placed_segments m (is_linkable m)) ≡ data_of m.items
   placed_are can_link = ap (λ (b : Bool). image_segments (placed_segments m b)) can_link ∙ segments_again (data_of m.items)
 
+  abbrev segments : List (List ℕ)
+  segments = segments_at_first m
+
   small : is_linkable m ≡ true → IsSmall (image_of m)
   small can_link = record {
-    globals = omega (arith, length-map (values_of m.items) value_word, good.spaces.globals);
+    globals =
+        omega (
+          arith,
+          length-append (words_of (values_of m.items)) (segment_words 0 segments),
+          length-map (values_of m.items) value_word,
+          segment_words_length 0 segments,
+          good.spaces.globals,
+          good.counted.all,
+          good.counted.few,
+        );
     table = omega (arith, table_length can_link, good.spaces.rows);
     pages = good.spaces.pages;
     cap = good.spaces.cap;
     fit = subst (λ (ws : List (Written ℕ)). all_fit (page * pages_of m.items) ws ≡ true) (sym (placed_are can_link))
         (and_parts (all_fit (rows_of m.items) (elements_of m.items)) (all_fit (page * pages_of m.items) (data_of m.items)) can_link).1;
     bytes = subst HaveBytes (sym (placed_are can_link)) good.segments.bytes;
-    words = values_are_words m.items good.constants;
+    words =
+        words_append (words_of (values_of m.items)) (segment_words 0 segments) (values_are_words m.items good.constants)
+        (segment_words_are_words 0 segments (omega (arith, good.counted.held)));
+    passive = good.counted.held;
+    passive_bytes = good.counted.bytes;
   }
 
   first : is_linkable m ≡ true → (replies : List Reply) → IsFirst (image_of m) replies (store_of m replies)
@@ -97,6 +114,7 @@ module _ (m : Module) (good : IsCoveredModule m) (short : length (text_of m) ≤
     memory = ap (λ (ws : List (Written ℕ)). all_over (replicate (page * pages_of m.items) 0) ws) (sym (placed_are can_link));
     globals = refl;
     in_range = values_in_range m.items good.constants;
+    passive = refl;
     calls = refl;
     replies_are = refl;
   }
@@ -225,6 +243,7 @@ module _ (m : Module) (good : IsCoveredModule m) (short : length (text_of m) ≤
         no_labels = refl;
         types_are = refl;
         globals_are = refl;
+        segments_are = refl;
         locals_are = refl;
         results_are = refl;
         greatest_is = refl;
@@ -347,6 +366,9 @@ module _ (m : Module) (good : IsCoveredModule m) (short : length (text_of m) ≤
   few_params f = let small = function_is_small (context_of m.items) f good.types in small.params
 
   module _ (can_link : is_linkable m ≡ true) (replies : List Reply) where
+    fits_store : StoreFits (context_of m.items) (store_of m replies)
+    fits_store = record { globals = globals_typed m.items; segments = omega (arith, good.counted.all) }
+
     -- the image where a function is called from outside, and others perhaps afterwards
     invoked : (f : ℕ) (h : Function) → slice_get (functions_of m) f ≡ Some h → (arguments : List Value) (later : List (Entry × List ValType)) → are_of (type_of_function (context_of m.items) f).params arguments ≡ true
         → IsInvoked (type_of h) (places f) (cap_of m.items) (store_of m replies) arguments
@@ -383,12 +405,12 @@ module _ (m : Module) (good : IsCoveredModule m) (short : length (text_of m) ≤
 
       abbrev Alike : Option ℕ → Type 0
       Alike start =
-          SameRuns (λ k. module_run.run_of (run (instance_of m) k (first_state start (store_of m replies) (record { function = f; arguments = arguments })))) (λ n. image_run.run_of (steps (image_of m) n (first_by start)))
+          SameRuns (λ k. module_run.run_of (run (instance_of m) k (first_state start (store_of m replies) (record { function = f; arguments = arguments })))) (λ n. own_run (length (context_of m.items).globals) (image_run.run_of (steps (image_of m) n (first_by start))))
 
       by_start : (start : Option ℕ) → start_of m.items ≡ start → Alike start
       by_start None e =
           functions_run_alike (instance_of m) (image_of m) text_places h exported [] (store_of m replies) (begin (image_of m) replies entry []) (all_placed can_link) environment is
-          (invoked f h is arguments [] are) tt (globals_typed m.items) (table_called (instance_of m) text_places (image_of m) replies entry [] (table_now can_link)) (exit_stands m good) (code_is_short m short)
+          (invoked f h is arguments [] are) tt fits_store (table_called (instance_of m) text_places (image_of m) replies entry [] (table_now can_link)) (exit_stands m good) (code_is_short m short)
       by_start (Some s) e =
           let right = good.start s e in
           let takes = right.1 in
@@ -400,12 +422,12 @@ module _ (m : Module) (good : IsCoveredModule m) (short : length (text_of m) ≤
           let first_invoked : IsInvoked (type_of g.0) (places s) (cap_of m.items) (store_of m replies) [] r =
           subst (λ (results : List ValType). IsInvoked (type_of g.0) (places s) (cap_of m.items) (store_of m replies) [] (begin (image_of m) replies (record { offset = offset_of m s; arguments = [] }, results) (entry ∷ []))) takes.results
           (invoked s g.0 g.1 [] (entry ∷ []) none_given) in
-          let same = functions_run_alike (instance_of m) (image_of m) text_places g.0 (record { function = s; arguments = [] }) (exported ∷ []) (store_of m replies) r (all_placed can_link) environment g.1 first_invoked (is_entry, tt) (globals_typed m.items) (table_called (instance_of m) text_places (image_of m) replies (record { offset = start_offset m (Some s); arguments = [] }, []) (entry ∷ []) (table_now can_link)) (exit_stands m good) (code_is_short m short) in
-          subst (λ (q : Running). SameRuns (λ k. module_run.run_of (run (instance_of m) k (first_state (Some s) (store_of m replies) exported))) (λ n. image_run.run_of (steps (image_of m) n q)))
+          let same = functions_run_alike (instance_of m) (image_of m) text_places g.0 (record { function = s; arguments = [] }) (exported ∷ []) (store_of m replies) r (all_placed can_link) environment g.1 first_invoked (is_entry, tt) fits_store (table_called (instance_of m) text_places (image_of m) replies (record { offset = start_offset m (Some s); arguments = [] }, []) (entry ∷ []) (table_now can_link)) (exit_stands m good) (code_is_short m short) in
+          subst (λ (q : Running). SameRuns (λ k. module_run.run_of (run (instance_of m) k (first_state (Some s) (store_of m replies) exported))) (λ n. own_run (length (context_of m.items).globals) (image_run.run_of (steps (image_of m) n q))))
           (sym (cond-false (start_offset m (Some s) == 0) (begin (image_of m) replies entry []) r (ne_eqb (start_offset m (Some s)) 0 some))) same
 
     pub function_runs_alike : (f : ℕ) → f < length (context_functions m.items) → (arguments : List Value) → are_of (type_of_function (context_of m.items) f).params arguments ≡ true
-        → SameRuns (module_run m f arguments replies) (image_run (image_of m) (offset_of m f) (type_of_function (context_of m.items) f).results arguments replies)
+        → SameRuns (module_run m f arguments replies) (λ n. own_run (length (context_of m.items).globals) (image_run (image_of m) (offset_of m f) (type_of_function (context_of m.items) f).results arguments replies n))
     function_runs_alike f within arguments are =
         let h = function_at f within in
         by_start f h.0 h.1 arguments are (start_of m.items) refl

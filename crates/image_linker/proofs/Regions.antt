@@ -1,5 +1,5 @@
 -- Instruction words in the bytes of a region, one after the other.
-use Rattle.std.proofs.Common.{◌≡◌, ℕ, zero, suc, ◌+◌, ◌*◌, ◌/◌, ◌^◌, ◌<◌, List, [], ◌∷◌, ◌++◌, length, take, Some, refl, sym, ap, ◌∙◌, arith, append_assoc, length-append}
+use Rattle.std.proofs.Common.{◌≡◌, ℕ, zero, suc, ◌+◌, ◌*◌, ◌^◌, ◌<◌, List, [], ◌∷◌, ◌++◌, length, take, Some, refl, sym, ap, ◌∙◌, arith, append_assoc, length-append}
 use Rattle.std.specs.Prelude.{slice_get}
 use Rattle.std.proofs.lemmas.List.{drop_at, take_at}
 use Rattle.rv_isa.specs.Steps.{le_value, le_bytes}
@@ -27,21 +27,21 @@ word_behind front from w back len small =
     ∙ ap le_value (take_at (le_bytes 8 w) back 8 (length-le_bytes 8 w))
     ∙ le_value-le_bytes 8 w small
 
-words_behind : (front : List ℕ) (from : ℕ) (ws : List ℕ) → length front ≡ 8 * from → AreWords ws → words_at (front ++ word_bytes ws) from (length ws) ≡ ws
-words_behind front from [] len small = refl
-words_behind front from (w ∷ ws) len small =
+-- words after others, with more words after them
+words_behind : (front : List ℕ) (from : ℕ) (ws more : List ℕ) → length front ≡ 8 * from → AreWords ws → words_at (front ++ word_bytes (ws ++ more)) from (length ws) ≡ ws
+words_behind front from [] more len small = refl
+words_behind front from (w ∷ ws) more len small =
     let next = front ++ le_bytes 8 w in
+    let later = word_bytes (ws ++ more) in
     let longer : length next ≡ 8 * (from + 1) = length-append front (le_bytes 8 w) ∙ omega (arith, len, length-le_bytes 8 w) in
-    let same : front ++ (le_bytes 8 w ++ word_bytes ws) ≡ next ++ word_bytes ws = sym (append_assoc front (le_bytes 8 w) (word_bytes ws)) in
-    ap (λ (n : ℕ). n ∷ words_at (front ++ (le_bytes 8 w ++ word_bytes ws)) (from + 1) (length ws)) (word_behind front from w (word_bytes ws) len small.0)
+    let same : front ++ (le_bytes 8 w ++ later) ≡ next ++ later = sym (append_assoc front (le_bytes 8 w) later) in
+    ap (λ (n : ℕ). n ∷ words_at (front ++ (le_bytes 8 w ++ later)) (from + 1) (length ws)) (word_behind front from w later len small.0)
     ∙ ap (λ (l : List ℕ). w ∷ words_at l (from + 1) (length ws)) same
-    ∙ ap (λ (l : List ℕ). w ∷ l) (words_behind next (from + 1) ws longer small.1)
+    ∙ ap (λ (l : List ℕ). w ∷ l) (words_behind next (from + 1) ws more longer small.1)
 
--- the words of a region are read back
-pub words_are_read : (ws : List ℕ) → AreWords ws → words_at (word_bytes ws) 0 (length (word_bytes ws) / 8) ≡ ws
-words_are_read ws small =
-    let count : length (word_bytes ws) / 8 ≡ length ws = omega (arith, word_bytes_length ws) in
-    ap (λ (n : ℕ). words_at (word_bytes ws) 0 n) count ∙ words_behind [] 0 ws (omega arith) small
+-- the first words of a region are read back
+pub first_words_are_read : (ws more : List ℕ) → AreWords ws → words_at (word_bytes (ws ++ more)) 0 (length ws) ≡ ws
+first_words_are_read ws more small = words_behind [] 0 ws more (omega arith) small
 
 word_among : (front : List ℕ) (from : ℕ) (ws : List ℕ) (i w : ℕ) → length front ≡ 8 * from → AreWords ws → slice_get ws i ≡ Some w → word_at (front ++ word_bytes ws) (from + i) ≡ w
 word_among front from [] i w len small is = absurd cc

@@ -1,17 +1,18 @@
 -- The image of a module has few enough bytes to be written.
-use Rattle.std.proofs.Common.{◌≡◌, ℕ, ◌+◌, ◌*◌, ◌≤◌, Bool, true, false, List, [], ◌∷◌, ◌++◌, map, length, refl, arith}
+use Rattle.std.proofs.Common.{◌≡◌, ℕ, ◌+◌, ◌*◌, ◌≤◌, Bool, true, false, List, [], ◌∷◌, ◌++◌, map, length, length-append, refl, arith}
 use Rattle.std.specs.Prelude.{sum_by, slice_get}
 use Rattle.std.specs.List.{All}
 use Rattle.std.proofs.lemmas.List.Elements.{All-head, All-tail}
 use Rattle.std.proofs.lemmas.List.Sums.{sum_by-cons}
 use Rattle.wasm_defs.specs.declared.item.Item.{Item}
-use Rattle.wasm_defs.specs.declared.item.Item.TheVariants.{Signature, Imported, Function, Table, Memory, Global, Exported, Start, Element, Code, Segment}
+use Rattle.wasm_defs.specs.declared.item.Item.TheVariants.{Imported, Exported, Passive, Segment}
 use Rattle.wasm_defs.specs.declared.item.Extern.TheVariants as extern
 use Rattle.wasm_defs.specs.declared.types.ValType.{ValType}
 use Rattle.wasm_defs.specs.Faults.{Module}
-use Rattle.wasm_defs.specs.Instances.{exports_of, data_of, i32_value, is_linkable}
+use Rattle.wasm_defs.specs.Instances.{exports_of, data_of, segments_of, i32_value, is_linkable}
 use Rattle.wasm_defs.specs.Typing.{Context}
-use Rattle.wasm_defs.specs.Context.{context_of, type_or_empty}
+use Rattle.wasm_defs.specs.Context.{context_of, data_count_of, type_or_empty}
+use Rattle.wasm_defs.specs.Entries.{or_zero}
 use Rattle.wasm_laws.specs.Held.{all_held}
 use Rattle.wasm_laws.proofs.Bytes.{each_byte}
 use Rattle.wasm_laws.proofs.Described.{module_is_described}
@@ -21,13 +22,15 @@ use Rattle.image_format.specs.declared.image.Import.{Import}
 use Rattle.image_format.specs.declared.image.Export.{Export}
 use Rattle.image_format.specs.declared.image.TrapPlace.{TrapPlace}
 use Rattle.image_format.specs.declared.version.Version.{Version}
-use Rattle.image_format.specs.declared.version.Version.TheVariants.{One, Two}
+use Rattle.image_format.specs.declared.version.Version.TheVariants.{One, Two, Three}
+use Rattle.image_format.specs.Versions.{most_globals}
 use Rattle.image_format.specs.Bounds.{Each, IsImport, ExportFits}
 use Rattle.image_format.specs.Contents.{Image, IsImage}
-use Rattle.image_format.specs.Sizes.{results_size, segment_size, import_size, export_size, places_size, size_of}
+use Rattle.image_format.specs.Sizes.{results_size, segment_size, import_size, export_size, places_size, passive_size, size_of}
 use Rattle.image_format.proofs.Sizes.{spelling_size}
-use Rattle.image_linker.specs.ImageOf.{segment_of, placed_segments, imports_of, export_of, image_of}
+use Rattle.image_linker.specs.ImageOf.{segment_of, placed_segments, imports_of, export_of, joined, image_of}
 use Rattle.image_linker.specs.Laws.{ImagesAreShort}
+use Rattle.image_linker.proofs.NamedRows.{joined_first}
 use Rattle.image_linker.proofs.Bounded.{images_keep_bounds, traps_are_few}
 
 -- ---- what the lists of an image keep of a module's items
@@ -43,30 +46,26 @@ export_name e = length e.name
 
 module _ (m : Module) (c : Context) where
   abbrev kept : List Item → ℕ
-  kept items = sum_by data_bytes (map segment_of (data_of items)) + sum_by import_names (imports_of c items) + sum_by export_name (map (export_of m) (exports_of items))
+  kept items =
+      sum_by data_bytes (map segment_of (data_of items)) + sum_by import_names (imports_of c items) + sum_by export_name (map (export_of m) (exports_of items))
+      + length (joined (segments_of items))
 
   kept_is_held : (items : List Item) → kept items ≤ all_held items
   kept_is_held [] = omega arith
-  kept_is_held (Signature form params results ty ∷ xs) = omega (arith, kept_is_held xs)
   kept_is_held (Imported from what kind type_index ∷ xs) =
       let names = sum_by-cons import_names (record { «module» = from.1; name = what.1; signature = type_or_empty (slice_get c.types type_index.1) }) (imports_of c xs) in
       omega (arith, names, kept_is_held xs)
-  kept_is_held (Function type_index ∷ xs) = omega (arith, kept_is_held xs)
-  kept_is_held (Table element limits ∷ xs) = omega (arith, kept_is_held xs)
-  kept_is_held (Memory limits ∷ xs) = omega (arith, kept_is_held xs)
-  kept_is_held (Global ty mutable init ∷ xs) = omega (arith, kept_is_held xs)
   kept_is_held (Exported name (at, extern.Function) index ∷ xs) =
       let names = sum_by-cons export_name (export_of m (name.1, index.1)) (map (export_of m) (exports_of xs)) in
       omega (arith, names, kept_is_held xs)
   kept_is_held (Exported name (at, extern.Table) index ∷ xs) = omega (arith, kept_is_held xs)
   kept_is_held (Exported name (at, extern.Memory) index ∷ xs) = omega (arith, kept_is_held xs)
   kept_is_held (Exported name (at, extern.Global) index ∷ xs) = omega (arith, kept_is_held xs)
-  kept_is_held (Start index ∷ xs) = omega (arith, kept_is_held xs)
-  kept_is_held (Element table place functions ∷ xs) = omega (arith, kept_is_held xs)
-  kept_is_held (Code count end ∷ xs) = omega (arith, kept_is_held xs)
-  kept_is_held (Segment memory place bytes ∷ xs) =
+  kept_is_held (Passive form bytes ∷ xs) = omega (arith, length-append bytes.1 (joined (segments_of xs)), kept_is_held xs)
+  kept_is_held (Segment form memory place bytes ∷ xs) =
       let kept_data = sum_by-cons data_bytes (segment_of (i32_value place, bytes.1)) (map segment_of (data_of xs)) in
       omega (arith, kept_data, kept_is_held xs)
+  kept_is_held (x ∷ xs) = omega (arith, kept_is_held xs)
 
 placed_is_less : (m : Module) (b : Bool) → sum_by data_bytes (placed_segments m b) ≤ sum_by data_bytes (map segment_of (data_of m.items))
 placed_is_less m true = omega arith
@@ -114,8 +113,19 @@ exports_size words front (x ∷ xs) h =
 places_bounded : (v : Version) (ps : List TrapPlace) → places_size v ps ≤ 4 + 12 * length ps
 places_bounded One ps = omega arith
 places_bounded Two ps = omega arith
+places_bounded Three ps = omega arith
 
-size_is_bounded : (i : Image) → IsImage i → 3 * length i.places ≤ length i.text → sum_by data_bytes i.segments + sum_by import_names i.imports + sum_by export_name i.exports ≤ 67108864 → size_of i ≤ 1073741824
+passive_bounded : (v : Version) (bytes : List ℕ) → passive_size v bytes ≤ 4 + length bytes
+passive_bounded One bytes = omega arith
+passive_bounded Two bytes = omega arith
+passive_bounded Three bytes = omega arith
+
+globals_bounded : (v : Version) → most_globals v ≤ 300000
+globals_bounded One = omega arith
+globals_bounded Two = omega arith
+globals_bounded Three = omega arith
+
+size_is_bounded : (i : Image) → IsImage i → 3 * length i.places ≤ length i.text → sum_by data_bytes i.segments + sum_by import_names i.imports + sum_by export_name i.exports + length i.passive ≤ 67108864 → size_of i ≤ 1073741824
 size_is_bounded i bounded traps held =
     let words = bounded.text.most in
     let globals = bounded.globals.0 in
@@ -127,7 +137,9 @@ size_is_bounded i bounded traps held =
     let b = imports_size i.imports bounded.imports.1 in
     let c = exports_size (length i.text) [] i.exports bounded.exports.1 in
     let d = places_bounded i.version i.places in
-    omega (arith, words, globals, rows, segments, imports, exports, a, b, c, d, traps, held)
+    let e = passive_bounded i.version i.passive in
+    let f = globals_bounded i.version in
+    omega (arith, words, globals, rows, segments, imports, exports, a, b, c, d, e, f, traps, held)
 
 pub images_are_short : ImagesAreShort
 images_are_short bytes m fits is =
@@ -137,5 +149,6 @@ images_are_short bytes m fits is =
     let short = d.1.kept.short in
     let held = kept_is_held m (context_of m.items) m.items in
     let placed = placed_is_less m (is_linkable m) in
-    let size = size_is_bounded (image_of m) bounded (traps_are_few bytes m fits is) (omega (arith, all, short, held, placed)) in
+    let passive = joined_first (or_zero (data_count_of m.items)) (segments_of m.items) in
+    let size = size_is_bounded (image_of m) bounded (traps_are_few bytes m fits is) (omega (arith, all, short, held, placed, passive)) in
     omega (arith, spelling_size (image_of m), size)

@@ -3,7 +3,8 @@ use Rattle.std.specs.Prelude.{ℕ, zero, suc, ◌+◌, ◌*◌, Bool, true, fals
 use Rattle.rv_isa.specs.declared.compiled.TrapSite.{TrapSite}
 use Rattle.rv_isa.specs.declared.operations.Op.{Op}
 use Rattle.rv_isa.specs.Words.{word_of}
-use Rattle.rv_isa.specs.Steps.{text_base}
+use Rattle.rv_isa.specs.declared.stepping.Region.TheVariants.{Passive}
+use Rattle.rv_isa.specs.Steps.{text_base, region_base}
 use Rattle.wasm_defs.specs.declared.item.Item.{Item}
 use Rattle.wasm_defs.specs.declared.item.Item.TheVariants.{Imported}
 use Rattle.wasm_defs.specs.Outside.{Body}
@@ -13,13 +14,14 @@ use Rattle.wasm_defs.specs.Context.{context_of, import_count, type_or_empty, typ
 use Rattle.wasm_defs.specs.Faults.{read_of, context_at, Module}
 use Rattle.wasm_defs.specs.Values.{words_of}
 use Rattle.wasm_defs.specs.Places.{places_of, greatest}
-use Rattle.wasm_defs.specs.Instances.{rows_of, pages_of, cap_of, values_of, data_of, is_linkable, instance_of, start_of, exports_of, origin_of}
+use Rattle.wasm_defs.specs.Instances.{rows_of, pages_of, cap_of, values_of, data_of, is_linkable, instance_of, store_of, start_of, exports_of, origin_of}
 use Rattle.frame_layout.specs.declared.layout.Layout.{Layout}
 use Rattle.frame_layout.specs.Macros.{distance}
 use Rattle.frame_layout.specs.Templates.{Around, import_stub, exit_stub}
 use Rattle.frame_layout.specs.Traps.{room_trap, site_at}
 use Rattle.frame_layout.specs.Functions.{no_distance, function_code, sites_of}
-use Rattle.image_format.specs.declared.version.Version.TheVariants.{Two}
+use Rattle.image_format.specs.declared.version.Version.{Version}
+use Rattle.image_format.specs.declared.version.Version.TheVariants.{Two, Three}
 use Rattle.image_format.specs.Contents.{Image}
 use Rattle.image_format.specs.declared.image.Row.{Row}
 use Rattle.image_format.specs.declared.image.Segment.{Segment}
@@ -159,11 +161,32 @@ abbrev pub placed_segments : Module → Bool → List Segment
 placed_segments m true = map segment_of (data_of m.items)
 placed_segments m false = []
 
+-- ---- data segments that bodies may name
+
+-- the bytes of each when a run begins: none where it is active
+abbrev pub segments_at_first : Module → List (List ℕ)
+segments_at_first m = (store_of m []).segments
+
+-- Two words for each: its length, and the address of its bytes in the region of passive bytes, of which so many are before.
+abbrev pub segment_words : (before : ℕ) → List (List ℕ) → List ℕ
+segment_words before [] = []
+segment_words before (s ∷ ss) = length s ∷ (region_base Passive + before) ∷ segment_words (before + length s) ss
+
+-- the bytes of all
+abbrev pub joined : List (List ℕ) → List ℕ
+joined [] = []
+joined (s ∷ ss) = s ++ joined ss
+
+-- the version of an image, by how many there are
+abbrev pub version_for : (segments : ℕ) → Version
+version_for zero = Two
+version_for (suc n) = Three
+
 abbrev pub image_of : Module → Image
 image_of m = record {
-  version = Two;
+  version = version_for (context_of m.items).segments;
   text = map word_of (text_of m);
-  globals = words_of (values_of m.items);
+  globals = words_of (values_of m.items) ++ segment_words 0 (segments_at_first m);
   table = table_of m (is_linkable m);
   pages = pages_of m.items;
   cap = cap_of m.items;
@@ -173,4 +196,5 @@ image_of m = record {
   start = start_offset m (start_of m.items);
   unlinkable = not (is_linkable m);
   places = places_of_traps m;
+  passive = joined (segments_at_first m);
 }

@@ -1,5 +1,5 @@
 -- What is linked: the index spaces of a module and the codes of its functions.
-use Rattle.std.specs.Prelude.{ℕ, ℤ, ◌+◌, ◌*◌, ◌^◌, ◌<◌, ◌&&◌, Bool, true, false, not, List, [], ◌∷◌, ◌++◌, map, length, replicate, suc, Option, None, Some, nat_lt, slice_get, slice_index, if◌then◌else◌}
+use Rattle.std.specs.Prelude.{ℕ, ℤ, ◌+◌, ◌*◌, ◌^◌, ◌<◌, ◌&&◌, Bool, true, false, not, List, [], ◌∷◌, ◌++◌, map, take, length, replicate, suc, Option, None, Some, nat_lt, slice_get, slice_index, if◌then◌else◌}
 use Rattle.std.specs.List.{All}
 use Rattle.rv_isa.specs.Words.{word_of}
 use Rattle.rv_isa.specs.declared.compiled.Code.{Code}
@@ -14,7 +14,6 @@ use Rattle.wasm_laws.specs.Kept.{FitsType}
 use Rattle.frame_layout.specs.Templates.{import_stub, exit_stub}
 use Rattle.frame_layout.specs.Traps.{room_trap, site_at}
 use Rattle.frame_layout.specs.Functions.{with_distances}
-use Rattle.image_format.specs.declared.version.Version.TheVariants.{Two}
 use Rattle.image_format.specs.Contents.{Image}
 use Rattle.image_format.specs.declared.image.Row.{Row}
 use Rattle.image_format.specs.declared.image.Import.{Import as Imported}
@@ -24,9 +23,9 @@ use Rattle.image_format.specs.declared.image.TrapPlace.{TrapPlace}
 use Rattle.index_spaces.specs.declared.entries.Import.{Import}
 use Rattle.index_spaces.specs.declared.entries.ElementRow.{ElementRow}
 use Rattle.index_spaces.specs.declared.entries.DataRow.{DataRow}
-use Rattle.index_spaces.specs.Entries.{function_exports, initial_values, written_rows, written_segments}
+use Rattle.index_spaces.specs.Entries.{function_exports, initial_values, written_rows, written_segments, segments_at_first}
 use Rattle.index_spaces.specs.Spaces.{Spaces, context_in}
-use Rattle.image_linker.specs.ImageOf.{stub_size, front_of, stub_places, distances, place_at}
+use Rattle.image_linker.specs.ImageOf.{stub_size, front_of, stub_places, distances, place_at, segment_of, segment_words, joined, version_for}
 
 -- the words of the codes, one after the other
 abbrev pub words_of : List Code → List ℕ
@@ -121,16 +120,13 @@ linked_rows s starts false = replicate (first_minimum s.tables) empty_row
 abbrev pub has_room : Spaces → Bool
 has_room s = all_fit (first_minimum s.tables) (written_rows s.elements) && all_fit (page * first_minimum s.memories) (written_segments s.segments)
 
-abbrev pub placed_row : DataRow → Segment
-placed_row r = record { place = r.place; bytes = r.bytes }
-
 abbrev pub linked_segments : Bool → List DataRow → List Segment
-linked_segments true rows = map placed_row rows
+linked_segments true rows = map segment_of (written_segments rows)
 linked_segments false rows = []
 
--- rows of an image have places of 32 bits, as those that fit into a memory do
+-- segments of an image have addresses of 32 bits, as those that fit into a memory do
 abbrev pub ArePlaced : Bool → List DataRow → Type 0
-ArePlaced true rows = All (λ r. r.place < 2 ^ 32) rows
+ArePlaced true rows = All (λ w. w.0 < 2 ^ 32) (written_segments rows)
 ArePlaced false rows = Unit {0}
 
 -- the index spaces, with these data segments
@@ -141,6 +137,10 @@ with_segments s segments = record s { segments = segments }
 abbrev pub global_words : Spaces → List ℕ
 global_words s = value.words_of (initial_values s.globals s.initials)
 
+-- the bytes of the data segments that instructions may name, when a run begins
+abbrev pub named_segments : Spaces → List (List ℕ)
+named_segments s = segments_at_first (take (context_in s).segments s.segments)
+
 -- the numbers of the globals' constants are of the globals' types
 abbrev pub NumbersFit : List GlobalType → List ℤ → Type 0
 NumbersFit [] [] = Unit {0}
@@ -150,9 +150,9 @@ NumbersFit globals numbers = ⊥
 -- the image of a module
 abbrev pub linked : Spaces → List Code → Image
 linked s codes = record {
-  version = Two;
+  version = version_for (context_in s).segments;
   text = front_words s ++ words_from (starts_of s codes) (front_of (length s.imports)) codes;
-  globals = global_words s;
+  globals = global_words s ++ segment_words 0 (named_segments s);
   table = linked_rows s (starts_of s codes) (has_room s);
   pages = first_minimum s.memories;
   cap = first_cap s.memories;
@@ -162,4 +162,5 @@ linked s codes = record {
   start = linked_start (starts_of s codes) s.start;
   unlinkable = not (has_room s);
   places = linked_traps s codes;
+  passive = joined (named_segments s);
 }

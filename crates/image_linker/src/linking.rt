@@ -20,15 +20,16 @@ ghost use Rattle.image_format.specs.Bounds.{AreImports};
 ghost use Rattle.image_format.specs.Contents.{IsImage};
 ghost use Rattle.index_spaces.specs.Entries.{function_exports};
 ghost use Rattle.image_linker.specs.Bodies.{codes_of};
-ghost use Rattle.image_linker.specs.ImageOf.{front_of, distances};
+ghost use Rattle.image_linker.specs.ImageOf.{front_of, distances, version_for};
 ghost use Rattle.image_linker.specs.Signatures.{AreOf};
-ghost use Rattle.image_linker.specs.Linking.{NumbersFit, words_of, words_from, starts_behind, front_words, has_room, with_segments, linked, linked_export, linked_import, linked_start};
+ghost use Rattle.image_linker.specs.Linking.{NumbersFit, words_of, words_from, starts_behind, front_words, has_room, with_segments};
+ghost use Rattle.image_linker.specs.Linking.{linked, linked_export, linked_import, linked_start};
 
 use crate::codes::BodyCode;
 use crate::imports::{front, front_of, imports_of, stub_places};
-use crate::segments::{have_room, placed_segments};
+use crate::segments::{have_room, named_rows, passive_bytes, placed_segments};
 use crate::signatures::{no_copies, signature_of};
-use crate::spaces::{first_cap, first_minimum, global_words};
+use crate::spaces::{all_words, first_cap, first_minimum};
 use crate::tables::{have_rows, rows_of};
 use crate::trap_places::places_of;
 use frame_layout::macros::{call, distance};
@@ -39,7 +40,7 @@ use image_format::{
 use index_spaces::{Context, DataRow, copy_of_name};
 use rv_isa::{Relocation, encode};
 use std::alloc::{AllocError, Global};
-use wasm_defs::Extern;
+use wasm_defs::{Bytes, Extern};
 
 /// The index of a function's first instruction word, or 0 where it has none.
 pub(crate) fn start_at(starts: &[u32], function: u32) -> u32
@@ -174,6 +175,16 @@ fn start_of(starts: &[u32], start: Option<u32>) -> u32
     }
 }
 
+/// The version of an image with so many data segments that instructions may name.
+fn version_for(count: u32) -> Version
+    ensures { result ≡ version_for count }
+{
+    match count {
+        0 => Version::Two,
+        _ => Version::Three,
+    }
+}
+
 /// Links the codes of a module's declared functions, in the order of their indices, and its data segments to the module's image.
 ///
 /// Each call leads to its function, or to the stub of an imported one, and so do the rows of the table. The image says of each trap
@@ -181,6 +192,9 @@ fn start_of(starts: &[u32], start: Option<u32>) -> u32
 /// images, and the numbers of the globals' constants are of the globals' types. All segments are looked at before any is written:
 /// where one is out of bounds in the table or the memory, the image has no row with a function and no data segment, and is marked
 /// as one that can't be instantiated.
+///
+/// The words of the globals are followed by two for each data segment that instructions may name, whose bytes the image has
+/// besides: where there are such segments, it has version 3, and else version 2.
 pub fn link(
     alloc: Global,
     context: &Context,
@@ -196,14 +210,15 @@ pub fn link(
     let mut copies = no_copies(alloc, context.types())?;
     let exports = exports_of(alloc, context, &starts, &mut copies)?;
     let imports = imports_of(alloc, context, &mut copies)?;
-    let globals = global_words(alloc, context)?;
+    let named = named_rows(context.segment_count(), segments);
+    let globals = all_words(alloc, context, named)?;
     let pages = first_minimum(context.memories());
     let linkable = is_linkable(context, segments);
     let table = rows_of(alloc, context, &starts, linkable)?;
     let placed = placed_segments(alloc, linkable, segments)?;
     let traps = places_of(alloc, context, codes)?;
     Ok(Image {
-        version: Version::Two,
+        version: version_for(context.segment_count()),
         text: Text::new(text),
         globals: Globals::new(globals),
         table: Table::new(table),
@@ -215,5 +230,6 @@ pub fn link(
         start: start_of(&starts, context.start()),
         unlinkable: !linkable,
         places: TrapPlaces::new(traps),
+        passive: Bytes::new(passive_bytes(alloc, named)?),
     })
 }

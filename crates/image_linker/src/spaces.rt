@@ -1,10 +1,15 @@
 //! What an image has of its module's tables, memories and globals.
 
-ghost use Rattle.std.specs.Prelude.{◌≡◌, IfOk};
+ghost use Rattle.std.specs.Prelude.{◌≡◌, ◌+◌, ◌<◌, ◌^◌, ◌++◌, length, IfOk};
+ghost use Rattle.rv_isa.specs.Steps.{region_base};
+ghost use Rattle.rv_isa.specs.declared.stepping.Region.TheVariants.{Passive};
 ghost use Rattle.wasm_defs.specs.Instances.{first_minimum, first_cap};
+ghost use Rattle.index_spaces.specs.Entries.{segments_at_first};
+ghost use Rattle.image_linker.specs.ImageOf.{segment_words, joined};
 ghost use Rattle.image_linker.specs.Linking.{NumbersFit, global_words};
 
-use index_spaces::Context;
+use crate::segments::put_words;
+use index_spaces::{Context, DataRow};
 use std::alloc::{AllocError, Global};
 use wasm_defs::{Limits, MAX_PAGES};
 
@@ -32,7 +37,7 @@ pub(crate) fn first_cap(memories: &[Limits]) -> u32
 }
 
 /// The 64-bit values that the globals begin with: a number of 32 bits is extended by its sign.
-pub(crate) fn global_words(alloc: Global, context: &Context) -> Result<Vec<u64>, AllocError>
+fn global_words(alloc: Global, context: &Context) -> Result<Vec<u64>, AllocError>
     requires { NumbersFit context.now.globals context.now.initials }
     ensures { IfOk result (λ words. words.items ≡ global_words context.now) }
 {
@@ -41,5 +46,20 @@ pub(crate) fn global_words(alloc: Global, context: &Context) -> Result<Vec<u64>,
     for number in numbers {
         words.push(number.cast_unsigned())?;
     }
+    Ok(words)
+}
+
+/// The words that an image has for the globals, and after them those for these data segments.
+pub(crate) fn all_words(
+    alloc: Global,
+    context: &Context,
+    named: &[DataRow],
+) -> Result<Vec<u64>, AllocError>
+    requires numbers { NumbersFit context.now.globals context.now.initials }
+    requires passive { region_base Passive + length (joined (segments_at_first named.now)) < 2 ^ 64 }
+    ensures { IfOk result (λ words. words.items ≡ global_words context.now ++ segment_words 0 (segments_at_first named.now)) }
+{
+    let mut words = global_words(alloc, context)?;
+    put_words(&mut words, named)?;
     Ok(words)
 }

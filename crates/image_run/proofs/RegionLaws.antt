@@ -1,8 +1,12 @@
 -- The regions that an image is loaded to.
-use Rattle.std.proofs.Common.{◌≡◌, ℕ, ◌*◌, ◌≤◌, List, length, take, ap, ◌∙◌, arith}
+use Rattle.std.proofs.Common.{◌≡◌, ℕ, ◌*◌, ◌≤◌, List, [], length, take, ap, ◌∙◌, arith}
 use Rattle.rv_isa.specs.Steps.{Bytes}
 use Rattle.wasm_defs.specs.Memory.{page}
 use Rattle.wasm_defs.specs.Instances.{all_over}
+use Rattle.image_format.specs.declared.version.Version.{Version}
+use Rattle.image_format.specs.declared.version.Version.TheVariants.{One, Two, Three}
+use Rattle.image_format.specs.Versions.{most_globals}
+use Rattle.image_format.specs.Bounds.{IsPassive}
 use Rattle.image_format.specs.Contents.{Image}
 use Rattle.image_format.specs.declared.image.Row.{Row}
 use Rattle.image_format.specs.Environment.{stack_size, loaded, word_bytes, row_words, segments_of}
@@ -10,12 +14,13 @@ use Rattle.image_run.specs.States.{IsLoaded, first_memory, zeros}
 use Rattle.image_run.proofs.WordLaws.{length-word_bytes, length-row_words}
 
 pub loaded_is : (i : Image) (size : ℕ) (b : Bytes) → size ≡ stack_size → b.stack ≡ zeros size → b.globals ≡ word_bytes i.globals → b.table ≡ word_bytes (row_words i.table)
-    → b.memory ≡ all_over (zeros (page * i.cap)) (segments_of i.segments) → IsLoaded i b
+    → b.memory ≡ all_over (zeros (page * i.cap)) (segments_of i.segments) → b.passive ≡ i.passive → IsLoaded i b
 unfolding IsLoaded zeros
-loaded_is i size b is stack globals table memory =
+loaded_is i size b is stack globals table memory passive =
     ap (λ (x : List ℕ). record b { globals = x }) globals
     ∙ ap (λ (x : List ℕ). record b { globals = word_bytes i.globals; table = x }) table
     ∙ ap (λ (x : List ℕ). record b { globals = word_bytes i.globals; table = word_bytes (row_words i.table); memory = x }) memory
+    ∙ ap (λ (x : List ℕ). record (loaded i) { stack = b.stack; passive = x }) passive
     ∙ ap (λ (x : List ℕ). record (loaded i) { stack = x }) (stack ∙ ap zeros is)
 
 -- the pages that the memory has at first
@@ -23,8 +28,18 @@ pub first_is : (i : Image) (b : Bytes) (pages : ℕ) → IsLoaded i b → pages 
 unfolding IsLoaded first_memory
 first_is i b pages is pages_are = ap (λ n. take (page * n) b.memory) pages_are ∙ ap (λ (x : Bytes). take (page * i.pages) x.memory) is
 
-pub globals_short : (globals bytes : List ℕ) → bytes ≡ word_bytes globals → length globals ≤ 100000 → length bytes ≤ 800000
-globals_short globals bytes e few = omega (arith, ap length e, length-word_bytes globals)
+pub globals_few : (v : Version) → most_globals v ≤ 300000
+globals_few One = omega arith
+globals_few Two = omega arith
+globals_few Three = omega arith
+
+pub globals_short : (v : Version) (globals bytes : List ℕ) → bytes ≡ word_bytes globals → length globals ≤ most_globals v → length bytes ≤ 2400000
+globals_short v globals bytes e few = omega (arith, ap length e, length-word_bytes globals, globals_few v)
+
+pub passive_short : (v : Version) (bytes : List ℕ) → IsPassive v bytes → length bytes ≤ 67108864
+passive_short One bytes fits = let none = ap (λ (l : List ℕ). length l) fits in omega arith
+passive_short Two bytes fits = let none = ap (λ (l : List ℕ). length l) fits in omega arith
+passive_short Three bytes fits = omega arith
 
 pub table_short : (table : List Row) (bytes : List ℕ) → bytes ≡ word_bytes (row_words table) → length table ≤ 100000 → length bytes ≤ 1600000
 table_short table bytes e few = omega (arith, ap length e, length-word_bytes (row_words table), length-row_words table)

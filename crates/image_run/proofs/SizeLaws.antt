@@ -1,7 +1,7 @@
 -- What is written to a region is as long as what stood there.
 use Rattle.std.proofs.Common.{◌≡◌, ℕ, ◌+◌, ◌≤◌, List, ◌++◌, take, drop, length, refl, sym, ap, ◌∙◌, subst, arith, length-append, length-take, length-drop}
 use Rattle.rv_isa.specs.declared.stepping.Region.{Region}
-use Rattle.rv_isa.specs.declared.stepping.Region.TheVariants.{Stack, Globals, Table, Memory}
+use Rattle.rv_isa.specs.declared.stepping.Region.TheVariants.{Stack, Globals, Table, Memory, Passive}
 use Rattle.rv_isa.specs.Steps.{region, put}
 use Rattle.rv64im_machine.specs.Contents.{Contents as Machine}
 use Rattle.rv64im_machine.specs.Lending.{with_bytes}
@@ -16,6 +16,7 @@ kept m Stack at new inside = record { code = refl; stack = length-put at m.bytes
 kept m Globals at new inside = record { code = refl; stack = refl; memory = refl; backed = refl }
 kept m Table at new inside = record { code = refl; stack = refl; memory = refl; backed = refl }
 kept m Memory at new inside = record { code = refl; stack = refl; memory = length-put at m.bytes.memory new inside; backed = refl }
+kept m Passive at new inside = record { code = refl; stack = refl; memory = refl; backed = refl }
 
 pub written_keeps : (old now : Machine) (r : Region) (at : ℕ) (new : List ℕ) → at + length new ≤ length (region old.bytes r) → now ≡ with_bytes old r (put (length new) at (region old.bytes r) new) → Keeps old now
 written_keeps old now r at new inside is = subst (Keeps old) (sym is) (kept old r at new inside)

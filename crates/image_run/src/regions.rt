@@ -23,7 +23,7 @@ fn zeros(alloc: Global, size: usize) -> Result<Vec<u8>, AllocError>
 
 /// The bytes of the globals.
 fn globals_of(alloc: Global, words: &[u64]) -> Result<Vec<u8>, AllocError>
-    requires { length words.now ≤ 100000 }
+    requires { length words.now ≤ 300000 }
     ensures { IfOk result (λ v. v.items ≡ word_bytes words.now) }
 {
     let mut bytes = Vec::with_capacity(alloc, 8 * words.len())?;
@@ -82,10 +82,11 @@ fn memory_of(
 pub(crate) fn regions_of(alloc: Global, image: &Image) -> Result<Regions, AllocError>
     ensures loaded { IfOk result (λ r. IsLoaded image.now (bytes_of r)) }
     ensures stack { IfOk result (λ r. length r.stack.items ≡ 1048576) }
-    ensures globals { IfOk result (λ r. length r.globals.items ≤ 800000) }
+    ensures globals { IfOk result (λ r. length r.globals.items ≤ 2400000) }
     ensures table { IfOk result (λ r. length r.table.items ≤ 1600000) }
     ensures memory { IfOk result (λ r. length r.memory.bytes ≡ page * image.now.cap) }
     ensures backed { IfOk result (λ r. r.memory.backed ≡ page * image.now.pages) }
+    ensures passive { IfOk result (λ r. length r.passive.items ≤ 67108864) }
 {
     let size = PAGE as usize * image.cap as usize;
     let stack = zeros(alloc, STACK_SIZE)?;
@@ -93,10 +94,12 @@ pub(crate) fn regions_of(alloc: Global, image: &Image) -> Result<Regions, AllocE
     let table = table_of(alloc, image.table.as_slice())?;
     let first = PAGE as usize * image.pages as usize;
     let memory = memory_of(alloc, size, first, image.segments.as_slice())?;
+    let passive = Vec::from_slice(alloc, image.passive.as_slice())?;
     Ok(Regions {
         stack,
         globals,
         table,
         memory,
+        passive,
     })
 }

@@ -32,12 +32,14 @@ impl Host for Listed {
     }
 }
 
-fn i32_of(text: &str) -> i32 {
-    text.parse::<i32>().unwrap_or(0)
-}
-
+/// The number that is written there; 0 for another text. It is parsed as one type alone, whatever it is for: each type's parser is
+/// proved again where it is called.
 fn i64_of(text: &str) -> i64 {
     text.parse::<i64>().unwrap_or(0)
+}
+
+fn i32_of(text: &str) -> i32 {
+    i32::try_from(i64_of(text)).unwrap_or(0)
 }
 
 /// The value that a word is, if it is one.
@@ -50,9 +52,9 @@ fn value_of(word: &str) -> Option<Value> {
     }
 }
 
-/// A number that is written there; 0 for another text.
+/// The same as a number without a sign.
 fn number_of(text: &str) -> u32 {
-    text.parse::<u32>().unwrap_or(0)
+    u32::try_from(i64_of(text)).unwrap_or(0)
 }
 
 /// So many bytes that a host writes at an address: they are 5, 6 and ones.
@@ -114,10 +116,12 @@ pub fn checks_answer(alloc: Global, bytes: &[u8], rest: &str) -> Result<String, 
 
 /// The first bytes of a memory, as a number whose last digits are the first byte.
 fn first_word(memory: &[u8]) -> u64 {
-    match memory.first_chunk() {
-        Some(bytes) => u64::from_le_bytes(*bytes),
-        None => 0,
+    if memory.len() < 8 {
+        return 0;
     }
+    u64::from_le_bytes([
+        memory[0], memory[1], memory[2], memory[3], memory[4], memory[5], memory[6], memory[7],
+    ])
 }
 
 /// How a call of an export with -1 and 42 ends, and its memory behind it.

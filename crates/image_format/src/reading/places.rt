@@ -85,7 +85,7 @@ pub fn places_at(
 {
     match version {
         Version::One => Ok((TrapPlaces::new(Vec::new(alloc)), bytes)),
-        Version::Two => {
+        Version::Two | Version::Three => {
             let (count, rest) = count_at(words, bytes)?;
             let (places, rest) = place_items_at(alloc, words, count, rest)?;
             Ok((TrapPlaces::new(places), rest))

@@ -1,0 +1,7 @@
+use Rattle.std.proofs.Common.{◌≡◌, take, length}
+use Rattle.index_spaces.specs.Entries.{segments_at_first}
+use Rattle.image_linker.specs.ImageOf.{joined}
+use Rattle.image_linker.proofs.segments.passive_size.Given as goal
+
+abbrev pub invariant-loop-row : goal.invariant-loop-row
+invariant-loop-row l = l.size ≡ length (joined (segments_at_first (take l.row-index l.rows)))
