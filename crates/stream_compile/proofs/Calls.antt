@@ -20,7 +20,7 @@ use Rattle.image_format.specs.declared.image.Import.{Import}
 use Rattle.image_format.specs.ImageRun.{Ending, As, Fault, ImageRun, image_run}
 use Rattle.image_linker.specs.ImageOf.{image_of, export_of, offset_of}
 use Rattle.image_linker.specs.Same.{Same}
-use Rattle.simulation.specs.SameRuns.{SameRuns, BeginsWith, IsOver, as_image}
+use Rattle.simulation.specs.SameRuns.{SameRuns, BeginsWith, IsOver, as_image, own_ending, own_run}
 use Rattle.image_run.specs.declared.checks.NotRunnable.{NotRunnable}
 use Rattle.image_run.specs.declared.checks.NotRunnable.TheVariants.{UnknownImport, NoSuchExport, WrongArguments, Unlinkable}
 use Rattle.image_run.specs.Checks.{export_named, not_runnable, unfit, has_unknown_import}
@@ -31,7 +31,7 @@ use Rattle.command_words.specs.declared.command.Call.{Call}
 use Rattle.command_words.specs.declared.peek.Peek.{Peek}
 use Rattle.stream_compile.specs.Texts.{Outcome, after, arguments_of, EndsAs, ChecksAndCalls, GoesOn, TellsEnd, TellsRun, ChecksAndRuns}
 use Rattle.stream_compile.specs.Running.{RunsAs}
-use Rattle.stream_compile.proofs.Lasting.{Lasts, image_stays}
+use Rattle.stream_compile.proofs.Lasting.{Lasts, image_stays, own_lasts}
 
 -- ---- exports
 
@@ -102,7 +102,7 @@ abbrev pub Results : Module → ℕ → List ValType
 Results m f = (type_of_function (context_of m.items) f).results
 
 runs_alike : (m : Module) (name : List ℕ) (arguments : List Value) (replies : List Reply) (e : Export) (found : Exports m name (exports_of m.items) e) → Same m (image_of m) → Passed (image_of m) (types_of_values arguments) e
-    → all_in_range arguments ≡ true → SameRuns (module_run m found.function arguments replies) (image_run (image_of m) (offset_of m found.function) (Results m found.function) arguments replies)
+    → all_in_range arguments ≡ true → SameRuns (module_run m found.function arguments replies) (λ n. own_run (length (context_of m.items).globals) (image_run (image_of m) (offset_of m found.function) (Results m found.function) arguments replies n))
 runs_alike m name arguments replies e found same passed ranges =
     let params = (type_of_function (context_of m.items) found.function).params in
     let types = types_of_values arguments in
@@ -181,6 +181,12 @@ abbrev TellsOne : (drill : Option ℕ) → Option Peek → List Import → List 
 TellsOne drill peek imports rs o run =
     (rs ≡ replies imports run.calls) × (line : Outcome) × EndsAs drill peek (exit_code imports run.calls) run.end line × (o ≡ after (bytes_written imports run.calls) line)
 
+-- no line tells of the globals
+own_ends_as : (g : ℕ) (drill : Option ℕ) (peek : Option Peek) (exit : Option ℕ) (x : Ending) (o : Outcome) → EndsAs drill peek exit x o → EndsAs drill peek exit (own_ending g x) o
+own_ends_as g drill peek None (As (Returns values memory globals)) o h = h
+own_ends_as g drill peek (Some code) (As (Stops memory)) o h = h
+own_ends_as g drill peek exit x o h = h
+
 tells_run : (drill : Option ℕ) (m : Module) (r : Call) (o : Outcome) → Same m (image_of m) → all_in_range (arguments_of r.arguments) ≡ true → not_runnable (image_of m) r.export (types_of_values (arguments_of r.arguments)) ≡ None
     → ChecksAndCalls drill None (image_of m) r o → TellsRun drill m r o
 tells_run drill m r o same ranges passes (e, is, tells) =
@@ -188,9 +194,12 @@ tells_run drill m r o same ranges passes (e, is, tells) =
     let i = image_of m in
     let found = export_is m r.export (exports_of m.items) e is in
     let f = found.function in
+    let g = length (context_of m.items).globals in
     let rs = tells.0 in
     let alike = runs_alike m r.export arguments rs e found same (passed i r.export (types_of_values arguments) e passes is) ranges in
+    let image : ℕ → ImageRun = image_run i (offset_of m f) (Results m f) arguments rs in
     let run = run_of_export i (export_of m (r.export, f)) arguments rs r.steps in
+    let exit = exit_code i.imports run.calls in
     let here : TellsOne drill r.peek i.imports rs o run = subst (λ (x : ImageRun). TellsOne drill r.peek i.imports rs o x) (runs_there m r.export (exports_of m.items) e found arguments rs r.steps) (tells.1, tells.2, tells.3, tells.4) in (
       f,
       found.named_is,
@@ -198,9 +207,9 @@ tells_run drill m r o same ranges passes (e, is, tells) =
         rs,
         here.0,
         here.1,
-        tells_end drill r.peek (module_run m f arguments rs) (image_run i (offset_of m f) (Results m f) arguments rs) r.steps (exit_code i.imports run.calls) run.calls run.end here.1 alike
-            (image_stays i (offset_of m f) (Results m f) arguments rs)
-            (sym (run_is m r.export f arguments rs r.steps)) here.2,
+        tells_end drill r.peek (module_run m f arguments rs) (λ n. own_run g (image n)) r.steps exit run.calls (own_ending g run.end) here.1 alike
+            (own_lasts g image (image_stays i (offset_of m f) (Results m f) arguments rs))
+            (ap (own_run g) (sym (run_is m r.export f arguments rs r.steps))) (own_ends_as g drill r.peek exit run.end here.1 here.2),
         here.3,
       ),
     )

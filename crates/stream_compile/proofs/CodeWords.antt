@@ -49,7 +49,7 @@ pub codes_both : (items : List Item) (k : ℕ) (front rest : List Part) (trees m
 codes_both items k [] rest [] more [] others p q = let e : k + 0 ≡ k = omega arith in rw (append-nil, e) at q
 codes_both items k [] rest [] more (c ∷ codes) others p q = absurd p
 codes_both items k [] rest (t ∷ trees) more codes others p q = absurd p
-codes_both items k (Section at id ∷ front) rest trees more codes others p q = codes_both items k front rest trees more codes others p q
+codes_both items k (Section at position ∷ front) rest trees more codes others p q = codes_both items k front rest trees more codes others p q
 codes_both items k (Listed x ∷ front) rest trees more codes others p q = codes_both (items ++ x ∷ []) k front rest trees more codes others p (rw (append_assoc items (x ∷ []) (items_of front)) q)
 codes_both items k (Coded b ∷ front) rest [] more codes others p q = absurd p
 codes_both items k (Coded b ∷ front) rest (t ∷ trees) more [] others p q = absurd p
@@ -112,9 +112,9 @@ codes_of_parts : (bytes : List ℕ) (front parts : List Part) (k : ℕ) (trees :
 codes_of_parts bytes front [] k [] [] e h = tt
 codes_of_parts bytes front [] k [] (c ∷ codes) e h = absurd h
 codes_of_parts bytes front [] k (t ∷ trees) codes e h = absurd h
-codes_of_parts bytes front (Section at id ∷ parts) k trees codes e h =
-    codes_of_parts bytes (front ++ Section at id ∷ []) parts k trees codes (e ∙ sym (append_assoc front (Section at id ∷ []) parts))
-    (rw (items_of-append front (Section at id ∷ []), append-nil (items_of front)) h)
+codes_of_parts bytes front (Section at position ∷ parts) k trees codes e h =
+    codes_of_parts bytes (front ++ Section at position ∷ []) parts k trees codes (e ∙ sym (append_assoc front (Section at position ∷ []) parts))
+    (rw (items_of-append front (Section at position ∷ []), append-nil (items_of front)) h)
 codes_of_parts bytes front (Listed x ∷ parts) k trees codes e h =
     codes_of_parts bytes (front ++ Listed x ∷ []) parts k trees codes (e ∙ sym (append_assoc front (Listed x ∷ []) parts))
     (rw (items_of-append front (Listed x ∷ [])) h)

@@ -1,5 +1,5 @@
 -- How far the compiling of a module came, and what follows from it.
-use Rattle.std.proofs.Common.{◌≡◌, ◌≤◌, ◌<◌, inl, inr, ℕ, suc, ◌+◌, ◌*◌, List, [], ◌∷◌, ◌++◌, length, Some, refl, sym, ap, ◌∙◌, subst, arith, length-append}
+use Rattle.std.proofs.Common.{◌≡◌, ◌≤◌, ◌<◌, inl, inr, ℕ, suc, ◌+◌, List, [], ◌∷◌, ◌++◌, length, Some, refl, sym, ap, ◌∙◌, subst, arith, length-append}
 use Rattle.std.proofs.lemmas.List.{append-nil}
 use Rattle.rv_isa.specs.declared.compiled.Code.{Code}
 use Rattle.wasm_defs.specs.declared.fault.Refusal.{Refusal}
@@ -49,16 +49,16 @@ module _ (bytes : List ℕ) (left : Run) (codes : Coding) where
   moved : (items items' : List Item) (k k' : ℕ) (parts : List Part) (r : Refusal) → items ≡ items' → k ≡ k' → IsTextFault items k codes.words parts r → IsTextFault items' k' codes.words parts r
   moved items items' k k' parts r p q f = rw (p, q) at f
 
-  after_section : (spaces : Spaces) (at id : ℕ) → IsJudging bytes (after_part (Section at id) left) spaces codes → IsJudging bytes left spaces codes
-  after_section spaces at id j =
+  after_section : (spaces : Spaces) (at position : ℕ) → IsJudging bytes (after_part (Section at position) left) spaces codes → IsJudging bytes left spaces codes
+  after_section spaces at position j =
       let front = j.judged.front in
-      let items : items_of (front ++ Section at id ∷ []) ≡ items_of front = items_of-append front (Section at id ∷ []) ∙ append-nil (items_of front) in
-      let bodies : length (bodies_of (front ++ Section at id ∷ [])) ≡ length (bodies_of front) = ap (λ (l : List Body). length l) (bodies_of-append front (Section at id ∷ []) ∙ append-nil (bodies_of front)) in
+      let items : items_of (front ++ Section at position ∷ []) ≡ items_of front = items_of-append front (Section at position ∷ []) ∙ append-nil (items_of front) in
+      let bodies : length (bodies_of (front ++ Section at position ∷ [])) ≡ length (bodies_of front) = ap (λ (l : List Body). length l) (bodies_of-append front (Section at position ∷ []) ∙ append-nil (bodies_of front)) in
       record {
-        judged = judging.after_section bytes left spaces codes.count at id j.judged;
+        judged = judging.after_section bytes left spaces codes.count at position j.judged;
         all = j.all;
         are_all = j.are_all;
-        coded = rw (append-nil j.all) at (codes_both [] 0 front (Section at id ∷ []) j.judged.trees [] j.all [] j.coded tt);
+        coded = rw (append-nil j.all) at (codes_both [] 0 front (Section at position ∷ []) j.judged.trees [] j.all [] j.coded tt);
         fits = j.fits;
         text_left = λ r f. moved (items_of front) _ (length (bodies_of front)) _ left.parts r (sym items) (sym bodies) (j.text_left r f);
         text_whole = λ r f. j.text_whole r (moved _ (items_of front) _ (length (bodies_of front)) left.parts r items bodies f);
@@ -82,7 +82,7 @@ module _ (bytes : List ℕ) (left : Run) (codes : Coding) where
 -- sections were reported
 pub sections_taken : (bytes : List ℕ) (spaces : Spaces) (codes : Coding) (told : List Part) (run : Run) → AreSections told → IsJudging bytes (after_parts told run) spaces codes → IsJudging bytes run spaces codes
 sections_taken bytes spaces codes [] run are j = j
-sections_taken bytes spaces codes (Section at id ∷ told) run are j = sections_taken bytes spaces codes told run are (after_section bytes (after_parts told run) codes spaces at id j)
+sections_taken bytes spaces codes (Section at position ∷ told) run are j = sections_taken bytes spaces codes told run are (after_section bytes (after_parts told run) codes spaces at position j)
 sections_taken bytes spaces codes (Listed x ∷ told) run are j = absurd are
 sections_taken bytes spaces codes (Coded b ∷ told) run are j = absurd are
 

@@ -16,7 +16,7 @@ use Rattle.body_cutter.specs.declared.batch.Batch.{Batch}
 use Rattle.body_cutter.specs.Queues.{Queue, bodies_in, with_bodies, all_closed, batch_length}
 use Rattle.body_cutter.specs.Cuttings.{Cutting, Handed, left, finished, is_whole, IsFed, IsRefused, Takes}
 use Rattle.body_cutter.proofs.Joined.{handed_join}
-use Rattle.stream_compile.specs.CutBodies.{coded_all, behind, cut_run, sections_behind}
+use Rattle.stream_compile.specs.CutBodies.{counts_data, coded_all, behind, cut_run, sections_behind}
 use Rattle.stream_compile.proofs.CutRuns.{cut_append}
 
 -- ---- what a cutter hands over
@@ -30,20 +30,20 @@ unfolding left
 left_ending c more = refl
 
 -- those of the closed batches first
-pub split_run : (c : Cutting) (more : List ℕ) (next : Run) → cut_run (left c more) next ≡ after_parts (coded_all c.queue.closed) (after_parts (coded_all (c.queue.begun ++ (still c.place more).bodies)) (behind (still c.place more).ending next))
-split_run c more next =
-    ap (λ (l : List Body). after_parts (coded_all l) (behind (left c more).ending next)) (left_bodies c more)
-    ∙ ap (λ (e : End). after_parts (coded_all (c.queue.closed ++ (c.queue.begun ++ (still c.place more).bodies))) (behind e next)) (left_ending c more)
-    ∙ cut_append c.queue.closed (c.queue.begun ++ (still c.place more).bodies) (behind (still c.place more).ending next)
+pub split_run : (counted : Bool) (c : Cutting) (more : List ℕ) (next : Run) → cut_run counted (left c more) next ≡ after_parts (coded_all counted c.queue.closed) (after_parts (coded_all counted (c.queue.begun ++ (still c.place more).bodies)) (behind (still c.place more).ending next))
+split_run counted c more next =
+    ap (λ (l : List Body). after_parts (coded_all counted l) (behind (left c more).ending next)) (left_bodies c more)
+    ∙ ap (λ (e : End). after_parts (coded_all counted (c.queue.closed ++ (c.queue.begun ++ (still c.place more).bodies))) (behind e next)) (left_ending c more)
+    ∙ cut_append counted c.queue.closed (c.queue.begun ++ (still c.place more).bodies) (behind (still c.place more).ending next)
 
 -- and after them
-pub behind_closed : (old new : Cutting) (more : List ℕ) (next : Run) → new.place ≡ old.place → new.queue.closed ≡ [] → new.queue.begun ≡ old.queue.begun
-    → after_parts (coded_all (old.queue.begun ++ (still old.place more).bodies)) (behind (still old.place more).ending next) ≡ cut_run (left new more) next
-behind_closed old new more next place closed begun =
-    sym (split_run new more next
-    ∙ ap (λ (l : List Body). after_parts (coded_all l) (after_parts (coded_all (new.queue.begun ++ (still new.place more).bodies)) (behind (still new.place more).ending next))) closed
-    ∙ ap (λ (l : List Body). after_parts (coded_all (l ++ (still new.place more).bodies)) (behind (still new.place more).ending next)) begun
-    ∙ ap (λ (p : Place). after_parts (coded_all (old.queue.begun ++ (still p more).bodies)) (behind (still p more).ending next)) place)
+pub behind_closed : (counted : Bool) (old new : Cutting) (more : List ℕ) (next : Run) → new.place ≡ old.place → new.queue.closed ≡ [] → new.queue.begun ≡ old.queue.begun
+    → after_parts (coded_all counted (old.queue.begun ++ (still old.place more).bodies)) (behind (still old.place more).ending next) ≡ cut_run counted (left new more) next
+behind_closed counted old new more next place closed begun =
+    sym (split_run counted new more next
+    ∙ ap (λ (l : List Body). after_parts (coded_all counted l) (after_parts (coded_all counted (new.queue.begun ++ (still new.place more).bodies)) (behind (still new.place more).ending next))) closed
+    ∙ ap (λ (l : List Body). after_parts (coded_all counted (l ++ (still new.place more).bodies)) (behind (still new.place more).ending next)) begun
+    ∙ ap (λ (p : Place). after_parts (coded_all counted (old.queue.begun ++ (still p more).bodies)) (behind (still p more).ending next)) place)
 
 finished_begun : (q : Queue) (e : End) → (e ≡ Owed → ⊥) → (finished e q).begun ≡ []
 finished_begun q Whole h = refl
@@ -86,11 +86,11 @@ module _ (old mid : Cutting) (piece : List ℕ) (taken : ℕ) (fed : IsFed old p
             ∙ sym (ap (λ (l : List ℕ). drop (mid.place.end - mid.place.at) (l ++ more)) (ap (λ (n : ℕ). drop n piece) t ∙ drop-length piece))
       ]
 
-  pub run_fed : (seen : Seen) (more : List ℕ) → cut_run (left old (piece ++ more)) (sections_behind seen old.place.at old.place.end (piece ++ more)) ≡ cut_run (left mid (drop taken piece ++ more)) (sections_behind seen mid.place.at mid.place.end (drop taken piece ++ more))
+  pub run_fed : (seen : Seen) (more : List ℕ) → cut_run (counts_data seen) (left old (piece ++ more)) (sections_behind seen old.place.at old.place.end (piece ++ more)) ≡ cut_run (counts_data seen) (left mid (drop taken piece ++ more)) (sections_behind seen mid.place.at mid.place.end (drop taken piece ++ more))
   run_fed seen more =
-      ap (λ (h : Handed). cut_run h (sections_behind seen old.place.at old.place.end (piece ++ more))) (fed.same more)
-      ∙ ap (λ (n : ℕ). cut_run (left mid (drop taken piece ++ more)) (sections seen (record { at = n; rest = drop (old.place.end - old.place.at) (piece ++ more); end = no_end }))) (sym fed.place.1)
-      ∙ ap (λ (l : List ℕ). cut_run (left mid (drop taken piece ++ more)) (sections seen (record { at = mid.place.end; rest = l; end = no_end }))) (rest_same more)
+      ap (λ (h : Handed). cut_run (counts_data seen) h (sections_behind seen old.place.at old.place.end (piece ++ more))) (fed.same more)
+      ∙ ap (λ (n : ℕ). cut_run (counts_data seen) (left mid (drop taken piece ++ more)) (sections seen (record { at = n; rest = drop (old.place.end - old.place.at) (piece ++ more); end = no_end }))) (sym fed.place.1)
+      ∙ ap (λ (l : List ℕ). cut_run (counts_data seen) (left mid (drop taken piece ++ more)) (sections seen (record { at = mid.place.end; rest = l; end = no_end }))) (rest_same more)
 
   pub few_taken : taken ≤ length piece
   few_taken = omega (arith, fed.all)
@@ -121,14 +121,14 @@ whole_place stop count at end e =
     none None n t = elim (cases_Bool (eqb n 0)) [ inl h ↦ (let u = rw h at t in absurd cc) | inr h ↦ (let u = rw h at t in absurd cc) ]
 
 pub whole_run : (seen : Seen) (c : Cutting) (more : List ℕ) → is_whole c ≡ true → left c more ≡ record { queue = c.queue; ending = Whole } → c.queue.closed ≡ []
-    → cut_run (left c more) (sections_behind seen c.place.at c.place.end more) ≡ sections seen (record { at = c.place.end; rest = more; end = no_end })
+    → cut_run (counts_data seen) (left c more) (sections_behind seen c.place.at c.place.end more) ≡ sections seen (record { at = c.place.end; rest = more; end = no_end })
 whole_run seen c more whole is closed =
     let none : c.queue.begun ≡ [] = sym (ap (λ (h : Handed). h.queue.begun) is) ∙ left_begun c more (whole_not_owed (left c more) c.queue is) in
     let all : bodies_in c.queue ≡ [] = ap (λ (l : List Body). l ++ c.queue.begun) closed ∙ none in
     let at : c.place.at ≡ c.place.end = whole_place c.place.stop c.place.count c.place.at c.place.end whole in
     let nothing : c.place.end - c.place.at ≡ 0 = omega arith in
-    ap (λ (h : Handed). cut_run h (sections_behind seen c.place.at c.place.end more)) is
-    ∙ ap (λ (l : List Body). after_parts (coded_all l) (sections_behind seen c.place.at c.place.end more)) all
+    ap (λ (h : Handed). cut_run (counts_data seen) h (sections_behind seen c.place.at c.place.end more)) is
+    ∙ ap (λ (l : List Body). after_parts (coded_all (counts_data seen) l) (sections_behind seen c.place.at c.place.end more)) all
     ∙ ap (λ (n : ℕ). sections seen (record { at = c.place.end; rest = drop n more; end = no_end })) nothing
 
 pub whole_at : (c : Cutting) → is_whole c ≡ true → c.place.at ≡ c.place.end
@@ -136,21 +136,21 @@ whole_at c whole = whole_place c.place.stop c.place.count c.place.at c.place.end
 
 -- ---- the section is wrong
 
-pub refused_run : (old mid : Cutting) (piece more : List ℕ) (r : Refusal) (next : Run) → IsRefused old piece r mid → cut_run (left old (piece ++ more)) next ≡ after_parts (coded_all mid.queue.closed) (ends (outside.Refused r))
-refused_run old mid piece more r next refused =
+pub refused_run : (counted : Bool) (old mid : Cutting) (piece more : List ℕ) (r : Refusal) (next : Run) → IsRefused old piece r mid → cut_run counted (left old (piece ++ more)) next ≡ after_parts (coded_all counted mid.queue.closed) (ends (outside.Refused r))
+refused_run counted old mid piece more r next refused =
     let is = refused.same more in
     let none : mid.queue.begun ≡ [] = sym (ap (λ (h : Handed). h.queue.begun) is) ∙ left_begun old (piece ++ more) (fault_not_owed (left old (piece ++ more)) mid.queue r is) in
-    ap (λ (h : Handed). cut_run h next) is
-    ∙ ap (λ (l : List Body). after_parts (coded_all l) (ends (outside.Refused r))) (ap (λ (l : List Body). mid.queue.closed ++ l) none ∙ append-nil mid.queue.closed)
+    ap (λ (h : Handed). cut_run counted h next) is
+    ∙ ap (λ (l : List Body). after_parts (coded_all counted l) (ends (outside.Refused r))) (ap (λ (l : List Body). mid.queue.closed ++ l) none ∙ append-nil mid.queue.closed)
 
 -- ---- the bytes end
 
-pub ended_run : (old new : Cutting) (next : Run) → bodies_in (left old []).queue ≡ bodies_in old.queue → (left old []).ending ≡ Owed → new.queue ≡ all_closed old.queue
-    → cut_run (left old []) next ≡ after_parts (coded_all new.queue.closed) (ends outside.Owed)
-ended_run old new next prompt owed closed =
-    ap (λ (l : List Body). after_parts (coded_all l) (behind (left old []).ending next)) prompt
-    ∙ ap (λ (e : End). after_parts (coded_all (bodies_in old.queue)) (behind e next)) owed
-    ∙ ap (λ (q : Queue). after_parts (coded_all q.closed) (ends outside.Owed)) (sym closed)
+pub ended_run : (counted : Bool) (old new : Cutting) (next : Run) → bodies_in (left old []).queue ≡ bodies_in old.queue → (left old []).ending ≡ Owed → new.queue ≡ all_closed old.queue
+    → cut_run counted (left old []) next ≡ after_parts (coded_all counted new.queue.closed) (ends outside.Owed)
+ended_run counted old new next prompt owed closed =
+    ap (λ (l : List Body). after_parts (coded_all counted l) (behind (left old []).ending next)) prompt
+    ∙ ap (λ (e : End). after_parts (coded_all counted (bodies_in old.queue)) (behind e next)) owed
+    ∙ ap (λ (q : Queue). after_parts (coded_all counted q.closed) (ends outside.Owed)) (sym closed)
 
 -- ---- what came completes no further body
 
@@ -175,13 +175,13 @@ closed_taken old new b (number, bodies, start, is) =
 
 -- what is after the closed batches
 abbrev pub rest_run : Seen → Cutting → List ℕ → Run
-rest_run seen c more = after_parts (coded_all (c.queue.begun ++ (still c.place more).bodies)) (behind (still c.place more).ending (sections_behind seen c.place.at c.place.end more))
+rest_run seen c more = after_parts (coded_all (counts_data seen) (c.queue.begun ++ (still c.place more).bodies)) (behind (still c.place more).ending (sections_behind seen c.place.at c.place.end more))
 
-pub split_rest : (seen : Seen) (c : Cutting) (more : List ℕ) → cut_run (left c more) (sections_behind seen c.place.at c.place.end more) ≡ after_parts (coded_all c.queue.closed) (rest_run seen c more)
-split_rest seen c more = split_run c more (sections_behind seen c.place.at c.place.end more)
+pub split_rest : (seen : Seen) (c : Cutting) (more : List ℕ) → cut_run (counts_data seen) (left c more) (sections_behind seen c.place.at c.place.end more) ≡ after_parts (coded_all (counts_data seen) c.queue.closed) (rest_run seen c more)
+split_rest seen c more = split_run (counts_data seen) c more (sections_behind seen c.place.at c.place.end more)
 
 pub rest_is : (seen : Seen) (old new : Cutting) (more : List ℕ) → new.place ≡ old.place → new.queue.closed ≡ [] → new.queue.begun ≡ old.queue.begun
-    → rest_run seen old more ≡ cut_run (left new more) (sections_behind seen new.place.at new.place.end more)
+    → rest_run seen old more ≡ cut_run (counts_data seen) (left new more) (sections_behind seen new.place.at new.place.end more)
 rest_is seen old new more place closed begun =
-    behind_closed old new more (sections_behind seen old.place.at old.place.end more) place closed begun
-    ∙ sym (ap (λ (p : Place). cut_run (left new more) (sections_behind seen p.at p.end more)) place)
+    behind_closed (counts_data seen) old new more (sections_behind seen old.place.at old.place.end more) place closed begun
+    ∙ sym (ap (λ (p : Place). cut_run (counts_data seen) (left new more) (sections_behind seen p.at p.end more)) place)

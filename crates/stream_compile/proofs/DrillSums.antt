@@ -1,5 +1,5 @@
 -- What a drill's run tells is its sum.
-use Rattle.std.proofs.Common.{◌≡◌, ◌∙◌, ℕ, ◌+◌, ◌≤◌, true, List, [], ◌∷◌, Option, None, Some, refl, ap, sym, subst, inl, inr, pos}
+use Rattle.std.proofs.Common.{◌≡◌, ◌∙◌, ℕ, ◌+◌, ◌≤◌, true, List, [], ◌∷◌, Option, None, Some, refl, ap, sym, subst, inl, inr, pos, length, take}
 use Rattle.std.specs.Prelude.{codes}
 use Rattle.std.specs.Int.{w32}
 use Rattle.std.proofs.lemmas.Int.{to_z_pos}
@@ -28,6 +28,7 @@ use Rattle.module_gen.specs.Drill.{drill_bytes}
 use Rattle.drill_laws.specs.Functions.{sum_below}
 use Rattle.drill_laws.specs.Modules.{IsDrill}
 use Rattle.drill_laws.proofs.Sums.{sum_small}
+use Rattle.simulation.specs.SameRuns.{own_ending, own_run}
 use Rattle.stream_compile.specs.Texts.{ChecksAndRuns, Outcome, TellsDrill, TellsEnd, TellsModuleRun, TellsSum, after, drill_call, drill_line, drilled}
 use Rattle.stream_compile.proofs.Calls.{Results, run_is}
 use Rattle.stream_compile.proofs.DrillRuns.{DrillEnds, drill_ends, drill_fits, drill_runnable, drill_type, imports_nothing}
@@ -79,14 +80,19 @@ no_exit (c ∷ calls) = rw (no_exit calls) refl
 some_one : (f n : ℕ) → Some f ≡ Some n → f ≡ n
 some_one f n same = cc
 
+own_drill : (g n steps : ℕ) (x : Ending) → DrillEnds n steps x → DrillEnds n steps (own_ending g x)
+own_drill g n steps x (inl (memory, globals, is)) = inl (memory, take g globals, ap (own_ending g) is)
+own_drill g n steps x (inr (few, is)) = inr (few, ap (own_ending g) is)
+
 pub sum_told : (d : Drill) (m : Module) (o : Outcome) → d.count ≤ 50000 → IsModuleOf (drill_bytes d.count) m → Same m (image_of m) → TellsDrill d.steps m o → TellsSum d o
 sum_told d m o most is same tells =
     let n = d.count in
     let i = image_of m in
+    let g = length (context_of m.items).globals in
     let steps = d.steps in
     let functions = declared_count m.items in
     let drill = is_drill n m most is in
-    let run : ℕ → List Reply → ImageRun = λ f rs. run_of_export i (export_of m (codes "run", f)) [] rs steps in
+    let run : ℕ → List Reply → ImageRun = λ f rs. own_run g (run_of_export i (export_of m (codes "run", f)) [] rs steps) in
     let Runs : ℕ → Type 0 = λ f. TellsModuleRun (Some functions) None steps i.imports (run f) (module_run m f []) o in
     let (f, found, ran) = subst (λ (w : Option NotRunnable). ChecksAndRuns (Some functions) w m (drill_call steps) o) (drill_runnable n m drill) tells in
     let there : named (codes "run") (exports_of m.items) ≡ Some n = ap (named (codes "run")) drill.exports in
@@ -94,9 +100,9 @@ sum_told d m o most is same tells =
     let rs = told.0 in
     let fit : are_of (type_of_function (context_of m.items) n).params [] ≡ true = ap (λ (t : FuncType). are_of t.params []) (drill_type n m drill) in
     let alike = same.runs drill.linkable (codes "run") n [] rs there fit in
-    let ends = drill_ends n m most drill i (offset_of m n) (Results m n) rs alike steps in
+    let ends = drill_ends n m most drill i (offset_of m n) (Results m n) rs g alike steps in
     let calls = (run n rs).calls in
-    let end : DrillEnds n steps (run n rs).end = subst (λ (r : ImageRun). DrillEnds n steps r.end) (sym (run_is m (codes "run") n [] rs steps)) ends in
+    let end : DrillEnds n steps (run n rs).end = own_drill g n steps _ (subst (λ (r : ImageRun). DrillEnds n steps r.end) (sym (run_is m (codes "run") n [] rs steps)) ends) in
     let none : i.imports ≡ [] = imports_nothing m drill.imported in
     let nothing : bytes_written i.imports calls ≡ [] = ap (λ (l : List Import). bytes_written l calls) none ∙ nothing_written calls in
     let exit : exit_code i.imports calls ≡ None = ap (λ (l : List Import). exit_code l calls) none ∙ no_exit calls in

@@ -1,5 +1,5 @@
 -- What the command `drill` comes to.
-use Rattle.std.proofs.Common.{◌≡◌, ◌∙◌, ◌++◌, ℕ, ◌≤◌, Bool, true, false, List, Option, Some, None, refl, sym, ap, subst, true≢false}
+use Rattle.std.proofs.Common.{◌≡◌, ◌∙◌, ◌++◌, ℕ, ◌≤◌, false, List, Option, Some, sym, ap, subst, true≢false}
 use Rattle.std.specs.Prelude.{unwrap_or}
 use Rattle.wasm_defs.specs.declared.fault.Refusal.{Refusal}
 use Rattle.wasm_defs.specs.Context.{declared_count}
@@ -13,7 +13,7 @@ use Rattle.stream_compile.specs.declared.answer.Built.{Built}
 use Rattle.stream_compile.specs.Came.{Came}
 use Rattle.stream_compile.specs.Compiling.{CompilesSource}
 use Rattle.stream_compile.specs.Running.{RunsAs}
-use Rattle.stream_compile.specs.Texts.{Outcome, OfDrill, drill_call, rejected}
+use Rattle.stream_compile.specs.Texts.{Outcome, OfDrill, drill_call}
 use Rattle.stream_compile.proofs.Calls.{run_done}
 use Rattle.stream_compile.proofs.DrillSums.{not_refused, sum_told}
 

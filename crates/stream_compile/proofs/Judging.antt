@@ -1,22 +1,28 @@
 -- How far the validation of a module came, and what follows from it.
 use Rattle.std.proofs.Common.{◌≡◌, ◌≤◌, ◌<◌, inl, inr, ℕ, suc, ◌+◌, List, [], ◌∷◌, ◌++◌, length, Option, Some, refl, sym, ap, ◌∙◌, subst, append_assoc, arith, length-append}
-use Rattle.std.specs.Prelude.{IsSome}
+use Rattle.std.specs.Prelude.{Bool, IsSome, is_some}
 use Rattle.std.proofs.lemmas.List.{append-nil}
+use Rattle.std.proofs.lemmas.List.Elements.{All-head}
 use Rattle.wasm_defs.specs.declared.fault.Refusal.{Refusal}
 use Rattle.wasm_defs.specs.declared.item.Item.{Item}
 use Rattle.wasm_defs.specs.Typing.{function_type}
 use Rattle.wasm_defs.specs.Trees.{Seq}
 use Rattle.wasm_defs.specs.Entries.{Seen}
-use Rattle.wasm_defs.specs.Context.{context_of, import_count, declared_count, functions_of}
+use Rattle.wasm_defs.specs.Context.{context_of, data_count_of, import_count, declared_count, functions_of}
 use Rattle.wasm_defs.specs.Outside.{Part, Section, Listed, Coded, Body, Run, Whole, after_part, ends, module_read}
 use Rattle.wasm_defs.specs.Faults.{ending_fault, items_of, bodies_of, IsCodeFault, IsValidCode, read_of, context_at, use_of, UsesRight, IsUseFault, IsFaultInside, AreValid, IsOutsideFault, IsFault, Module, IsModule, Verdict, Accepted, Rejected}
 use Rattle.wasm_laws.specs.Order.{AreOrdered, BodyStands, UseStands, behind_use, end_of, first_section}
 use Rattle.wasm_laws.specs.Typed.{AreTyped}
 use Rattle.wasm_laws.proofs.Typed.{functions_have_types}
 use Rattle.wasm_laws.proofs.Order.{around_body, around_item, use_goes_on, parts_before_fault, parts_in_module}
+use Rattle.wasm_laws.proofs.Behind.{bodies_stand_behind}
+use Rattle.wasm_laws.proofs.DataCounts.{AreToldOf, all_back, bodies_are_told}
 use Rattle.wasm_laws.proofs.Few.{parts_are_few}
 use Rattle.wasm_laws.proofs.Verdicts.{some_once, code_fault_once, code_fault_inside}
 use Rattle.index_spaces.specs.Spaces.{Spaces, spaces_of, with_item, context_in}
+use Rattle.section_reader.specs.Onward.{after_parts}
+use Rattle.body_cutter.specs.declared.body.Body.{Body as GivenBody}
+use Rattle.stream_compile.specs.CutBodies.{coded_all}
 use Rattle.stream_compile.specs.Progress.{IsJudged, body_of_spaces}
 use Rattle.index_spaces.proofs.SpaceLaws.{spaces_of-append, functions_of-counts}
 use Rattle.wasm_laws.proofs.PartLists.{items_of-append, bodies_of-append, typed_behind, valid_both, fault_behind, fault_of_rest, functions_are_few, bodies_are_few}
@@ -33,15 +39,15 @@ regrouped bytes front rest x e = e ∙ sym (append_assoc front (x ∷ []) rest)
 pub valid_more : (front : List Part) (x : Part) (trees more : List Seq) → AreValid [] 0 front trees → AreValid (items_of front) (length (bodies_of front)) (x ∷ []) more → AreValid [] 0 (front ++ x ∷ []) (trees ++ more)
 valid_more front x trees more p q = let e : 0 + length (bodies_of front) ≡ length (bodies_of front) = omega arith in valid_both [] 0 front (x ∷ []) trees more p (rw e q)
 
-abbrev pub after_section : (bytes : List ℕ) (left : Run) (spaces : Spaces) (bodies at id : ℕ) → IsJudged bytes (after_part (Section at id) left) spaces bodies → IsJudged bytes left spaces bodies
-after_section bytes left spaces bodies at id j = record {
-  front = j.front ++ Section at id ∷ [];
-  parts = regrouped bytes j.front left.parts (Section at id) j.parts;
+abbrev pub after_section : (bytes : List ℕ) (left : Run) (spaces : Spaces) (bodies at position : ℕ) → IsJudged bytes (after_part (Section at position) left) spaces bodies → IsJudged bytes left spaces bodies
+after_section bytes left spaces bodies at position j = record {
+  front = j.front ++ Section at position ∷ [];
+  parts = regrouped bytes j.front left.parts (Section at position) j.parts;
   ending = j.ending;
-  spaces_are = j.spaces_are ∙ ap spaces_of (sym (items_of-append j.front (Section at id ∷ []) ∙ append-nil (items_of j.front)));
-  count = j.count ∙ ap length (sym (bodies_of-append j.front (Section at id ∷ []) ∙ append-nil (bodies_of j.front)));
+  spaces_are = j.spaces_are ∙ ap spaces_of (sym (items_of-append j.front (Section at position ∷ []) ∙ append-nil (items_of j.front)));
+  count = j.count ∙ ap length (sym (bodies_of-append j.front (Section at position ∷ []) ∙ append-nil (bodies_of j.front)));
   trees = j.trees ++ [];
-  valid = valid_more j.front (Section at id) j.trees [] j.valid tt;
+  valid = valid_more j.front (Section at position) j.trees [] j.valid tt;
 }
 
 abbrev pub after_item : (bytes : List ℕ) (left : Run) (spaces later : Spaces) (bodies : ℕ) (x : Item) → IsJudged bytes (after_part (Listed x) left) spaces bodies → UsesRight (context_in spaces) (use_of x) → later ≡ with_item spaces x → IsJudged bytes left later bodies
@@ -196,6 +202,22 @@ typed_there bytes left spaces bodies b j =
     let k : 0 + length (bodies_of j.front) ≡ length (bodies_of j.front) = zero_more (length (bodies_of j.front)) in
     let there = rw k at here.0 in
     rw (j.spaces_are, j.count) there
+
+-- a body is told whether the data segments were counted
+pub told_there : (bytes : List ℕ) (left : Run) (spaces : Spaces) (bodies : ℕ) (b : Body) → IsJudged bytes (after_part (Coded b) left) spaces bodies → is_some spaces.data_count ≡ b.counted
+told_there bytes left spaces bodies b j =
+    let count = data_count_of (items_of (module_read bytes).parts) in
+    let all : bodies_of (module_read bytes).parts ≡ bodies_of j.front ++ b ∷ bodies_of left.parts = ap bodies_of j.parts ∙ bodies_of-append j.front (Coded b ∷ left.parts) in
+    let rest = all_back (λ d. d.counted ≡ is_some count) (bodies_of j.front) (b ∷ bodies_of left.parts) (subst (AreToldOf count) all (bodies_are_told bytes)) in
+    let same : count ≡ data_count_of (items_of j.front) = (bodies_stand_behind bytes j.front b left.parts j.parts).same.data_count in
+    ap (λ (s : Spaces). is_some s.data_count) j.spaces_are ∙ ap is_some (sym same) ∙ sym (All-head (λ d. d.counted ≡ is_some count) b (bodies_of left.parts) rest)
+
+-- and so are all bodies that come next
+pub all_told : (bytes : List ℕ) (left : Run) (spaces : Spaces) (bodies : ℕ) (counted : Bool) (given : List GivenBody) → IsJudged bytes (after_parts (coded_all counted given) left) spaces bodies
+    → coded_all counted given ≡ coded_all (is_some spaces.data_count) given
+all_told bytes left spaces bodies counted [] j = refl
+all_told bytes left spaces bodies counted (b ∷ given) j =
+    ap (λ (k : Bool). coded_all k (b ∷ given)) (sym (told_there bytes (after_parts (coded_all counted given) left) spaces bodies _ j))
 
 pub fewer_parts : (bytes : List ℕ) (left : Run) (spaces : Spaces) (bodies : ℕ) (j : IsJudged bytes left spaces bodies) → length j.front ≤ length bytes
 fewer_parts bytes left spaces bodies j = omega (arith, parts_are_few bytes, ap length j.parts, length-append j.front left.parts)

@@ -1,5 +1,5 @@
 -- Bodies that are kept: what is left while none of them is validated.
-use Rattle.std.proofs.Common.{◌≡◌, ◌≤◌, ◌<◌, ◌+◌, ◌-◌, ◌^◌, ℕ, Bool, true, List, [], ◌∷◌, ◌++◌, length, drop, Option, Some, None, Result, Ok, Err, refl, sym, ap, subst, ◌∙◌, arith, append_assoc}
+use Rattle.std.proofs.Common.{◌≡◌, ◌≤◌, ◌<◌, ◌+◌, ◌-◌, ◌^◌, ℕ, Bool, true, List, [], ◌++◌, length, drop, Option, Some, None, Err, refl, sym, ap, subst, ◌∙◌, arith}
 use Rattle.std.proofs.lemmas.List.{append-nil}
 use Rattle.wasm_defs.specs.declared.fault.Refusal.{Refusal}
 use Rattle.wasm_defs.specs.declared.front_stop.FrontStop.{FrontStop}
@@ -18,7 +18,7 @@ use Rattle.stream_compile.specs.declared.intake.Intake.{Intake}
 use Rattle.stream_compile.specs.Arriving.{IsArriving, has_failed}
 use Rattle.stream_compile.specs.Chunks.{Chunked}
 use Rattle.stream_compile.specs.Codes.{Coding}
-use Rattle.stream_compile.specs.CutBodies.{coded_all, cut_run, sections_behind}
+use Rattle.stream_compile.specs.CutBodies.{counts_data, coded_all, cut_run, sections_behind}
 use Rattle.stream_compile.specs.Kept.{kept_bodies}
 use Rattle.stream_compile.specs.Keeping.{with_kept, keeping, IsFaulty}
 use Rattle.stream_compile.specs.Progress.{IsJudging, CanTakeAll, TakesPart}
@@ -32,31 +32,31 @@ use Rattle.stream_compile.proofs.Taking.{judging_on}
 
 -- ---- what is left after bodies that were kept
 
-kept_run : (seen : Seen) (kept : List Body) (c : Cutting) (more : List ℕ) → cut_run (left (with_kept kept c) more) (sections_behind seen c.place.at c.place.end more) ≡ after_parts (coded_all kept) (cut_run (left c more) (sections_behind seen c.place.at c.place.end more))
+kept_run : (seen : Seen) (kept : List Body) (c : Cutting) (more : List ℕ) → cut_run (counts_data seen) (left (with_kept kept c) more) (sections_behind seen c.place.at c.place.end more) ≡ after_parts (coded_all (counts_data seen) kept) (cut_run (counts_data seen) (left c more) (sections_behind seen c.place.at c.place.end more))
 kept_run seen kept c more =
     split_rest seen (with_kept kept c) more
-    ∙ cut_append kept c.queue.closed (rest_run seen c more)
-    ∙ sym (ap (after_parts (coded_all kept)) (split_rest seen c more))
+    ∙ cut_append (counts_data seen) kept c.queue.closed (rest_run seen c more)
+    ∙ sym (ap (after_parts (coded_all (counts_data seen) kept)) (split_rest seen c more))
 
 module _ (bytes : List ℕ) (f : Front) (kept : List Body) (spaces : Spaces) (codes : Coding) where
   module _ (old mid : Cutting) (piece more : List ℕ) (k : IsCutting bytes f (with_kept kept old) spaces codes (piece ++ more)) where
     pub kept_fed : (taken : ℕ) → IsFed old piece taken mid → IsCutting bytes f (with_kept kept mid) spaces codes (drop taken piece ++ more)
     kept_fed taken fed = record {
       few = k.few;
-      judging = judging_on bytes (cut_run (left (with_kept kept old) (piece ++ more)) (sections_behind f.steps.seen old.place.at old.place.end (piece ++ more)))
-          (cut_run (left (with_kept kept mid) (drop taken piece ++ more)) (sections_behind f.steps.seen mid.place.at mid.place.end (drop taken piece ++ more))) spaces codes
-          (kept_run f.steps.seen kept old (piece ++ more) ∙ ap (after_parts (coded_all kept)) (run_fed old mid piece taken fed f.steps.seen more) ∙ sym (kept_run f.steps.seen kept mid (drop taken piece ++ more)))
+      judging = judging_on bytes (cut_run (counts_data f.steps.seen) (left (with_kept kept old) (piece ++ more)) (sections_behind f.steps.seen old.place.at old.place.end (piece ++ more)))
+          (cut_run (counts_data f.steps.seen) (left (with_kept kept mid) (drop taken piece ++ more)) (sections_behind f.steps.seen mid.place.at mid.place.end (drop taken piece ++ more))) spaces codes
+          (kept_run f.steps.seen kept old (piece ++ more) ∙ ap (after_parts (coded_all (counts_data f.steps.seen) kept)) (run_fed old mid piece taken fed f.steps.seen more) ∙ sym (kept_run f.steps.seen kept mid (drop taken piece ++ more)))
           k.judging;
       skips = subst (λ (n : ℕ). can_skip f n ≡ true) (sym fed.place.1) k.skips;
       count = count_fed old mid piece taken fed (length bytes) more k.count;
     }
 
-    pub kept_refused : (r : Refusal) → IsRefused old piece r mid → IsJudging bytes (after_parts (coded_all (kept ++ mid.queue.closed)) (ends (Refused r))) spaces codes
+    pub kept_refused : (r : Refusal) → IsRefused old piece r mid → IsJudging bytes (after_parts (coded_all (counts_data f.steps.seen) (kept ++ mid.queue.closed)) (ends (Refused r))) spaces codes
     kept_refused r refused =
-        judging_on bytes (cut_run (left (with_kept kept old) (piece ++ more)) (sections_behind f.steps.seen old.place.at old.place.end (piece ++ more))) (after_parts (coded_all (kept ++ mid.queue.closed)) (ends (Refused r))) spaces codes
+        judging_on bytes (cut_run (counts_data f.steps.seen) (left (with_kept kept old) (piece ++ more)) (sections_behind f.steps.seen old.place.at old.place.end (piece ++ more))) (after_parts (coded_all (counts_data f.steps.seen) (kept ++ mid.queue.closed)) (ends (Refused r))) spaces codes
         (kept_run f.steps.seen kept old (piece ++ more)
-        ∙ ap (after_parts (coded_all kept)) (refused_run old mid piece more r (sections_behind f.steps.seen old.place.at old.place.end (piece ++ more)) refused)
-        ∙ sym (cut_append kept mid.queue.closed (ends (Refused r))))
+        ∙ ap (after_parts (coded_all (counts_data f.steps.seen) kept)) (refused_run (counts_data f.steps.seen) old mid piece more r (sections_behind f.steps.seen old.place.at old.place.end (piece ++ more)) refused)
+        ∙ sym (cut_append (counts_data f.steps.seen) kept mid.queue.closed (ends (Refused r))))
         k.judging
 
   module _ (old new : Cutting) (more : List ℕ) (k : IsCutting bytes f (with_kept kept old) spaces codes more) where
@@ -64,12 +64,12 @@ module _ (bytes : List ℕ) (f : Front) (kept : List Body) (spaces : Spaces) (co
     pub kept_moved : (kept' : List Body) → new.place ≡ old.place → new.queue.closed ≡ [] → new.queue.begun ≡ old.queue.begun → kept' ≡ kept ++ old.queue.closed → IsCutting bytes f (with_kept kept' new) spaces codes more
     kept_moved kept' place closed begun is = record {
       few = k.few;
-      judging = judging_on bytes (cut_run (left (with_kept kept old) more) (sections_behind f.steps.seen old.place.at old.place.end more)) (cut_run (left (with_kept kept' new) more) (sections_behind f.steps.seen new.place.at new.place.end more)) spaces codes
+      judging = judging_on bytes (cut_run (counts_data f.steps.seen) (left (with_kept kept old) more) (sections_behind f.steps.seen old.place.at old.place.end more)) (cut_run (counts_data f.steps.seen) (left (with_kept kept' new) more) (sections_behind f.steps.seen new.place.at new.place.end more)) spaces codes
           (kept_run f.steps.seen kept old more
-          ∙ ap (after_parts (coded_all kept)) (split_rest f.steps.seen old more)
-          ∙ sym (cut_append kept old.queue.closed (rest_run f.steps.seen old more))
-          ∙ ap (λ (l : List Body). after_parts (coded_all l) (rest_run f.steps.seen old more)) (sym is)
-          ∙ ap (after_parts (coded_all kept')) (rest_is f.steps.seen old new more place closed begun)
+          ∙ ap (after_parts (coded_all (counts_data f.steps.seen) kept)) (split_rest f.steps.seen old more)
+          ∙ sym (cut_append (counts_data f.steps.seen) kept old.queue.closed (rest_run f.steps.seen old more))
+          ∙ ap (λ (l : List Body). after_parts (coded_all (counts_data f.steps.seen) l) (rest_run f.steps.seen old more)) (sym is)
+          ∙ ap (after_parts (coded_all (counts_data f.steps.seen) kept')) (rest_is f.steps.seen old new more place closed begun)
           ∙ sym (kept_run f.steps.seen kept' new more))
           k.judging;
       skips = subst (λ (p : Place). can_skip f p.end ≡ true) (sym place) k.skips;
@@ -77,12 +77,12 @@ module _ (bytes : List ℕ) (f : Front) (kept : List Body) (spaces : Spaces) (co
     }
 
     -- the bodies that were kept come next
-    pub kept_judging : IsJudging bytes (after_parts (coded_all kept) (cut_run (left old more) (sections_behind f.steps.seen old.place.at old.place.end more))) spaces codes
-    kept_judging = judging_on bytes (cut_run (left (with_kept kept old) more) (sections_behind f.steps.seen old.place.at old.place.end more))
-        (after_parts (coded_all kept) (cut_run (left old more) (sections_behind f.steps.seen old.place.at old.place.end more))) spaces codes (kept_run f.steps.seen kept old more) k.judging
+    pub kept_judging : IsJudging bytes (after_parts (coded_all (counts_data f.steps.seen) kept) (cut_run (counts_data f.steps.seen) (left old more) (sections_behind f.steps.seen old.place.at old.place.end more))) spaces codes
+    kept_judging = judging_on bytes (cut_run (counts_data f.steps.seen) (left (with_kept kept old) more) (sections_behind f.steps.seen old.place.at old.place.end more))
+        (after_parts (coded_all (counts_data f.steps.seen) kept) (cut_run (counts_data f.steps.seen) (left old more) (sections_behind f.steps.seen old.place.at old.place.end more))) spaces codes (kept_run f.steps.seen kept old more) k.judging
 
     -- and they were validated
-    pub kept_judged : (later : Coding) → IsJudging bytes (cut_run (left old more) (sections_behind f.steps.seen old.place.at old.place.end more)) spaces later → IsCutting bytes f old spaces later more
+    pub kept_judged : (later : Coding) → IsJudging bytes (cut_run (counts_data f.steps.seen) (left old more) (sections_behind f.steps.seen old.place.at old.place.end more)) spaces later → IsCutting bytes f old spaces later more
     kept_judged later j = record { few = k.few; judging = j; skips = k.skips; count = k.count }
 
 part_goes : (bytes : List ℕ) (run : Run) (e : FrontStop) (t : Compilation) (more : List ℕ) → TakesPart bytes (Err e) run t.spaces t.codes → GoesOn bytes (Err e) t more
@@ -111,7 +111,7 @@ module _ (first : Option (List ℕ)) (before : ℕ) (left_now : Option (List ℕ
     same = ap (λ (c : Chunked). c.came) (sym chunk);
     judging = λ more few.
         let bytes = (a.came ++ a.piece) ++ more in
-        subst (λ (l : List Body). IsJudging bytes (after_parts (coded_all l) (ends (Refused r))) s.spaces s.codes) (sym kept)
+        subst (λ (l : List Body). IsJudging bytes (after_parts (coded_all (counts_data s.front.steps.seen) l) (ends (Refused r))) s.spaces s.codes) (sym kept)
         (kept_refused bytes s.front (kept_bodies i.kept.items) s.spaces s.codes i.cutter mid i.chunk.pending more (cutting_of bytes (keeping s i) (i.chunk.pending ++ more) (with_kept (kept_bodies i.kept.items) i.cutter) refl (a.going more few)) r refused);
   }
 
@@ -138,9 +138,9 @@ module _ (first : Option (List ℕ)) (before : ℕ) (left_now : Option (List ℕ
       cutting bytes more g = cutting_of bytes (keeping s i) (i.chunk.pending ++ more) (with_kept (kept_bodies i.kept.items) i.cutter) refl g
 
       abbrev rest : List ℕ → Run
-      rest more = cut_run (left i.cutter (i.chunk.pending ++ more)) (sections_behind s.front.steps.seen i.cutter.place.at i.cutter.place.end (i.chunk.pending ++ more))
+      rest more = cut_run (counts_data s.front.steps.seen) (left i.cutter (i.chunk.pending ++ more)) (sections_behind s.front.steps.seen i.cutter.place.at i.cutter.place.end (i.chunk.pending ++ more))
 
-      kept_next : (bytes more : List ℕ) → IsGoing bytes (keeping s i) (i.chunk.pending ++ more) → IsJudging bytes (after_parts (coded_all (kept_bodies i.kept.items)) (rest more)) s.spaces s.codes
+      kept_next : (bytes more : List ℕ) → IsGoing bytes (keeping s i) (i.chunk.pending ++ more) → IsJudging bytes (after_parts (coded_all (counts_data s.front.steps.seen) (kept_bodies i.kept.items)) (rest more)) s.spaces s.codes
       kept_next bytes more g = kept_judging bytes s.front (kept_bodies i.kept.items) s.spaces s.codes i.cutter i.cutter (i.chunk.pending ++ more) (cutting bytes more g)
 
       pub can_judge : CanTakeAll s.spaces s.codes (kept_bodies i.kept.items)
@@ -148,21 +148,21 @@ module _ (first : Option (List ℕ)) (before : ℕ) (left_now : Option (List ℕ
           let few = few_all first before left_now now may_read (keeping s i) i.chunk a in
           let e = append-nil came in
           let short : length (came ++ []) ≤ 67108869 = omega (arith, ap length e) in
-          (came ++ [], rest [], short, kept_next (came ++ []) [] (a.going [] short))
+          (came ++ [], rest [], short, counts_data s.front.steps.seen, kept_next (came ++ []) [] (a.going [] short))
 
-      pub judged_on : ((bytes : List ℕ) (run : Run) → length bytes ≤ 67108869 → IsJudging bytes (after_parts (coded_all (kept_bodies i.kept.items)) run) s.spaces s.codes → IsJudging bytes run t.spaces t.codes)
+      pub judged_on : ((bytes : List ℕ) (run : Run) (counted : Bool) → length bytes ≤ 67108869 → IsJudging bytes (after_parts (coded_all counted (kept_bodies i.kept.items)) run) s.spaces s.codes → IsJudging bytes run t.spaces t.codes)
           → IsArriving first before left_now now may_read (with_cutter t i.cutter) i.chunk
       judged_on takes = goes_on first before left_now now may_read (keeping s i) i.chunk a (with_cutter t i.cutter) i.chunk refl refl
           (λ bytes more g.
           let k = cutting bytes more g in
-          let j = subst (λ (x : Spaces). IsJudging bytes (rest more) x t.codes) spaces (takes bytes (rest more) k.few (kept_next bytes more g)) in
+          let j = subst (λ (x : Spaces). IsJudging bytes (rest more) x t.codes) spaces (takes bytes (rest more) (counts_data s.front.steps.seen) k.few (kept_next bytes more g)) in
           going_cutting bytes (with_cutter t i.cutter) (i.chunk.pending ++ more) i.cutter refl
           (rw (front, spaces) (kept_judged bytes s.front (kept_bodies i.kept.items) s.spaces s.codes i.cutter i.cutter (i.chunk.pending ++ more) k t.codes j)))
 
-      pub judged_stops : (e : FrontStop) → ((bytes : List ℕ) (run : Run) → length bytes ≤ 67108869 → IsJudging bytes (after_parts (coded_all (kept_bodies i.kept.items)) run) s.spaces s.codes → TakesPart bytes (Err e) run t.spaces t.codes)
+      pub judged_stops : (e : FrontStop) → ((bytes : List ℕ) (run : Run) (counted : Bool) → length bytes ≤ 67108869 → IsJudging bytes (after_parts (coded_all counted (kept_bodies i.kept.items)) run) s.spaces s.codes → TakesPart bytes (Err e) run t.spaces t.codes)
           → before < 2 ^ 64 - 1 → Settled (has_failed i.chunk.came) (Err e) t first left_now before now
       judged_stops e takes low = stops_there first before left_now now may_read (keeping s i) i.chunk a e t
-          (λ more few. part_goes (came ++ more) (rest more) e t more (takes (came ++ more) (rest more) few (kept_next (came ++ more) more (a.going more few)))) low
+          (λ more few. part_goes (came ++ more) (rest more) e t more (takes (came ++ more) (rest more) (counts_data s.front.steps.seen) few (kept_next (came ++ more) more (a.going more few)))) low
 
     module _ (r : Refusal) (f : IsFaulty first before left_now now may_read s i r) where
       abbrev all_came : List ℕ
@@ -173,7 +173,7 @@ module _ (first : Option (List ℕ)) (before : ℕ) (left_now : Option (List ℕ
           let few = few_all first before left_now now may_read f.was f.chunk f.arrived in
           let e = append-nil all_came in
           let short : length (all_came ++ []) ≤ 67108869 = omega (arith, ap length e) in
-          (all_came ++ [], ends (Refused r), short, f.judging [] short)
+          (all_came ++ [], ends (Refused r), short, counts_data s.front.steps.seen, f.judging [] short)
 
       failed_same : has_failed f.chunk.came ≡ has_failed i.chunk.came
       failed_same = ap has_failed f.same
@@ -182,11 +182,11 @@ module _ (first : Option (List ℕ)) (before : ℕ) (left_now : Option (List ℕ
       faulty_stops e goes low = subst (λ (b : Bool). Settled b (Err e) t first left_now before now) failed_same (stops_there first before left_now now may_read f.was f.chunk f.arrived e t goes low)
 
       -- a body is wrong
-      pub faulty_judged : (e : FrontStop) → ((bytes : List ℕ) (run : Run) → length bytes ≤ 67108869 → IsJudging bytes (after_parts (coded_all (kept_bodies i.kept.items)) run) s.spaces s.codes → TakesPart bytes (Err e) run t.spaces t.codes)
+      pub faulty_judged : (e : FrontStop) → ((bytes : List ℕ) (run : Run) (counted : Bool) → length bytes ≤ 67108869 → IsJudging bytes (after_parts (coded_all counted (kept_bodies i.kept.items)) run) s.spaces s.codes → TakesPart bytes (Err e) run t.spaces t.codes)
           → before < 2 ^ 64 - 1 → Settled (has_failed i.chunk.came) (Err e) t first left_now before now
-      faulty_judged e takes low = faulty_stops e (λ more few. part_goes (all_came ++ more) (ends (Refused r)) e t more (takes (all_came ++ more) (ends (Refused r)) few (f.judging more few))) low
+      faulty_judged e takes low = faulty_stops e (λ more few. part_goes (all_came ++ more) (ends (Refused r)) e t more (takes (all_came ++ more) (ends (Refused r)) (counts_data s.front.steps.seen) few (f.judging more few))) low
 
       -- none is
-      pub faulty_section : ((bytes : List ℕ) (run : Run) → length bytes ≤ 67108869 → IsJudging bytes (after_parts (coded_all (kept_bodies i.kept.items)) run) s.spaces s.codes → IsJudging bytes run t.spaces t.codes)
+      pub faulty_section : ((bytes : List ℕ) (run : Run) (counted : Bool) → length bytes ≤ 67108869 → IsJudging bytes (after_parts (coded_all counted (kept_bodies i.kept.items)) run) s.spaces s.codes → IsJudging bytes run t.spaces t.codes)
           → before < 2 ^ 64 - 1 → Settled (has_failed i.chunk.came) (Err (stop.Refused r)) t first left_now before now
-      faulty_section takes low = faulty_stops (stop.Refused r) (λ more few. refused_at (all_came ++ more) t.spaces t.codes (Refused r) r refl (takes (all_came ++ more) (ends (Refused r)) few (f.judging more few))) low
+      faulty_section takes low = faulty_stops (stop.Refused r) (λ more few. refused_at (all_came ++ more) t.spaces t.codes (Refused r) r refl (takes (all_came ++ more) (ends (Refused r)) (counts_data s.front.steps.seen) few (f.judging more few))) low

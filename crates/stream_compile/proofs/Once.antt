@@ -25,7 +25,7 @@ use Rattle.stream_compile.proofs.TextFaults.{text_not_outside, text_not_inside, 
 
 inside_once : (low last : ℕ) (items : List Item) (k : ℕ) (parts : List Part) (r s : Refusal) → AreOrdered low last parts → IsFaultInside items k parts r → IsFaultInside items k parts s → r.offset ≡ s.offset → r ≡ s
 inside_once low last items k [] r s o f g e = absurd f
-inside_once low last items k (Section at id ∷ parts) r s o f g e = inside_once (suc at) last items k parts r s o.2 f g e
+inside_once low last items k (Section at position ∷ parts) r s o f g e = inside_once (suc at) last items k parts r s o.2 f g e
 inside_once low last items k (Listed x ∷ parts) r s o (inl f) (inl g) e = use_once (context_of items) (use_of x) r s f g
 inside_once low last items k (Listed x ∷ parts) r s o (inl f) (inr g) e =
     let here = use_fault_stands low last (context_of items) (use_of x) r o.0 f in
@@ -52,7 +52,7 @@ inside_once low last items k (Coded b ∷ parts) r s o (inr f) (inr g) e = insid
 -- all are before the ending's error
 pub before_last : (low last : ℕ) (items : List Item) (k : ℕ) (parts : List Part) (r : Refusal) → AreOrdered low last parts → IsFaultInside items k parts r → r.offset < last
 before_last low last items k [] r o f = absurd f
-before_last low last items k (Section at id ∷ parts) r o f = before_last (suc at) last items k parts r o.2 f
+before_last low last items k (Section at position ∷ parts) r o f = before_last (suc at) last items k parts r o.2 f
 before_last low last items k (Listed x ∷ parts) r o (inl f) =
     let here = use_fault_stands low last (context_of items) (use_of x) r o.0 f in
     omega (arith, here.1, (use_goes_on low last (use_of x) o.0).1)
@@ -80,7 +80,7 @@ same_trees : (items : List Item) (k : ℕ) (parts : List Part) (xs ys : List Seq
 same_trees items k [] [] [] v w = refl
 same_trees items k [] (x ∷ xs) ys v w = absurd v
 same_trees items k [] [] (y ∷ ys) v w = absurd w
-same_trees items k (Section at id ∷ parts) xs ys v w = same_trees items k parts xs ys v w
+same_trees items k (Section at position ∷ parts) xs ys v w = same_trees items k parts xs ys v w
 same_trees items k (Listed x ∷ parts) xs ys v w = same_trees (items ++ x ∷ []) k parts xs ys v.1 w.1
 same_trees items k (Coded b ∷ parts) [] ys v w = absurd v
 same_trees items k (Coded b ∷ parts) (x ∷ xs) [] v w = absurd w
@@ -112,9 +112,9 @@ text_fits : (bytes : List ℕ) (front parts : List Part) (k words : ℕ) (trees 
     → AreValid (items_of front) k parts trees → text_bytes (items_of (module_read bytes).parts) (words + sizes (items_of (module_read bytes).parts) k (bodies_of parts) trees) ≤ max_text
     → IsTextFault (items_of front) k words parts r → ⊥
 text_fits bytes front [] k words trees r e v le f = f
-text_fits bytes front (Section at id ∷ parts) k words trees r e v le f =
-    text_fits bytes (front ++ Section at id ∷ []) parts k words trees r (e ∙ sym (append_assoc front (Section at id ∷ []) parts))
-    (rw (items_of-append front (Section at id ∷ []), append-nil (items_of front)) v) le (rw (items_of-append front (Section at id ∷ []), append-nil (items_of front)) f)
+text_fits bytes front (Section at position ∷ parts) k words trees r e v le f =
+    text_fits bytes (front ++ Section at position ∷ []) parts k words trees r (e ∙ sym (append_assoc front (Section at position ∷ []) parts))
+    (rw (items_of-append front (Section at position ∷ []), append-nil (items_of front)) v) le (rw (items_of-append front (Section at position ∷ []), append-nil (items_of front)) f)
 text_fits bytes front (Listed x ∷ parts) k words trees r e v le f =
     text_fits bytes (front ++ Listed x ∷ []) parts k words trees r (e ∙ sym (append_assoc front (Listed x ∷ []) parts))
     (rw (items_of-append front (Listed x ∷ [])) v.1) le (rw (items_of-append front (Listed x ∷ [])) f)

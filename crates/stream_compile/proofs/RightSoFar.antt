@@ -1,13 +1,16 @@
 -- What a compilation took of a module's bytes is right so far.
 use Rattle.std.proofs.Common.{◌≡◌, ℕ, zero, suc, ◌+◌, ◌-◌, Bool, true, false, cond, List, [], ◌∷◌, ◌++◌, length, drop, Option, Some, None, refl, sym, ap, ◌∙◌, append_assoc, arith}
+use Rattle.std.specs.Prelude.{is_some}
 use Rattle.std.proofs.lemmas.List.{append-nil}
 use Rattle.wasm_defs.specs.declared.fault.Kind.TheVariants.{Ended}
 use Rattle.wasm_defs.specs.declared.fault.Refusal.{Refusal}
 use Rattle.wasm_defs.specs.declared.item.Item.{Item}
+use Rattle.wasm_defs.specs.Context.{data_count_of}
 use Rattle.wasm_defs.specs.Entries.{Seen}
 use Rattle.wasm_defs.specs.Faults.{items_of, bodies_of, AreValid}
-use Rattle.wasm_defs.specs.Outside.{Part, Section, Listed, Coded, Run, Whole, Owed, ends, owes_code, no_end, sections_up_to, sections}
+use Rattle.wasm_defs.specs.Outside.{Part, Section, Listed, Coded, Run, Whole, Owed, ends, owes, no_end, sections_up_to, sections}
 use Rattle.wasm_laws.proofs.PartLists.{valid_both}
+use Rattle.index_spaces.specs.Spaces.{Spaces}
 use Rattle.section_reader.specs.declared.front.Front.{Front}
 use Rattle.section_reader.specs.Stages.{is_at_bodies}
 use Rattle.section_reader.specs.FrontLeft.{total}
@@ -18,10 +21,11 @@ use Rattle.body_cutter.specs.Sections.{End, Whole as AllCut, Faulty, Owed as Byt
 use Rattle.body_cutter.specs.Queues.{bodies_in}
 use Rattle.body_cutter.specs.Cuttings.{Cutting, left}
 use Rattle.stream_compile.specs.declared.compilation.Compilation.{Compilation}
-use Rattle.stream_compile.specs.CutBodies.{coded_all, behind, sections_behind}
+use Rattle.stream_compile.specs.CutBodies.{counts_data, coded_all, behind, sections_behind}
 use Rattle.stream_compile.specs.Progress.{IsJudged}
 use Rattle.stream_compile.specs.RightSoFar.{IsRightSoFar}
 use Rattle.stream_compile.specs.Streaming.{left_of, IsGoing, IsPlaced}
+use Rattle.stream_compile.proofs.Judging.{all_told}
 
 -- ---- parts one after the other
 
@@ -55,7 +59,7 @@ no_part false seen = refl
 
 no_section : (seen : Seen) (at : ℕ) (l : List ℕ) → l ≡ [] → (sections seen (record { at = at; rest = l; end = no_end })).parts ≡ []
 unfolding sections_up_to
-no_section seen at [] e = no_part (owes_code seen) seen
+no_section seen at [] e = no_part (owes seen) seen
 no_section seen at (b ∷ l) e = absurd cc
 
 nothing_behind : (e : End) (next : Run) → next.parts ≡ [] → (behind e next).parts ≡ []
@@ -63,18 +67,26 @@ nothing_behind AllCut next h = h
 nothing_behind (Faulty r) next h = refl
 nothing_behind BytesOwed next h = refl
 
-bodies_cut : (f : Front) (c : Cutting) → (left_of f (Some c) []).parts ≡ coded_all (bodies_in (left c []).queue)
+bodies_cut : (f : Front) (c : Cutting) → (left_of f (Some c) []).parts ≡ coded_all (counts_data f.steps.seen) (bodies_in (left c []).queue)
 bodies_cut f c =
-    parts_after (coded_all (bodies_in (left c []).queue)) (behind (left c []).ending (sections_behind f.steps.seen c.place.at c.place.end []))
-    ∙ ap (λ (l : List Part). coded_all (bodies_in (left c []).queue) ++ l) (nothing_behind (left c []).ending (sections_behind f.steps.seen c.place.at c.place.end []) (no_section f.steps.seen c.place.end _ (none_dropped (c.place.end - c.place.at) [] refl)))
-    ∙ append-nil (coded_all (bodies_in (left c []).queue))
+    parts_after (coded_all (counts_data f.steps.seen) (bodies_in (left c []).queue)) (behind (left c []).ending (sections_behind f.steps.seen c.place.at c.place.end []))
+    ∙ ap (λ (l : List Part). coded_all (counts_data f.steps.seen) (bodies_in (left c []).queue) ++ l) (nothing_behind (left c []).ending (sections_behind f.steps.seen c.place.at c.place.end []) (no_section f.steps.seen c.place.end _ (none_dropped (c.place.end - c.place.at) [] refl)))
+    ∙ append-nil (coded_all (counts_data f.steps.seen) (bodies_in (left c []).queue))
+
+-- the bodies are told what the items before them say
+counted_in : (came : List ℕ) (f : Front) (c : Cutting) {spaces : _} {n : ℕ} (j : IsJudged came (left_of f (Some c) []) spaces n)
+    → coded_all (counts_data f.steps.seen) (bodies_in (left c []).queue) ≡ coded_all (is_some (data_count_of (items_of j.front))) (bodies_in (left c []).queue)
+counted_in came f c j =
+    let bodies = bodies_in (left c []).queue in
+    all_told came (behind (left c []).ending (sections_behind f.steps.seen c.place.at c.place.end [])) _ _ (counts_data f.steps.seen) bodies j
+    ∙ ap (λ (s : Spaces). coded_all (is_some s.data_count) bodies) j.spaces_are
 
 -- ---- what came
 
 -- sections are valid
 sections_valid : (items : List Item) (k : ℕ) (told : List Part) → AreSections told → AreValid items k told []
 sections_valid items k [] are = tt
-sections_valid items k (Section at id ∷ told) are = sections_valid items k told are
+sections_valid items k (Section at position ∷ told) are = sections_valid items k told are
 sections_valid items k (Listed x ∷ told) are = absurd are
 sections_valid items k (Coded b ∷ told) are = absurd are
 
@@ -95,7 +107,7 @@ right came f None p j =
 right came f (Some c) p j = record {
   front = j.front;
   bodies = bodies_in (left c []).queue;
-  parts = j.parts ∙ ap (λ (l : List Part). j.front ++ l) (bodies_cut f c);
+  parts = j.parts ∙ ap (λ (l : List Part). j.front ++ l) (bodies_cut f c ∙ counted_in came f c j);
   trees = j.trees;
   valid = j.valid;
 }

@@ -1,6 +1,6 @@
 -- Bodies that were kept, and what workers made of them.
-use Rattle.std.proofs.Common.{◌≡◌, ◌≤◌, ◌<◌, ◌+◌, ◌*◌, ℕ, List, [], ◌∷◌, ◌++◌, length, Option, Some, None, Result, Ok, Err, All, inl, inr, refl, sym, ap, subst, ◌∙◌, arith, append_assoc, true≢false}
-use Rattle.std.specs.Prelude.{Bool, false, IfSome, is_some, option_to_list, reverse}
+use Rattle.std.proofs.Common.{◌≡◌, ◌<◌, ◌+◌, ◌*◌, ℕ, List, [], ◌∷◌, ◌++◌, length, Option, Some, None, Ok, Err, All, inr, refl, sym, ap, subst, ◌∙◌, arith, append_assoc, true≢false}
+use Rattle.std.specs.Prelude.{false, IfSome, is_some, option_to_list, reverse}
 use Rattle.std.proofs.lemmas.List.{append-nil, reverse-append, reverse-reverse}
 use Rattle.std.proofs.lemmas.List.Elements.{All-append}
 use Rattle.std.specs.Arc.{arc_value}
@@ -69,7 +69,7 @@ pub made_for : (spaces : Spaces) (cells : List ℕ) (n index : ℕ) (body : Body
 made_for spaces cells n index body k is same made = (
   made.code,
   subst (λ (m : ℕ). Stores cells m k.stored made.code) same made.is,
-  subst (λ (m : ℕ). Compiles (first_minimum spaces.tables) body.first (context_in spaces) m (body_read body.first body.bytes) (Ok made.code)) (same ∙ is) made.compiled,
+  subst (λ (m : ℕ). Compiles (first_minimum spaces.tables) body.first (context_in spaces) m (body_read (is_some spaces.data_count) body.first body.bytes) (Ok made.code)) (same ∙ is) made.compiled,
 )
 
 -- a body with a code of so many words

@@ -43,7 +43,7 @@ faulty_kind c tokens Ended f = absurd f
 
 code_kind : (c : Context) (b : Body) (r : Refusal) → IsCodeFault c (read_of b).code r → rank r.kind < 4
 code_kind c b r (inl t) = faulty_kind c (tokens_of t.before ++ t.token ∷ []) r.kind t.faulty
-code_kind c b r (inr s) = body_fault_lasts b.first b.bytes r s.is
+code_kind c b r (inr s) = body_fault_lasts b.counted b.first b.bytes r s.is
 
 use_ranks : (at index : ℕ) (starts : Bool) → rank (use_kind (at, index, starts)) < 4
 use_ranks at index true = omega arith
@@ -55,7 +55,7 @@ use_kind_rank c (Some u) r f = omega (arith, use_ranks u.0 u.1 u.2, ap (λ (s : 
 
 inside_kind : (items : List Item) (k : ℕ) (parts : List Part) (r : Refusal) → IsFaultInside items k parts r → rank r.kind < 4
 inside_kind items k [] r f = absurd f
-inside_kind items k (Section at id ∷ parts) r f = inside_kind items k parts r f
+inside_kind items k (Section at position ∷ parts) r f = inside_kind items k parts r f
 inside_kind items k (Listed x ∷ parts) r (inl f) = use_kind_rank (context_of items) (use_of x) r f
 inside_kind items k (Listed x ∷ parts) r (inr f) = inside_kind (items ++ x ∷ []) k parts r f
 inside_kind items k (Coded b ∷ parts) r (inl f) = code_kind (context_at items k b) b r f
@@ -63,7 +63,7 @@ inside_kind items k (Coded b ∷ parts) r (inr f) = inside_kind items (suc k) pa
 
 text_kind : (items : List Item) (k words : ℕ) (parts : List Part) (r : Refusal) → IsTextFault items k words parts r → rank r.kind < 4
 text_kind items k words [] r f = absurd f
-text_kind items k words (Section at id ∷ parts) r f = text_kind items k words parts r f
+text_kind items k words (Section at position ∷ parts) r f = text_kind items k words parts r f
 text_kind items k words (Listed x ∷ parts) r f = text_kind (items ++ x ∷ []) k words parts r f
 text_kind items k words (Coded b ∷ parts) r (tree, v, inl f) = subst (λ (s : Refusal). rank s.kind < 4) (sym f.1) (omega arith)
 text_kind items k words (Coded b ∷ parts) r (tree, v, inr f) = text_kind items (suc k) (words + size_of items k b tree) parts r f.1
@@ -84,14 +84,14 @@ ended_is_owed bytes r (inr f) k = absurd (not_ended r.kind (text_kind [] 0 0 (mo
 
 front_ordered : (low last : ℕ) (front back : List Part) → AreOrdered low last (front ++ back) → AreOrdered low last front
 front_ordered low last [] back o = tt
-front_ordered low last (Section at id ∷ front) back o = (o.0, o.1, front_ordered (suc at) last front back o.2)
+front_ordered low last (Section at position ∷ front) back o = (o.0, o.1, front_ordered (suc at) last front back o.2)
 front_ordered low last (Listed x ∷ front) back o = (o.0, front_ordered (behind_use low (use_of x)) last front back o.1)
 front_ordered low last (Coded b ∷ front) back o = (o.0, front_ordered (end_of b) last front back o.1)
 
 -- the parts in front end where the others begin
 split : (low last : ℕ) (front back : List Part) → AreOrdered low last (front ++ back) → (mid : ℕ) × (low ≤ mid) × AreOrdered low mid front × AreOrdered mid last back
 split low last [] back o = (low, omega arith, tt, o)
-split low last (Section at id ∷ front) back o = let q = split (suc at) last front back o.2 in (q.0, omega (arith, o.0, q.1), (o.0, omega (arith, q.1), q.2), q.3)
+split low last (Section at position ∷ front) back o = let q = split (suc at) last front back o.2 in (q.0, omega (arith, o.0, q.1), (o.0, omega (arith, q.1), q.2), q.3)
 split low last (Listed x ∷ front) back o =
     let q = split (behind_use low (use_of x)) last front back o.1 in
     (q.0, omega (arith, q.1, (use_goes_on low last (use_of x) o.0).0), (use_before low last q.0 (use_of x) o.0 q.1, q.2), q.3)
@@ -104,7 +104,7 @@ split low last (Coded b ∷ front) back o =
 
 inside_stays : (items : List Item) (k : ℕ) (front back : List Part) (r : Refusal) → IsFaultInside items k front r → IsFaultInside items k (front ++ back) r
 inside_stays items k [] back r f = absurd f
-inside_stays items k (Section at id ∷ front) back r f = inside_stays items k front back r f
+inside_stays items k (Section at position ∷ front) back r f = inside_stays items k front back r f
 inside_stays items k (Listed x ∷ front) back r (inl f) = inl f
 inside_stays items k (Listed x ∷ front) back r (inr f) = inr (inside_stays (items ++ x ∷ []) k front back r f)
 inside_stays items k (Coded b ∷ front) back r (inl f) = inl f
@@ -112,7 +112,7 @@ inside_stays items k (Coded b ∷ front) back r (inr f) = inr (inside_stays item
 
 text_stays : (items : List Item) (k words : ℕ) (front back : List Part) (r : Refusal) → IsTextFault items k words front r → IsTextFault items k words (front ++ back) r
 text_stays items k words [] back r f = absurd f
-text_stays items k words (Section at id ∷ front) back r f = text_stays items k words front back r f
+text_stays items k words (Section at position ∷ front) back r f = text_stays items k words front back r f
 text_stays items k words (Listed x ∷ front) back r f = text_stays (items ++ x ∷ []) k words front back r f
 text_stays items k words (Coded b ∷ front) back r (tree, v, inl f) = (tree, v, inl f)
 text_stays items k words (Coded b ∷ front) back r (tree, v, inr f) = (tree, v, inr (f.0, text_stays items (suc k) (words + size_of items k b tree) front back r f.1))
@@ -121,7 +121,7 @@ text_stays items k words (Coded b ∷ front) back r (tree, v, inr f) = (tree, v,
 
 inside_splits : (items : List Item) (k : ℕ) (front back : List Part) (r : Refusal) → IsFaultInside items k (front ++ back) r → IsFaultInside items k front r ⊎ ((xs : List Item) × (n : ℕ) × IsFaultInside xs n back r)
 inside_splits items k [] back r f = inr (items, k, f)
-inside_splits items k (Section at id ∷ front) back r f = inside_splits items k front back r f
+inside_splits items k (Section at position ∷ front) back r f = inside_splits items k front back r f
 inside_splits items k (Listed x ∷ front) back r (inl f) = inl (inl f)
 inside_splits items k (Listed x ∷ front) back r (inr f) = elim (inside_splits (items ++ x ∷ []) k front back r f) [ inl g ↦ inl (inr g) | inr g ↦ inr g ]
 inside_splits items k (Coded b ∷ front) back r (inl f) = inl (inl f)
@@ -129,7 +129,7 @@ inside_splits items k (Coded b ∷ front) back r (inr f) = elim (inside_splits i
 
 text_splits : (items : List Item) (k words : ℕ) (front back : List Part) (r : Refusal) → IsTextFault items k words (front ++ back) r → IsTextFault items k words front r ⊎ ((xs : List Item) × (n m : ℕ) × IsTextFault xs n m back r)
 text_splits items k words [] back r f = inr (items, k, words, f)
-text_splits items k words (Section at id ∷ front) back r f = text_splits items k words front back r f
+text_splits items k words (Section at position ∷ front) back r f = text_splits items k words front back r f
 text_splits items k words (Listed x ∷ front) back r f = text_splits (items ++ x ∷ []) k words front back r f
 text_splits items k words (Coded b ∷ front) back r (tree, v, inl f) = inl (tree, v, inl f)
 text_splits items k words (Coded b ∷ front) back r (tree, v, inr f) =

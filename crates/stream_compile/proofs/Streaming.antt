@@ -22,7 +22,7 @@ use Rattle.body_cutter.specs.Places.{Place}
 use Rattle.body_cutter.specs.Cuttings.{Cutting, Handed, left, handed, no_batch, is_whole, IsFed, IsRefused, Ends}
 use Rattle.image_linker.specs.Judging.{IsVerdictOf}
 use Rattle.stream_compile.specs.declared.compilation.Compilation.{Compilation}
-use Rattle.stream_compile.specs.CutBodies.{coded_all, cut_run, sections_behind}
+use Rattle.stream_compile.specs.CutBodies.{counts_data, coded_all, cut_run, sections_behind}
 use Rattle.wasm_defs.specs.declared.fault.Kind.TheVariants.{Ended}
 use Rattle.wasm_defs.specs.declared.front_stop.FrontStop.{FrontStop}
 use Rattle.wasm_defs.specs.declared.front_stop.FrontStop.TheVariants as stop
@@ -46,7 +46,7 @@ pub record IsReading (bytes : List ℕ) (f : Front) (spaces : Spaces) (codes : C
 
 pub record IsCutting (bytes : List ℕ) (f : Front) (c : Cutting) (spaces : Spaces) (codes : Coding) (more : List ℕ) : Type 0 where
   pub few : length bytes ≤ 67108869
-  pub judging : IsJudging bytes (cut_run (left c more) (sections_behind f.steps.seen c.place.at c.place.end more)) spaces codes
+  pub judging : IsJudging bytes (cut_run (counts_data f.steps.seen) (left c more) (sections_behind f.steps.seen c.place.at c.place.end more)) spaces codes
   pub skips : can_skip f c.place.end ≡ true
   pub count : c.place.at + length more ≡ length bytes
 
@@ -182,11 +182,11 @@ module _ (bytes : List ℕ) (s : Compilation) (x : Item) (more : List ℕ) (t : 
 
   -- the bodies come
   pub item_cutting : (later : Spaces) (c : Cutting) (count end : ℕ) → UsesRight (context_in s.spaces) (use_of x) → later ≡ with_item s.spaces x → BodiesCome count end s.front
-      → ((rest : List ℕ) → onward_left s.front rest ≡ cut_run (left c rest) (sections_behind s.front.steps.seen c.place.at c.place.end rest)) → c.place.at ≡ total s.front → c.place.end ≡ end
+      → ((rest : List ℕ) → onward_left s.front rest ≡ cut_run (counts_data s.front.steps.seen) (left c rest) (sections_behind s.front.steps.seen c.place.at c.place.end rest)) → c.place.at ≡ total s.front → c.place.end ≡ end
       → IsCutting bytes s.front c later s.codes more
   item_cutting later c count end starts is come run at ends = record {
     few = t.few;
-    judging = judging_on bytes (onward_left s.front more) (cut_run (left c more) (sections_behind s.front.steps.seen c.place.at c.place.end more)) later s.codes (run more) (item_judged later starts is);
+    judging = judging_on bytes (onward_left s.front more) (cut_run (counts_data s.front.steps.seen) (left c more) (sections_behind s.front.steps.seen c.place.at c.place.end more)) later s.codes (run more) (item_judged later starts is);
     skips = subst (λ (n : ℕ). can_skip s.front n ≡ true) (sym ends) come.skip;
     count = omega (arith, at, t.count);
   }
@@ -194,15 +194,15 @@ module _ (bytes : List ℕ) (s : Compilation) (x : Item) (more : List ℕ) (t : 
 -- the bodies, by the cutter
 pub bodies_cut : (f : Front) (c : Cutting) (index count end least : ℕ) → BodiesCome count end f
     → ((rest : List ℕ) → left c rest ≡ handed (no_batch least) (bodies_from index count (record { at = total f; rest = rest; end = end }))) → c.place.at ≡ total f → c.place.end ≡ end
-    → (rest : List ℕ) → onward_left f rest ≡ cut_run (left c rest) (sections_behind f.steps.seen c.place.at c.place.end rest)
+    → (rest : List ℕ) → onward_left f rest ≡ cut_run (counts_data f.steps.seen) (left c rest) (sections_behind f.steps.seen c.place.at c.place.end rest)
 bodies_cut f c index count end least come is at ends rest =
     let g = bodies_from index count (record { at = total f; rest = rest; end = end }) in
     come.run rest
     ∙ entries_cut count index f.steps.seen come.counted (record { at = total f; rest = rest; end = end }) come.ahead
-    ∙ sym (handed_run least g (sections_behind f.steps.seen (total f) end rest))
-    ∙ ap (λ (h : Handed). cut_run h (sections_behind f.steps.seen (total f) end rest)) (sym (is rest))
-    ∙ ap (λ (n : ℕ). cut_run (left c rest) (sections_behind f.steps.seen n end rest)) (sym at)
-    ∙ ap (λ (n : ℕ). cut_run (left c rest) (sections_behind f.steps.seen c.place.at n rest)) (sym ends)
+    ∙ sym (handed_run (counts_data f.steps.seen) least g (sections_behind f.steps.seen (total f) end rest))
+    ∙ ap (λ (h : Handed). cut_run (counts_data f.steps.seen) h (sections_behind f.steps.seen (total f) end rest)) (sym (is rest))
+    ∙ ap (λ (n : ℕ). cut_run (counts_data f.steps.seen) (left c rest) (sections_behind f.steps.seen n end rest)) (sym at)
+    ∙ ap (λ (n : ℕ). cut_run (counts_data f.steps.seen) (left c rest) (sections_behind f.steps.seen c.place.at n rest)) (sym ends)
 
 -- after an item other than the code section's count the bodies don't come
 pub not_bodies : (x : Item) (f : Front) → ((count : ℕ × ℕ) (end : ℕ) → x ≡ item.Code count end → ⊥) → Follows x f → is_at_bodies f.steps.stage ≡ false
@@ -216,7 +216,9 @@ not_bodies (item.Global ty mutable init) f none h = h
 not_bodies (item.Exported label kind index) f none h = h
 not_bodies (item.Start index) f none h = h
 not_bodies (item.Element table place functions) f none h = h
-not_bodies (item.Segment memory place bytes) f none h = h
+not_bodies (item.DataCount count) f none h = h
+not_bodies (item.Passive form bytes) f none h = h
+not_bodies (item.Segment form memory place bytes) f none h = h
 
 -- the bodies may begin
 pub may_begin : (bytes : List ℕ) (s : Compilation) (count : ℕ × ℕ) (end : ℕ) (more : List ℕ) (t : IsTaking bytes s (item.Code count end) more) (later : Spaces) → UsesRight (context_in s.spaces) (use_of (item.Code count end)) → later ≡ with_item s.spaces (item.Code count end)
@@ -274,16 +276,16 @@ less_none old new g h piece taken none still front all some t same =
 
 module _ (bytes : List ℕ) (f : Front) (old mid : Cutting) (spaces : Spaces) (codes : Coding) (piece more : List ℕ) (k : IsCutting bytes f old spaces codes (piece ++ more)) where
   -- the closed batches come next
-  pub fed_judging : (taken : ℕ) → IsFed old piece taken mid → IsJudging bytes (after_parts (coded_all mid.queue.closed) (rest_run f.steps.seen mid (drop taken piece ++ more))) spaces codes
+  pub fed_judging : (taken : ℕ) → IsFed old piece taken mid → IsJudging bytes (after_parts (coded_all (counts_data f.steps.seen) mid.queue.closed) (rest_run f.steps.seen mid (drop taken piece ++ more))) spaces codes
   fed_judging taken fed =
-      judging_on bytes (cut_run (left old (piece ++ more)) (sections_behind f.steps.seen old.place.at old.place.end (piece ++ more))) (after_parts (coded_all mid.queue.closed) (rest_run f.steps.seen mid (drop taken piece ++ more))) spaces codes
+      judging_on bytes (cut_run (counts_data f.steps.seen) (left old (piece ++ more)) (sections_behind f.steps.seen old.place.at old.place.end (piece ++ more))) (after_parts (coded_all (counts_data f.steps.seen) mid.queue.closed) (rest_run f.steps.seen mid (drop taken piece ++ more))) spaces codes
       (run_fed old mid piece taken fed f.steps.seen more ∙ split_rest f.steps.seen mid (drop taken piece ++ more)) k.judging
 
   -- and then the section's error
-  pub refused_judging : (r : Refusal) → IsRefused old piece r mid → IsJudging bytes (after_parts (coded_all mid.queue.closed) (ends (Refused r))) spaces codes
+  pub refused_judging : (r : Refusal) → IsRefused old piece r mid → IsJudging bytes (after_parts (coded_all (counts_data f.steps.seen) mid.queue.closed) (ends (Refused r))) spaces codes
   refused_judging r refused =
-      judging_on bytes (cut_run (left old (piece ++ more)) (sections_behind f.steps.seen old.place.at old.place.end (piece ++ more))) (after_parts (coded_all mid.queue.closed) (ends (Refused r))) spaces codes
-      (refused_run old mid piece more r (sections_behind f.steps.seen old.place.at old.place.end (piece ++ more)) refused) k.judging
+      judging_on bytes (cut_run (counts_data f.steps.seen) (left old (piece ++ more)) (sections_behind f.steps.seen old.place.at old.place.end (piece ++ more))) (after_parts (coded_all (counts_data f.steps.seen) mid.queue.closed) (ends (Refused r))) spaces codes
+      (refused_run (counts_data f.steps.seen) old mid piece more r (sections_behind f.steps.seen old.place.at old.place.end (piece ++ more)) refused) k.judging
 
 -- the bodies that were closed are taken
 module _ (bytes : List ℕ) (f : Front) (old mid new : Cutting) (spaces : Spaces) (codes : Coding) (piece more : List ℕ) (taken : ℕ) (fed : IsFed old piece taken mid)
@@ -291,7 +293,7 @@ module _ (bytes : List ℕ) (f : Front) (old mid new : Cutting) (spaces : Spaces
   abbrev behind_piece : List ℕ
   behind_piece = drop taken piece ++ more
 
-  judged_run : (later : List ℕ) → rest_run f.steps.seen mid later ≡ cut_run (left new later) (sections_behind f.steps.seen new.place.at new.place.end later)
+  judged_run : (later : List ℕ) → rest_run f.steps.seen mid later ≡ cut_run (counts_data f.steps.seen) (left new later) (sections_behind f.steps.seen new.place.at new.place.end later)
   judged_run later = rest_is f.steps.seen mid new later place closed begun_same
 
   at_same : new.place.at ≡ mid.place.at
@@ -304,7 +306,7 @@ module _ (bytes : List ℕ) (f : Front) (old mid new : Cutting) (spaces : Spaces
       → IsCutting bytes f new spaces codes behind_piece
   cutting_on skips few count j = record {
     few = few;
-    judging = judging_on bytes (rest_run f.steps.seen mid behind_piece) (cut_run (left new behind_piece) (sections_behind f.steps.seen new.place.at new.place.end behind_piece)) spaces codes (judged_run behind_piece) j;
+    judging = judging_on bytes (rest_run f.steps.seen mid behind_piece) (cut_run (counts_data f.steps.seen) (left new behind_piece) (sections_behind f.steps.seen new.place.at new.place.end behind_piece)) spaces codes (judged_run behind_piece) j;
     skips = subst (λ (n : ℕ). can_skip f n ≡ true) (sym end_same) skips;
     count = ap (λ (n : ℕ). n + length behind_piece) at_same ∙ count_fed old mid piece taken fed (length bytes) more count;
   }
@@ -317,13 +319,13 @@ module _ (bytes : List ℕ) (f : Front) (old mid new : Cutting) (spaces : Spaces
     prompt = prompt_on mid new fed.prompt.queue place;
   }
 
-  cut_parts : length (cut_run (left old piece) (sections_behind f.steps.seen old.place.at old.place.end piece)).parts ≡ length (coded_all mid.queue.closed) + length (rest_run f.steps.seen mid (drop taken piece)).parts
+  cut_parts : length (cut_run (counts_data f.steps.seen) (left old piece) (sections_behind f.steps.seen old.place.at old.place.end piece)).parts ≡ length (coded_all (counts_data f.steps.seen) mid.queue.closed) + length (rest_run f.steps.seen mid (drop taken piece)).parts
   cut_parts =
-      ap (λ (l : List ℕ). length (cut_run (left old l) (sections_behind f.steps.seen old.place.at old.place.end l)).parts) (sym (append-nil piece))
+      ap (λ (l : List ℕ). length (cut_run (counts_data f.steps.seen) (left old l) (sections_behind f.steps.seen old.place.at old.place.end l)).parts) (sym (append-nil piece))
       ∙ ap (λ (r : Run). length r.parts) (run_fed old mid piece taken fed f.steps.seen [])
-      ∙ ap (λ (l : List ℕ). length (cut_run (left mid l) (sections_behind f.steps.seen mid.place.at mid.place.end l)).parts) (append-nil (drop taken piece))
+      ∙ ap (λ (l : List ℕ). length (cut_run (counts_data f.steps.seen) (left mid l) (sections_behind f.steps.seen mid.place.at mid.place.end l)).parts) (append-nil (drop taken piece))
       ∙ ap (λ (r : Run). length r.parts) (split_rest f.steps.seen mid (drop taken piece))
-      ∙ parts_told (coded_all mid.queue.closed) (rest_run f.steps.seen mid (drop taken piece))
+      ∙ parts_told (coded_all (counts_data f.steps.seen) mid.queue.closed) (rest_run f.steps.seen mid (drop taken piece))
 
   -- the section is whole
   module _ (g : Front) (whole : is_whole new ≡ true) (is : (later : List ℕ) → left new later ≡ record { queue = new.queue; ending = cut.Whole }) (skipped : (later : List ℕ) → onward_left g later ≡ sections f.steps.seen (record { at = new.place.end; rest = later; end = no_end })) where
@@ -342,10 +344,10 @@ module _ (bytes : List ℕ) (f : Front) (old mid new : Cutting) (spaces : Spaces
       };
     }
 
-    pub less_whole : length (onward_left g (drop taken piece)).parts ≤ length (cut_run (left old piece) (sections_behind f.steps.seen old.place.at old.place.end piece)).parts
+    pub less_whole : length (onward_left g (drop taken piece)).parts ≤ length (cut_run (counts_data f.steps.seen) (left old piece) (sections_behind f.steps.seen old.place.at old.place.end piece)).parts
     less_whole = omega (arith, ap (λ (r : Run). length r.parts) (skipped_run (drop taken piece)), cut_parts)
 
-  pub less_cut : length (cut_run (left new (drop taken piece)) (sections_behind f.steps.seen new.place.at new.place.end (drop taken piece))).parts ≤ length (cut_run (left old piece) (sections_behind f.steps.seen old.place.at old.place.end piece)).parts
+  pub less_cut : length (cut_run (counts_data f.steps.seen) (left new (drop taken piece)) (sections_behind f.steps.seen new.place.at new.place.end (drop taken piece))).parts ≤ length (cut_run (counts_data f.steps.seen) (left old piece) (sections_behind f.steps.seen old.place.at old.place.end piece)).parts
   less_cut = omega (arith, cut_parts, ap (λ (r : Run). length r.parts) (judged_run (drop taken piece)))
 
 -- ---- errors
@@ -376,12 +378,12 @@ stops_not : (old : Cutting) (r : Refusal) → old.place.stop ≡ None → old.pl
 stops_not old r e f = let t : None ≡ Some r = sym e ∙ f in absurd cc
 
 pub ended_judging : (bytes : List ℕ) (f : Front) (old new : Cutting) (spaces : Spaces) (codes : Coding) (s : FrontStop) → IsCutting bytes f old spaces codes [] → IsWaiting old → Ends old (Err s) new
-    → IsJudging bytes (after_parts (coded_all new.queue.closed) (ends Owed)) spaces codes × (s ≡ stop.Refused (record { offset = length bytes; kind = Ended }))
+    → IsJudging bytes (after_parts (coded_all (counts_data f.steps.seen) new.queue.closed) (ends Owed)) spaces codes × (s ≡ stop.Refused (record { offset = length bytes; kind = Ended }))
 ended_judging bytes f old new spaces codes (stop.Refused r) k w (inl e) = absurd (stops_not old r w.going e.0)
 ended_judging bytes f old new spaces codes (stop.Refused r) k w (inr e) =
     let count : old.place.at ≡ length bytes = omega (arith, k.count) in (
-      judging_on bytes (cut_run (left old []) (sections_behind f.steps.seen old.place.at old.place.end [])) (after_parts (coded_all new.queue.closed) (ends Owed)) spaces codes
-          (ended_run old new (sections_behind f.steps.seen old.place.at old.place.end []) w.prompt e.owed e.closed) k.judging,
+      judging_on bytes (cut_run (counts_data f.steps.seen) (left old []) (sections_behind f.steps.seen old.place.at old.place.end [])) (after_parts (coded_all (counts_data f.steps.seen) new.queue.closed) (ends Owed)) spaces codes
+          (ended_run (counts_data f.steps.seen) old new (sections_behind f.steps.seen old.place.at old.place.end []) w.prompt e.owed e.closed) k.judging,
       ap (λ (x : Refusal). stop.Refused x) (e.fault ∙ ap (λ (n : ℕ). record { offset = n; kind = Ended }) count),
     )
 ended_judging bytes f old new spaces codes stop.NoMemory k w e = absurd e

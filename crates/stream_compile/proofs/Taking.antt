@@ -1,16 +1,17 @@
 -- What taking a part comes to.
-use Rattle.std.proofs.Common.{◌≡◌, ◌<◌, ◌≤◌, ◌+◌, ◌*◌, inl, inr, ℕ, List, [], ◌∷◌, ◌++◌, length, Result, Ok, Err, refl, sym, ap, ◌∙◌, subst, arith}
+use Rattle.std.proofs.Common.{◌≡◌, ◌<◌, ◌≤◌, ◌+◌, ◌*◌, inl, inr, ℕ, Bool, List, [], ◌∷◌, ◌++◌, length, Result, Ok, Err, refl, sym, ap, ◌∙◌, subst, arith}
+use Rattle.std.specs.Prelude.{is_some}
 use Rattle.std.proofs.lemmas.List.{length-map}
 use Rattle.rv_isa.specs.Words.{word_of}
 use Rattle.rv_isa.specs.declared.compiled.Code.{Code}
 use Rattle.wasm_defs.specs.declared.item.Item.{Item}
 use Rattle.wasm_defs.specs.declared.item.Item.TheVariants.{Signature}
-use Rattle.wasm_laws.specs.Kept.{TypesAreSmall}
+use Rattle.wasm_defs.specs.SmallTypes.{TypesAreSmall}
 use Rattle.wasm_laws.proofs.Exports.{types_are_small}
 use Rattle.wasm_laws.proofs.PartLists.{items_of-append}
 use Rattle.wasm_defs.specs.Limits.{max_text}
 use Rattle.wasm_defs.specs.Trees.{Seq}
-use Rattle.wasm_defs.specs.Bodies.{BodyRead}
+use Rattle.wasm_defs.specs.Bodies.{body_read}
 use Rattle.wasm_defs.specs.Context.{context_of, types_of}
 use Rattle.wasm_defs.specs.Outside.{Body, Run, Part, after_part}
 use Rattle.wasm_defs.specs.Outside as outside
@@ -34,21 +35,22 @@ use Rattle.wasm_laws.specs.Order.{first_section}
 use Rattle.wasm_laws.proofs.Order.{around_body, parts_in_module}
 use Rattle.stream_compile.specs.Codes.{Coding}
 use Rattle.stream_compile.specs.Progress.{IsJudged, IsJudging, CanTakeNext, TakesPart, TakesBody, TakesCode, stop_at, body_of_spaces}
-use Rattle.stream_compile.proofs.Judging.{typed_there, few_functions, few_bodies, few_imports}
+use Rattle.stream_compile.proofs.Judging.{told_there, typed_there, few_functions, few_bodies, few_imports}
 use Rattle.stream_compile.proofs.Compiled.{after_body, text_passes, body_refused}
 
 -- ---- a body
 
-abbrev pub given_body : GivenBody → Body
-given_body b = record { size = b.size; first = b.first; bytes = b.bytes }
+abbrev pub given_body : (counted : Bool) → GivenBody → Body
+given_body counted b = record { counted = counted; size = b.size; first = b.first; bytes = b.bytes }
 
 -- by the index spaces that the code has
-pub moved_body : (spaces context : Spaces) (bodies imported first : ℕ) (read : BodyRead) (r : Result Code BodyStop) → context ≡ spaces → imported ≡ context.imported
-    → Compiles (first_minimum context.tables) first (context_in context) (imported + bodies) read r → Compiles (first_minimum spaces.tables) first (context_in spaces) (spaces.imported + bodies) read r
-moved_body spaces context bodies imported first read r same count h =
+pub moved_body : (spaces context : Spaces) (bodies imported first : ℕ) (bytes : List ℕ) (r : Result Code BodyStop) → context ≡ spaces → imported ≡ context.imported
+    → Compiles (first_minimum context.tables) first (context_in context) (imported + bodies) (body_read (is_some context.data_count) first bytes) r
+    → Compiles (first_minimum spaces.tables) first (context_in spaces) (spaces.imported + bodies) (body_read (is_some spaces.data_count) first bytes) r
+moved_body spaces context bodies imported first bytes r same count h =
     let k : imported ≡ spaces.imported = count ∙ ap (λ (x : Spaces). x.imported) same in
-    let g = subst (λ (x : Spaces). Compiles (first_minimum x.tables) first (context_in x) (imported + bodies) read r) same h in
-    subst (λ (n : ℕ). Compiles (first_minimum spaces.tables) first (context_in spaces) (n + bodies) read r) k g
+    let g = subst (λ (x : Spaces). Compiles (first_minimum x.tables) first (context_in x) (imported + bodies) (body_read (is_some x.data_count) first bytes) r) same h in
+    subst (λ (n : ℕ). Compiles (first_minimum spaces.tables) first (context_in spaces) (n + bodies) (body_read (is_some spaces.data_count) first bytes) r) k g
 
 -- the code is that of the body after these items and so many bodies
 code_of_body : (items : List Item) (k : ℕ) (b : Body) (tree : Seq) (code : Code)
@@ -76,24 +78,30 @@ has_code s n items k b code same count =
     let counted = subst (λ (m : ℕ). Compiles (first_minimum (spaces_of items).tables) b.first (context_in (spaces_of items)) ((spaces_of items).imported + m) (read_of b) (Ok code) → HasCode (spaces_of items) m items k b code) (sym count) here in
     subst (λ (x : Spaces). Compiles (first_minimum x.tables) b.first (context_in x) (x.imported + n) (read_of b) (Ok code) → HasCode x n items k b code) (sym same) counted
 
-module _ (bytes : List ℕ) (left : Run) (spaces : Spaces) (codes : Coding) (b : GivenBody) (j : IsJudging bytes (after_part (outside.Coded (given_body b)) left) spaces codes) where
-  coded : (code : Code) → TakesBody spaces codes.count b (Ok code) → HasCode spaces codes.count (items_of j.judged.front) (length (bodies_of j.judged.front)) (given_body b) code
-  coded code h = has_code spaces codes.count (items_of j.judged.front) (length (bodies_of j.judged.front)) (given_body b) code j.judged.spaces_are j.judged.count h
+module _ (bytes : List ℕ) (left : Run) (spaces : Spaces) (codes : Coding) (b : GivenBody) (counted : Bool) (j : IsJudging bytes (after_part (outside.Coded (given_body counted b)) left) spaces codes) where
+  -- read as one of the module
+  read_as : (r : Result Code BodyStop) → TakesBody spaces codes.count b r → Compiles (first_minimum spaces.tables) b.first (context_in spaces) (spaces.imported + codes.count) (read_of (given_body counted b)) r
+  read_as r h =
+      subst (λ (k : Bool). Compiles (first_minimum spaces.tables) b.first (context_in spaces) (spaces.imported + codes.count) (body_read k b.first b.bytes) r)
+      (told_there bytes left spaces codes.count (given_body counted b) j.judged) h
+
+  coded : (code : Code) → TakesBody spaces codes.count b (Ok code) → HasCode spaces codes.count (items_of j.judged.front) (length (bodies_of j.judged.front)) (given_body counted b) code
+  coded code h = has_code spaces codes.count (items_of j.judged.front) (length (bodies_of j.judged.front)) (given_body counted b) code j.judged.spaces_are j.judged.count (read_as (Ok code) h)
 
   front_is : front_of spaces.imported ≡ front_size (items_of j.judged.front)
   front_is = ap (λ (x : Spaces). front_of x.imported) j.judged.spaces_are
 
   pub body_stops : (s : FrontStop) (new : Coding) → TakesCode spaces codes b (Err s) new → TakesPart bytes (Err s) left spaces new
-  body_stops (Refused r) new (inl h) = body_refused bytes left spaces codes (given_body b) r j h
+  body_stops (Refused r) new (inl h) = body_refused bytes left spaces codes (given_body counted b) r j (read_as (Err (body.Refused r)) h)
   body_stops (Refused r) new (inr (code, h, over, is)) =
       let c = coded code h in
-      rw is (text_passes bytes left spaces codes (given_body b) j c.tree code c.valid c.is_code (omega (arith, over, front_is)))
+      rw is (text_passes bytes left spaces codes (given_body counted b) j c.tree code c.valid c.is_code (omega (arith, over, front_is)))
   body_stops NoMemory new h = tt
 
   pub body_taken : (new : Coding) → TakesCode spaces codes b (Ok tt) new → TakesPart bytes (Ok tt) left spaces new
   body_taken new (code, h, new_is, under) =
       let c = coded code h in
-      rw new_is (after_body bytes left spaces codes (given_body b) j c.tree code c.valid c.is_code (omega (arith, under, front_is, ap (λ (x : Coding). x.words) new_is)))
+      rw new_is (after_body bytes left spaces codes (given_body counted b) j c.tree code c.valid c.is_code (omega (arith, under, front_is, ap (λ (x : Coding). x.words) new_is)))
 
 -- ---- a part can be taken
 
@@ -109,15 +117,15 @@ item_is_small bytes left spaces bodies x j =
     let e = ap items_of j.parts ∙ items_of-append j.front (outside.Listed x ∷ left.parts) in
     one_is_small (items_of j.front) x (items_of left.parts) (subst (λ (items : List Item). TypesAreSmall (types_of items)) e (types_are_small bytes))
 
-pub can_take : (bytes : List ℕ) (left : Run) (spaces : Spaces) (codes : Coding) (b : GivenBody) → length bytes ≤ 67108869
-    → IsJudging bytes (after_part (outside.Coded (given_body b)) left) spaces codes → CanTakeNext spaces codes b
-can_take bytes left spaces codes b few j =
-    let next = after_part (outside.Coded (given_body b)) left in
+pub can_take : (bytes : List ℕ) (left : Run) (spaces : Spaces) (codes : Coding) (b : GivenBody) (counted : Bool) → length bytes ≤ 67108869
+    → IsJudging bytes (after_part (outside.Coded (given_body counted b)) left) spaces codes → CanTakeNext spaces codes b
+can_take bytes left spaces codes b counted few j =
+    let next = after_part (outside.Coded (given_body counted b)) left in
     let f = few_functions bytes next spaces codes.count j.judged in
     let k = few_bodies bytes next spaces codes.count j.judged in
     let i = few_imports bytes next spaces codes.count j.judged in
-    let stands = (around_body first_section (length bytes) j.judged.front (given_body b) left.parts (rw j.judged.parts at (parts_in_module bytes))).1 in
-    (record { typed = typed_there bytes left spaces codes.count (given_body b) j.judged; few = omega arith; index = omega arith; most = stands.most; offset = omega (arith, stands.before) }, omega arith, omega (arith, j.fits))
+    let stands = (around_body first_section (length bytes) j.judged.front (given_body counted b) left.parts (rw j.judged.parts at (parts_in_module bytes))).1 in
+    (record { typed = typed_there bytes left spaces codes.count (given_body counted b) j.judged; few = omega arith; index = omega arith; most = stands.most; offset = omega (arith, stands.before) }, omega arith, omega (arith, j.fits))
 
 -- ---- the whole
 

@@ -1,17 +1,13 @@
 -- A module whose parts were all taken.
-use Rattle.std.proofs.Common.{◌≡◌, ℕ, ◌+◌, ◌*◌, ◌≤◌, ◌<◌, inl, inr, List, [], ◌∷◌, map, length, Option, Some, None, refl, sym, ap, ◌∙◌, subst, arith}
-use Rattle.std.specs.Prelude.{◌^◌, All, IfSome}
+use Rattle.std.proofs.Common.{◌≡◌, ℕ, ◌<◌, List, length, Option, Some, None, sym, ap, ◌∙◌, subst, arith}
+use Rattle.std.specs.Prelude.{All, IfSome}
 use Rattle.rv_isa.specs.declared.compiled.Code.{Code}
-use Rattle.wasm_defs.specs.declared.item.Item.{Item}
 use Rattle.wasm_defs.specs.Entries.{Seen}
-use Rattle.wasm_defs.specs.Context.{types_of}
 use Rattle.wasm_defs.specs.Outside.{Run, Whole, ends}
 use Rattle.wasm_laws.specs.Kept.{ConstantsFit}
 use Rattle.wasm_laws.proofs.Constants.{constants_fit}
-use Rattle.frame_layout.specs.Templates.{exit_stub}
 use Rattle.image_format.specs.Contents.{IsImage}
-use Rattle.index_spaces.specs.Entries.{function_exports, all_exports_of}
-use Rattle.index_spaces.specs.Spaces.{Spaces, spaces_of, context_in}
+use Rattle.index_spaces.specs.Spaces.{Spaces, spaces_of}
 use Rattle.image_linker.specs.ImageOf.{image_of}
 use Rattle.image_linker.specs.Linking.{NumbersFit, linked}
 use Rattle.image_linker.specs.Judging.{IsModuleOf}

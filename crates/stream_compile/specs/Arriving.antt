@@ -1,5 +1,5 @@
 -- A module whose bytes arrive, chunk by chunk.
-use Rattle.std.specs.Prelude.{◌≡◌, ◌≤◌, ◌<◌, ◌^◌, ◌-◌, ◌⊎◌, ℕ, Bool, true, false, List, [], ◌++◌, length, All, Option, Some, None, Result, Ok, Err}
+use Rattle.std.specs.Prelude.{◌≡◌, ◌≤◌, ◌<◌, ◌^◌, ◌-◌, ℕ, Bool, true, false, List, ◌++◌, length, All, Option, Some, None, Result, Ok, Err}
 use Rattle.std.specs.Io.KnownBytes.{prepend_known, IsAtEnd}
 use Rattle.io_edges.specs.Causes.{Rose}
 use Rattle.wasm_defs.specs.declared.front_stop.FrontStop.{FrontStop}

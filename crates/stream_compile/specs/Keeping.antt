@@ -1,5 +1,5 @@
 -- Bodies that are read and kept while workers compile them.
-use Rattle.std.specs.Prelude.{◌≡◌, ◌≤◌, ◌<◌, ◌-◌, ◌^◌, ℕ, Bool, true, List, [], ◌++◌, length, All, Option, Result, Ok, Err}
+use Rattle.std.specs.Prelude.{◌≡◌, ◌≤◌, ◌<◌, ◌-◌, ◌^◌, ℕ, Bool, List, ◌++◌, length, All, Option, Result, Ok, Err}
 use Rattle.wasm_defs.specs.Outside.{ends}
 use Rattle.wasm_defs.specs.Outside as outside
 use Rattle.wasm_defs.specs.declared.front_stop.FrontStop.{FrontStop}
@@ -9,14 +9,14 @@ use Rattle.index_spaces.specs.Spaces.{Spaces}
 use Rattle.section_reader.specs.Onward.{after_parts}
 use Rattle.body_cutter.specs.declared.body.Body.{Body}
 use Rattle.body_cutter.specs.Cuttings.{Cutting}
-use Rattle.pool_scope.specs.Gathering.{IsRowIf}
+use Rattle.batch_pool.specs.Gathering.{IsRowIf}
 use Rattle.stream_compile.specs.declared.beside.Met.{Met}
 use Rattle.stream_compile.specs.declared.compilation.Compilation.{Compilation}
 use Rattle.stream_compile.specs.declared.intake.Intake.{Intake}
 use Rattle.stream_compile.specs.declared.reading.Ending.{Ending}
 use Rattle.stream_compile.specs.Arriving.{IsArriving}
 use Rattle.stream_compile.specs.Chunks.{Chunked}
-use Rattle.stream_compile.specs.CutBodies.{coded_all}
+use Rattle.stream_compile.specs.CutBodies.{counts_data, coded_all}
 use Rattle.stream_compile.specs.Kept.{kept_bodies}
 use Rattle.stream_compile.specs.Progress.{IsJudging}
 use Rattle.stream_compile.specs.Reading.{Settled}
@@ -36,7 +36,7 @@ pub record IsFaulty (first : Option (List ℕ)) (before : ℕ) (left : Option (L
   pub chunk : Chunked
   pub arrived : IsArriving first before left now may_read was chunk
   pub same : chunk.came ≡ i.chunk.came
-  pub judging : (more : List ℕ) → length ((arrived.came ++ arrived.piece) ++ more) ≤ 67108869 → IsJudging ((arrived.came ++ arrived.piece) ++ more) (after_parts (coded_all (kept_bodies i.kept.items)) (ends (outside.Refused r))) s.spaces s.codes
+  pub judging : (more : List ℕ) → length ((arrived.came ++ arrived.piece) ++ more) ≤ 67108869 → IsJudging ((arrived.came ++ arrived.piece) ++ more) (after_parts (coded_all (counts_data s.front.steps.seen) (kept_bodies i.kept.items)) (ends (outside.Refused r))) s.spaces s.codes
 
 -- bodies were read and kept, and none is validated; or the error of their section is found
 abbrev pub Keeps : Result (Unit {0}) FrontStop → (first : Option (List ℕ)) → (before : ℕ) → (left : Option (List ℕ)) → (now : ℕ) → (may_read : Bool) → Compilation → Intake → Type 0

@@ -1,5 +1,5 @@
 -- How far the compiling of a module came.
-use Rattle.std.specs.Prelude.{◌≡◌, ◌<◌, ◌≤◌, ◌⊎◌, ◌+◌, ◌*◌, ◌^◌, ℕ, suc, List, [], ◌∷◌, ◌++◌, length, IsSome, Result, Ok, Err}
+use Rattle.std.specs.Prelude.{◌≡◌, ◌<◌, ◌≤◌, ◌⊎◌, ◌+◌, ◌*◌, ◌^◌, ℕ, suc, Bool, List, [], ◌∷◌, ◌++◌, length, IsSome, is_some, Result, Ok, Err}
 use Rattle.rv_isa.specs.declared.compiled.Code.{Code}
 use Rattle.wasm_defs.specs.declared.fault.Refusal.{Refusal}
 use Rattle.wasm_defs.specs.declared.item.Item.{Item}
@@ -29,7 +29,7 @@ use Rattle.stream_compile.specs.CutBodies.{coded_all}
 abbrev pub AreCodes : List Item → ℕ → List Part → List Seq → List Code → Type 0
 AreCodes items k [] [] [] = Unit {0}
 AreCodes items k [] trees codes = ⊥
-AreCodes items k (Section at id ∷ parts) trees codes = AreCodes items k parts trees codes
+AreCodes items k (Section at position ∷ parts) trees codes = AreCodes items k parts trees codes
 AreCodes items k (Listed x ∷ parts) trees codes = AreCodes (items ++ x ∷ []) k parts trees codes
 AreCodes items k (Coded b ∷ parts) (tree ∷ trees) (code ∷ codes) = IsCodeOf items k b tree code × AreCodes items (suc k) parts trees codes
 AreCodes items k (Coded b ∷ parts) trees codes = ⊥
@@ -77,7 +77,7 @@ CanTakeNext spaces codes b = CanTake spaces codes.count b × (codes.count < 2 ^ 
 -- bodies can be taken: of some module they come next, after what is right
 abbrev pub CanTakeAll : Spaces → Coding → List GivenBody → Type 0
 CanTakeAll spaces codes bodies =
-    (bytes : List ℕ) × (left : Run) × (length bytes ≤ 67108869) × IsJudging bytes (after_parts (coded_all bodies) left) spaces codes
+    (bytes : List ℕ) × (left : Run) × (length bytes ≤ 67108869) × (counted : Bool) × IsJudging bytes (after_parts (coded_all counted bodies) left) spaces codes
 
 -- parts were taken; or the module's error is found
 abbrev pub TakesPart : List ℕ → Result (Unit {0}) FrontStop → Run → Spaces → Coding → Type 0
@@ -87,7 +87,7 @@ TakesPart bytes (Err NoMemory) run spaces codes = Unit {0}
 
 -- the compiling of a body, before which so many bodies are, comes to this
 abbrev pub TakesBody : Spaces → ℕ → GivenBody → Result Code BodyStop → Type 0
-TakesBody spaces bodies b made = Compiles (first_minimum spaces.tables) b.first (context_in spaces) (spaces.imported + bodies) (body_read b.first b.bytes) made
+TakesBody spaces bodies b made = Compiles (first_minimum spaces.tables) b.first (context_in spaces) (spaces.imported + bodies) (body_read (is_some spaces.data_count) b.first b.bytes) made
 
 -- why nothing is taken after this body, which isn't compiled
 abbrev pub stop_at : GivenBody → BodyStop → FrontStop

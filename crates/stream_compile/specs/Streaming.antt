@@ -14,14 +14,14 @@ use Rattle.body_cutter.specs.Cuttings.{Cutting, left, is_whole}
 use Rattle.image_linker.specs.Judging.{IsVerdictOf}
 use Rattle.stream_compile.specs.declared.compilation.Compilation.{Compilation}
 use Rattle.stream_compile.specs.Codes.{KeepsAlike}
-use Rattle.stream_compile.specs.CutBodies.{cut_run, sections_behind}
+use Rattle.stream_compile.specs.CutBodies.{counts_data, cut_run, sections_behind}
 use Rattle.stream_compile.specs.Progress.{IsJudging}
 
 -- ---- what is left where these bytes come next
 
 abbrev pub left_of : Front → Option Cutting → List ℕ → Run
 left_of f None more = onward_left f more
-left_of f (Some c) more = cut_run (left c more) (sections_behind f.steps.seen c.place.at c.place.end more)
+left_of f (Some c) more = cut_run (counts_data f.steps.seen) (left c more) (sections_behind f.steps.seen c.place.at c.place.end more)
 
 -- outside the bodies
 pub record IsOutside (f : Front) (len : ℕ) (more : List ℕ) : Type 0 where

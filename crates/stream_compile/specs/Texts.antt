@@ -36,7 +36,7 @@ use Rattle.image_format.specs.ImageRun.{Ending, As, Fault, ImageRun}
 use Rattle.image_linker.specs.ImageOf.{image_of, export_of, imports_of}
 use Rattle.image_linker.specs.Judging.{IsModuleOf, IsVerdictOf, IsStoppedAt}
 use Rattle.image_linker.specs.Same.{Same}
-use Rattle.simulation.specs.SameRuns.{BeginsWith}
+use Rattle.simulation.specs.SameRuns.{BeginsWith, own_run}
 use Rattle.wasm_defs.specs.Host.{HostCall, Reply}
 use Rattle.image_run.specs.declared.checks.NotRunnable.{NotRunnable}
 use Rattle.image_run.specs.declared.checks.NotRunnable.TheVariants.{UnknownImport, NoSuchExport, WrongArguments, Unlinkable}
@@ -243,12 +243,13 @@ TellsModuleRun drill peek steps imports run runs o =
     (rs : List Reply) × AreOwn imports (λ q. (run q).calls) rs
     × (line : Outcome) × TellsEnd drill peek steps (exit_code imports (run rs).calls) (run rs).calls (run rs).end (runs rs) line × (o ≡ after (bytes_written imports (run rs).calls) line)
 
--- of the function that is exported under the name
+-- of the function that is exported under the name. Of the image's globals the module's count, which are the first ones.
 abbrev pub TellsRun : (drill : Option ℕ) → Module → Given → Outcome → Type 0
 TellsRun drill m c o =
     let arguments = arguments_of c.arguments in
     (f : ℕ) × (named c.export (exports_of m.items) ≡ Some f)
-    × TellsModuleRun drill c.peek c.steps (imports_of (context_of m.items) m.items) (λ rs. run_of_export (image_of m) (export_of m (c.export, f)) arguments rs c.steps)
+    × TellsModuleRun drill c.peek c.steps (imports_of (context_of m.items) m.items)
+    (λ rs. own_run (length (context_of m.items).globals) (run_of_export (image_of m) (export_of m (c.export, f)) arguments rs c.steps))
     (module_run m f arguments) o
 
 abbrev pub ChecksAndRuns : (drill : Option ℕ) → Option NotRunnable → Module → Given → Outcome → Type 0

@@ -1,6 +1,6 @@
 //! Compiles bodies: each is validated, and its instruction words are counted.
 
-ghost use Rattle.std.specs.Prelude.{◌≡◌, ◌≤◌, ◌<◌, ◌+◌, ◌*◌, ◌^◌, OnOk, Ok, None, ℕ, List, [], length, nat_lt};
+ghost use Rattle.std.specs.Prelude.{◌≡◌, ◌≤◌, ◌<◌, ◌+◌, ◌*◌, ◌^◌, OnOk, Ok, None, ℕ, Bool, List, [], length, nat_lt};
 ghost use Rattle.std.specs.Arc.{arc_value};
 ghost use Rattle.rv_isa.specs.declared.compiled.Code.{Code as GivenCode};
 ghost use Rattle.wasm_defs.specs.Limits.{max_text};
@@ -174,8 +174,8 @@ pub fn take_batch(
     batch: Batch,
 ) -> Result<(), FrontStop>
     requires { CanTakeAll spaces.now codes.old batch.bodies }
-    ensures takes { (bytes : List ℕ) (left : RunGiven) → length bytes ≤ 67108869
-        → IsJudging bytes (after_parts (coded_all batch.bodies) left) spaces.now codes.old
+    ensures takes { (bytes : List ℕ) (left : RunGiven) (counted : Bool) → length bytes ≤ 67108869
+        → IsJudging bytes (after_parts (coded_all counted batch.bodies) left) spaces.now codes.old
         → TakesPart bytes result left spaces.now codes.new }
     ensures kept { KeepsAlike codes.old codes.new }
 {
@@ -199,8 +199,8 @@ pub fn take_batches(
     requires { CanTakeAll spaces.now codes.old cutter.old.queue.closed }
     ensures place { cutter.new.place ≡ cutter.old.place }
     ensures queue { OnOk result ((cutter.new.queue.closed ≡ []) × (cutter.new.queue.begun ≡ cutter.old.queue.begun)) }
-    ensures takes { (bytes : List ℕ) (left : RunGiven) → length bytes ≤ 67108869
-        → IsJudging bytes (after_parts (coded_all cutter.old.queue.closed) left) spaces.now codes.old
+    ensures takes { (bytes : List ℕ) (left : RunGiven) (counted : Bool) → length bytes ≤ 67108869
+        → IsJudging bytes (after_parts (coded_all counted cutter.old.queue.closed) left) spaces.now codes.old
         → TakesPart bytes result left spaces.now codes.new }
     ensures kept { KeepsAlike codes.old codes.new }
 {

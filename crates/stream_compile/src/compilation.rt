@@ -18,7 +18,7 @@
 //! compilation.build()?;                 // its image
 //! ```
 
-ghost use Rattle.std.specs.Prelude.{◌≡◌, ◌<◌, ◌≤◌, ◌++◌, ◌&&◌, ℕ, List, [], All, length, false, None, Err, IsSome, is_some, OnOk, IfOk};
+ghost use Rattle.std.specs.Prelude.{◌≡◌, ◌<◌, ◌≤◌, ◌++◌, ◌&&◌, ℕ, Bool, List, [], All, length, false, None, Err, IsSome, is_some, OnOk, IfOk};
 ghost use Rattle.wasm_defs.specs.Outside.{Run as RunGiven};
 ghost use Rattle.section_reader.specs.FrontLeft.{total};
 ghost use Rattle.section_reader.specs.Onward.{after_parts};
@@ -26,7 +26,7 @@ ghost use Rattle.body_cutter.specs.Sections.{bodies_from};
 ghost use Rattle.body_cutter.specs.Cuttings.{left, handed, no_batch};
 ghost use Rattle.stream_compile.specs.Codes.{AreAll, KeepsAlike};
 ghost use Rattle.stream_compile.specs.CutBodies.{coded_all};
-ghost use Rattle.pool_scope.specs.Gathering.{IsRowIf};
+ghost use Rattle.batch_pool.specs.Gathering.{IsRowIf};
 ghost use Rattle.stream_compile.specs.Kept.{kept_bodies};
 ghost use Rattle.stream_compile.specs.Progress.{IsJudging, CanTakeAll, TakesPart};
 ghost use Rattle.stream_compile.specs.Done.{IsDone, Decides};
@@ -176,8 +176,8 @@ impl Compilation {
         ensures rest { KeepsRest self.old self.new }
         ensures place { cutter.new.place ≡ cutter.old.place }
         ensures queue { OnOk result ((cutter.new.queue.closed ≡ []) × (cutter.new.queue.begun ≡ cutter.old.queue.begun)) }
-        ensures takes { (bytes : List ℕ) (left : RunGiven) → length bytes ≤ 67108869
-            → IsJudging bytes (after_parts (coded_all cutter.old.queue.closed) left) self.old.spaces self.old.codes
+        ensures takes { (bytes : List ℕ) (left : RunGiven) (counted : Bool) → length bytes ≤ 67108869
+            → IsJudging bytes (after_parts (coded_all counted cutter.old.queue.closed) left) self.old.spaces self.old.codes
             → TakesPart bytes result left self.new.spaces self.new.codes }
     {
         take_batches(self.alloc, &self.spaces, &mut self.codes, cutter)
@@ -223,8 +223,8 @@ impl Compilation {
         requires can { CanTakeAll self.old.spaces self.old.codes (kept_bodies kept.items) }
         requires rows { All (IsRowIf self.old.spaces cells.now) rows.items }
         ensures rest { KeepsRest self.old self.new }
-        ensures takes { (bytes : List ℕ) (left : RunGiven) → length bytes ≤ 67108869
-            → IsJudging bytes (after_parts (coded_all (kept_bodies kept.items)) left) self.old.spaces self.old.codes
+        ensures takes { (bytes : List ℕ) (left : RunGiven) (counted : Bool) → length bytes ≤ 67108869
+            → IsJudging bytes (after_parts (coded_all counted (kept_bodies kept.items)) left) self.old.spaces self.old.codes
             → TakesPart bytes result left self.new.spaces self.new.codes }
     {
         take_kept(self.alloc, &self.spaces, &mut self.codes, cells, kept, rows)

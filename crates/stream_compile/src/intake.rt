@@ -2,18 +2,18 @@
 
 ghost use Rattle.std.specs.Prelude.{◌≡◌, ◌<◌, ◌++◌, ℕ, Bool, [], List, Option, None, OnOk};
 ghost use Rattle.io_edges.specs.Streams.{TookFront};
-ghost use Rattle.pool_scope.specs.Desks.{IsDesk, IsIdle};
+ghost use Rattle.batch_pool.specs.Desks.{IsDesk, IsIdle};
 ghost use Rattle.stream_compile.specs.declared.compilation.Compilation.{Compilation};
 ghost use Rattle.stream_compile.specs.Arriving.{IsArriving};
 ghost use Rattle.stream_compile.specs.Kept.{kept_bodies};
 ghost use Rattle.stream_compile.specs.Keeping.{keeping, Keeps};
 
 use crate::chunk::{Came, Chunk};
+use batch_pool::Desk;
 use body_cutter::{Batch, Cutter};
 use cancel_drain::Board;
 use index_spaces::Context;
 use io_edges::Source;
-use pool_scope::Desk;
 use std::alloc::{AllocError, Global};
 use std::sync::Arc;
 use wasm_defs::FrontStop;

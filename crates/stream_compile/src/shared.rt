@@ -1,13 +1,13 @@
 //! Takes bodies that were kept, with what workers made of them.
 
-ghost use Rattle.std.specs.Prelude.{◌≡◌, ◌≤◌, ℕ, List, Ok, All, IfSome, IsTrue, length, reverse};
+ghost use Rattle.std.specs.Prelude.{◌≡◌, ◌≤◌, ℕ, Bool, List, Ok, All, IfSome, IsTrue, length, reverse};
 ghost use Rattle.rv_isa.specs.declared.compiled.Code.{Code as GivenCode};
 ghost use Rattle.wasm_defs.specs.Outside.{Run as RunGiven};
 ghost use Rattle.section_reader.specs.Onward.{after_parts};
 ghost use Rattle.batch_pool.specs.Working.{IsCodeFor, Stores};
 ghost use Rattle.stream_compile.specs.Codes.{KeepsAlike};
 ghost use Rattle.stream_compile.specs.CutBodies.{coded_all};
-ghost use Rattle.pool_scope.specs.Gathering.{IsRowIf};
+ghost use Rattle.batch_pool.specs.Gathering.{IsRowIf};
 ghost use Rattle.stream_compile.specs.Kept.{kept_bodies, AreFront};
 ghost use Rattle.stream_compile.specs.Progress.{IsJudging, CanTakeNext, CanTakeAll, TakesBody, TakesCode, TakesPart};
 
@@ -122,8 +122,8 @@ fn take_bodies(
 ) -> Result<(), FrontStop>
     requires can { CanTakeAll spaces.now codes.old bodies.now }
     requires made { AreFront spaces.now cells.now bodies.now (reverse made.items) }
-    ensures takes { (bytes : List ℕ) (left : RunGiven) → length bytes ≤ 67108869
-        → IsJudging bytes (after_parts (coded_all bodies.now) left) spaces.now codes.old
+    ensures takes { (bytes : List ℕ) (left : RunGiven) (counted : Bool) → length bytes ≤ 67108869
+        → IsJudging bytes (after_parts (coded_all counted bodies.now) left) spaces.now codes.old
         → TakesPart bytes result left spaces.now codes.new }
     ensures kept { KeepsAlike codes.old codes.new }
 {
@@ -194,8 +194,8 @@ pub fn take_kept(
 ) -> Result<(), FrontStop>
     requires can { CanTakeAll spaces.now codes.old (kept_bodies kept.items) }
     requires rows { All (IsRowIf spaces.now cells.now) rows.items }
-    ensures takes { (bytes : List ℕ) (left : RunGiven) → length bytes ≤ 67108869
-        → IsJudging bytes (after_parts (coded_all (kept_bodies kept.items)) left) spaces.now codes.old
+    ensures takes { (bytes : List ℕ) (left : RunGiven) (counted : Bool) → length bytes ≤ 67108869
+        → IsJudging bytes (after_parts (coded_all counted (kept_bodies kept.items)) left) spaces.now codes.old
         → TakesPart bytes result left spaces.now codes.new }
     ensures kept { KeepsAlike codes.old codes.new }
 {

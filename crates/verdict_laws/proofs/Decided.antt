@@ -55,21 +55,21 @@ uses_of c (Some u) none =
 
 inside_least : (items : List Item) (k : ℕ) (parts : List Part) → HasLeast (IsFaultInside items k parts)
 inside_least items k [] = inr (λ s f. f)
-inside_least items k (Section at id ∷ parts) = inside_least items k parts
+inside_least items k (Section at position ∷ parts) = inside_least items k parts
 inside_least items k (Listed x ∷ parts) =
     least_either (IsUseFault (context_of items) (use_of x)) (IsFaultInside (items ++ x ∷ []) k parts) (use_least (context_of items) (use_of x)) (inside_least (items ++ x ∷ []) k parts)
 inside_least items k (Coded b ∷ parts) =
     least_either (IsCodeFault (context_at items k b) (read_of b).code) (IsFaultInside items (suc k) parts)
-    (code_least (context_at items k b) b (body_judged (context_at items k b) b.first b.bytes)) (inside_least items (suc k) parts)
+    (code_least (context_at items k b) b (body_judged (context_at items k b) b.counted b.first b.bytes)) (inside_least items (suc k) parts)
 
 trees_of : (items : List Item) (k : ℕ) (parts : List Part) → ((s : Refusal) → IsFaultInside items k parts s → ⊥) → (trees : List Seq) × AreValid items k parts trees
 trees_of items k [] none = ([], tt)
-trees_of items k (Section at id ∷ parts) none = trees_of items k parts none
+trees_of items k (Section at position ∷ parts) none = trees_of items k parts none
 trees_of items k (Listed x ∷ parts) none =
     let rest = trees_of (items ++ x ∷ []) k parts (λ s f. none s (inr f)) in
     (rest.0, (uses_of (context_of items) (use_of x) (λ s f. none s (inl f)), rest.1))
 trees_of items k (Coded b ∷ parts) none =
-    elim (body_judged (context_at items k b) b.first b.bytes) [
+    elim (body_judged (context_at items k b) b.counted b.first b.bytes) [
       | inl v ↦ let rest = trees_of items (suc k) parts (λ s f. none s (inr f)) in (v.0 ∷ rest.0, (v.1, rest.1))
       | inr p ↦ absurd (none p.0 (inl p.1))
     ]
@@ -91,10 +91,10 @@ no_text items k words b parts tree v le none s (t, w, inr f) =
 
 text_least : (items : List Item) (k words : ℕ) (parts : List Part) → HasLeast (IsTextFault items k words parts)
 text_least items k words [] = inr (λ s f. f)
-text_least items k words (Section at id ∷ parts) = text_least items k words parts
+text_least items k words (Section at position ∷ parts) = text_least items k words parts
 text_least items k words (Listed x ∷ parts) = text_least (items ++ x ∷ []) k words parts
 text_least items k words (Coded b ∷ parts) =
-    elim (body_judged (context_at items k b) b.first b.bytes) [
+    elim (body_judged (context_at items k b) b.counted b.first b.bytes) [
       | inr p ↦ inr (λ s f. valid_has_no_fault (context_at items k b) (read_of b).code f.0 p.0 f.1 p.1)
       | inl v ↦ elim (cases_lt max_text (text_bytes items (words + size_of items k b v.0))) [
         | inl over ↦ text_only items k words (Coded b ∷ parts) (limit_at b.size) (v.0, v.1, inl (over, refl))
@@ -110,9 +110,9 @@ text_keeps : (bytes : List ℕ) (front parts : List Part) (k words : ℕ) (trees
     → ((s : Refusal) → IsTextFault (items_of front) k words parts s → ⊥) → text_bytes (items_of (module_read bytes).parts) words ≤ max_text
     → text_bytes (items_of (module_read bytes).parts) (words + sizes (items_of (module_read bytes).parts) k (bodies_of parts) trees) ≤ max_text
 text_keeps bytes front [] k words trees e v none le = omega (arith, le)
-text_keeps bytes front (Section at id ∷ parts) k words trees e v none le =
-    let same : items_of (front ++ Section at id ∷ []) ≡ items_of front = items_of-append front (Section at id ∷ []) ∙ append-nil (items_of front) in
-    text_keeps bytes (front ++ Section at id ∷ []) parts k words trees (e ∙ sym (append_assoc front (Section at id ∷ []) parts))
+text_keeps bytes front (Section at position ∷ parts) k words trees e v none le =
+    let same : items_of (front ++ Section at position ∷ []) ≡ items_of front = items_of-append front (Section at position ∷ []) ∙ append-nil (items_of front) in
+    text_keeps bytes (front ++ Section at position ∷ []) parts k words trees (e ∙ sym (append_assoc front (Section at position ∷ []) parts))
     (rw same v) (rw same none) le
 text_keeps bytes front (Listed x ∷ parts) k words trees e v none le =
     text_keeps bytes (front ++ Listed x ∷ []) parts k words trees (e ∙ sym (append_assoc front (Listed x ∷ []) parts))

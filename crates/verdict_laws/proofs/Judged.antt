@@ -1,5 +1,5 @@
 -- The code of each body is valid, or has an error.
-use Rattle.std.proofs.Common.{◌≡◌, ◌⊎◌, inl, inr, ℕ, zero, suc, List, [], ◌∷◌, ◌++◌, length, Option, None, Some, refl, sym, ap, ◌∙◌, subst, append_assoc, arith}
+use Rattle.std.proofs.Common.{◌≡◌, ◌⊎◌, inl, inr, ℕ, zero, suc, Bool, List, [], ◌∷◌, ◌++◌, length, Option, None, Some, refl, sym, ap, ◌∙◌, subst, append_assoc, arith}
 use Rattle.std.proofs.lemmas.List.{append-nil}
 use Rattle.wasm_defs.specs.declared.fault.Kind.{Kind}
 use Rattle.wasm_defs.specs.declared.fault.Refusal.{Refusal}
@@ -84,5 +84,5 @@ module _ (c : Context) (code : Spelled) (closes : code.fault ≡ None → Closes
         | inr f ↦ inr (f.0, inl f.1)
       ]
 
-pub body_judged : (c : Context) (first : ℕ) (bytes : List ℕ) → IsJudged c (body_read first bytes).code
-body_judged c first bytes = code_judged c (body_read first bytes).code (body_closes first bytes)
+pub body_judged : (c : Context) (counted : Bool) (first : ℕ) (bytes : List ℕ) → IsJudged c (body_read counted first bytes).code
+body_judged c counted first bytes = code_judged c (body_read counted first bytes).code (body_closes counted first bytes)

@@ -1,6 +1,6 @@
 //! Every input has a verdict.
 
-ghost use Rattle.std.specs.Prelude.{◌≤◌, ◌↔◌, ◌⊎◌, ℕ, List};
+ghost use Rattle.std.specs.Prelude.{◌≤◌, ◌↔◌, ◌⊎◌, ℕ, Bool, List};
 ghost use Rattle.wasm_defs.specs.declared.fault.Refusal.{Refusal};
 ghost use Rattle.wasm_defs.specs.Bodies.{body_read};
 ghost use Rattle.wasm_defs.specs.Faults.{IsCodeFault, IsValidCode, Module, Verdict};
@@ -12,13 +12,13 @@ ghost use Rattle.wasm_laws.specs.Sections.{AreBytes};
 ghost use Rattle.body_laws.specs.Spelled.{IsSpelledModule};
 ghost use Rattle.image_linker.specs.Judging.{IsFaultOf, IsModuleOf, IsVerdictOf, sizes, text_bytes};
 
-/// The code of a body is valid, with a tree, or it has an error; never both.
+/// The code of a body, in a module that counts its data segments or doesn't, is valid, with a tree, or it has an error; never both.
 pub fn each_code_is_judged()
-    ensures one { (c : Context) (first : ℕ) (bytes : List ℕ) →
-        ((tree : Seq) × IsValidCode c (body_read first bytes).code tree)
-        ⊎ ((r : Refusal) × IsCodeFault c (body_read first bytes).code r) }
-    ensures not_both { (c : Context) (first : ℕ) (bytes : List ℕ) (tree : Seq) (r : Refusal) →
-        IsValidCode c (body_read first bytes).code tree → IsCodeFault c (body_read first bytes).code r → ⊥ }
+    ensures one { (c : Context) (counted : Bool) (first : ℕ) (bytes : List ℕ) →
+        ((tree : Seq) × IsValidCode c (body_read counted first bytes).code tree)
+        ⊎ ((r : Refusal) × IsCodeFault c (body_read counted first bytes).code r) }
+    ensures not_both { (c : Context) (counted : Bool) (first : ℕ) (bytes : List ℕ) (tree : Seq) (r : Refusal) →
+        IsValidCode c (body_read counted first bytes).code tree → IsCodeFault c (body_read counted first bytes).code r → ⊥ }
 {}
 
 /// Any bytes have a verdict: they are a module, or they have an error, of which one has the least offset.

@@ -1,4 +1,4 @@
-use Rattle.std.proofs.Common.{◌≡◌, ℕ, Bool, List, Option, Result, Ok, Err, sym, subst, refl, rules}
+use Rattle.std.proofs.Common.{◌≡◌, Bool, Result, Err, sym, subst, refl, rules}
 use Rattle.wasm_defs.specs.declared.front_stop.FrontStop.{FrontStop}
 use Rattle.stream_compile.specs.declared.compilation.Compilation.{Compilation}
 use Rattle.stream_compile.specs.Arriving.{IsArriving}

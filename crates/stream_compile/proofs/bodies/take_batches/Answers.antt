@@ -13,14 +13,16 @@ pub take_batch-requires-in-Some : goal.take_batch-requires-in-Some
 take_batch-requires-in-Some c =
     let bytes = c.requires.0 in
     let left = c.requires.1 in
+    let counted = c.requires.3 in
     let l = c.loop-batch in
     let new = c.take_batch.new.self in (
       bytes,
-      after_parts (coded_all new.queue.closed) left,
+      after_parts (coded_all counted new.queue.closed) left,
       c.requires.2,
-      judging_on bytes (after_parts (coded_all l.cutter.queue.closed) left) (after_parts (coded_all c.in-Some.batch.bodies) (after_parts (coded_all new.queue.closed) left)) c.args.spaces.now l.codes
-          (ap (λ (x : List Body). after_parts (coded_all x) left) (closed_taken l.cutter new c.in-Some.batch c.in-Some.ensures) ∙ cut_append c.in-Some.batch.bodies new.queue.closed left)
-          (l.invariant.judging bytes left c.requires.2 c.requires.3),
+      counted,
+      judging_on bytes (after_parts (coded_all counted l.cutter.queue.closed) left) (after_parts (coded_all counted c.in-Some.batch.bodies) (after_parts (coded_all counted new.queue.closed) left)) c.args.spaces.now l.codes
+          (ap (λ (x : List Body). after_parts (coded_all counted x) left) (closed_taken l.cutter new c.in-Some.batch c.in-Some.ensures) ∙ cut_append counted c.in-Some.batch.bodies new.queue.closed left)
+          (l.invariant.judging bytes left counted c.requires.2 c.requires.4),
     )
 
 pub loop-batch-preserved : goal.loop-batch-preserved
@@ -32,24 +34,24 @@ loop-batch-preserved c =
       place = ap (λ (k : Cutting). k.place) is ∙ l.invariant.place;
       begun = ap (λ (k : Cutting). k.queue.begun) is ∙ l.invariant.begun;
       kept = c.in-Ok.ensures.kept ∙ l.invariant.kept;
-      judging = λ bytes left few j.
-          c.in-Ok.ensures.takes bytes (after_parts (coded_all new.queue.closed) left) few
-          (judging_on bytes (after_parts (coded_all l.cutter.queue.closed) left) (after_parts (coded_all c.in-Some.batch.bodies) (after_parts (coded_all new.queue.closed) left)) c.args.spaces.now l.codes
-          (ap (λ (x : List Body). after_parts (coded_all x) left) (closed_taken l.cutter new c.in-Some.batch c.in-Some.ensures) ∙ cut_append c.in-Some.batch.bodies new.queue.closed left)
-          (l.invariant.judging bytes left few j));
+      judging = λ bytes left counted few j.
+          c.in-Ok.ensures.takes bytes (after_parts (coded_all counted new.queue.closed) left) counted few
+          (judging_on bytes (after_parts (coded_all counted l.cutter.queue.closed) left) (after_parts (coded_all counted c.in-Some.batch.bodies) (after_parts (coded_all counted new.queue.closed) left)) c.args.spaces.now l.codes
+          (ap (λ (x : List Body). after_parts (coded_all counted x) left) (closed_taken l.cutter new c.in-Some.batch c.in-Some.ensures) ∙ cut_append counted c.in-Some.batch.bodies new.queue.closed left)
+          (l.invariant.judging bytes left counted few j));
     }
 
 pub returns-in-Err-clause-takes : goal.returns-in-Err-clause-takes
-returns-in-Err-clause-takes c = λ bytes left few j.
+returns-in-Err-clause-takes c = λ bytes left counted few j.
     let l = c.loop-batch in
     let new = c.take_batch.new.self in
-    fault_taken bytes c.in-Err.stop (after_parts (coded_all new.queue.closed) left) left c.args.spaces.now c.args.spaces.now c.take_batch-in-Some.new.codes c.take_batch-in-Some.new.codes
-    (c.in-Err.ensures.takes bytes (after_parts (coded_all new.queue.closed) left) few
-    (judging_on bytes (after_parts (coded_all l.cutter.queue.closed) left) (after_parts (coded_all c.in-Some.batch.bodies) (after_parts (coded_all new.queue.closed) left)) c.args.spaces.now l.codes
-    (ap (λ (x : List Body). after_parts (coded_all x) left) (closed_taken l.cutter new c.in-Some.batch c.in-Some.ensures) ∙ cut_append c.in-Some.batch.bodies new.queue.closed left)
-    (l.invariant.judging bytes left few j)))
+    fault_taken bytes c.in-Err.stop (after_parts (coded_all counted new.queue.closed) left) left c.args.spaces.now c.args.spaces.now c.take_batch-in-Some.new.codes c.take_batch-in-Some.new.codes
+    (c.in-Err.ensures.takes bytes (after_parts (coded_all counted new.queue.closed) left) counted few
+    (judging_on bytes (after_parts (coded_all counted l.cutter.queue.closed) left) (after_parts (coded_all counted c.in-Some.batch.bodies) (after_parts (coded_all counted new.queue.closed) left)) c.args.spaces.now l.codes
+    (ap (λ (x : List Body). after_parts (coded_all counted x) left) (closed_taken l.cutter new c.in-Some.batch c.in-Some.ensures) ∙ cut_append counted c.in-Some.batch.bodies new.queue.closed left)
+    (l.invariant.judging bytes left counted few j)))
 
 pub returns-clause-takes : goal.returns-clause-takes
-returns-clause-takes c = λ bytes left few j.
+returns-clause-takes c = λ bytes left counted few j.
     let l = c.loop-batch in
-    subst (λ (x : List Body). IsJudging bytes (after_parts (coded_all x) left) c.args.spaces.now l.codes) c.in_default.ensures.0 (l.invariant.judging bytes left few j)
+    subst (λ (x : List Body). IsJudging bytes (after_parts (coded_all counted x) left) c.args.spaces.now l.codes) c.in_default.ensures.0 (l.invariant.judging bytes left counted few j)

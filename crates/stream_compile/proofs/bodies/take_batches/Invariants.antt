@@ -1,4 +1,4 @@
-use Rattle.std.proofs.Common.{◌≡◌, ◌≤◌, ℕ, List, length}
+use Rattle.std.proofs.Common.{◌≡◌, ◌≤◌, ℕ, Bool, List, length}
 use Rattle.wasm_defs.specs.Outside.{Run}
 use Rattle.section_reader.specs.Onward.{after_parts}
 use Rattle.stream_compile.specs.Codes.{KeepsAlike}
@@ -11,9 +11,9 @@ invariant-loop-batch l = record {
   place : l.cutter.place ≡ l.initial.cutter.place;
   begun : l.cutter.queue.begun ≡ l.initial.cutter.queue.begun;
   kept : KeepsAlike l.initial.codes l.codes;
-  judging : (bytes : List ℕ) (left : Run) → length bytes ≤ 67108869
-      → IsJudging bytes (after_parts (coded_all l.initial.cutter.queue.closed) left) l.spaces l.initial.codes
-      → IsJudging bytes (after_parts (coded_all l.cutter.queue.closed) left) l.spaces l.codes;
+  judging : (bytes : List ℕ) (left : Run) (counted : Bool) → length bytes ≤ 67108869
+      → IsJudging bytes (after_parts (coded_all counted l.initial.cutter.queue.closed) left) l.spaces l.initial.codes
+      → IsJudging bytes (after_parts (coded_all counted l.cutter.queue.closed) left) l.spaces l.codes;
 }
 
 abbrev pub decreases-loop-batch : goal.decreases-loop-batch

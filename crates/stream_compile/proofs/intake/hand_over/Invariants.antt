@@ -1,5 +1,5 @@
 use Rattle.std.proofs.Common.{◌≡◌, ◌++◌, length}
-use Rattle.pool_scope.specs.Desks.{IsDesk, IsIdle}
+use Rattle.batch_pool.specs.Desks.{IsDesk, IsIdle}
 use Rattle.stream_compile.specs.Kept.{kept_bodies}
 use Rattle.stream_compile.proofs.intake.hand_over.Given as goal
 

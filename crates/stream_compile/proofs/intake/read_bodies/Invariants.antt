@@ -1,6 +1,6 @@
 use Rattle.std.proofs.Common.{◌≡◌, ◌≤◌, ◌-◌, ℕ, List, Option}
 use Rattle.io_edges.specs.Streams.{TookFront}
-use Rattle.pool_scope.specs.Desks.{IsDesk, IsIdle}
+use Rattle.batch_pool.specs.Desks.{IsDesk, IsIdle}
 use Rattle.stream_compile.specs.declared.compilation.Compilation.{Compilation}
 use Rattle.stream_compile.specs.Arriving.{IsArriving}
 use Rattle.stream_compile.specs.Keeping.{keeping}

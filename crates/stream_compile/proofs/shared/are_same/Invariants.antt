@@ -1,5 +1,4 @@
-use Rattle.std.proofs.Common.{◌≡◌, ◌++◌, List}
-use Rattle.body_cutter.specs.declared.body.Body.{Body}
+use Rattle.std.proofs.Common.{◌≡◌}
 use Rattle.stream_compile.proofs.shared.are_same.Given as goal
 
 abbrev pub invariant-loop-body : goal.invariant-loop-body

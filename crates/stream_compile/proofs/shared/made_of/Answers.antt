@@ -1,10 +1,7 @@
-use Rattle.std.proofs.Common.{◌≡◌, List, Option, [], sym, ap, subst, ◌∙◌, rules}
-use Rattle.std.specs.Prelude.{reverse}
+use Rattle.std.proofs.Common.{Option, subst, rules}
 use Rattle.std.specs.Arc.{arc_value}
 use Rattle.batch_pool.specs.declared.row.Row.{Row}
-use Rattle.batch_pool.specs.declared.row.RowCode.{RowCode}
-use Rattle.pool_scope.specs.Gathering.{IsRowIf}
-use Rattle.stream_compile.specs.Kept.{AreFront}
+use Rattle.batch_pool.specs.Gathering.{IsRowIf}
 use Rattle.stream_compile.proofs.Sharing.{reversed_front}
 use Rattle.stream_compile.proofs.shared.made_of.Goals as goal
 

@@ -1,7 +1,7 @@
-use Rattle.std.proofs.Common.{List, Option, None, All, set, sym, subst, ◌∙◌, rules}
+use Rattle.std.proofs.Common.{Option, None, All, set, sym, subst, ◌∙◌, rules}
 use Rattle.std.proofs.lemmas.List.Elements.{All-set}
 use Rattle.batch_pool.specs.declared.row.Row.{Row}
-use Rattle.pool_scope.specs.Gathering.{IsRowIf}
+use Rattle.batch_pool.specs.Gathering.{IsRowIf}
 use Rattle.stream_compile.proofs.shared.row_of.Goals as goal
 
 pub returns-then-number-len-clause-row : goal.returns-then-number-len-clause-row

@@ -1,4 +1,4 @@
-use Rattle.std.proofs.Common.{◌≡◌, List, [], sym, subst, ◌∙◌, rules}
+use Rattle.std.proofs.Common.{◌≡◌, List, [], subst, ◌∙◌, rules}
 use Rattle.section_reader.specs.Onward.{after_parts}
 use Rattle.body_cutter.specs.declared.body.Body.{Body}
 use Rattle.stream_compile.specs.CutBodies.{coded_all}
@@ -11,9 +11,10 @@ pub take_next-requires-clause-can : goal.take_next-requires-clause-can
 take_next-requires-clause-can c =
     let bytes = c.requires.can.0 in
     let left = c.requires.can.1 in
+    let counted = c.requires.can.3 in
     let l = c.loop-body in
-    let next = subst (λ (x : List Body). IsJudging bytes (after_parts (coded_all x) left) c.args.spaces.now l.codes) c.in-Some.ensures.steps (l.invariant.4 bytes left c.requires.can.2 c.requires.can.3) in
-    can_take bytes (after_parts (coded_all c.next.new.self) left) c.args.spaces.now l.codes c.in-Some.body.now c.requires.can.2 next
+    let next = subst (λ (x : List Body). IsJudging bytes (after_parts (coded_all counted x) left) c.args.spaces.now l.codes) c.in-Some.ensures.steps (l.invariant.4 bytes left counted c.requires.can.2 c.requires.can.4) in
+    can_take bytes (after_parts (coded_all counted c.next.new.self) left) c.args.spaces.now l.codes c.in-Some.body.now counted c.requires.can.2 next
 
 pub take_next-requires-clause-made : goal.take_next-requires-clause-made
 take_next-requires-clause-made c =
@@ -27,21 +28,21 @@ loop-body-preserved c =
       search rules,
       c.in-Ok.ensures.kept ∙ l.invariant.2,
       rest_made c.args.spaces.now c.args.cells.now l.body-iterator _ c.in-Some.body.now c.in-Some.ensures.steps c.pop.result l.made.items c.pop.new.self.items c.pop.ensures.items (search rules) l.invariant.3,
-      λ bytes left few j.
-          let next = subst (λ (x : List Body). IsJudging bytes (after_parts (coded_all x) left) c.args.spaces.now l.codes) c.in-Some.ensures.steps (l.invariant.4 bytes left few j) in
-          body_taken bytes (after_parts (coded_all c.next.new.self) left) c.args.spaces.now l.codes c.in-Some.body.now next c.take_next.new.codes c.in-Ok.ensures.takes,
+      λ bytes left counted few j.
+          let next = subst (λ (x : List Body). IsJudging bytes (after_parts (coded_all counted x) left) c.args.spaces.now l.codes) c.in-Some.ensures.steps (l.invariant.4 bytes left counted few j) in
+          body_taken bytes (after_parts (coded_all counted c.next.new.self) left) c.args.spaces.now l.codes c.in-Some.body.now counted next c.take_next.new.codes c.in-Ok.ensures.takes,
     )
 
 pub returns-in-Err-clause-takes : goal.returns-in-Err-clause-takes
-returns-in-Err-clause-takes c = λ bytes left few j.
+returns-in-Err-clause-takes c = λ bytes left counted few j.
     let l = c.loop-body in
-    let rest = after_parts (coded_all c.next.new.self) left in
-    let next = subst (λ (x : List Body). IsJudging bytes (after_parts (coded_all x) left) c.args.spaces.now l.codes) c.in-Some.ensures.steps (l.invariant.4 bytes left few j) in
+    let rest = after_parts (coded_all counted c.next.new.self) left in
+    let next = subst (λ (x : List Body). IsJudging bytes (after_parts (coded_all counted x) left) c.args.spaces.now l.codes) c.in-Some.ensures.steps (l.invariant.4 bytes left counted few j) in
     fault_taken bytes c.in-Err.stop rest left c.args.spaces.now c.args.spaces.now c.take_next.new.codes c.take_next.new.codes
-    (body_stops bytes rest c.args.spaces.now l.codes c.in-Some.body.now next c.in-Err.stop c.take_next.new.codes c.in-Err.ensures.takes)
+    (body_stops bytes rest c.args.spaces.now l.codes c.in-Some.body.now counted next c.in-Err.stop c.take_next.new.codes c.in-Err.ensures.takes)
 
 pub returns-clause-takes : goal.returns-clause-takes
-returns-clause-takes c = λ bytes left few j.
+returns-clause-takes c = λ bytes left counted few j.
     let l = c.loop-body in
     let none : l.body-iterator ≡ [] = search rules in
-    subst (λ (x : List Body). IsJudging bytes (after_parts (coded_all x) left) c.args.spaces.now l.codes) none (l.invariant.4 bytes left few j)
+    subst (λ (x : List Body). IsJudging bytes (after_parts (coded_all counted x) left) c.args.spaces.now l.codes) none (l.invariant.4 bytes left counted few j)

@@ -1,4 +1,4 @@
-use Rattle.std.proofs.Common.{◌≤◌, ℕ, List, length}
+use Rattle.std.proofs.Common.{◌≤◌, ℕ, Bool, List, length}
 use Rattle.std.specs.Prelude.{reverse}
 use Rattle.wasm_defs.specs.Outside.{Run}
 use Rattle.section_reader.specs.Onward.{after_parts}
@@ -14,6 +14,6 @@ invariant-loop-body l =
     × (goal.iterator-loop-body).is_finite l.body-iterator
     × KeepsAlike l.initial.codes l.codes
     × AreFront l.spaces l.cells l.body-iterator (reverse l.made.items)
-    × ((bytes : List ℕ) (left : Run) → length bytes ≤ 67108869
-    → IsJudging bytes (after_parts (coded_all l.bodies) left) l.spaces l.initial.codes
-    → IsJudging bytes (after_parts (coded_all l.body-iterator) left) l.spaces l.codes)
+    × ((bytes : List ℕ) (left : Run) (counted : Bool) → length bytes ≤ 67108869
+    → IsJudging bytes (after_parts (coded_all counted l.bodies) left) l.spaces l.initial.codes
+    → IsJudging bytes (after_parts (coded_all counted l.body-iterator) left) l.spaces l.codes)

@@ -1,4 +1,4 @@
-use Rattle.std.proofs.Common.{◌≡◌, ◌+◌, ◌≤◌, ◌<◌, ◌++◌, List, ℕ, length, sym, subst, arith}
+use Rattle.std.proofs.Common.{◌+◌, ◌≤◌, ◌<◌, ◌++◌, List, ℕ, length, sym, subst, arith}
 use Rattle.std.specs.Prelude.{codes}
 use Rattle.io_edges.specs.Streams.{WritesText}
 use Rattle.stream_compile.specs.Texts.{hex_of}

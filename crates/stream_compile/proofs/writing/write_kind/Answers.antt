@@ -1,4 +1,4 @@
-use Rattle.std.proofs.Common.{◌≡◌, ◌++◌, List, ℕ, true, false, subst, rules}
+use Rattle.std.proofs.Common.{◌≡◌, List, ℕ, true, false, subst, rules}
 use Rattle.wasm_defs.specs.Values.{trap_text}
 use Rattle.io_edges.specs.Streams.{WritesText}
 use Rattle.stream_compile.specs.Texts.{trap_place}

@@ -1,6 +1,6 @@
-use Rattle.std.proofs.Common.{◌-◌, List, ℕ, sym, ap, subst, arith}
+use Rattle.std.proofs.Common.{◌-◌, List, ℕ, sym, subst, arith}
 use Rattle.io_edges.specs.Streams.{WritesText}
-use Rattle.stream_compile.specs.Texts.{Outcome, returned}
+use Rattle.stream_compile.specs.Texts.{Outcome}
 use Rattle.stream_compile.proofs.ValueLines.{none_returned, some_returned}
 use Rattle.stream_compile.proofs.writing.write_returned.Goals as goal
 

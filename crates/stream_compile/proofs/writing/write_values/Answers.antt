@@ -1,4 +1,4 @@
-use Rattle.std.proofs.Common.{◌+◌, Bool, true, List, ℕ, take, refl, sym, subst, arith}
+use Rattle.std.proofs.Common.{◌+◌, Bool, true, List, take, refl, sym, subst, arith}
 use Rattle.std.specs.List.{flat_map}
 use Rattle.std.proofs.lemmas.List.{take_all}
 use Rattle.io_edges.proofs.Known.{append_nothing}

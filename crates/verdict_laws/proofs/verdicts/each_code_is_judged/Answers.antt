@@ -6,5 +6,5 @@ use Rattle.verdict_laws.proofs.verdicts.each_code_is_judged.Goals as goal
 pub returns : goal.returns
 returns c = record {
   one = body_judged;
-  not_both = λ x first bytes tree r v f. valid_has_no_fault x (body_read first bytes).code tree r v f;
+  not_both = λ x counted first bytes tree r v f. valid_has_no_fault x (body_read counted first bytes).code tree r v f;
 }

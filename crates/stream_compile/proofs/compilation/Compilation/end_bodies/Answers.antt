@@ -1,6 +1,7 @@
 use Rattle.std.proofs.Common.{[], Err, refl, sym, subst}
 use Rattle.wasm_defs.specs.declared.front_stop.FrontStop.{FrontStop}
 use Rattle.wasm_defs.specs.Outside.{Owed, ends}
+use Rattle.stream_compile.specs.CutBodies.{counts_data}
 use Rattle.stream_compile.specs.Done.{Decides}
 use Rattle.stream_compile.specs.Streaming.{with_cutter}
 use Rattle.stream_compile.proofs.Streaming.{cutting_of, ended_judging, refused_at, fault_decides}
@@ -12,7 +13,7 @@ judge-requires c =
     let old = c.args.cutter in
     let bytes = c.requires.goes.0 in
     let k = cutting_of bytes (with_cutter s old) [] old refl c.requires.goes.2 in
-    (bytes, ends Owed, k.few, (ended_judging bytes s.front old c.end.new.self s.spaces s.codes c.in-Err.stop k c.requires.waits c.in-Err.ensures).0)
+    (bytes, ends Owed, k.few, counts_data s.front.steps.seen, (ended_judging bytes s.front old c.end.new.self s.spaces s.codes c.in-Err.stop k c.requires.waits c.in-Err.ensures).0)
 
 pub returns-in-Ok-judge-clause-decides : goal.returns-in-Ok-judge-clause-decides
 returns-in-Ok-judge-clause-decides c = λ bytes g.
@@ -21,7 +22,7 @@ returns-in-Ok-judge-clause-decides c = λ bytes g.
     let old = c.args.cutter in
     let k = cutting_of bytes (with_cutter s old) [] old refl g in
     let e = ended_judging bytes s.front old c.end.new.self s.spaces s.codes c.in-Err.stop k c.requires.waits c.in-Err.ensures in
-    subst (λ (x : FrontStop). Decides bytes (Err x) t) (sym e.1) (refused_at bytes t.spaces t.codes Owed _ refl (c.in-Ok-judge.ensures.takes bytes (ends Owed) k.few e.0))
+    subst (λ (x : FrontStop). Decides bytes (Err x) t) (sym e.1) (refused_at bytes t.spaces t.codes Owed _ refl (c.in-Ok-judge.ensures.takes bytes (ends Owed) (counts_data s.front.steps.seen) k.few e.0))
 
 pub returns-clause-decides : goal.returns-clause-decides
 returns-clause-decides c = λ bytes g.
@@ -29,4 +30,4 @@ returns-clause-decides c = λ bytes g.
     let old = c.args.cutter in
     let k = cutting_of bytes (with_cutter s old) [] old refl g in
     let e = ended_judging bytes s.front old c.end.new.self s.spaces s.codes c.in-Err.stop k c.requires.waits c.in-Err.ensures in
-    fault_decides bytes c.in-Err-judge.earlier (ends Owed) c.judge.new.self.spaces c.judge.new.self.codes c.judge.new.self (c.in-Err-judge.ensures.takes bytes (ends Owed) k.few e.0)
+    fault_decides bytes c.in-Err-judge.earlier (ends Owed) c.judge.new.self.spaces c.judge.new.self.codes c.judge.new.self (c.in-Err-judge.ensures.takes bytes (ends Owed) (counts_data s.front.steps.seen) k.few e.0)

@@ -1,4 +1,4 @@
-use Rattle.std.proofs.Common.{◌≡◌, ◌<◌, ◌-◌, ℕ, List, [], ◌++◌, length, take, drop, arith, sym, ap, subst, ◌∙◌, drop-drop, length-drop}
+use Rattle.std.proofs.Common.{◌≡◌, ◌<◌, ◌-◌, ℕ, List, ◌++◌, length, take, drop, arith, sym, ap, subst, ◌∙◌, drop-drop, length-drop}
 use Rattle.std.proofs.lemmas.List.{drop_all}
 use Rattle.stream_compile.specs.Streaming.{IsGoing, work_left}
 use Rattle.stream_compile.proofs.Arriving.{advances_behind, goes_advances, not_up, not_outside, rest_is}
