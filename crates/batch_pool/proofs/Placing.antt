@@ -8,7 +8,7 @@ use native.Mathlib.Decide.{ℕ_discrete}
 use Rattle.batch_pool.specs.declared.row.Row.{Row}
 use Rattle.batch_pool.specs.Numbered.{last_row, row_numbered}
 
--- each place has the last one of its number among the rows so far
+-- each index has the last one of its number among the rows so far
 abbrev pub ArePlaced : List Row → List (Option Row) → List Row → Type 0
 ArePlaced rows places rest = (i : ℕ) → i < length places → last_row i rest (get_or places i None) ≡ row_numbered i rows
 
@@ -34,7 +34,7 @@ module _ (rows all rest : List Row) (row : Row) (step : all ≡ row ∷ rest) wh
       ∙ (ap (λ (o : Option Row). last_row i rest o) (get_or-set_other places number i (Some row) None (λ e. not (omega (arith, e))))
       ∙ (sym (row_elsewhere i row rest (get_or places i None) (λ e. not (omega (arith, e, is)))) ∙ then')))
 
-  -- its number is past the last place
+  -- its number is past the last index
   pub row_passed : (places : List (Option Row)) (number : ℕ) → ArePlaced rows places all → (arc_value row.batch).number ≡ number → length places ≤ number → ArePlaced rows places rest
   row_passed places number old is past i small =
       sym (row_elsewhere i row rest (get_or places i None) (λ e. absurd (omega (arith, e, is)))) ∙ (ap (λ (l : List Row). last_row i l (get_or places i None)) (sym step) ∙ old i small)

@@ -23,7 +23,7 @@ pub record IsDesk (c : Spaces) (board : Site) (d : Desk) : Type 0 where
   pub kept : AreKept c board.functions d.seat.view.published d.kept.items
   pub last : 0 < length d.seat.view.published → slice_index d.seat.view.published (length d.seat.view.published - 1) ≡ d.last
 
--- A batch may be published next: it has a ticket, its number is the next one, its start is above the last one's, the board has a place
+-- A batch may be published next: it has a ticket, its number is the next one, its start is above the last one's, the board has room
 -- for it, and each of its bodies has its function in the context
 pub record IsNext (c : Spaces) (functions : ℕ) (d : Desk) (b : Batch) : Type 0 where
   pub low : IsLow b
@@ -58,7 +58,7 @@ pub record IsAsBefore (d d' : Desk) : Type 0 where
   pub last : d'.last ≡ d.last
 
 -- The last seat has what all others knew and as many parts as at first, the tickets are those of the batches that were published, and the
--- rows are right: they are those of the batches that were done since then, each once, and the faults that were reported are theirs
+-- rows are right: they are those of the batches that were done since then, each once, and the errors that were reported are theirs
 pub record HasRead (c : Spaces) (cells : List ℕ) (board : Site) (first : View) (seat : Sitter) (kept : List Ticket) (rows : List Row) : Type 0 where
   pub table : seat.table ≡ board.table
   pub feeder : seat.view.feeder ≡ true

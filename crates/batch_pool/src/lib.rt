@@ -1,7 +1,7 @@
 //! Tickets of batches, in queues from which idle workers steal.
 //!
 //! The feeder has a queue, and so has each hand. A hand takes from its own queue first, and then from the others: what it
-//! steals besides the ticket that it returns goes into its own queue. A worker has a hand, and serves what it takes.
+//! steals in addition to the ticket that it returns goes into its own queue. A worker has a hand, and serves what it takes.
 //! `run_beside` starts a thread for each worker, in parallel with the thread that feeds them, and joins them all.
 #![tactic(auto)]
 

@@ -1,4 +1,4 @@
--- The type of a block that is one byte: the number that it is tells it.
+-- The type of a block that is one byte: the number that it is determines it.
 use Rattle.std.proofs.Common.{◌≡◌, ℕ, ◌-◌, ◌^◌, ◌<◌, ◌≤◌, ℤ, pos, negsuc, ◌-ℤ◌, true, false, to_z, of_z, w64, refl, sym, ap, subst, ◌∙◌, arith}
 use Rattle.std.specs.Prelude.{◌≤ℤ◌, ◌<ℤ◌, Result, Ok, Err}
 use lib.IntN.{nat_abs}

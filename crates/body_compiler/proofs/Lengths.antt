@@ -40,7 +40,7 @@ front-jumps w h here (l ∷ ls) ms =
     let b = length-append first (jumps w h (here + length first) (ls ++ ms)) in
     omega arith
 
--- at some place, which has no part in how many there are
+-- at some index, which has no part in how many there are
 table-within : (w : Around) (c : Context) (t : Token) (h : ℕ) (d : Draft) (ends : List Ends) → (here : ℕ) × (length (table_jumps w h here (named (shapes d.labels) ends) t) ≤ count_of w c t (Some h) d ends)
 table-within w c (token.Plain (BrTable is l)) h d ends =
     let labels = named (shapes d.labels) ends in

@@ -40,7 +40,7 @@ bad_front bits (b ∷ bytes) more e =
 
 -- ---- windows
 
--- a front that is in the section
+-- a prefix that is in the section
 window_front : (front more : List ℕ) (n : ℕ) → length front ≤ n → take n (front ++ more) ≡ front ++ take (n - length front) more
 window_front front more n le =
     let e : length front + (n - length front) ≡ n = omega arith in

@@ -53,7 +53,7 @@ closed_longest counted at last (b ∷ bytes) = record {
 abbrev Fits : Cursor → Type 0
 Fits c = c.at + length c.rest < c.end
 
--- what is encoded at the front is read
+-- what is encoded at the beginning is read
 begun_is_read : (counted : Bool) (c : Cursor) (t : Token) (more rest : List ℕ) → Fits c → c.rest ≡ more ++ rest → instruction_is counted t c.at more → steady.token counted c ≡ Got t (cursor (c.at + length more) rest c.end)
 begun_is_read counted c t more rest fits e s =
     ap (λ (l : List ℕ). steady.token counted (cursor c.at l c.end)) e ∙ (token_read counted t).by c.at c.end more rest (omega (arith, ap length e, length-append more rest)) s

@@ -37,7 +37,7 @@ use Rattle.wasm_laws.proofs.SpeltParts.{placed_spelt, ruled_spelt}
 use Rattle.body_laws.proofs.Rows.{operation_at, access_code, access_at}
 use Rattle.wasm_defs.proofs.EachOperation.{each_operation, operation_row}
 
--- ---- fields whose offset their place tells
+-- ---- fields without their offsets
 
 -- a field at any offset, and what is after it
 pub reads_past : {A B : Type 0} (p : Reader (ℕ × A)) (f : ℕ × A → Reader B) (x : A) (y : B) (s t : Spelling) → ((o : ℕ) → Reads p (o, x) (λ at bytes. (o ≡ at) × s at bytes)) → ((o : ℕ) → Reads (f (o, x)) y t) → Reads (p >>= f) y (s then t)

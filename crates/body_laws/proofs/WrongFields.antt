@@ -40,7 +40,7 @@ Fits c = c.at + length c.rest ≤ c.end
 pub fits_behind : {s : Spelling} {K : Type 0} (c d : Cursor) → Found s K c d → Fits c → Fits d
 fits_behind c d found fits = omega (arith, fits, found.at, found.end, ap length found.parts, length-append found.taken d.rest)
 
--- what is encoded at the front is read
+-- what is encoded at the beginning is read
 pub got_of : {A : Type 0} (p : Reader A) (x : A) (s : Spelling) (c : Cursor) → Fits c → Reads p x s → (front back : List ℕ) → c.rest ≡ front ++ back → s c.at front → p c ≡ Got x (cursor (c.at + length front) back c.end)
 got_of p x s c fits reads front back e k = ap (λ (l : List ℕ). p (cursor c.at l c.end)) e ∙ reads.by c.at c.end front back (omega (arith, fits, ap length e, length-append front back)) k
 

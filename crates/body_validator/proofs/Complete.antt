@@ -29,13 +29,13 @@ FrameFits f ts = Fits f.operands.unknown f.operands.own ts
 abbrev FrameIsKnown : Frame → Type 0
 FrameIsKnown f = IsKnown f.operands.live f.operands.unknown
 
--- ---- a run, with the places that it passes
+-- ---- a run, with the points that it passes
 
 pub record Observed : Type 0 where
   pub after : Option Frames
   pub passed : List Place
 
--- places passed before others
+-- points passed before others
 abbrev pub passing : (List Place → List Place) → Observed → Observed
 passing first o = record { after = o.after; passed = first o.passed }
 
@@ -60,7 +60,7 @@ observe-after c (t ∷ ts) fs = by_step (step c t fs) (observe-after c ts)
 
 -- ---- sequences
 
--- the tokens of a sequence lead from the frame to one in which these operands may be, through the sequence's places
+-- the tokens of a sequence lead from the frame to one in which these operands may be, through the sequence's points
 pub record Passes (c : Context) (tree : Seq) (f : Frame) (fs : Frames) (to : Types) : Type 0 where
   pub after : Operands
   pub fits : Fits after.unknown after.own to
@@ -167,7 +167,7 @@ opens : (c : Context) (opening : Opening) (params : Signature → Types) (o : Op
     → on (o >>= λ x. enter opening x (params x) (f ∷ fs)) (observe c tokens) ≡ on (enter opening s (params s) (f ∷ fs)) (observe c tokens)
 opens c opening params o s f fs tokens e = ap (λ (x : Option Signature). on (x >>= λ y. enter opening y (params y) (f ∷ fs)) (observe c tokens)) e
 
--- the places of a block and of what follows it, by its signature
+-- the points of a block and of what follows it, by its signature
 abbrev block_places : Context → (Signature → Types) → Seq → Seq → Place → Place → (Signature → Place) → Signature → List Place → List Place
 block_places c label body rest place first next s ps =
     let within = inside c (label s) in
@@ -279,7 +279,7 @@ passes c (IfElse type body other rest) f fs from to h fit k =
 
 -- ---- whole bodies
 
--- a valid body passes its places to its end
+-- a valid body passes its points to its end
 pub body_observed : (c : Context) (tree : Seq) → IsBody c tree → observe c (spelled tree (token.End ∷ [])) (start c) ≡ record { after = Some []; passed = places_of c tree }
 body_observed c tree h =
     let type : Signature = record { params = []; results = c.results } in

@@ -39,7 +39,7 @@ none_there unknown [] h = absurd (omega arith)
 none_there true (t ∷ types) h = all_unknown types
 none_there false (t ∷ types) h = refl
 
--- the front of a list is the back of its reverse
+-- a prefix of a list, reversed, is a suffix of its reverse
 pub reverse-take : {A : Type 0} (xs : List A) (m n : ℕ) → m + n ≡ length xs → reverse (take m xs) ≡ drop n (reverse xs)
 reverse-take xs m n h =
     let back : length (reverse (drop m xs)) ≡ n = length-reverse (drop m xs) ∙ length-drop m xs ∙ omega arith in

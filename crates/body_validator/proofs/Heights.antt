@@ -1,4 +1,4 @@
--- The checker's places and its greatest height are the tree's.
+-- The checker's points and its greatest height are the tree's.
 use Rattle.std.proofs.Common.{◌≡◌, ℕ, ◌≤◌, List, [], ◌∷◌, ◌++◌, length, max, Option, None, Some, sym, ap, ◌∙◌, arith}
 use Rattle.std.specs.Prelude.{slice_get}
 use Rattle.wasm_defs.specs.declared.token.Token.{Token}
@@ -9,7 +9,7 @@ use Rattle.body_validator.specs.Checking.{Frames, step, run, start, place_of, Ch
 use Rattle.body_validator.proofs.Options.{through, some_inside}
 use Rattle.body_validator.proofs.Complete.{Observed, see, on, observe, body_observed}
 
--- ---- places
+-- ---- points
 
 place_at : (c : Context) (tokens : List Token) (t : Token) (more : List Token) (first fs : Frames) → run c tokens first ≡ Some fs
     → slice_get (observe c (tokens ++ t ∷ more) first).passed (length tokens) ≡ Some (place_of fs)
@@ -30,7 +30,7 @@ higher-max : (place : Place) (most : ℕ) → higher place most ≡ max (higher 
 higher-max None most = omega arith
 higher-max (Some h) most = omega arith
 
--- the places that a run passes, and the last one
+-- the points that a run passes, and the last one
 abbrev met : Context → List Token → Frames → Frames → ℕ
 met c tokens fs last = higher (place_of last) (greatest (observe c tokens fs).passed)
 

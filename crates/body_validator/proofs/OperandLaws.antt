@@ -1,4 +1,4 @@
--- The operands that the checker keeps stand for the operands that may be there, and each rule acts on the one as on the other.
+-- The operands that the checker keeps represent the operands that may be there, and each rule acts on the one as on the other.
 use Rattle.std.proofs.Common.{◌≡◌, Bool, true, false, List, [], ◌∷◌, ◌++◌, Option, None, Some, refl, sym, ap, ◌∙◌, subst, append_assoc}
 use Rattle.std.proofs.lemmas.List.{append-nil}
 use Rattle.wasm_defs.specs.declared.types.ValType.{ValType}
@@ -38,7 +38,7 @@ same_types-true (t ∷ ts) (u ∷ us) e =
     let tail : ts ≡ us = same_types-true ts us both.1 in
     cc
 
--- ---- what operands stand for
+-- ---- what operands represent
 
 abbrev pub IsOf : Operand → ValType → Type 0
 IsOf None t = Unit {0}

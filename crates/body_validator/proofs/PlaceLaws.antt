@@ -7,7 +7,7 @@ use Rattle.wasm_defs.specs.Places.{moved, after_rule}
 use Rattle.body_validator.specs.Checking.{Operand, Operands, ◌>>=◌, guarded, known, is_of, take_one, take_all, Taken, take_any, joined, put, apply}
 use Rattle.body_validator.proofs.Options.{through, some_inside, guarded-true}
 
--- where a place is reachable, all operands are known
+-- where a point is reachable, all operands are known
 abbrev pub IsKnown : Bool → Bool → Type 0
 IsKnown true unknown = unknown ≡ false
 IsKnown false unknown = Unit {0}

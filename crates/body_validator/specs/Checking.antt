@@ -20,7 +20,7 @@ pub record Operands : Type 0 where
   pub own : List Operand
   -- any operands may be below these: what comes after `unreachable` and the like
   pub unknown : Bool
-  -- the place here can be reached
+  -- the point here is reachable
   pub live : Bool
 
 pub record Frame : Type 0 where
@@ -237,7 +237,7 @@ kind_of (Some os) = Invalid
 abbrev pub fault_kind : Token → Frames → Kind
 fault_kind t fs = kind_of (nest t (openings fs))
 
--- ---- what the frames tell
+-- ---- what the frames say
 
 abbrev pub is_open : Frames → Bool
 is_open [] = false

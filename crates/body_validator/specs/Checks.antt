@@ -54,7 +54,7 @@ IsAnswered tokens t (Ok s) old new = IsReached (tokens ++ t ∷ []) new × IsVia
 IsAnswered tokens t (Err (Refused r)) old new = IsFaulty old.context (tokens ++ t ∷ []) r.kind
 IsAnswered tokens t (Err NoMemory) old new = Unit {0}
 
--- the step has the place, before the token, of every valid body that the tokens begin
+-- the step has the point, before the token, of every valid body that the tokens begin
 abbrev pub IsPlaced : Context → List Token → Token → Result Step TokenStop → Type 0
 IsPlaced c tokens t (Ok s) =
     (more : List Token) (tree : Seq) → Tree (tokens ++ t ∷ more) tree → IsBody c tree → slice_get (places_of c tree) (length tokens) ≡ Some (guarded s.live s.height_before)

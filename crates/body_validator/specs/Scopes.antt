@@ -1,4 +1,4 @@
--- What the code's rules and block types stand for.
+-- What the code's rules and block types mean.
 use Rattle.std.specs.Prelude.{◌≡◌, Bool, List, [], reverse, Option, None, Some}
 use Rattle.std.specs.Borrow.{Bor}
 use Rattle.wasm_defs.specs.declared.types.ValType.{ValType}

@@ -212,7 +212,7 @@ fn joined_type(left: Operand, right: Operand) -> Option<Operand>
     }
 }
 
-/// What `select` leaves in the place of a condition and two operands of one type.
+/// What `select` leaves in place of a condition and two operands of one type.
 pub fn selected(own: &[Operand], unknown: bool) -> Option<Operand>
     ensures { result ≡ selected_of unknown (reverse own.now) }
 {

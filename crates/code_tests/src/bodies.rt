@@ -1,5 +1,5 @@
-//! Bodies of a module's one function, which gives a number of 32 bits, and what becomes of them. Words, sizes and faults were worked out
-//! by hand; the numbers that tell words apart are those of what another compiler makes.
+//! Bodies of a module's one function, which gives a number of 32 bits, and what becomes of them. Words, sizes and errors were worked out
+//! by hand; the checksums of words are those of what another compiler makes.
 ghost use Rattle.std.specs.Prelude.{IfOk};
 ghost use Rattle.index_spaces.specs.ItemLimits.{HasSmallType};
 
@@ -48,7 +48,7 @@ div_s, div_u, return, a trap that is unreachable; traps 1 34; 00 20 00 20 00 6D 
 
 /// The words of `local.get 0; local.get 1; i32.add; end` in a function with two parameters.
 const SUM: [&str; 6] = [
-    // room for five slots: two parameters, the place to return to, two operands
+    // room for five slots: two parameters, the return address, two operands
     "00000293 00B29293 0002E293 00B29293 0282E293 008282B3 005AF863 00800513 00100893 00000073 ",
     // .. sd ra, 16(t3)
     "00000E37 008E0E33 001E3823 ",
@@ -110,7 +110,7 @@ fn compiled(alloc: Global, has_two: bool, bytes: &[u8], offset: u32) -> Result<C
     compile(alloc, &context, 0, bytes, u64::from(offset))
 }
 
-/// A number that tells words apart.
+/// A checksum of words.
 fn number_of(words: &[u32]) -> u32 {
     let mut number = 0u32;
     for word in words {
@@ -119,12 +119,12 @@ fn number_of(words: &[u32]) -> u32 {
     number
 }
 
-/// The word of a place, or 0 past the last one.
+/// The word at an index, or 0 past the last one.
 fn word_at(code: &Code, place: usize) -> u32 {
     code.words.as_slice().get(place).copied().unwrap_or(0)
 }
 
-/// The calls: where each stands, its two words, and which function it calls.
+/// The calls: where each is, its two words, and which function it calls.
 fn calls_of(alloc: Global, code: &Code) -> Result<String, Fail> {
     let mut text = String::new(alloc);
     for call in code.relocations.as_slice() {
@@ -139,7 +139,7 @@ fn calls_of(alloc: Global, code: &Code) -> Result<String, Fail> {
     Ok(text)
 }
 
-/// The traps: where each stands, its word, and the offset of its instruction. The first one is the body's as a whole.
+/// The traps: where each is, its word, and the offset of its instruction. The first one is the body's as a whole.
 fn traps_of(alloc: Global, code: &Code) -> Result<String, Fail> {
     let mut text = String::new(alloc);
     for trap in code.traps.as_slice() {

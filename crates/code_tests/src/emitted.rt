@@ -170,7 +170,7 @@ fn slots(alloc: Global) -> Result<WordBuffer, Fail> {
     Ok(buffer)
 }
 
-/// The words of a call behind another word; then the place of its two words, and its function.
+/// The words of a call after another word; then the index of its two words, and its function.
 fn call(alloc: Global) -> Result<WordBuffer, Fail> {
     let mut buffer = WordBuffer::new(alloc)?;
     buffer.push(0x0000_0073)?;

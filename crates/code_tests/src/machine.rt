@@ -6,7 +6,7 @@ use rv64im_machine::{FaultKind, LinearMemory, Machine, Region, Regions, Stepped}
 use std::alloc::{AllocError, Global};
 use std::test::Fail;
 
-/// One step: the operation, its word, what t1, t2 and s0 hold, and how the step ends with what in t0. The loads are of the byte behind
+/// One step: the operation, its word, what t1, t2 and s0 hold, and how the step ends with what in t0. The loads are of the byte after
 /// s0, at the bytes 80 91 A2 B3 C4 D5 E6 F7 of the memory and of the passive region.
 const STEPS: &str = "\
 div 027342B3 8000000000000000 FFFFFFFFFFFFFFFF 0 = Next 8000000000000000
@@ -290,7 +290,7 @@ fn fetched(alloc: Global, pc: u64) -> Result<bool, Fail> {
     Ok(stepped == Stepped::Fault(FaultKind::Fetch) && machine.pc() == pc)
 }
 
-/// What the host changes between steps counts: the word that is loaded is one that it wrote, and the place one that it set.
+/// What the host changes between steps counts: the word that is loaded is one that it wrote, and pc the one that it set.
 fn changed(alloc: Global) -> Result<String, Fail> {
     let mut machine = machine(alloc, &[0x0FF0_000F, 0x0004_3383, 0x0000_0073, 0x0010_0073])?;
     machine.set_register(8, 0x2000_0000);

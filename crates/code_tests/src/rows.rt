@@ -2,7 +2,7 @@
 
 use std::alloc::{AllocError, Global};
 
-/// The numbers that stand there in hexadecimal digits.
+/// The numbers that the text has in hexadecimal digits.
 pub fn numbers_of(alloc: Global, text: &str) -> Result<Vec<u64>, AllocError> {
     let mut numbers = Vec::new(alloc);
     for digits in text.split(' ') {
@@ -13,7 +13,7 @@ pub fn numbers_of(alloc: Global, text: &str) -> Result<Vec<u64>, AllocError> {
     Ok(numbers)
 }
 
-/// The bytes that stand there in hexadecimal digits.
+/// The bytes that the text has in hexadecimal digits.
 pub fn bytes_of(alloc: Global, text: &str) -> Result<Vec<u8>, AllocError> {
     let mut bytes = Vec::new(alloc);
     for digits in text.split(' ') {
@@ -24,7 +24,7 @@ pub fn bytes_of(alloc: Global, text: &str) -> Result<Vec<u8>, AllocError> {
     Ok(bytes)
 }
 
-/// The words that stand there in hexadecimal digits.
+/// The words that the text has in hexadecimal digits.
 pub fn words_of(alloc: Global, text: &str) -> Result<Vec<u32>, AllocError> {
     let mut words = Vec::new(alloc);
     for digits in text.split(' ') {

@@ -5,7 +5,7 @@ use Rattle.clap.specs.Walk.{Text}
 use Rattle.command_words.specs.Arguments.{argument_in, arguments_in}
 use Rattle.command_words.specs.declared.argument.Argument.{Argument}
 
--- the arguments xs of the words before place i, and then those of the words from there on
+-- the arguments xs of the words before index i, and then those of the words from there on
 pub one_more : (ws : List (Bor Text)) (i : ℕ) (w : Bor Text) (xs : List Argument) (a : Argument) → i < length ws → argument_in (slice_index_or ws i w).now ≡ Some a
     → arguments_in (map (λ w. w.now) ws) ≡ option_map (λ rest. xs ++ rest) (arguments_in (map (λ w. w.now) (drop i ws)))
     → arguments_in (map (λ w. w.now) ws) ≡ option_map (λ rest. (xs ++ a ∷ []) ++ rest) (arguments_in (map (λ w. w.now) (drop (i + 1) ws)))

@@ -183,7 +183,7 @@ in_ranges (k ∷ ks) named c e = absurd (some≢none c e)
 no_word : Any IsNoArgument [] → ⊥
 no_word any = omega (arith, any.2)
 
--- what is in place 1 of a text
+-- what is at index 1 of a text
 abbrev second : Text → ℕ
 second t = slice_index t 1
 

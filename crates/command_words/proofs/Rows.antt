@@ -1,4 +1,4 @@
--- Rows in which what stands for one name is a text that its parser accepts: they stay so through uses of arguments and
+-- Rows in which the value of one name is a text that its parser accepts: they stay so through uses of arguments and
 -- through defaults that clap's model finds no error in.
 use Rattle.std.proofs.Common.{◌≡◌, ◌∙◌, ◌⊎◌, ◌++◌, ℕ, Bool, true, false, List, [], ◌∷◌, length, Option, Some, None, refl, ap, sym, subst, true≢false, inl, inr, arith}
 use Rattle.std.specs.Prelude.{◌==◌, ◌||◌, ◌&&◌, cond, not, slice_get, fold, find, option_and_then, option_map}
@@ -156,7 +156,7 @@ module _ (name : Text) (p : ValueParser) where
       let parts = neither _ _ e in
       defaults_good rest fit.1 (with_default rows a) parts.1 (default_good a fit.0 rows parts.0 h)
 
-  -- ---- what stands for the name
+  -- ---- the value of the name
 
   pub found_good : (rows : List Row) → has_row name rows ≡ true → AreGood rows → (r : Row) × (find (λ x. bytes_eq x.id name) rows ≡ Some r) × HasFirst p r
   found_good [] h good = absurd (true≢false (sym h))

@@ -30,7 +30,7 @@ shapes-jumping n k [] = refl
 shapes-jumping n zero (l ∷ ls) = refl
 shapes-jumping n (suc k) (l ∷ ls) = ap (λ (x : List Shape). shape_of l ∷ x) (shapes-jumping n k ls)
 
--- a jump whose place isn't known
+-- a jump whose target isn't known
 pub emits-jump : (labels after : List Pending) (old new : List ℕ) (k n : ℕ) → Within (length old) labels → k < length labels → n ≡ length old → new ≡ old ++ map word_of (far (distance n n)) → after ≡ jumping n k labels
     → Emits (draft labels old) (draft after new) (λ es. far (distance (length old) (end_at k es)))
 emits-jump labels after old new k n h lt e is waits =

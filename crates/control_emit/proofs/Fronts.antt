@@ -19,7 +19,7 @@ front-later old mid new first second =
     let fewer : length old ≤ length mid = omega (arith, ap (λ (l : List ℕ). length l) first, length-take (length old) mid) in
     sym (take-take (length old) (length mid) new fewer) ∙ ap (take (length old)) second ∙ first
 
--- what an outcome tells of the words holds of the same words
+-- what an outcome says of the words holds of the same words
 pub settles : {A B : Type 0} (P : List ℕ → Type 0) (r s : Result A B) (mid new : List ℕ) → s ≡ r → OnOk r (new ≡ mid) → OnOk r (P mid) → OnOk s (P new)
 settles P r s mid new e same p = subst (λ (t : Result _ _). OnOk t (P new)) (sym e) (here r same p)
   where
@@ -27,7 +27,7 @@ settles P r s mid new e same p = subst (λ (t : Result _ _). OnOk t (P new)) (sy
     here (Ok x) f q = subst P (sym f) q
     here (Err x) f q = tt
 
--- words are taken back where memory ran out, and so the front stays
+-- words are taken back where memory ran out, and so the prefix stays
 pub settled-front : {A B : Type 0} (r : Result A B) (old mid new : List ℕ) → IsFront old mid → OnOk r (new ≡ mid) → OnErr r (new ≡ old) → IsFront old new
 settled-front (Ok x) old mid new front same back = subst (IsFront old) (sym same) front
 settled-front (Err x) old mid new front same back = front-same old new back

@@ -33,7 +33,7 @@ ahead w c [] qs ls = 0
 ahead w c (t ∷ ts) [] ls = 0
 ahead w c (t ∷ ts) (q ∷ qs) ls = own_words w c t q ls
 
--- so many of the tokens, each at its place, lead to so many words, those of the next token among them
+-- so many of the tokens, each at its point, lead to so many words, those of the next token among them
 abbrev Partly : Around → Context → ℕ → List Token → List Place → Draft → ℕ → Type 0
 Partly w c zero ts qs old new = new ≡ length old.words + ahead w c ts qs old.labels
 Partly w c (suc k) [] qs old new = ⊥

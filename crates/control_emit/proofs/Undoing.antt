@@ -9,7 +9,7 @@ unjumps n k [] d s is none lt = refl
 unjumps n zero (l ∷ ls) d s is none lt = ap (λ (o : Option ℕ). record l { jumps = fewer o (n ∷ l.jumps) } ∷ ls) (ap (λ (x : Shape). x.start) is ∙ none)
 unjumps n (suc k) (l ∷ ls) d s is none lt = ap (λ (x : List Pending). l ∷ x) (unjumps n k ls d s is none (omega arith))
 
--- a label whose place is known
+-- a label whose index is known
 pub unjumped-none : (n k : ℕ) (ls : List Pending) (d s : Shape) → get_or (shapes ls) k d ≡ s → s.start ≡ Some n → k < length ls → unjumped k ls ≡ ls
 unjumped-none n k [] d s is some lt = refl
 unjumped-none n zero (l ∷ ls) d s is some lt = ap (λ (o : Option ℕ). record l { jumps = fewer o l.jumps } ∷ ls) (ap (λ (x : Shape). x.start) is ∙ some)

@@ -1,4 +1,4 @@
--- The parts of a table's front.
+-- The parts of a table's first part.
 use Rattle.std.specs.Prelude.{ℕ, List, [], ◌∷◌, ◌++◌}
 use Rattle.rv_isa.specs.declared.operations.BranchOp.TheVariants.{Bltu}
 use Rattle.rv_isa.specs.declared.operations.ImmOp.TheVariants.{Addi}

@@ -1,4 +1,4 @@
--- Labels that are open over the instruction words of a function: each keeps the places of the jumps to it that are still to be
+-- Labels that are open over the instruction words of a function: each keeps the indices of the jumps to it that are still to be
 -- patched.
 use Rattle.std.specs.Prelude.{◌≡◌, ◌≤◌, ◌<◌, ℕ, zero, suc, ◌+◌, ◌==◌, Bool, false, List, [], ◌∷◌, Option, None, Some, length, slice_set, slice_index_or, map, reverse, if◌then◌else◌}
 use Rattle.rv_isa.specs.declared.operations.Op.TheVariants.{Auipc, Jalr}
@@ -30,7 +30,7 @@ abbrev pub is_at : ℕ → Option ℕ → Bool
 is_at n None = false
 is_at n (Some k) = k == n
 
--- the places of a jump among the first n, of the one that it names, and so on
+-- the indices of a jump among the first n, of the one that it names, and so on
 abbrev pub chain : List Jump → (n : ℕ) → Option ℕ → List ℕ
 chain jumps zero last = []
 chain jumps (suc n) last =
@@ -51,7 +51,7 @@ IsBefore n (Some k) = k < n
 abbrev pub AreLinked : List Jump → Type 0
 AreLinked jumps = (k : ℕ) → IsBefore k (jump_at jumps k).before
 
--- ---- what is known of a label besides its jumps
+-- ---- what is known of a label, its jumps aside
 
 pub record Shape : Type 0 where
   pub base : ℕ
@@ -84,7 +84,7 @@ named (s ∷ ss) (e ∷ es) = label_of s e ∷ named ss es
 
 -- ---- what the words are, once it is known where the blocks end
 
--- a jump at a place leads there
+-- a jump at an index leads there
 abbrev pub patched : (there place : ℕ) → List ℕ → List ℕ
 patched there place words =
     slice_set (slice_set words place (word_of (Auipc t3 (hi (distance place there))))) (place + 1) (word_of (Jalr x0 t3 (lo (distance place there))))
@@ -151,7 +151,7 @@ jumping n k [] = []
 jumping n zero (l ∷ ls) = with_jump n l ∷ ls
 jumping n (suc k) (l ∷ ls) = l ∷ jumping n k ls
 
--- one jump fewer: the last one is dropped, unless the label's place is known, so that no jump to it waits
+-- one jump fewer: the last one is dropped, unless the label's index is known, so that no jump to it waits
 abbrev pub fewer : (start : Option ℕ) → List ℕ → List ℕ
 fewer None [] = []
 fewer None (p ∷ ps) = ps

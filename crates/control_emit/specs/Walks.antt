@@ -1,4 +1,4 @@
--- How tokens, each at its place, lead from one draft of a function's instruction words to another.
+-- How tokens, each at its point, lead from one draft of a function's instruction words to another.
 use Rattle.std.specs.Prelude.{◌≡◌, ◌≤◌, ℕ, ◌+◌, ◌-◌, Bool, true, false, List, [], ◌∷◌, ◌++◌, length, map, None, Some}
 use Rattle.rv_isa.specs.declared.compiled.Relocation.{Relocation}
 use Rattle.rv_isa.specs.declared.compiled.TrapSite.{TrapSite}
@@ -119,7 +119,7 @@ IsLive true (Some h) = Unit {0}
 IsLive false None = Unit {0}
 IsLive false (Some h) = ⊥
 
--- a body's tokens, each at its place, lead to its words
+-- a body's tokens, each at its point, lead to its words
 abbrev pub WordsLaw : Type 0
 WordsLaw =
     (w : Around) (c : Context) (tokens : List Token) (tree : Seq) (front : List ℕ) (last : Draft) → Tree tokens tree → length front ≡ body_place w

@@ -7,7 +7,7 @@ use Rattle.wasm_defs.specs.Trees.{Seq}
 use Rattle.frame_layout.specs.Functions.{function_code}
 use Rattle.frame_layout.specs.Templates.{Around}
 
--- the words of functions, of which the first is the k-th that is declared, by what they depend on besides
+-- the words of functions, of which the first is the k-th that is declared, by what else they depend on
 abbrev pub words_of : (ℕ → Body → Seq → Around) → List Item → (k : ℕ) → List Body → List Seq → ℕ
 words_of around items k (b ∷ bodies) (tree ∷ trees) = length (function_code (around k b tree) (context_at items k b) tree) + words_of around items (suc k) bodies trees
 words_of around items k bodies trees = 0

@@ -29,7 +29,7 @@ fn push_length(bytes: &mut Vec<u8>, length: usize) -> Result<(), AllocError> {
     Ok(())
 }
 
-/// The module that exports as `f` a function of type [i32] to [i32], with two locals beside its parameter, and this body.
+/// The module that exports as `f` a function of type [i32] to [i32], with two locals in addition to its parameter, and this body.
 fn module_of(alloc: Global, tokens: &[Token]) -> Result<Vec<u8>, Fail> {
     let mut code = Vec::new(alloc);
     for byte in [1, 2, 0x7F] {
@@ -54,7 +54,7 @@ fn module_of(alloc: Global, tokens: &[Token]) -> Result<Vec<u8>, Fail> {
     Ok(module)
 }
 
-/// The offset of a token in its module: behind a front of 33 bytes and the declaration of the locals.
+/// The offset of a token in its module: after a first part of 33 bytes and the declaration of the locals.
 fn offset_of(alloc: Global, tokens: &[Token], at: usize) -> Result<usize, Fail> {
     let mut bytes = Vec::new(alloc);
     for (i, token) in tokens.iter().enumerate() {

@@ -292,7 +292,7 @@ fn wanted_64(opcode: u8, a: i64, b: i64) -> Wanted {
     }
 }
 
-/// The status and the line that belong to it; a division stands behind 37 bytes.
+/// The status and the line that belong to it; a division is after 37 bytes.
 fn wanted_line(alloc: Global, wanted: Wanted) -> Result<String, AllocError> {
     match wanted {
         Wanted::I32(n) => format!(in alloc; "0 i32 {n}\n"),
@@ -330,7 +330,7 @@ fn pairs(alloc: Global, firsts: &[i64], seconds: &[i64]) -> Result<Vec<(i64, i64
     Ok(pairs)
 }
 
-/// The numbers and those at the edges of bytes, each beside a zero that isn't used, and scattered ones.
+/// The numbers and those at the edges of bytes, each next to a zero that isn't used, and scattered ones.
 fn singles(alloc: Global, numbers: &[i64]) -> Result<Vec<(i64, i64)>, AllocError> {
     let mut singles = pairs(alloc, numbers, &[0])?;
     for a in &numbers_of(alloc, LOW_EDGES)? {

@@ -1,4 +1,4 @@
--- Branches that are taken and passed, jumps to a place in a register, and calls of the environment.
+-- Branches that are taken and passed, jumps to an address in a register, and calls of the environment.
 use Rattle.std.proofs.Common.{◌≡◌, ℕ, suc, ◌+◌, ◌*◌, ◌/◌, ◌%◌, ◌^◌, ◌<◌, ◌==◌, true, false, List, [], ◌∷◌, Option, refl, sym, ap, ◌∙◌, arith}
 use Rattle.std.specs.Prelude.{◌||◌, ◌≢◌}
 use Rattle.std.proofs.lemmas.Bool.{eq-eqb, lt-ltb, false≢true, or_parts}
@@ -46,7 +46,7 @@ module _ (code : List (Option Op)) (s : State) (i : ℕ) (at : s.pc ≡ place i)
         others = λ q kept. refl;
       }
 
-  -- ---- to the place in ra
+  -- ---- to the address in ra
 
   pub returned_reaches : (there : ℕ) → HasAt code i (Jalr x0 ra 0 ∷ []) → reg s.registers ra ≡ there → there < 2 ^ 64 → there % 4 ≡ 0 → Reaches code 1 s (record s { pc = there })
   returned_reaches there has is small aligned =

@@ -38,7 +38,7 @@ traps-both : (from mid to : ℕ) (ts us : List Trap) → AreSpaced from (places_
 traps-both from mid to ts us h k =
     subst (λ (ps : List ℕ). AreSpaced from ps to) (sym (map-append (λ (t : Trap). t.place) ts us)) (spaced-both from mid to (places_of ts) (places_of us) h k)
 
--- a few places on
+-- a few words on
 spaced-on : (here left from to : ℕ) (ps : List ℕ) → AreSpaced from ps to → AreSpaced (here + from) (places_of (map (trap_at here left) ps)) (here + to)
 spaced-on here left from to [] h = omega (arith, h)
 spaced-on here left from to (p ∷ ps) h = (omega (arith, h.0), spaced-less (here + p + 1) (here + (p + 1)) (here + to) (places_of (map (trap_at here left) ps)) (omega arith) (spaced-on here left (p + 1) to ps h.1))

@@ -52,7 +52,7 @@ pub record Does (code : List (Option Op)) (steps words : ℕ) (s : State) (bytes
   pub bytes_are : end.bytes ≡ bytes
   pub others : (r : ℕ) → is_scratch r ≡ false → reg end.registers r ≡ reg s.registers r
 
--- and those that tell the environment what it is asked
+-- and those that say what the environment is asked
 abbrev pub is_passed : ℕ → Bool
 is_passed r = is_scratch r || r == a0 || r == a7
 
@@ -96,7 +96,7 @@ LocalGetLaw =
     → IsFrame base s → base + x < max_slots → base + operand w.layout h < max_slots
     → Does code (length (local_get_words w h x)) (length (local_get_words w h x)) s (with_slot s.bytes (base + operand w.layout h) (slot_at s.bytes (base + x)))
 
--- the sum of two i32, in the place of the first one
+-- the sum of two i32, in place of the first one
 abbrev pub AddLaw : Type 0
 AddLaw =
     (w : Around) (code : List (Option Op)) (s : State) (i base h a b : ℕ) → HasAt code i (operate_words w h (Binary I32 Add)) → s.pc ≡ place i

@@ -28,7 +28,7 @@ abbrev pub is_call : Op → Bool
 is_call Ecall = true
 is_call op = false
 
--- the places of the traps, where the first operation is at a place, and the one before it gives a7 that number or not
+-- the indices of the traps, where the first operation is at an index, and the one before it gives a7 that number or not
 abbrev pub found : (asks : Bool) → (here : ℕ) → List Op → List ℕ
 found asks here [] = []
 found asks here (op ∷ ops) =
@@ -78,13 +78,13 @@ room_trap = 9
 
 -- ---- as they are noted
 
--- the trap of a word after a place, with its offset in the module
+-- the trap of a word after an index, with its offset in the module
 abbrev pub site_at : (here offset word : ℕ) → TrapSite
 site_at here offset word = record { place = here + word; offset = offset }
 
 -- ---- no trap's words are those of another: each has three, of which the ECALL is the last
 
--- the traps' words follow a place, one after the other, and before a place
+-- the traps' words are from one index on, one after the other, and before another
 abbrev pub AreSpaced : (from : ℕ) → List ℕ → (to : ℕ) → Type 0
 AreSpaced from [] to = from ≤ to
 AreSpaced from (p ∷ ps) to = (from + 2 ≤ p) × AreSpaced (p + 1) ps to

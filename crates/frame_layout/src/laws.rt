@@ -12,7 +12,7 @@ pub fn local_get_law()
     ensures { LocalGetLaw }
 {}
 
-/// The instruction words of `i32.add` put the sum of the two uppermost operands in the place of the lower one.
+/// The instruction words of `i32.add` put the sum of the two uppermost operands in place of the lower one.
 pub fn add_law()
     ensures { AddLaw }
 {}

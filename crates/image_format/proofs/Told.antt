@@ -1,4 +1,4 @@
--- What a search finds among places whose offsets rise.
+-- What a search finds among trap sites whose offsets rise.
 use Rattle.std.proofs.Common.{◌≡◌, ℕ, zero, suc, ◌+◌, ◌<◌, ◌≤◌, ◌≢◌, List, [], ◌∷◌, ◌++◌, length, get_or, Option, Some, None, Result, Ok, Err, IfOk, IfErr, refl, sym, ap, ◌∙◌, subst, arith}
 use Rattle.std.specs.List.Sorted.{IsSearchInRange, IsBinarySearchResult, IsNonDecreasingBy}
 use Rattle.std.specs.Ordering.{nat_cmp, ordering_index}
@@ -15,7 +15,7 @@ use Rattle.image_format.specs.Bounds.{Each, bound_of, PlaceFits, ArePlaces}
 use Rattle.image_format.specs.ImageRun.{place_told}
 use Rattle.image_format.specs.Told.{Rise, no_place, offset_at, IsAt, IsGapFor}
 
--- ---- the offsets of an image's places rise
+-- ---- the offsets of an image's trap sites rise
 
 each_rises : (words : ℕ) (front ps : List TrapPlace) → Each (PlaceFits words) front ps → Rise (bound_of front) ps
 each_rises words front [] fits = tt
@@ -39,12 +39,12 @@ strictly bound (p ∷ ps) rise i zero less within = absurd (omega arith)
 strictly bound (p ∷ ps) rise zero (suc j) less within = omega (arith, above_bound (p.offset + 1) ps rise.1 j (omega arith))
 strictly bound (p ∷ ps) rise (suc i) (suc j) less within = strictly (p.offset + 1) ps rise.1 i j (omega arith) (omega arith)
 
--- ---- what is told
+-- ---- what a search gives
 
 abbrev place_in : TrapPlace → Place
 place_in p = record { function = p.function; offset = p.module_offset }
 
--- a place's own offset is told it
+-- a trap site's own offset gives it
 pub told_at : (bound : ℕ) (ps : List TrapPlace) → Rise bound ps → (offset i : ℕ) → IsAt ps offset i → place_told ps offset ≡ Some (place_in (get_or ps i no_place))
 told_at bound [] rise offset i at = absurd (omega (arith, at.in_range))
 told_at bound (p ∷ ps) rise offset zero at = grind (arith, nat_tests, at.has_offset)

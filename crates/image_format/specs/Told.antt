@@ -1,4 +1,4 @@
--- Where a trap is told among places whose offsets rise.
+-- Where a trap comes from: a search among trap sites whose offsets rise.
 use Rattle.std.specs.Prelude.{◌≡◌, ℕ, ◌+◌, ◌<◌, ◌≤◌, List, [], ◌∷◌, length, get_or}
 use Rattle.image_format.specs.declared.image.TrapPlace.{TrapPlace}
 
@@ -13,7 +13,7 @@ no_place = record { offset = 0; function = 0; module_offset = 0 }
 abbrev pub offset_at : List TrapPlace → ℕ → ℕ
 offset_at places i = (get_or places i no_place).offset
 
--- the place of that number has the offset
+-- the trap site of that index has the offset
 pub record IsAt (places : List TrapPlace) (offset i : ℕ) : Type 0 where
   pub in_range : i < length places
   pub has_offset : offset_at places i ≡ offset

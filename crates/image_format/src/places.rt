@@ -1,4 +1,4 @@
-//! Where a trap comes from: a search among places whose offsets rise.
+//! Where a trap comes from: a search among trap sites whose offsets rise.
 
 ghost use Rattle.std.specs.Prelude.{◌≡◌, IfOk, IfErr};
 ghost use Rattle.image_format.specs.ImageRun.{place_told};
@@ -7,7 +7,7 @@ ghost use Rattle.image_format.specs.Told.{Rise, IsAt, IsGapFor};
 use crate::image::TrapPlace;
 use wasm_defs::Place;
 
-/// The number of the place with that offset, or where it would be.
+/// The index of the trap site with that offset, or where it would be.
 fn search(places: &[TrapPlace], offset: u64) -> Result<usize, usize>
     requires { Rise 0 places.now }
     ensures found { IfOk result (IsAt places.now offset) }
@@ -16,7 +16,7 @@ fn search(places: &[TrapPlace], offset: u64) -> Result<usize, usize>
     places.binary_search_by_key(&offset, |place| u64::from(place.offset))
 }
 
-/// Where in the module the trap comes from whose ECALL is at an offset of the text, if one of the places says so.
+/// Where in the module the trap comes from whose ECALL is at an offset of the text, if one of the trap sites says so.
 pub fn told(places: &[TrapPlace], offset: u64) -> Option<Place>
     requires { Rise 0 places.now }
     ensures { result ≡ place_told places.now offset }

@@ -27,7 +27,7 @@ use Rattle.image_linker.proofs.LoadedMemory.{HaveBytes, IsLoaded, is_loaded}
 use Rattle.image_linker.proofs.Regions.{AreWords, word_bytes_length, row_words_length, first_words_are_read}
 use Rattle.image_linker.proofs.Segmented.{words_front, segments_loaded}
 
--- an image whose regions keep their limits, and whose segments are of bytes and have their places
+-- an image whose regions keep their limits, and whose segments are of bytes and fit
 pub record IsSmall (i : Image) : Type 0 where
   pub globals : length i.globals ≤ 300000
   pub table : length i.table ≤ max_table
@@ -40,7 +40,7 @@ pub record IsSmall (i : Image) : Type 0 where
   pub passive_bytes : All (λ (b : ℕ). b < 256) i.passive
 
 -- a store as the image begins with: a memory of zeros with the active segments, the values that the first globals' words hold, and the
--- segments that the other ones tell of
+-- segments that the other ones describe
 pub record IsFirst (i : Image) (replies : List Reply) (store : Store) : Type 0 where
   pub memory : store.memory ≡ all_over (replicate (page * i.pages) 0) (segments_of i.segments)
   pub globals : i.globals ≡ words_of store.globals ++ segment_words 0 store.segments
@@ -96,7 +96,7 @@ module _ (i : Image) (small : IsSmall i) where
           ∙ first_words_are_read own telling (words_front own telling words);
     }
 
-    -- and the others tell of the segments
+    -- and the others describe the segments
     segments_first : SegmentsStand (loaded i) (length store.globals) store.segments
     segments_first =
         subst (λ (n : ℕ). SegmentsStand (loaded i) n store.segments) own_length

@@ -10,7 +10,7 @@ use Rattle.image_linker.specs.Bodies.{code_of, codes_of, bytes_up_to}
 use Rattle.image_linker.specs.Linking.{words_of}
 use Rattle.image_linker.proofs.Loops.{words_taken}
 
--- each has its place
+-- each is at its index
 pub code_at : (bodies : List BodyCode) (i : ℕ) (b : BodyCode) → i < length bodies → b ≡ slice_index_or bodies i b → code_of b ≡ slice_index_or (codes_of bodies) i (code_of b)
 code_at [] i b lt e = absurd (omega arith)
 code_at (x ∷ bodies) zero b lt e = ap code_of e

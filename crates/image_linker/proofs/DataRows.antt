@@ -94,7 +94,7 @@ segments_more rows i r less e =
     let k : i + 1 ≡ suc i = omega arith in
     rw k (ap (λ (ws : List (Written ℕ)). map segment_of ws) (written_suc rows i r less e) ∙ map-append segment_of (written_segments (take i rows)) (written_before r.place r.bytes []))
 
--- one that is copied is among those that are placed
+-- one that is copied is among those that have an address
 before_first : (place : Option ℕ) (bytes : List ℕ) (ws : List (Written ℕ)) (a : ℕ) → place ≡ Some a → All (λ w. w.0 < 2 ^ 32) (written_before place bytes ws) → a < 2 ^ 32
 before_first None bytes ws a e h = absurd cc
 before_first (Some b) bytes ws a e h =

@@ -54,7 +54,7 @@ not_all_fit size (x ∷ rows) zero r less e over = false_first (nat_le (x.place 
 not_all_fit size (x ∷ rows) (suc i) r less e over =
     false_later (nat_le (x.place + length (map Some x.functions)) size) (all_fit size (written_rows rows)) (not_all_fit size rows i r (omega arith) e over)
 
--- the one of an index has its place
+-- the one of an index fits
 pub each_fits : (size : ℕ) (rows : List ElementRow) (i : ℕ) (r : ElementRow) → i < length rows → r ≡ slice_index_or rows i r → all_fit size (written_rows rows) ≡ true → r.place + length r.functions ≤ size
 each_fits size [] i r less e fit = absurd (omega arith)
 each_fits size (x ∷ rows) zero r less e fit =

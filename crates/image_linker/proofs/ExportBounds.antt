@@ -1,4 +1,4 @@
--- The exports of a module's image: few, under names that are UTF-8, short and unlike, with small types, at places in the text.
+-- The exports of a module's image: few, under names that are UTF-8, short and unlike, with small types, at offsets in the text.
 use Rattle.std.proofs.Common.{◌≡◌, ℕ, ◌+◌, ◌≤◌, ◌<◌, ◌||◌, Bool, true, false, cond, List, [], ◌∷◌, ◌++◌, map, length, Option, Some, refl, sym, ap, ◌∙◌, arith}
 use Rattle.std.specs.Prelude.{is_some}
 use Rattle.std.specs.FinMap as map

@@ -80,7 +80,7 @@ places_taken n old new before is =
     let k : suc n ≡ n + 1 = omega arith in
     is ∙ ap (λ (l : List ℕ). l ++ front_of n ∷ []) before ∙ sym (places_suc (length exit_stub) n (front_of n) refl) ∙ ap (stub_places (length exit_stub)) k
 
--- no place is after the text's end
+-- no index is after the text's end
 places_within : (here n most : ℕ) (ys : List ℕ) → here + stub_size * n ≤ most → ((i : ℕ) → slice_index ys i ≤ most) → (i : ℕ) → slice_index (stub_places here n ++ ys) i ≤ most
 places_within here zero most ys le rest i = rest i
 places_within here (suc n) most ys le rest zero = omega (arith, le)

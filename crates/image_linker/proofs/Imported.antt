@@ -69,8 +69,8 @@ stub_place here zero i p ys less e = absurd (omega arith)
 stub_place here (suc n) zero p ys less e = omega (arith, e)
 stub_place here (suc n) (suc i) p ys less e = stub_place (here + stub_size) n i p ys (omega arith) (omega (arith, e))
 
--- the i-th imported function, which has a number: its stub is at a place of the text, the image has an import of its type, and
--- among these places of traps is that of its stub
+-- the i-th imported function, which has a number: its stub is at an index of the text, the image has an import of its type, and
+-- among these trap sites is that of its stub
 pub record IsStub (code : List (Option Op)) (c : Context) (items : List Item) (traps : List TrapPlace) (i place number : ℕ) (h : run.Function) : Type 0 where
   pub ty : FuncType
   pub from : ℕ

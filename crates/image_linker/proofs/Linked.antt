@@ -46,7 +46,7 @@ words_linked items places here k [] (tree ∷ trees) codes h = absurd h
 words_linked items places here k (b ∷ bodies) [] codes h = absurd h
 words_linked items places here k (b ∷ bodies) (tree ∷ trees) [] h = absurd h
 
--- their places
+-- the indices of their first words
 pub places_linked : (items : List Item) (here k : ℕ) (bodies : List Body) (trees : List Seq) (codes : List Code)
     → AreCodesOf items k bodies trees codes → places_from items here k bodies trees ≡ starts_from here codes
 places_linked items here k [] [] [] h = refl

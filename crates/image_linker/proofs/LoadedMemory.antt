@@ -20,7 +20,7 @@ over_length {A} old w fits =
     length-append (take w.0 old) (w.1 ++ drop (w.0 + length w.1) old)
     ∙ omega (arith, length-take-le w.0 old (omega arith), length-append w.1 (drop (w.0 + length w.1) old), length-drop (w.0 + length w.1) old, fits)
 
--- where it fits into the front, what is after stays
+-- where it fits into the prefix, what is after stays
 over_front : (front back : List ℕ) (w : Written ℕ) → w.0 + length w.1 ≤ length front → over (front ++ back) w ≡ over front w ++ back
 over_front front back w fits =
     let behind = w.0 + length w.1 in

@@ -65,7 +65,7 @@ has_inside code i (op ∷ []) some has = omega (arith, slice_get_within code i (
 has_inside code i (op ∷ next ∷ ops) some has = omega (arith, has_inside code (suc i) (next ∷ ops) (omega arith) has.1)
 
 module _ (m : Module) (good : IsCoveredModule m) (short : length (text_of m) ≤ 2 ^ 26) where
-  -- the image has as many rows as the table at first, where segments have their places
+  -- the image has as many rows as the table at first, where segments fit
   has_all : is_linkable m ≡ true → all_fit (rows_of m.items) (elements_of m.items) ≡ true
   has_all can_link = (and_parts (all_fit (rows_of m.items) (elements_of m.items)) (all_fit (page * pages_of m.items) (data_of m.items)) can_link).0
 
@@ -125,14 +125,14 @@ module _ (m : Module) (good : IsCoveredModule m) (short : length (text_of m) ≤
   abbrev places : ℕ → ℕ
   places i = slice_index (places_of_functions m) i
 
-  -- what the image tells of the text's words
+  -- what the image says of the text's words
   abbrev told : ℕ → Option Place
   told word = place_told (places_of_traps m) (4 * word)
 
   abbrev text_places : TextPlaces
   text_places = record { function = places; trap = told }
 
-  -- of each of its places that place
+  -- of each of its trap sites, its source location
   told_of : (q : TrapPlace) → IsAmong q (places_of_traps m) → place_told (places_of_traps m) q.offset ≡ Some (place_in q)
   told_of q among =
       told_among 0 (front_size m.items + sizes m.items 0 m.bodies m.trees) (places_of_traps m) q (traps_stand m good.few_functions good.short_imports good.short_bodies) among
@@ -154,7 +154,7 @@ module _ (m : Module) (good : IsCoveredModule m) (short : length (text_of m) ≤
         get_right (imports_from (context_of m.items) 0 m.items) (map Declared (declared_functions m)) (imported + k) k (omega (arith, imports_length (context_of m.items) 0 m.items))
         ∙ slice_get-map Declared (declared_functions m) k ∙ ap (option_map Declared) there.declared
 
-    -- its place
+    -- the index of its first word
     place_at : there.begin ≡ slice_index (places_of_functions m) (import_count m.items + k)
     place_at =
         sym (index_right (stub_places (length exit_stub) imported) (places_from m.items (front_size m.items) 0 m.bodies m.trees) (imported + k) k (omega (arith, places_length (length exit_stub) imported)) ∙ there.place_is)
@@ -226,7 +226,7 @@ module _ (m : Module) (good : IsCoveredModule m) (short : length (text_of m) ≤
       let h = function_at g (typed_within g t e) in
       (h.0, h.1, is_typed g h.0 h.1 ∙ ap type_or_empty e)
 
-  -- of a declared function's traps it is told where they come from
+  -- of a declared function's traps it says where they come from
   told_function : (k : ℕ) (within : k < length m.bodies) (q : TrapPlace) → IsAmong q (traps_of_function m.items (there k within).begin k (there k within).body (there k within).tree) → place_told (places_of_traps m) q.offset ≡ Some (place_in q)
   told_function k within q among =
       told_of q (among_right q (stub_traps (length exit_stub) 0 m.items) (traps_from m.items (front_size m.items) 0 m.bodies m.trees) ((there k within).traps q among))
@@ -273,7 +273,7 @@ module _ (m : Module) (good : IsCoveredModule m) (short : length (text_of m) ≤
   few_imports : import_count m.items < 2 ^ 26
   few_imports = omega (arith, short, text_length m good)
 
-  -- each has its place
+  -- each begins at its index
   all_placed : is_linkable m ≡ true → (i : ℕ) (h : Function) → slice_get (functions_of m) i ≡ Some h → IsPlaced text (instance_of m) text_places i h
   all_placed can_link i h is = ⊎_elim first later (cases_lt i imported)
     where
@@ -342,7 +342,7 @@ module _ (m : Module) (good : IsCoveredModule m) (short : length (text_of m) ≤
   environment : EnvironmentStands (instance_of m) (image_of m) text_places
   environment = record { imports = imports_stand; cap = refl; few = omega (arith, good.spaces.cap); told = λ word. refl }
 
-  -- a row's function is there, and its place is in the text
+  -- a row's function is there, and its index is in the text
   in_row : (a f : ℕ) → slice_get (instance_of m).table a ≡ Some (Some f) → (h : Function) × (slice_get (functions_of m) f ≡ Some h) × (type_of h ≡ type_of_function (context_of m.items) f)
   in_row a f is = let h = function_at f (good.rows a f is) in (h.0, h.1, is_typed f h.0 h.1)
 

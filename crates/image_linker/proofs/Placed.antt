@@ -1,4 +1,4 @@
--- Each function's instruction words are in the text from its place on.
+-- Each function's instruction words are in the text from its index on.
 use Rattle.std.proofs.Common.{◌≡◌, ℕ, zero, suc, ◌+◌, ◌^◌, ◌<◌, ◌≤◌, List, [], ◌∷◌, ◌++◌, map, length, Option, Some, refl, sym, ◌∙◌, subst, arith}
 use Rattle.std.specs.Prelude.{slice_get, slice_index}
 use Rattle.std.proofs.lemmas.List.{append-nil, length-append, length-map}
@@ -27,7 +27,7 @@ use Rattle.image_linker.proofs.CoveredModules.{IsCoveredBody, AreCoveredBodies, 
 use Rattle.image_linker.proofs.Imported.{stubs_length, each_stub_in_range}
 use Rattle.image_linker.proofs.Spread.{IsAmong, among_left, among_right}
 
--- ---- one function among those from a place on
+-- ---- one function among those from an index on
 
 -- the j-th of the bodies belongs to the declared function of this number
 pub record Placed (code : List (Option Op)) (items : List Item) (places : List ℕ) (here k : ℕ) (bodies : List Body) (trees : List Seq) (j number : ℕ) : Type 0 where

@@ -1,4 +1,4 @@
--- What an image tells of its module's data segments, as it is loaded: after the globals the length of each, and the address of its bytes.
+-- What an image says of its module's data segments, as it is loaded: after the globals the length of each, and the address of its bytes.
 use Rattle.std.proofs.Common.{◌≡◌, ℕ, zero, suc, ◌+◌, ◌*◌, ◌^◌, ◌<◌, List, [], ◌∷◌, ◌++◌, length, take, drop, Some, refl, sym, ap, ◌∙◌, subst, arith, append_assoc, length-append}
 use Rattle.std.specs.Prelude.{slice_get}
 use Rattle.std.proofs.lemmas.List.{drop_at, take_at}

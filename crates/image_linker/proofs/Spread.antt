@@ -1,4 +1,4 @@
--- The traps of an image are one after the other in its text, and each is told its place.
+-- The traps of an image are one after the other in its text, and each is given its source location.
 use Rattle.std.proofs.Common.{◌≡◌, ℕ, suc, ◌+◌, ◌*◌, ◌^◌, ◌<◌, ◌≤◌, ◌⊎◌, inl, inr, ⊎_elim, ◌==◌, List, [], ◌∷◌, ◌++◌, map, length, Option, Some, refl, sym, ap, ◌∙◌, subst, arith}
 use Rattle.std.proofs.lemmas.Bool.{cond-true, cond-false, eq-eqb, ne_eqb}
 use Rattle.std.proofs.lemmas.List.Sums.{fold_push}
@@ -72,7 +72,7 @@ each_fits words from to front (p ∷ ps) low high few h =
 pub places_fit : (words : ℕ) (ps : List TrapPlace) → words ≤ 2 ^ 26 → Stand 0 ps words → (3 * length ps ≤ words) × Each (PlaceFits words) [] ps
 places_fit words ps few h = (omega (arith, stand_within 0 words ps h), each_fits words 0 words [] ps (omega arith) (omega arith) few h)
 
--- ---- each is told
+-- ---- each is given its own
 
 abbrev pub IsAmong : TrapPlace → List TrapPlace → Type 0
 IsAmong q [] = ⊥
@@ -107,7 +107,7 @@ told_among from to (p ∷ ps) q h among =
     cond-false (p.offset == q.offset) _ _ (ne_eqb p.offset q.offset (λ (e : p.offset ≡ q.offset). absurd (omega (arith, e, h.1.offset, behind)))) ∙ told_among (h.0 + 1) to ps q h.2 more)
     among
 
--- and so of a function's traps it is told where they come from
+-- and so it is known where a function's traps come from
 pub all_sited : (told : ℕ → Option Place) (begin : ℕ) (o : Origin) (ts : List Trap) → ((q : TrapPlace) → IsAmong q (map (place_at begin o.index) (map (site_of o) ts)) → told q.offset ≡ Some (place_in q))
     → AreSited (λ word. told (4 * word)) begin o ts
 all_sited told begin o [] h = tt

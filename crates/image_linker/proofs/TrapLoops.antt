@@ -1,4 +1,4 @@
--- Places of traps that were put so far, and those of one more.
+-- Trap sites that were put so far, and those of one more.
 use Rattle.std.proofs.Common.{◌≡◌, ℕ, zero, suc, ◌+◌, ◌*◌, ◌^◌, ◌<◌, List, [], ◌∷◌, ◌++◌, map, take, length, refl, sym, ap, ◌∙◌, arith, append_assoc, length-append}
 use Rattle.std.specs.Prelude.{slice_index_or}
 use Rattle.std.specs.List.{All}
@@ -13,7 +13,7 @@ use Rattle.index_spaces.specs.declared.entries.Import.{Import}
 use Rattle.image_linker.specs.ImageOf.{stub_size, place_at}
 use Rattle.image_linker.specs.Linking.{words_of, import_traps, code_traps, IsShort}
 
--- an image's places are short
+-- an image's trap sites are short
 pub each_short : (words : ℕ) (front ps : List TrapPlace) → Each (PlaceFits words) front ps → All IsShort ps
 each_short words front [] h = All-nil IsShort
 each_short words front (p ∷ ps) h =
@@ -89,7 +89,7 @@ pub all_right : (xs ys : List TrapPlace) → All IsShort (xs ++ ys) → All IsSh
 all_right [] ys h = h
 all_right (x ∷ xs) ys h = all_right xs ys (All-tail IsShort x (xs ++ ys) h)
 
--- the number of a function counts where it has traps, whose places are short
+-- the number of a function counts where it has traps, whose trap sites are short
 pub same_function : (here f n : ℕ) (ss : List TrapSite) → (n < 2 ^ 32 → f ≡ n) → All IsShort (map (place_at here n) ss) → map (place_at here f) ss ≡ map (place_at here n) ss
 same_function here f n [] same h = refl
 same_function here f n (s ∷ ss) same h =

@@ -68,7 +68,7 @@ front_of imported = length exit_stub + stub_size * imported
 abbrev pub front_size : List Item → ℕ
 front_size items = front_of (import_count items)
 
--- the places of the stubs and of the functions, in words
+-- the indices of the first words of the stubs and of the functions
 abbrev pub stub_places : (here count : ℕ) → List ℕ
 stub_places here zero = []
 stub_places here (suc n) = here ∷ stub_places (here + stub_size) n
@@ -81,11 +81,11 @@ abbrev pub places_of_functions : Module → List ℕ
 places_of_functions m =
     stub_places (length exit_stub) (import_count m.items) ++ places_from m.items (front_size m.items) 0 m.bodies m.trees
 
--- from a place of a function that begins at another, to the functions at their places
+-- from an index of a function that begins at another, to the functions at theirs
 abbrev pub distances : List ℕ → (begins here function : ℕ) → ℕ
 distances places begins here function = distance (begins + here) (slice_index places function)
 
--- the k-th function's words, where it begins at a place of the text
+-- the k-th function's words, where it begins at an index of the text
 abbrev pub code_of_function : List Item → List ℕ → (here k : ℕ) → Body → Seq → List Op
 code_of_function items places here k b tree =
     function_code (around items k b tree (distances places here)) (context_at items k b) tree
@@ -102,7 +102,7 @@ text_of m =
 
 -- ---- where the text's traps come from
 
--- one of the function with this index, whose first word is at a place of the text
+-- one of the function with this index, whose first word is at an index of the text
 abbrev pub place_at : (here function : ℕ) → TrapSite → TrapPlace
 place_at here function s = record { offset = 4 * (here + s.place); function = function; module_offset = s.offset }
 

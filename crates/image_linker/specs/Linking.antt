@@ -54,7 +54,7 @@ starts_behind imported codes = stub_places (length exit_stub) imported ++ starts
 abbrev pub starts_of : Spaces → List Code → List ℕ
 starts_of s codes = starts_behind (length s.imports) codes
 
--- the words of a code that begins at a place of the text, once its calls lead to the functions, which begin at these places
+-- the words of a code that begins at an index of the text, once its calls lead to the functions, which begin at these
 abbrev pub words_at : (places : List ℕ) (here : ℕ) → Code → List ℕ
 words_at places here c = with_distances (distances places here) c.relocations c.words
 
@@ -76,7 +76,7 @@ code_traps here function (c ∷ cs) = map (place_at here function) c.traps ++ co
 abbrev pub linked_traps : Spaces → List Code → List TrapPlace
 linked_traps s codes = import_traps (length exit_stub) 0 s.imports ++ code_traps (front_of (length s.imports)) (length s.imports) codes
 
--- the numbers of a place have 32 bits
+-- the numbers of a trap site have 32 bits
 pub record IsShort (p : TrapPlace) : Type 0 where
   pub offset : p.offset < 2 ^ 32
   pub function : p.function < 2 ^ 32
@@ -86,11 +86,11 @@ pub record IsShort (p : TrapPlace) : Type 0 where
 abbrev pub linked_import : List FuncType → Import → Imported
 linked_import types i = record { «module» = i.module; name = i.name; signature = type_or_empty (slice_get types i.type_index) }
 
--- an exported function has the place of its code, or of its stub
+-- an exported function has the offset of its code, or of its stub
 abbrev pub linked_export : Spaces → List ℕ → List ℕ × ℕ → Export
 linked_export s starts e = record { name = e.0; signature = type_of_function (context_in s) e.1; offset = 4 * slice_index starts e.1 }
 
--- the place of the start function, or 0 where there is none
+-- the offset of the start function, or 0 where there is none
 abbrev pub linked_start : List ℕ → Option ℕ → ℕ
 linked_start starts None = 0
 linked_start starts (Some f) = 4 * slice_index starts f
@@ -104,7 +104,7 @@ abbrev pub like_of : List FuncType → Option ℕ → ℕ
 like_of types None = 0
 like_of types (Some i) = if nat_lt i (length types) then like types i else 0
 
--- a row with a function: the place of its code, and the index that stands for its type
+-- a row with a function: the address of its code, and the canonical index of its type
 abbrev pub linked_row : Spaces → List ℕ → ℕ → Row
 linked_row s starts f = record { code = text_base + 4 * slice_index starts f; like = like_of s.types (slice_get s.functions f) }
 

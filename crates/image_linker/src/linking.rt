@@ -194,7 +194,7 @@ fn version_for(count: u32) -> Version
 /// as one that can't be instantiated.
 ///
 /// The words of the globals are followed by two for each data segment that instructions may name, whose bytes the image has
-/// besides: where there are such segments, it has version 3, and else version 2.
+/// too: where there are such segments, it has version 3, and else version 2.
 pub fn link(
     alloc: Global,
     context: &Context,

@@ -34,7 +34,7 @@ pub(crate) fn have_rows(rows: u32, segments: &[ElementRow]) -> bool
     true
 }
 
-/// The index that stands for the type of a function: the least of an equal type, or 0 where the function has none.
+/// The canonical type index of a function: the least of an equal type, or 0 where the function has none.
 fn like_of(context: &Context, function: u32) -> u32
     ensures { result ≡ like_of context.now.types (slice_get context.now.functions function) }
 {

@@ -30,7 +30,7 @@ fn place_at(here: u32, function: u32, site: &TrapSite) -> TrapPlace
     }
 }
 
-/// Appends where a function's traps come from to other places.
+/// Appends where a function's traps come from to other trap sites.
 fn put_sites(
     places: &mut Vec<TrapPlace>,
     here: u32,
@@ -46,7 +46,7 @@ fn put_sites(
     Ok(())
 }
 
-/// Appends where the traps of imports' stubs come from to other places.
+/// Appends where the traps of imports' stubs come from to other trap sites.
 fn put_stubs(places: &mut Vec<TrapPlace>, imports: &[Import]) -> Result<(), AllocError>
     requires stubs { front_of (length imports.now) < 2 ^ 32 }
     requires places { All IsShort (import_traps (length exit_stub) 0 imports.now) }

@@ -18,7 +18,7 @@ use Rattle.image_run.specs.States.{at}
 use Rattle.image_run.specs.Answers.{Says, Answered, Takes, Replies}
 use Rattle.image_run.proofs.EnvironmentLaws.{quiet}
 
--- the call that a machine's stack and memory tell
+-- the call that a machine's stack and memory give
 abbrev pub call_at : Machine → (pages number at : ℕ) → List ValType → HostCall
 call_at m pages number at params = record { number = number; arguments = values_at m.bytes.stack at params; memory = take (page * pages) m.bytes.memory }
 
@@ -46,7 +46,7 @@ module _ (H : Type 0) (Calls : H → HostCall → Reply → H → Type 0) (i : I
     abbrev slots : Option ℕ
     slots = slots_at (reg (state_of old).registers 8) (max 1 (length import.signature.params))
 
-    -- its slots don't lie in the stack
+    -- its slots aren't in the stack
     pub no_slots : slots ≡ None → Answered Calls i from from (state_of old) (state_of old) pages pages (Over (Fault Call (old.pc - 4)))
     no_slots none = quiet H Calls i from (state_of old) (state_of old) pages pages (Over (Fault Call (old.pc - 4))) (λ calls replies results later. rw (is, found, none) (tt, refl, refl))
 

@@ -34,7 +34,7 @@ placed size all bytes new s rest h e =
       whole = ap (λ (l : List ℕ). all_over l (segments_of rest)) e ∙ h.whole;
     }
 
--- segments that fit in the first bytes leave those behind them
+-- segments that fit in the first bytes leave those after them
 over_front : (front rest new : List ℕ) (at : ℕ) → at + length new ≤ length front → over (front ++ rest) (at, new) ≡ over front (at, new) ++ rest
 over_front front rest new at inside =
     let before : take at (front ++ rest) ≡ take at front = take-append-le at front rest (omega arith) in
@@ -50,7 +50,7 @@ all_over_front size front rest (s ∷ later) is fit =
     ap (λ (l : List ℕ). all_over l (segments_of later)) (over_front front rest s.bytes s.place inside)
     ∙ all_over_front size (over front (s.place, s.bytes)) rest later (length-over front s.bytes s.place inside ∙ is) parts.1
 
--- the first bytes with all segments, and zeros behind them, are a memory with all of them
+-- the first bytes with all segments, and zeros after them, are a memory with all of them
 pub over_more : (first size : ℕ) (segments : List Segment) (bytes : List ℕ) → first ≤ size → all_fit first (segments_of segments) ≡ true → length bytes ≡ first
     → bytes ≡ all_over (zeros first) (segments_of segments) → bytes ++ replicate (size - length bytes) 0 ≡ all_over (zeros size) (segments_of segments)
 unfolding zeros
@@ -72,7 +72,7 @@ placing_begins first all bytes is fit = record {
   whole = ap (λ (l : List ℕ). all_over l (segments_of all)) is;
 }
 
--- and all of them, behind the last one
+-- and all of them, after the last one
 pub placing_ends : (first size : ℕ) (all : List Segment) (bytes : List ℕ) (rest : List Segment) → first ≤ size → rest ≡ [] → IsTrue (all_fit first (segments_of all)) → Placing first all bytes rest
     → bytes ++ replicate (size - length bytes) 0 ≡ all_over (zeros size) (segments_of all)
 placing_ends first size all bytes rest within none fit h =

@@ -1,4 +1,4 @@
--- Patches of a host, written to the front of a memory.
+-- Patches of a host, written to the beginning of a memory.
 use Rattle.std.proofs.Common.{◌≡◌, ℕ, ◌+◌, ◌≤◌, ◌<◌, Bool, true, false, ◌&&◌, List, ◌++◌, take, drop, length, None, Some, refl, sym, ap, ◌∙◌, subst, arith, append_assoc, length-append, length-take, length-drop}
 use Rattle.std.specs.Prelude.{All, replicate, nat_le, option_map}
 use Rattle.rv_isa.specs.Steps.{put}
@@ -14,7 +14,7 @@ use Rattle.rv64im_machine.specs.Contents.{Contents as Machine}
 use Rattle.rv64im_machine.specs.Lending.{with_bytes}
 use Rattle.image_run.specs.Answers.{Patches}
 
--- bytes written over those of a front are written over those of the whole
+-- bytes written over those of a prefix are written over those of the whole
 over_front : (front rest new : List ℕ) (place n : ℕ) → length new ≡ n → place + n ≤ length front
     → (take place front ++ (new ++ drop (place + n) front)) ++ drop (length (take place front ++ (new ++ drop (place + n) front))) (front ++ rest) ≡ put n place (front ++ rest) new
 over_front front rest new place n is inside =
@@ -44,7 +44,7 @@ length_of_patch p = omega (arith, length-take p.len (p.bytes ++ replicate p.len 
 bytes_of_patch : (p : Patch) → length p.bytes ≡ 8 → p.len ≤ 8 → (patch_of p).bytes ≡ take p.len p.bytes
 bytes_of_patch p is few = take-append-le p.len p.bytes (replicate p.len 0) (omega arith)
 
--- a patch that lies in the memory
+-- a patch that is in the memory
 pub patch_goes : (p : Patch) (size : ℕ) (old new : Machine) → size ≤ length old.bytes.memory → length p.bytes ≡ 8 → (nat_le p.len most_patched && nat_le (p.place + p.len) size) ≡ true
     → All (λ b. b < 256) (take p.len p.bytes) → new ≡ with_bytes old Memory (put p.len p.place (region old.bytes Memory) (take p.len p.bytes)) → Patches true (patched (take size old.bytes.memory) (option_map patch_of (Some p))) old new
 patch_goes p size old new fits whole ok bytes e =

@@ -20,7 +20,7 @@ use Rattle.image_run.specs.Ends.{IsUnstopped}
 abbrev pub with_replies : Running → List Reply → Running
 with_replies r rs = record r { replies = rs }
 
--- what a step comes to, behind these calls, whatever the replies are: the run goes on, or it ends, or it asks for a reply
+-- what a step comes to, after these calls, whatever the replies are: the run goes on, or it ends, or it asks for a reply
 pub data Turn (i : Image) (calls : List HostCall) (f : List Reply → Stepping) : Type 0 where
   GoesOn : (r : Running) → r.calls ≡ calls → ((rs : List Reply) → f rs ≡ To (with_replies r rs)) → Turn i calls f
   Ends : (o : ImageRun) → o.calls ≡ calls → IsUnstopped o.end → ((rs : List Reply) → IsOver (f rs)) → ((rs : List Reply) → run_of (f rs) ≡ o) → Turn i calls f
@@ -31,7 +31,7 @@ pub data Turn (i : Image) (calls : List HostCall) (f : List Reply → Stepping) 
 abbrev grown_registers : Running → (more : ℕ) → Registers
 grown_registers r more = set_reg (set_reg r.machine.registers 10 r.pages) 18 (page * (r.pages + more))
 
--- the machine behind a reply
+-- the machine after a reply
 abbrev pub machine_behind : Running → (at : ℕ) → List Value → List ℕ → State
 machine_behind r at values memory =
     let bytes = r.machine.bytes in
@@ -128,7 +128,7 @@ module _ (i : Image) where
   calls_grow zero r rs = ([], sym (append-nil r.calls))
   calls_grow (suc n) r rs = turn_grows n r.calls _ rs (next_turn r) (calls_grow n)
 
-  -- ---- replies that begin alike: so do the calls, up to the one behind them
+  -- ---- replies that begin alike: so do the calls, up to the one after them
 
   abbrev pub alike_until : Running → List Reply → ℕ
   alike_until r p = length r.calls + length p + 1

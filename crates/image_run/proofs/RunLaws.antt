@@ -187,7 +187,7 @@ module _ (H : Type 0) (Calls : H → HostCall → Reply → H → Type 0) (i : I
     leads : Leads Calls from (u.calls ++ a.calls) (u.replies ++ a.replies) host
     leads = leads_append H Calls from to host u.calls a.calls u.replies a.replies u.leads a.leads
 
-    -- what the environment does, and the run behind it
+    -- what the environment does, and the run after it
     abbrev done : List HostCall → List Reply → List ValType → List (Entry × List ValType) → Stepping
     done before more results later = environment i (at s pages (before ++ u.calls) (a.replies ++ more) results later) (s.pc - 4)
 

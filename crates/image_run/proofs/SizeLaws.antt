@@ -1,4 +1,4 @@
--- What is written to a region is as long as what stood there.
+-- What is written to a region is as long as what was there.
 use Rattle.std.proofs.Common.{◌≡◌, ℕ, ◌+◌, ◌≤◌, List, ◌++◌, take, drop, length, refl, sym, ap, ◌∙◌, subst, arith, length-append, length-take, length-drop}
 use Rattle.rv_isa.specs.declared.stepping.Region.{Region}
 use Rattle.rv_isa.specs.declared.stepping.Region.TheVariants.{Stack, Globals, Table, Memory, Passive}

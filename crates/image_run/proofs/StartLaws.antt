@@ -1,4 +1,4 @@
--- Runs of an exported function, behind the start function.
+-- Runs of an exported function, after the start function.
 use Rattle.std.proofs.Common.{◌≡◌, ℕ, ◌*◌, ◌==◌, if◌then◌else◌, [], ◌∷◌, ◌++◌, List, length, Option, None, Some, refl, sym, ap, ◌∙◌, subst}
 use Rattle.std.specs.Prelude.{◌≢◌, take}
 use Rattle.std.proofs.lemmas.Bool.{eq-eqb, ne_eqb}
@@ -112,7 +112,7 @@ module _ (H : Type 0) (Calls : H → HostCall → Reply → H → Type 0) (i : I
         led : Leads Calls from all_calls (begun.replies ++ (h.replies ++ [])) to
         led = leads_append H Calls from between to begun.calls h.calls begun.replies (h.replies ++ []) begun.leads (subst (λ (rs : List Reply). Leads Calls between h.calls rs to) (sym (append-nil h.replies)) h.leads)
 
-        -- the steps behind the start function
+        -- the steps after the start function
         goes : run_with i n called (begun.replies ++ (h.replies ++ [])) ≡ steps i left (at first pages begun.calls (h.replies ++ []) called.1 [])
         goes = begun.begins (h.replies ++ []) called ∙ ap (λ (t : State). steps i left (at t pages begun.calls (h.replies ++ []) called.1 [])) (sym entry)
 

@@ -25,7 +25,7 @@ abbrev pub replied : Machine → (at : ℕ) → List Value → (memory : List �
 replied m at values memory =
     record m { bytes = record m.bytes { stack = with_results m.bytes.stack at values; memory = memory ++ drop (length memory) m.bytes.memory } }
 
--- a patch is written to the machine's memory, whose first bytes are as they are then, or it doesn't lie in it
+-- a patch is written to the machine's memory, whose first bytes are as they are then, or it isn't in it
 abbrev pub Patches : Bool → Option (List ℕ) → Machine → Machine → Type 0
 Patches true (Some memory) old new = new ≡ with_bytes old Memory (memory ++ drop (length memory) old.bytes.memory)
 Patches true None old new = ⊥
@@ -61,13 +61,13 @@ IsOver (Ended r end) = Unit {0}
 IsOver (Faulted r kind pc) = Unit {0}
 IsOver (Waiting r) = Unit {0}
 
--- what an answer says of what the environment does, where r is the run behind it
+-- what an answer says of what the environment does, where r is the run after it
 abbrev pub Says : Answer → Running → Stepping → Type 0
 Says answer.GoesOn r done = done ≡ To r
 Says answer.Ended r done = done ≡ finish r r.later
 Says (answer.Over outcome) r done = IsOver done × ((run_of done).calls ≡ r.calls) × IsEnd outcome (memory_of r) [] (run_of done).end
 
--- the environment, called at a machine that stands behind the ECALL, makes calls that lead the host so, and does what is answered:
+-- the environment, called at a machine whose pc is after the ECALL, makes calls that lead the host so, and does what is answered:
 -- whatever was called before, replied later, and left to run
 pub record Answered {H : Type 0} (Answers : H → HostCall → Reply → H → Type 0) (i : Image) (from to : H) (old new : State) (pages pages_now : ℕ) (answer : Answer) : Type 0 where
   pub calls : List HostCall
@@ -94,7 +94,7 @@ pub record Runs {H : Type 0} (Answers : H → HostCall → Reply → H → Type 
 
 -- ---- the start function
 
--- the run of an image in which that function is called, behind the start function
+-- the run of an image in which that function is called, after the start function
 unfoldable pub run_with : Image → (steps : ℕ) → Entry × List ValType → List Reply → Stepping
 run_with i n e replies = steps i n (first_running i replies e)
 

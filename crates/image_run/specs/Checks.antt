@@ -1,4 +1,4 @@
--- Whether an exported function of an image can be run: what is told of the image, a name and the types of arguments.
+-- Whether an exported function of an image can be run: what is reported of the image, a name and the types of arguments.
 use Rattle.std.specs.Prelude.{ℕ, ◌||◌, not, Bool, false, List, [], ◌∷◌, Option, None, Some, is_some, if◌then◌else◌}
 use Rattle.std.specs.Str.{bytes_eq}
 use Rattle.wasm_defs.specs.declared.types.ValType.{ValType}

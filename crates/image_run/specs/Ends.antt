@@ -11,7 +11,7 @@ use Rattle.image_run.specs.Hosts.{Leads}
 use Rattle.image_run.specs.declared.outcome.Outcome.{Outcome}
 use Rattle.image_run.specs.declared.outcome.Outcome.TheVariants.{Returned, Trapped, StepsSpent, HostStopped, Fault}
 
--- the run ends so, with these results where it returned, with this memory behind it where the end tells one, and whatever the
+-- the run ends so, with these results where it returned, with this memory after it where the end has one, and whatever the
 -- globals are
 abbrev pub IsEnd : Outcome → (memory : List ℕ) → (results : List Value) → Ending → Type 0
 IsEnd (Returned n) memory results end = (n ≡ length results) × (globals : List ℕ) × (end ≡ As (Returns results memory globals))
@@ -29,7 +29,7 @@ IsUnstopped (As Going) = Unit {0}
 IsUnstopped (As Fails) = ⊥
 IsUnstopped (image.Fault kind pc) = Unit {0}
 
--- an outcome tells how many results there are: after a run that didn't return there are none
+-- an outcome says how many results there are: after a run that didn't return there are none
 abbrev pub TellsCount : Outcome → (results : List Value) → Type 0
 TellsCount (Returned n) results = n ≡ length results
 TellsCount _ results = results ≡ []

@@ -15,7 +15,7 @@ values_of (Some v) = value_of v ∷ []
 abbrev pub call_of : (number : ℕ) → List Given → (memory : List ℕ) → HostCall
 call_of number arguments memory = record { number = number; arguments = map value_of arguments; memory = memory }
 
--- so many of the patch's bytes: where it says that there are more than it has, zeros stand for those
+-- so many of the patch's bytes: where it says that there are more than it has, those are zeros
 abbrev pub patch_of : GivenPatch → Patch
 patch_of p = record { place = p.place; bytes = take p.len (p.bytes ++ replicate p.len 0) }
 
@@ -24,7 +24,7 @@ reply_of (given.Value value patch) = Answer (values_of value) (option_map patch_
 reply_of given.Stop = Stop
 
 -- the calls, answered one after another by these replies, lead a host from one to another: there is a reply to each call. Answers
--- tells which hosts a call may lead to: the host before it, the call, its reply and the host behind it.
+-- says which hosts a call may lead to: the host before it, the call, its reply and the host after it.
 abbrev pub Leads : {H : Type 0} → (H → HostCall → Reply → H → Type 0) → H → List HostCall → List Reply → H → Type 0
 Leads Answers from [] [] to = to ≡ from
 Leads Answers from [] (r ∷ rs) to = ⊥

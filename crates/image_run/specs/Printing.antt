@@ -50,7 +50,7 @@ text_of (Some Num) (v ∷ []) = num_text v.ty v.number
 text_of _ _ = []
 
 -- A call's text is written and it returns nothing, or the sink failed and the run stops. Once it has, nothing is written. By
--- whether the sink is open before the call and behind it.
+-- whether the sink is open before the call and after it.
 abbrev pub Prints : (is_open open_now : Bool) → (text : List ℕ) → Reply → (written written_now : Option (List ℕ)) → (faults faults_now : ℕ) → Type 0
 Prints true true text reply written written_now faults faults_now = (reply ≡ Answer [] None) × WritesText true text written written_now faults faults_now
 Prints true false text reply written written_now faults faults_now = (reply ≡ Stop) × WritesText false text written written_now faults faults_now

@@ -46,7 +46,7 @@ pub record Keeps (old new : Machine) : Type 0 where
   pub memory : length new.bytes.memory ≡ length old.bytes.memory
   pub backed : new.backed ≡ old.backed
 
--- the types of the results that lie in the stack's first slots: of an exported function that returned
+-- the types of the results that are in the stack's first slots: of an exported function that returned
 abbrev pub types_left : Option Export → List ValType
 types_left None = []
 types_left (Some e) = e.signature.results

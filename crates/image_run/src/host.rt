@@ -17,7 +17,7 @@ pub struct Patch {
 
 /// What a host replies to a call.
 ///
-/// The value is of the import's result type, and none where it has no result. The patch has at most 8 bytes and lies in the memory
+/// The value is of the import's result type, and none where it has no result. The patch has at most 8 bytes and is in the memory
 /// as large as it is at the call. A reply that isn't so is taken as `Stop`.
 #[derive(Clone, Copy, Debug, PartialEq, Eq)]
 pub enum Reply {

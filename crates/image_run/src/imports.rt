@@ -26,7 +26,7 @@ use wasm_defs::{FuncType, ValType, Value};
 /// The most bytes of a patch.
 const MOST_PATCHED: u8 = 8;
 
-/// The first of the slots from an address on, by its index in the stack: none where they don't all lie in it. There is one for each
+/// The first of the slots from an address on, by its index in the stack: none where they aren't all in it. There is one for each
 /// parameter, and one for the result.
 fn slots_at(address: u64, params: usize) -> Option<usize>
     requires { params ≤ PARAMS }
@@ -40,7 +40,7 @@ fn slots_at(address: u64, params: usize) -> Option<usize>
     }
 }
 
-/// Reads the values of these types that stand in the slots from an index of the stack on.
+/// Reads the values of these types that are in the slots from an index of the stack on.
 fn read_arguments(stack: &[u8], at: usize, types: &[ValType], room: &mut [Value])
     requires stack { at + 8 * length types.now ≤ length stack.now }
     requires room { length types.now ≤ length room.old }
@@ -63,7 +63,7 @@ fn is_of(value: Option<Value>, results: &[ValType]) -> bool
     }
 }
 
-/// Whether a patch has few enough bytes, which lie in a memory of that size.
+/// Whether a patch has few enough bytes, which are in a memory of that size.
 fn fits(patch: &Patch, size: usize) -> bool
     ensures { result ≡ (nat_le patch.now.len most_patched && nat_le (patch.now.place + patch.now.len) size) }
 {
@@ -128,7 +128,7 @@ fn take_reply(
     true
 }
 
-/// Calls the host for the import of that number and type, whose arguments stand from an index of the stack on, and takes its reply.
+/// Calls the host for the import of that number and type, whose arguments are from an index of the stack on, and takes its reply.
 /// Says whether the run goes on.
 fn call_host<H: Host>(
     machine: &mut Machine,

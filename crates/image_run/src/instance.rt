@@ -27,7 +27,7 @@ pub struct Instance<'a> {
     pages: u32,
     room: Vec<Value>,
     has_run: bool,
-    /// The function whose run returned: its results lie in the stack's first slots.
+    /// The function whose run returned: its results are in the stack's first slots.
     returned: Option<&'a Export>,
 }
 

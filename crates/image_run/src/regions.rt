@@ -57,7 +57,7 @@ fn write_segment(memory: &mut [u8], segment: &Segment)
 }
 
 /// A memory of that size, with the segments at their addresses and zeros elsewhere. Room is taken for all of it, and its first bytes
-/// are stored; the segments lie in these.
+/// are stored; the segments are in these.
 fn memory_of(
     alloc: Global,
     size: usize,

@@ -50,7 +50,7 @@ fn write_arguments(machine: &mut Machine, arguments: &[Value])
     }
 }
 
-/// Makes the machine stand at the function at an offset of the text, which is called from outside with these arguments.
+/// Puts the machine at the function at an offset of the text, which is called from outside with these arguments.
 pub(crate) fn enter(machine: &mut Machine, pages: u32, offset: u32, arguments: &[Value])
     requires { 8 * length arguments.now ≤ length machine.old.bytes.stack }
     ensures kept { Keeps machine.old machine.new }

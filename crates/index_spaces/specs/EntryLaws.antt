@@ -1,4 +1,4 @@
--- What the entries of a module are to its run: the definitions of `Entries` beside those of a module's instance.
+-- What the entries of a module are to its run: the definitions of `Entries` next to those of a module's instance.
 use Rattle.std.specs.Prelude.{◌≡◌, ℕ, List, length}
 use Rattle.wasm_defs.specs.declared.item.Item.{Item}
 use Rattle.wasm_defs.specs.Typing.{Context}

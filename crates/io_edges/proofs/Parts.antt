@@ -2,7 +2,7 @@
 use Rattle.std.proofs.Common.{◌≡◌, ℕ, ◌+◌, ◌<◌, ◌≤◌, List, ◌++◌, length, take, drop, sym, ap, ◌∙◌, arith, length-append}
 use Rattle.std.proofs.lemmas.List.{take_at, take-append-drop, length-take, length-drop, drop-drop}
 
--- a part, copied to the front of a buffer
+-- a part, copied to the beginning of a buffer
 pub part_read : (whole buf copied : List ℕ) (given n : ℕ) → 0 < n → n ≤ length buf → given + n ≤ length whole → copied ≡ take n (drop given whole)
     → (0 < n) × (n ≤ length (copied ++ drop n buf)) × (drop given whole ≡ take n (copied ++ drop n buf) ++ drop (given + n) whole)
 part_read whole buf copied given n some fits inside is =

@@ -10,7 +10,7 @@ use Rattle.io_edges.specs.PiecesState.{ends_from, IsPlaced}
 abbrev items : Vec ℕ Global → List ℕ
 items piece = piece.items
 
--- each piece ends at the place where the first begins, or after it
+-- each piece ends at the offset where the first begins, or after it
 ends_from-above : (from : ℕ) (pieces : List (Vec ℕ Global)) (j : ℕ) → j < length (ends_from from pieces) → from ≤ slice_index (ends_from from pieces) j
 ends_from-above from [] j h = omega arith
 ends_from-above from (piece ∷ pieces) zero h = omega arith
@@ -51,7 +51,7 @@ last_pushed xs x =
     let at : length (xs ++ x ∷ []) - 1 ≡ length xs = simp length-append (omega arith) in
     rw at (get_or-append_seam xs x [] 0)
 
--- where a source doesn't fail here, it does so at a later place, or nowhere
+-- where a source doesn't fail here, it does so at a later offset, or nowhere
 fails_later : (fails_at : Option ℕ) (given most : ℕ) → ((x : ℕ) → fails_at ≡ Some x → given ≤ x) → (fails_at ≡ Some given → ⊥) → given < most → given < unwrap_or fails_at most
 fails_later None given most within here below = below
 fails_later (Some x) given most within here below =
@@ -64,7 +64,7 @@ piece_is_left : {whole ends : List ℕ} {piece given : ℕ} {fails_at : Option �
     → ((i : ℕ) → piece ≤ i → i < next → slice_index ends i ≤ given) → next < length ends
 piece_is_left next placed left passed = grind (arith, common_steps)
 
--- where bytes are left and the source doesn't fail here, a read stops after this place, and inside the bytes
+-- where bytes are left and the source doesn't fail here, a read stops after this offset, and inside the bytes
 pub stops_behind : {whole ends : List ℕ} {piece given : ℕ} {fails_at : Option ℕ} (next end most : ℕ) (seen : List ℕ) → seen ≡ ends
     → IsPlaced whole ends piece given fails_at → given < length whole → (fails_at ≡ Some given → ⊥) → given < most
     → ((i : ℕ) → piece ≤ i → i < next → slice_index seen i ≤ given) → (next < length seen → given < slice_index seen next)

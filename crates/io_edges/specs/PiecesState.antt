@@ -21,7 +21,7 @@ pub record PiecesState : Type 0 where
 abbrev pub bytes_left : PiecesState → List ℕ
 bytes_left s = drop s.given s.whole
 
--- where each piece ends, if the first begins at a place
+-- where each piece ends, if the first begins at an offset
 abbrev pub ends_from : ℕ → List (Vec ℕ Global) → List ℕ
 ends_from from [] = []
 ends_from from (piece ∷ pieces) = (from + length piece.items) ∷ ends_from (from + length piece.items) pieces
@@ -36,7 +36,7 @@ after_read (Bytes n) s = record s { given = s.given + n }
 after_read End s = s
 after_read Failed s = record s { faults = one_more s.faults }
 
--- what the places of a source over pieces keep
+-- what the offsets of a source over pieces keep
 pub record IsPlaced (whole ends : List ℕ) (piece given : ℕ) (fails_at : Option ℕ) : Type 0 where
   pub within : given ≤ length whole
   pub limit : ForSome fails_at (λ most. given ≤ most)

@@ -35,7 +35,7 @@ pub unfed : (signed : Bool) (bits : ℕ) → IsCutOff signed bits []
 unfolding number_at
 unfed signed bits = let means : Means signed bits [] (number_at signed bits []) = reading_means signed bits [] tt in means
 
--- ---- what is told says what the bytes are
+-- ---- what is reported says what the bytes are
 
 abbrev pub Says : Bool → ℕ → List ℕ → Fed → Type 0
 Says signed bits bytes result =

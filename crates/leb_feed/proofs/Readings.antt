@@ -1,4 +1,4 @@
--- What the answer at a place says of the bytes there.
+-- What the answer at an index says of the bytes there.
 use Rattle.std.proofs.Common.{◌≡◌, ℕ, ◌+◌, ◌-◌, ◌^◌, ◌<◌, ◌≤◌, List, [], ◌∷◌, length, take, drop, ◌++◌, get_or, refl, sym, ap, ◌∙◌, arith, ℤ, pos, ◌+ℤ◌, append_assoc, length-append}
 use Rattle.std.proofs.Common.{to_z, of_z}
 use mir.Syntax.{w128}

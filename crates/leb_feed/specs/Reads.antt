@@ -14,7 +14,7 @@ abbrev pub Reads : {A B : Type 0} → Reader A → (B → A) → Result B Stop �
 Reads p view (Ok x) old new = p old ≡ Got (view x) new
 Reads p view (Err s) old new = Stops s (p old)
 
--- what takes no memory doesn't answer want of it
+-- what takes no memory doesn't report out of memory
 abbrev pub NeedsNoMemory : {B : Type 0} → Result B Stop → Type 0
 NeedsNoMemory (Ok x) = Unit {0}
 NeedsNoMemory (Err (stop.Refused r)) = Unit {0}

@@ -7,7 +7,7 @@ fn byte_of(digits: &str) -> u8 {
     u8::from_str_radix(digits, 16).unwrap_or(0)
 }
 
-/// Appends the bytes that stand there in hexadecimal digits.
+/// Appends the bytes that the text has in hexadecimal digits.
 fn append(bytes: &mut Vec<u8>, text: &str) -> Result<(), AllocError> {
     for digits in text.split(' ') {
         if !digits.is_empty() {
@@ -30,7 +30,7 @@ pub fn is_read(bytes: &mut Vec<u8>, line: &str) -> Result<bool, AllocError> {
     Ok(true)
 }
 
-/// Puts the byte there, where the place is among the bytes.
+/// Puts the byte there, where the offset is among the bytes.
 fn put(bytes: &mut Vec<u8>, place: &str, byte: u8) {
     let place = place.parse::<usize>().unwrap_or(usize::MAX);
     if let Some(there) = bytes.get_mut(place) {
@@ -38,7 +38,7 @@ fn put(bytes: &mut Vec<u8>, place: &str, byte: u8) {
     }
 }
 
-/// The bytes with changes: `4:02` puts the byte 2 at the offset 4, and `0A` stands for one more byte at the end.
+/// The bytes with changes: `4:02` puts the byte 2 at the offset 4, and `0A` is one more byte at the end.
 pub fn changed(alloc: Global, bytes: &[u8], changes: &str) -> Result<Vec<u8>, AllocError> {
     let mut bytes = bytes.to_vec(alloc)?;
     for change in changes.split(' ') {

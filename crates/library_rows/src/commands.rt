@@ -14,7 +14,7 @@ pub fn peek_answer(alloc: Global, word: &str) -> Result<String, Fail> {
     Ok(format!(in alloc; "{:?}", peek_of(word))?)
 }
 
-/// A word of a line, where `~` stands for a blank and `''` for no characters.
+/// A word of a line, where `~` means a blank and `''` means no characters.
 fn word_of(alloc: Global, text: &str) -> Result<String, AllocError> {
     let mut word = String::new(alloc);
     if text != "''" {

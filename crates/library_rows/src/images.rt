@@ -5,7 +5,7 @@ use image_format::{Export, Image, ImageStop, read_image, write_image};
 use std::alloc::{AllocError, Global};
 use std::test::Fail;
 
-/// The offset of the first fault of bytes that are no image.
+/// The offset of the first error of bytes that are no image.
 fn fault_in(alloc: Global, bytes: &[u8]) -> Option<u64> {
     match read_image(alloc, bytes) {
         Err(ImageStop::Bad(offset)) => Some(offset),
@@ -13,7 +13,7 @@ fn fault_in(alloc: Global, bytes: &[u8]) -> Option<u64> {
     }
 }
 
-/// Whether each front of an image's bytes ends too soon, at its own end.
+/// Whether each prefix of an image's bytes ends too soon, at its own end.
 fn each_cut_ends(alloc: Global, bytes: &[u8]) -> bool {
     for len in 0..bytes.len() {
         if fault_in(alloc, &bytes[..len]) != Some(len as u64) {

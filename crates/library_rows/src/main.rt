@@ -1,5 +1,5 @@
 //! Rows of a table against what the libraries answer. A line of the input has a question and the answer that is wanted, as
-//! `argument i32:5 = Some(I32(5))`, or a part of the bytes that the questions behind it are about. The answers were worked out by hand.
+//! `argument i32:5 = Some(I32(5))`, or a part of the bytes that the questions after it are about. The answers were worked out by hand.
 //!
 //! The program prints the rows whose answers are others, each with its answer, and how many rows there are.
 #![tactic(auto)]

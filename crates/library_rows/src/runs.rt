@@ -66,13 +66,13 @@ fn patch_of(place: u32, len: u8) -> Patch {
     }
 }
 
-/// The bytes that a host writes: `16+2` stands for two at 16.
+/// The bytes that a host writes: `16+2` means two at 16.
 fn patch_in(word: &str) -> Patch {
     let (place, len) = word.split_once('+').unwrap_or((word, ""));
     patch_of(number_of(place), (number_of(len) % 256) as u8)
 }
 
-/// A reply: `stop`, or a value, or `none`, each of the last two with bytes that the host writes where they stand behind a `@`.
+/// A reply: `stop`, or a value, or `none`, each of the last two with bytes that the host writes where they are after a `@`.
 fn reply_of(word: &str) -> Reply {
     if word == "stop" {
         return Reply::Stop;
@@ -124,7 +124,7 @@ fn first_word(memory: &[u8]) -> u64 {
     ])
 }
 
-/// How a call of an export with -1 and 42 ends, and its memory behind it.
+/// How a call of an export with -1 and 42 ends, and its memory after it.
 fn told(alloc: Global, image: &Image, name: &str, host: &mut Listed) -> Result<String, Fail> {
     let arguments = [Value::I64(-1), Value::I32(42)];
     if call_checks(image, name, &arguments).is_some() {

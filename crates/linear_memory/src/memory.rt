@@ -102,7 +102,7 @@ impl LinearMemory {
         }
     }
 
-    /// What a load gives whose bytes aren't all stored: zeros stand for those that aren't.
+    /// What a load gives whose bytes aren't all stored: those that aren't are zeros.
     #[cold]
     #[inline(never)]
     fn load_behind(&self, op: LoadOp, at: usize) -> Option<u64>

@@ -292,7 +292,7 @@ fn frame(text: &mut Text, seed: &mut u64, op: u32) {
     text.reg(op, S0, S0, T0);
 }
 
-/// A trap where so many bytes behind s0 aren't in the stack.
+/// A trap where so many bytes after s0 aren't in the stack.
 fn room(text: &mut Text, seed: &mut u64) {
     text.number(T0, below(seed, 64) * 8);
     text.reg(ADD, T0, T0, S0);

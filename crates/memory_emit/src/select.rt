@@ -11,7 +11,7 @@ use rv_isa::{BranchOp, Imm12, Register, WordBuffer, encode_branch};
 use std::alloc::AllocError;
 
 /// Appends the instruction words of `select`, or none if memory runs out. Of the three topmost operands the topmost is the
-/// condition: where it is zero, the second one moves into the place of the first.
+/// condition: where it is zero, the second one moves into the slot of the first.
 pub fn emit_select(buffer: &mut WordBuffer, layout: &Layout, height: u32) -> Result<(), AllocError>
     requires operands { 3 ≤ height }
     requires fits { operand layout.now (height - 1) < 2 ^ 32 }

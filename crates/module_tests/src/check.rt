@@ -17,7 +17,7 @@ const SMALL: u32 = 2;
 /// How many it has with function 1, which is [i64 i32] -> [], a table, a memory, and two globals.
 const LARGE: u32 = 8;
 
-/// Bodies of function 0 of the small module: the tokens, and how many operands a valid body has at most, or the fault and the number of
+/// Bodies of function 0 of the small module: the tokens, and how many operands a valid body has at most, or the error and the number of
 /// its token.
 const SMALL_BODIES: &str = "\
 unreachable, i32.add, end = valid, 0 operands

@@ -49,7 +49,7 @@ fn bodies_come_in_batches_however_they_are_cut(rt: HostRuntime) -> Result<(), Fa
     Ok(())
 }
 
-/// What follows a body in the section, and its fault: sizes of too many bytes and bits, of nothing, past the section's end and past the
+/// What follows a body in the section, and its error: sizes of too many bytes and bits, of nothing, past the section's end and past the
 /// limit; a byte after the last body; and a size that is cut off.
 const FAULTS: &str = "\
 87 80 80 80 10 = Malformed at byte 23
@@ -60,7 +60,7 @@ const FAULTS: &str = "\
 02 00 0B 00 = Malformed at byte 26
 85 80 = Ended at byte 25";
 
-/// A fault as text.
+/// An error as text.
 fn fault(alloc: Global, stop: Option<FrontStop>) -> Result<String, Fail> {
     Ok(match stop {
         Some(FrontStop::Refused(Refusal { offset, kind })) => {
@@ -70,7 +70,7 @@ fn fault(alloc: Global, stop: Option<FrontStop>) -> Result<String, Fail> {
     })
 }
 
-/// The first fault of two bodies, the second of which has these bytes: it is answered again, and the first body stands in a batch.
+/// The first error of two bodies, the second of which has these bytes: it is answered again, and the first body is in a batch.
 fn fault_of(alloc: Global, bytes: &[u8]) -> Result<String, Fail> {
     let mut cutter = Cutter::new(alloc, 2, 0, 20, 1_048_604, 100);
     let first = cutter.feed(&[0x02, 0x00, 0x0B]);

@@ -1,4 +1,4 @@
-//! Modules that come in pieces, whose items and faults were worked out by hand.
+//! Modules that come in pieces, whose items and errors were worked out by hand.
 
 use crate::rows::bytes_of;
 use section_reader::Front;
@@ -13,7 +13,7 @@ const HEADER: &str = "00 61 73 6D 01 00 00 00 ";
 const ADD: &str =
     "00 61 73 6D 01 00 00 00 01 07 01 60 02 7F 7F 01 7F 03 02 01 00 07 07 01 03 61 64 64 00 00 0A 09 01 07 00 20 00 20 01 6A 0B";
 
-/// What follows the header of a module, and how its reading ends: where two things stand there, the first is how many items come.
+/// What follows the header of a module, and how its reading ends: where there are two things, the first is how many items come.
 const MODULES: &str = "\
 05 03 01 00 01 = 1 items, the whole module
 # The same name twice.
@@ -216,7 +216,7 @@ fn bytes_that_end_too_soon_are_refused_at_their_number(rt: HostRuntime) -> Resul
     Ok(())
 }
 
-/// Longer modules: what follows the header, so many zeros, what stands behind them, and of how many bytes the pieces are; how the reading
+/// Longer modules: what follows the header, so many zeros, what comes after them, and of how many bytes the pieces are; how the reading
 /// ends. A name has 100,000 bytes at most, and a module 67,108,864.
 const LONG: &str = "\
 00 A3 8D 06 A0 8D 06; 100000; ; 1 = the whole module
@@ -278,7 +278,7 @@ fn take_or_skip(front: &mut Front, bytes: &[u8], place: usize) -> Result<bool, F
     }
 }
 
-/// Whether the bodies are skipped with the fourth item: the module is whole then, and a section of no id is a fault.
+/// Whether the bodies are skipped with the fourth item: the module is whole then, and a section of no id is an error.
 fn skipped(alloc: Global, bytes: &[u8]) -> Result<String, Fail> {
     let mut front = Front::new(alloc);
     let first = take_or_skip(&mut front, bytes, 0);
@@ -382,7 +382,7 @@ fn long_entries_come_byte_by_byte(rt: HostRuntime) -> Result<(), Fail> {
     Ok(())
 }
 
-/// The fault of the bytes that came, whose end isn't reported.
+/// The error of the bytes that came, whose end isn't reported.
 fn stop_so_far(front: &mut Front, bytes: &[u8]) -> Option<FrontStop> {
     let mut rest = bytes;
     for _ in 0..100 {

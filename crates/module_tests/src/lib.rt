@@ -1,6 +1,6 @@
 //! Tests of what reads and validates a module, by bytes, items and tokens that were worked out by hand: `wasm_defs`, `io_edges`, `leb_feed`,
-//! `section_reader`, `body_cutter`, `index_spaces`, `body_validator` and `module_gen`. They stand in a crate of their own, since a check of
-//! tests proves again all that stands beside them.
+//! `section_reader`, `body_cutter`, `index_spaces`, `body_validator` and `module_gen`. They are in a crate of their own, since a check of
+//! tests proves again all that is next to them.
 #![tactic(auto)]
 
 #[cfg(test)]

@@ -4,7 +4,7 @@ use std::alloc::Global;
 use std::test::Fail;
 use wasm_defs::{Access, Operation};
 
-/// Opcodes and their operations: `Some(None)` is one that is left out, and `None` stands past the table.
+/// Opcodes and their operations: `Some(None)` is one that is left out, and `None` is past the table.
 const OPERATIONS: &str = "\
 45 = Some(Some(Test(I32)))
 46 = Some(Some(Compare(I32, Eq)))

@@ -1,9 +1,9 @@
-//! Bytes that stand in a test as text.
+//! Bytes that a test has as text.
 
 use std::alloc::Global;
 use std::test::Fail;
 
-/// The bytes that stand there in hexadecimal digits, one after the other.
+/// The bytes that the texts have in hexadecimal digits, one after the other.
 pub fn bytes_of(alloc: Global, texts: &[&str]) -> Result<Vec<u8>, Fail> {
     let mut bytes = Vec::new(alloc);
     for text in texts {

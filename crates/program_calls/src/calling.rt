@@ -15,7 +15,7 @@ pub const HEADER: &str = "00 61 73 6D 01 00 00 00";
 /// How many bytes a sink takes that is large enough for each line, and for the images of small modules.
 const ROOM: usize = 65_536;
 
-/// The bytes that stand there in hexadecimal digits, one after the other.
+/// The bytes that the texts have in hexadecimal digits, one after the other.
 pub fn bytes_of(alloc: Global, texts: &[&str]) -> Result<Vec<u8>, Fail> {
     let mut bytes = Vec::new(alloc);
     for text in texts {
@@ -144,7 +144,7 @@ pub fn image_of<R: Threads + Wait + Sync>(
 }
 
 /// The first sink that takes fewer bytes than are to be written, and into which not just those are written with the status 7, or whether
-/// one that takes all of them is told another status or text; else nothing.
+/// one that takes all of them is given another status or text; else nothing.
 pub fn difference_in_sinks<R: Threads + Wait + Sync>(
     rt: &R,
     alloc: Global,

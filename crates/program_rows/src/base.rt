@@ -9,7 +9,7 @@ fn number_of(text: &str) -> u64 {
     text.parse::<u64>().unwrap_or(0)
 }
 
-/// Appends so many times the bytes that stand there.
+/// Appends so many times the bytes of the text.
 fn fill(alloc: Global, bytes: &mut Vec<u8>, count: u64, text: &str) -> Result<(), Fail> {
     let more = bytes_of(alloc, &[text])?;
     for _ in 0..count {

@@ -1,5 +1,5 @@
 //! Rows of a table against what the program answers, by its one call. A line of the input has a question and the answer that is wanted,
-//! as `whole wstream check = "0 ok 1 functions 41 bytes\n"`, or a part of the bytes that the questions behind it are about. The answers
+//! as `whole wstream check = "0 ok 1 functions 41 bytes\n"`, or a part of the bytes that the questions after it are about. The answers
 //! were worked out by hand.
 //!
 //! The program prints the rows whose answers are others, each with its answer, and how many rows there are.

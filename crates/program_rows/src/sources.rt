@@ -37,7 +37,7 @@ impl<'a> Source for Endless<'a> {
     }
 }
 
-/// The status to `check` of bytes behind which the source has more, where it is told before one of these is read.
+/// The status to `check` of bytes after which the source has more, where it is reported before one of these is read.
 pub fn held<R: Threads + Wait + Sync>(rt: &R, alloc: Global, bytes: &[u8]) -> Result<String, Fail> {
     let mut source = Endless {
         rest: bytes,

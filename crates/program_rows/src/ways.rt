@@ -1,4 +1,4 @@
-//! The ways in which the program is given bytes, and what is told of its answers.
+//! The ways in which the program is given bytes, and what is reported of its answers.
 
 use crate::sources::held;
 use image_format::{Image, read_image};
@@ -10,7 +10,7 @@ use std::sync::Wait;
 use std::test::Fail;
 use std::thread::Threads;
 
-/// Takes in one more answer: it stands behind the others where it is another one than all of them.
+/// Takes in one more answer: it comes after the others where it is another one than all of them.
 fn add(told: &mut String, answer: &str) -> Result<(), AllocError> {
     if told.as_str() == answer {
         return Ok(());
@@ -45,7 +45,7 @@ fn pieces<R: Threads + Wait + Sync>(
     Ok(told)
 }
 
-/// The like, also where the bytes are cut in two at each place.
+/// The like, also where the bytes are cut in two at each offset.
 fn cuts<R: Threads + Wait + Sync>(
     rt: &R,
     alloc: Global,
@@ -80,7 +80,7 @@ fn both<R: Threads + Wait + Sync>(
     Ok(told)
 }
 
-/// The answer where the source fails behind any number of bytes from the first number to the second.
+/// The answer where the source fails after any number of bytes from the first number to the second.
 fn fails<R: Threads + Wait + Sync>(
     rt: &R,
     alloc: Global,
@@ -131,7 +131,7 @@ fn fronts<R: Threads + Wait + Sync>(
     Ok(told)
 }
 
-/// What is told of a sink that takes fewer bytes than an answer has; nothing where it is told that it failed.
+/// What is reported of a sink that takes fewer bytes than an answer has; nothing where it is reported that it failed.
 fn sinks_differ<R: Threads + Wait + Sync>(
     rt: &R,
     alloc: Global,
@@ -144,7 +144,7 @@ fn sinks_differ<R: Threads + Wait + Sync>(
     difference_in_sinks(rt, alloc, line, bytes, status, text.as_bytes())
 }
 
-/// The answer, and what is told of a sink that takes fewer bytes than it has.
+/// The answer, and what is reported of a sink that takes fewer bytes than it has.
 fn sinks<R: Threads + Wait + Sync>(
     rt: &R,
     alloc: Global,
@@ -157,7 +157,7 @@ fn sinks<R: Threads + Wait + Sync>(
     Ok(told)
 }
 
-/// The image that a line writes, and what is told of a sink that takes fewer bytes than it has.
+/// The image that a line writes, and what is reported of a sink that takes fewer bytes than it has.
 fn written<R: Threads + Wait + Sync>(
     rt: &R,
     alloc: Global,
@@ -184,7 +184,7 @@ fn size<R: Threads + Wait + Sync>(rt: &R, alloc: Global, bytes: &[u8]) -> Result
     Ok(format!(in alloc; "{} bytes", image.len())?)
 }
 
-/// What stands in an image's table, how many segments it has, and whether it can't be linked.
+/// What is in an image's table, how many segments it has, and whether it can't be linked.
 fn parts_told(alloc: Global, image: &Image) -> Result<String, AllocError> {
     let mut told = String::new(alloc);
     for row in image.table.as_slice() {

@@ -70,7 +70,7 @@ stored_bytes b op address value b' h e r =
     subst (λ (x : Bytes). AreBytes (region x r)) (sym s.bytes_are) (
     with_region_bytes b s.to new h (AreBytes-put width s.at value (region b s.to) (h s.to)) r)
 
--- ---- an operation whose fields fit, at a place that is followed by another
+-- ---- an operation whose fields fit, at an address that is followed by another
 
 on_if : (t : Bool) (x y : Stepped) → OnStep IsSound x → OnStep IsSound y → OnStep IsSound (if t then x else y)
 on_if true x y here there = here

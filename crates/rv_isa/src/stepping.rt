@@ -1,4 +1,4 @@
-//! What the step table of `specs/Steps.antt` speaks of besides operations.
+//! What the step table of `specs/Steps.antt` has in addition to operations.
 
 /// A region of bytes that loads reach.
 #[derive(Clone, Copy, Debug, PartialEq, Eq)]

@@ -53,7 +53,7 @@ enough (suc n) (suc m) seen c h k =
       | inr some ↦ or_same (length c.rest - 1) (outline_up_to n) (outline_up_to m) seen c c.rest (λ s d l. enough n m s d (omega arith) (omega arith)) (omega arith)
     ]
 
--- the sections from one place on: none, or one and those after it
+-- the sections from one offset on: none, or one and those after it
 pub outline_is : (seen : Seen) (c : Cursor) → outline_sections seen c ≡ or_outline outline_sections seen c c.rest
 unfolding outline_up_to
 outline_is seen c =

@@ -23,7 +23,7 @@ use Rattle.section_reader.proofs.OutlineRuns.{outline_steady, outline_is}
 use Rattle.section_reader.proofs.Telling.{CodeRead, code_reads, other_row, ordered_between, header_ordered, front_ordered, entry_ordered}
 use Rattle.section_reader.proofs.Going.{got_is}
 
--- ---- runs beside each other
+-- ---- runs next to each other
 
 -- whether reading is after the code section's count or not
 record Matches (behind : Bool) (m o : Run) : Type 0 where

@@ -21,7 +21,7 @@ no_bytes : (f g : Next) (seen : Seen) (c : Cursor) (rest : List ℕ) → length 
 no_bytes f g seen c [] h = refl
 no_bytes f g seen c (b ∷ rest) h = absurd (omega arith)
 
--- the sections from one place on: none, or one and those after it
+-- the sections from one offset on: none, or one and those after it
 pub sections_are : (seen : Seen) (c : Cursor) → sections seen c ≡ or_section sections seen c c.rest
 unfolding sections_up_to
 sections_are seen c =

@@ -20,7 +20,7 @@ pub element_steady : (e : Element) → Steady [] (element_of e)
 element_steady ValueType = bind [] value_type _ (value_type_steady []) (λ ty. done_steady [] tt)
 element_steady (Index most) = bind [] (index most) _ (index_steady [] most) (λ i. done_steady [] tt)
 
--- ---- places
+-- ---- cursors
 
 abbrev cursor : ℕ → List ℕ → ℕ → Cursor
 cursor at rest end = record { at = at; rest = rest; end = end }
@@ -28,7 +28,7 @@ cursor at rest end = record { at = at; rest = rest; end = end }
 same_cursor : (at at' end end' : ℕ) (rest rest' : List ℕ) → at ≡ at' → rest ≡ rest' → end ≡ end' → cursor at rest end ≡ cursor at' rest' end'
 same_cursor at at' end end' rest rest' p q r = rw (p, q, r) refl
 
--- what is left tells how many bytes were taken
+-- what is left says how many bytes were taken
 pub past_is : (c d : Cursor) → Advance c d → past c (length c.rest - length d.rest) ≡ d
 past_is c d p =
     let taken : length c.rest - length d.rest ≡ length p.taken = omega (arith, ap length p.parts, length-append p.taken d.rest) in

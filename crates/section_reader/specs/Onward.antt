@@ -99,7 +99,7 @@ pub record IsOrdered (stage : Stage) (seen : Seen) : Type 0 where
   pub late : seen.counted ≡ true → 11 ≤ seen.last
   pub code : is_in_code stage ≡ true → IsInCode stage seen
 
--- the code section's count: how many bodies it tells, and where they end
+-- the code section's count: how many bodies it counts, and where they end
 abbrev pub is_count : Item → Bool
 is_count (Code count end) = true
 is_count _ = false

@@ -1,4 +1,4 @@
--- The outline beside the module's reading: the same items, and the same ending, but where reading stops among the bodies.
+-- The outline next to the module's reading: the same items, and the same ending, but where reading stops among the bodies.
 use Rattle.std.specs.Prelude.{◌≡◌, Bool, false, ◌||◌, List, [], ◌∷◌}
 use Rattle.wasm_defs.specs.Faults.{items_of}
 use Rattle.wasm_defs.specs.Outside.{Part, Section, Listed, Coded, Run}

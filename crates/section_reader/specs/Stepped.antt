@@ -19,7 +19,7 @@ pub record Tells (old : Steps) (c : Cursor) (item : Option Item) (new : Steps) (
   pub sections : AreSections told
   pub run : (more : List ℕ) → onward old.stage old.seen (with_more c more) ≡ after_parts told (prepend item (onward new.stage new.seen (with_more d more)))
 
--- outside the bodies it is told so; and the code section's count alone leads to the bodies
+-- outside the bodies it is reported so; and the code section's count alone leads to the bodies
 pub record GoesOnward (old : Steps) (c : Cursor) (item : Option Item) (new : Steps) (d : Cursor) : Type 0 where
   pub tells : is_at_bodies old.stage ≡ false → Tells old c item new d
   pub apart : is_at_bodies old.stage ≡ false → item ≡ None → is_at_bodies new.stage ≡ false

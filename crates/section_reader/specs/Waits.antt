@@ -24,14 +24,14 @@ element_of (Index most) = do
 
 -- ---- waiting
 
--- the place among the bytes that are there where an element of a list begins, with which reading goes on; else their first
+-- the index among the bytes that are there where an element of a list begins, with which reading goes on; else their first
 abbrev pub resumes_at : Wait → ℕ
 resumes_at wait.Nothing = 0
 resumes_at (wait.Bytes free) = 0
 resumes_at (wait.Text owed inside) = 0
 resumes_at (wait.List place owed element) = place
 
--- this place is among them, and in the section
+-- this index is among them, and in the section
 pub record IsPlaced (wait : Wait) (c : Cursor) : Type 0 where
   pub among : resumes_at wait ≤ length c.rest
   pub inside : c.at ≤ c.end → c.at + resumes_at wait ≤ c.end
@@ -43,7 +43,7 @@ Passes (wait.Bytes free) c more = length more ≤ free
 Passes (wait.Text owed inside) c more = (length more < owed) × (completes owed (Some inside) more ≡ true)
 Passes (wait.List place owed element) c more = repeated owed (element_of element) (with_more (past c place) more) ≡ Wants
 
--- with bytes that may come at a wait from a place on, the reader still wants more
+-- with bytes that may come at a wait from a cursor on, the reader still wants more
 abbrev pub AwaitsAt : {A : Type 0} → Reader A → Cursor → Wait → Cursor → Type 0
 AwaitsAt p c wait from = (more : List ℕ) → Passes wait from more → p (with_more c more) ≡ Wants
 

@@ -26,7 +26,7 @@ in_order : (d : ℕ → ℕ → ℕ) (rs ss : List Relocation) (words : List ℕ
 in_order d [] ss words = refl
 in_order d (r ∷ rs) ss words = in_order d rs ss (with_distance (d r.place r.function) r.place words)
 
--- six words on from a place
+-- six words on from an index
 filled_at : (distance here : ℕ) (front : List ℕ) (a b c d e f x y : ℕ) (rest : List ℕ) → length front ≡ here
     → with_distance distance (here + 6) (front ++ a ∷ b ∷ c ∷ d ∷ e ∷ f ∷ x ∷ y ∷ rest)
     ≡ front ++ a ∷ b ∷ c ∷ d ∷ e ∷ f ∷ word_of (Auipc ra (hi distance)) ∷ word_of (Jalr ra ra (lo distance)) ∷ rest
@@ -41,7 +41,7 @@ filled_at distance here front a b c d e f x y rest len =
     ∙ ap (λ (k : ℕ). front ++ slice_set (a ∷ b ∷ c ∷ d ∷ e ∷ f ∷ u ∷ y ∷ rest) k v) (let z : here + 6 + 1 - here ≡ 7 = omega arith in z) in
     ap (λ (l : List ℕ). slice_set l (here + 6 + 1) v) first ∙ second
 
--- at a place of a function, these calls filled in make of the old words the new ones
+-- at an index of a function, these calls filled in make of the old words the new ones
 abbrev Fills : (d : ℕ → ℕ → ℕ) (here : ℕ) → List Relocation → (old new : List Op) → Type 0
 Fills d here rs old new =
     (front behind : List ℕ) → length front ≡ here → with_distances d rs (front ++ (map word_of old ++ behind)) ≡ front ++ (map word_of new ++ behind)

@@ -1,4 +1,4 @@
--- Traps of sequences: what is told of them, and that they depend on no distance, and on no label's place.
+-- Traps of sequences: what is known of them, and that they depend on no distance, and on no label's index.
 use Rattle.std.proofs.Common.{◌≡◌, ℕ, ◌+◌, ◌-◌, ◌⊎◌, ⊎_elim, List, [], ◌∷◌, ◌++◌, length, map, Option, Some, None, refl, sym, ap, ◌∙◌, subst}
 use Rattle.wasm_defs.specs.declared.place.Place as told
 use Rattle.wasm_defs.specs.declared.token.Plain.{Plain}
@@ -12,7 +12,7 @@ use Rattle.frame_layout.specs.Functions.{label, over, size, Trap, trap_at, traps
 use Rattle.sim_frames.specs.Functions.{AreSited}
 use Rattle.sim_frames.proofs.Sizes.{taken_by, words_size, code_size}
 
--- ---- what is told of them
+-- ---- what is known of them
 
 abbrev pub IsIn : ℕ → List ℕ → Type 0
 IsIn n [] = ⊥

@@ -16,7 +16,7 @@ type_in (Some f) = type_of f
 abbrev pub like_in : Instance → (function : ℕ) → ℕ
 like_in inst f = first_like inst.context.types (type_in (slice_get inst.functions f))
 
--- The rows are in the table's region, each with its function's place and the index that its type has. Their functions are there,
+-- The rows are in the table's region, each with its function's address and the index that its type has. Their functions are there,
 -- and indices of types have 32 bits.
 pub record TableHolds (inst : Instance) (places : TextPlaces) (b : Bytes) : Type 0 where
   pub rows : TableStands inst.table places.function (like_in inst) b

@@ -1,4 +1,4 @@
--- What validating a source answers, and what the program tells of it.
+-- What validating a source answers, and what the program says of it.
 use Rattle.std.proofs.Common.{◌≡◌, ℕ, Bool, true, false, List, Option, Some, None, Result, Ok, Err, refl, sym, ap, ◌∙◌, subst}
 use Rattle.std.specs.Prelude.{◌≤◌, IfOk, nat_lt, length}
 use Rattle.std.specs.declared.alloc.AllocError.{AllocError}
@@ -89,7 +89,7 @@ judged_done failed left rest checked s (calm, bytes, came, end, d, e) = (bytes, 
 pub judged_built : (failed : Bool) (left rest : Option (List ℕ)) (checked : Checked) (s : Compilation) (built : Built) → Judged failed left rest (check.Valid checked) s → ((bytes : List ℕ) → IsDone bytes s → IsBuilt bytes built) → CompilesSource failed left rest (answer.Image built)
 judged_built failed left rest checked s built (calm, bytes, came, end, d, e) is = (calm, bytes, came, end, is bytes d)
 
--- ---- what the program tells
+-- ---- what the program says
 
 valid_outcome : (bytes : List ℕ) (checked : Checked) (o : Outcome) → ((m : _) × IsModuleOfSize bytes m checked.functions checked.bytes) → o ≡ accepted checked.functions checked.bytes → OfModule TellsCheck false bytes o
 valid_outcome bytes checked o (m, is) e =

@@ -156,7 +156,7 @@ module _ (runs : ℕ → module_runs.Run) (image : ℕ → ImageRun) (n : ℕ) (
       by_end Going is = is
       by_end Fails is = absurd (alike.never_fails k is)
 
--- what an image's end tells of its module
+-- what an image's end says of its module
 tells_end : (drill : Option ℕ) (peek : Option Peek) (runs : ℕ → module_runs.Run) (image : ℕ → ImageRun) (n : ℕ) (exit : Option ℕ) (calls : List HostCall) (end : Ending) (o : Outcome) → SameRuns runs image → Lasts image → image n ≡ record { calls = calls; end = end } → EndsAs drill peek exit end o → TellsEnd drill peek n exit calls end runs o
 tells_end drill peek runs image n None calls (As (Returns values memory globals)) o alike stays is tells =
     let k = alike.ends_only n (Returns values memory globals) (ap (λ (r : ImageRun). r.end) is) tt in
@@ -176,12 +176,12 @@ tells_end drill peek runs image n (Some code) calls (As (Stops memory)) o alike 
     (k.0, same_run (runs k.0) calls (Stops memory) (sym k.1 ∙ is), tells)
 tells_end drill peek runs image n (Some code) calls end o alike stays is tells = absurd tells
 
--- what is told of one run, which has these replies
+-- what is reported of one run, which has these replies
 abbrev TellsOne : (drill : Option ℕ) → Option Peek → List Import → List Reply → Outcome → ImageRun → Type 0
 TellsOne drill peek imports rs o run =
     (rs ≡ replies imports run.calls) × (line : Outcome) × EndsAs drill peek (exit_code imports run.calls) run.end line × (o ≡ after (bytes_written imports run.calls) line)
 
--- no line tells of the globals
+-- no line reports the globals
 own_ends_as : (g : ℕ) (drill : Option ℕ) (peek : Option Peek) (exit : Option ℕ) (x : Ending) (o : Outcome) → EndsAs drill peek exit x o → EndsAs drill peek exit (own_ending g x) o
 own_ends_as g drill peek None (As (Returns values memory globals)) o h = h
 own_ends_as g drill peek (Some code) (As (Stops memory)) o h = h

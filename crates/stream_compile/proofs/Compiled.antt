@@ -45,7 +45,7 @@ begins bytes left spaces codes is none uncoded = rw (is, none) (record {
 })
 
 module _ (bytes : List ℕ) (left : Run) (codes : Coding) where
-  -- with the same items and bodies in front
+  -- with the same items and bodies before them
   moved : (items items' : List Item) (k k' : ℕ) (parts : List Part) (r : Refusal) → items ≡ items' → k ≡ k' → IsTextFault items k codes.words parts r → IsTextFault items' k' codes.words parts r
   moved items items' k k' parts r p q f = rw (p, q) at f
 

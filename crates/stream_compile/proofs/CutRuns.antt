@@ -57,7 +57,7 @@ behind_same seen c d p =
     ∙ ap (λ (l : List ℕ). sections seen (record { at = c.end; rest = l; end = no_end }))
     (sym (drop-append-add p.taken d.rest (d.end - d.at)) ∙ ap (λ (n : ℕ). drop n (p.taken ++ d.rest)) (sym room) ∙ ap (drop (c.end - c.at)) (sym p.parts))
 
--- told otherwise whether the data segments were counted
+-- with another flag of whether the data segments were counted
 abbrev told : (counted : Bool) → Part → Part
 told counted (Section at position) = Section at position
 told counted (Listed x) = Listed x

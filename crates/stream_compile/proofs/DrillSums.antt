@@ -1,4 +1,4 @@
--- What a drill's run tells is its sum.
+-- What a drill's run reports is its sum.
 use Rattle.std.proofs.Common.{◌≡◌, ◌∙◌, ℕ, ◌+◌, ◌≤◌, true, List, [], ◌∷◌, Option, None, Some, refl, ap, sym, subst, inl, inr, pos, length, take}
 use Rattle.std.specs.Prelude.{codes}
 use Rattle.std.specs.Int.{w32}

@@ -1,4 +1,4 @@
--- Fronts of a source's bytes, over several calls.
+-- Prefixes of a source's bytes, over several calls.
 use Rattle.std.proofs.Common.{◌≤◌, ℕ, List, [], ◌++◌, take, Option, sym, ap, ◌∙◌, arith}
 use Rattle.std.specs.Io.KnownBytes.{prepend_known}
 use Rattle.io_edges.specs.declared.source.Got.{Got}

@@ -1,4 +1,4 @@
--- What was checked of a call, and what is told of it.
+-- What was checked of a call, and what is reported of it.
 use Rattle.std.proofs.Common.{◌≡◌, ℕ, true, false, List, [], ◌∷◌, ◌++◌, map, Option, Some, None, refl, sym, ap, ◌∙◌, subst, inl, inr}
 use Rattle.std.proofs.lemmas.Bool.{cases_Bool}
 use Rattle.wasm_defs.specs.declared.types.ValType.{ValType}
@@ -57,7 +57,7 @@ pub unrunnable_runs : (drill : Option ℕ) (i : Image) (call : Call) (name : Lis
 unrunnable_runs drill i call name values checked why o b some is e =
     (ranges_are call name values b, subst (λ (x : Option NotRunnable). ChecksAndCalls drill x i call o) (sym (checks_are i call name values checked b is ∙ some)) e)
 
--- what is told of a run
+-- what is reported of a run
 module _ (drill : Option ℕ) (i : Image) (call : Call) (name : List ℕ) (values : List Given) (checked : Option NotRunnable) (b : Begun call name values) (none : checked ≡ None) (is : checked ≡ not_runnable i name (map type_of values)) where
   pub runs_as : (e : Export) (rs : List Reply) (line : Outcome) → export_named name i.exports ≡ Some e
       → AreOwn i.imports (λ q. (run_of_export i e (map value_of values) q call.steps).calls) rs

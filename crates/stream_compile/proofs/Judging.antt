@@ -203,7 +203,7 @@ typed_there bytes left spaces bodies b j =
     let there = rw k at here.0 in
     rw (j.spaces_are, j.count) there
 
--- a body is told whether the data segments were counted
+-- a body says whether the data segments were counted
 pub told_there : (bytes : List ℕ) (left : Run) (spaces : Spaces) (bodies : ℕ) (b : Body) → IsJudged bytes (after_part (Coded b) left) spaces bodies → is_some spaces.data_count ≡ b.counted
 told_there bytes left spaces bodies b j =
     let count = data_count_of (items_of (module_read bytes).parts) in

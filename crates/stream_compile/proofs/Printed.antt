@@ -52,7 +52,7 @@ some_line drill peek imports run (inr (code, some, memory, stops)) =
     let here : EndsAs drill peek (Some code) run.end line = subst (λ (end : Ending). EndsAs drill peek (Some code) end line) (sym stops) refl in
     (line, subst (λ (exit : Option ℕ). EndsAs drill peek exit run.end line) (sym some) here)
 
--- the lines of a run's end are those of the end that its outcome and its exit code tell
+-- the lines of a run's end are those of the end that its outcome and its exit code give
 line_ends : (drill : Option ℕ) (peek : Option Peek) (end : RunEnd) (memory : List ℕ) (results : List Value) (ending : Ending) → IsEnd (outcome_of end) memory results ending → EndsAs drill peek (code_of_end end) ending (lines_of drill peek end memory results)
 line_ends drill peek (run_end.Returned n) memory results ending h = subst (λ (e : Ending). EndsAs drill peek None e (lines_of drill peek (run_end.Returned n) memory results)) (sym h.2) refl
 line_ends drill peek (run_end.Trapped kind place) memory results ending h = subst (λ (e : Ending). EndsAs drill peek None e (lines_of drill peek (run_end.Trapped kind place) memory results)) (sym h.1) refl
@@ -107,7 +107,7 @@ module _ (drill : Option ℕ) (i : Image) (call : Call) (name : List ℕ) (value
   ended_told e end memory results status before middle now old between new found hosts same told =
       lines_told e end memory results status (nat_lt before now) old between new found hosts (subst (λ (k : ℕ). Told status (lines_of drill call.peek end memory results) (nat_lt k now) between new) same told)
 
--- what was told of some outcomes is told of others that they are among
+-- what was reported of some outcomes is reported of others that they are among
 pub told_as : (From To : Outcome → Type 0) (r : Result ℕ AllocError) (failed : Bool) (old new : Option (List ℕ)) → ((o : Outcome) → From o → To o)
     → IfOk r (λ status. IsTold From status failed old new) → IfOk r (λ status. IsTold To status failed old new)
 told_as From To (Ok status) failed old new to (o, is, told) = (o, to o is, told)

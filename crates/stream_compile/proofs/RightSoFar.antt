@@ -73,7 +73,7 @@ bodies_cut f c =
     ∙ ap (λ (l : List Part). coded_all (counts_data f.steps.seen) (bodies_in (left c []).queue) ++ l) (nothing_behind (left c []).ending (sections_behind f.steps.seen c.place.at c.place.end []) (no_section f.steps.seen c.place.end _ (none_dropped (c.place.end - c.place.at) [] refl)))
     ∙ append-nil (coded_all (counts_data f.steps.seen) (bodies_in (left c []).queue))
 
--- the bodies are told what the items before them say
+-- the bodies say what the items before them say
 counted_in : (came : List ℕ) (f : Front) (c : Cutting) {spaces : _} {n : ℕ} (j : IsJudged came (left_of f (Some c) []) spaces n)
     → coded_all (counts_data f.steps.seen) (bodies_in (left c []).queue) ≡ coded_all (is_some (data_count_of (items_of j.front))) (bodies_in (left c []).queue)
 counted_in came f c j =

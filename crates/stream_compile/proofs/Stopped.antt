@@ -80,7 +80,7 @@ ended_is_owed bytes r (inl (inl e)) k = ending_kind (length bytes) (module_read 
 ended_is_owed bytes r (inl (inr f)) k = absurd (not_ended r.kind (inside_kind [] 0 (module_read bytes).parts r f) k)
 ended_is_owed bytes r (inr f) k = absurd (not_ended r.kind (text_kind [] 0 0 (module_read bytes).parts r f) k)
 
--- ---- parts in front, and parts after them
+-- ---- the first parts, and the parts after them
 
 front_ordered : (low last : ℕ) (front back : List Part) → AreOrdered low last (front ++ back) → AreOrdered low last front
 front_ordered low last [] back o = tt
@@ -88,7 +88,7 @@ front_ordered low last (Section at position ∷ front) back o = (o.0, o.1, front
 front_ordered low last (Listed x ∷ front) back o = (o.0, front_ordered (behind_use low (use_of x)) last front back o.1)
 front_ordered low last (Coded b ∷ front) back o = (o.0, front_ordered (end_of b) last front back o.1)
 
--- the parts in front end where the others begin
+-- the first parts end where the others begin
 split : (low last : ℕ) (front back : List Part) → AreOrdered low last (front ++ back) → (mid : ℕ) × (low ≤ mid) × AreOrdered low mid front × AreOrdered mid last back
 split low last [] back o = (low, omega arith, tt, o)
 split low last (Section at position ∷ front) back o = let q = split (suc at) last front back o.2 in (q.0, omega (arith, o.0, q.1), (o.0, omega (arith, q.1), q.2), q.3)
@@ -100,7 +100,7 @@ split low last (Coded b ∷ front) back o =
     let stands = o.0 in
     (q.0, omega (arith, stands.from, stands.sized, q.1), (record { from = stands.from; sized = stands.sized; least = stands.least; most = stands.most; before = q.1 }, q.2), q.3)
 
--- ---- errors of the parts in front stay
+-- ---- errors of the first parts stay
 
 inside_stays : (items : List Item) (k : ℕ) (front back : List Part) (r : Refusal) → IsFaultInside items k front r → IsFaultInside items k (front ++ back) r
 inside_stays items k [] back r f = absurd f
@@ -117,7 +117,7 @@ text_stays items k words (Listed x ∷ front) back r f = text_stays (items ++ x 
 text_stays items k words (Coded b ∷ front) back r (tree, v, inl f) = (tree, v, inl f)
 text_stays items k words (Coded b ∷ front) back r (tree, v, inr f) = (tree, v, inr (f.0, text_stays items (suc k) (words + size_of items k b tree) front back r f.1))
 
--- ---- an error is one of the parts in front, or of those after
+-- ---- an error is one of the first parts, or of those after
 
 inside_splits : (items : List Item) (k : ℕ) (front back : List Part) (r : Refusal) → IsFaultInside items k (front ++ back) r → IsFaultInside items k front r ⊎ ((xs : List Item) × (n : ℕ) × IsFaultInside xs n back r)
 inside_splits items k [] back r f = inr (items, k, f)
@@ -165,7 +165,7 @@ module _ (n m : ℕ) (parts : List Part) (ending : Ending) (later : Run) (tail :
   open_stays r (inl (inr f)) other = inl (inr (subst (λ (l : List Part). IsFaultInside [] 0 l r) (sym grown) (inside_stays [] 0 parts tail r f)))
   open_stays r (inr f) other = inr (subst (λ (l : List Part). IsTextFault [] 0 0 l r) (sym grown) (text_stays [] 0 0 parts tail r f))
 
-  -- the errors that were there are before that place, if the parts are
+  -- the errors that were there are before that offset, if the parts are
   front_before : (last : ℕ) (r : Refusal) → AreOrdered first_section last parts → IsFaultIn n (run_of parts ending) r → r.kind ≢ Ended → r.offset ≤ last
   front_before last r o (inl (inl e)) other = absurd (never n ending r open_is other e)
   front_before last r o (inl (inr f)) other = let h = before_last first_section last [] 0 parts r o f in omega arith

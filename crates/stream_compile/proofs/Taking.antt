@@ -64,7 +64,7 @@ code_of_body items k b tree code is =
       size = ap (λ (l : List ℕ). length l) here.words ∙ length-map (function_code (around items k b tree no_distance) (context_at items k b) tree) word_of;
     }
 
--- a body's code, by the spaces that the code has and by the items in front
+-- a body's code, by the spaces that the code has and by the items before it
 pub record HasCode (s : Spaces) (n : ℕ) (items : List Item) (k : ℕ) (b : Body) (code : Code) : Type 0 where
   pub tree : Seq
   pub valid : IsValidCode (body_of_spaces s n b) (read_of b).code tree

@@ -47,7 +47,7 @@ pub none_drilled : (functions : ℕ) (values : List Value) → length values ≡
 none_drilled functions [] e = refl
 none_drilled functions (v ∷ values) e = absurd (omega (arith, e))
 
--- a drill's line tells the first
+-- a drill's line gives the first
 pub first_drilled : (functions : ℕ) (values : List Value) (v : Value) → slice_get values 0 ≡ Some v → drilled functions (v ∷ []) ≡ drilled functions values
 first_drilled functions [] v is = absurd cc
 first_drilled functions (w ∷ values) v is = let same : w ≡ v = cc in ap (λ (x : Value). drilled functions (x ∷ [])) (sym same)

@@ -16,7 +16,7 @@ pub record IsRead (left rest : Option (List ℕ)) (read : List ℕ) : Type 0 whe
   pub short : length piece ≤ 65536
   pub right : IsRightSoFar before
 
--- These bytes came: all that were left, of which a front was read; or, where the source failed, those that were read.
+-- These bytes came: all that were left, of which a prefix was read; or, where the source failed, those that were read.
 abbrev pub Came : (left rest : Option (List ℕ)) → (failed : Bool) → List ℕ → Type 0
 Came left rest false bytes = (read more : List ℕ) × IsRead left rest read × IfSome rest (λ l. more ≡ l) × (bytes ≡ read ++ more)
 Came left rest true bytes = IsRead left rest bytes

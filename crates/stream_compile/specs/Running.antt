@@ -41,7 +41,7 @@ IsTold Comes status failed written written_now = (o : Outcome) × Comes o × Tol
 abbrev pub RunsAs : (drill : Option ℕ) → Image → Call → Outcome → Type 0
 RunsAs drill i c o = (all_in_range (arguments_of c.arguments) ≡ true) × TellsImageCall drill c i o
 
--- what was read of a source is that image, or has its first fault there; or the source failed
+-- what was read of a source is that image, or has its first error there; or the source failed
 abbrev pub IsForeign : Bool → (left rest : Option (List ℕ)) → Foreign → Type 0
 IsForeign failed left rest (foreign.Image i) = (failed ≡ false) × (bytes : List ℕ) × CameUpTo image_input left rest false bytes × (image_or_offset bytes ≡ Ok i)
 IsForeign failed left rest (foreign.Bad offset) = (failed ≡ false) × (bytes : List ℕ) × CameUpTo image_input left rest false bytes × (image_or_offset bytes ≡ Err offset)

@@ -80,7 +80,7 @@ kind_name Limit = codes "limit"
 kind_name Invalid = codes "invalid"
 kind_name Ended = codes "ended"
 
--- what is wrong, and the offset of the byte where it stands
+-- what is wrong, and the offset of the byte where it is
 abbrev pub rejected : Refusal → Outcome
 rejected r = record { status = 2; text = codes "refused " ++ kind_name r.kind ++ codes " at " ++ decimal r.offset ++ codes "\n" }
 
@@ -114,7 +114,7 @@ abbrev pub drilled : (functions : ℕ) → List Value → Outcome
 drilled functions [] = returned []
 drilled functions (v ∷ vs) = drill_line functions (signed v.ty v.number)
 
--- where in the module a trap comes from, if it is told: the function's index, and the offset of the byte
+-- where in the module a trap comes from, if it is known: the function's index, and the offset of the byte
 abbrev pub trap_place : Option Place → List ℕ
 trap_place None = codes "\n"
 trap_place (Some p) = codes " in function " ++ (decimal p.function ++ codes " at " ++ decimal p.offset ++ codes "\n")
@@ -143,7 +143,7 @@ fault_name Call = codes "call"
 abbrev pub machine_fault : FaultKind → ℕ → Outcome
 machine_fault kind pc = record { status = 9; text = codes "machine fault " ++ fault_name kind ++ codes " at " ++ decimal pc ++ codes "\n" }
 
--- the bytes are no image: the offset of their first fault
+-- the bytes are no image: the offset of their first error
 abbrev pub bad_image : ℕ → Outcome
 bad_image offset = record { status = 10; text = codes "bad image at " ++ decimal offset ++ codes "\n" }
 
@@ -177,7 +177,7 @@ abbrev pub peeked : Peek → (memory : List ℕ) → List ℕ
 peeked p memory =
     if nat_le (p.address + p.count) (length memory) then codes "peek " ++ (hex_of (take p.count (drop p.address memory)) ++ codes "\n") else codes "peek out of range\n"
 
--- behind a text, where bytes are to be shown, stands their line
+-- after a text, where bytes are to be shown, comes their line
 abbrev pub with_peek : Option Peek → (memory text : List ℕ) → List ℕ
 with_peek None memory text = text
 with_peek (Some p) memory text = text ++ peeked p memory
@@ -197,11 +197,11 @@ EndsAs drill peek None (Fault kind pc) o = o ≡ machine_fault kind pc
 EndsAs drill peek (Some code) (As (Stops memory)) o = o ≡ showing peek memory (exited code)
 EndsAs drill peek (Some code) end o = ⊥
 
--- after what the calls of a run write stand its lines
+-- after what the calls of a run write come its lines
 abbrev pub after : List ℕ → Outcome → Outcome
 after text line = record line { text = text ++ line.text }
 
--- What is told of a run of an image whose replies are the host's own: what its calls write, and its lines. By the run with each list of
+-- What is reported of a run of an image whose replies are the host's own: what its calls write, and its lines. By the run with each list of
 -- replies.
 abbrev pub TellsImageRun : (drill : Option ℕ) → Option Peek → List Import → (List Reply → ImageRun) → Outcome → Type 0
 TellsImageRun drill peek imports run o =
@@ -273,7 +273,7 @@ drill_call steps = record { export = codes "run"; arguments = []; steps = steps;
 abbrev pub TellsDrill : (steps : ℕ) → Module → Outcome → Type 0
 TellsDrill steps m o = TellsCall (Some (declared_count m.items)) (drill_call steps) m o
 
--- the module and its image behave alike, and this is told of it; or the module is refused
+-- the module and its image behave alike, and this is reported of it; or the module is refused
 abbrev pub OfVerdict : (Module → Outcome → Type 0) → Verdict → Outcome → Type 0
 OfVerdict Tells (Accepted m) o = Same m (image_of m) × Tells m o
 OfVerdict Tells (Rejected r) o = o ≡ rejected r
@@ -282,7 +282,7 @@ OfVerdict Tells (Rejected r) o = o ≡ rejected r
 abbrev pub command_said : List (String Global) → Option Command
 command_said words = command_in (map string_bytes words)
 
--- where the source failed: the fault that decides then of the bytes that came, or that it failed
+-- where the source failed: the error that decides then of the bytes that came, or that it failed
 abbrev pub stopped : Option Refusal → Outcome
 stopped None = read_fault
 stopped (Some r) = rejected r
@@ -292,11 +292,11 @@ abbrev pub OfModule : ((bytes : ℕ) → Module → Outcome → Type 0) → Bool
 OfModule Tells true bytes o = (s : Option Refusal) × IsStoppedAt bytes s × (o ≡ stopped s)
 OfModule Tells false bytes o = (v : Verdict) × IsVerdictOf bytes v × OfVerdict (Tells (length bytes)) v o
 
--- the sum of 0 to N - 1 is told, with N + 1 functions; or the steps are spent, which are fewer than so many
+-- the sum of 0 to N - 1 is reported, with N + 1 functions; or the steps are spent, which are fewer than so many
 abbrev pub TellsSum : Drilled → Outcome → Type 0
 TellsSum d o = (o ≡ drill_line (d.count + 1) (pos (sum_below d.count))) ⊎ ((d.steps < 640 * d.count + 448) × (o ≡ steps_spent))
 
--- The bytes that are made, of the given size, are a module. It and its image behave alike, and this is told of it, which is the sum
+-- The bytes that are made, of the given size, are a module. It and its image behave alike, and this is reported of it, which is the sum
 -- wherever the steps suffice.
 abbrev pub OfDrill : Drilled → Outcome → Type 0
 OfDrill d o = (m : Module) × IsModuleOf (drill_bytes d.count) m × Same m (image_of m) × TellsDrill d.steps m o × TellsSum d o
@@ -310,7 +310,7 @@ abbrev pub OfImage : Given → Bool → List ℕ → Outcome → Type 0
 OfImage c true bytes o = o ≡ read_fault
 OfImage c false bytes o = OfReading c (image_or_offset bytes) o
 
--- by what was left in the source before and behind
+-- by what was left in the source before and after
 abbrev pub ComesOfModule : ((bytes : ℕ) → Module → Outcome → Type 0) → Bool → (left rest : Option (List ℕ)) → Outcome → Type 0
 ComesOfModule Tells failed left rest o = (bytes : List ℕ) × Came left rest failed bytes × OfModule Tells failed bytes o
 
@@ -334,12 +334,12 @@ ReadsNothing (Some (Drill d)) = Unit {0}
 
 -- ---- what is written
 
--- what was answered and written of an outcome: where the sink failed, a front of its text; else its status and its text
+-- what was answered and written of an outcome: where the sink failed, a prefix of its text; else its status and its text
 abbrev pub Told : ℕ → Outcome → Bool → Option (List ℕ) → Option (List ℕ) → Type 0
 Told status o true old new = (status ≡ 7) × (n : ℕ) × (new ≡ append_known old (take n o.text))
 Told status o false old new = (status ≡ o.status) × (new ≡ append_known old o.text)
 
--- what a call answered and wrote: want of memory, and the sink is untouched; else what the words and the bytes come to
+-- what a call answered and wrote: out of memory, and the sink is untouched; else what the words and the bytes come to
 abbrev pub AnswersAndWrites : (untouched : Type 0) → Option Command → Bool → (left rest : Option (List ℕ)) → ℕ → Bool → Option (List ℕ) → Option (List ℕ) → Type 0
 AnswersAndWrites untouched command source_failed left rest status sink_failed old new =
     ((status ≡ 8) × untouched × (sink_failed ≡ false) × (new ≡ old))

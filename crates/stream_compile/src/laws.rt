@@ -29,7 +29,7 @@ pub fn ended_is_owed()
 {}
 
 /// What decides where a source failed decides whatever else would have come: a reader that stops at that error answers as one
-/// that reads on. It is one error, or none; the verdict of the bytes that came tells which.
+/// that reads on. It is one error, or none; the verdict of the bytes that came says which.
 pub fn what_stopped_decides()
     ensures stays { (bytes more : List ℕ) (r : Refusal) → IsStoppedAt bytes (Some r) → IsStoppedAt (bytes ++ more) (Some r) }
     ensures verdict { (bytes more : List ℕ) (r : Refusal) → IsStoppedAt bytes (Some r) → IsVerdictOf (bytes ++ more) (Rejected r) }

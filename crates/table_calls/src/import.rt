@@ -10,7 +10,7 @@ use frame_layout::words::const_32;
 use rv_isa::{Imm12, ImmOp, Register, WordBuffer, encode_ecall, encode_imm};
 use std::alloc::AllocError;
 
-/// Appends the instruction words that stand for an imported function, or none if memory runs out: they trap where the stack has
+/// Appends the instruction words of an imported function's stub, or none if memory runs out: they trap where the stack has
 /// no room for its parameters and a result, ask the environment for the import of that number, and return.
 pub fn emit_import_stub(buffer: &mut WordBuffer, params: u32, import: u32) -> Result<(), AllocError>
     ensures ok { OnOk result (buffer.new ≡ buffer.old ++ map word_of (import_stub params import)) }

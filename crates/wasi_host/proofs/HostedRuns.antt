@@ -37,7 +37,7 @@ bytes_then imports (c ∷ front) behind =
     ap (λ (l : List ℕ). (answer_of imports c).bytes ++ l) (bytes_then imports front behind)
     ∙ sym (append_assoc (answer_of imports c).bytes (bytes_written imports front) (bytes_written imports behind))
 
--- the text of calls up to one, and behind it
+-- the text of calls up to one, and after it
 bytes_up_to : (imports : List Import) (front : List HostCall) (call : HostCall) (calls behind : List HostCall) → calls ≡ (front ++ call ∷ []) ++ behind
     → bytes_written imports calls ≡ bytes_written imports front ++ ((answer_of imports call).bytes ++ bytes_written imports behind)
 bytes_up_to imports front call calls behind is =

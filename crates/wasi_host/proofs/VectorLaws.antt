@@ -35,7 +35,7 @@ from_nothing (Some n) = ap (λ (k : ℕ). Some k) (omega arith)
 
 -- ---- what is written
 
--- the vectors before an address are written, and those from there on lie in the memory
+-- the vectors before an address are written, and those from there on are in the memory
 pub record Writing (memory : List ℕ) (iovs count address left : ℕ) (old now : Option (List ℕ)) (before after : ℕ) : Type 0 where
   pub done : List ℕ
   pub rest : List ℕ

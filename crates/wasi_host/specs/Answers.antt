@@ -58,7 +58,7 @@ fault = 21
 abbrev pub inval : ℕ
 inval = 28
 
--- by whether the four bytes at `nwritten` lie in the memory, and the bytes of the vectors, where all of them do
+-- by whether the four bytes at `nwritten` are in the memory, and the bytes of the vectors, where all of them do
 abbrev pub checked : (has_room : Bool) → Option (List ℕ) → Result (List ℕ) ℕ
 checked has_room None = Err fault
 checked false (Some bytes) = Err fault

@@ -12,7 +12,7 @@ ghost use Rattle.wasi_host.specs.ExitCodes.{code_of_call};
 ghost use Rattle.wasi_host.specs.Fitting.{IsCallOf, IsTaken, StopsByExit};
 ghost use Rattle.wasi_host.specs.Own.{AreOwn};
 
-/// The reply to a call of a function that the host knows is of its result's type, and its patch lies in the memory; or the call is
+/// The reply to a call of a function that the host knows is of its result's type, and its patch is in the memory; or the call is
 /// of `proc_exit`.
 pub fn replies_are_taken()
     ensures { (imports : List Import) (c : HostCall) (i : Import) → is_known i ≡ true → IsCallOf imports c i

@@ -7,7 +7,7 @@ ghost use Rattle.wasi_host.specs.Vectors.{gathered, vector_at};
 
 use io_edges::{Sink, write_all};
 
-/// So many bytes from an address on, if all lie in the memory.
+/// So many bytes from an address on, if all are in the memory.
 fn bytes_at(memory: &[u8], address: u64, count: u32) -> Option<&[u8]>
     requires { address < 2 ^ 40 }
     ensures bytes { option_copied result ≡ bytes_at memory.now address count }
@@ -30,7 +30,7 @@ fn number_in(bytes: &[u8], at: usize) -> u32
     u32::from_le_bytes([bytes[at], bytes[at + 1], bytes[at + 2], bytes[at + 3]])
 }
 
-/// The bytes of the vector at an address, if it and they lie in the memory.
+/// The bytes of the vector at an address, if it and they are in the memory.
 fn vector_at(memory: &[u8], address: u64) -> Option<&[u8]>
     requires { address < 2 ^ 40 }
     ensures bytes { option_copied result ≡ vector_at memory.now address }
@@ -44,7 +44,7 @@ fn vector_at(memory: &[u8], address: u64) -> Option<&[u8]>
     )
 }
 
-/// How many bytes so many vectors from an address on have together, if all lie in the memory.
+/// How many bytes so many vectors from an address on have together, if all are in the memory.
 pub(crate) fn total(memory: &[u8], iovs: u32, iovs_len: u32) -> Option<u64>
     requires { iovs_len ≤ 1024 }
     ensures { result ≡ option_map length (gathered memory.now iovs iovs_len) }

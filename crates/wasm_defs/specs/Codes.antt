@@ -120,7 +120,7 @@ operation_code (Extend I64Extend8S) = 0xC2
 operation_code (Extend I64Extend16S) = 0xC3
 operation_code (Extend I64Extend32S) = 0xC4
 
--- ---- immediates, whose offsets their places tell
+-- ---- immediates, without their offsets
 
 -- a count, and so many of a kind (5.1.3)
 abbrev pub listed_vector_is : {A : Type 0} → (A → Spelling) → List A → Spelling

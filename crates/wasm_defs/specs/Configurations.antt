@@ -105,7 +105,7 @@ pub data Step : Type 0 where
   -- no rule applies: in a valid module it doesn't come
   Stuck : Step
 
--- ---- places of the module, at which a run may trap
+-- ---- source locations, at which a run may trap
 
 -- how many tokens follow the code of the innermost block: those of the open blocks, and the function's last `end`
 abbrev pub tokens_behind : List Label → ℕ
@@ -140,7 +140,7 @@ belows (label ∷ labels) = label.below ++ belows labels
 abbrev pub whole : Frame → List Value
 whole f = f.operands ++ belows f.labels
 
--- the part of a caller: its locals, the place that it returns to, and its operands below the arguments that it passes
+-- the part of a caller: its locals, its return address, and its operands below the arguments that it passes
 abbrev pub part : Frame → ℕ
 part f = length f.locals + 1 + length (whole f)
 

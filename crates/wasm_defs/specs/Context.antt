@@ -90,8 +90,8 @@ body_context c f gs = record c { locals = f.params ++ declared_types gs; results
 abbrev pub type_of_function : Context → ℕ → FuncType
 type_of_function c i = type_or_empty (function_type c i)
 
--- ---- which types are equal: an indirect call tells the types of functions apart by what they are, and not by their indices
--- (4.4.5.11), so one index stands for all types that are equal: the least
+-- ---- which types are equal: an indirect call compares the types of functions by what they are, and not by their indices
+-- (4.4.5.11), so one index represents all types that are equal: the least
 
 -- the least index of a type that equals this one; where there is none, the number of types
 abbrev pub first_like : List FuncType → FuncType → ℕ

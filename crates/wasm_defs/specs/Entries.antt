@@ -75,7 +75,7 @@ value_type = do
       else if b.1 == 0x7D || b.1 == 0x7C then refused Unsupported b.0
       else refused Malformed b.0
 
--- a value type whose offset its place tells
+-- a value type, without its offset
 unfoldable pub listed_type : Reader ValType
 listed_type = do
   ty ← value_type
@@ -228,7 +228,7 @@ sole there = do
   i ← u32
   if i.1 == 0 && nat_lt 0 there then done i else refused Invalid i.0
 
--- an index whose offset its place tells
+-- an index, without its offset
 unfoldable pub listed_index : ℕ → Reader ℕ
 listed_index most = do
   i ← index most

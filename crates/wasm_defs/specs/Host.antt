@@ -10,7 +10,7 @@ pub record HostCall : Type 0 where
   pub arguments : List Value
   pub memory : List ℕ
 
--- bytes that a host writes to the memory from a place on
+-- bytes that a host writes to the memory from an address on
 pub record Patch : Type 0 where
   pub place : ℕ
   pub bytes : List ℕ
@@ -46,7 +46,7 @@ abbrev pub are_of : Types → List Value → Bool
 are_of types values = same_types types (types_of_values values) && all_in_range values
 
 -- what a reply comes to: the values and the memory after it. A reply that isn't of the import's result types, or whose patch
--- isn't of bytes or has no place, is taken as a stop.
+-- isn't of bytes or doesn't fit, is taken as a stop.
 pub data Taken : Type 0 where
   Goes : (values : List Value) (memory : List ℕ) → Taken
   Stops : Taken

@@ -60,7 +60,7 @@ functions_of m = imports_from (context_of m.items) 0 m.items ++ map run.Declared
 
 -- ---- segments
 
--- elements that are written over others from a place on
+-- elements that are written over others from an index on
 abbrev pub Written : Type 0 → Type 0
 Written A = ℕ × List A
 
@@ -128,7 +128,7 @@ values_of [] = []
 values_of (Global ty mutable init ∷ xs) = record { ty = ty.1; number = unsigned ty.1 init.value.1 } ∷ values_of xs
 values_of (_ ∷ xs) = values_of xs
 
--- every segment has its place: else the module can't be instantiated
+-- every segment fits: else the module can't be instantiated
 abbrev pub is_linkable : Module → Bool
 is_linkable m = all_fit (rows_of m.items) (elements_of m.items) && all_fit (page * pages_of m.items) (data_of m.items)
 

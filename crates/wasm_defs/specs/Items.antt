@@ -1,5 +1,5 @@
 -- Which bytes are a module outside its bodies (WebAssembly Core 1.0, 5.5): encodings joined one after the other, with no
--- reader. What the items must keep to besides is said in Rules.
+-- reader. What else the items must keep to is said in Rules.
 use Rattle.std.specs.Prelude.{◌≡◌, ◌≢◌, ◌<◌, ◌≤◌, ℕ, ◌+◌, ℤ, pos, Bool, true, false, List, [], ◌∷◌, ◌++◌, length, Option, Some, None, is_some}
 use Rattle.std.specs.List.{All}
 use Rattle.std.specs.Str.{IsUtf8}
@@ -85,7 +85,7 @@ type_code I64 = 0x7E
 abbrev pub type_is : ℕ × ValType → Spelling
 type_is ty = byte_is ty.0 (type_code ty.1)
 
--- one whose offset its place tells
+-- one without its offset
 abbrev pub listed_type_is : ValType → Spelling
 listed_type_is ty = exactly (type_code ty ∷ [])
 
@@ -104,7 +104,7 @@ mutability_code true = 0x01
 
 -- ---- parts of entries
 
--- an index whose offset its place tells (5.5.1)
+-- an index without its offset (5.5.1)
 abbrev pub listed_index_is : ℕ → Spelling
 listed_index_is i = λ at bytes. Spells (pos i) 32 false bytes
 
@@ -241,7 +241,7 @@ AreInOrder last [] = Unit {0}
 AreInOrder last (s ∷ sections) = StandsBehind last s.payload × AreInOrder (last_with last s.payload) sections
 
 -- the bytes are a module of these sections: magic, version and the sections, with a body for each declared function; where there is a
--- data count, with as many data segments; and each body is told whether there is one
+-- data count, with as many data segments; and each body says whether there is one
 pub record Items (bytes : List ℕ) (sections : List Section) : Type 0 where
   pub spelled : (exactly magic then exactly version then each_is section_is sections) 0 bytes
   pub ordered : AreInOrder 0 sections

@@ -24,11 +24,11 @@ abbrev pub bytes_of : (count n : ℕ) → List ℕ
 bytes_of zero n = []
 bytes_of (suc count) n = n % 256 ∷ bytes_of count (n / 256)
 
--- so many bytes from a place on, if all are there
+-- so many bytes from an offset on, if all are there
 abbrev pub bytes_at : List ℕ → (place count : ℕ) → Option (List ℕ)
 bytes_at memory place count = if nat_le (place + count) (length memory) then Some (take count (drop place memory)) else None
 
--- bytes written over others from a place on, if all are there
+-- bytes written over others from an offset on, if all are there
 abbrev pub written_at : List ℕ → (place : ℕ) → List ℕ → Option (List ℕ)
 written_at memory place bytes =
     if nat_le (place + length bytes) (length memory) then Some (take place memory ++ (bytes ++ drop (place + length bytes) memory)) else None

@@ -11,7 +11,7 @@ use Rattle.wasm_defs.specs.Reductions.{run}
 use Rattle.wasm_defs.specs.Instances.{instance_of, store_of, start_of}
 
 -- how a run ends, with the memory and the globals after it; each global as the word that holds it. A trap of a module's run has its
--- place in the module; that of an image's has the one that the image tells, if it tells one.
+-- location in the module; that of an image's has the one that the image gives, if it gives one.
 pub data End : Type 0 where
   Returns : (values : List Value) (memory globals : List ℕ) → End
   Traps : (kind : TrapKind) (place : Option Place) (memory globals : List ℕ) → End

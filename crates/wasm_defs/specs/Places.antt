@@ -1,4 +1,4 @@
--- The places of a body: where they are reachable, and how many operands are there.
+-- The points of a body: whether they are reachable, and how many operands are there.
 use Rattle.std.specs.Prelude.{ℕ, ◌+◌, ◌-◌, List, [], ◌∷◌, length, max, Option, None, Some}
 use Rattle.wasm_defs.specs.declared.types.ValType.TheVariants.{I32}
 use Rattle.wasm_defs.specs.declared.token.BlockType.{BlockType}
@@ -29,14 +29,14 @@ or_empty (Some s) = s
 abbrev pub shape : Context → BlockType → Signature
 shape c type = or_empty (block_type c type)
 
--- the place after a block: it is reachable where the block is
+-- the point after a block: it is reachable where the block is
 abbrev pub after_block : Signature → Place → Place
 after_block s place = moved (length s.params) (length s.results) place
 
 abbrev pub after_if : Signature → Place → Place
 after_if s place = moved (length (I32 ∷ s.params)) (length s.results) place
 
--- the place at the end of a sequence that begins at a place
+-- the point at the end of a sequence that begins at a point
 abbrev pub end_of : Context → Seq → Place → Place
 end_of c Nothing place = place
 end_of c (Simple p rest) place = end_of c rest (after_rule (rule_of c p) place)
@@ -45,7 +45,7 @@ end_of c (Loop type body rest) place = end_of c rest (after_block (shape c type)
 end_of c (If type body rest) place = end_of c rest (after_if (shape c type) place)
 end_of c (IfElse type body other rest) place = end_of c rest (after_if (shape c type) place)
 
--- the places before a sequence's tokens, and then others
+-- the points before a sequence's tokens, and then others
 abbrev pub places : Context → Seq → Place → List Place → List Place
 places c Nothing place after = after
 places c (Simple p rest) place after = place ∷ places c rest (after_rule (rule_of c p) place) after
@@ -68,7 +68,7 @@ places c (IfElse type body other rest) place after =
     let first = moved 1 0 place in
     place ∷ places within body first (end_of within body first ∷ places within other first (end_of within other first ∷ places c rest (after_if s place) after))
 
--- the places before a body's tokens, its own `end` among them
+-- the points before a body's tokens, its own `end` among them
 abbrev pub places_of : Context → Seq → List Place
 places_of c tree =
     let within = inside c c.results in

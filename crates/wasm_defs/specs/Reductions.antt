@@ -4,7 +4,7 @@
 -- leads to are one together, and owe one more for each declared local. A branch or a return that carries several values, and the
 -- end of a function that does, owe one more for each of them. So does an instruction that writes many bytes, for each byte.
 --
--- A trap has its place in the module: the function and the offset of the instruction's first byte. Where the stack has no room, it is
+-- A trap has its location in the module: the function and the offset of the instruction's first byte. Where the stack has no room, it is
 -- the callee and the first byte of its body, or of the import.
 use Rattle.std.specs.Prelude.{ℕ, zero, suc, ◌+◌, List, [], ◌∷◌, ◌++◌, map, take, drop, reverse, length, Option, Some, None, nat_lt, if◌then◌else◌, slice_get, slice_index_or}
 use Rattle.wasm_defs.specs.declared.types.FuncType.{FuncType}

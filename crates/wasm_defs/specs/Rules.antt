@@ -1,4 +1,4 @@
--- What a module keeps to outside its bodies besides its grammar: validation (WebAssembly Core 1.0, 3.4), and the limits of
+-- What a module keeps to outside its bodies in addition to its grammar: validation (WebAssembly Core 1.0, 3.4), and the limits of
 -- this implementation.
 use Rattle.std.specs.Prelude.{◌≡◌, ◌<◌, ◌≤◌, ℕ, ◌+◌, ◌||◌, ◌==◌, false, List, [], ◌∷◌, length, Option, Some, None, is_some, if◌then◌else◌}
 use Rattle.std.specs.List.{All}

@@ -67,7 +67,7 @@ same_types (t ∷ ts) (u ∷ us) = same_type t u && same_types ts us
 abbrev pub same_function_types : FuncType → FuncType → Bool
 same_function_types f g = same_types f.params g.params && same_types f.results g.results
 
--- the test tells whether two lists are one
+-- the test says whether two lists are one
 abbrev pub TypesAreCompared : Type 0
 TypesAreCompared = (ts us : Types) → (same_types ts us ≡ true) ↔ (ts ≡ us)
 

@@ -1,4 +1,4 @@
-//! Places of a module, which say where a run trapped.
+//! Source locations in a module, which say where a run trapped.
 
 /// A function of a module and a byte of the module's.
 #[derive(Clone, Copy, Debug, PartialEq, Eq)]

@@ -1,4 +1,4 @@
--- As many data segments come as the data count says, where there is one, and each body is told whether there is one.
+-- As many data segments come as the data count says, where there is one, and each body says whether there is one.
 use Rattle.std.proofs.Common.{◌≡◌, ◌≢◌, ℕ, zero, suc, ◌+◌, ◌≤◌, ◌<◌, Bool, true, false, is_some, ◌&&◌, ltb, List, [], ◌∷◌, ◌++◌, length, Option, Some, None, refl, ap, sym, subst, ◌∙◌, arith, add-one, inl, inr}
 use Rattle.std.specs.List.{All}
 use Rattle.std.proofs.lemmas.Bool.{cases_Bool, cases_eq, ne_eqb, lt-ltb}
@@ -79,7 +79,7 @@ pub with_none : (count : Option ℕ) (xs : List Item) → data_count_of xs ≡ N
 with_none None xs e = e
 with_none (Some n) xs e = refl
 
--- bodies are told whether there is such a count
+-- bodies say whether there is such a count
 abbrev pub AreToldOf : Option ℕ → List Body → Type 0
 AreToldOf count bodies = All (λ b. b.counted ≡ is_some count) bodies
 

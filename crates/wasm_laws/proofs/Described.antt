@@ -85,7 +85,7 @@ module_found bytes fits =
     let between : Between nothing d = record { ready = later (beginning bytes) d found ready; low = omega (arith, found.at); far = found.end; uncounted = λ lt. refl } in
     whole_as (Rest nothing d) (Behind bytes) (sections nothing d) (λ parts rest. record { stop = d; found = found; rest = rest }) (up_to_found (length d.rest + 1) nothing d between))
 
--- as many data segments as the data count says, of which the bodies are told
+-- as many data segments as the data count says, and each body says whether there is one
 abbrev HasSegments : List Part → Type 0
 HasSegments parts = (agrees (data_count_of (items_of parts)) (segment_count_of (items_of parts)) ≡ true) × AreToldOf (data_count_of (items_of parts)) (bodies_of parts)
 

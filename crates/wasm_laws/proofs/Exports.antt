@@ -99,7 +99,7 @@ exports_are_there bytes =
     let items = items_of (module_read bytes).parts in
     kept_are_there (context_of items) (functions_are_typed bytes) 0 items (items_are_kept bytes) (omega arith)
 
--- the function that a name stands for
+-- the function of an exported name
 pub named_is_there : (c : Context) (functions : ℕ) (name : List ℕ) (exports : List (List ℕ × ℕ)) (index : ℕ) → AreThere c functions exports → named name exports ≡ Some index → IsThere c functions index
 named_is_there c functions name [] index h e = absurd cc
 named_is_there c functions name (x ∷ exports) index h e =

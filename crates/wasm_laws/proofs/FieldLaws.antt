@@ -151,7 +151,7 @@ marked_on c f (Got x d) q = q
 marked_on c f (Fault r) q = tt
 marked_on c f Wants q = tt
 
--- a field whose value is made another is a field at the same place
+-- a field whose value is made another is a field at the same offset
 pub mapped_field : {A B : Type 0} (p : Reader (ℕ × A)) (f : A → B) → Field p → Field (p >>= (λ x. done (x.0, f x.1)))
 mapped_field p f h = record {
   steady = λ marks. bind marks p _ (h.steady marks) (λ x. done_steady marks _);

@@ -78,7 +78,7 @@ late_segments last at bytes (x ∷ xs) s o late =
 -- ---- before and after a section
 
 -- these items and bodies may follow what was seen: there is a body for each declared function, unless the code section came; the
--- data segments are as many as the data count says, unless their section came; and bodies are told whether there is a data count
+-- data segments are as many as the data count says, unless their section came; and bodies say whether there is a data count
 pub record Matched (seen : Seen) (items : List Item) (bodies : List Body) : Type 0 where
   pub uncounted : seen.last < 11 → seen.counted ≡ false
   pub same : seen.last < 11 → seen.declared + declared_count items ≡ length bodies
@@ -184,8 +184,8 @@ follows_from seen p at content xs s b o m = record { known = omega arith; later 
 
 -- ---- what is in a section is read
 
--- data segments are as many as the data count says, and the code section's bodies are those of the declared functions, and are told
--- of the data count
+-- data segments are as many as the data count says, and the code section's bodies are those of the declared functions, and say
+-- whether there is a data count
 abbrev pub IsExpected : Seen → Payload → Type 0
 IsExpected seen (Vector id count items) = IsCounted id seen (length items)
 IsExpected seen (Bodies count end bodies) = (seen.counted ≡ false) × (length bodies ≡ seen.declared) × AreToldOf seen.data_count bodies

@@ -47,7 +47,7 @@ byte_one m n at f g b c s t e =
     let same : m.1 ≡ n.1 = cc in
     same_front m n f g b c (ap (λ (z : ℕ). (z, m.1)) (s.0 ∙ sym t.0) ∙ ap (λ (z : ℕ). (n.0, z)) same) (s.1 ∙ ap (λ (z : ℕ). z ∷ []) same ∙ sym t.1) e
 
--- a byte that stands for something
+-- a byte that encodes something
 coded_one : {A : Type 0} (code : A → ℕ) → ((x y : A) → code x ≡ code y → x ≡ y) → (m n : ℕ × A) (at : ℕ) (f g b c : List ℕ) → byte_is m.0 (code m.1) at f → byte_is n.0 (code n.1) at g → f ++ b ≡ g ++ c → Same m n f g b c
 coded_one {A} code one m n at f g b c s t e =
     let h = byte_one (m.0, code m.1) (n.0, code n.1) at f g b c s t e in
@@ -67,7 +67,7 @@ module _ (p q s t : Spelling) (at : ℕ) (f g b c : List ℕ) (j : Joined p q at
   fronts : j.front ++ (j.back ++ b) ≡ k.front ++ (k.back ++ c)
   fronts = sym (ap (λ (l : List ℕ). l ++ b) j.parts ∙ append_assoc j.front j.back b) ∙ e ∙ ap (λ (l : List ℕ). l ++ c) k.parts ∙ append_assoc k.front k.back c
 
-  -- both fronts are one, and then what follows them
+  -- both prefixes are one, and then what follows them
   joined_one : {X U : Type 0} (x y : X) (u v : U) → (j.front ++ (j.back ++ b) ≡ k.front ++ (k.back ++ c) → Same x y j.front k.front (j.back ++ b) (k.back ++ c)) → (x ≡ y → t (at + length j.front) k.back → j.back ++ b ≡ k.back ++ c → Same u v j.back k.back b c) → Same {A = X × U} (x, u) (y, v) f g b c
   joined_one {X} {U} x y u v first rest =
       let h = first fronts in
@@ -78,7 +78,7 @@ module _ (p q s t : Spelling) (at : ℕ) (f g b c : List ℕ) (j : Joined p q at
         back = l.back;
       }
 
--- the bytes that x stands for don't begin others that y stands for
+-- bytes that encode x don't begin others that encode y
 abbrev pub AreOne : {A : Type 0} → Spelling → Spelling → A → A → Type 0
 AreOne s t x y = (at : ℕ) (f g b c : List ℕ) → s at f → t at g → f ++ b ≡ g ++ c → Same x y f g b c
 
@@ -378,7 +378,7 @@ sections_one (x ∷ xs) (y ∷ ys) at f g s t e =
     let rest = sections_one xs ys (at + length s.front) s.back t.back s.second (subst (λ (z : List ℕ). each_is section_is ys (at + length z) t.back) (sym h.front) t.second) h.back in
     ap (λ (z : Section). z ∷ map (section_told false) xs) h.value ∙ ap (λ (z : List Section). section_told false y ∷ z) rest
 
--- ---- what bodies are told is the module's
+-- ---- what bodies say of the data count is the module's
 
 items_told : (xs : List Section) → items_in (map (section_told false) xs) ≡ items_in xs
 items_told [] = refl

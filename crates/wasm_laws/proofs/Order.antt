@@ -50,7 +50,7 @@ behind_lower : (low low' : ℕ) (o : Used) → low' ≤ low → behind_use low' 
 behind_lower low low' None le = le
 behind_lower low low' (Some u) le = omega arith
 
--- before a place, no earlier than which another part is
+-- before an offset, no earlier than which another part is
 pub use_before : (low last place : ℕ) (o : Used) → UseStands low last o → behind_use low o ≤ place → UseStands low place o
 use_before low last place None p le = le
 use_before low last place (Some u) p le = (p.0, omega arith)

@@ -1,4 +1,4 @@
--- Where errors follow a place.
+-- Where errors follow an offset.
 use Rattle.std.proofs.Common.{◌≡◌, ◌≤◌, ◌<◌, inl, inr, ℕ, suc, List, [], ◌∷◌, ◌++◌, Option, None, Some, ap, sym, ◌∙◌, arith}
 use Rattle.wasm_defs.specs.declared.fault.Refusal.{Refusal}
 use Rattle.wasm_defs.specs.declared.item.Item.{Item}

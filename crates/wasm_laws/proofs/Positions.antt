@@ -1,4 +1,4 @@
--- A section's id tells its position in the order, and the other way round.
+-- A section's id determines its position in the order, and the other way round.
 use Rattle.std.proofs.Common.{◌≡◌, ◌≢◌, ℕ, refl, ap, ◌∙◌, inl, inr}
 use Rattle.std.proofs.lemmas.Bool.{cases_eq, ne_eqb}
 use Rattle.wasm_defs.specs.Outside.{position_of, id_of}

@@ -188,7 +188,7 @@ module _ (next : Next) (sorts : Sorts next) where
       rw add-one (runs_sorted (λ x d. IsItem (IsOf 11) x) before 11 (code_entry seen c) _ (either_got (λ x d. IsItem (IsOf 11) x) seen.counted (body (is_some seen.data_count)) (listed (code seen)) c (λ e. absurd cc) (λ e. (listed_yields (IsOf 11) (code seen) (code_sort seen)).got c))
       (λ x d p. count_sorted seen d before x lt last p))
 
--- ---- the first byte of a section tells its position
+-- ---- the first byte of a section determines its position
 
 abbrev BeginsWith : ℕ → List ℕ → Type 0
 BeginsWith b [] = ⊥

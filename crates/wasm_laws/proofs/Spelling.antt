@@ -51,7 +51,7 @@ closed_at high last c (b ∷ rest) e h = stops_at c.at high last (record { offse
 pub missing : (low high last : ℕ) → Places low high last (malformed_at last)
 missing low high last = stops_at low high last (record { offset = last; kind = Malformed }) (inr refl)
 
--- where no end is near, and high is the place after the bytes
+-- where no end is near, and high is the offset after the bytes
 pub record IsOpen (high : ℕ) (c : Cursor) : Type 0 where
   pub far : length c.rest < room_of c
   pub high_is : high ≡ c.at + length c.rest

@@ -14,7 +14,7 @@ use Rattle.wasm_laws.proofs.Spelt.{cursor, Ready, Found, found_as, reads_last, S
 abbrev pub Always : {A : Type 0} → A → Type 0
 Always x = Unit {0}
 
--- ---- what is in front
+-- ---- what is found as a prefix
 
 pub found_front : (s : Spelling) (K : Type 0) (c : Cursor) (len : ℕ) → Ready c → len ≤ length (window c) → s c.at (take len (window c)) → K → Found s K c (past c len)
 found_front s K c len ready h spelled kept =

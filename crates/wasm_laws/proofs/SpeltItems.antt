@@ -219,7 +219,7 @@ passive_found seen form K c d ready one form_found =
 abbrev active : ℕ → Option (ℕ × ℕ) → Reader Item
 active form m = constant I32 >>= (λ place. counted_bytes >>= (λ bytes. done (Segment form m place bytes)))
 
--- what an active segment's form tells of its memory
+-- what an active segment's form says of its memory
 abbrev FormTells : Seen → ℕ × ℕ → Cursor → Option (ℕ × ℕ) → Cursor → Type 0
 FormTells seen form d None e = (form.1 ≡ 0) × (d ≡ e) × (0 < seen.memories)
 FormTells seen form d (Some i) e = (form.1 ≡ 2) × Found (u32_is i) (IsSole i seen.memories) d e

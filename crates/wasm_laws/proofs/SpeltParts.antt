@@ -45,7 +45,7 @@ sole_spelt there =
     (λ i e. let p = and_parts (eqb i.1 0) (ltb 0 there) e in (eqb-true i.1 0 p.0, ltb-true 0 there p.1))
     (λ i k h. and_from (eqb i.1 0) (ltb 0 there) (eq-eqb i.1 0 h.0) (lt-ltb 0 there h.1))
 
--- ---- fields whose offset their place tells
+-- ---- fields without their offsets
 
 pub placed_spelt : {A : Type 0} (S : A → List ℕ → Type 0) (K : A → Type 0) (p : Reader (ℕ × A)) → Spelt (λ x at bytes. (x.0 ≡ at) × S x.1 bytes) (λ x. K x.1) p → Spelt (λ x at bytes. S x bytes) K (p >>= (λ x. done x.1))
 placed_spelt {A} S K p h = record {

@@ -37,7 +37,7 @@ moves_of c d p = record {
 pub moves_then : (c d e : Cursor) → Moves c d → Moves d e → Moves c e
 moves_then c d e p q = record { by = p.by + q.by; rest = omega (arith, p.rest, q.rest); at = omega (arith, p.at, q.at); room = omega (arith, p.room, q.room) }
 
--- ---- places
+-- ---- offsets
 
 pub stands_later : (low : ℕ) (c d : Cursor) (r : Refusal) → Moves c d → Stands low d r → Stands low c r
 stands_later low c d r p q = record {

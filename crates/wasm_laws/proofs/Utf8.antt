@@ -270,7 +270,7 @@ four_are b d e f low high from to third_from third_to last_from last_to least mo
     few : (c : ℕ) → c ≡ (b - 240) * 262144 + (d - 128) * 4096 + (e - 128) * 64 + (f - 128) → c < 0x11_0000
     few c is = elim (cases_eq b 0xF4) [ inl at ↦ omega (arith, most at) | inr n ↦ omega arith ]
 
--- a character in front, and the rest of the text
+-- a character first, and the rest of the text
 front_then : (front rest text : List ℕ) → text ≡ front ++ rest → IsUtf8 front → IsUtf8 rest → IsUtf8 text
 front_then front rest text e p q = subst IsUtf8 (sym e) (IsUtf8-append front rest p q)
 

@@ -1,5 +1,5 @@
 -- What every reader of fields keeps to (WebAssembly Core 1.0, 5.2 to 5.5): more bytes after those that it read change
--- nothing but where more were owed; it takes bytes from the front, and none past the section's end; an error is at a byte
+-- nothing but where more were owed; it takes bytes from the beginning, and none past the section's end; an error is at a byte
 -- that is there, or where the bytes end; and nothing is owed where the whole section is there.
 use Rattle.std.specs.Prelude.{◌≡◌, ◌≤◌, ◌<◌, ℕ, ◌+◌, Bool, List, [], ◌∷◌, ◌++◌, length}
 use Rattle.wasm_defs.specs.declared.fault.Refusal.{Refusal}
@@ -39,7 +39,7 @@ pub record Advance (c d : Cursor) : Type 0 where
 abbrev pub Advances : {A : Type 0} → Cursor → Read A → Type 0
 Advances c = IfGot (λ x d. Advance c d)
 
--- ---- places of errors
+-- ---- offsets of errors
 
 -- an error that reading meets from the cursor on: no earlier than low, and no later than where the bytes that are there
 -- end; where they end before the section does, it is at one of them

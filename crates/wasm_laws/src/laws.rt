@@ -107,7 +107,7 @@ pub fn bodies_match_functions()
         length (bodies_of run.parts) ≡ declared_count (items_of run.parts) }
 {}
 
-/// As many data segments come as the data count says, where there is one, and each body is told whether there is one, since only then
+/// As many data segments come as the data count says, where there is one, and each body says whether there is one, since only then
 /// it may name them (Core 2.0, 5.5.16).
 pub fn segments_match_the_data_count()
     ensures told { (bytes : List ℕ) →

@@ -62,7 +62,7 @@ fn publish_all(board: &Board, seat: &mut BoardSeat)
     }
 }
 
-// Works the batches off, forwards or backwards: drains what lies behind a fault, and runs the rest. It counts those that it ran.
+// Works the batches off, forwards or backwards: drains what comes after an error, and runs the rest. It counts those that it ran.
 fn work_off(board: &Board, mut seat: BoardSeat, backwards: bool, faulty: u32) -> (BoardSeat, u32)
     requires table { seat.table ≡ board.now.table }
     requires room { 10000 ≤ board.now.functions }

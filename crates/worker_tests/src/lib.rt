@@ -1,5 +1,5 @@
-//! Tests of workers in threads, alone and in parallel: `cancel_drain`, `result_cells` and `batch_pool`. They stand in a crate of
-//! their own, since a check of tests proves again all that stands beside them.
+//! Tests of workers in threads, alone and in parallel: `cancel_drain`, `result_cells` and `batch_pool`. They are in a crate of
+//! their own, since a check of tests proves again all that is next to them.
 #![tactic(auto)]
 
 #[cfg(test)]

@@ -17,7 +17,7 @@ use wasm_defs::{FuncType, Item, Kind, Refusal, ValType, ValTypes};
 
 const BATCHES: u32 = 200;
 
-// A batch of one body, of function 0. Each fiftieth body from the fortieth on is faulty.
+// A batch of one body, of function 0. Each fiftieth body from the fortieth on has an error.
 fn batch(alloc: Global, number: u32) -> Result<Batch, AllocError> {
     let start = 100 + 10 * u64::from(number);
     let bytes: &[u8] = if number % 50 == 40 {
@@ -57,7 +57,7 @@ fn one_function(alloc: Global) -> Result<Context, AddStop> {
     Ok(builder.finish())
 }
 
-// Hands all batches over, and says whether a fault was seen then.
+// Hands all batches over, and says whether an error was seen then.
 fn hand_all(
     alloc: Global,
     board: &Board,
@@ -79,7 +79,7 @@ fn hand_all(
 #[derive(Drop)]
 struct HandsAll {
     alloc: Global,
-    // Whether a fault was seen once all batches were handed over.
+    // Whether an error was seen once all batches were handed over.
     saw: Result<bool, AllocError>,
 }
 
@@ -93,7 +93,7 @@ impl Reading for HandsAll {
     }
 }
 
-// What there is behind a run.
+// What there is after a run.
 #[derive(Drop)]
 struct Outcome {
     closed: Closed,
@@ -101,11 +101,11 @@ struct Outcome {
     rows: Vec<Option<Row>>,
     // How many batches were handed over.
     kept: usize,
-    // Whether a fault was seen once all were.
+    // Whether an error was seen once all were.
     saw: bool,
 }
 
-// What so many workers make of all batches, with the thread that settles behind them.
+// What so many workers make of all batches, with the thread that settles after them.
 fn run<R: Threads + Wait + Sync>(
     rt: &R,
     alloc: Global,

@@ -18,7 +18,7 @@ use std::thread;
 use std::thread::Threads;
 use wasm_defs::{FuncType, Item, ValType, ValTypes};
 
-// A batch of one body, whose size stands there and has one byte.
+// A batch of one body, whose size is given and has one byte.
 fn batch(
     alloc: Global,
     number: u32,
@@ -105,7 +105,7 @@ fn filled(alloc: Global, count: u32, first: &[u8], second: &[u8]) -> Result<Vec<
     }
 }
 
-// What a row has: its batch, its fault, and where the codes of its bodies stand.
+// What a row has: its batch, its error, and where the codes of its bodies are.
 fn push_row(alloc: Global, text: &mut String, row: &Row) -> Result<(), Fail> {
     let told = format!(in alloc; "batch {}, {:?}", row.batch.number, row.fault)?;
     text.push_str(told.as_str())?;

@@ -25,7 +25,7 @@ impl Random {
     }
 }
 
-/// What is open: whether it is a loop, or an `if` that had no `else` yet; whether it has a result; and how many operands lie below.
+/// What is open: whether it is a loop, or an `if` that had no `else` yet; whether it has a result; and how many operands are below.
 #[derive(Clone, Copy)]
 struct Open {
     is_loop: bool,
@@ -159,7 +159,7 @@ impl Maker {
         (label, carries_one)
     }
 
-    /// A branch that is always taken, and dead code behind it.
+    /// A branch that is always taken, and unreachable code after it.
     fn leave(&mut self) -> Result<(), AllocError> {
         let below = self.innermost().below;
         let (label, carries_one) = self.label();
@@ -203,7 +203,7 @@ impl Maker {
         self.push(Token::BrIf(label))
     }
 
-    /// An instruction on what lies above the innermost block's operands.
+    /// An instruction on what is above the innermost block's operands.
     fn compute(&mut self) -> Result<(), AllocError> {
         let above = self.height.saturating_sub(self.innermost().below);
         match self.random.below(5) {

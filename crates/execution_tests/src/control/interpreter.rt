@@ -1,4 +1,4 @@
-//! A plain interpreter of bodies by the reduction rules: operands, open labels, and the place of the next instruction.
+//! A plain interpreter of bodies by the reduction rules: operands, open labels, and the index of the next instruction.
 
 use crate::control::tokens::{Token, number_of};
 use std::alloc::{AllocError, Global};
@@ -11,7 +11,7 @@ pub enum End {
     Lost(&'static str),
 }
 
-/// An open label: how many values a branch to it carries, how many operands lie below, and where a branch goes on. A loop's label goes on
+/// An open label: how many values a branch to it carries, how many operands are below, and where a branch goes on. A loop's label goes on
 /// at the loop itself, which opens it again.
 #[derive(Clone, Copy)]
 struct Label {
@@ -35,7 +35,7 @@ enum Step {
     Ends(End),
 }
 
-/// The place behind the `end` of what is open at the place, or behind its `else` where that is asked for and comes first.
+/// The index after the `end` of what is open at an index, or after its `else` where that is asked for and comes first.
 fn place_behind(tokens: &[Token], from: usize, stops_at_else: bool) -> usize {
     let mut depth = 0usize;
     for place in from..tokens.len() {
@@ -65,7 +65,7 @@ impl Machine<'_> {
         }
     }
 
-    /// Opens a label, whose branches go on at a place.
+    /// Opens a label, whose branches go on at an index.
     fn open(&mut self, carries_one: bool, target: usize) -> Result<(), AllocError> {
         self.labels.push(Label {
             carries_one,
@@ -75,7 +75,7 @@ impl Machine<'_> {
         Ok(())
     }
 
-    /// A branch to a label, 0 being the innermost: its value is carried, what lies above the label's operands goes, and so do the labels
+    /// A branch to a label, 0 being the innermost: its value is carried, what is above the label's operands goes, and so do the labels
     /// inside, and the label itself.
     fn branch(&mut self, label: usize) -> Result<Option<()>, AllocError> {
         for _ in 0..label {
@@ -93,7 +93,7 @@ impl Machine<'_> {
         Ok(Some(()))
     }
 
-    /// Enters a branch of an `if` whose first instruction stands at `first`.
+    /// Enters a branch of an `if` whose first instruction is at `first`.
     fn choose(&mut self, has_result: bool, first: usize) -> Result<Option<()>, AllocError> {
         let Some(condition) = self.pop() else {
             return Ok(None);
@@ -110,7 +110,7 @@ impl Machine<'_> {
         Ok(Some(()))
     }
 
-    /// A structured instruction or a branch; the place is the next one's already.
+    /// A structured instruction or a branch; the index is the next one's already.
     fn control(&mut self, token: Token) -> Result<Option<()>, AllocError> {
         let place = self.next;
         match token {

@@ -5,7 +5,7 @@ use std::alloc::AllocError;
 /// An instruction, or a part of a structured one. Every value is an `i32`.
 #[derive(Clone, Copy)]
 pub enum Token {
-    /// The constant whose number these seven bits spell: from -64 to 63.
+    /// The constant whose number these seven bits encode: from -64 to 63.
     Const(u8),
     Get(u8),
     Set(u8),
@@ -28,7 +28,7 @@ pub enum Token {
     Return,
 }
 
-/// The number that the seven bits of a constant spell.
+/// The number that the seven bits of a constant encode.
 pub fn number_of(bits: u8) -> i32 {
     if bits < 64 {
         i32::from(bits)

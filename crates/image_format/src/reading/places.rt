@@ -1,4 +1,4 @@
-//! The places of traps, in the order of the text.
+//! The trap sites, in the order of the text.
 
 ghost use Rattle.std.specs.Prelude.{◌≡◌, []};
 ghost use Rattle.image_format.specs.Bounds.{bound_of};
@@ -52,7 +52,7 @@ fn place_at(words: usize, bound: u64, bytes: &[u8]) -> Result<(TrapPlace, &[u8])
     Ok((place, rest))
 }
 
-/// So many places, each after the ones before it.
+/// So many trap sites, each after the ones before it.
 fn place_items_at(
     alloc: Global,
     words: usize,
@@ -73,7 +73,7 @@ fn place_items_at(
     Ok((places, rest))
 }
 
-/// The places that an image of some version has, where its text has so many instruction words.
+/// The trap sites that an image of some version has, where its text has so many instruction words.
 #[tactic(auto, unfolding(crate::specs::Reading::places_at))]
 pub fn places_at(
     alloc: Global,

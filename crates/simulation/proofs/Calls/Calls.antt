@@ -71,7 +71,7 @@ module _ (text : List (Option Op)) (near : length text ≤ 2 ^ 26) (inst : Insta
     pub x : CalledAt (function_type at g) (types_of_values ops) m.running.sits.typed.0
     x = called_at (function_type at g) (types_of_values ops) m.running.sits.typed.0 m.running.sits.typed.1
 
-    -- to a function of some type, at its place
+    -- to a function of some type, at its index
     module _ (ty : FuncType) (ty_is : ty ≡ x.ty) (target : places.function g ≤ length text) where
       abbrev count : ℕ
       count = length ty.params

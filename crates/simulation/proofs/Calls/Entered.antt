@@ -134,7 +134,7 @@ module _ (text : List (Option Op)) (near : length text ≤ 2 ^ 26) (inst : Insta
       let peak_is = peak_here (under r.compiled.context r.os) f.code (length (awaited ++ types_of_values f.operands) + length (belows f.labels)) in
       omega (arith, length-append f.operands (belows f.labels), length-append awaited (types_of_values f.operands), types_length f.operands)
 
-  -- what leads to another place takes a step
+  -- what leads to another address takes a step
   takes_steps : (count : ℕ) (s t : State) (n : ℕ) → Reaches text count s t → t.pc ≡ s.pc + 4 * suc n → 0 < count
   takes_steps zero s t n x e =
       let spent : Spent s ≡ Spent t = x.by 0 in

@@ -115,7 +115,7 @@ module _ (text : List (Option Op)) (near : length text ≤ 2 ^ 26) (inst : Insta
       indirect_does k.around text s (k.begin + m.here) (used start.callers) h type (length (type_or_empty (slice_get at.types type)).params) v.number pages inst.table places.function (like_in inst)
       has_here m.at m.frame regions table.rows k.rows_are (omega arith) high word_is small near fit
 
-  -- ---- to a function of the type, at its place
+  -- ---- to a function of the type, at its address
 
   module _ (ty : FuncType) (ty_is : ty ≡ x.ty) where
     abbrev count : ℕ

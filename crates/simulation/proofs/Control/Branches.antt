@@ -1,4 +1,4 @@
--- A branch: values move down to the label's base, and a jump leads to the label's place. The induction is over the labels
+-- A branch: values move down to the label's base, and a jump leads to the label's word. The induction is over the labels
 -- that are passed.
 use Rattle.std.proofs.Common.{◌≡◌, ℕ, zero, suc, ◌+◌, ◌^◌, ◌≤◌, inl, List, [], ◌∷◌, ◌++◌, length, map, take, reverse, Option, Some, refl, sym, ap, ◌∙◌, subst, append_assoc, arith, ◌*◌}
 use Rattle.std.specs.Prelude.{slice_get}

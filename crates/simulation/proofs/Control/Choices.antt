@@ -22,7 +22,7 @@ use Rattle.sim_frames.proofs.Sizes.{code_size, over_size}
 use Rattle.simulation.proofs.Control.Blocks.{Pieces, ending_falls}
 
 module _ (text : List (Option Op)) (inst : Instance) (places : TextPlaces) {f : Func} (k : Compiled text inst places f) (os : List Open) where
-  -- a test leads on to the first sequence, which so many tokens are between and what follows, or to the second one at its place
+  -- a test leads on to the first sequence, which so many tokens are between and what follows, or to the second one at its index
   pub record Choice (s : Signature) (h : ℕ) (below : Types) (here : ℕ) (body other rest : Seq) (between : ℕ) (to : Types) (there : ℕ) : Type 0 where
     pub second : ℕ
     pub stop : ℕ

@@ -1,4 +1,4 @@
--- The front of a branch by an index: it leads to the jump of that index, or to the last one.
+-- The first part of a branch by an index: it leads to the jump of that index, or to the last one.
 use Rattle.std.proofs.Common.{◌≡◌, ℕ, zero, suc, ◌+◌, ◌-◌, ◌*◌, ◌/◌, ◌%◌, ◌^◌, ◌<◌, ◌≤◌, true, false, inl, inr, ⊎_elim, List, [], ◌∷◌, ◌++◌, length, Option, refl, sym, ap, ◌∙◌, subst, arith, mul_assoc, mul_comm, ap₂}
 use Rattle.std.specs.Prelude.{nat_lt, if◌then◌else◌}
 use Rattle.std.proofs.lemmas.Bool.{cond-true, cond-false, cases_lt, lt-ltb, le-ltb, eq-eqb}
@@ -234,7 +234,7 @@ module _ (code : List (Option Op)) (near : length code ≤ 2 ^ 26) (s : State) (
         },
       )
 
--- ---- the front
+-- ---- the first part
 
 module _ (code : List (Option Op)) (near : length code ≤ 2 ^ 26) (w : Around) (base there : ℕ) (locals : List Value) (s : State) (begin here h : ℕ) (at : s.pc ≡ place (begin + here)) (v : Value) (rest : List Value)
     (m : Matches w.layout base there s.bytes locals (v ∷ rest) s) (ty : v.ty ≡ I32) (h_is : h ≡ suc (length rest)) (high : h ≤ w.layout.greatest) (count : ℕ) (few : count < 2 ^ 26) where

@@ -43,7 +43,7 @@ pub record Halts (code : List (Option Op)) (store : Store) (cap : ℕ) (locals o
   pub gives : effect store locals cap p operands ≡ Traps kind
   pub steps : ℕ
   pub short : steps ≤ most_steps
-  -- after the word that asks for it, which is among the places of the instruction's traps
+  -- after the word that asks for it, which is among the indices of the instruction's traps
   pub behind : ℕ
   pub traps : TrapsAt code steps behind (trap_number kind) s
   pub word : ℕ

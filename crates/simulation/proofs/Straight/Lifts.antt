@@ -107,7 +107,7 @@ module _ (text : List (Option Op)) (near : length text ≤ 2 ^ 26) (inst : Insta
       subst (λ (h : ℕ). HasAt text (k.begin + m.here) (words k.around at labels h m.here p)) height
       (has_words text inst places k m.running.os p rest (length types + n) m.here types m.running.to m.running.there m.running.sits)
 
-  -- a trap of the instruction comes from its place
+  -- a trap of the instruction comes from its source location
   pub told_now : (word : ℕ) → IsIn word (trap_places p) → places.trap (m.running.compiled.begin + (m.here + word)) ≡ Some (place_of c.frame (Simple p rest))
   told_now word among =
       trap_told text inst places k m.running.os p rest (length types + n) m.here types m.running.to m.running.there m.running.sits c.frame.labels m.running.fit word among

@@ -48,7 +48,7 @@ typed_word x v t e h = h.is ∙ ap (λ (u : ValType). word u v.number) e
 pub typed_range : (x : ℕ) (v : Value) (t : ValType) → v.ty ≡ t → Holds x v → v.number < modulus t
 typed_range x v t e h = subst (λ (u : ValType). v.number < modulus u) e h.range
 
--- ---- the traps of divisions are among their places
+-- ---- the traps of divisions are among their trap sites
 
 zero_among : (op : BinaryOp) (t : ValType) (a b : ℕ) → binary op t a b ≡ DividesByZero → IsIn 9 (trap_places (Operate (Binary t op)))
 zero_among DivS t a b e = inl refl

@@ -6,7 +6,7 @@ use Rattle.control_emit.specs.Pending.{jump_at, chain, fewer, IsBefore, AreLinke
 use Rattle.control_emit.proofs.Chains.{chain-step, chain-end}
 use Rattle.control_emit.proofs.labels.jump_before.Goals as goal
 
--- no place is known
+-- no index is known
 none : (o : Option ℕ) → is_some o ≡ false → o ≡ None
 none None e = refl
 none (Some n) e = absurd (true≢false e)

@@ -4,7 +4,7 @@ use Rattle.image_format.specs.declared.image.TrapPlace.{TrapPlace}
 use Rattle.image_format.proofs.Told.{searched}
 use Rattle.image_format.proofs.places.search.Goals as goal
 
--- the closure gives a place's offset
+-- the closure gives a trap site's offset
 pub returns : goal.returns
 returns c =
     let facts = c.binary_search_by_key.ensures in
