@@ -8,4 +8,5 @@ pub mod CacheLaws
 pub mod TransitionLaws
 pub mod TurnLaws
 pub mod LoopLaws
+pub mod WholeTurns
 pub mod ControlLaws
