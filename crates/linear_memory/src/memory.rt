@@ -1,7 +1,7 @@
 //! A linear memory whose bytes are stored as far as they were touched.
-ghost use Rattle.std.specs.Prelude.{◌≡◌, ◌+◌, ◌≤◌, ◌<◌, ◌^◌, IfOk, length, take, if◌then◌else◌};
+ghost use Rattle.std.specs.Prelude.{◌≡◌, ◌+◌, ◌≤◌, ◌<◌, ◌^◌, IfOk, Some, length, take, if◌then◌else◌};
 ghost use Rattle.std.specs.Borrow.{sem};
-ghost use Rattle.std.specs.Bool.{OnFalse};
+ghost use Rattle.std.specs.Bool.{OnTrue, OnFalse};
 ghost use Rattle.std.specs.Vec.{vec_capacity};
 ghost use Rattle.rv_isa.specs.Steps.{load_from, store_to};
 ghost use Rattle.rv_isa.specs.Values.{load_width, store_width};
@@ -87,6 +87,35 @@ impl LinearMemory {
                 Err(_) => unreachable!(),
             }
         }
+    }
+
+    /// Whether so many bytes from an offset on are stored.
+    #[inline(always)]
+    pub fn is_backed(&self, at: usize, count: usize) -> bool
+        requires at { at ≤ 2 ^ 28 }
+        requires count { count ≤ 2 ^ 28 }
+        ensures { OnTrue result (at + count ≤ self.now.backed) }
+    {
+        at + count <= self.stored.len()
+    }
+
+    /// What a load gives its register whose bytes are all stored.
+    #[inline(always)]
+    pub fn load_backed(&self, op: LoadOp, at: usize) -> u64
+        requires { at + load_width op ≤ self.now.backed }
+        ensures { load_from op at self.now.bytes ≡ Some result }
+    {
+        load_value(op, &self.stored, at)
+    }
+
+    /// Stores a value over bytes that are all stored.
+    #[inline(always)]
+    pub fn store_backed(&mut self, op: StoreOp, at: usize, value: u64)
+        requires { at + store_width op ≤ self.old.backed }
+        ensures row { store_to op at value self.old.bytes ≡ Some self.new.bytes }
+        ensures backed { self.new.backed ≡ self.old.backed }
+    {
+        store_value(&mut self.stored, op, at, value);
     }
 
     /// What a load gives its register, if its bytes are there.

@@ -1,10 +1,8 @@
 pub mod RegisterLaws
-pub mod FetchLaws
 pub mod WindowLaws
 pub mod Underway
 pub mod SequenceLaws
 pub mod ConstantLaws
-pub mod CacheLaws
 pub mod TransitionLaws
 pub mod TurnLaws
 pub mod LoopLaws

@@ -1,13 +1,13 @@
 pub mod Contents
 pub mod Flows
-pub mod Instructions
+pub use Rattle.decode_cache.specs.Instructions
 pub mod Outcomes
 pub mod Lending
 pub use Rattle.linear_memory.specs.Linear
 pub use Rattle.linear_memory.specs.LinearLending
 pub mod Sequences
-pub mod FusedWords
-pub mod Caching
+pub use Rattle.decode_cache.specs.FusedWords
+pub use Rattle.decode_cache.specs.Caching
 pub mod Machines
 pub mod Transitions
 pub use Rattle.rv_isa.specs.Words

@@ -6,22 +6,13 @@
 //! steps at once, as far as no one of them faults, and what it does is what the single steps do.
 #![tactic(auto)]
 
+mod advance;
 mod arithmetic;
-mod cache;
 mod control;
 mod dispatch;
 mod execution;
-mod finding;
-mod finding_control;
-mod finding_loops;
-mod finding_values;
-mod fused;
-mod immediate;
-mod instruction;
 mod loops;
 mod machine;
-mod matching;
-mod matching_more;
 mod outcome;
 mod pairs;
 mod pieces;
