@@ -4,9 +4,9 @@ use Rattle.std.specs.Prelude.{slice_get}
 use Rattle.std.proofs.lemmas.Bool.{and_parts, eqb-true}
 use Rattle.wasm_defs.specs.declared.operation.Operation.{Operation}
 use Rattle.wasm_defs.specs.declared.operation.LoadOp.{LoadOp}
-use Rattle.wasm_defs.specs.declared.operation.LoadOp.TheVariants.{I32Load, I64Load, I32Load8S, I32Load8U, I32Load16S, I32Load16U, I64Load8S, I64Load8U, I64Load16S, I64Load16U, I64Load32S, I64Load32U}
+use Rattle.wasm_defs.specs.declared.operation.LoadOp.TheVariants.{I32Load}
 use Rattle.wasm_defs.specs.declared.operation.StoreOp.{StoreOp}
-use Rattle.wasm_defs.specs.declared.operation.StoreOp.TheVariants.{I32Store, I64Store, I32Store8, I32Store16, I64Store8, I64Store16, I64Store32}
+use Rattle.wasm_defs.specs.declared.operation.StoreOp.TheVariants.{I32Store}
 use Rattle.wasm_defs.specs.declared.operation.Access.{Access}
 use Rattle.wasm_defs.specs.declared.operation.Access.TheVariants.{Load, Store}
 use Rattle.wasm_defs.specs.Opcodes.{operations, accesses}
@@ -47,26 +47,11 @@ access_code (Store op) = store_code op
 
 pub load_row : (op : LoadOp) → slice_get accesses (load_code op - 0x28) ≡ Some (Some (Load op))
 load_row I32Load = refl
-load_row I64Load = refl
-load_row I32Load8S = refl
-load_row I32Load8U = refl
-load_row I32Load16S = refl
-load_row I32Load16U = refl
-load_row I64Load8S = refl
-load_row I64Load8U = refl
-load_row I64Load16S = refl
-load_row I64Load16U = refl
-load_row I64Load32S = refl
-load_row I64Load32U = refl
+load_row op = refl
 
 pub store_row : (op : StoreOp) → slice_get accesses (store_code op - 0x28) ≡ Some (Some (Store op))
 store_row I32Store = refl
-store_row I64Store = refl
-store_row I32Store8 = refl
-store_row I32Store16 = refl
-store_row I64Store8 = refl
-store_row I64Store16 = refl
-store_row I64Store32 = refl
+store_row op = refl
 
 accesses_are_rows : are_rows access_code 0x28 accesses ≡ true
 accesses_are_rows = refl

@@ -5,7 +5,7 @@ use Rattle.wasm_defs.proofs.NumberLaws.{AreBytes}
 use Rattle.wasm_defs.specs.declared.fault.Kind.TheVariants.{Limit}
 use Rattle.wasm_defs.specs.declared.token.Plain.{Plain}
 use Rattle.wasm_defs.specs.declared.token.BulkOp.TheVariants.{Fill, Copy, Init}
-use Rattle.wasm_defs.specs.declared.token.Plain.TheVariants.{Unreachable, Nop, Br, BrIf, BrTable, Return, Call, CallIndirect, Discard, Select, LocalGet, LocalSet, LocalTee, GlobalGet, GlobalSet, Load, Store, MemorySize, MemoryGrow, Bulk, DataDrop, Const, Operate}
+use Rattle.wasm_defs.specs.declared.token.Plain.TheVariants.{Unreachable, Nop, Return, Discard, Select, Bulk, DataDrop, Operate}
 use Rattle.wasm_defs.specs.declared.token.Token.{Token}
 use Rattle.wasm_defs.specs.declared.token.Token.TheVariants as token
 use Rattle.wasm_defs.specs.Limits.{max_locals}
@@ -58,29 +58,15 @@ bytes_behind_one j = omega (arith, ap length j.parts, ap length j.first, length-
 plain_some : (counted : Bool) (p : Plain) (at : ℕ) (bytes : List ℕ) → plain_is counted p at bytes → 1 ≤ length bytes
 plain_some counted Unreachable at bytes s = one_byte s
 plain_some counted Nop at bytes s = one_byte s
-plain_some counted (Br l) at bytes s = bytes_behind_one s
-plain_some counted (BrIf l) at bytes s = bytes_behind_one s
-plain_some counted (BrTable labels last) at bytes s = bytes_behind_one s
 plain_some counted Return at bytes s = one_byte s
-plain_some counted (Call x) at bytes s = bytes_behind_one s
-plain_some counted (CallIndirect ty table) at bytes s = bytes_behind_one s
 plain_some counted Discard at bytes s = one_byte s
 plain_some counted Select at bytes s = one_byte s
-plain_some counted (LocalGet x) at bytes s = bytes_behind_one s
-plain_some counted (LocalSet x) at bytes s = bytes_behind_one s
-plain_some counted (LocalTee x) at bytes s = bytes_behind_one s
-plain_some counted (GlobalGet x) at bytes s = bytes_behind_one s
-plain_some counted (GlobalSet x) at bytes s = bytes_behind_one s
-plain_some counted (Load op m) at bytes s = bytes_behind_one s
-plain_some counted (Store op m) at bytes s = bytes_behind_one s
-plain_some counted MemorySize at bytes s = bytes_behind_one s
-plain_some counted MemoryGrow at bytes s = bytes_behind_one s
+plain_some counted (Operate op) at bytes s = one_byte s
 plain_some counted (Bulk Fill) at bytes s = bytes_behind_one s
 plain_some counted (Bulk Copy) at bytes s = bytes_behind_one s
 plain_some counted (Bulk (Init x)) at bytes s = bytes_behind_one s.1
 plain_some counted (DataDrop x) at bytes s = bytes_behind_one s.1
-plain_some counted (Const ty n) at bytes s = bytes_behind_one s
-plain_some counted (Operate op) at bytes s = one_byte s
+plain_some counted p at bytes s = bytes_behind_one s
 
 pub token_some : (counted : Bool) (t : Token) (at : ℕ) (bytes : List ℕ) → instruction_is counted t at bytes → 1 ≤ length bytes
 token_some counted (token.Plain p) at bytes s = plain_some counted p at bytes s

@@ -7,9 +7,9 @@ use Rattle.wasm_defs.specs.declared.types.ValType.{ValType}
 use Rattle.wasm_defs.specs.declared.types.ValType.TheVariants.{I32, I64}
 use Rattle.wasm_defs.specs.declared.operation.Operation.{Operation}
 use Rattle.wasm_defs.specs.declared.operation.LoadOp.{LoadOp}
-use Rattle.wasm_defs.specs.declared.operation.LoadOp.TheVariants.{I32Load, I64Load, I32Load8S, I32Load8U, I32Load16S, I32Load16U, I64Load8S, I64Load8U, I64Load16S, I64Load16U, I64Load32S, I64Load32U}
+use Rattle.wasm_defs.specs.declared.operation.LoadOp.TheVariants.{I32Load}
 use Rattle.wasm_defs.specs.declared.operation.StoreOp.{StoreOp}
-use Rattle.wasm_defs.specs.declared.operation.StoreOp.TheVariants.{I32Store, I64Store, I32Store8, I32Store16, I64Store8, I64Store16, I64Store32}
+use Rattle.wasm_defs.specs.declared.operation.StoreOp.TheVariants.{I32Store}
 use Rattle.wasm_defs.specs.declared.operation.Access.{Access}
 use Rattle.wasm_defs.specs.declared.operation.Access.TheVariants as access
 use Rattle.wasm_defs.specs.declared.token.BlockType.{BlockType}
@@ -377,27 +377,12 @@ constant_read ty n = reads_only (number true (bits_of ty)) _ n _ (signed_is ty n
 loads : (counted : Bool) (op : LoadOp) (o : ℕ) → instruction counted o (load_code op) ≡ with_mem_arg (access.Load op)
 unfolding instruction memory
 loads counted I32Load o = refl
-loads counted I64Load o = refl
-loads counted I32Load8S o = refl
-loads counted I32Load8U o = refl
-loads counted I32Load16S o = refl
-loads counted I32Load16U o = refl
-loads counted I64Load8S o = refl
-loads counted I64Load8U o = refl
-loads counted I64Load16S o = refl
-loads counted I64Load16U o = refl
-loads counted I64Load32S o = refl
-loads counted I64Load32U o = refl
+loads counted op o = refl
 
 stores : (counted : Bool) (op : StoreOp) (o : ℕ) → instruction counted o (store_code op) ≡ with_mem_arg (access.Store op)
 unfolding instruction memory
 stores counted I32Store o = refl
-stores counted I64Store o = refl
-stores counted I32Store8 o = refl
-stores counted I32Store16 o = refl
-stores counted I64Store8 o = refl
-stores counted I64Store16 o = refl
-stores counted I64Store32 o = refl
+stores counted op o = refl
 
 not_true : (b : Bool) → not b ≡ true → b ≡ false
 not_true false e = refl

@@ -1,27 +1,17 @@
 -- The traps among the instruction words of each instruction are those of the table.
-use Rattle.std.proofs.Common.{◌≡◌, ℕ, zero, suc, ◌+◌, ◌-◌, Bool, true, false, List, [], ◌∷◌, ◌++◌, map, length, refl, sym, ap, ◌∙◌}
+use Rattle.std.proofs.Common.{◌≡◌, ℕ, zero, suc, ◌+◌, ◌-◌, Bool, true, false, List, [], ◌∷◌, ◌++◌, map, length, refl}
 use Rattle.std.specs.Prelude.{◌&&◌, not, nat_le, if◌then◌else◌}
 use Rattle.rv_isa.specs.declared.operations.Op.{Op}
-use Rattle.rv_isa.specs.declared.operations.Op.TheVariants.{Ecall}
 use Rattle.wasm_defs.specs.declared.types.ValType.{ValType}
 use Rattle.wasm_defs.specs.declared.types.ValType.TheVariants.{I32, I64}
 use Rattle.wasm_defs.specs.declared.operation.Operation.{Operation}
-use Rattle.wasm_defs.specs.declared.operation.Operation.TheVariants.{Unary, Test, Binary, Compare, Convert, Extend}
-use Rattle.wasm_defs.specs.declared.operation.UnaryOp.{UnaryOp}
-use Rattle.wasm_defs.specs.declared.operation.UnaryOp.TheVariants.{Clz, Ctz, Popcnt}
-use Rattle.wasm_defs.specs.declared.operation.BinaryOp.{BinaryOp}
-use Rattle.wasm_defs.specs.declared.operation.BinaryOp.TheVariants as binary
-use Rattle.wasm_defs.specs.declared.operation.CompareOp.{CompareOp}
-use Rattle.wasm_defs.specs.declared.operation.CompareOp.TheVariants as compare
-use Rattle.wasm_defs.specs.declared.operation.ConvertOp.TheVariants.{Wrap, ExtendS, ExtendU}
-use Rattle.wasm_defs.specs.declared.operation.ExtendOp.TheVariants.{I32Extend8S, I32Extend16S, I64Extend8S, I64Extend16S, I64Extend32S}
 use Rattle.wasm_defs.specs.declared.token.BulkOp.TheVariants.{Fill, Copy, Init}
 use Rattle.wasm_defs.specs.declared.token.Plain.{Plain}
-use Rattle.wasm_defs.specs.declared.token.Plain.TheVariants.{Unreachable, Nop, Br, BrIf, BrTable, Return, Call, CallIndirect, Discard, Select, LocalGet, LocalSet, LocalTee, GlobalGet, GlobalSet, Load, Store, MemorySize, MemoryGrow, Bulk, DataDrop, Const, Operate}
+use Rattle.wasm_defs.specs.declared.token.Plain.TheVariants.{Unreachable, Br, BrIf, BrTable, Return, Bulk, Const, Operate}
 use Rattle.wasm_defs.specs.Typing.{Context}
 use Rattle.wasm_defs.specs.Values.{unsigned}
-use Rattle.frame_layout.specs.Macros.{x0, t0, t1, distance, far}
-use Rattle.frame_layout.specs.Templates.{Label, Around, load_operand, move_words, jump_words, unless_words, jump_if_words, jumps, scale_words, table_front, jump_table_words, label_at, last_label, operate_words, const_words, words}
+use Rattle.frame_layout.specs.Macros.{t0, distance, far}
+use Rattle.frame_layout.specs.Templates.{Label, Around, load_operand, move_words, jump_words, unless_words, jump_if_words, jumps, table_front, jump_table_words, label_at, last_label, operate_words, const_words, words}
 use Rattle.frame_layout.specs.Traps.{is_number, is_call, found, traps_in, trap_places, operation_places}
 use Rattle.frame_layout.specs.Laws.{TrapsLaw}
 use Rattle.wasm_defs.proofs.EachOperation.{each_same}

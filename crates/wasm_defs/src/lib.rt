@@ -27,8 +27,8 @@ pub use limits::{
 };
 pub use lists::{Bytes, Indices, Labels, Name, Sequence, ValTypes};
 pub use operation::{
-    Access, BinaryOp, CompareOp, ConvertOp, ExtendOp, LoadOp, OPERATIONS, Operation, StoreOp,
-    UnaryOp,
+    ACCESSES, Access, BinaryOp, CompareOp, ConvertOp, ExtendOp, LoadOp, OPERATIONS, Operation,
+    StoreOp, UnaryOp,
 };
 pub use place::Place;
 pub use text::Inside;

@@ -248,7 +248,7 @@ pub const OPERATIONS: [Option<Operation>; 128] = [
 ];
 
 /// The loads and stores by their opcodes, from 0x28 to 0x3E (Core 5.4.4). Those of floats are left out.
-pub(crate) const ACCESSES: [Option<Access>; 23] = [
+pub const ACCESSES: [Option<Access>; 23] = [
     Some(Access::Load(LoadOp::I32Load)),
     Some(Access::Load(LoadOp::I64Load)),
     None,

@@ -3,15 +3,14 @@ use Rattle.std.proofs.Common.{Bool, ℕ, zero, suc, ◌+◌, ◌-◌, eqb, nat_l
 use Rattle.std.specs.Prelude.{slice_get, if◌then◌else◌}
 use Rattle.std.proofs.lemmas.Bool.{cases_Bool}
 use Rattle.wasm_defs.specs.declared.fault.Kind.TheVariants.{Unsupported}
-use Rattle.wasm_defs.specs.declared.operation.Access.{Access}
 use Rattle.wasm_defs.specs.declared.operation.Operation.{Operation}
-use Rattle.wasm_defs.specs.declared.token.Plain.TheVariants.{LocalGet, LocalSet, LocalTee, Operate, Unreachable, Nop, Br, BrIf, Return, Call, Discard, Select, GlobalGet, GlobalSet, MemorySize, MemoryGrow}
+use Rattle.wasm_defs.specs.declared.token.Plain.TheVariants.{LocalGet, LocalSet, LocalTee, Operate, Unreachable, Nop, Br, BrIf, Return, Call, Discard, Select, GlobalGet, GlobalSet}
 use Rattle.wasm_defs.specs.declared.token.Token.{Token}
 use Rattle.wasm_defs.specs.declared.token.Token.TheVariants as token
 use Rattle.wasm_defs.specs.declared.types.ValType.TheVariants.{I32, I64}
-use Rattle.wasm_defs.specs.Opcodes.{operations, accesses}
+use Rattle.wasm_defs.specs.Opcodes.{operations}
 use Rattle.wasm_defs.specs.Fields.{Cursor, Read, Got, Fault, Wants, byte, Reader, refused}
-use Rattle.wasm_defs.specs.Bodies.{Group, local_groups, with_index, constant, control, variable, prefixed, past_table, operated_at, numeric, instruction, depth_after, Spelled, closed, after_token, goes_on, spelled_from, body_cursor, last_of, read_code, body_read, with_type, branch_table, indirect, with_zero, with_mem_arg, memory, accessed_at}
+use Rattle.wasm_defs.specs.Bodies.{Group, local_groups, with_index, constant, control, variable, prefixed, past_table, operated_at, numeric, instruction, depth_after, Spelled, closed, after_token, goes_on, spelled_from, body_cursor, last_of, read_code, body_read, with_type, branch_table, indirect, memory}
 use Rattle.wasm_laws.proofs.Steady.{IfGot, Advance, Advances, here_in}
 use Rattle.wasm_laws.proofs.Windows.{byte_field}
 use Rattle.wasm_laws.proofs.BodyLaws.{local_groups_steady, instruction_steady}
@@ -40,9 +39,7 @@ pub record Spells (counted : Bool) (P : Token → Cursor → Type 0) (d : Cursor
   pub tees : IfGot P (with_index LocalTee d)
   pub global_gets : IfGot P (with_index GlobalGet d)
   pub global_sets : IfGot P (with_index GlobalSet d)
-  pub accesses_at : (op : Access) → IfGot P (with_mem_arg op d)
-  pub sizes : IfGot P (with_zero MemorySize d)
-  pub grows : IfGot P (with_zero MemoryGrow d)
+  pub memories : (at b : ℕ) → IfGot P (memory at b d)
   pub prefixes : (at : ℕ) → IfGot P (prefixed counted at d)
   pub narrow : IfGot P (constant I32 d)
   pub wide : IfGot P (constant I64 d)
@@ -67,15 +64,6 @@ module _ (counted : Bool) (P : Token → Cursor → Type 0) (at b : ℕ) (d : Cu
   of_variable : IfGot P (variable at b d)
   unfolding variable
   of_variable = or_else 0x20 _ _ s.gets (or_else 0x21 _ _ s.sets (or_else 0x22 _ _ s.tees (or_else 0x23 _ _ s.global_gets (or_else 0x24 _ _ s.global_sets tt))))
-
-  of_access : (o : Option (Option Access)) → IfGot P (accessed_at at o d)
-  of_access None = tt
-  of_access (Some None) = tt
-  of_access (Some (Some op)) = s.accesses_at op
-
-  of_memory : IfGot P (memory at b d)
-  unfolding memory
-  of_memory = or_else 0x3F _ _ s.sizes (or_else 0x40 _ _ s.grows (of_access (slice_get accesses (b - 0x28))))
 
   past_numbers : IfGot P (past_table counted at b d)
   past_numbers =
@@ -108,7 +96,7 @@ module _ (counted : Bool) (P : Token → Cursor → Type 0) (at b : ℕ) (d : Cu
         | inr ge ↦ rw ge (elim (cases_Bool (nat_lt b 0x28)) [
           | inl lt ↦ rw lt of_variable
           | inr ge' ↦ rw ge' (elim (cases_Bool (nat_lt b 0x41)) [
-            | inl lt ↦ rw lt of_memory
+            | inl lt ↦ rw lt (s.memories at b)
             | inr more ↦ rw more of_numbers
           ])
         ])

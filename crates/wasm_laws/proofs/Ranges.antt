@@ -1,6 +1,6 @@
 -- The immediates of code are in range.
-use Rattle.std.proofs.Common.{Bool, ◌≡◌, ℕ, ◌+◌, ◌-◌, ◌*◌, ◌^◌, ◌<◌, ◌≤◌, ◌||◌, eqb, nat_lt, inl, inr, true, false, List, [], ◌∷◌, sym, subst, ap, ◌∙◌, arith, ℤ, pos, zero, suc}
-use Rattle.std.specs.Prelude.{negsuc, neg_ℤ, ◌≤ℤ◌, ◌<ℤ◌, FitsSigned}
+use Rattle.std.proofs.Common.{Bool, ◌≡◌, ℕ, ◌+◌, ◌-◌, ◌*◌, ◌^◌, ◌<◌, ◌≤◌, ◌||◌, eqb, nat_lt, inl, inr, true, false, List, [], ◌∷◌, Option, Some, None, sym, subst, ap, ◌∙◌, arith, ℤ, pos, zero, suc}
+use Rattle.std.specs.Prelude.{slice_get, negsuc, neg_ℤ, ◌≤ℤ◌, ◌<ℤ◌, FitsSigned}
 use Rattle.std.specs.Int.{w32, w64}
 use Rattle.std.proofs.lemmas.Bool.{cases_lt, lt-ltb, le-ltb}
 use Rattle.std.proofs.lemmas.Int.{ints}
@@ -9,7 +9,8 @@ use Rattle.wasm_defs.proofs.NumberLaws.{AreBytes, reading_small}
 use Rattle.wasm_defs.specs.Numbers.{Reading, Number, CutOff, Bad, last_byte, after_byte, number_at, IsSmall}
 use Rattle.wasm_defs.specs.Faults.{tokens_of}
 use Rattle.wasm_defs.specs.Fields.{Cursor, nat_of, window, room_of, from_reading, number, here, u32, vector, repeated, Read, Got, Fault, Wants}
-use Rattle.wasm_defs.specs.Bodies.{with_index, constant, instruction, body_read, type_by, block_type, with_type, branch_table, label, indirect, with_zero, copying, by_number, prefixed, with_mem_arg, mem_arg, zero_byte, initializing}
+use Rattle.wasm_defs.specs.Bodies.{with_index, constant, instruction, body_read, type_by, block_type, with_type, branch_table, label, indirect, with_zero, copying, by_number, prefixed, with_mem_arg, mem_arg, zero_byte, initializing, memory, accessed_at}
+use Rattle.wasm_defs.specs.Opcodes.{accesses}
 use Rattle.wasm_defs.specs.Trees.{Seq, Nothing, Simple, Block, Loop, If, IfElse, spelled, Tree}
 use Rattle.wasm_defs.specs.declared.token.Plain.{Plain}
 use Rattle.wasm_defs.specs.declared.token.BulkOp.TheVariants.{Fill}
@@ -223,6 +224,17 @@ unfolding with_mem_arg
 access_in_range (access.Load op) d fits = then_got (λ m e. (m.align < 2 ^ 32) × (m.offset < 2 ^ 32)) InRange (mem_arg d) _ (mem_arg_got d fits) (λ m e h. h)
 access_in_range (access.Store op) d fits = then_got (λ m e. (m.align < 2 ^ 32) × (m.offset < 2 ^ 32)) InRange (mem_arg d) _ (mem_arg_got d fits) (λ m e h. h)
 
+accessed_in_range : (at : ℕ) (row : Option (Option Access)) (d : Cursor) → HasBytes d → IfGot InRange (accessed_at at row d)
+accessed_in_range at None d fits = tt
+accessed_in_range at (Some None) d fits = tt
+accessed_in_range at (Some (Some op)) d fits = access_in_range op d fits
+
+memory_in_range : (at b : ℕ) (d : Cursor) → HasBytes d → IfGot InRange (memory at b d)
+unfolding memory
+memory_in_range at b d fits =
+    either_got _ (eqb b 0x3F) _ _ d (λ is. zero_in_range MemorySize d tt) (λ no.
+    either_got _ (eqb b 0x40) _ _ d (λ is. zero_in_range MemoryGrow d tt) (λ no. accessed_in_range at (slice_get accesses (b - 0x28)) d fits))
+
 initializing_in_range : (d : Cursor) → HasBytes d → IfGot InRange (initializing d)
 unfolding initializing
 initializing_in_range d fits =
@@ -267,9 +279,7 @@ all_in_range counted d fits = record {
   tees = index_in_range LocalTee d fits (λ i lt. lt);
   global_gets = index_in_range GlobalGet d fits (λ i lt. lt);
   global_sets = index_in_range GlobalSet d fits (λ i lt. lt);
-  accesses_at = λ op. access_in_range op d fits;
-  sizes = zero_in_range MemorySize d tt;
-  grows = zero_in_range MemoryGrow d tt;
+  memories = λ at b. memory_in_range at b d fits;
   prefixes = λ at. prefixed_in_range counted at d fits;
   narrow = narrow_in_range d fits;
   wide = wide_in_range d fits;
