@@ -185,7 +185,7 @@ two_taken o a own = by_parts o.unknown own
     by_parts false (b ∷ []) = refl
     by_parts unknown (b ∷ d ∷ rest) = refl
 
-select_applied : (o : Operands) → apply Selects o ≡ (selected_of o.unknown o.own >>= λ t. Some (put o (t ∷ drop 3 o.own)))
+pub select_applied : (o : Operands) → apply Selects o ≡ (selected_of o.unknown o.own >>= λ t. Some (put o (t ∷ drop 3 o.own)))
 select_applied o = by_parts o.own o.unknown o.live
   where
     by_parts : (own : List Operand) (unknown live : Bool) → apply Selects (record { own = own; unknown = unknown; live = live })

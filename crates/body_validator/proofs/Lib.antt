@@ -7,7 +7,9 @@ pub mod Nesting
 pub mod Exact
 pub mod Heights
 pub mod Flat
+pub mod Laying
 pub mod Frames
+pub mod Seen
 pub mod Taking
 pub mod Answering
 pub mod TreeLaws

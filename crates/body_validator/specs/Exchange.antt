@@ -1,11 +1,11 @@
 -- Operands that are taken from a flat stack, and others that are put in their place.
-use Rattle.std.specs.Prelude.{◌≡◌, ℕ, Bool, true, false, List, ◌∷◌, ◌++◌, reverse, Option, None, Some, Result, Ok, Err}
+use Rattle.std.specs.Prelude.{◌≡◌, ℕ, Bool, true, false, List, ◌∷◌, ◌++◌, length, drop, reverse, Option, None, Some, Result, Ok, Err}
 use Rattle.wasm_defs.specs.declared.types.ValType.TheVariants.{I32}
 use Rattle.body_validator.specs.declared.operands.Stop.{Stop}
 use Rattle.body_validator.specs.declared.operands.Stop.TheVariants.{Refused, NoMemory}
 use Rattle.body_validator.specs.declared.operands.Taken.{Taken}
 use Rattle.wasm_defs.specs.Typing.{Types}
-use Rattle.body_validator.specs.Checking.{Operand, Frames, ◌>>=◌, known, take_all}
+use Rattle.body_validator.specs.Checking.{Operand, Frames, ◌>>=◌, known, take_all, selected_of}
 use Rattle.body_validator.specs.Stacks.{own_of}
 
 abbrev pub with_condition : Bool → Types → Types
@@ -29,3 +29,16 @@ abbrev pub Steps : Option Frames → Result (Unit {0}) Stop → Frames → Frame
 Steps answer (Ok done) old new = answer ≡ Some new
 Steps answer (Err Refused) old new = (answer ≡ None) × (new ≡ old)
 Steps answer (Err NoMemory) old new = new ≡ old
+
+-- the topmost operand above the base is taken, or there is none
+abbrev pub TakesOne : Bool → ℕ → Result (Unit {0}) Stop → List Operand → List Operand → Type 0
+TakesOne unknown base (Ok done) old new = (own_of new base ≡ drop 1 (own_of old base)) × (length old ≡ base → unknown ≡ true)
+TakesOne unknown base (Err Refused) old new = (length old ≡ base) × (unknown ≡ false) × (new ≡ old)
+TakesOne unknown base (Err NoMemory) old new = new ≡ old
+
+-- a condition and two operands above the base are taken, and one is left
+abbrev pub TakesThree : Bool → ℕ → Result (Unit {0}) Stop → List Operand → List Operand → Type 0
+TakesThree unknown base (Ok done) old new =
+    (t : Operand) × (selected_of unknown (own_of old base) ≡ Some t) × (own_of new base ≡ t ∷ drop 3 (own_of old base))
+TakesThree unknown base (Err Refused) old new = (selected_of unknown (own_of old base) ≡ None) × (new ≡ old)
+TakesThree unknown base (Err NoMemory) old new = new ≡ old

@@ -84,7 +84,7 @@ pub struct Shape {
 }
 
 /// The check of one body (Core 3.4.1 and 5.5.13), which its groups of locals and then its tokens are given to in order. It goes
-/// over each token once, with two vectors that grow: the open frames, and their operands.
+/// over each token once. What grows are the open frames, and their operands, of which a long list of types is one entry.
 #[derive(Drop)]
 pub struct Check<'a> {
     scope: Scope<'a>,

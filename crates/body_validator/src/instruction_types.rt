@@ -126,11 +126,8 @@ fn extension<'a>(op: ExtendOp) -> Option<Rule<'a>>
     ensures { rule_meant result ≡ Fixed (extend_type op ∷ []) (extend_type op ∷ []) }
 {
     match op {
-        ExtendOp::I32Extend8S => fixed(one(I32), one(I32)),
-        ExtendOp::I32Extend16S => fixed(one(I32), one(I32)),
-        ExtendOp::I64Extend8S => fixed(one(I64), one(I64)),
-        ExtendOp::I64Extend16S => fixed(one(I64), one(I64)),
-        ExtendOp::I64Extend32S => fixed(one(I64), one(I64)),
+        ExtendOp::I32Extend8S | ExtendOp::I32Extend16S => fixed(one(I32), one(I32)),
+        _ => fixed(one(I64), one(I64)),
     }
 }
 

@@ -4,6 +4,7 @@
 mod accesses;
 mod check;
 mod instruction_types;
+mod kept;
 mod laws;
 mod locals;
 mod operands;

@@ -1,10 +1,11 @@
 //! The operands of the innermost frame, as a flat stack keeps them.
 
 ghost use Rattle.std.specs.Prelude.{◌≡◌, ◌+◌, ◌<◌, ◌≤◌, [], ◌∷◌, ◌++◌, length, map, reverse, take, drop, is_some, Some, vec_len, vec_capacity, OnOk};
-ghost use Rattle.body_validator.specs.Checking.{is_of, joined, take_all, any_at, selected_of};
+ghost use Rattle.body_validator.specs.Checking.{is_of, joined, take_all, none_left, any_at, selected_of};
 ghost use Rattle.wasm_defs.specs.Typing.{same_types};
 ghost use Rattle.body_validator.specs.Stacks.{own_of};
 ghost use Rattle.body_validator.specs.Exchange.{taken_types, with_condition, Exchanges};
+ghost use Rattle.body_validator.specs.declared.operands.Stop.TheVariants.{NoMemory};
 
 use std::alloc::AllocError;
 use wasm_defs::ValType;
@@ -67,6 +68,13 @@ pub fn fits(own: &[Operand], unknown: bool, types: &[ValType]) -> bool
         }
     }
     true
+}
+
+/// Whether the operands are just those of the types.
+pub fn are_just(own: &[Operand], unknown: bool, types: &[ValType]) -> bool
+    ensures { result ≡ none_left (take_all unknown (reverse types.now) (reverse own.now)) }
+{
+    own.len() <= types.len() && fits(own, unknown, types)
 }
 
 /// Takes so many operands, or all that are above the base.
@@ -141,6 +149,14 @@ pub enum Stop {
     /// They aren't of the types that are taken.
     Refused,
     NoMemory,
+}
+
+impl From<AllocError> for Stop {
+    ghost from_gives = { λ _ e. e ≡ NoMemory };
+
+    fn from(_e: AllocError) -> Stop {
+        Stop::NoMemory
+    }
 }
 
 /// Makes room for so many more operands. Mostly there is some.

@@ -1,14 +1,13 @@
 //! The open frames of a body, and their operands.
 
 ghost use Rattle.std.specs.Prelude.{◌≡◌, ◌-◌, ◌<◌, [], ◌∷◌, ◌++◌, length, reverse, take, Some, None, slice_get, MatchOption, IfOk, vec_len, vec_capacity};
-ghost use Rattle.body_validator.specs.Checking.{height, body_frames, label_of, is_open, is_live, may_turn, labels, may_end, takes_else, applied, enter, turned, ended, none_left, take_all};
+ghost use Rattle.body_validator.specs.Checking.{height, body_frames, label_of, is_open, is_live, may_turn, labels, may_end, takes_else, applied, enter, turned, ended};
 ghost use Rattle.wasm_defs.specs.Typing.{Stops, Fixed, Discards, Selects};
 ghost use Rattle.body_validator.specs.Exchange.{taken_types, Steps};
 ghost use Rattle.body_validator.specs.Stacks.{HasLast, is_live_in, signature};
 
-use crate::operands::{
-    Operand, Stop, Taken, are_same, count_of, exchange, finds, fits, put, put_all, remove, selected,
-};
+use crate::kept::{LONG, Operands};
+use crate::operands::{Stop, Taken, are_same, count_of};
 use std::alloc::{AllocError, Global};
 use std::marker::Model;
 use wasm_defs::ValType;
@@ -93,13 +92,6 @@ fn can_end(frame: Frame<'_>) -> bool
     }
 }
 
-/// Whether the operands are just those of the types.
-fn are_just(own: &[Operand], unknown: bool, types: &[ValType]) -> bool
-    ensures { result ≡ none_left (take_all unknown (reverse types.now) (reverse own.now)) }
-{
-    own.len() <= types.len() && fits(own, unknown, types)
-}
-
 /// The types that a frame's label takes (Core 3.3.5.3 and 3.3.5.4).
 fn taken_by_label<'a>(frame: Frame<'a>) -> &'a [ValType]
     ensures { reverse result.now
@@ -115,7 +107,7 @@ fn taken_by_label<'a>(frame: Frame<'a>) -> &'a [ValType]
 #[derive(Drop)]
 pub struct Stack<'a> {
     frames: Vec<Frame<'a>>,
-    operands: Vec<Operand>,
+    operands: Operands<'a>,
 }
 
 impl<'a> Model for Stack<'a> {
@@ -125,10 +117,11 @@ impl<'a> Model for Stack<'a> {
     ghost Value = { Frames };
 
     ghost use Rattle.body_validator.specs.Stacks.{frames_of, IsLaid};
+    ghost use Rattle.body_validator.specs.Kept.{flat, IsSeenFrom};
 
-    ghost view = { λ s. frames_of (reverse s.frames.items) s.operands.items };
+    ghost view = { λ s. frames_of (reverse s.frames.items) (flat s.operands) };
 
-    ghost invariant = { λ s. IsLaid (reverse s.frames.items) s.operands.items };
+    ghost invariant = { λ s. IsLaid (reverse s.frames.items) (flat s.operands) × IsSeenFrom (reverse s.frames.items) s.operands };
 }
 
 impl<'a> Stack<'a> {
@@ -153,7 +146,7 @@ impl<'a> Stack<'a> {
         );
         Ok(Stack {
             frames,
-            operands: Vec::new(alloc),
+            operands: Operands::new(alloc),
         })
     }
 
@@ -162,7 +155,7 @@ impl<'a> Stack<'a> {
         ensures { result ≡ height self.now }
     {
         let _ = &self.frames;
-        self.operands.len()
+        self.operands.height()
     }
 
     /// Whether the body goes on.
@@ -214,10 +207,43 @@ impl<'a> Stack<'a> {
         ensures { Steps (applied (Fixed (taken_types taken.entry) (reverse given.now)) self.old) result
             self.old self.new }
     {
+        if self.frames.len() == 0 {
+            return Err(Stop::Refused);
+        }
+        // those that it takes are mostly single ones
+        match self.operands.exchange_singles(taken, given) {
+            Ok(()) => Ok(()),
+            Err(Stop::NoMemory) => Err(Stop::NoMemory),
+            Err(Stop::Refused) => self.exchange_below(taken, given),
+        }
+    }
+
+    /// The same where some may be in lists.
+    #[inline(never)]
+    fn exchange_below(&mut self, taken: Taken<'_>, given: &[ValType]) -> Result<(), Stop>
+        ensures { Steps (applied (Fixed (taken_types taken.entry) (reverse given.now)) self.old) result
+            self.old self.new }
+    {
         let Some(frame) = innermost(&self.frames) else {
             return Err(Stop::Refused);
         };
-        exchange(&mut self.operands, frame.base, frame.unknown, taken, given)
+        self.operands
+            .exchange_below(frame.base, frame.unknown, taken, given)
+    }
+
+    /// Takes operands from the innermost frame, and puts those of a list in their place.
+    pub fn exchange_list(&mut self, taken: Taken<'_>, given: &'a [ValType]) -> Result<(), Stop>
+        ensures { Steps (applied (Fixed (taken_types taken.entry) (reverse given.now)) self.old) result
+            self.old self.new }
+    {
+        if given.len() < LONG {
+            return self.exchange(taken, given);
+        }
+        let Some(frame) = innermost(&self.frames) else {
+            return Err(Stop::Refused);
+        };
+        self.operands
+            .exchange_list(frame.base, frame.unknown, taken, given)
     }
 
     /// Takes operands, after which the point isn't reachable.
@@ -227,10 +253,11 @@ impl<'a> Stack<'a> {
         let Some(frame) = innermost(&self.frames) else {
             return Err(Stop::Refused);
         };
-        if !finds(&self.operands[frame.base..], frame.unknown, taken) {
+        if !self.operands.finds(frame.base, frame.unknown, taken)? {
             return Err(Stop::Refused);
         }
-        self.operands.truncate(frame.base);
+        self.operands.cut(frame.base);
+        self.operands.look(frame.base, true);
         let stopped = Frame {
             unknown: true,
             live: false,
@@ -247,11 +274,7 @@ impl<'a> Stack<'a> {
         let Some(frame) = innermost(&self.frames) else {
             return Err(Stop::Refused);
         };
-        if self.operands.len() == frame.base && !frame.unknown {
-            return Err(Stop::Refused);
-        }
-        remove(&mut self.operands, frame.base, 1);
-        Ok(())
+        self.operands.discard(frame.base, frame.unknown)
     }
 
     /// Takes a condition and two operands of one type, and leaves one.
@@ -261,15 +284,7 @@ impl<'a> Stack<'a> {
         let Some(frame) = innermost(&self.frames) else {
             return Err(Stop::Refused);
         };
-        let Some(operand) = selected(&self.operands[frame.base..], frame.unknown) else {
-            return Err(Stop::Refused);
-        };
-        if self.operands.reserve(1).is_err() {
-            return Err(Stop::NoMemory);
-        }
-        remove(&mut self.operands, frame.base, 3);
-        put(&mut self.operands, operand);
-        Ok(())
+        self.operands.select(frame.base, frame.unknown)
     }
 
     /// Opens a block, which takes its parameters along.
@@ -285,19 +300,16 @@ impl<'a> Stack<'a> {
         let Some(frame) = innermost(&self.frames) else {
             return Err(Stop::Refused);
         };
-        if !finds(&self.operands[frame.base..], frame.unknown, taken) {
+        if !self.operands.finds(frame.base, frame.unknown, taken)? {
             return Err(Stop::Refused);
         }
-        if self.operands.reserve(taken.types.len()).is_err() {
-            return Err(Stop::NoMemory);
-        }
-        if self.frames.reserve(1).is_err() {
-            return Err(Stop::NoMemory);
-        }
+        self.operands.make_room(taken.types.len())?;
+        self.frames.reserve(1)?;
         let count = count_of(taken.types, taken.condition);
-        remove(&mut self.operands, frame.base, count);
-        let base = self.operands.len();
-        put_all(&mut self.operands, taken.types);
+        self.operands.remove(count);
+        let base = self.operands.height();
+        self.operands.look(base, false);
+        self.operands.put(taken.types);
         push_frame(
             &mut self.frames,
             Frame {
@@ -322,16 +334,18 @@ impl<'a> Stack<'a> {
         if !awaits_else(frame.opening) {
             return Err(Stop::Refused);
         }
-        if !are_just(&self.operands[frame.base..], frame.unknown, frame.results) {
+        if !self
+            .operands
+            .are_just(frame.base, frame.unknown, frame.results)?
+        {
             return Err(Stop::Refused);
         }
-        if self.operands.reserve(frame.params.len()).is_err() {
-            return Err(Stop::NoMemory);
-        }
+        self.operands.make_room(frame.params.len())?;
         let outer = self.frames.len() - 1;
         let live = is_live_inside(&self.frames[..outer]);
-        self.operands.truncate(frame.base);
-        put_all(&mut self.operands, frame.params);
+        self.operands.cut(frame.base);
+        self.operands.look(frame.base, false);
+        self.operands.put(frame.params);
         let other = Frame {
             opening: Opening::Else,
             unknown: false,
@@ -349,20 +363,22 @@ impl<'a> Stack<'a> {
         let Some(frame) = innermost(&self.frames) else {
             return Err(Stop::Refused);
         };
-        if !are_just(&self.operands[frame.base..], frame.unknown, frame.results) {
+        if !self
+            .operands
+            .are_just(frame.base, frame.unknown, frame.results)?
+        {
             return Err(Stop::Refused);
         }
         if !can_end(frame) {
             return Err(Stop::Refused);
         }
-        if self.operands.reserve(frame.results.len()).is_err() {
-            return Err(Stop::NoMemory);
-        }
+        self.operands.make_room(frame.results.len())?;
         let outer = self.frames.len() - 1;
         self.frames.truncate(outer);
-        self.operands.truncate(frame.base);
-        if 0 < outer {
-            put_all(&mut self.operands, frame.results);
+        self.operands.cut(frame.base);
+        if let Some(around) = innermost(&self.frames) {
+            self.operands.look(around.base, around.unknown);
+            self.operands.put(frame.results);
         }
         Ok(())
     }

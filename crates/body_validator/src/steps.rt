@@ -17,7 +17,7 @@ fn apply<'a>(stack: &mut Stack<'a>, rule: Option<Rule<'a>>) -> Result<(), Stop>
     ensures { Steps (applied (rule_meant rule.entry) stack.old) result stack.old stack.new }
 {
     match rule {
-        Some(Rule::Fixed(taken, given)) => stack.exchange(taken, given),
+        Some(Rule::Fixed(taken, given)) => stack.exchange_list(taken, given),
         Some(Rule::Stops(taken)) => stack.stop(taken),
         Some(Rule::Discards) => stack.discard(),
         Some(Rule::Selects) => stack.select(),
@@ -99,7 +99,7 @@ fn take_plain<'a>(scope: &Scope<'a>, stack: &mut Stack<'a>, plain: &Plain) -> Re
         Plain::Load(op, place) => take_load(scope, stack, *op, *place),
         Plain::Store(op, place) => take_store(scope, stack, *op, *place),
         Plain::BrIf(label) => match stack.label(*label) {
-            Some(types) => stack.exchange(conditionally(types), types),
+            Some(types) => stack.exchange_list(conditionally(types), types),
             None => Err(Stop::Refused),
         },
         _ => {

@@ -17,6 +17,9 @@ const SMALL: u32 = 2;
 /// How many it has with function 1, which is [i64 i32] -> [], a table, a memory, and two globals.
 const LARGE: u32 = 8;
 
+/// How many it has with function 2, which is [] -> [i32 ..] with 20 results.
+const LONG: u32 = 10;
+
 /// Bodies of function 0 of the small module: the tokens, and how many operands a valid body has at most, or the error and the number of
 /// its token.
 const SMALL_BODIES: &str = "\
@@ -44,10 +47,18 @@ i64.const, local.get 0, call 1, local.get 0, local.get 0, call_indirect 0, end =
 local.get 0, call_indirect 0 = Invalid at byte 1
 local.get 0, local.get 0, call_indirect 1 = Invalid at byte 2";
 
+/// The same of the long module.
+const LONG_BODIES: &str = "\
+call 2, select, select, select, select, select, select, select, select, select, i32.add, end = valid, 20 operands
+local.get 0, call 2, br_if 0, unreachable, i64.eqz, select, end = valid, 21 operands
+call 2, i64.eqz = Invalid at byte 1
+call 2, end = Invalid at byte 1
+call 2, block, i32.add = Invalid at byte 2";
+
 /// A function type.
 fn signature(alloc: Global, params: &[ValType], results: &[ValType]) -> Result<Item, AllocError>
     requires params { length params.now ≤ 2 }
-    requires results { length results.now ≤ 1 }
+    requires results { length results.now ≤ 20 }
     ensures { IfOk result HasSmallType }
 {
     Ok(Item::Signature {
@@ -97,6 +108,8 @@ fn item(alloc: Global, number: u32) -> Result<Item, AllocError>
         }),
         5 => Ok(Item::Memory { limits: LIMITS }),
         6 => Ok(global(ValType::I64, true)),
+        8 => signature(alloc, &[], &[ValType::I32; 20]),
+        9 => Ok(Item::Function { type_index: (0, 2) }),
         _ => Ok(global(ValType::I32, false)),
     }
 }
@@ -233,6 +246,15 @@ fn large_bodies_are_checked(rt: HostRuntime) -> Result<(), Fail> {
     for row in LARGE_BODIES.lines() {
         let (body, want) = row.split_once(" = ").unwrap_or((row, ""));
         assert_eq!(rt; checked(rt.alloc(), LARGE, body)?.as_str(), want, "{row}");
+    }
+    Ok(())
+}
+
+#[test]
+fn long_bodies_are_checked(rt: HostRuntime) -> Result<(), Fail> {
+    for row in LONG_BODIES.lines() {
+        let (body, want) = row.split_once(" = ").unwrap_or((row, ""));
+        assert_eq!(rt; checked(rt.alloc(), LONG, body)?.as_str(), want, "{row}");
     }
     Ok(())
 }

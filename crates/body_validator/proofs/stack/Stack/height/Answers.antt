@@ -1,10 +1,14 @@
-use Rattle.std.proofs.Common.{◌≡◌, length, reverse, ap, ◌∙◌, sym, arith}
+use Rattle.std.proofs.Common.{reverse, ap, ◌∙◌, sym}
 use Rattle.body_validator.specs.Checking.{height}
+use Rattle.body_validator.specs.Kept.{flat}
 use Rattle.body_validator.proofs.Frames.{height-frames_of}
+use Rattle.body_validator.proofs.Seen.{kept_from}
 use Rattle.body_validator.proofs.stack.Stack.height.Goals as goal
+
+pub height-requires : goal.height-requires
+height-requires c = let s = c.self.inside in kept_from (reverse s.frames.items) s.operands c.self.invariant.1
 
 pub returns : goal.returns
 returns c =
     let s = c.self.inside in
-    let len : c.len.result ≡ length s.operands.items = omega (arith, s.operands.ok.0) in
-    len ∙ sym (height-frames_of (reverse s.frames.items) s.operands.items c.self.invariant) ∙ ap height c.self.view_is
+    c.height.ensures ∙ sym (height-frames_of (reverse s.frames.items) (flat s.operands) c.self.invariant.0) ∙ ap height c.self.view_is

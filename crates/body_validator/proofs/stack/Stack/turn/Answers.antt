@@ -1,8 +1,12 @@
-use Rattle.std.proofs.Common.{◌≡◌, length, reverse, take, true, ap, ◌∙◌, sym, ◌-◌, List, ◌++◌, map, Some, arith}
-use Rattle.body_validator.specs.Checking.{Operand, turned}
-use Rattle.body_validator.specs.Stacks.{is_live_in}
+use Rattle.std.proofs.Common.{◌≡◌, length, reverse, take, true, false, refl, ap, ◌∙◌, sym, ◌-◌, List, ◌++◌, map, Some, arith}
+use Rattle.body_validator.specs.Checking.{Operand, turned, closes}
+use Rattle.body_validator.specs.Stacks.{is_live_in, frame_of}
+use Rattle.body_validator.specs.Kept.{flat}
 use Rattle.body_validator.specs.declared.stack.Frame.{Frame}
-use Rattle.body_validator.proofs.Frames.{last_in, part_just, base_within, turn_steps}
+use Rattle.body_validator.specs.declared.stack.Opening.TheVariants.{Else}
+use Rattle.body_validator.proofs.Frames.{last_in, base_within, turn_steps}
+use Rattle.body_validator.proofs.Laying.{flat_same}
+use Rattle.body_validator.proofs.Seen.{laid_with, seen_from, put_below}
 use Rattle.body_validator.proofs.stack.Stack.turn.Goals as goal
 
 pub returns : goal.returns
@@ -10,15 +14,34 @@ returns c =
     let s = c.self.inside in
     let frame = c.in-Some.frame in
     let frames = s.frames.items in
-    let items = s.operands.items in
+    let items = flat s.operands in
     let rest = reverse (take (length frames - 1) frames) in
     let is = last_in c.deref.result.now frames frame c.deref.ensures.value c.in-Some.ensures in
-    let within = base_within (reverse frames) frame rest items is c.self.invariant in
-    let just = part_just frame.unknown (reverse frame.results.now) c.deref-2.result.now items frame.base c.are_just.result true c.deref-2.ensures.value c.are_just.ensures c.if-not-are_just.false in
+    let within = base_within (reverse frames) frame rest items is c.self.invariant.0 in
+    let just : closes (frame_of frame items) ≡ true = sym c.in_ok-are_just.ensures.found ∙ c.if-not-branch.false in
     let len : c.len-outer.result ≡ length frames = omega (arith, s.frames.ok.0) in
     let live : c.is_live_inside-live.result ≡ is_live_in rest =
-    c.is_live_inside-live.ensures ∙ ap (λ (x : List Frame). is_live_in (reverse (take (c.len-outer.result - 1) x))) c.deref-3.ensures.value ∙ ap (λ n. is_live_in (reverse (take (n - 1) frames))) len in
-    let laid = c.put_all.ensures ∙ ap (λ (x : List Operand). x ++ map Some frame.params.now) (c.truncate.ensures.items ∙ ap (take frame.base) c.reserve.ensures.items) in
+    c.is_live_inside-live.ensures ∙ ap (λ (x : List Frame). is_live_in (reverse (take (c.len-outer.result - 1) x))) c.deref-2.ensures.value ∙ ap (λ n. is_live_in (reverse (take (n - 1) frames))) len in
+    let laid = c.put.ensures.laid ∙ ap (λ (x : List Operand). x ++ map Some frame.params.now)
+    (c.look.ensures.same ∙ c.cut.ensures.left ∙ ap (take frame.base) (flat_same c.are_just.new.self c.make_room.new.self c.make_room.ensures.same ∙ c.are_just.ensures.same)) in
     ap turned (sym c.self.view_is)
-    ∙ turn_steps (reverse frames) (reverse c.replace_innermost.new.frames.items) frame rest c.is_live_inside-live.result items c.put_all.new.operands.items is
+    ∙ turn_steps (reverse frames) (reverse c.replace_innermost.new.frames.items) frame rest c.is_live_inside-live.result items (flat c.put.new.self) is
     c.replace_innermost.ensures within (sym c.awaits_else.ensures ∙ c.if-not-awaits_else.false) just live laid
+
+pub invariant_of-self-2 : goal.invariant_of-self-2
+invariant_of-self-2 c =
+    let s = c.self.inside in
+    let frame = c.in-Some.frame in
+    let frames = s.frames.items in
+    let items = flat s.operands in
+    let rest = reverse (take (length frames - 1) frames) in
+    let after = reverse c.replace_innermost.new.frames.items in
+    let g : Frame = record frame { opening = Else; unknown = false; live = c.is_live_inside-live.result } in
+    let is = last_in c.deref.result.now frames frame c.deref.ensures.value c.in-Some.ensures in
+    let within = base_within (reverse frames) frame rest items is c.self.invariant.0 in
+    let laid = c.put.ensures.laid ∙ ap (λ (x : List Operand). x ++ map Some frame.params.now)
+    (c.look.ensures.same ∙ c.cut.ensures.left ∙ ap (take frame.base) (flat_same c.are_just.new.self c.make_room.new.self c.make_room.ensures.same ∙ c.are_just.ensures.same)) in
+    let below = put_below items (map Some frame.params.now) (flat c.put.new.self) frame.base within laid in (
+      laid_with (reverse frames) after frame g rest items (flat c.put.new.self) is c.replace_innermost.ensures refl c.self.invariant.0 below.0 below.1,
+      seen_from after g rest c.put.new.self c.replace_innermost.ensures (c.put.ensures.seen frame.base false c.look.ensures.seen),
+    )

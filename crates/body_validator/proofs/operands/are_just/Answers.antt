@@ -2,7 +2,7 @@ use Rattle.std.proofs.Common.{◌<◌, ◌≤◌, length, reverse, ◌∙◌, sy
 use Rattle.std.proofs.lemmas.Bool.{lt-leb}
 use Rattle.std.proofs.lemmas.List.{length-reverse}
 use Rattle.body_validator.proofs.Flat.{all_fit, too_many}
-use Rattle.body_validator.proofs.stack.are_just.Goals as goal
+use Rattle.body_validator.proofs.operands.are_just.Goals as goal
 
 pub returns-then-own-types : goal.returns-then-own-types
 returns-then-own-types c =

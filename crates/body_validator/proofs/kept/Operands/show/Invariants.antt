@@ -1,0 +1,12 @@
+use Rattle.std.proofs.Common.{◌≡◌, ◌+◌, vec_len}
+use Rattle.body_validator.specs.Kept.{flat, IsSeen}
+use Rattle.body_validator.proofs.kept.Operands.show.Given as goal
+
+abbrev pub invariant-loop-self : goal.invariant-loop-self
+invariant-loop-self l = record {
+  same : flat l.self ≡ flat l.initial.self;
+  seen : IsSeen l.base l.unknown l.self;
+}
+
+abbrev pub decreases-loop-self : goal.decreases-loop-self
+decreases-loop-self l = l.self.listed + vec_len l.self.lists

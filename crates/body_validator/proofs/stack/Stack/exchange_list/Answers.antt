@@ -1,0 +1,40 @@
+use Rattle.std.proofs.Common.{◌-◌, length, reverse, take, subst}
+use Rattle.wasm_defs.specs.Typing.{Fixed}
+use Rattle.body_validator.specs.Checking.{Frames, applied}
+use Rattle.body_validator.specs.Stacks.{frames_of}
+use Rattle.body_validator.specs.Exchange.{taken_types, Steps}
+use Rattle.body_validator.specs.Kept.{flat}
+use Rattle.body_validator.proofs.Frames.{last_in}
+use Rattle.body_validator.proofs.Laying.{base_seen}
+use Rattle.body_validator.proofs.Seen.{seen_in, seen_from, laid_again, exchange_steps}
+use Rattle.body_validator.proofs.stack.Stack.exchange_list.Goals as goal
+
+pub exchange_list-requires : goal.exchange_list-requires
+exchange_list-requires c =
+    let s = c.self.inside in
+    let frame = c.in-Some.frame in
+    let frames = s.frames.items in
+    let is = last_in c.deref.result.now frames frame c.deref.ensures.value c.in-Some.ensures in
+    seen_in (reverse frames) frame (reverse (take (length frames - 1) frames)) s.operands is c.self.invariant.1
+
+pub returns : goal.returns
+returns c =
+    let s = c.self.inside in
+    let frame = c.in-Some.frame in
+    let frames = s.frames.items in
+    let p = taken_types c.args.taken in
+    let g = reverse c.args.given.now in
+    let is = last_in c.deref.result.now frames frame c.deref.ensures.value c.in-Some.ensures in
+    subst (λ (x : Frames). Steps (applied (Fixed p g) x) c.exchange_list.result x (frames_of (reverse frames) (flat c.exchange_list.new.self))) c.self.view_is
+    (exchange_steps (reverse frames) frame (reverse (take (length frames - 1) frames)) p g c.exchange_list.result (flat s.operands) (flat c.exchange_list.new.self) is c.exchange_list.ensures.own c.exchange_list.ensures.below)
+
+pub invariant_of-self : goal.invariant_of-self
+invariant_of-self c =
+    let s = c.self.inside in
+    let frame = c.in-Some.frame in
+    let frames = s.frames.items in
+    let rest = reverse (take (length frames - 1) frames) in
+    let is = last_in c.deref.result.now frames frame c.deref.ensures.value c.in-Some.ensures in (
+      laid_again (reverse frames) frame rest (flat s.operands) (flat c.exchange_list.new.self) is c.self.invariant.0 c.exchange_list.ensures.below (base_seen frame.base frame.unknown c.exchange_list.new.self c.exchange_list.ensures.seen),
+      seen_from (reverse frames) frame rest c.exchange_list.new.self is c.exchange_list.ensures.seen,
+    )
