@@ -15,13 +15,13 @@ use Rattle.wasm_defs.specs.Configurations.{Store}
 use Rattle.wasm_defs.specs.Instances.{all_over, all_fit}
 use Rattle.image_format.specs.Contents.{Image}
 use Rattle.image_format.specs.Environment.{Entry, stack_size, with_words, words_at, word_bytes, row_words, segments_of, loaded}
-use Rattle.sim_memory.specs.StoreLaws.{GlobalsStand, SegmentsStand}
+use Rattle.simulation.specs.StoreLaws.{GlobalsStand, SegmentsStand}
 use Rattle.image_format.specs.ImageRun.{begin}
 use Rattle.simulation.specs.Laws.{IsInvoked}
 use Rattle.simulation.proofs.Calls.Arguments.{are_of_types}
 use Rattle.simulation.proofs.FirstSlots.{stack_is, slots_are}
-use Rattle.sim_frames.proofs.Rules.{types_length}
-use Rattle.sim_frames.proofs.Words.{word_small}
+use Rattle.simulation.proofs.Frames.Rules.{types_length}
+use Rattle.simulation.proofs.Frames.Words.{word_small}
 use Rattle.image_linker.specs.ImageOf.{segment_words, joined}
 use Rattle.image_linker.proofs.LoadedMemory.{HaveBytes, IsLoaded, is_loaded}
 use Rattle.image_linker.proofs.Regions.{AreWords, word_bytes_length, row_words_length, first_words_are_read}

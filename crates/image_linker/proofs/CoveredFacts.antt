@@ -4,7 +4,7 @@ use Rattle.wasm_defs.specs.declared.item.Item.{Item}
 use Rattle.wasm_defs.specs.declared.item.Item.TheVariants as item
 use Rattle.wasm_defs.specs.declared.types.ValType.TheVariants.{I32, I64}
 use Rattle.wasm_defs.specs.declared.token.Plain.{Plain}
-use Rattle.wasm_defs.specs.declared.token.Plain.TheVariants.{Unreachable, Br, BrIf, BrTable, Return, Call, CallIndirect, Nop, Discard, Select, LocalGet, LocalSet, LocalTee, GlobalGet, GlobalSet, Load, Store, MemorySize, MemoryGrow, Bulk, DataDrop, Const, Operate}
+use Rattle.wasm_defs.specs.declared.token.Plain.TheVariants.{Load, Store, Const}
 use Rattle.wasm_defs.specs.Context.{type_or_empty, type_of_function, context_of, import_count, declared_count, data_count_of, types_of, functions_of}
 use Rattle.wasm_defs.specs.Entries.{Seen, or_zero}
 use Rattle.wasm_defs.specs.Outside.{Body, Ending, Whole, Refused, Owed, module_read}
@@ -30,7 +30,7 @@ use Rattle.wasm_laws.proofs.Spaces.{spaces_are_small}
 use Rattle.wasm_laws.proofs.Starts.{start_is_right}
 use Rattle.wasm_laws.proofs.ImportTypes.{imports_return_one}
 use Rattle.wasm_laws.proofs.Typed.{functions_of-counts}
-use Rattle.sim_frames.specs.Covered.{IsCoveredStep, IsCovered}
+use Rattle.simulation.specs.Covered.{IsCoveredStep, IsCovered}
 use Rattle.wasm_defs.specs.Places.{or_empty}
 use Rattle.wasm_defs.specs.Typing.{Types, Context, inside, option_signature, function_type}
 use Rattle.std.specs.Prelude.{slice_get}
@@ -41,7 +41,7 @@ use Rattle.wasm_defs.specs.declared.token.BlockType.{BlockType}
 use Rattle.wasm_defs.specs.declared.token.BlockType.TheVariants.{Empty, Value, Index}
 use Rattle.wasm_defs.specs.declared.token.Token.{Token}
 use Rattle.wasm_defs.specs.declared.token.Token.TheVariants as token
-use Rattle.sim_frames.proofs.Lows.{max_lift, TakesFew, IsFew, FewIn, body_low, tokens_spelled}
+use Rattle.simulation.proofs.Frames.Lows.{max_lift, TakesFew, IsFew, FewIn, body_low, tokens_spelled}
 use Rattle.image_linker.specs.ImageOf.{segments_at_first}
 use Rattle.image_linker.proofs.CoveredModules.{IsCoveredBody, AreCoveredBodies, AreCounted, IsCoveredModule}
 use Rattle.wasm_laws.proofs.ShortOffsets.{offsets_are_short}
@@ -54,30 +54,11 @@ use Rattle.image_linker.proofs.ElementFacts.{elements_are_below, row_below}
 -- ---- bodies
 
 covered_step : (p : Plain) → IsInRange p → IsCoveredStep p
-covered_step Unreachable range = tt
-covered_step Nop range = tt
-covered_step (Br l) range = tt
-covered_step (BrIf l) range = tt
-covered_step (BrTable ls l) range = tt
-covered_step Return range = tt
-covered_step (Call f) range = tt
-covered_step (CallIndirect i table) range = tt
-covered_step Discard range = tt
-covered_step Select range = tt
-covered_step (LocalGet x) range = tt
-covered_step (LocalSet x) range = tt
-covered_step (LocalTee x) range = tt
-covered_step (GlobalGet x) range = tt
-covered_step (GlobalSet x) range = tt
 covered_step (Load o m) range = range.1
 covered_step (Store o m) range = range.1
-covered_step MemorySize range = tt
-covered_step MemoryGrow range = tt
-covered_step (Bulk op) range = tt
-covered_step (DataDrop x) range = tt
 covered_step (Const I32 n) range = constant_fits n range
 covered_step (Const I64 n) range = long_constant_fits n range
-covered_step (Operate op) range = tt
+covered_step p range = tt
 
 type_at : (ts : List FuncType) → TypesAreSmall ts → (i : ℕ) (t : FuncType) → slice_get ts i ≡ Some t → TypeIsSmall t
 type_at [] small i t e = absurd cc

@@ -12,7 +12,7 @@ use Rattle.wasm_defs.specs.Instances.{data_of, segments_of, exports_of, named, f
 use Rattle.wasm_defs.specs.SmallTypes.{TypesAreSmall}
 use Rattle.wasm_laws.specs.Kept.{SpacesAreSmall, ConstantsFit, TakesNothing, ImportsReturnOne}
 use Rattle.frame_layout.specs.Slots.{need}
-use Rattle.sim_frames.specs.Covered.{IsCovered}
+use Rattle.simulation.specs.Covered.{IsCovered}
 use Rattle.wasm_defs.specs.Context.{context_of, types_of, functions_of, import_count, type_of_function}
 use Rattle.image_linker.specs.ImageOf.{layout_of, segments_at_first, joined}
 use Rattle.image_linker.proofs.Imported.{ImportsFirst}

@@ -14,8 +14,8 @@ use Rattle.wasm_defs.specs.Values.{Value, InRange, modulus, unsigned, word, word
 use Rattle.wasm_laws.specs.Kept.{FitsType, ConstantsFit}
 use Rattle.wasm_laws.proofs.Ranges.{constant_fits, long_constant_fits}
 use Rattle.index_spaces.specs.Entries.{initials_of, initial_values}
-use Rattle.sim_frames.specs.Functions.{global_types}
-use Rattle.sim_frames.proofs.Words.{word_small}
+use Rattle.simulation.specs.Functions.{global_types}
+use Rattle.simulation.proofs.Frames.Words.{word_small}
 use Rattle.image_linker.specs.Linking.{NumbersFit}
 use Rattle.image_linker.proofs.Regions.{AreWords}
 

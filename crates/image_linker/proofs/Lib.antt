@@ -27,5 +27,9 @@ pub mod WordRanges
 pub mod ExportBounds
 pub mod ImportBounds
 pub mod Bounded
+pub mod Images
+pub mod Whole
 pub mod Short
 pub mod Segmented
+pub mod FoundTraps
+pub mod ToldTraps

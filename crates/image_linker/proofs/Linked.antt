@@ -16,7 +16,7 @@ use Rattle.wasm_defs.specs.Faults.{context_at}
 use Rattle.frame_layout.specs.Templates.{import_stub}
 use Rattle.frame_layout.specs.Traps.{room_trap, site_at}
 use Rattle.frame_layout.specs.Functions.{no_distance, with_distances, calls_of}
-use Rattle.sim_frames.proofs.Filling.{calls_are_filled}
+use Rattle.simulation.proofs.Frames.Filling.{calls_are_filled}
 use Rattle.image_format.specs.declared.image.Import.{Import}
 use Rattle.image_format.specs.declared.image.TrapPlace.{TrapPlace}
 use Rattle.index_spaces.specs.Entries.{imports_of}

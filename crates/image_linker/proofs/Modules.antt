@@ -37,8 +37,8 @@ use Rattle.image_format.specs.Environment.{Entry, segments_of as image_segments,
 use Rattle.image_format.specs.ImageRun.{Running, begin, place_told, steps, image_run}
 use Rattle.image_format.specs.ImageRun as image_run
 use Rattle.simulation.specs.SameRuns.{own_run, SameRuns}
-use Rattle.sim_frames.specs.Functions.{TextPlaces, StoreFits, AreSited, Compiled, Known, Placed as IsPlaced}
-use Rattle.sim_frames.proofs.Sited.{body_traps_alike}
+use Rattle.simulation.specs.Functions.{TextPlaces, StoreFits, AreSited, Compiled, Known, Placed as IsPlaced}
+use Rattle.simulation.proofs.Frames.Sited.{body_traps_alike}
 use Rattle.simulation.specs.Entries.{IsEntry}
 use Rattle.simulation.specs.Tables.{TableHolds}
 use Rattle.simulation.specs.Laws.{IsInvoked, ImportsStand, EnvironmentStands}

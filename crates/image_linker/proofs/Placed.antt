@@ -16,8 +16,8 @@ use Rattle.wasm_defs.specs.Instances.{function_of, declared_from}
 use Rattle.frame_layout.specs.Templates.{exit_stub}
 use Rattle.frame_layout.specs.Functions.{no_distance}
 use Rattle.frame_layout.proofs.Standing.{has_first, has_rest as has_second}
-use Rattle.sim_frames.proofs.Sitting.{has_at}
-use Rattle.sim_frames.proofs.Sizes.{function_length}
+use Rattle.simulation.proofs.Frames.Sitting.{has_at}
+use Rattle.simulation.proofs.Frames.Sizes.{function_length}
 use Rattle.simulation.proofs.MacroRanges.{both_in_range}
 use Rattle.simulation.proofs.Ranges.{exit_in_range, function_in_range}
 use Rattle.image_format.specs.declared.image.TrapPlace.{TrapPlace}
@@ -42,8 +42,8 @@ pub record Placed (code : List (Option Op)) (items : List Item) (places : List �
   pub traps : (q : TrapPlace) → IsAmong q (traps_of_function items begin number body tree) → IsAmong q (traps_from items here k bodies trees)
 
 -- a function's words are as many, whatever the distances
-function_size_is : (items : List Item) (places : List ℕ) (here k : ℕ) (b : Body) (tree : Seq) → IsCoveredBody items k b tree → length (code_of_function items places here k b tree) ≡ size_of items k b tree
-function_size_is items places here k b tree good =
+pub function_size_is : (items : List Item) (places : List ℕ) (here k : ℕ) (b : Body) (tree : Seq) → length (code_of_function items places here k b tree) ≡ size_of items k b tree
+function_size_is items places here k b tree =
     function_length (around items k b tree (distances places here)) no_distance (context_at items k b) tree
     ∙ sym (function_length (around items k b tree no_distance) no_distance (context_at items k b) tree)
 
@@ -64,7 +64,7 @@ module _ (code : List (Option Op)) (items : List Item) (places : List ℕ) where
   placed here k (b ∷ bodies) (tree ∷ trees) (suc j) number e good has less =
       let words = code_of_function items places here k b tree in
       let behind = code_from items places (here + size_of items k b tree) (suc k) bodies trees in
-      let there : here + length words ≡ here + size_of items k b tree = omega (arith, function_size_is items places here k b tree good.0) in
+      let there : here + length words ≡ here + size_of items k b tree = omega (arith, function_size_is items places here k b tree) in
       let rest = placed (here + size_of items k b tree) (suc k) bodies trees j number (omega (arith, e)) good.1
       (has_at code (here + length words) (here + size_of items k b tree) behind there (has_second code here words behind has)) (omega arith) in
       record { body = rest.body; tree = rest.tree; begin = rest.begin; behind = omega (arith, rest.behind); place_is = rest.place_is; has = rest.has; declared = rest.declared; good = rest.good; traps = λ q x. among_right q (traps_of_function items here k b tree) (traps_from items (here + size_of items k b tree) (suc k) bodies trees) (rest.traps q x) }
@@ -91,7 +91,7 @@ functions_length items places here k (b ∷ bodies) [] good = absurd good
 functions_length items places here k (b ∷ bodies) (tree ∷ trees) good =
     let words = code_of_function items places here k b tree in
     let behind = code_from items places (here + size_of items k b tree) (suc k) bodies trees in
-    let one = function_size_is items places here k b tree good.0 in
+    let one = function_size_is items places here k b tree in
     length-append words behind ∙ omega (arith, one, functions_length items places (here + size_of items k b tree) (suc k) bodies trees good.1)
 
 pub text_length : (m : Module) → IsCoveredModule m → length (text_of m) ≡ front_size m.items + sizes m.items 0 m.bodies m.trees

@@ -5,8 +5,8 @@ use Rattle.std.proofs.lemmas.List.{drop_at, take_at}
 use Rattle.rv_isa.specs.declared.stepping.Region.TheVariants.{Passive}
 use Rattle.rv_isa.specs.Steps.{Bytes, region_base}
 use Rattle.image_format.specs.Environment.{word_bytes, word_at}
-use Rattle.sim_memory.specs.Regions.{global_at, SegmentStands}
-use Rattle.sim_memory.specs.StoreLaws.{SegmentsStand}
+use Rattle.simulation.specs.Regions.{global_at, SegmentStands}
+use Rattle.simulation.specs.StoreLaws.{SegmentsStand}
 use Rattle.image_linker.specs.ImageOf.{segment_words, joined}
 use Rattle.image_linker.proofs.Regions.{AreWords, word_bytes_length, word_is_read}
 

@@ -16,8 +16,8 @@ use Rattle.frame_layout.specs.Functions.{no_distance, Trap, site_of, sites_of, b
 use Rattle.frame_layout.specs.Templates.{exit_stub}
 use Rattle.frame_layout.specs.Traps.{room_trap, AreSpaced}
 use Rattle.frame_layout.proofs.Spaced.{function_spaced}
-use Rattle.sim_frames.specs.Functions.{AreSited}
-use Rattle.sim_frames.proofs.Sizes.{function_length}
+use Rattle.simulation.specs.Functions.{AreSited}
+use Rattle.simulation.proofs.Frames.Sizes.{function_length}
 use Rattle.image_format.specs.declared.image.TrapPlace.{TrapPlace}
 use Rattle.image_format.specs.Bounds.{Each, bound_of, PlaceFits}
 use Rattle.image_format.specs.ImageRun.{place_told}

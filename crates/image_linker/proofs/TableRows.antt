@@ -19,8 +19,8 @@ use Rattle.image_format.specs.ImageRun.{begin}
 use Rattle.image_format.specs.Contents.{Image}
 use Rattle.wasm_defs.specs.Host.{Reply}
 use Rattle.wasm_defs.specs.declared.types.ValType.{ValType}
-use Rattle.sim_memory.specs.Regions.{row_code, row_like}
-use Rattle.sim_frames.specs.Functions.{TextPlaces}
+use Rattle.simulation.specs.Regions.{row_code, row_like}
+use Rattle.simulation.specs.Functions.{TextPlaces}
 use Rattle.simulation.specs.Tables.{type_in, TableHolds}
 use Rattle.simulation.proofs.Entering.{table_kept}
 use Rattle.image_linker.specs.ImageOf.{places_of_functions, row_of, table_of, image_of}

@@ -3,6 +3,7 @@ pub mod Same
 pub mod Judging
 pub mod Laws
 pub mod Codes
+pub mod Whole
 pub mod Linking
 pub mod Bodies
 pub mod Signatures

@@ -14,13 +14,16 @@
 //! Codes come without distances. A call of function 2 that is word 6 of function 1 gets that from index 26 to index 50, which
 //! is 96 bytes: its two words (AUIPC, JALR) are written again. Rows of the table and exports get the functions' offsets.
 
-ghost use Rattle.std.specs.Prelude.{◌≡◌, ◌≤◌, ◌<◌, ◌+◌, ◌*◌, ◌++◌, ◌^◌, ℕ, length, map, take, drop, slice_index, slice_set, IfOk};
+ghost use Rattle.std.specs.Prelude.{◌≡◌, ◌≤◌, ◌<◌, ◌+◌, ◌*◌, ◌++◌, ◌^◌, ℕ, List, length, map, take, drop, slice_index, slice_set, IfOk};
 ghost use Rattle.frame_layout.specs.Functions.{with_distance, with_distances};
+ghost use Rattle.wasm_defs.specs.Faults.{Module};
 ghost use Rattle.image_format.specs.Bounds.{AreImports};
 ghost use Rattle.image_format.specs.Contents.{IsImage};
 ghost use Rattle.index_spaces.specs.Entries.{function_exports};
 ghost use Rattle.image_linker.specs.Bodies.{codes_of};
-ghost use Rattle.image_linker.specs.ImageOf.{front_of, distances, version_for};
+ghost use Rattle.image_linker.specs.ImageOf.{front_of, distances, image_of, version_for};
+ghost use Rattle.image_linker.specs.Same.{Same};
+ghost use Rattle.image_linker.specs.Whole.{IsWhole};
 ghost use Rattle.image_linker.specs.Signatures.{AreOf};
 ghost use Rattle.image_linker.specs.Linking.{NumbersFit, words_of, words_from, starts_behind, front_words, has_room, with_segments};
 ghost use Rattle.image_linker.specs.Linking.{linked, linked_export, linked_import, linked_start};
@@ -185,17 +188,9 @@ fn version_for(count: u32) -> Version
     }
 }
 
-/// Links the codes of a module's declared functions, in the order of their indices, and its data segments to the module's image.
-///
-/// Each call leads to its function, or to the stub of an imported one, and so do the rows of the table. The image says of each trap
-/// from which function and which offset it comes. The text has at most 268,435,456 bytes, what is linked keeps the bounds of
-/// images, and the numbers of the globals' constants are of the globals' types. All segments are looked at before any is written:
-/// where one is out of bounds in the table or the memory, the image has no row with a function and no data segment, and is marked
-/// as one that can't be instantiated.
-///
-/// The words of the globals are followed by two for each data segment that instructions may name, whose bytes the image has
-/// too: where there are such segments, it has version 3, and else version 2.
-pub fn link(
+/// Links codes and data segments to what `linked` makes of them, where that keeps the bounds of images and the numbers of the
+/// globals' constants are of the globals' types.
+fn assemble(
     alloc: Global,
     context: &Context,
     codes: &[BodyCode],
@@ -232,4 +227,30 @@ pub fn link(
         places: TrapPlaces::new(traps),
         passive: Bytes::new(passive_bytes(alloc, named)?),
     })
+}
+
+/// Links the codes of a module's declared functions, in the order of their indices, and its data segments to the module's image:
+/// each call of an exported function ends in the image as it does in the module.
+///
+/// Each call leads to its function, or to the stub of an imported one, and so do the rows of the table. The image says of each trap
+/// from which function and which offset it comes. All segments are looked at before any is written (Core 4.5.4): where one is out
+/// of bounds in the table or the memory, the image has no row with a function and no data segment, and is marked as one that can't
+/// be instantiated.
+///
+/// The words of the globals are followed by two for each data segment that instructions may name, whose bytes the image has
+/// too: where there are such segments, it has version 3, and else version 2.
+///
+/// The context and the data segments are those of a module whose text has at most 268,435,456 bytes (`text_limit` of its codes is
+/// `None`), and each declared function has its code (`IsWhole`). Out of memory is the one error.
+pub fn link(
+    alloc: Global,
+    context: &Context,
+    codes: &[BodyCode],
+    segments: &[DataRow],
+) -> Result<Image, AllocError>
+    requires whole { (bytes : List ℕ) × (m : Module) × IsWhole bytes m (with_segments context.now segments.now) (codes_of codes.now) }
+    ensures image { (bytes : List ℕ) (m : Module) → IsWhole bytes m (with_segments context.now segments.now) (codes_of codes.now)
+        → IfOk result (λ i. (i ≡ image_of m) × Same m i) }
+{
+    assemble(alloc, context, codes, segments)
 }

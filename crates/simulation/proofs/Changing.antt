@@ -25,12 +25,12 @@ use Rattle.frame_layout.specs.Laws.{slot_at, with_slot}
 use Rattle.image_format.specs.Contents.{Image}
 use Rattle.image_format.specs.Environment.{code_of_image}
 use Rattle.image_format.specs.ImageRun.{Running}
-use Rattle.sim_memory.specs.StoreStands.{StoreStands}
-use Rattle.sim_frames.specs.Covered.{IsStraightStep}
-use Rattle.sim_frames.specs.Functions.{StoreFits}
-use Rattle.sim_frames.proofs.Puts.{put_stands}
-use Rattle.sim_frames.proofs.Rules.{MovesFixed, moves_fixed, OnLocal, on_global, moves_set, moves_only}
-use Rattle.sim_frames.proofs.Values.{Agree, Holds, Matches}
+use Rattle.simulation.specs.StoreStands.{StoreStands}
+use Rattle.simulation.specs.Covered.{IsStraightStep}
+use Rattle.simulation.specs.Functions.{StoreFits}
+use Rattle.simulation.proofs.Frames.Puts.{put_stands}
+use Rattle.simulation.proofs.Frames.Rules.{MovesFixed, moves_fixed, OnLocal, on_global, moves_set, moves_only}
+use Rattle.simulation.proofs.Frames.Values.{Agree, Holds, Matches}
 use Rattle.simulation.proofs.Goings.{Goes, goes_by}
 use Rattle.simulation.proofs.GrowingMemory.{Grown, GrownBy, grow_goes}
 use Rattle.simulation.proofs.Steps.{with_machine}
@@ -38,15 +38,7 @@ use Rattle.simulation.proofs.Straight.Instructions.{most_steps, Halts}
 use Rattle.simulation.proofs.Straight.Bulk.{moves_if, bulk_comes, drop_changes}
 use Rattle.simulation.proofs.Straight.Memories.{Changes, global_set_changes, store_comes}
 use Rattle.simulation.proofs.Straight.Operations.{typed_word, typed_range}
-
--- the instructions that change the store
-abbrev pub ChangesStore : Plain → Type 0
-ChangesStore (GlobalSet x) = Unit {0}
-ChangesStore (plain.Store o m) = Unit {0}
-ChangesStore MemoryGrow = Unit {0}
-ChangesStore (Bulk op) = Unit {0}
-ChangesStore (DataDrop x) = Unit {0}
-ChangesStore p = ⊥
+use Rattle.simulation.proofs.Straight.Stores.{ChangesStore}
 
 -- so many steps lead to where the frame holds other operands, and the regions another store
 pub record Passes (image : Image) (c : Context) (labels : List Label) (w : Around) (base there : ℕ) (store : Store) (locals operands : List Value) (p : Plain) (mid : Types) (here : ℕ) (r : Running) : Type 0 where
@@ -239,20 +231,20 @@ module _ (image : Image) (near : length (code_of_image image) ≤ 2 ^ 26) (few :
   pub passes : (p : Plain) (operands : List Value) (mid : Types) → IsStraightStep p → ChangesStore p → Moves (rule_of c p) (types_of_values operands) mid → length operands ≤ w.layout.greatest
       → HasAt (code_of_image image) i (words w c labels (length operands) here p) → Matches w.layout base there r.machine.bytes locals operands r.machine
       → Passes image c labels w base there store locals operands p mid here r ⊎ Halts (code_of_image image) store image.cap locals operands p r.machine
-  passes (GlobalSet x) operands mid h one moves low has m =
+  passes (GlobalSet x) operands mid h changes moves low has m =
       let set = moves_set (slice_get c.globals x) (types_of_values operands) mid moves in
       inl (global_set_passes operands mid x (on_global c.globals store.globals x (λ t. t ∷ []) (λ t. []) (types_of_values operands) mid (slice_get c.globals x) fits_store.globals refl set) low has m)
-  passes (plain.Store o mem) operands mid h one moves low has m =
+  passes (plain.Store o mem) operands mid h changes moves low has m =
       let allowed = moves_only (accesses c mem.align (store_alignment o)) (Fixed (store_type o ∷ I32 ∷ []) []) (types_of_values operands) mid moves in
       store_passes operands mid o mem h (moves_fixed (store_type o ∷ I32 ∷ []) [] (types_of_values operands) mid allowed) low has m
-  passes MemoryGrow operands mid h one moves low has m =
+  passes MemoryGrow operands mid h changes moves low has m =
       let allowed = moves_only (nat_lt 0 c.memories) (Fixed (I32 ∷ []) (I32 ∷ [])) (types_of_values operands) mid moves in
       inl (grow_one operands mid (moves_fixed (I32 ∷ []) (I32 ∷ []) (types_of_values operands) mid allowed) low has m)
-  passes (Bulk op) operands mid h one moves low has m =
+  passes (Bulk op) operands mid h changes moves low has m =
       let allowed = moves_only (nat_lt 0 c.memories && reads_segment c op) (Fixed (I32 ∷ I32 ∷ I32 ∷ []) []) (types_of_values operands) mid moves in
       bulk_passes op operands mid (moves_if (nat_lt 0 c.memories && reads_segment c op) (Fixed (I32 ∷ I32 ∷ I32 ∷ []) []) (types_of_values operands) mid moves) (moves_fixed (I32 ∷ I32 ∷ I32 ∷ []) [] (types_of_values operands) mid allowed) low has m
-  passes (DataDrop x) operands mid h one moves low has m =
+  passes (DataDrop x) operands mid h changes moves low has m =
       let allowed = moves_only (nat_lt x c.segments) (Fixed [] []) (types_of_values operands) mid moves in
       let f = moves_fixed [] [] (types_of_values operands) mid allowed in
       inl (moved operands (DataDrop x) mid (drop_changes code near c labels w base there r.machine.bytes store image.cap locals here r.machine i at r.pages holds fits_store operands mid x (moves_if (nat_lt x c.segments) (Fixed [] []) (types_of_values operands) mid moves) (f.before ∙ sym f.after) has m))
-  passes p operands mid h one moves low has m = absurd one
+  passes p operands mid h changes moves low has m = absurd cc

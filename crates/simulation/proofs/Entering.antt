@@ -14,12 +14,12 @@ use Rattle.frame_layout.specs.Macros.{a7}
 use Rattle.image_format.specs.Contents.{Image}
 use Rattle.image_format.specs.Environment.{Entry, entered, word_at, with_words}
 use Rattle.image_format.specs.ImageRun.{Running, To, finish, environment}
-use Rattle.sim_memory.specs.StoreStands.{StoreStands}
-use Rattle.sim_memory.proofs.StoreStanding.{globals_kept, segments_kept}
-use Rattle.sim_frames.specs.Functions.{TextPlaces, StoreFits}
-use Rattle.sim_frames.proofs.Rules.{types_length}
-use Rattle.sim_frames.proofs.Values.{SameBeside}
-use Rattle.sim_frames.proofs.Words.{word_small}
+use Rattle.simulation.specs.StoreStands.{StoreStands}
+use Rattle.simulation.proofs.Memory.StoreStanding.{globals_kept, segments_kept}
+use Rattle.simulation.specs.Functions.{TextPlaces, StoreFits}
+use Rattle.simulation.proofs.Frames.Rules.{types_length}
+use Rattle.simulation.proofs.Frames.Values.{SameBeside}
+use Rattle.simulation.proofs.Frames.Words.{word_small}
 use Rattle.simulation.specs.Entries.{IsEntry, AreEntries}
 use Rattle.simulation.specs.Tables.{TableHolds}
 use Rattle.simulation.specs.Laws.{IsInvoked}

@@ -14,10 +14,10 @@ use Rattle.frame_layout.specs.Templates.{import_stub, exit_stub}
 use Rattle.image_format.specs.Contents.{Image}
 use Rattle.image_format.specs.Environment.{code_of_image}
 use Rattle.image_format.specs.ImageRun.{Running}
-use Rattle.sim_frames.specs.Functions.{TextPlaces, Compiled, Known, Asked, Placed}
-use Rattle.sim_frames.proofs.Follows.{owed_of}
-use Rattle.sim_frames.proofs.Holding.{follows_less}
-use Rattle.sim_frames.proofs.Values.{Locals}
+use Rattle.simulation.specs.Functions.{TextPlaces, Compiled, Known, Asked, Placed}
+use Rattle.simulation.proofs.Frames.Follows.{owed_of}
+use Rattle.simulation.proofs.Frames.Holding.{follows_less}
+use Rattle.simulation.proofs.Frames.Values.{Locals}
 use Rattle.simulation.specs.Laws.{EnvironmentStands}
 use Rattle.simulation.proofs.Calls.Arguments.{AreOf, are_of_types}
 use Rattle.simulation.proofs.Calls.Entered.{enters_follow}

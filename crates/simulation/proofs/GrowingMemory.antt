@@ -19,13 +19,13 @@ use Rattle.frame_layout.proofs.Steps.{frame_kept}
 use Rattle.image_format.specs.Contents.{Image}
 use Rattle.image_format.specs.Environment.{code_of_image}
 use Rattle.image_format.specs.ImageRun.{Running, memory_of}
-use Rattle.sim_memory.specs.Regions.{memory_now}
-use Rattle.sim_memory.specs.MemoryLaws.{AsksForPages}
-use Rattle.sim_memory.specs.StoreLaws.{GlobalsStand, SegmentsStand, HasRoom, Answered, Grows}
-use Rattle.sim_memory.specs.StoreStands.{StoreStands}
-use Rattle.sim_memory.proofs.Answering.{grows_does}
-use Rattle.sim_memory.proofs.Growing.{grow_does, grown_does}
-use Rattle.sim_memory.proofs.StoreStanding.{store_kept, store_grown}
+use Rattle.simulation.specs.Regions.{memory_now}
+use Rattle.simulation.specs.MemoryLaws.{AsksForPages}
+use Rattle.simulation.specs.StoreLaws.{GlobalsStand, SegmentsStand, HasRoom, Answered, Grows}
+use Rattle.simulation.specs.StoreStands.{StoreStands}
+use Rattle.simulation.proofs.Memory.Answering.{grows_does}
+use Rattle.simulation.proofs.Memory.Growing.{grow_does, grown_does}
+use Rattle.simulation.proofs.Memory.StoreStanding.{store_kept, store_grown}
 use Rattle.simulation.proofs.Goings.{Goes, goes_by, goes_by_call, goes_then}
 use Rattle.simulation.proofs.Steps.{with_machine}
 

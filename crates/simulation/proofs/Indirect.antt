@@ -22,13 +22,13 @@ use Rattle.frame_layout.specs.Templates.{import_stub, exit_stub}
 use Rattle.image_format.specs.Contents.{Image}
 use Rattle.image_format.specs.Environment.{code_of_image}
 use Rattle.image_format.specs.ImageRun.{Running}
-use Rattle.sim_memory.specs.TableLaws.{Begins, BeginsTyped, BeginsRow}
-use Rattle.sim_frames.specs.Functions.{TextPlaces, Compiled, Known, Asked, Placed}
-use Rattle.sim_frames.proofs.Frames.{under, FramesStay}
-use Rattle.sim_frames.proofs.Follows.{same_beside, ahead, labels_ahead, halts_at, owed_of}
-use Rattle.sim_frames.proofs.Holding.{follows_less, follows_after}
-use Rattle.sim_frames.proofs.Sited.{IsIn}
-use Rattle.sim_frames.proofs.Sitting.{trap_told}
+use Rattle.simulation.specs.TableLaws.{Begins, BeginsTyped, BeginsRow}
+use Rattle.simulation.specs.Functions.{TextPlaces, Compiled, Known, Asked, Placed}
+use Rattle.simulation.proofs.Frames.Frames.{under, FramesStay}
+use Rattle.simulation.proofs.Frames.Follows.{same_beside, ahead, labels_ahead, halts_at, owed_of}
+use Rattle.simulation.proofs.Frames.Holding.{follows_less, follows_after}
+use Rattle.simulation.proofs.Frames.Sited.{IsIn}
+use Rattle.simulation.proofs.Frames.Sitting.{trap_told}
 use Rattle.simulation.specs.Laws.{EnvironmentStands}
 use Rattle.simulation.specs.Tables.{type_in, like_in}
 use Rattle.simulation.proofs.Calls.Entered.{enters_follow}

@@ -15,15 +15,16 @@ use Rattle.frame_layout.specs.Templates.{Label, words}
 use Rattle.image_format.specs.Contents.{Image}
 use Rattle.image_format.specs.Environment.{code_of_image}
 use Rattle.image_format.specs.ImageRun.{Running}
-use Rattle.sim_frames.specs.Covered.{IsStraightStep}
-use Rattle.sim_frames.specs.Functions.{TextPlaces, global_types, StoreFits}
-use Rattle.sim_frames.proofs.Frames.{labels_of, under, Compiled, SitsAt, FramesStay}
-use Rattle.sim_frames.proofs.Follows.{matches_now, stands_on, ahead, labels_ahead, halts_at}
-use Rattle.sim_frames.proofs.Rules.{types_append}
-use Rattle.sim_frames.proofs.Values as values
+use Rattle.simulation.specs.Covered.{IsStraightStep}
+use Rattle.simulation.specs.Functions.{TextPlaces, global_types, StoreFits}
+use Rattle.simulation.proofs.Frames.Frames.{labels_of, under, Compiled, SitsAt, FramesStay}
+use Rattle.simulation.proofs.Frames.Follows.{matches_now, stands_on, ahead, labels_ahead, halts_at}
+use Rattle.simulation.proofs.Frames.Rules.{types_append}
+use Rattle.simulation.proofs.Frames.Values as values
 use Rattle.simulation.specs.Entries.{AreEntries}
 use Rattle.simulation.specs.Laws.{EnvironmentStands}
-use Rattle.simulation.proofs.Changing.{ChangesStore, Passes, passes}
+use Rattle.simulation.proofs.Changing.{Passes, passes}
+use Rattle.simulation.proofs.Straight.Stores.{ChangesStore}
 use Rattle.simulation.proofs.Entering.{table_kept}
 use Rattle.simulation.proofs.Matching.{StoreStays, Matches, Leads, lifted}
 use Rattle.simulation.proofs.Straight.Effects.{above, enough, effect_above, written_above}

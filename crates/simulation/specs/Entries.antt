@@ -5,7 +5,7 @@ use Rattle.wasm_defs.specs.Limits.{max_params}
 use Rattle.wasm_defs.specs.Host.{are_of}
 use Rattle.wasm_defs.specs.Configurations.{Function, type_of, Instance, Invocation}
 use Rattle.image_format.specs.Environment.{Entry}
-use Rattle.sim_frames.specs.Functions.{TextPlaces}
+use Rattle.simulation.specs.Functions.{TextPlaces}
 
 module _ (inst : Instance) (places : TextPlaces) where
   -- an image's entry calls the function that is invoked, with the same arguments

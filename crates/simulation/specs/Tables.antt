@@ -4,8 +4,8 @@ use Rattle.rv_isa.specs.Steps.{Bytes}
 use Rattle.wasm_defs.specs.declared.types.FuncType.{FuncType}
 use Rattle.wasm_defs.specs.Context.{first_like}
 use Rattle.wasm_defs.specs.Configurations.{Function, type_of, Instance}
-use Rattle.sim_memory.specs.TableLaws.{TableStands}
-use Rattle.sim_frames.specs.Functions.{TextPlaces}
+use Rattle.simulation.specs.TableLaws.{TableStands}
+use Rattle.simulation.specs.Functions.{TextPlaces}
 
 -- a function that isn't there is taken to have no parameters and no result
 abbrev pub type_in : Option Function → FuncType

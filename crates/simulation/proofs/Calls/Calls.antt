@@ -23,17 +23,17 @@ use Rattle.frame_layout.specs.Slots.{operand}
 use Rattle.frame_layout.specs.Templates.{exit_stub}
 use Rattle.frame_layout.specs.Laws.{IsFrame}
 use Rattle.frame_layout.proofs.Standing.{has_first, has_rest}
-use Rattle.sim_frames.specs.Functions.{TextPlaces, Known}
-use Rattle.sim_frames.proofs.Frames.{under, Compiled, SitsAt, Returns, CallersStay, FramesStay, KeepsRegisters}
-use Rattle.sim_frames.proofs.Follows.{same_beside, ahead, labels_ahead, Follows, owed_of}
-use Rattle.sim_frames.proofs.Heights.{peak_here}
-use Rattle.sim_frames.proofs.Holding.{follows_less, follows_after}
-use Rattle.sim_frames.proofs.Jumps.{shift_moves, linked_lands}
-use Rattle.sim_frames.proofs.Leaving.{operands_below}
-use Rattle.sim_frames.proofs.Rules.{types_length, types_split, MovesFixed, moves_fixed, rule_height}
-use Rattle.sim_frames.proofs.Sitting.{has_at, has_words, sits_rest}
-use Rattle.sim_frames.proofs.Values.{Operands, Locals}
-use Rattle.sim_frames.proofs.Reversed.{types_reverse, passed}
+use Rattle.simulation.specs.Functions.{TextPlaces, Known}
+use Rattle.simulation.proofs.Frames.Frames.{under, Compiled, SitsAt, Returns, CallersStay, FramesStay, KeepsRegisters}
+use Rattle.simulation.proofs.Frames.Follows.{same_beside, ahead, labels_ahead, Follows, owed_of}
+use Rattle.simulation.proofs.Frames.Heights.{peak_here}
+use Rattle.simulation.proofs.Frames.Holding.{follows_less, follows_after}
+use Rattle.simulation.proofs.Frames.Jumps.{shift_moves, linked_lands}
+use Rattle.simulation.proofs.Frames.Leaving.{operands_below}
+use Rattle.simulation.proofs.Frames.Rules.{types_length, types_split, MovesFixed, moves_fixed, rule_height}
+use Rattle.simulation.proofs.Frames.Sitting.{has_at, has_words, sits_rest}
+use Rattle.simulation.proofs.Frames.Values.{Operands, Locals}
+use Rattle.simulation.proofs.Frames.Reversed.{types_reverse, passed}
 use Rattle.simulation.proofs.Calls.Entered.{enters_follow}
 
 -- what the rule says of types

@@ -25,17 +25,17 @@ use Rattle.frame_layout.specs.Functions.{label, code, traps, body_place, body_si
 use Rattle.frame_layout.specs.Laws.{slot_at, IsFrame, Enters}
 use Rattle.frame_layout.proofs.Beginnings.{prologue_does, exhaustion_does}
 use Rattle.frame_layout.proofs.Standing.{has_first, has_rest}
-use Rattle.sim_frames.specs.Functions.{TextPlaces}
-use Rattle.sim_frames.proofs.Frames.{labels_of, under, AreSited, Compiled, own, Ending, SitsAt, CallersStay, FramesStay}
-use Rattle.sim_frames.proofs.Follows.{callers_kept, Reached, halts_at, Follows, owed_of}
-use Rattle.sim_frames.proofs.Heights.{peak, peak_here}
-use Rattle.sim_frames.proofs.Leaving.{address_fits}
-use Rattle.sim_frames.proofs.Rules.{types_length, types_append}
-use Rattle.sim_frames.proofs.Sited.{traps_alike}
-use Rattle.sim_frames.proofs.Sizes.{code_size}
-use Rattle.sim_frames.proofs.Values.{Holds, holds_as, Locals, Agree, SameBeside}
-use Rattle.sim_frames.proofs.Words.{zero_word, modulus_positive}
-use Rattle.sim_frames.proofs.Reversed.{among_both}
+use Rattle.simulation.specs.Functions.{TextPlaces}
+use Rattle.simulation.proofs.Frames.Frames.{labels_of, under, AreSited, Compiled, own, Ending, SitsAt, CallersStay, FramesStay}
+use Rattle.simulation.proofs.Frames.Follows.{callers_kept, Reached, halts_at, Follows, owed_of}
+use Rattle.simulation.proofs.Frames.Heights.{peak, peak_here}
+use Rattle.simulation.proofs.Frames.Leaving.{address_fits}
+use Rattle.simulation.proofs.Frames.Rules.{types_length, types_append}
+use Rattle.simulation.proofs.Frames.Sited.{traps_alike}
+use Rattle.simulation.proofs.Frames.Sizes.{code_size}
+use Rattle.simulation.proofs.Frames.Values.{Holds, holds_as, Locals, Agree, SameBeside}
+use Rattle.simulation.proofs.Frames.Words.{zero_word, modulus_positive}
+use Rattle.simulation.proofs.Frames.Reversed.{among_both}
 use Rattle.simulation.proofs.Calls.Arguments.{types_of_zeros, among_zeros}
 
 same_windows : (b c : Bytes) → length c.stack ≡ length b.stack → SameBeside b c → FitWindows b → FitWindows c

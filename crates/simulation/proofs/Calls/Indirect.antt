@@ -25,17 +25,17 @@ use Rattle.frame_layout.specs.Slots.{operand}
 use Rattle.frame_layout.specs.Templates.{load_operand, indirect_words}
 use Rattle.frame_layout.specs.Laws.{slot_at, IsFrame}
 use Rattle.frame_layout.proofs.Standing.{has_rest}
-use Rattle.sim_memory.specs.Regions.{HasRegions}
-use Rattle.sim_memory.specs.TableLaws.{Begins, BeginsRow}
-use Rattle.sim_memory.proofs.Tables.{indirect_does}
-use Rattle.sim_frames.specs.Functions.{TextPlaces}
-use Rattle.sim_frames.proofs.Frames.{under, Compiled, SitsAt, Returns, CallersStay, FramesStay, KeepsRegisters}
-use Rattle.sim_frames.proofs.Heights.{peak_here}
-use Rattle.sim_frames.proofs.Leaving.{operands_below}
-use Rattle.sim_frames.proofs.Rules.{types_length, types_split, MovesFixed, moves_fixed, rule_height}
-use Rattle.sim_frames.proofs.Sitting.{has_at, has_words, sits_rest}
-use Rattle.sim_frames.proofs.Values.{Operands, Locals}
-use Rattle.sim_frames.proofs.Reversed.{types_reverse, passed}
+use Rattle.simulation.specs.Regions.{HasRegions}
+use Rattle.simulation.specs.TableLaws.{Begins, BeginsRow}
+use Rattle.simulation.proofs.Memory.Tables.{indirect_does}
+use Rattle.simulation.specs.Functions.{TextPlaces}
+use Rattle.simulation.proofs.Frames.Frames.{under, Compiled, SitsAt, Returns, CallersStay, FramesStay, KeepsRegisters}
+use Rattle.simulation.proofs.Frames.Heights.{peak_here}
+use Rattle.simulation.proofs.Frames.Leaving.{operands_below}
+use Rattle.simulation.proofs.Frames.Rules.{types_length, types_split, MovesFixed, moves_fixed, rule_height}
+use Rattle.simulation.proofs.Frames.Sitting.{has_at, has_words, sits_rest}
+use Rattle.simulation.proofs.Frames.Values.{Operands, Locals}
+use Rattle.simulation.proofs.Frames.Reversed.{types_reverse, passed}
 use Rattle.simulation.specs.Tables.{like_in, TableHolds}
 use Rattle.simulation.proofs.Straight.Operations.{typed_word, typed_range}
 use Rattle.simulation.proofs.TypeIndices.{like_within}

@@ -15,13 +15,13 @@ use Rattle.wasm_defs.specs.Reductions.{simple, branch, branch_if, proceeds}
 use Rattle.frame_layout.specs.Macros.{s0, s5}
 use Rattle.frame_layout.specs.Slots.{operand}
 use Rattle.frame_layout.specs.Templates.{Label, label_at, jump_if_words, words, exit_stub, unless_words, jump_words}
-use Rattle.sim_frames.specs.Functions.{TextPlaces}
-use Rattle.sim_frames.proofs.Frames.{Open, labels_of, under, Compiled, SitsAt, FramesStay}
-use Rattle.sim_frames.proofs.Follows.{same_beside, registers_of, ahead, labels_ahead, Follows, owed_of}
-use Rattle.sim_frames.proofs.Holding.{Held, held_after, held_less, arrives, follows_less, follows_after}
-use Rattle.sim_frames.proofs.Jumps.{Lands}
-use Rattle.sim_frames.proofs.Sizes.{jump_count, jump_length, unless_count, unless_length}
-use Rattle.sim_frames.proofs.Values.{Operands}
+use Rattle.simulation.specs.Functions.{TextPlaces}
+use Rattle.simulation.proofs.Frames.Frames.{Open, labels_of, under, Compiled, SitsAt, FramesStay}
+use Rattle.simulation.proofs.Frames.Follows.{same_beside, registers_of, ahead, labels_ahead, Follows, owed_of}
+use Rattle.simulation.proofs.Frames.Holding.{Held, held_after, held_less, arrives, follows_less, follows_after}
+use Rattle.simulation.proofs.Frames.Jumps.{Lands}
+use Rattle.simulation.proofs.Frames.Sizes.{jump_count, jump_length, unless_count, unless_length}
+use Rattle.simulation.proofs.Frames.Values.{Operands}
 use Rattle.simulation.proofs.Control.Branches.{branch_follows, carried_pays}
 use Rattle.simulation.proofs.Control.Entries.{still}
 use Rattle.simulation.proofs.Control.Steps.{IfLabel, if_label, held_here, has_here, inside_here, high_here, stand_here, rest_sits}

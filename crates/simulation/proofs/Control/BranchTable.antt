@@ -19,17 +19,17 @@ use Rattle.frame_layout.specs.Macros.{s0, s5}
 use Rattle.frame_layout.specs.Slots.{operand}
 use Rattle.frame_layout.specs.Templates.{Label, Around, label_at, jump_words, jumps, table_front, exit_stub}
 use Rattle.frame_layout.proofs.Standing.{has_first, has_rest}
-use Rattle.sim_frames.specs.Functions.{TextPlaces}
-use Rattle.sim_frames.proofs.Frames.{Open, labels_of, Compiled, FramesStay}
-use Rattle.sim_frames.proofs.Follows.{same_beside, registers_of, ahead, labels_ahead, Follows, owed_of}
-use Rattle.sim_frames.proofs.Holding.{Held, held_after, held_less, follows_less, follows_after}
-use Rattle.sim_frames.proofs.Sitting.{has_at}
-use Rattle.sim_frames.proofs.Sizes.{jump_count, jump_length, front_count, front_length}
-use Rattle.sim_frames.proofs.Values.{Operands}
+use Rattle.simulation.specs.Functions.{TextPlaces}
+use Rattle.simulation.proofs.Frames.Frames.{Open, labels_of, Compiled, FramesStay}
+use Rattle.simulation.proofs.Frames.Follows.{same_beside, registers_of, ahead, labels_ahead, Follows, owed_of}
+use Rattle.simulation.proofs.Frames.Holding.{Held, held_after, held_less, follows_less, follows_after}
+use Rattle.simulation.proofs.Frames.Sitting.{has_at}
+use Rattle.simulation.proofs.Frames.Sizes.{jump_count, jump_length, front_count, front_length}
+use Rattle.simulation.proofs.Frames.Values.{Operands}
 use Rattle.simulation.proofs.Control.Branches.{branch_follows, carried_pays}
 use Rattle.simulation.proofs.Control.Steps.{StopsAt, stops, held_here, has_here, inside_here, high_here, stand_here}
 use Rattle.simulation.proofs.Control.Tables.{chosen, front_lands}
-use Rattle.sim_frames.proofs.Rules.{types_split}
+use Rattle.simulation.proofs.Frames.Rules.{types_split}
 
 same_type_is : (t u : ValType) → same_type t u ≡ true → t ≡ u
 same_type_is I32 I32 e = refl

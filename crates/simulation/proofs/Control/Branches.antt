@@ -13,13 +13,13 @@ use Rattle.wasm_defs.specs.Configurations as config
 use Rattle.wasm_defs.specs.Reductions.{returns, branch, carried, hand_out, finish}
 use Rattle.frame_layout.specs.Slots.{operand}
 use Rattle.frame_layout.specs.Templates.{label_at, jump_words, exit_stub}
-use Rattle.sim_frames.specs.Functions.{TextPlaces}
-use Rattle.sim_frames.proofs.Frames.{Open, label_of, labels_of, Compiled, own, Opened, SitsAt, Fit}
-use Rattle.sim_frames.proofs.Follows.{callers_kept, Follows, owed_of}
-use Rattle.sim_frames.proofs.Holding.{Held, arrives, follows_less, follows_after}
-use Rattle.sim_frames.proofs.Leaving.{operands_below, own_near, leaves_follow}
-use Rattle.sim_frames.proofs.Rules.{types_length, types_append, types_split}
-use Rattle.sim_frames.proofs.Values.{Operands, Matches}
+use Rattle.simulation.specs.Functions.{TextPlaces}
+use Rattle.simulation.proofs.Frames.Frames.{Open, label_of, labels_of, Compiled, own, Opened, SitsAt, Fit}
+use Rattle.simulation.proofs.Frames.Follows.{callers_kept, Follows, owed_of}
+use Rattle.simulation.proofs.Frames.Holding.{Held, arrives, follows_less, follows_after}
+use Rattle.simulation.proofs.Frames.Leaving.{operands_below, own_near, leaves_follow}
+use Rattle.simulation.proofs.Frames.Rules.{types_length, types_append, types_split}
+use Rattle.simulation.proofs.Frames.Values.{Operands, Matches}
 use Rattle.simulation.proofs.Control.Moves.{Jumps, jumps_by}
 
 -- what is owed for values is enough for their moves, and for those of results

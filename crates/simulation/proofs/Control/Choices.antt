@@ -12,13 +12,13 @@ use Rattle.wasm_defs.specs.Configurations.{Func, Instance}
 use Rattle.frame_layout.specs.Templates.{Label}
 use Rattle.frame_layout.specs.Functions.{label, size, code, over, test_words, traps}
 use Rattle.frame_layout.proofs.Standing.{has_first, has_rest}
-use Rattle.sim_frames.specs.Functions.{TextPlaces}
-use Rattle.sim_frames.specs.Covered.{IsCovered}
-use Rattle.sim_frames.proofs.Frames.{Open, labels_of, behind_of, under, AreSited, Compiled, Ending, SitsAt}
-use Rattle.sim_frames.proofs.Heights.{peak, peak_nothing, peak_here, peak_if, peak_if_else, of_if, of_if_else}
-use Rattle.sim_frames.proofs.Sited.{sited_first, sited_rest, traps_alike}
-use Rattle.sim_frames.proofs.Sitting.{has_at, ending_at}
-use Rattle.sim_frames.proofs.Sizes.{code_size, over_size}
+use Rattle.simulation.specs.Functions.{TextPlaces}
+use Rattle.simulation.specs.Covered.{IsCovered}
+use Rattle.simulation.proofs.Frames.Frames.{Open, labels_of, behind_of, under, AreSited, Compiled, Ending, SitsAt}
+use Rattle.simulation.proofs.Frames.Heights.{peak, peak_nothing, peak_here, peak_if, peak_if_else, of_if, of_if_else}
+use Rattle.simulation.proofs.Frames.Sited.{sited_first, sited_rest, traps_alike}
+use Rattle.simulation.proofs.Frames.Sitting.{has_at, ending_at}
+use Rattle.simulation.proofs.Frames.Sizes.{code_size, over_size}
 use Rattle.simulation.proofs.Control.Blocks.{Pieces, ending_falls}
 
 module _ (text : List (Option Op)) (inst : Instance) (places : TextPlaces) {f : Func} (k : Compiled text inst places f) (os : List Open) where

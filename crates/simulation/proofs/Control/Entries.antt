@@ -15,14 +15,14 @@ use Rattle.wasm_defs.specs.Configurations as config
 use Rattle.wasm_defs.specs.Reductions.{within, leave, returns, reduce, carried}
 use Rattle.frame_layout.specs.Macros.{distance, far}
 use Rattle.frame_layout.specs.Templates.{exit_stub}
-use Rattle.sim_frames.specs.Functions.{TextPlaces}
-use Rattle.sim_frames.proofs.Frames.{Open, under, Compiled, own, Opened, SitsAt, Fit, FramesStay, KeepsRegisters}
-use Rattle.sim_frames.proofs.Follows.{same_beside, callers_kept, ahead, labels_ahead, Reached, Follows, owed_of}
-use Rattle.sim_frames.proofs.Heights.{peak_here, shape_by_types}
-use Rattle.sim_frames.proofs.Holding.{Held, held_now, arrives, follows_less, follows_after}
-use Rattle.sim_frames.proofs.Leaving.{own_near, leaves_follow}
-use Rattle.sim_frames.proofs.Rules.{types_length, types_append, types_split}
-use Rattle.sim_frames.proofs.Values.{Matches}
+use Rattle.simulation.specs.Functions.{TextPlaces}
+use Rattle.simulation.proofs.Frames.Frames.{Open, under, Compiled, own, Opened, SitsAt, Fit, FramesStay, KeepsRegisters}
+use Rattle.simulation.proofs.Frames.Follows.{same_beside, callers_kept, ahead, labels_ahead, Reached, Follows, owed_of}
+use Rattle.simulation.proofs.Frames.Heights.{peak_here, shape_by_types}
+use Rattle.simulation.proofs.Frames.Holding.{Held, held_now, arrives, follows_less, follows_after}
+use Rattle.simulation.proofs.Frames.Leaving.{own_near, leaves_follow}
+use Rattle.simulation.proofs.Frames.Rules.{types_length, types_append, types_split}
+use Rattle.simulation.proofs.Frames.Values.{Matches}
 use Rattle.simulation.proofs.Control.Blocks.{block_stop, loop_stop, block_pieces, loop_pieces, behind_sits, enters}
 use Rattle.simulation.proofs.Control.Branches.{carried_pays, finish_owes}
 use Rattle.simulation.proofs.Control.Moves.{far_jumps}

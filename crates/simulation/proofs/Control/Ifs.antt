@@ -13,13 +13,13 @@ use Rattle.wasm_defs.specs.Configurations.{Instance, Config, Step, belows, used}
 use Rattle.wasm_defs.specs.Reductions.{within, choose, reduce}
 use Rattle.frame_layout.specs.Macros.{s0, s5}
 use Rattle.frame_layout.specs.Templates.{exit_stub}
-use Rattle.sim_frames.specs.Functions.{TextPlaces}
-use Rattle.sim_frames.proofs.Frames.{Open, under, Compiled, FramesStay}
-use Rattle.sim_frames.proofs.Follows.{same_beside, registers_of, ahead, labels_ahead, Follows}
-use Rattle.sim_frames.proofs.Heights.{peak_here}
-use Rattle.sim_frames.proofs.Holding.{Held, held_now, held_after, held_less, follows_less, follows_after}
-use Rattle.sim_frames.proofs.Jumps.{Lands}
-use Rattle.sim_frames.proofs.Values.{Matches}
+use Rattle.simulation.specs.Functions.{TextPlaces}
+use Rattle.simulation.proofs.Frames.Frames.{Open, under, Compiled, FramesStay}
+use Rattle.simulation.proofs.Frames.Follows.{same_beside, registers_of, ahead, labels_ahead, Follows}
+use Rattle.simulation.proofs.Frames.Heights.{peak_here}
+use Rattle.simulation.proofs.Frames.Holding.{Held, held_now, held_after, held_less, follows_less, follows_after}
+use Rattle.simulation.proofs.Frames.Jumps.{Lands}
+use Rattle.simulation.proofs.Frames.Values.{Matches}
 use Rattle.simulation.proofs.Control.Blocks.{Pieces, behind_sits, enters}
 use Rattle.simulation.proofs.Control.Choices.{Choice, if_choice, if_else_choice}
 use Rattle.simulation.proofs.Control.Entries.{still, sits_whole, same_shape}

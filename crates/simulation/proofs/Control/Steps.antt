@@ -21,16 +21,16 @@ use Rattle.frame_layout.specs.Traps.{trap_places}
 use Rattle.frame_layout.specs.Templates.{Label, Around, last_label, jump_words, words, exit_stub}
 use Rattle.frame_layout.specs.Functions.{code}
 use Rattle.frame_layout.proofs.Jumps.{trap_traps}
-use Rattle.sim_frames.specs.Functions.{TextPlaces}
-use Rattle.sim_frames.proofs.Frames.{Open, label_of, labels_of, under, Compiled, own, SitsAt, Fit, FramesStay}
-use Rattle.sim_frames.proofs.Follows.{ahead, labels_ahead, halts_at, Follows, owed_of}
-use Rattle.sim_frames.proofs.Heights.{peak_here}
-use Rattle.sim_frames.proofs.Holding.{Held, held_now, follows_less}
-use Rattle.sim_frames.proofs.Leaving.{operands_below}
-use Rattle.sim_frames.proofs.Rules.{types_length, MovesFixed, moves_fixed, rule_height}
-use Rattle.sim_frames.proofs.Sited.{IsIn}
-use Rattle.sim_frames.proofs.Sitting.{has_words, trap_told, sits_rest}
-use Rattle.sim_frames.proofs.Values.{Operands}
+use Rattle.simulation.specs.Functions.{TextPlaces}
+use Rattle.simulation.proofs.Frames.Frames.{Open, label_of, labels_of, under, Compiled, own, SitsAt, Fit, FramesStay}
+use Rattle.simulation.proofs.Frames.Follows.{ahead, labels_ahead, halts_at, Follows, owed_of}
+use Rattle.simulation.proofs.Frames.Heights.{peak_here}
+use Rattle.simulation.proofs.Frames.Holding.{Held, held_now, follows_less}
+use Rattle.simulation.proofs.Frames.Leaving.{operands_below}
+use Rattle.simulation.proofs.Frames.Rules.{types_length, MovesFixed, moves_fixed, rule_height}
+use Rattle.simulation.proofs.Frames.Sited.{IsIn}
+use Rattle.simulation.proofs.Frames.Sitting.{has_words, trap_told, sits_rest}
+use Rattle.simulation.proofs.Frames.Values.{Operands}
 use Rattle.simulation.proofs.Control.Branches.{branch_follows, returns_follow, carried_pays}
 use Rattle.simulation.proofs.Control.Entries.{sits_whole}
 

@@ -25,10 +25,10 @@ use Rattle.frame_layout.proofs.Standing.{has_first, has_rest}
 use Rattle.frame_layout.proofs.Constants.{block_leaves, const_32_leaves}
 use Rattle.frame_layout.proofs.Steps.{apart}
 use Rattle.frame_layout.proofs.Jumps.{taken_reaches}
-use Rattle.sim_frames.proofs.Jumps.{Lands}
-use Rattle.sim_frames.proofs.Sitting.{has_at}
-use Rattle.sim_frames.proofs.Sizes.{jump_count, front_count}
-use Rattle.sim_frames.proofs.Values.{Matches}
+use Rattle.simulation.proofs.Frames.Jumps.{Lands}
+use Rattle.simulation.proofs.Frames.Sitting.{has_at}
+use Rattle.simulation.proofs.Frames.Sizes.{jump_count, front_count}
+use Rattle.simulation.proofs.Frames.Values.{Matches}
 use Rattle.simulation.proofs.Control.Tests.{loads}
 
 -- the lower half of an i32's word is the number

@@ -25,20 +25,20 @@ use Rattle.frame_layout.specs.BulkWords.{fill_words, copy_words, init_words, dro
 use Rattle.frame_layout.specs.Templates.{Label, Around, words}
 use Rattle.frame_layout.specs.Traps.{bulk_places}
 use Rattle.frame_layout.specs.Laws.{slot_at, TrapsAt}
-use Rattle.sim_memory.specs.Regions.{with_global, with_memory, SegmentStands}
-use Rattle.sim_memory.specs.StoreLaws.{WrittenOver}
-use Rattle.sim_memory.specs.StoreStands.{StoreStands}
-use Rattle.sim_memory.proofs.Standing.{written_stands}
-use Rattle.sim_memory.proofs.StoreStanding.{store_stored, store_dropped}
-use Rattle.sim_memory.specs.BulkLaws.{Writes, Filled, Copied, Inited}
-use Rattle.sim_memory.proofs.Bulk.Fill.{fill_law_does}
-use Rattle.sim_memory.proofs.Bulk.Copy.{copy_law_does}
-use Rattle.sim_memory.proofs.Bulk.Init.{init_law_does, drop_law_does}
-use Rattle.sim_memory.proofs.Bulk.Over.{filled_over, copied_over}
-use Rattle.sim_frames.specs.Functions.{StoreFits}
-use Rattle.sim_frames.proofs.Rules.{types_length}
-use Rattle.sim_frames.proofs.Sited.{IsIn}
-use Rattle.sim_frames.proofs.Values.{Matches}
+use Rattle.simulation.specs.Regions.{with_global, with_memory, SegmentStands}
+use Rattle.simulation.specs.StoreLaws.{WrittenOver}
+use Rattle.simulation.specs.StoreStands.{StoreStands}
+use Rattle.simulation.proofs.Memory.Standing.{written_stands}
+use Rattle.simulation.proofs.Memory.StoreStanding.{store_stored, store_dropped}
+use Rattle.simulation.specs.BulkLaws.{Writes, Filled, Copied, Inited}
+use Rattle.simulation.proofs.Memory.Bulk.Fill.{fill_law_does}
+use Rattle.simulation.proofs.Memory.Bulk.Copy.{copy_law_does}
+use Rattle.simulation.proofs.Memory.Bulk.Init.{init_law_does, drop_law_does}
+use Rattle.simulation.proofs.Memory.Bulk.Over.{filled_over, copied_over}
+use Rattle.simulation.specs.Functions.{StoreFits}
+use Rattle.simulation.proofs.Frames.Rules.{types_length}
+use Rattle.simulation.proofs.Frames.Sited.{IsIn}
+use Rattle.simulation.proofs.Frames.Values.{Matches}
 use Rattle.simulation.proofs.Straight.Instructions.{most_steps, Halts}
 use Rattle.simulation.proofs.Straight.Memories.{Changes, beside_matches}
 use Rattle.simulation.proofs.Straight.Operations.{typed_word, typed_range}

@@ -14,10 +14,10 @@ use Rattle.frame_layout.specs.Slots.{operand}
 use Rattle.frame_layout.specs.Traps.{trap_places}
 use Rattle.frame_layout.specs.Templates.{Label, Around, words}
 use Rattle.frame_layout.specs.Laws.{with_slot, is_scratch, Does, TrapsAt}
-use Rattle.sim_frames.proofs.Values.{Operands, Matches}
-use Rattle.sim_frames.proofs.Puts.{put_matches}
-use Rattle.sim_frames.proofs.Sited.{IsIn}
-use Rattle.sim_frames.proofs.Stores.{kept_matches}
+use Rattle.simulation.proofs.Frames.Values.{Operands, Matches}
+use Rattle.simulation.proofs.Frames.Puts.{put_matches}
+use Rattle.simulation.proofs.Frames.Sited.{IsIn}
+use Rattle.simulation.proofs.Frames.Stores.{kept_matches}
 
 -- the most steps that one instruction takes
 abbrev pub most_steps : ℕ

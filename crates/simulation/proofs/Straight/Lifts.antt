@@ -5,7 +5,7 @@ use Rattle.rv_isa.specs.declared.operations.Op.{Op}
 use Rattle.rv_isa.specs.Steps.{State}
 use Rattle.rv_isa.specs.Runs.{HasAt}
 use Rattle.wasm_defs.specs.declared.token.Plain.{Plain}
-use Rattle.wasm_defs.specs.declared.token.Plain.TheVariants.{Nop, Discard, Select, LocalGet, LocalSet, LocalTee, GlobalGet, GlobalSet, Load, Store, MemorySize, MemoryGrow, Bulk, DataDrop, Const, Operate}
+use Rattle.wasm_defs.specs.declared.token.Plain.TheVariants.{Unreachable, Br, BrIf, BrTable, Return, Call, CallIndirect}
 use Rattle.wasm_defs.specs.Trees.{Seq, Simple}
 use Rattle.wasm_defs.specs.Typing.{Types, Context, Moves, Typed, rule_of}
 use Rattle.wasm_defs.specs.Places.{Place, after_rule}
@@ -17,38 +17,30 @@ use Rattle.wasm_defs.specs.Reductions.{applied, simple}
 use Rattle.wasm_defs.specs.Effects.{Effect, Gives, Traps, Fails, effect, bytes_written}
 use Rattle.frame_layout.specs.Traps.{trap_places}
 use Rattle.frame_layout.specs.Templates.{Label, words}
-use Rattle.sim_frames.specs.Covered.{IsStraightStep}
-use Rattle.sim_frames.proofs.Frames.{labels_of, under, Compiled, SitsAt, FramesStay}
-use Rattle.sim_frames.proofs.Follows.{registers_of, matches_now, proceeds, leads_less, ahead, labels_ahead, halts_at, Follows}
-use Rattle.sim_frames.proofs.Heights.{peak_here}
-use Rattle.sim_frames.proofs.Rules.{types_length, types_append, moves_above, height_after}
-use Rattle.sim_frames.proofs.Values.{Matches}
-use Rattle.sim_frames.proofs.Sited.{IsIn}
-use Rattle.sim_frames.proofs.Sitting.{has_words, trap_told, sits_rest}
+use Rattle.simulation.specs.Covered.{IsStraightStep}
+use Rattle.simulation.proofs.Frames.Frames.{labels_of, under, Compiled, SitsAt, FramesStay}
+use Rattle.simulation.proofs.Frames.Follows.{registers_of, matches_now, proceeds, leads_less, ahead, labels_ahead, halts_at, Follows}
+use Rattle.simulation.proofs.Frames.Heights.{peak_here}
+use Rattle.simulation.proofs.Frames.Rules.{types_length, types_append, moves_above, height_after}
+use Rattle.simulation.proofs.Frames.Values.{Matches}
+use Rattle.simulation.proofs.Frames.Sited.{IsIn}
+use Rattle.simulation.proofs.Frames.Sitting.{has_words, trap_told, sits_rest}
 use Rattle.simulation.proofs.Straight.Effects.{above, enough, effect_above}
 use Rattle.simulation.proofs.Straight.Instructions as one
-use Rattle.simulation.proofs.Straight.Outcomes.{KeepsStore, none_written, outcome}
-use Rattle.sim_memory.specs.StoreStands.{StoreStands}
-use Rattle.sim_frames.specs.Functions.{TextPlaces, global_types}
+use Rattle.simulation.proofs.Straight.Outcomes.{outcome}
+use Rattle.simulation.proofs.Straight.Stores.{KeepsStore, none_written}
+use Rattle.simulation.specs.StoreStands.{StoreStands}
+use Rattle.simulation.specs.Functions.{TextPlaces, global_types}
 
 pub simple_applied : (inst : Instance) (c : Config) (p : Plain) (rest : Seq) → IsStraightStep p → simple inst c p rest ≡ applied c (place_of c.frame (Simple p rest)) rest (bytes_written p c.frame.operands) (effect c.store c.frame.locals inst.cap p c.frame.operands)
-simple_applied inst c Nop rest h = refl
-simple_applied inst c Discard rest h = refl
-simple_applied inst c Select rest h = refl
-simple_applied inst c (LocalGet x) rest h = refl
-simple_applied inst c (LocalSet x) rest h = refl
-simple_applied inst c (LocalTee x) rest h = refl
-simple_applied inst c (GlobalGet x) rest h = refl
-simple_applied inst c (GlobalSet x) rest h = refl
-simple_applied inst c (Load o a) rest h = refl
-simple_applied inst c (Store o a) rest h = refl
-simple_applied inst c MemorySize rest h = refl
-simple_applied inst c MemoryGrow rest h = refl
-simple_applied inst c (Bulk op) rest h = refl
-simple_applied inst c (DataDrop x) rest h = refl
-simple_applied inst c (Const t n) rest h = refl
-simple_applied inst c (Operate op) rest h = refl
-simple_applied inst c p rest h = absurd h
+simple_applied inst c Unreachable rest h = absurd h
+simple_applied inst c (Br l) rest h = absurd h
+simple_applied inst c (BrIf l) rest h = absurd h
+simple_applied inst c (BrTable ls l) rest h = absurd h
+simple_applied inst c Return rest h = absurd h
+simple_applied inst c (Call f) rest h = absurd h
+simple_applied inst c (CallIndirect i table) rest h = absurd h
+simple_applied inst c p rest h = refl
 
 module _ (text : List (Option Op)) (near : length text ≤ 2 ^ 26) (inst : Instance) (places : TextPlaces) (outer : Types) (c : Config) (s : State) (p : Plain) (rest : Seq) (step : IsStraightStep p)
     (m : FramesStay text inst places outer (record c.frame { code = Simple p rest }) c.callers s) where

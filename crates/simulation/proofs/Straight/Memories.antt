@@ -28,18 +28,18 @@ use Rattle.frame_layout.specs.Macros.{s0, s5}
 use Rattle.frame_layout.specs.Templates.{Label, Around, global_get_words, global_set_words, load_words, store_words, size_words, words}
 use Rattle.frame_layout.specs.Laws.{slot_at, with_slot, is_scratch, Does}
 use Rattle.frame_layout.proofs.Steps.{does_with}
-use Rattle.sim_memory.specs.Regions.{with_global, with_memory}
-use Rattle.sim_memory.specs.MemoryLaws.{Loaded, Stored}
-use Rattle.sim_memory.specs.StoreStands.{StoreStands}
-use Rattle.sim_memory.proofs.Globals.{global_get_does, global_set_does}
-use Rattle.sim_memory.proofs.Growing.{size_does, pages_now}
-use Rattle.sim_memory.proofs.Loads.{load_does}
-use Rattle.sim_memory.proofs.Parts.{load_range}
-use Rattle.sim_memory.proofs.Standing.{global_inside, global_read, written_stands, bytes_of_are}
-use Rattle.sim_memory.proofs.Stores.{store_law_does}
-use Rattle.sim_memory.proofs.StoreStanding.{store_set, store_stored}
-use Rattle.sim_frames.proofs.Sets.{set_types}
-use Rattle.sim_frames.proofs.Values.{Agree, Locals, Operands, Matches, locals_kept, operands_kept}
+use Rattle.simulation.specs.Regions.{with_global, with_memory}
+use Rattle.simulation.specs.MemoryLaws.{Loaded, Stored}
+use Rattle.simulation.specs.StoreStands.{StoreStands}
+use Rattle.simulation.proofs.Memory.Globals.{global_get_does, global_set_does}
+use Rattle.simulation.proofs.Memory.Growing.{size_does, pages_now}
+use Rattle.simulation.proofs.Memory.Loads.{load_does}
+use Rattle.simulation.proofs.Memory.Parts.{load_range}
+use Rattle.simulation.proofs.Memory.Standing.{global_inside, global_read, written_stands, bytes_of_are}
+use Rattle.simulation.proofs.Memory.Stores.{store_law_does}
+use Rattle.simulation.proofs.Memory.StoreStanding.{store_set, store_stored}
+use Rattle.simulation.proofs.Frames.Sets.{set_types}
+use Rattle.simulation.proofs.Frames.Values.{Agree, Locals, Operands, Matches, locals_kept, operands_kept}
 use Rattle.simulation.proofs.Straight.Instructions.{most_steps, Follows, Halts, Outcome, put_follows}
 use Rattle.simulation.proofs.Straight.Operations.{typed_word, typed_range}
 

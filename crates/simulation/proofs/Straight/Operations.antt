@@ -27,18 +27,18 @@ use Rattle.frame_layout.specs.Traps.{trap_places, overflow_place}
 use Rattle.frame_layout.specs.Templates.{Label, Around, operate_words}
 use Rattle.frame_layout.specs.Laws.{slot_at, with_slot, Does}
 use Rattle.frame_layout.proofs.Steps.{does_nothing}
-use Rattle.sim_integer.specs.Laws.{overflow_words, Comes, converted_from}
-use Rattle.sim_integer.proofs.Binary.{binary_does}
-use Rattle.sim_integer.proofs.Comparisons.{compare_does, test_does}
-use Rattle.sim_integer.proofs.Unary.{unary_does}
-use Rattle.sim_integer.proofs.Conversions.{convert_does}
-use Rattle.sim_integer.proofs.SignExtensions.{extend_does, extend_is_below}
-use Rattle.sim_integer.proofs.Ranges.{binary_is_below, compare_is_below, unary_is_below, test_is_below, convert_is_below}
-use Rattle.sim_integer.proofs.Lengths.{lengths_are_bounded}
-use Rattle.sim_frames.proofs.Values.{Holds, Matches}
-use Rattle.sim_frames.proofs.Rules.{MovesFixed}
-use Rattle.sim_frames.proofs.Sited.{IsIn}
-use Rattle.sim_frames.proofs.Stores.{other_operands}
+use Rattle.simulation.specs.IntegerLaws.{overflow_words, Comes, converted_from}
+use Rattle.simulation.proofs.Integers.Binary.{binary_does}
+use Rattle.simulation.proofs.Integers.Comparisons.{compare_does, test_does}
+use Rattle.simulation.proofs.Integers.Unary.{unary_does}
+use Rattle.simulation.proofs.Integers.Conversions.{convert_does}
+use Rattle.simulation.proofs.Integers.SignExtensions.{extend_does, extend_is_below}
+use Rattle.simulation.proofs.Integers.Ranges.{binary_is_below, compare_is_below, unary_is_below, test_is_below, convert_is_below}
+use Rattle.simulation.proofs.Integers.Lengths.{lengths_are_bounded}
+use Rattle.simulation.proofs.Frames.Values.{Holds, Matches}
+use Rattle.simulation.proofs.Frames.Rules.{MovesFixed}
+use Rattle.simulation.proofs.Frames.Sited.{IsIn}
+use Rattle.simulation.proofs.Frames.Stores.{other_operands}
 use Rattle.simulation.proofs.Straight.Instructions.{most_steps, Follows, Outcome, kept_follows, put_follows}
 
 -- the word and the number of a value of a type

@@ -7,39 +7,23 @@ use Rattle.rv_isa.specs.Runs.{place, HasAt}
 use Rattle.wasm_defs.specs.declared.types.ValType.{ValType}
 use Rattle.wasm_defs.specs.declared.types.ValType.TheVariants.{I32, I64}
 use Rattle.wasm_defs.specs.declared.token.Plain.{Plain}
-use Rattle.wasm_defs.specs.declared.token.Plain.TheVariants.{Nop, Discard, Select, LocalGet, LocalSet, LocalTee, GlobalGet, GlobalSet, Load, MemorySize, MemoryGrow, Bulk, DataDrop, Const, Operate}
-use Rattle.wasm_defs.specs.declared.token.Plain.TheVariants as plain
+use Rattle.wasm_defs.specs.declared.token.Plain.TheVariants.{Unreachable, Br, BrIf, BrTable, Return, Call, CallIndirect, Nop, Discard, Select, LocalGet, LocalSet, LocalTee, GlobalGet, Load, MemorySize, Const, Operate}
 use Rattle.wasm_defs.specs.declared.operation.LoadOp.{LoadOp}
 use Rattle.wasm_defs.specs.declared.token.MemArg.{MemArg}
 use Rattle.wasm_defs.specs.Typing.{Types, Context, Moves, Fixed, operated, load_type, load_alignment, accesses, rule_of}
 use Rattle.wasm_defs.specs.Configurations.{Store}
 use Rattle.wasm_defs.specs.Values.{Value, types_of_values}
-use Rattle.wasm_defs.specs.Effects.{bytes_written}
 use Rattle.frame_layout.specs.Templates.{Label, Around, const_words, load_words, words}
-use Rattle.sim_frames.specs.Covered.{IsStraightStep}
-use Rattle.sim_frames.proofs.Rules.{types_length, MovesFixed, moves_fixed, discards, selects, on_local, on_global, moves_only}
-use Rattle.sim_frames.proofs.Values.{Matches}
+use Rattle.simulation.specs.Covered.{IsStraightStep}
+use Rattle.simulation.proofs.Frames.Rules.{types_length, MovesFixed, moves_fixed, discards, selects, on_local, on_global, moves_only}
+use Rattle.simulation.proofs.Frames.Values.{Matches}
 use Rattle.simulation.proofs.Straight.Instructions.{most_steps, Outcome}
 use Rattle.simulation.proofs.Straight.Variables.{nop_follows, discard_follows, const_follows, get_follows, set_follows, tee_follows, select_follows}
 use Rattle.simulation.proofs.Straight.Operations.{operates}
+use Rattle.simulation.proofs.Straight.Stores.{KeepsStore}
 use Rattle.simulation.proofs.Straight.Memories.{global_get_follows, size_follows, load_outcome}
-use Rattle.sim_memory.specs.StoreStands.{StoreStands}
-use Rattle.sim_frames.specs.Functions.{global_types}
-
--- instructions that leave the store as it is
-abbrev pub KeepsStore : Plain → Type 0
-KeepsStore (GlobalSet x) = ⊥
-KeepsStore (plain.Store o m) = ⊥
-KeepsStore MemoryGrow = ⊥
-KeepsStore (Bulk op) = ⊥
-KeepsStore (DataDrop x) = ⊥
-KeepsStore p = Unit {0}
-
--- they write no bytes
-pub none_written : (p : Plain) (operands : List Value) → KeepsStore p → bytes_written p operands ≡ 0
-none_written (Bulk op) operands keeps = absurd keeps
-none_written (DataDrop x) operands keeps = absurd keeps
-none_written p operands keeps = refl
+use Rattle.simulation.specs.StoreStands.{StoreStands}
+use Rattle.simulation.specs.Functions.{global_types}
 
 const_short : (w : Around) (h : ℕ) (t : ValType) (n : ℕ) → length (const_words w h t n) ≤ most_steps
 const_short w h I32 n = omega arith
@@ -88,21 +72,23 @@ module _ (code : List (Option Op)) (near : length code ≤ 2 ^ 26) (c : Context)
       let v = r.local.v in
       let v_is : v.ty ∷ types_of_values operands ≡ mid = ap (λ (t : ValType). t ∷ types_of_values operands) r.local.ty_is ∙ is in
       inl (global_get_follows code c labels w base there b store cap locals here s i at pages holds operands mid x v r.local.is v_is (fits_one_more operands r.ty mid is high) has m)
-  outcome (GlobalSet x) operands mid h keeps moves low high has m = absurd keeps
   outcome (Load o mem) operands mid h keeps moves low high has m =
       load_one o mem operands mid h (moves_fixed (I32 ∷ []) (load_type o ∷ []) (types_of_values operands) mid (moves_only (accesses c mem.align (load_alignment o)) (Fixed (I32 ∷ []) (load_type o ∷ [])) (types_of_values operands) mid moves)) low has m
-  outcome (plain.Store o mem) operands mid h keeps moves low high has m = absurd keeps
   outcome MemorySize operands mid h keeps moves low high has m =
       let f = moves_fixed [] (I32 ∷ []) (types_of_values operands) mid (moves_only (nat_lt 0 c.memories) (Fixed [] (I32 ∷ [])) (types_of_values operands) mid moves) in
       let is : I32 ∷ types_of_values operands ≡ mid = ap (λ (ts : Types). I32 ∷ ts) f.before ∙ sym f.after in
       inl (size_follows code c labels w base there b store cap locals here s i at pages holds operands mid is (fits_one_more operands I32 mid is high) has m)
-  outcome MemoryGrow operands mid h keeps moves low high has m = absurd keeps
-  outcome (Bulk op) operands mid h keeps moves low high has m = absurd keeps
-  outcome (DataDrop x) operands mid h keeps moves low high has m = absurd keeps
   outcome (Const t n) operands mid h keeps moves low high has m =
       let f = moves_fixed [] (t ∷ []) (types_of_values operands) mid moves in
       let is : t ∷ types_of_values operands ≡ mid = ap (λ (ts : Types). t ∷ ts) f.before ∙ sym f.after in
       inl (const_follows code c labels w base there b store cap locals here s i at operands mid t n f h (fits_one_more operands t mid is high) has m (const_short w (length operands) t _))
   outcome (Operate op) operands mid h keeps moves low high has m =
       operates code c labels w base there b store cap locals here s i at op operands mid (moves_fixed (operated op).params (operated op).results (types_of_values operands) mid moves) low near has m
-  outcome p operands mid h keeps moves low high has m = absurd h
+  outcome Unreachable operands mid h keeps moves low high has m = absurd h
+  outcome (Br l) operands mid h keeps moves low high has m = absurd h
+  outcome (BrIf l) operands mid h keeps moves low high has m = absurd h
+  outcome (BrTable ls l) operands mid h keeps moves low high has m = absurd h
+  outcome Return operands mid h keeps moves low high has m = absurd h
+  outcome (Call f) operands mid h keeps moves low high has m = absurd h
+  outcome (CallIndirect i table) operands mid h keeps moves low high has m = absurd h
+  outcome p operands mid h keeps moves low high has m = absurd cc

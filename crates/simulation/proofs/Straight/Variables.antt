@@ -19,12 +19,12 @@ use Rattle.frame_layout.specs.Templates.{Label, Around, const_words, local_get_w
 use Rattle.frame_layout.specs.Laws.{slot_at, with_slot}
 use Rattle.frame_layout.proofs.Instructions.{const_does, local_get_does}
 use Rattle.frame_layout.proofs.Steps.{does_with, does_count, does_nothing}
-use Rattle.sim_memory.specs.Laws.{chosen, Chooses}
-use Rattle.sim_memory.proofs.Instructions.{local_set_does, select_does}
-use Rattle.sim_frames.proofs.Values.{Holds, holds_as, Operands, Matches}
-use Rattle.sim_frames.proofs.Rules.{MovesFixed, OnLocal}
-use Rattle.sim_frames.proofs.Sets.{set_types}
-use Rattle.sim_frames.proofs.Stores.{other_operands, set_matches}
+use Rattle.simulation.specs.VariableLaws.{chosen, Chooses}
+use Rattle.simulation.proofs.Memory.Instructions.{local_set_does, select_does}
+use Rattle.simulation.proofs.Frames.Values.{Holds, holds_as, Operands, Matches}
+use Rattle.simulation.proofs.Frames.Rules.{MovesFixed, OnLocal}
+use Rattle.simulation.proofs.Frames.Sets.{set_types}
+use Rattle.simulation.proofs.Frames.Stores.{other_operands, set_matches}
 use Rattle.simulation.proofs.Straight.Instructions.{most_steps, Follows, kept_follows, put_follows}
 
 module _ (code : List (Option Op)) (c : Context) (labels : List Label) (w : Around) (base there : ℕ) (b : Bytes) (store : Store)

@@ -1,0 +1,49 @@
+//! Laws of numeric instructions, for the proofs of other crates. Each function does nothing: its contract is the law, which
+//! `specs/Laws.antt` states.
+ghost use Rattle.simulation.specs.IntegerLaws.{BinaryLaw, CompareLaw, UnaryLaw, TestLaw, ConvertLaw, BinaryRangeLaw, CompareRangeLaw, UnaryRangeLaw, TestRangeLaw, ConvertRangeLaw, ExtendLaw, ExtendRangeLaw, LengthLaw};
+
+/// The instruction words of an operation on two operands put the number that it gives into the slot of the lower one, or trap
+/// where it isn't defined.
+pub fn binary_law()
+    ensures { BinaryLaw }
+{}
+
+/// The instruction words of a comparison put 1 into the slot of the lower operand where it holds, and else 0.
+pub fn compare_law()
+    ensures { CompareLaw }
+{}
+
+/// The instruction words of a count of bits put it into the operand's slot.
+pub fn unary_law()
+    ensures { UnaryLaw }
+{}
+
+/// The instruction words of `eqz` put 1 into the operand's slot if the operand is 0, and else 0.
+pub fn test_law()
+    ensures { TestLaw }
+{}
+
+/// The instruction words of a conversion put the number that it gives into the operand's slot.
+pub fn convert_law()
+    ensures { ConvertLaw }
+{}
+
+/// The instruction words of a sign extension put the number that it gives into the operand's slot.
+pub fn extend_law()
+    ensures { ExtendLaw }
+{}
+
+/// What operations give is below the modulus of its type.
+pub fn range_law()
+    ensures binary { BinaryRangeLaw }
+    ensures compare { CompareRangeLaw }
+    ensures unary { UnaryRangeLaw }
+    ensures test { TestRangeLaw }
+    ensures convert { ConvertRangeLaw }
+    ensures extend { ExtendRangeLaw }
+{}
+
+/// No numeric instruction has more instruction words than those that count leading zeros.
+pub fn length_law()
+    ensures { LengthLaw }
+{}
