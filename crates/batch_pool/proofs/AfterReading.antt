@@ -6,8 +6,9 @@ use Rattle.std.proofs.lemmas.List.Elements.{All-append}
 use Rattle.index_spaces.specs.Spaces.{Spaces}
 use Rattle.cancel_drain.specs.declared.view.View.{View}
 use Rattle.cancel_drain.specs.Handles.{Site, Sitter}
-use Rattle.batch_pool.specs.declared.row.Row.{Row}
-use Rattle.batch_pool.specs.Working.{IsRowOf, Grows, place_of, keys_of}
+use Rattle.body_compiler.specs.declared.batch.row.Row.{Row}
+use Rattle.body_compiler.specs.BatchRows.{IsRowOf}
+use Rattle.batch_pool.specs.Working.{Grows, place_of, keys_of}
 use Rattle.batch_pool.specs.declared.scope.desk.Desk.{Desk}
 use Rattle.batch_pool.specs.Desks.{IsDesk, IsIdle, HasRead}
 use Rattle.batch_pool.specs.Gathering.{Gathers}

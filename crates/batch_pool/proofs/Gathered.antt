@@ -5,9 +5,10 @@ use Rattle.atomic_table.specs.Seated.{TableId}
 use Rattle.cancel_drain.specs.declared.view.View.{View}
 use Rattle.cancel_drain.specs.Handles.{Sitter}
 use Rattle.cancel_drain.specs.Views.{spent_view, joined, split_from}
-use Rattle.batch_pool.specs.declared.row.Row.{Row}
-use Rattle.batch_pool.specs.declared.row.Worked.{Worked}
-use Rattle.batch_pool.specs.Working.{IsRowOf, IsWorked, place_of, keys_of}
+use Rattle.body_compiler.specs.declared.batch.row.Row.{Row}
+use Rattle.batch_pool.specs.declared.worked.Worked.{Worked}
+use Rattle.body_compiler.specs.BatchRows.{IsRowOf}
+use Rattle.batch_pool.specs.Working.{IsWorked, place_of, keys_of}
 use Rattle.batch_pool.proofs.Served.{adds_same, adds_trans}
 use Rattle.index_spaces.specs.Spaces.{Spaces}
 use Rattle.batch_pool.specs.declared.scope.labour.Labour.{Labour}

@@ -7,9 +7,10 @@ use Rattle.body_cutter.specs.declared.batch.Batch.{Batch}
 use Rattle.cancel_drain.specs.Handles.{Site}
 use Rattle.batch_pool.specs.declared.ticket.Ticket.{Ticket}
 use Rattle.batch_pool.specs.Hands.{Feeding}
-use Rattle.batch_pool.specs.Low.{IsLow}
+use Rattle.body_compiler.specs.LowBatches.{IsLow}
 use Rattle.batch_pool.specs.Queues.{puts}
-use Rattle.batch_pool.specs.Working.{FitsBody, Fits}
+use Rattle.body_compiler.specs.BatchRows.{FitsBody}
+use Rattle.batch_pool.specs.Working.{Fits}
 use Rattle.batch_pool.specs.declared.scope.desk.Desk.{Desk}
 use Rattle.batch_pool.specs.Desks.{IsDesk, IsNext, PutsIn}
 

@@ -1,11 +1,9 @@
 pub mod AfterReading
-pub mod Coding
 pub mod Gathered
 pub mod Handing
 pub mod Moves
 pub mod Placing
 pub mod Pools
-pub mod Rests
 pub mod Rounds
 pub mod Searches
 pub mod Served

@@ -5,7 +5,7 @@ use Rattle.std.specs.Prelude.{slice_get}
 use Rattle.std.specs.Arc.{arc_value}
 use mathlib.Core.Logic.{dite}
 use native.Mathlib.Decide.{ℕ_discrete}
-use Rattle.batch_pool.specs.declared.row.Row.{Row}
+use Rattle.body_compiler.specs.declared.batch.row.Row.{Row}
 use Rattle.batch_pool.specs.Numbered.{last_row, row_numbered}
 
 -- each index has the last one of its number among the rows so far

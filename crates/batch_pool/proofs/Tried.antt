@@ -5,7 +5,7 @@ use native.Mathlib.Decide.{ℕ_discrete}
 use Rattle.index_spaces.specs.Spaces.{Spaces}
 use Rattle.cancel_drain.specs.declared.view.View.{View}
 use Rattle.cancel_drain.specs.Closing.{IsTried}
-use Rattle.batch_pool.specs.declared.row.Row.{Row}
+use Rattle.body_compiler.specs.declared.batch.row.Row.{Row}
 use Rattle.batch_pool.specs.declared.ticket.Ticket.{Ticket}
 use Rattle.batch_pool.specs.Working.{Grows, Fits, IsServed}
 use Rattle.batch_pool.proofs.Served.{grows_same, grows_trans, served_stays}

@@ -3,12 +3,13 @@ use Rattle.std.specs.Prelude.{◌≡◌, ◌⊎◌, ℕ, ◌-◌, ◌<◌, ◌�
 use Rattle.std.specs.Arc.{arc_value}
 use Rattle.index_spaces.specs.Spaces.{Spaces}
 use Rattle.body_cutter.specs.declared.batch.Batch.{Batch}
-use Rattle.batch_pool.specs.declared.row.Row.{Row}
+use Rattle.body_compiler.specs.declared.batch.row.Row.{Row}
 use Rattle.batch_pool.specs.declared.ticket.Ticket.{Ticket}
 use Rattle.batch_pool.specs.Hands.{Feeding}
-use Rattle.batch_pool.specs.Low.{IsLow}
+use Rattle.body_compiler.specs.LowBatches.{IsLow}
 use Rattle.batch_pool.specs.Queues.{puts}
-use Rattle.batch_pool.specs.Working.{IsRowOf, FitsBody, place_of, keys_of}
+use Rattle.body_compiler.specs.BatchRows.{IsRowOf, FitsBody}
+use Rattle.batch_pool.specs.Working.{place_of, keys_of}
 use Rattle.cancel_drain.specs.declared.view.View.{View}
 use Rattle.cancel_drain.specs.Handles.{Site, Sitter}
 use Rattle.cancel_drain.specs.Views.{publishes, IsAbove}

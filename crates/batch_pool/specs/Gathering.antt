@@ -1,13 +1,13 @@
 -- What workers give back to the thread that started them.
-use Rattle.std.specs.Prelude.{◌≡◌, ℕ, List, Option, Some, None}
+use Rattle.std.specs.Prelude.{◌≡◌, ℕ, List}
 use Rattle.atomic_table.specs.Seated.{TableId}
 use Rattle.index_spaces.specs.Spaces.{Spaces}
 use Rattle.batch_pool.specs.declared.scope.labour.Labour.{Labour}
 use Rattle.cancel_drain.specs.declared.view.View.{View}
 use Rattle.cancel_drain.specs.Handles.{Sitter}
 use Rattle.cancel_drain.specs.Views.{spent_view}
-use Rattle.batch_pool.specs.declared.row.Row.{Row}
-use Rattle.batch_pool.specs.Working.{IsRowOf, Adds}
+use Rattle.body_compiler.specs.declared.batch.row.Row.{Row}
+use Rattle.batch_pool.specs.Working.{Adds}
 
 -- a seat that was split off, with one part
 abbrev pub IsFresh : TableId → Sitter → Type 0
@@ -21,8 +21,3 @@ pub record Gathers (c : Spaces) (cells : List ℕ) (old new : View) (rows rows' 
 -- a promise under this context and these cells, of a seat that was split off
 abbrev pub AreOf : Spaces → List ℕ → TableId → Labour → Type 0
 AreOf spaces cells table p = (p.context.now ≡ spaces) × (p.cells.now ≡ cells) × IsFresh table p.seat.value
-
--- a row that is at hand is right
-abbrev pub IsRowIf : Spaces → List ℕ → Option Row → Type 0
-IsRowIf c cells None = Unit {0}
-IsRowIf c cells (Some row) = IsRowOf c cells row

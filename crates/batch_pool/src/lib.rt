@@ -5,28 +5,27 @@
 //! `run_beside` starts a thread for each worker, in parallel with the thread that feeds them, and joins them all.
 #![tactic(auto)]
 
-mod bodies;
 mod feeder;
 mod hand;
 mod idle;
 mod pool;
 mod queue;
-mod row;
 mod rule;
 mod scope;
 mod serving;
 mod thief;
 mod ticket;
+mod worked;
 mod worker;
 
 pub use feeder::Feeder;
 pub use hand::Hand;
 pub use pool::Pool;
-pub use row::{Row, RowCode, RowCodes, Rows, Stored, Worked};
 pub use scope::{
     Desk, Joined, Labour, Reading, Settled, by_number, join_all, keep, labour_at, run_beside,
     settle, take_in,
 };
 pub use serving::{fits, serve, serve_fitting};
 pub use ticket::Ticket;
+pub use worked::Worked;
 pub use worker::work;

@@ -17,13 +17,13 @@
 ghost use Rattle.std.specs.Prelude.{true, ℕ, ◌≡◌, ◌<◌, ◌^◌, ◌↔◌, ◌++◌, ◌∷◌, [], All, IsTrue, IfOk, IfSome, OnOk, OnErr, length};
 ghost use Rattle.std.specs.Arc.{arc_value};
 ghost use Rattle.cancel_drain.specs.Views.{times};
-ghost use Rattle.batch_pool.specs.Low.{IsLow};
-ghost use Rattle.batch_pool.specs.Working.{IsRowOf, FitsBody, Fits, Grows, IsServed};
+ghost use Rattle.body_compiler.specs.LowBatches.{IsLow};
+ghost use Rattle.body_compiler.specs.BatchRows.{IsRowOf, FitsBody};
+ghost use Rattle.batch_pool.specs.Working.{Fits, Grows, IsServed};
 ghost use Rattle.batch_pool.specs.Serving.{Tries, Runs, told};
 
-use crate::bodies::compile_batch;
-use crate::row::Row;
 use crate::ticket::Ticket;
+use body_compiler::{Row, compile_batch};
 use body_cutter::{Batch, Body};
 use cancel_drain::{Board, BoardSeat, Claim, Drained};
 use index_spaces::Context;

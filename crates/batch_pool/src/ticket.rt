@@ -1,7 +1,7 @@
 //! What the queues carry.
 ghost use Rattle.std.specs.Prelude.{◌≡◌, ◌↔◌, All, IsTrue, IfSome, IfNone};
 ghost use Rattle.std.specs.Arc.{arc_value};
-ghost use Rattle.batch_pool.specs.Low.{IsLow, IsLowBody};
+ghost use Rattle.body_compiler.specs.LowBatches.{IsLow, IsLowBody};
 
 use body_cutter::{Batch, Body};
 use std::alloc::Global;

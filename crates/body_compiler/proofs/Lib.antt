@@ -16,3 +16,5 @@ pub mod BlockTypes
 pub mod Growing
 pub mod Beginning
 pub mod Whole
+pub mod Rests
+mod Coding

@@ -2,20 +2,18 @@
 use Rattle.std.proofs.Common.{◌≡◌, ◌≤◌, ℕ, zero, suc, ◌+◌, ◌-◌, ◌*◌, Bool, true, false, ◌&&◌, List, [], ◌∷◌, ◌++◌, length, Option, None, Some, refl, sym, ap, ◌∙◌, subst, arith, length-append}
 use Rattle.std.specs.Prelude.{slice_get, nat_lt}
 use Rattle.std.proofs.lemmas.List.{length-reverse}
-use Rattle.wasm_defs.specs.declared.operation.Operation.{Operation}
-use Rattle.wasm_defs.specs.declared.operation.Operation.TheVariants.{Unary, Test, Binary, Compare, Convert, Extend}
-use Rattle.wasm_defs.specs.declared.operation.ConvertOp.TheVariants.{Wrap, ExtendS, ExtendU}
 use Rattle.wasm_defs.specs.declared.token.BlockType.{BlockType}
 use Rattle.wasm_defs.specs.declared.token.BlockType.TheVariants.{Empty, Value, Index}
 use Rattle.wasm_defs.specs.declared.token.Plain.{Plain}
-use Rattle.wasm_defs.specs.declared.token.Plain.TheVariants.{Unreachable, Nop, Br, BrIf, BrTable, Return, Call, CallIndirect, Discard, Select, LocalGet, LocalSet, LocalTee, GlobalGet, GlobalSet, Load, Store, MemorySize, MemoryGrow, Bulk, DataDrop, Const, Operate}
+use Rattle.wasm_defs.specs.declared.token.Plain.TheVariants.{Unreachable, Nop, Br, BrIf, BrTable, Return, Call, CallIndirect, Discard, Select, LocalGet, LocalSet, LocalTee, GlobalGet, GlobalSet, Const, Operate}
 use Rattle.wasm_defs.specs.declared.token.Token.{Token}
 use Rattle.wasm_defs.specs.declared.token.Token.TheVariants as token
 use Rattle.wasm_defs.specs.declared.types.FuncType.{FuncType}
 use Rattle.wasm_defs.specs.declared.types.ValType.{ValType}
 use Rattle.wasm_defs.specs.declared.types.ValType.TheVariants.{I32}
 use Rattle.wasm_defs.specs.Places.{higher}
-use Rattle.wasm_defs.specs.Typing.{Types, Signature, Context, Rule, Untyped, Fixed, Stops, Discards, Selects, with_type, only_if, accesses, reads_segment, load_type, load_alignment, store_type, store_alignment, are_labels, function_type, called, rule_of, operated, option_signature, signature_of, block_type}
+use Rattle.wasm_defs.proofs.EachOperation.{leaves_one}
+use Rattle.wasm_defs.specs.Typing.{Types, Signature, Context, Rule, Untyped, Fixed, Stops, Discards, Selects, with_type, only_if, are_labels, function_type, called, rule_of, option_signature, signature_of, block_type}
 use Rattle.body_validator.specs.declared.stack.Opening.{Opening}
 use Rattle.body_validator.specs.declared.stack.Opening.TheVariants.{Block as Blocks, Loop as Loops, If as Ifs, Else as Elses}
 use Rattle.body_validator.specs.Checking.{Operand, Operands, Frame, Frames, ◌>>=◌, guarded, known, take_one, take_all, Taken, take_any, joined, put, apply, applied, label_of, at, enter, fresh, receive, step, height, starts_live, place_of, measured, Checker, step_checker}
@@ -101,16 +99,6 @@ only_low : (b : Bool) (r : Rule) → IsLow r → IsLow (only_if b r)
 only_low true r h = h
 only_low false r h = tt
 
-operation_low : (op : Operation) → length (operated op).results ≤ max_lift
-operation_low (Unary t op) = omega arith
-operation_low (Test t) = omega arith
-operation_low (Binary t op) = omega arith
-operation_low (Compare t op) = omega arith
-operation_low (Convert Wrap) = omega arith
-operation_low (Convert ExtendS) = omega arith
-operation_low (Convert ExtendU) = omega arith
-operation_low (Extend op) = omega arith
-
 called_low : (on_top : Types) (t : Option FuncType) → ((f : FuncType) → t ≡ Some f → length f.results ≤ max_lift) → IsLow (with_type t (called on_top))
 called_low on_top None h = tt
 called_low on_top (Some f) h = let n = length-reverse f.results in let k = h f refl in omega arith
@@ -138,14 +126,9 @@ plain_low c (LocalSet x) small functions = local_low (slice_get c.locals x) _ (�
 plain_low c (LocalTee x) small functions = local_low (slice_get c.locals x) _ (λ t. omega arith)
 plain_low c (GlobalGet x) small functions = local_low (slice_get c.globals x) _ (λ g. omega arith)
 plain_low c (GlobalSet x) small functions = local_low (slice_get c.globals x) _ (λ g. only_low g.mutable (Fixed (g.ty ∷ []) []) (omega arith))
-plain_low c (Load op m) small functions = only_low (accesses c m.align (load_alignment op)) (Fixed (I32 ∷ []) (load_type op ∷ [])) (omega arith)
-plain_low c (Store op m) small functions = only_low (accesses c m.align (store_alignment op)) (Fixed (store_type op ∷ I32 ∷ []) []) (omega arith)
-plain_low c MemorySize small functions = only_low (nat_lt 0 c.memories) (Fixed [] (I32 ∷ [])) (omega arith)
-plain_low c MemoryGrow small functions = only_low (nat_lt 0 c.memories) (Fixed (I32 ∷ []) (I32 ∷ [])) (omega arith)
-plain_low c (Bulk op) small functions = only_low (nat_lt 0 c.memories && reads_segment c op) (Fixed (I32 ∷ I32 ∷ I32 ∷ []) []) (omega arith)
-plain_low c (DataDrop x) small functions = only_low (nat_lt x c.segments) (Fixed [] []) (omega arith)
 plain_low c (Const t n) small functions = omega arith
-plain_low c (Operate op) small functions = operation_low op
+plain_low c (Operate op) small functions = omega (arith, leaves_one op)
+plain_low c p small functions = search (only_low, arith)
 
 -- ---- the labels of frames
 

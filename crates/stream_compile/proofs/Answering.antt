@@ -17,19 +17,21 @@ use Rattle.image_format.specs.declared.limits.TheConstants.{IMAGE_BYTES}
 use Rattle.image_format.specs.Contents.{Image}
 use Rattle.image_format.specs.ImageBytes.{spelling}
 use Rattle.stream_compile.specs.declared.answer.Answer.TheVariants as answer
-use Rattle.stream_compile.specs.declared.answer.Built.{Built}
-use Rattle.stream_compile.specs.declared.answer.Checked.{Checked}
+use Rattle.module_stream.specs.declared.built.Built.{Built}
+use Rattle.module_stream.specs.declared.built.Checked.{Checked}
 use Rattle.stream_compile.specs.declared.answer.CheckAnswer.{CheckAnswer}
 use Rattle.stream_compile.specs.declared.answer.CheckAnswer.TheVariants as check
-use Rattle.stream_compile.specs.declared.compilation.Compilation.{Compilation}
+use Rattle.module_stream.specs.declared.compilation.Compilation.{Compilation}
 use Rattle.stream_compile.specs.declared.output.Output.{Output}
 use Rattle.stream_compile.specs.Came.{Came}
-use Rattle.stream_compile.specs.Done.{IsModuleOfSize, IsDone}
+use Rattle.module_stream.specs.Done.{IsModuleOfSize, IsDone}
 use Rattle.stream_compile.specs.Running.{RunsAs, IsForeign}
-use Rattle.stream_compile.specs.Compiling.{IsBuilt, IsRefused, CompilesSource, ChecksSource}
-use Rattle.stream_compile.specs.Reading.{Settled, Judged, checked_of, answer_of, of_lasting, stopped_answer, view}
+use Rattle.stream_compile.specs.Compiling.{IsRefused, CompilesSource, ChecksSource}
+use Rattle.module_stream.specs.Done.{IsBuilt}
+use Rattle.stream_compile.specs.Reading.{Settled, Judged, answer_of, of_lasting, stopped_answer, view}
+use Rattle.module_stream.specs.Done.{checked_of}
 use Rattle.stream_compile.specs.Texts.{Outcome, read_fault, accepted, compiled, rejected, TellsCheck, OfReading, OfModule, ComesOfModule, ComesTo}
-use Rattle.stream_compile.proofs.Stopped.{stopped_of_verdict}
+use Rattle.module_stream.proofs.Stopped.{stopped_of_verdict}
 use Rattle.stream_compile.proofs.Calls.{run_done}
 
 -- ---- what bytes come to that were read to their source's end

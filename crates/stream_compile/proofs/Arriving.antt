@@ -1,61 +1,26 @@
 -- Bytes that arrive, chunk by chunk, and what they settle.
-use Rattle.std.proofs.Common.{◌≡◌, ◌≤◌, ◌<◌, ◌+◌, ◌-◌, ◌^◌, ℕ, Bool, true, false, List, [], ◌++◌, length, take, drop, Option, Some, None, Result, Err, All, refl, sym, ap, subst, ◌∙◌, arith, length-append, true≢false}
-use Rattle.std.specs.Prelude.{◌&&◌, is_some}
+use Rattle.std.proofs.Common.{◌≡◌, ◌≤◌, ◌<◌, ◌+◌, ◌-◌, ◌^◌, ℕ, Bool, true, List, [], ◌++◌, length, take, drop, Option, Some, None, Result, Err, All, refl, sym, ap, subst, ◌∙◌, arith, length-append}
 use Rattle.std.specs.Io.KnownBytes.{prepend_known, IsAtEnd}
-use Rattle.std.proofs.lemmas.List.{append-nil, length-take, length-drop, take_all, take-take}
+use Rattle.std.proofs.lemmas.List.{append-nil, length-take, take-take}
 use Rattle.std.proofs.lemmas.List.Elements.{All-append, All-take}
 use Rattle.wasm_defs.specs.declared.front_stop.FrontStop.{FrontStop}
-use Rattle.wasm_defs.specs.declared.front_stop.FrontStop.TheVariants.{Refused, NoMemory}
 use Rattle.io_edges.specs.Causes.{Rose}
 use Rattle.stream_compile.specs.declared.chunk.Came.{Came}
 use Rattle.stream_compile.specs.declared.chunk.Came.TheVariants.{Bytes, Full, End, Failed}
-use Rattle.stream_compile.specs.declared.compilation.Compilation.{Compilation}
+use Rattle.module_stream.specs.declared.compilation.Compilation.{Compilation}
 use Rattle.stream_compile.specs.Arriving.{StandsAt, IsArriving, has_failed}
 use Rattle.stream_compile.specs.Came.{IsRead}
 use Rattle.stream_compile.specs.Chunks.{Chunked}
-use Rattle.stream_compile.specs.Done.{Decides}
+use Rattle.module_stream.specs.Done.{Decides}
 use Rattle.stream_compile.specs.Reading.{Settled}
-use Rattle.stream_compile.specs.Streaming.{IsGoing, IsUnread, GoesOn, MayGo, MayEnd, Advances}
+use Rattle.module_stream.specs.Streaming.{IsGoing, IsUnread, GoesOn, MayGo, MayEnd}
 use Rattle.stream_compile.proofs.Pumping.{came_more, going_piece, going_all, early, at_end, at_fault, at_limit}
-use Rattle.stream_compile.proofs.RightSoFar.{right_so_far}
-use Rattle.stream_compile.proofs.Streaming.{going_decides}
+use Rattle.module_stream.proofs.RightSoFar.{right_so_far}
+use Rattle.module_stream.proofs.Streaming.{going_decides}
 
 none_prepended : (o : Option (List ℕ)) → o ≡ prepend_known [] o
 none_prepended None = refl
 none_prepended (Some l) = refl
-
--- ---- stops
-
-pub advances_goes : (bytes piece : List ℕ) (stop : FrontStop) (s t : Compilation) (more next : List ℕ) → Advances bytes piece (Err stop) s more → GoesOn bytes (Err stop) t next
-advances_goes bytes piece (Refused r) s t more next h = h
-advances_goes bytes piece NoMemory s t more next h = tt
-
-pub goes_advances : (bytes piece : List ℕ) (stop : FrontStop) (s t : Compilation) (more next : List ℕ) → GoesOn bytes (Err stop) s more → Advances bytes piece (Err stop) t next
-goes_advances bytes piece (Refused r) s t more next h = h
-goes_advances bytes piece NoMemory s t more next h = tt
-
-pub advances_behind : (bytes piece rest : List ℕ) (stop : FrontStop) (s t : Compilation) (more next : List ℕ) → Advances bytes rest (Err stop) s more → Advances bytes piece (Err stop) t next
-advances_behind bytes piece rest (Refused r) s t more next h = h
-advances_behind bytes piece rest NoMemory s t more next h = tt
-
--- what is left of a piece of which so many bytes were taken
-pub rest_is : (taken : ℕ) (piece : List ℕ) → take (length piece - taken) (drop taken piece) ≡ drop taken piece
-rest_is taken piece = take_all (length piece - taken) (drop taken piece) (omega (arith, length-drop taken piece))
-
--- none is pending, unless the reading was to stop where bodies begin
-pub none_left : {X : Type 0} (up : Bool) (o : Option X) (pending : List ℕ) → (up ≡ false → pending ≡ []) → (o ≡ None → pending ≡ []) → (up && is_some o) ≡ false → pending ≡ []
-none_left false o pending f g e = f refl
-none_left true None pending f g e = g refl
-none_left true (Some x) pending f g e = absurd (true≢false e)
-
-pub not_up : {X : Type 0} (up : Bool) (o : Option X) → (up && is_some o) ≡ true → up ≡ false → ⊥
-not_up false o e f = true≢false (sym e)
-not_up true o e f = true≢false f
-
-pub not_outside : {X : Type 0} (up : Bool) (o : Option X) → (up && is_some o) ≡ true → o ≡ None → ⊥
-not_outside false o e f = true≢false (sym e)
-not_outside true None e f = true≢false (sym e)
-not_outside true (Some x) e f = absurd (cc)
 
 -- before the first read
 pub arriving_begins : (left : Option (List ℕ)) (before : ℕ) (may_read : Bool) (s : Compilation) (c : Chunked) → c ≡ record { pending = []; count = 0; came = Bytes } → may_read ≡ true → IsUnread s → IsArriving left before left before may_read s c

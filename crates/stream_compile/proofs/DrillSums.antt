@@ -32,7 +32,7 @@ use Rattle.simulation.specs.SameRuns.{own_ending, own_run}
 use Rattle.stream_compile.specs.Texts.{ChecksAndRuns, Outcome, TellsDrill, TellsEnd, TellsModuleRun, TellsSum, after, drill_call, drill_line, drilled}
 use Rattle.stream_compile.proofs.Calls.{Results, run_is}
 use Rattle.stream_compile.proofs.DrillRuns.{DrillEnds, drill_ends, drill_fits, drill_runnable, drill_type, imports_nothing}
-use Rattle.stream_compile.proofs.Once.{verdict_once}
+use Rattle.module_stream.proofs.Once.{verdict_once}
 
 -- ---- the bytes are one module
 

@@ -9,7 +9,7 @@ use Rattle.command_words.specs.declared.command.Call.{Call}
 use Rattle.command_words.specs.declared.command.Drill.{Drill}
 use Rattle.module_gen.specs.Drill.{drill_bytes}
 use Rattle.stream_compile.specs.declared.answer.Answer.TheVariants as answer
-use Rattle.stream_compile.specs.declared.answer.Built.{Built}
+use Rattle.module_stream.specs.declared.built.Built.{Built}
 use Rattle.stream_compile.specs.Came.{Came}
 use Rattle.stream_compile.specs.Compiling.{CompilesSource}
 use Rattle.stream_compile.specs.Running.{RunsAs}

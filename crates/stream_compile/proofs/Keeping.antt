@@ -13,22 +13,22 @@ use Rattle.section_reader.specs.Onward.{after_parts}
 use Rattle.body_cutter.specs.declared.body.Body.{Body}
 use Rattle.body_cutter.specs.Places.{Place}
 use Rattle.body_cutter.specs.Cuttings.{Cutting, left, IsFed, IsRefused}
-use Rattle.stream_compile.specs.declared.compilation.Compilation.{Compilation}
+use Rattle.module_stream.specs.declared.compilation.Compilation.{Compilation}
 use Rattle.stream_compile.specs.declared.intake.Intake.{Intake}
 use Rattle.stream_compile.specs.Arriving.{IsArriving, has_failed}
 use Rattle.stream_compile.specs.Chunks.{Chunked}
-use Rattle.stream_compile.specs.Codes.{Coding}
-use Rattle.stream_compile.specs.CutBodies.{counts_data, coded_all, cut_run, sections_behind}
-use Rattle.stream_compile.specs.Kept.{kept_bodies}
+use Rattle.module_stream.specs.Codes.{Coding}
+use Rattle.module_stream.specs.CutBodies.{counts_data, coded_all, cut_run, sections_behind}
+use Rattle.module_stream.specs.Kept.{kept_bodies}
 use Rattle.stream_compile.specs.Keeping.{with_kept, keeping, IsFaulty}
-use Rattle.stream_compile.specs.Progress.{IsJudging, CanTakeAll, TakesPart}
+use Rattle.module_stream.specs.Progress.{IsJudging, CanTakeAll, TakesPart}
 use Rattle.stream_compile.specs.Reading.{Settled}
-use Rattle.stream_compile.specs.Streaming.{IsGoing, GoesOn, with_cutter}
+use Rattle.module_stream.specs.Streaming.{IsGoing, GoesOn, with_cutter}
 use Rattle.stream_compile.proofs.Arriving.{goes_on, few_all, stops_there}
-use Rattle.stream_compile.proofs.CutRuns.{cut_append}
-use Rattle.stream_compile.proofs.Cutting.{run_fed, count_fed, refused_run, rest_run, split_rest, rest_is}
-use Rattle.stream_compile.proofs.Streaming.{IsCutting, reading_of, going_reading, cutting_of, going_cutting, taken_out, refused_at}
-use Rattle.stream_compile.proofs.Taking.{judging_on}
+use Rattle.module_stream.proofs.CutRuns.{cut_append}
+use Rattle.module_stream.proofs.Cutting.{run_fed, count_fed, refused_run, rest_run, split_rest, rest_is}
+use Rattle.module_stream.proofs.Streaming.{IsCutting, reading_of, going_reading, cutting_of, going_cutting, taken_out, refused_at}
+use Rattle.module_stream.proofs.Taking.{judging_on}
 
 -- ---- what is left after bodies that were kept
 

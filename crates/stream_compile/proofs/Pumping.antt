@@ -5,11 +5,11 @@ use Rattle.std.proofs.lemmas.List.{append-nil, take-append-le}
 use Rattle.wasm_defs.specs.declared.front_stop.FrontStop.{FrontStop}
 use Rattle.wasm_defs.specs.declared.front_stop.FrontStop.TheVariants.{Refused, NoMemory}
 use Rattle.io_edges.specs.Causes.{Rose}
-use Rattle.stream_compile.specs.declared.compilation.Compilation.{Compilation}
+use Rattle.module_stream.specs.declared.compilation.Compilation.{Compilation}
 use Rattle.stream_compile.specs.Came.{IsRead}
-use Rattle.stream_compile.specs.Done.{Decides}
+use Rattle.module_stream.specs.Done.{Decides}
 use Rattle.stream_compile.specs.Reading.{Settles, Settled}
-use Rattle.stream_compile.specs.Streaming.{IsGoing, GoesOn}
+use Rattle.module_stream.specs.Streaming.{IsGoing, GoesOn}
 use Rattle.stream_compile.proofs.Settling.{settled_end, settled_fault, settled_full, settled_early}
 
 pub came_more : (came piece : List ℕ) (old new : Option (List ℕ)) → old ≡ prepend_known piece new → prepend_known came old ≡ prepend_known (came ++ piece) new

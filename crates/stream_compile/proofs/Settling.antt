@@ -1,18 +1,17 @@
 -- What was read settles the verdict of all that came.
-use Rattle.std.proofs.Common.{◌≡◌, ◌⊎◌, inl, inr, subst, ℕ, ◌^◌, ◌-◌, ◌<◌, ◌≤◌, true, false, List, [], ◌++◌, length, Option, Some, None, refl, sym, ap, ◌∙◌, take, drop, append_assoc, length-append, length-take, arith}
+use Rattle.std.proofs.Common.{◌≡◌, inl, inr, subst, ℕ, ◌^◌, ◌-◌, ◌<◌, ◌≤◌, true, false, List, [], ◌++◌, length, Option, Some, None, refl, sym, ap, ◌∙◌, take, drop, append_assoc, length-append, length-take, arith}
 use Rattle.std.specs.Prelude.{IfSome}
 use Rattle.std.specs.Io.KnownBytes.{IsAtEnd}
 use Rattle.std.proofs.lemmas.Bool.{lt-ltb, le-ltb, cases_lt}
 use Rattle.std.proofs.lemmas.List.{append-nil, take-append-drop}
 use Rattle.wasm_defs.specs.declared.fault.Refusal.{Refusal}
-use Rattle.wasm_defs.specs.Outside.{Run, Ending, Refused, module_read}
-use Rattle.wasm_defs.specs.Faults.{Module, Verdict, Accepted, Rejected, IsFaultInside, ending_fault}
-use Rattle.wasm_laws.proofs.Bounded.{module_is_refused, module_stays}
-use Rattle.image_linker.specs.Judging.{IsTextFault, IsVerdictOf}
+use Rattle.wasm_defs.specs.Faults.{Verdict, Accepted, Rejected}
+use Rattle.image_linker.specs.Judging.{IsVerdictOf}
 use Rattle.io_edges.specs.Causes.{Rose}
 use Rattle.stream_compile.specs.Reading.{Settles}
 use Rattle.stream_compile.specs.Came.{IsRead, Came}
-use Rattle.stream_compile.proofs.Once.{verdict_once}
+use Rattle.module_stream.proofs.Once.{verdict_once}
+use Rattle.module_stream.proofs.Staying.{no_module, verdict_stays}
 
 -- ---- what came
 
@@ -22,35 +21,6 @@ none_left (Some l) end = sym end
 
 at_end : (read : List ℕ) (old new : Option (List ℕ)) → IsRead old new read → IsAtEnd new → Came old new false read
 at_end read old new is end = (read, [], is, none_left new end, sym (append-nil read))
-
--- an error of a module with this run, of so many bytes, and that of least offset
-abbrev IsFaultIn : ℕ → Run → Refusal → Type 0
-IsFaultIn n run r = ((ending_fault n run.ending ≡ Some r) ⊎ IsFaultInside [] 0 run.parts r) ⊎ IsTextFault [] 0 0 run.parts r
-
-abbrev IsFirstIn : ℕ → Run → Refusal → Type 0
-IsFirstIn n run r = IsFaultIn n run r × ((s : Refusal) → IsFaultIn n run s → r.offset ≤ s.offset)
-
--- of a run that is refused, the number of bytes is no matter
-first_stays : (n m : ℕ) (run later : Run) (stop r : Refusal) → run.ending ≡ Refused stop → later ≡ run → IsFirstIn n run r → IsFirstIn m later r
-first_stays n m run later stop r e same p =
-    let is : run ≡ record { parts = run.parts; ending = Refused stop } = ap (λ (x : Ending). record { parts = run.parts; ending = x }) e in
-    let here : IsFirstIn m (record { parts = run.parts; ending = Refused stop }) r = subst (λ (x : Run). IsFirstIn n x r) is p in
-    subst (λ (x : Run). IsFirstIn m x r) (sym (same ∙ is)) here
-
--- as many bytes as are read at most are no module
-no_module : (read : List ℕ) → 67108869 ≤ length read → (m : Module) → IsVerdictOf read (Accepted m) → ⊥
-no_module read le m v =
-    let h = module_is_refused read le in
-    let k : ending_fault (length read) (module_read read).ending ≡ Some h.0 = ap (ending_fault (length read)) h.1 in
-    let none = v.is.whole in
-    absurd (let t : Some h.0 ≡ None = sym k ∙ none in cc)
-
--- and more bytes after them change nothing
-verdict_stays : (read more : List ℕ) → 67108869 ≤ length read → (v : Verdict) → IsVerdictOf read v → IsVerdictOf (read ++ more) v
-verdict_stays read more le (Accepted m) v = absurd (no_module read le m v)
-verdict_stays read more le (Rejected r) v =
-    let h = module_is_refused read le in
-    first_stays (length read) (length (read ++ more)) (module_read read) (module_read (read ++ more)) h.0 r h.1 (module_stays read more le) v
 
 when_full : (read : List ℕ) (old new : Option (List ℕ)) → IsRead old new read → 67108869 ≤ length read → (bytes : List ℕ) × Came old new false bytes × ((v : Verdict) → IsVerdictOf read v → IsVerdictOf bytes v)
 when_full read old None is le = (read, (read, [], is, tt, sym (append-nil read)), λ v p. p)

@@ -5,12 +5,12 @@ use Rattle.io_edges.specs.Causes.{Rose}
 use Rattle.wasm_defs.specs.declared.front_stop.FrontStop.{FrontStop}
 use Rattle.stream_compile.specs.declared.chunk.Came.{Came}
 use Rattle.stream_compile.specs.declared.chunk.Came.TheVariants as came
-use Rattle.stream_compile.specs.declared.compilation.Compilation.{Compilation}
+use Rattle.module_stream.specs.declared.compilation.Compilation.{Compilation}
 use Rattle.stream_compile.specs.declared.reading.Ending.{Ending}
 use Rattle.stream_compile.specs.Chunks.{Chunked}
-use Rattle.stream_compile.specs.RightSoFar.{IsRightSoFar}
+use Rattle.module_stream.specs.RightSoFar.{IsRightSoFar}
 use Rattle.stream_compile.specs.Reading.{Settled}
-use Rattle.stream_compile.specs.Streaming.{IsGoing}
+use Rattle.module_stream.specs.Streaming.{IsGoing}
 
 -- how a source is by what its last read came to: by what is left in it, its counts of errors at first and now, how many bytes were
 -- read, and whether it may be read

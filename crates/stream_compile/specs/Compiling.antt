@@ -2,27 +2,14 @@
 use Rattle.std.specs.Prelude.{◌≡◌, ℕ, Bool, true, false, List, Option, None, Some}
 use Rattle.std.specs.Io.KnownBytes.{IsAtEnd}
 use Rattle.wasm_defs.specs.declared.fault.Refusal.{Refusal}
-use Rattle.wasm_defs.specs.Faults.{Module, Rejected}
-use Rattle.image_linker.specs.ImageOf.{image_of}
+use Rattle.wasm_defs.specs.Faults.{Rejected}
 use Rattle.image_linker.specs.Judging.{IsVerdictOf, IsStoppedAt}
-use Rattle.stream_compile.specs.declared.answer.Built.{Built}
 use Rattle.stream_compile.specs.declared.answer.Answer.{Answer}
 use Rattle.stream_compile.specs.declared.answer.Answer.TheVariants as answer
-use Rattle.stream_compile.specs.declared.answer.Checked.{Checked}
 use Rattle.stream_compile.specs.declared.answer.CheckAnswer.{CheckAnswer}
 use Rattle.stream_compile.specs.declared.answer.CheckAnswer.TheVariants as check
 use Rattle.stream_compile.specs.Came.{Came}
-use Rattle.stream_compile.specs.Done.{IsModuleOfSize}
-
--- the image of the module that the bytes are, which behaves as the module does; how many functions it declares, and its bytes
-pub record IsBuilt (bytes : List ℕ) (built : Built) : Type 0 where
-  pub «module» : Module
-  pub is : IsModuleOfSize bytes «module» built.functions built.bytes
-  pub image_is : built.image ≡ image_of «module»
-
--- the bytes are a module; how many functions it declares, and its bytes
-abbrev pub IsValid : List ℕ → Checked → Type 0
-IsValid bytes checked = (m : Module) × IsModuleOfSize bytes m checked.functions checked.bytes
+use Rattle.module_stream.specs.Done.{IsBuilt, IsValid}
 
 -- the error of the verdict; where the source failed, the one that decides then
 abbrev pub IsRefused : Bool → List ℕ → Refusal → Type 0

@@ -9,18 +9,18 @@ use Rattle.index_spaces.specs.Spaces.{Spaces}
 use Rattle.section_reader.specs.Onward.{after_parts}
 use Rattle.body_cutter.specs.declared.body.Body.{Body}
 use Rattle.body_cutter.specs.Cuttings.{Cutting}
-use Rattle.batch_pool.specs.Gathering.{IsRowIf}
+use Rattle.body_compiler.specs.BatchRows.{IsRowIf}
 use Rattle.stream_compile.specs.declared.beside.Met.{Met}
-use Rattle.stream_compile.specs.declared.compilation.Compilation.{Compilation}
+use Rattle.module_stream.specs.declared.compilation.Compilation.{Compilation}
 use Rattle.stream_compile.specs.declared.intake.Intake.{Intake}
 use Rattle.stream_compile.specs.declared.reading.Ending.{Ending}
 use Rattle.stream_compile.specs.Arriving.{IsArriving}
 use Rattle.stream_compile.specs.Chunks.{Chunked}
-use Rattle.stream_compile.specs.CutBodies.{counts_data, coded_all}
-use Rattle.stream_compile.specs.Kept.{kept_bodies}
-use Rattle.stream_compile.specs.Progress.{IsJudging}
+use Rattle.module_stream.specs.CutBodies.{counts_data, coded_all}
+use Rattle.module_stream.specs.Kept.{kept_bodies}
+use Rattle.module_stream.specs.Progress.{IsJudging}
 use Rattle.stream_compile.specs.Reading.{Settled}
-use Rattle.stream_compile.specs.Streaming.{with_cutter}
+use Rattle.module_stream.specs.Streaming.{with_cutter}
 
 -- a cutter as if it still had these bodies
 abbrev pub with_kept : List Body → Cutting → Cutting

@@ -1,15 +1,8 @@
-pub mod Codes
 pub mod Running
-pub mod CutBodies
-pub mod Progress
-pub mod Streaming
-pub mod Done
-pub mod RightSoFar
 pub mod Came
 pub mod Texts
 pub mod Reading
 pub mod Compiling
 pub mod Chunks
-pub mod Kept
 pub mod Keeping
 pub mod Arriving

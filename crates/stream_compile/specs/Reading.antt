@@ -5,18 +5,17 @@ use Rattle.wasm_defs.specs.declared.fault.Refusal.{Refusal}
 use Rattle.wasm_defs.specs.declared.front_stop.FrontStop.{FrontStop}
 use Rattle.wasm_defs.specs.declared.front_stop.FrontStop.TheVariants as stop
 use Rattle.wasm_defs.specs.Faults.{Module, Verdict, Accepted, Rejected}
-use Rattle.section_reader.specs.FrontLeft.{total}
 use Rattle.image_linker.specs.Judging.{IsVerdictOf, lasting}
-use Rattle.stream_compile.specs.declared.answer.Checked.{Checked}
+use Rattle.module_stream.specs.declared.built.Checked.{Checked}
 use Rattle.stream_compile.specs.declared.answer.CheckAnswer.{CheckAnswer}
 use Rattle.stream_compile.specs.declared.answer.CheckAnswer.TheVariants as check
-use Rattle.stream_compile.specs.declared.compilation.Compilation.{Compilation}
+use Rattle.module_stream.specs.declared.compilation.Compilation.{Compilation}
 use Rattle.stream_compile.specs.declared.output.Output.{Output}
 use Rattle.stream_compile.specs.declared.output.Text.{Text}
 use Rattle.stream_compile.specs.declared.output.Text.TheVariants.{Line, Image}
 use Rattle.stream_compile.specs.Came.{Came}
 use Rattle.stream_compile.specs.Compiling.{ChecksSource}
-use Rattle.stream_compile.specs.Done.{IsDone}
+use Rattle.module_stream.specs.Done.{IsDone, checked_of}
 use Rattle.stream_compile.specs.Texts.{Outcome}
 
 -- reading failed exactly where the count rose; where it didn't, all bytes that came have the verdict of those that were read
@@ -36,10 +35,6 @@ Settled failed (Err (stop.Refused r)) s left rest before now = (read : List ℕ)
 Settled failed (Err stop.NoMemory) s left rest before now = Unit {0}
 
 -- ---- what is answered
-
--- how many functions were declared, and how many bytes there were
-abbrev pub checked_of : Compilation → Checked
-checked_of s = record { functions = s.spaces.declared; bytes = total s.front }
 
 abbrev pub answer_of : Result (Unit {0}) FrontStop → Checked → CheckAnswer
 answer_of (Ok done) checked = check.Valid checked

@@ -1,6 +1,6 @@
 //! What validation and compilation come to.
 
-use image_format::Image;
+use module_stream::{Built, Checked};
 use wasm_defs::Refusal;
 
 /// How a module is compiled. Neither setting has an effect on the answer.
@@ -10,26 +10,6 @@ pub struct Settings {
     pub workers: u32,
     /// The most bytes of bodies that a worker is handed at a time, from 1 to 1,048,576.
     pub batch: u32,
-}
-
-/// A module that was compiled.
-#[derive(Drop)]
-pub struct Built {
-    /// The module's one image.
-    pub image: Image,
-    /// How many functions the module declares, imported ones not counted.
-    pub functions: u64,
-    /// The bytes of the module.
-    pub bytes: u64,
-}
-
-/// A module that was validated.
-#[derive(Drop)]
-pub struct Checked {
-    /// How many functions the module declares, imported ones not counted.
-    pub functions: u64,
-    /// The bytes of the module.
-    pub bytes: u64,
 }
 
 /// What compiling comes to.

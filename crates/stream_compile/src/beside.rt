@@ -3,19 +3,20 @@
 ghost use Rattle.std.specs.Prelude.{◌≡◌, ◌<◌, ◌^◌, ℕ, Bool, true, [], List, Option, IfSome, IfOk, length};
 ghost use Rattle.io_edges.specs.Streams.{TookFront};
 ghost use Rattle.batch_pool.specs.Desks.{HasRead};
-ghost use Rattle.stream_compile.specs.declared.compilation.Compilation.{Compilation as Given};
+ghost use Rattle.module_stream.specs.declared.compilation.Compilation.{Compilation as Given};
 ghost use Rattle.stream_compile.specs.Arriving.{IsArriving};
-ghost use Rattle.stream_compile.specs.Codes.{KeepsAlike};
+ghost use Rattle.module_stream.specs.Codes.{KeepsAlike};
 ghost use Rattle.stream_compile.specs.Keeping.{keeping, Keeps, IsMet, Resumes};
 
 use crate::chunk::Chunk;
-use crate::compilation::Compilation;
 use crate::intake::{Intake, read_bodies};
 use crate::reading::Ending;
-use batch_pool::{Desk, Feeder, Hand, Pool, Reading, Row, Ticket, by_number, run_beside, settle};
+use batch_pool::{Desk, Feeder, Hand, Pool, Reading, Ticket, by_number, run_beside, settle};
+use body_compiler::Row;
 use cancel_drain::{Board, BoardSeat};
 use index_spaces::Context;
 use io_edges::{Gate, Source};
+use module_stream::Compilation;
 use result_cells::Cells;
 use std::alloc::{AllocError, Global};
 use std::sync::Wait;

@@ -2,7 +2,7 @@
 
 ghost use Rattle.std.specs.Prelude.{◌≡◌, ◌≢◌, ◌<◌, ◌≤◌, ℕ, true, [], List, Option, All, IfOk, length, take, drop};
 ghost use Rattle.io_edges.specs.Streams.{Reads, ReadCounts, ReadsOn, TookFront};
-ghost use Rattle.stream_compile.specs.declared.compilation.Compilation.{Compilation};
+ghost use Rattle.module_stream.specs.declared.compilation.Compilation.{Compilation};
 ghost use Rattle.stream_compile.specs.Arriving.{IsArriving, has_failed};
 
 use io_edges::{Got, Source};

@@ -5,10 +5,9 @@ ghost use Rattle.io_edges.specs.Streams.{TookFront};
 ghost use Rattle.stream_compile.specs.Compiling.{CompilesSource, ChecksSource};
 
 use crate::answer::{Answer, CheckAnswer, Settings};
-use crate::codes::Codes;
-use crate::compilation::Compilation;
 use crate::reading::judge_source;
 use io_edges::{Gate, Source};
+use module_stream::{Codes, Compilation};
 use std::alloc::Global;
 use std::sync::Wait;
 use std::thread::Threads;

@@ -3,9 +3,9 @@
 ghost use Rattle.std.specs.Prelude.{◌≡◌, ◌<◌, ◌++◌, ℕ, Bool, [], List, Option, None, OnOk};
 ghost use Rattle.io_edges.specs.Streams.{TookFront};
 ghost use Rattle.batch_pool.specs.Desks.{IsDesk, IsIdle};
-ghost use Rattle.stream_compile.specs.declared.compilation.Compilation.{Compilation};
+ghost use Rattle.module_stream.specs.declared.compilation.Compilation.{Compilation};
 ghost use Rattle.stream_compile.specs.Arriving.{IsArriving};
-ghost use Rattle.stream_compile.specs.Kept.{kept_bodies};
+ghost use Rattle.module_stream.specs.Kept.{kept_bodies};
 ghost use Rattle.stream_compile.specs.Keeping.{keeping, Keeps};
 
 use crate::chunk::{Came, Chunk};

@@ -3,11 +3,8 @@
 
 mod answer;
 mod beside;
-mod bodies;
 mod chunk;
-mod codes;
 mod command;
-mod compilation;
 mod compiling;
 mod drill;
 mod foreign;
@@ -16,13 +13,13 @@ mod laws;
 mod output;
 mod reading;
 mod running;
-mod shared;
 mod shown;
 mod writing;
 
-pub use answer::{Answer, Built, CheckAnswer, Checked, Settings};
+pub use answer::{Answer, CheckAnswer, Settings};
 pub use command::top;
 pub use compiling::{stream_check, stream_compile};
 pub use laws::{
     ended_is_owed, faults_share_no_offset, faults_stay, verdicts_are_one, what_stopped_decides,
 };
+pub use module_stream::{Built, Checked};

@@ -3,15 +3,15 @@
 ghost use Rattle.std.specs.Prelude.{◌≡◌, ◌<◌, ◌^◌, ◌-◌, ℕ, Bool, true, false, List, [], Option, None, IsSome, OnOk, nat_lt};
 ghost use Rattle.io_edges.specs.Streams.{TookFront};
 ghost use Rattle.stream_compile.specs.Arriving.{IsArriving, Arrives, ReadsOn};
-ghost use Rattle.stream_compile.specs.Codes.{KeepsAlike};
+ghost use Rattle.module_stream.specs.Codes.{KeepsAlike};
 ghost use Rattle.stream_compile.specs.Reading.{Settled, Judged, answer_of, stopped_answer};
-ghost use Rattle.stream_compile.specs.Streaming.{IsUnread};
+ghost use Rattle.module_stream.specs.Streaming.{IsUnread};
 
-use crate::answer::{CheckAnswer, Checked};
+use crate::answer::CheckAnswer;
 use crate::beside::read_beside;
 use crate::chunk::{Came, Chunk};
-use crate::compilation::Compilation;
 use io_edges::{Gate, Source};
+use module_stream::{Checked, Compilation};
 use std::alloc::Global;
 use std::sync::Wait;
 use std::thread::Threads;

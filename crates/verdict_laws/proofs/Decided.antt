@@ -20,10 +20,10 @@ use Rattle.frame_layout.specs.Templates.{exit_stub}
 use Rattle.image_linker.specs.ImageOf.{size_of, stub_size, front_size}
 use Rattle.image_linker.specs.Judging.{sizes, text_bytes, limit_at, IsTextFault, IsFaultOf, IsModuleOf, IsVerdictOf}
 use Rattle.image_linker.proofs.ImportBounds.{imports_are_few}
-use Rattle.stream_compile.proofs.CodeWords.{same_size}
-use Rattle.stream_compile.proofs.Once.{no_fault_of}
+use Rattle.module_stream.proofs.CodeWords.{same_size}
+use Rattle.module_stream.proofs.Once.{no_fault_of}
 use Rattle.wasm_laws.proofs.PartLists.{items_of-append}
-use Rattle.stream_compile.proofs.TextFaults.{tree_once, text_once}
+use Rattle.module_stream.proofs.TextFaults.{tree_once, text_once}
 use Rattle.body_laws.specs.Spelled.{IsSpelledModule}
 use Rattle.body_laws.proofs.SpelledModules.{module_is_spelled, spelled_is_module}
 use Rattle.verdict_laws.proofs.Leasts.{HasLeast, least_only, none_of, least_either}

@@ -2,7 +2,8 @@
 ghost use Rattle.std.specs.Prelude.{◌≡◌, ⊤, length, IfOk};
 ghost use Rattle.batch_pool.specs.Desks.{IsDesk, IsIdle};
 
-use batch_pool::{Desk, Pool, Reading, Row, by_number, run_beside, settle};
+use batch_pool::{Desk, Pool, Reading, by_number, run_beside, settle};
+use body_compiler::Row;
 use body_cutter::{Batch, Bodies, Body, BodyBytes};
 use cancel_drain::{Board, Closed};
 use index_spaces::{AddStop, Context, ContextBuilder};

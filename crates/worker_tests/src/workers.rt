@@ -2,7 +2,8 @@
 ghost use Rattle.std.specs.Prelude.{◌≡◌, ◌≤◌, IfOk, length};
 ghost use Rattle.index_spaces.specs.ItemLimits.{HasSmallType};
 
-use batch_pool::{Feeder, Hand, Pool, Row, Stored, Ticket, Worked, work};
+use batch_pool::{Feeder, Hand, Pool, Ticket, Worked, work};
+use body_compiler::{Row, Stored};
 use body_cutter::{Batch, Bodies, Body, BodyBytes};
 use cancel_drain::{Board, Closed};
 use index_spaces::{Context, ContextBuilder};

@@ -5,11 +5,12 @@ ghost use Rattle.batch_pool.specs.Working.{IsWorked};
 
 use crate::feeder::Feeder;
 use crate::hand::Hand;
-use crate::row::{Row, Worked};
 use crate::scope::desk::Desk;
 use crate::scope::gathering::{join_all, take_in};
 use crate::scope::labour::{Labour, labour_at};
 use crate::ticket::Ticket;
+use crate::worked::Worked;
+use body_compiler::Row;
 use cancel_drain::{Board, BoardSeat};
 use index_spaces::Context;
 use io_edges::Gate;

@@ -4,8 +4,9 @@ ghost use Rattle.cancel_drain.specs.Handles.{Sitter};
 ghost use Rattle.batch_pool.specs.Gathering.{Gathers, IsFresh, AreOf};
 ghost use Rattle.batch_pool.specs.Working.{IsWorked};
 
-use crate::row::{Row, Worked};
 use crate::scope::labour::Labour;
+use crate::worked::Worked;
+use body_compiler::Row;
 use cancel_drain::{Board, BoardSeat};
 use index_spaces::Context;
 use result_cells::Cells;

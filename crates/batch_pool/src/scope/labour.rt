@@ -3,8 +3,9 @@ ghost use Rattle.std.specs.Prelude.{◌≡◌};
 ghost use Rattle.batch_pool.specs.Working.{IsWorked};
 
 use crate::hand::Hand;
-use crate::row::{Rows, Worked};
+use crate::worked::Worked;
 use crate::worker::work;
+use body_compiler::Rows;
 use cancel_drain::{Board, BoardSeat};
 use index_spaces::Context;
 use io_edges::Gate;

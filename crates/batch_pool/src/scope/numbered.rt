@@ -1,10 +1,9 @@
 //! Rows by the numbers of their batches.
 ghost use Rattle.std.specs.Prelude.{◌≡◌, ◌<◌, ℕ, Some, None, All, IfOk, length, slice_get};
-ghost use Rattle.batch_pool.specs.Working.{IsRowOf};
-ghost use Rattle.batch_pool.specs.Gathering.{IsRowIf};
+ghost use Rattle.body_compiler.specs.BatchRows.{IsRowOf, IsRowIf};
 ghost use Rattle.batch_pool.specs.Numbered.{row_numbered};
 
-use crate::row::Row;
+use body_compiler::Row;
 use index_spaces::Context;
 use result_cells::Cells;
 use std::alloc::{AllocError, Global};

@@ -6,9 +6,9 @@ ghost use Rattle.cancel_drain.specs.Closing.{IsTried, IsClosed, IsSettled};
 ghost use Rattle.cancel_drain.specs.declared.view.View.{View};
 ghost use Rattle.batch_pool.specs.Settling.{AreKept};
 
-use crate::row::Row;
 use crate::serving::serve_fitting;
 use crate::ticket::Ticket;
+use body_compiler::Row;
 use cancel_drain::{Board, BoardSeat, Closed};
 use index_spaces::Context;
 use io_edges::Gate;

@@ -1,6 +1,6 @@
 use Rattle.std.proofs.Common.{◌≡◌, Bool, Result, Err, sym, subst, refl, rules}
 use Rattle.wasm_defs.specs.declared.front_stop.FrontStop.{FrontStop}
-use Rattle.stream_compile.specs.declared.compilation.Compilation.{Compilation}
+use Rattle.module_stream.specs.declared.compilation.Compilation.{Compilation}
 use Rattle.stream_compile.specs.Arriving.{IsArriving}
 use Rattle.wasm_defs.specs.declared.front_stop.FrontStop.TheVariants.{Refused}
 use Rattle.stream_compile.specs.Keeping.{Keeps}

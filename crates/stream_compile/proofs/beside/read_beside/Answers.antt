@@ -1,7 +1,7 @@
 use Rattle.std.proofs.Common.{Some, sym, ap, subst, ◌∙◌, rules}
 use Rattle.std.specs.Prelude.{is_some}
 use Rattle.body_cutter.specs.Cuttings.{Cutting}
-use Rattle.stream_compile.specs.declared.compilation.Compilation.{Compilation}
+use Rattle.module_stream.specs.declared.compilation.Compilation.{Compilation}
 use Rattle.stream_compile.specs.Arriving.{IsArriving}
 use Rattle.stream_compile.specs.Chunks.{Chunked}
 use Rattle.stream_compile.proofs.Keeping.{none_kept, keeping_begins}

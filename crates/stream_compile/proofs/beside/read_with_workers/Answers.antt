@@ -1,5 +1,5 @@
-use Rattle.batch_pool.specs.Working.{IsRowOf}
-use Rattle.stream_compile.proofs.Sharing.{rows_grown}
+use Rattle.body_compiler.specs.BatchRows.{IsRowOf}
+use Rattle.module_stream.proofs.Sharing.{rows_grown}
 use Rattle.stream_compile.proofs.beside.read_with_workers.Goals as goal
 
 pub by_number-requires : goal.by_number-requires

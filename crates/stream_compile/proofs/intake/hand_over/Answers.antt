@@ -1,7 +1,7 @@
 use Rattle.std.proofs.Common.{ap, ◌∙◌}
 use Rattle.body_cutter.specs.Cuttings.{Cutting}
-use Rattle.stream_compile.specs.Kept.{kept_bodies}
-use Rattle.stream_compile.proofs.Sharing.{kept_more, kept_all}
+use Rattle.module_stream.specs.Kept.{kept_bodies}
+use Rattle.module_stream.proofs.Sharing.{kept_more, kept_all}
 use Rattle.stream_compile.proofs.intake.hand_over.Goals as goal
 
 pub loop-batch-preserved : goal.loop-batch-preserved

@@ -1,6 +1,6 @@
 use Rattle.std.proofs.Common.{◌≡◌, ◌++◌, length}
 use Rattle.batch_pool.specs.Desks.{IsDesk, IsIdle}
-use Rattle.stream_compile.specs.Kept.{kept_bodies}
+use Rattle.module_stream.specs.Kept.{kept_bodies}
 use Rattle.stream_compile.proofs.intake.hand_over.Given as goal
 
 abbrev pub invariant-loop-batch : goal.invariant-loop-batch

@@ -1,7 +1,7 @@
 use Rattle.std.proofs.Common.{◌≡◌, ◌≤◌, ◌-◌, ℕ, List, Option}
 use Rattle.io_edges.specs.Streams.{TookFront}
 use Rattle.batch_pool.specs.Desks.{IsDesk, IsIdle}
-use Rattle.stream_compile.specs.declared.compilation.Compilation.{Compilation}
+use Rattle.module_stream.specs.declared.compilation.Compilation.{Compilation}
 use Rattle.stream_compile.specs.Arriving.{IsArriving}
 use Rattle.stream_compile.specs.Keeping.{keeping}
 use Rattle.stream_compile.proofs.intake.read_bodies.Given as goal

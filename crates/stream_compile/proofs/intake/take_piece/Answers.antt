@@ -4,7 +4,7 @@ use Rattle.wasm_defs.specs.declared.front_stop.FrontStop.{FrontStop}
 use Rattle.body_cutter.specs.Places.{Place}
 use Rattle.body_cutter.specs.Cuttings.{IsFed, IsRefused, Feeds}
 use Rattle.stream_compile.specs.Chunks.{Chunked}
-use Rattle.stream_compile.proofs.Cutting.{few_taken, all_taken}
+use Rattle.module_stream.proofs.Cutting.{few_taken, all_taken}
 use Rattle.stream_compile.proofs.Keeping.{piece_taken, piece_refused}
 use Rattle.stream_compile.proofs.intake.take_piece.Goals as goal
 

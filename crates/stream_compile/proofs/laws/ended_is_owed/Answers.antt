@@ -1,4 +1,4 @@
-use Rattle.stream_compile.proofs.Stopped.{ended_is_owed}
+use Rattle.module_stream.proofs.Stopped.{ended_is_owed}
 use Rattle.stream_compile.proofs.laws.ended_is_owed.Goals as goal
 
 pub returns : goal.returns

@@ -1,4 +1,4 @@
-use Rattle.stream_compile.proofs.Once.{fault_of_once}
+use Rattle.module_stream.proofs.Once.{fault_of_once}
 use Rattle.stream_compile.proofs.laws.faults_share_no_offset.Goals as goal
 
 pub returns : goal.returns

@@ -1,4 +1,4 @@
-use Rattle.stream_compile.proofs.Stopped.{fault_stays}
+use Rattle.module_stream.proofs.Stopped.{fault_stays}
 use Rattle.stream_compile.proofs.laws.faults_stay.Goals as goal
 
 pub returns : goal.returns

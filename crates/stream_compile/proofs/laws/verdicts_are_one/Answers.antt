@@ -1,4 +1,4 @@
-use Rattle.stream_compile.proofs.Once.{verdict_once}
+use Rattle.module_stream.proofs.Once.{verdict_once}
 use Rattle.stream_compile.proofs.laws.verdicts_are_one.Goals as goal
 
 pub returns : goal.returns

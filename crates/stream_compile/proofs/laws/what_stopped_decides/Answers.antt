@@ -1,4 +1,4 @@
-use Rattle.stream_compile.proofs.Stopped.{stopped_stays, stopped_decides, stopped_once, stopped_of_verdict}
+use Rattle.module_stream.proofs.Stopped.{stopped_stays, stopped_decides, stopped_once, stopped_of_verdict}
 use Rattle.stream_compile.proofs.laws.what_stopped_decides.Goals as goal
 
 pub returns : goal.returns

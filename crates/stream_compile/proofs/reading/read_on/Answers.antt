@@ -1,6 +1,7 @@
 use Rattle.std.proofs.Common.{◌++◌, Bool, Err, rules, sym, subst, ◌∙◌}
 use Rattle.stream_compile.specs.Reading.{Settled}
-use Rattle.stream_compile.proofs.Arriving.{none_left, may_be_read, may_end, going_here, ends_there}
+use Rattle.stream_compile.proofs.Arriving.{may_be_read, may_end, going_here, ends_there}
+use Rattle.module_stream.proofs.Stops.{none_left}
 use Rattle.stream_compile.proofs.Fronts.{took_more}
 use Rattle.stream_compile.proofs.reading.read_on.Goals as goal
 

@@ -1,6 +1,6 @@
 use Rattle.std.proofs.Common.{◌-◌, ◌≤◌, ℕ, List, Option}
 use Rattle.io_edges.specs.Streams.{TookFront}
-use Rattle.stream_compile.specs.Codes.{KeepsAlike}
+use Rattle.module_stream.specs.Codes.{KeepsAlike}
 use Rattle.stream_compile.specs.Arriving.{IsArriving}
 use Rattle.stream_compile.proofs.reading.read_on.Given as goal
 

@@ -1,7 +1,8 @@
 use Rattle.std.proofs.Common.{◌≤◌, List, ℕ, ◌++◌, length, drop, sym, ap, subst}
 use Rattle.stream_compile.specs.Chunks.{Chunked}
-use Rattle.stream_compile.specs.Streaming.{IsGoing, MayGo}
-use Rattle.stream_compile.proofs.Arriving.{may_go, pending_taken, stops_there, advances_goes}
+use Rattle.module_stream.specs.Streaming.{IsGoing, MayGo}
+use Rattle.stream_compile.proofs.Arriving.{may_go, pending_taken, stops_there}
+use Rattle.module_stream.proofs.Stops.{advances_goes}
 use Rattle.stream_compile.proofs.Chunking.{none_after}
 use Rattle.stream_compile.proofs.reading.take_pending.Goals as goal
 

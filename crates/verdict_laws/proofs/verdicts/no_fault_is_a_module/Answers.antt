@@ -1,4 +1,4 @@
-use Rattle.stream_compile.proofs.Once.{no_fault_of}
+use Rattle.module_stream.proofs.Once.{no_fault_of}
 use Rattle.verdict_laws.proofs.Decided.{module_of, no_fault_is_spelled, spelled_has_no_fault}
 use Rattle.verdict_laws.proofs.verdicts.no_fault_is_a_module.Goals as goal
 

@@ -1,9 +1,8 @@
 use Rattle.std.proofs.Common.{rules, Some, refl, ◌∙◌}
 use Rattle.std.specs.Vec.Iter.{into_iter_items}
 use Rattle.std.proofs.lemmas.List.Elements.{All-set}
-use Rattle.batch_pool.specs.Working.{IsRowOf}
-use Rattle.batch_pool.specs.Gathering.{IsRowIf}
-use Rattle.batch_pool.proofs.Rests.{all_head, all_tail}
+use Rattle.body_compiler.specs.BatchRows.{IsRowOf, IsRowIf}
+use Rattle.body_compiler.proofs.Rests.{all_head, all_tail}
 use Rattle.batch_pool.proofs.Placing.{placing_ends, row_placed}
 use Rattle.batch_pool.proofs.scope.numbered.by_number.Goals as goal
 

@@ -1,7 +1,6 @@
 use Rattle.std.proofs.Common.{◌≡◌, All, length}
 use Rattle.std.specs.Vec.Iter.{into_iter_items, into_iter_len}
-use Rattle.batch_pool.specs.Working.{IsRowOf}
-use Rattle.batch_pool.specs.Gathering.{IsRowIf}
+use Rattle.body_compiler.specs.BatchRows.{IsRowOf, IsRowIf}
 use Rattle.batch_pool.proofs.Placing.{ArePlaced}
 use Rattle.batch_pool.proofs.scope.numbered.by_number.Given as goal
 

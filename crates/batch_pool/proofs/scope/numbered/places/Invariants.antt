@@ -1,5 +1,5 @@
 use Rattle.std.proofs.Common.{◌≡◌, All, None, length}
-use Rattle.batch_pool.specs.Gathering.{IsRowIf}
+use Rattle.body_compiler.specs.BatchRows.{IsRowIf}
 use Rattle.batch_pool.proofs.scope.numbered.places.Given as goal
 
 abbrev pub invariant-loop : goal.invariant-loop

@@ -1,0 +1,69 @@
+-- What comes of a batch of bodies.
+use Rattle.std.specs.Prelude.{◌≡◌, ℕ, ◌+◌, ◌*◌, ◌<◌, List, [], ◌∷◌, ◌++◌, length, slice_index, Option, None, Some, IsSome, is_some, Result, Ok, Err}
+use Rattle.std.specs.Arc.{arc_value}
+use Rattle.wasm_defs.specs.declared.fault.Refusal.{Refusal}
+use Rattle.wasm_defs.specs.Bodies.{body_read}
+use Rattle.wasm_defs.specs.Limits.{max_text}
+use Rattle.wasm_defs.specs.Typing.{function_type}
+use Rattle.wasm_defs.specs.Instances.{first_minimum}
+use Rattle.index_spaces.specs.Spaces.{Spaces, context_in}
+use Rattle.rv_isa.specs.declared.compiled.Code.{Code}
+use Rattle.body_cutter.specs.declared.body.Body.{Body}
+use Rattle.body_compiler.specs.declared.code.BodyStop.{BodyStop}
+use Rattle.body_compiler.specs.declared.code.BodyStop.TheVariants.{Refused}
+use Rattle.body_compiler.specs.declared.batch.row.Row.{Row}
+use Rattle.body_compiler.specs.declared.batch.row.RowCode.{RowCode}
+use Rattle.body_compiler.specs.declared.batch.row.Stored.{Stored}
+use Rattle.body_compiler.specs.declared.batch.row.Stored.TheVariants.{Cell, Apart, Counted, TooLong}
+use Rattle.body_compiler.specs.declared.batch.bodies.Made.{Made}
+use Rattle.body_compiler.specs.declared.batch.bodies.Made.TheVariants.{Coded, Faulty}
+use Rattle.body_compiler.specs.Compiling.{Compiles}
+
+-- the function of a body is in the context
+abbrev pub FitsBody : Spaces → Body → Type 0
+FitsBody c b = IsSome (function_type (context_in c) b.index)
+
+-- the compiling of a body answers this
+abbrev pub CompilesBody : Spaces → Body → Result Code BodyStop → Type 0
+CompilesBody c b made = Compiles (first_minimum c.tables) b.first (context_in c) b.index (body_read (is_some c.data_count) b.first b.bytes) made
+
+-- this is kept of the code of the function with this index: a note of the function's cell, which knows the code; or the code; or how
+-- many words it has; or that it has more words than a text
+abbrev pub Stores : List ℕ → ℕ → Stored → Code → Type 0
+Stores cells index (Cell note) code = (index < length cells) × (note.cell ≡ slice_index cells index) × (note.known ≡ Some code)
+Stores cells index (Apart held) code = arc_value held ≡ code
+Stores cells index (Counted words) code = words ≡ length code.words
+Stores cells index TooLong code = max_text < 4 * length code.words
+
+-- it is of the body's code
+pub record IsCodeFor (c : Spaces) (cells : List ℕ) (b : Body) (k : RowCode) : Type 0 where
+  pub index : k.index ≡ b.index
+  pub code : Code
+  pub is : Stores cells b.index k.stored code
+  pub compiled : CompilesBody c b (Ok code)
+
+-- each body has its code
+abbrev pub AreCodesFor : Spaces → List ℕ → List Body → List RowCode → Type 0
+AreCodesFor c cells [] [] = Unit {0}
+AreCodesFor c cells [] (k ∷ ks) = ⊥
+AreCodesFor c cells (b ∷ bs) [] = ⊥
+AreCodesFor c cells (b ∷ bs) (k ∷ ks) = IsCodeFor c cells b k × AreCodesFor c cells bs ks
+
+abbrev pub IsMade : Spaces → List ℕ → Body → Made → Type 0
+IsMade c cells b (Coded k) = IsCodeFor c cells b k
+IsMade c cells b (Faulty r) = CompilesBody c b (Err (Refused r)) × (r.offset < b.first + length b.bytes)
+
+-- all bodies have their codes; or those before the first with an error have theirs, and this is that error
+abbrev pub IsRow : Spaces → List ℕ → List Body → List RowCode → Option Refusal → Type 0
+IsRow c cells bodies codes None = AreCodesFor c cells bodies codes
+IsRow c cells bodies codes (Some r) =
+    (before : List Body) × (b : Body) × (after : List Body) × (bodies ≡ before ++ b ∷ after) × AreCodesFor c cells before codes
+    × CompilesBody c b (Err (Refused r)) × (r.offset < b.first + length b.bytes)
+
+abbrev pub IsRowOf : Spaces → List ℕ → Row → Type 0
+IsRowOf c cells row = IsRow c cells (arc_value row.batch).bodies row.codes row.fault
+
+-- a row that is at hand is right
+abbrev pub IsRowIf : Spaces → List ℕ → Option Row → Type 0
+IsRowIf c cells None = Unit {0}
+IsRowIf c cells (Some row) = IsRowOf c cells row

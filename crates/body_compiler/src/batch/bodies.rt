@@ -1,0 +1,117 @@
+//! Compiles the bodies of a batch.
+ghost use Rattle.std.specs.Prelude.{◌≡◌, ◌+◌, ◌<◌, ◌^◌, All, IfOk, IsSome, length};
+ghost use Rattle.std.specs.Arc.{arc_value};
+ghost use Rattle.body_compiler.specs.LowBatches.{IsLow, IsLowBody};
+ghost use Rattle.body_compiler.specs.BatchRows.{IsMade, IsRow, IsRowOf, FitsBody, Stores};
+
+use crate::batch::row::{Row, RowCode, RowCodes, Stored};
+use crate::code::BodyStop;
+use crate::compiling::compile;
+use crate::fitting::fitted;
+use body_cutter::{Batch, Body};
+use index_spaces::Context;
+use result_cells::{Cells, Put};
+use rv_isa::Code;
+use std::alloc::{AllocError, Global};
+use std::collections::LinkedList;
+use std::sync::Arc;
+use wasm_defs::Refusal;
+
+/// What compiling a body made.
+#[derive(Drop)]
+pub enum Made {
+    Coded(RowCode),
+    Faulty(Refusal),
+}
+
+/// Puts a code into the cell of its function, or else keeps it apart. Where the function has no cell, or the cells have no room
+/// left for the code, its instruction words are counted.
+fn store(alloc: Global, cells: &Cells, index: u32, code: Code) -> Result<Stored, AllocError>
+    ensures { IfOk result (λ s. Stores cells.now index s code) }
+{
+    let words = code.words.as_slice().len() as u64;
+    if index >= cells.count() || !cells.take_room(words) {
+        return Ok(Stored::Counted(words));
+    }
+    let code = Arc::new(alloc, fitted(code))?;
+    let mut note = cells.note(index);
+    let placed = match cells.put(index, &mut note, &code)? {
+        Put::Placed => true,
+        Put::Clash(_) => false,
+    };
+    Ok(if placed {
+        Stored::Cell(note)
+    } else {
+        Stored::Apart(code)
+    })
+}
+
+/// Compiles a body, and stores its code unless that is too long for any text.
+fn compile_body(
+    alloc: Global,
+    cells: &Cells,
+    context: &Context,
+    body: &Body,
+) -> Result<Made, AllocError>
+    requires fits { FitsBody context.now body.now }
+    requires low { IsLowBody body.now }
+    ensures { IfOk result (IsMade context.now cells.now body.now) }
+{
+    let stored = match compile(
+        alloc,
+        context,
+        body.index,
+        body.bytes.as_slice(),
+        body.first,
+    ) {
+        Ok(code) => store(alloc, cells, body.index, code)?,
+        Err(BodyStop::TooLong) => Stored::TooLong,
+        Err(BodyStop::Refused(refusal)) => return Ok(Made::Faulty(refusal)),
+        Err(BodyStop::NoMemory) => return Err(AllocError),
+    };
+    Ok(Made::Coded(RowCode {
+        index: body.index,
+        stored,
+    }))
+}
+
+/// Compiles bodies, up to the first with an error: their codes, and that error.
+fn compile_bodies(
+    alloc: Global,
+    cells: &Cells,
+    context: &Context,
+    bodies: &LinkedList<Body>,
+) -> Result<(Vec<RowCode>, Option<Refusal>), AllocError>
+    requires fits { All (FitsBody context.now) bodies.now }
+    requires low { All IsLowBody bodies.now }
+    ensures { IfOk result (λ made. IsRow context.now cells.now bodies.now made.0.items made.1) }
+{
+    let mut codes = Vec::new(alloc);
+    for body in bodies.iter() {
+        match compile_body(alloc, cells, context, body)? {
+            Made::Coded(code) => codes.push(code)?,
+            Made::Faulty(refusal) => return Ok((codes, Some(refusal))),
+        }
+    }
+    Ok((codes, None))
+}
+
+/// Compiles the bodies of a batch, up to the first with an error.
+pub fn compile_batch(
+    alloc: Global,
+    cells: &Cells,
+    context: &Context,
+    batch: Arc<Batch, Global>,
+) -> Result<Row, AllocError>
+    requires fits { All (FitsBody context.now) (arc_value batch).bodies }
+    requires low { IsLow (arc_value batch) }
+    ensures row { IfOk result (IsRowOf context.now cells.now) }
+    ensures batch { IfOk result (λ row. arc_value row.batch ≡ arc_value batch) }
+{
+    let (codes, fault) = compile_bodies(alloc, cells, context, batch.bodies.as_list())?;
+    Ok(Row {
+        batch,
+        codes: RowCodes::new(codes),
+        fault,
+    })
+}

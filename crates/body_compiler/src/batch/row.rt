@@ -1,0 +1,43 @@
+//! What comes of a batch.
+use body_cutter::Batch;
+use result_cells::CellNote;
+use rv_isa::Code;
+use std::alloc::Global;
+use std::sync::Arc;
+use wasm_defs::{Refusal, Sequence};
+
+/// What a row keeps of a body's code.
+#[derive(Drop)]
+pub enum Stored {
+    /// The code is in the cell of the body's function, and the note knows it.
+    Cell(CellNote),
+    /// The code: that cell held another one.
+    Apart(Arc<Code, Global>),
+    /// How many instruction words the code has: the function has no cell, or the codes that are kept left no room for this one. So
+    /// the body was only validated.
+    Counted(u64),
+    /// The instruction words of the code are more than a text may have: it isn't kept.
+    TooLong,
+}
+
+/// The code of a body.
+#[derive(Drop)]
+pub struct RowCode {
+    /// The index of the body's function.
+    pub index: u32,
+    pub stored: Stored,
+}
+
+/// The codes of a row, in the order of its bodies.
+pub type RowCodes = Sequence<RowCode>;
+
+/// What came of a batch: the codes of its bodies, or of those before the first with an error, and that error.
+#[derive(Drop)]
+pub struct Row {
+    pub batch: Arc<Batch, Global>,
+    pub codes: RowCodes,
+    pub fault: Option<Refusal>,
+}
+
+/// Rows, in the order in which they were made.
+pub type Rows = Sequence<Row>;

@@ -1,0 +1,16 @@
+pub mod TextFaults
+pub mod Judging
+pub mod CodeWords
+pub mod Compiled
+pub mod Taking
+pub mod CutRuns
+pub mod Cutting
+pub mod CodeEnds
+pub mod Streaming
+pub mod Wholes
+pub mod RightSoFar
+pub mod Sharing
+pub mod Once
+pub mod Stopped
+pub mod Stops
+pub mod Staying

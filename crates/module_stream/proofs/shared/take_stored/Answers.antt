@@ -1,0 +1,51 @@
+use Rattle.std.proofs.Common.{Ok, sym, subst, ◌∙◌}
+use Rattle.std.specs.Arc.{arc_value}
+use Rattle.rv_isa.specs.declared.compiled.Code.{Code}
+use Rattle.body_compiler.specs.declared.batch.row.Stored.{Stored}
+use Rattle.body_compiler.specs.BatchRows.{Stores}
+use Rattle.module_stream.specs.Progress.{TakesBody}
+use Rattle.module_stream.proofs.Sharing.{not_kept, known_code, not_unknown}
+use Rattle.module_stream.proofs.Taking.{long_taken}
+use Rattle.module_stream.proofs.shared.take_stored.Goals as goal
+
+pub count_code-requires-clause-none : goal.count_code-requires-clause-none
+count_code-requires-clause-none c = not_kept c.args.codes.now.kept (sym c.are_kept.ensures ∙ c.if-are_kept.false)
+
+pub count_code-requires-clause-code : goal.count_code-requires-clause-code
+count_code-requires-clause-code c =
+    let r = c.requires.code in
+    (r.0, subst (λ (s : Stored). Stores c.args.cells.now c.args.index s r.0) c.in-Counted.is r.1, r.2)
+
+pub share_code-requires-clause-code : goal.share_code-requires-clause-code
+share_code-requires-clause-code c =
+    let r = c.requires.code in
+    let same = subst (λ (s : Stored). Stores c.args.cells.now c.args.index s r.0) c.in-Apart.is r.1 in
+    subst (λ (k : Code). TakesBody c.args.spaces.now c.args.codes.now.count c.args.body.now (Ok k)) (sym same) r.2
+
+pub get-requires-clause-index : goal.get-requires-clause-index
+get-requires-clause-index c =
+    let r = c.requires.code in
+    (subst (λ (s : Stored). Stores c.args.cells.now c.args.index s r.0) c.in-Cell.is r.1).0
+
+pub get-requires-clause-cell : goal.get-requires-clause-cell
+get-requires-clause-cell c =
+    let r = c.requires.code in
+    (subst (λ (s : Stored). Stores c.args.cells.now c.args.index s r.0) c.in-Cell.is r.1).1
+
+pub share_code-requires-in-Ok-clause-code : goal.share_code-requires-in-Ok-clause-code
+share_code-requires-in-Ok-clause-code c =
+    let r = c.requires.code in
+    let here = subst (λ (s : Stored). Stores c.args.cells.now c.args.index s r.0) c.in-Cell.is r.1 in
+    let found = known_code c.in-Cell.note.known (arc_value c.in-Some.code.now) r.0 here.2 c.in-Some.ensures.value.1 in
+    subst (λ (k : Code). TakesBody c.args.spaces.now c.args.codes.now.count c.args.body.now (Ok k)) (sym (c.in-Ok.ensures ∙ found)) r.2
+
+pub unreachable-requires : goal.unreachable-requires
+unreachable-requires c =
+    let r = c.requires.code in
+    let here = subst (λ (s : Stored). Stores c.args.cells.now c.args.index s r.0) c.in-Cell.is r.1 in
+    not_unknown c.in-Cell.note.known r.0 here.2 c.in-None.ensures.value.0
+
+pub returns-clause-takes : goal.returns-clause-takes
+returns-clause-takes c =
+    let r = c.requires.code in
+    rw c.limit_at.ensures (long_taken c.args.spaces.now c.args.codes.now c.args.codes.now c.args.body.now r.0 (subst (λ (s : Stored). Stores c.args.cells.now c.args.index s r.0) c.in-TooLong.is r.1) r.2)

@@ -1,0 +1,214 @@
+//! Compiles bodies: each is validated, and its instruction words are counted.
+
+ghost use Rattle.std.specs.Prelude.{◌≡◌, ◌≤◌, ◌<◌, ◌+◌, ◌*◌, ◌^◌, OnOk, Ok, None, ℕ, Bool, List, [], length, nat_lt};
+ghost use Rattle.std.specs.Arc.{arc_value};
+ghost use Rattle.rv_isa.specs.declared.compiled.Code.{Code as GivenCode};
+ghost use Rattle.wasm_defs.specs.Limits.{max_text};
+ghost use Rattle.wasm_defs.specs.Outside.{Run as RunGiven};
+ghost use Rattle.section_reader.specs.Onward.{after_parts};
+ghost use Rattle.image_linker.specs.ImageOf.{front_of};
+ghost use Rattle.image_linker.specs.Judging.{limit_at};
+ghost use Rattle.module_stream.specs.Codes.{KeepsAlike};
+ghost use Rattle.module_stream.specs.CutBodies.{coded_all};
+ghost use Rattle.module_stream.specs.Progress.{IsJudging, CanTake, CanTakeNext, CanTakeAll, stop_at, TakesBody, TakesCode, TakesPart, KeepsLimit};
+
+use crate::codes::Codes;
+use body_compiler::{BodyStop, compile};
+use body_cutter::{Batch, Body, Cutter};
+use index_spaces::ContextBuilder;
+use rv_isa::Code;
+use std::alloc::Global;
+use std::sync::Arc;
+use wasm_defs::{FrontStop, Kind, MAX_TEXT, Refusal};
+
+/// The error of a body with whose instruction words the text passes its limit.
+pub fn limit_at(body: &Body) -> Refusal
+    ensures { result ≡ limit_at body.now.size }
+{
+    Refusal {
+        offset: body.size,
+        kind: Kind::Limit,
+    }
+}
+
+/// Why nothing is taken after a body that isn't compiled.
+fn stop_at(body: &Body, stop: BodyStop) -> FrontStop
+    ensures { result ≡ stop_at body.now stop }
+{
+    match stop {
+        BodyStop::Refused(refusal) => FrontStop::Refused(refusal),
+        BodyStop::TooLong => FrontStop::Refused(limit_at(body)),
+        BodyStop::NoMemory => FrontStop::NoMemory,
+    }
+}
+
+/// Compiles a body, before which so many bodies come.
+fn take_body(
+    alloc: Global,
+    spaces: &ContextBuilder,
+    bodies: u32,
+    body: &Body,
+) -> Result<Code, BodyStop>
+    requires { CanTake spaces.now bodies body.now }
+    ensures { TakesBody spaces.now bodies body.now result }
+{
+    let context = spaces.context();
+    let index = context.imported() + bodies;
+    compile(alloc, context, index, body.bytes.as_slice(), body.first)
+}
+
+/// Whether a text with so many instruction words of functions passes the limit. Before them come the exit stub, of two words,
+/// and the stubs of the imported functions, of eighteen each.
+fn passes_limit(imported: u32, words: u128) -> bool
+    requires { words < 2 ^ 65 }
+    ensures { result ≡ nat_lt max_text (4 * (front_of imported + words)) }
+{
+    u128::from(MAX_TEXT) / 4 < 2 + 18 * u128::from(imported) + words
+}
+
+/// Whether a code of so many instruction words can follow these codes.
+fn keep_limit(
+    spaces: &ContextBuilder,
+    codes: &Codes,
+    body: &Body,
+    more: u64,
+) -> Result<(), FrontStop>
+    requires few { length spaces.now.functions < 2 ^ 32 }
+    ensures { KeepsLimit spaces.now codes.now body.now more result }
+{
+    let words = u128::from(codes.words()) + u128::from(more);
+    if passes_limit(spaces.context().imported(), words) {
+        return Err(FrontStop::Refused(limit_at(body)));
+    }
+    Ok(())
+}
+
+/// Takes the next body, whose code this is.
+pub fn add_code(
+    alloc: Global,
+    spaces: &ContextBuilder,
+    codes: &mut Codes,
+    body: &Body,
+    code: Code,
+) -> Result<(), FrontStop>
+    requires can { CanTakeNext spaces.now codes.old body.now }
+    requires code { TakesBody spaces.now codes.old.count body.now (Ok code) }
+    ensures takes { TakesCode spaces.now codes.old body.now result codes.new }
+    ensures kept { KeepsAlike codes.old codes.new }
+{
+    match keep_limit(spaces, codes, body, code.words.as_slice().len() as u64) {
+        Ok(()) => {}
+        Err(stop) => return Err(stop),
+    }
+    match codes.add(alloc, body.size, code) {
+        Ok(()) => Ok(()),
+        Err(_) => Err(FrontStop::NoMemory),
+    }
+}
+
+/// Takes the next body, whose code this is, which a worker made.
+pub fn share_code(
+    spaces: &ContextBuilder,
+    codes: &mut Codes,
+    body: &Body,
+    code: Arc<Code, Global>,
+) -> Result<(), FrontStop>
+    requires can { CanTakeNext spaces.now codes.old body.now }
+    requires code { TakesBody spaces.now codes.old.count body.now (Ok (arc_value code)) }
+    ensures takes { TakesCode spaces.now codes.old body.now result codes.new }
+    ensures kept { KeepsAlike codes.old codes.new }
+{
+    match keep_limit(spaces, codes, body, code.words.as_slice().len() as u64) {
+        Ok(()) => {}
+        Err(stop) => return Err(stop),
+    }
+    match codes.share(body.size, code) {
+        Ok(()) => Ok(()),
+        Err(_) => Err(FrontStop::NoMemory),
+    }
+}
+
+/// Takes the next body, whose code has so many instruction words. No code is kept.
+pub fn count_code(
+    spaces: &ContextBuilder,
+    codes: &mut Codes,
+    body: &Body,
+    words: u64,
+) -> Result<(), FrontStop>
+    requires can { CanTakeNext spaces.now codes.old body.now }
+    requires none { codes.old.kept ≡ None }
+    requires code { (code : GivenCode) × (words ≡ length code.words) × TakesBody spaces.now codes.old.count body.now (Ok code) }
+    ensures takes { TakesCode spaces.now codes.old body.now result codes.new }
+    ensures kept { KeepsAlike codes.old codes.new }
+{
+    match keep_limit(spaces, codes, body, words) {
+        Ok(()) => {}
+        Err(stop) => return Err(stop),
+    }
+    codes.count_words(words);
+    Ok(())
+}
+
+/// Takes the next body, after those that have these codes.
+pub fn take_code(
+    alloc: Global,
+    spaces: &ContextBuilder,
+    codes: &mut Codes,
+    body: &Body,
+) -> Result<(), FrontStop>
+    requires { CanTakeNext spaces.now codes.old body.now }
+    ensures takes { TakesCode spaces.now codes.old body.now result codes.new }
+    ensures kept { KeepsAlike codes.old codes.new }
+{
+    match take_body(alloc, spaces, codes.count(), body) {
+        Ok(code) => add_code(alloc, spaces, codes, body, code),
+        Err(stop) => Err(stop_at(body, stop)),
+    }
+}
+
+/// Takes the bodies of a batch in order, up to the first that has an error.
+pub fn take_batch(
+    alloc: Global,
+    spaces: &ContextBuilder,
+    codes: &mut Codes,
+    batch: Batch,
+) -> Result<(), FrontStop>
+    requires { CanTakeAll spaces.now codes.old batch.bodies }
+    ensures takes { (bytes : List ℕ) (left : RunGiven) (counted : Bool) → length bytes ≤ 67108869
+        → IsJudging bytes (after_parts (coded_all counted batch.bodies) left) spaces.now codes.old
+        → TakesPart bytes result left spaces.now codes.new }
+    ensures kept { KeepsAlike codes.old codes.new }
+{
+    let mut bodies = batch.bodies.into_list();
+    while let Some(body) = bodies.pop_front() {
+        match take_code(alloc, spaces, codes, &body) {
+            Ok(()) => {}
+            Err(stop) => return Err(stop),
+        }
+    }
+    Ok(())
+}
+
+/// Takes the bodies of all batches that are closed.
+pub fn take_batches(
+    alloc: Global,
+    spaces: &ContextBuilder,
+    codes: &mut Codes,
+    cutter: &mut Cutter,
+) -> Result<(), FrontStop>
+    requires { CanTakeAll spaces.now codes.old cutter.old.queue.closed }
+    ensures place { cutter.new.place ≡ cutter.old.place }
+    ensures queue { OnOk result ((cutter.new.queue.closed ≡ []) × (cutter.new.queue.begun ≡ cutter.old.queue.begun)) }
+    ensures takes { (bytes : List ℕ) (left : RunGiven) (counted : Bool) → length bytes ≤ 67108869
+        → IsJudging bytes (after_parts (coded_all counted cutter.old.queue.closed) left) spaces.now codes.old
+        → TakesPart bytes result left spaces.now codes.new }
+    ensures kept { KeepsAlike codes.old codes.new }
+{
+    while let Some(batch) = cutter.take_batch() {
+        match take_batch(alloc, spaces, codes, batch) {
+            Ok(()) => {}
+            Err(stop) => return Err(stop),
+        }
+    }
+    Ok(())
+}

@@ -1,0 +1,212 @@
+//! Takes bodies that were kept, with what workers made of them.
+
+ghost use Rattle.std.specs.Prelude.{◌≡◌, ◌≤◌, ℕ, Bool, List, Ok, All, IfSome, IsTrue, length, reverse};
+ghost use Rattle.rv_isa.specs.declared.compiled.Code.{Code as GivenCode};
+ghost use Rattle.wasm_defs.specs.Outside.{Run as RunGiven};
+ghost use Rattle.section_reader.specs.Onward.{after_parts};
+ghost use Rattle.body_compiler.specs.BatchRows.{IsCodeFor, Stores};
+ghost use Rattle.module_stream.specs.Codes.{KeepsAlike};
+ghost use Rattle.module_stream.specs.CutBodies.{coded_all};
+ghost use Rattle.body_compiler.specs.BatchRows.{IsRowIf};
+ghost use Rattle.module_stream.specs.Kept.{kept_bodies, AreFront};
+ghost use Rattle.module_stream.specs.Progress.{IsJudging, CanTakeNext, CanTakeAll, TakesBody, TakesCode, TakesPart};
+
+use crate::bodies::{count_code, limit_at, share_code, take_code};
+use crate::codes::Codes;
+use body_compiler::{Row, RowCode, Stored};
+use body_cutter::{Batch, Body};
+use index_spaces::ContextBuilder;
+use result_cells::Cells;
+use std::alloc::Global;
+use std::collections::LinkedList;
+use std::sync::Arc;
+use wasm_defs::FrontStop;
+
+/// Whether both are the same body.
+fn is_same(body: &Body, other: &Body) -> bool
+    ensures { IsTrue result → other.now ≡ body.now }
+{
+    other.index == body.index
+        && other.size == body.size
+        && other.first == body.first
+        && other.bytes.as_slice() == body.bytes.as_slice()
+}
+
+/// Whether both lists have the same bodies.
+fn are_same(bodies: &LinkedList<Body>, others: &LinkedList<Body>) -> bool
+    ensures { IsTrue result → others.now ≡ bodies.now }
+{
+    let mut others = others.iter();
+    for body in bodies.iter() {
+        match others.next() {
+            Some(other) => {
+                if !is_same(body, other) {
+                    return false;
+                }
+            }
+            None => return false,
+        }
+    }
+    others.next().is_none()
+}
+
+/// Takes the next body, of which a worker stored the code.
+fn take_stored(
+    alloc: Global,
+    spaces: &ContextBuilder,
+    codes: &mut Codes,
+    cells: &Cells,
+    body: &Body,
+    index: u32,
+    stored: Stored,
+) -> Result<(), FrontStop>
+    requires can { CanTakeNext spaces.now codes.old body.now }
+    requires code { (code : GivenCode) × Stores cells.now index stored code × TakesBody spaces.now codes.old.count body.now (Ok code) }
+    ensures takes { TakesCode spaces.now codes.old body.now result codes.new }
+    ensures kept { KeepsAlike codes.old codes.new }
+{
+    match stored {
+        Stored::Counted(words) => {
+            if codes.are_kept() {
+                take_code(alloc, spaces, codes, body)
+            } else {
+                count_code(spaces, codes, body, words)
+            }
+        }
+        Stored::Apart(code) => share_code(spaces, codes, body, code),
+        Stored::Cell(mut note) => match cells.get(index, &mut note) {
+            Some(code) => match Arc::try_clone(code) {
+                Ok(code) => share_code(spaces, codes, body, code),
+                Err(_) => Err(FrontStop::NoMemory),
+            },
+            None => unreachable!(),
+        },
+        Stored::TooLong => Err(FrontStop::Refused(limit_at(body))),
+    }
+}
+
+/// Takes the next body: with the code that a worker made, if it is at hand and of this function, and else by compiling it.
+fn take_next(
+    alloc: Global,
+    spaces: &ContextBuilder,
+    codes: &mut Codes,
+    cells: &Cells,
+    body: &Body,
+    made: Option<RowCode>,
+) -> Result<(), FrontStop>
+    requires can { CanTakeNext spaces.now codes.old body.now }
+    requires made { IfSome made (IsCodeFor spaces.now cells.now body.now) }
+    ensures takes { TakesCode spaces.now codes.old body.now result codes.new }
+    ensures kept { KeepsAlike codes.old codes.new }
+{
+    let Some(made) = made else {
+        return take_code(alloc, spaces, codes, body);
+    };
+    let index = spaces.context().imported() + codes.count();
+    if body.index == index {
+        take_stored(alloc, spaces, codes, cells, body, index, made.stored)
+    } else {
+        take_code(alloc, spaces, codes, body)
+    }
+}
+
+/// Takes the bodies of a batch in order, up to the first that has an error. The first of them have the codes that were made, of
+/// which the last one is that of the first body.
+fn take_bodies(
+    alloc: Global,
+    spaces: &ContextBuilder,
+    codes: &mut Codes,
+    cells: &Cells,
+    bodies: &LinkedList<Body>,
+    mut made: Vec<RowCode>,
+) -> Result<(), FrontStop>
+    requires can { CanTakeAll spaces.now codes.old bodies.now }
+    requires made { AreFront spaces.now cells.now bodies.now (reverse made.items) }
+    ensures takes { (bytes : List ℕ) (left : RunGiven) (counted : Bool) → length bytes ≤ 67108869
+        → IsJudging bytes (after_parts (coded_all counted bodies.now) left) spaces.now codes.old
+        → TakesPart bytes result left spaces.now codes.new }
+    ensures kept { KeepsAlike codes.old codes.new }
+{
+    // Why: docs/DECISIONS.md, "The answer is worked out in the order of the bodies"
+    for body in bodies.iter() {
+        match take_next(alloc, spaces, codes, cells, body, made.pop()) {
+            Ok(()) => {}
+            Err(stop) => return Err(stop),
+        }
+    }
+    Ok(())
+}
+
+/// The codes that a worker made of these bodies, the last one first: none where its row is another batch's, or isn't at hand.
+fn made_of(
+    alloc: Global,
+    spaces: &ContextBuilder,
+    cells: &Cells,
+    bodies: &LinkedList<Body>,
+    row: Option<Row>,
+) -> Vec<RowCode>
+    requires { IsRowIf spaces.now cells.now row }
+    ensures { AreFront spaces.now cells.now bodies.now (reverse result.items) }
+{
+    let _ = spaces;
+    let _ = cells;
+    let Some(row) = row else {
+        return Vec::new(alloc);
+    };
+    if !are_same(bodies, row.batch.bodies.as_list()) {
+        return Vec::new(alloc);
+    }
+    let mut made = row.codes.into_vec();
+    made.reverse();
+    made
+}
+
+/// The row with that number, if it is at hand.
+fn row_of(
+    spaces: &ContextBuilder,
+    cells: &Cells,
+    rows: &mut Vec<Option<Row>>,
+    number: u32,
+) -> Option<Row>
+    requires { All (IsRowIf spaces.now cells.now) rows.old.items }
+    ensures row { IsRowIf spaces.now cells.now result }
+    ensures rows { All (IsRowIf spaces.now cells.now) rows.new.items }
+{
+    let _ = spaces;
+    let _ = cells;
+    let number = number as usize;
+    if number < rows.len() {
+        rows[number].take()
+    } else {
+        None
+    }
+}
+
+/// Takes the bodies of all batches that were kept, with what workers made of them: the rows in the order of the batches, where they
+/// are at hand.
+pub fn take_kept(
+    alloc: Global,
+    spaces: &ContextBuilder,
+    codes: &mut Codes,
+    cells: &Cells,
+    kept: Vec<Arc<Batch, Global>>,
+    mut rows: Vec<Option<Row>>,
+) -> Result<(), FrontStop>
+    requires can { CanTakeAll spaces.now codes.old (kept_bodies kept.items) }
+    requires rows { All (IsRowIf spaces.now cells.now) rows.items }
+    ensures takes { (bytes : List ℕ) (left : RunGiven) (counted : Bool) → length bytes ≤ 67108869
+        → IsJudging bytes (after_parts (coded_all counted (kept_bodies kept.items)) left) spaces.now codes.old
+        → TakesPart bytes result left spaces.now codes.new }
+    ensures kept { KeepsAlike codes.old codes.new }
+{
+    for batch in kept {
+        let row = row_of(spaces, cells, &mut rows, batch.number);
+        let bodies = batch.bodies.as_list();
+        let made = made_of(alloc, spaces, cells, bodies, row);
+        match take_bodies(alloc, spaces, codes, cells, bodies, made) {
+            Ok(()) => {}
+            Err(stop) => return Err(stop),
+        }
+    }
+    Ok(())
+}
