@@ -1,0 +1,10 @@
+pub mod Bytes
+pub mod Chunks
+pub mod Crowds
+pub mod Ending
+pub mod Errors
+pub mod Exclusive
+pub mod Feeding
+pub mod Numbers
+pub mod Single
+pub mod Sources

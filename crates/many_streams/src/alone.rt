@@ -1,0 +1,49 @@
+//! Compiles several modules on one thread.
+
+ghost use Rattle.std.specs.Prelude.{◌≡◌, ◌<◌, ◌^◌, ◌-◌, true, length, nat_lt, IfOk};
+ghost use Rattle.io_edges.specs.Streams.{TookFront};
+ghost use Rattle.many_streams.specs.Many.{AnswersMany, view};
+
+use crate::member::Each;
+use crate::streams::{ManyStop, Streams};
+use io_edges::{Got, Source};
+use std::alloc::{AllocError, Global};
+
+/// How many bytes are asked for at a time.
+const CHUNK: usize = 65_536;
+
+/// A buffer to read into.
+fn buffer_of(alloc: Global, len: usize) -> Result<Vec<u8>, AllocError>
+    ensures { IfOk result (λ buffer. length buffer.items ≡ len) }
+{
+    vec![in alloc; 0; len]
+}
+
+/// Compiles the modules whose bytes the source gives in frames, each by itself: its one image, or its error of least offset. The input is
+/// read to its end, to the source's error, or to where it is no frames.
+pub fn many_alone<S: Source>(
+    alloc: Global,
+    source: &mut S,
+    batch: u32,
+) -> Result<Vec<Each>, ManyStop>
+    requires faults { S.faults source.old < 2 ^ 64 - 1 }
+    requires open { S.is_open source.old ≡ true }
+    ensures answer { AnswersMany (nat_lt (S.faults source.old) (S.faults source.new)) (S.left source.old) (S.left source.new) (view result) }
+    ensures front { TookFront (S.left source.old) (S.faults source.old) (S.left source.new) (S.faults source.new) }
+{
+    let Ok(mut buffer) = buffer_of(alloc, CHUNK) else {
+        return Err(ManyStop::NoMemory);
+    };
+    let buf = buffer.as_mut_slice();
+    let mut streams = Streams::new(alloc, batch);
+    loop {
+        match source.read(buf) {
+            Got::Bytes(count) => match streams.feed(&buf[..count]) {
+                Ok(()) => {}
+                Err(stop) => return Err(stop),
+            },
+            Got::End => return streams.end(),
+            Got::Failed => return Err(streams.stop()),
+        }
+    }
+}

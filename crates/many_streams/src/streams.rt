@@ -1,0 +1,174 @@
+//! Several modules whose bytes come in one input.
+
+ghost use Rattle.std.specs.Prelude.{◌≡◌, ◌<◌, ℕ, List, [], All, length, OnOk, IfOk};
+ghost use Rattle.many_streams.specs.Many.{IsStreaming, MayStream, TakesSome, TakesAll, AreMembers, AreJudged, AreEach, AnswersEnd, IsFront, view};
+ghost use Rattle.many_streams.specs.Members.{IsMember, IsJudged, IsEach};
+
+use crate::member::{Each, Member};
+use crate::reader::{FrameReader, Taken};
+use std::alloc::{AllocError, Global};
+
+/// Why several modules come to nothing.
+#[derive(Clone, Copy, Debug, PartialEq, Eq)]
+pub enum ManyStop {
+    /// From this offset on the bytes are no frames, or they end there too soon.
+    Frame(u64),
+    /// The source failed.
+    ReadFault,
+    /// Memory ran out.
+    NoMemory,
+}
+
+/// What came of several modules.
+#[derive(Drop)]
+pub struct Streams {
+    pub alloc: Global,
+    /// How many bytes of bodies close a batch.
+    pub batch: u32,
+    pub reader: FrameReader,
+    /// The modules in order. Before their number came there are none.
+    pub members: Vec<Member>,
+}
+
+/// So many modules, of which nothing came.
+fn new_members(alloc: Global, count: u32, batch: u32) -> Result<Vec<Member>, AllocError>
+    ensures count { IfOk result (λ v. length v.items ≡ count) }
+    ensures each { IfOk result (λ v. All (IsMember []) v.items) }
+{
+    let mut members = Vec::new(alloc);
+    for k in 0..count {
+        let _ = k;
+        members.push(Member::new(alloc, batch))?;
+    }
+    Ok(members)
+}
+
+/// Judges what is left of each module, whose bytes have ended.
+fn finish_all(members: &mut Vec<Member>) -> Result<(), AllocError>
+    requires { (of : ℕ → List ℕ) × AreMembers of members.old.items }
+    ensures judged { OnOk result ((of : ℕ → List ℕ) → AreMembers of members.old.items → AreJudged of members.new.items) }
+    ensures count { length members.new.items ≡ length members.old.items }
+{
+    for k in 0..members.len() {
+        members[k].finish()?;
+    }
+    Ok(())
+}
+
+/// What each module comes to.
+fn answers(alloc: Global, members: &[Member]) -> Result<Vec<Each>, AllocError>
+    requires { (of : ℕ → List ℕ) × AreJudged of members.now }
+    ensures each { IfOk result (λ v. (of : ℕ → List ℕ) → AreJudged of members.now → AreEach of v.items) }
+    ensures count { IfOk result (λ v. length v.items ≡ length members.now) }
+{
+    let mut each = Vec::new(alloc);
+    for k in 0..members.len() {
+        each.push(members[k].answer()?)?;
+    }
+    Ok(each)
+}
+
+impl Streams {
+    /// Before the first byte.
+    pub fn new(alloc: Global, batch: u32) -> Streams
+        ensures { IsStreaming [] result }
+    {
+        Streams {
+            alloc,
+            batch,
+            reader: FrameReader::new(),
+            members: Vec::new(alloc),
+        }
+    }
+
+    /// Takes some of the next bytes.
+    fn take(&mut self, piece: &[u8]) -> Result<usize, ManyStop>
+        requires some { 0 < length piece.now }
+        requires may { MayStream self.old }
+        ensures { (bytes : List ℕ) → IsStreaming bytes self.old → TakesSome bytes piece.now result self.new }
+    {
+        match self.reader.take(piece) {
+            Ok(Taken::Number) => Ok(1),
+            Ok(Taken::End(_)) => Ok(1),
+            Ok(Taken::Count) => {
+                match new_members(self.alloc, self.reader.modules(), self.batch) {
+                    Ok(members) => {
+                        self.members = members;
+                        Ok(1)
+                    }
+                    Err(_) => Err(ManyStop::NoMemory),
+                }
+            }
+            Ok(Taken::Bytes(index, count)) => {
+                match self.members[index as usize].feed(&piece[..count]) {
+                    Ok(()) => Ok(count),
+                    Err(_) => Err(ManyStop::NoMemory),
+                }
+            }
+            Err(place) => Err(ManyStop::Frame(place)),
+        }
+    }
+
+    /// Takes the next bytes, however the input is cut.
+    ///
+    /// # Errors
+    /// `Frame` where they are no frames, whatever follows.
+    pub fn feed(&mut self, piece: &[u8]) -> Result<(), ManyStop>
+        requires { MayStream self.old }
+        ensures { (bytes : List ℕ) → IsStreaming bytes self.old → TakesAll bytes piece.now result self.new }
+    {
+        let mut from = 0;
+        while from < piece.len() {
+            match self.take(&piece[from..]) {
+                Ok(count) => from += count,
+                Err(stop) => return Err(stop),
+            }
+        }
+        Ok(())
+    }
+
+    /// The input has ended: what each module comes to.
+    ///
+    /// # Errors
+    /// `Frame` at the number of bytes, where these end too soon.
+    pub fn end(self) -> Result<Vec<Each>, ManyStop>
+        requires { MayStream self }
+        ensures { (bytes : List ℕ) → IsStreaming bytes self → AnswersEnd bytes (view result) }
+    {
+        let Streams {
+            alloc,
+            batch: _,
+            reader,
+            members,
+        } = self;
+        match reader.end() {
+            Ok(()) => {}
+            Err(place) => return Err(ManyStop::Frame(place)),
+        }
+        let mut members = members;
+        match finish_all(&mut members) {
+            Ok(()) => {}
+            Err(_) => return Err(ManyStop::NoMemory),
+        }
+        match answers(alloc, members.as_slice()) {
+            Ok(each) => Ok(each),
+            Err(_) => Err(ManyStop::NoMemory),
+        }
+    }
+
+    /// The source failed. What came is frames, or the front of some.
+    pub fn stop(self) -> ManyStop
+        requires { MayStream self }
+        ensures fault { result ≡ ManyStop.ReadFault }
+        ensures front { (bytes : List ℕ) → IsStreaming bytes self → IsFront bytes }
+    {
+        let Streams {
+            alloc: _,
+            batch: _,
+            reader,
+            members: _,
+        } = self;
+        let _ = reader.end();
+        ManyStop::ReadFault
+    }
+}
