@@ -2,8 +2,8 @@
 
 ghost use Rattle.std.specs.Prelude.{◌≡◌, ◌<◌, ◌^◌, ◌-◌, None, true};
 
+use crate::calling::{HEADER, bytes_of};
 use io_edges::{Flat, Gate, Go, Got, Source};
-use program_calls::{HEADER, bytes_of};
 use std::alloc::Global;
 use std::sync::Wait;
 use std::sync::atomic::Ordering::SeqCst;

@@ -1,6 +1,6 @@
 //! A plain interpreter of bodies by the reduction rules: operands, open labels, and the index of the next instruction.
 
-use crate::control::tokens::{Token, number_of};
+use crate::execution::control::tokens::{Token, number_of};
 use std::alloc::{AllocError, Global};
 
 /// How a run ends; where it traps, at which of the tokens. `Lost` is for bodies that no validation passes, and for runs of too

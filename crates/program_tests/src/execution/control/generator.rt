@@ -1,7 +1,7 @@
 //! Valid bodies of nested control, made by a generator of pseudo-random numbers. Each entry of a loop takes one from a local that begins
 //! with 60, and returns where it comes to 0, so that every run ends.
 
-use crate::control::tokens::Token;
+use crate::execution::control::tokens::Token;
 use std::alloc::{AllocError, Global};
 
 /// A linear congruential generator of 64 bits.

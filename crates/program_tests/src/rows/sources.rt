@@ -2,8 +2,8 @@
 
 ghost use Rattle.std.specs.Prelude.{None, true};
 
+use crate::calling::{call, words_of};
 use io_edges::{Got, Source};
-use program_calls::{call, words_of};
 use std::alloc::Global;
 use std::sync::Wait;
 use std::test::Fail;

@@ -2,18 +2,22 @@
 //! as `whole wstream check = "0 ok 1 functions 41 bytes\n"`, or a part of the bytes that the questions after it are about. The answers
 //! were worked out by hand.
 //!
-//! The program prints the rows whose answers are others, each with its answer, and how many rows there are.
+//! The program prints the rows whose answers are others, each with its answer, and how many rows there are. What a row can't say is a test:
+//! threads, sources that hold a byte back, operations against Rust's integers, random bodies against an interpreter.
 #![tactic(auto)]
 
-mod base;
-mod sources;
-mod ways;
+mod calling;
+#[cfg(test)]
+mod execution;
+#[cfg(test)]
+mod gates;
+mod rows;
 
+use rows::{answer, is_read};
 use std::alloc::Global;
 use std::sync::Wait;
 use std::test::Fail;
 use std::thread::Threads;
-use ways::answer;
 
 /// What a row prints: nothing where its answer is the wanted one.
 fn difference<R: Threads + Wait + Sync>(
@@ -42,7 +46,7 @@ fn main(rt: HostRuntime) -> Result<(), Fail> {
     let mut rows = 0u64;
     for line in rt.lines(alloc) {
         let line = line?;
-        if !is_meant(line.as_str()) || base::is_read(alloc, &mut bytes, line.as_str())? {
+        if !is_meant(line.as_str()) || is_read(alloc, &mut bytes, line.as_str())? {
             continue;
         }
         rows = rows.saturating_add(1);

@@ -1,10 +1,11 @@
 //! The ways in which the program is given bytes, and what is reported of its answers.
 
-use crate::sources::held;
-use image_format::{Image, read_image};
-use program_calls::{
+use crate::calling::{
     answer_bytewise, answer_in_two, answer_to_line, difference_in_sinks, image_of,
 };
+use crate::rows::numbers::number_of;
+use crate::rows::sources::held;
+use image_format::{Image, read_image};
 use std::alloc::{AllocError, Global};
 use std::sync::Wait;
 use std::test::Fail;
@@ -16,11 +17,6 @@ fn add(told: &mut String, answer: &str) -> Result<(), AllocError> {
         return Ok(());
     }
     told.push_str(answer)
-}
-
-/// A number that is written there; 0 for another text.
-fn number_of(text: &str) -> usize {
-    text.parse::<usize>().unwrap_or(0)
 }
 
 /// Two numbers and what follows them.

@@ -1,7 +1,7 @@
 //! Every numeric operation on edge values and on scattered ones, against Rust's own integers. The rules are those of WebAssembly
 //! Core 1.0, 4.3.2 and 4.3.4, and of Core 2.0, 4.3.2, for sign extension.
 
-use program_calls::{HEADER, answer_to_line, bytes_of};
+use crate::calling::{HEADER, answer_to_line, bytes_of};
 use std::alloc::{AllocError, Global};
 use std::sync::Wait;
 use std::test::Fail;

@@ -5,9 +5,9 @@ mod generator;
 mod interpreter;
 mod tokens;
 
+use crate::calling::{HEADER, answer_to_line, bytes_of};
 use generator::body_of;
 use interpreter::{End, run_of};
-use program_calls::{HEADER, answer_to_line, bytes_of};
 use std::alloc::{AllocError, Global};
 use std::sync::Wait;
 use std::test::Fail;
