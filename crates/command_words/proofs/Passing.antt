@@ -1,7 +1,7 @@
 -- Where clap's model finds no error, the options of each command have numbers in their ranges, `run` and `exec` have EXPORT, and
 -- `drill` has N.
-use Rattle.std.proofs.Common.{◌≡◌, ◌∙◌, ◌⊎◌, ℕ, Bool, true, false, List, [], ◌∷◌, Option, Some, None, refl, ap, ap₂, sym, subst, true≢false, inl, inr}
-use Rattle.std.specs.Prelude.{◌≢◌, ◌||◌, Any, codes, cond, find, is_some, not, option_and_then, option_map}
+use Rattle.std.proofs.Common.{◌≡◌, ◌∙◌, ◌⊎◌, ℕ, Bool, true, false, List, [], ◌∷◌, Option, Some, None, refl, ap, ap₂, sym, true≢false, inl, inr}
+use Rattle.std.specs.Prelude.{◌||◌, Any, codes, cond, find, is_some, not, option_and_then, option_map}
 use Rattle.std.specs.List.{list_any}
 use Rattle.std.specs.Option.{option_map_or}
 use Rattle.std.specs.Str.{bytes_eq}
@@ -12,23 +12,21 @@ use Rattle.clap.specs.Simple.{App, Shape, argument_words, built, built_leaf, ent
 use Rattle.clap.specs.Facts.{explicit_source, parser_of_value}
 use Rattle.clap.specs.Faults.{check_fault, entered_fault, fault_of, level_fault}
 use Rattle.clap.specs.Takes.{is_given}
-use Rattle.clap.specs.ValueTests.{accepts, is_unsigned_in}
-use Rattle.clap.specs.declared.builder.action.ArgAction.TheVariants.{Append, Set}
+use Rattle.clap.specs.declared.builder.action.ArgAction.TheVariants.{Set}
 use Rattle.clap.specs.declared.builder.value_parser.ValueParser.{ValueParser}
 use Rattle.clap.specs.declared.builder.value_parser.ValueParser.TheVariants as parser
 use Rattle.clap.specs.declared.error.kind.ErrorKind.TheVariants.{MissingRequiredArgument}
 use Rattle.command_words.specs.Arguments.{arguments_in}
-use Rattle.command_words.specs.Grammar.{IsNoArgument, IsNoCall, IsOutside, call_in, call_of, call_words, check, command_in, command_named, command_without, compile, drill, drill_in, drill_of, exec, found_peek, found_words, number_in, options_in, options_of, peek_said, program, run, run_in, run_of}
+use Rattle.command_words.specs.Grammar.{IsNoArgument, IsNoCall, IsOutside, call_in, check, command_in, command_named, command_without, compile, drill, drill_in, exec, found_peek, many, found_words, number_in, options_in, options_of, peek_said, program, run, run_of}
 use Rattle.command_words.specs.declared.argument.Argument.{Argument}
 use Rattle.command_words.specs.declared.command.Call.{Call}
 use Rattle.command_words.specs.declared.command.Command.{Command}
 use Rattle.command_words.specs.declared.command.Command.TheVariants as command
 use Rattle.command_words.specs.declared.command.Drill.{Drill}
 use Rattle.command_words.specs.declared.command.Options.{Options}
-use Rattle.command_words.specs.declared.command.Run.{Run}
 use Rattle.command_words.specs.declared.peek.Peek.{Peek}
 use Rattle.command_words.proofs.ArgumentWords.{other_word}
-use Rattle.command_words.proofs.Rows.{AllFit, AreGood, Fits, IsOne, gives_default, has_default, neither, some_fault, value_good}
+use Rattle.command_words.proofs.Rows.{AllFit, Fits, IsOne, gives_default, has_default, neither, some_fault, value_good}
 use Rattle.command_words.proofs.Walks.{HasNoShort, level_good}
 
 -- a subcommand as clap builds it
@@ -40,6 +38,9 @@ no_short_check x = refl
 
 no_short_compile : HasNoShort (leaf compile).rules
 no_short_compile x = refl
+
+no_short_many : HasNoShort (leaf many).rules
+no_short_many x = refl
 
 no_short_exec : HasNoShort (leaf exec).rules
 no_short_exec x = refl
@@ -71,8 +72,14 @@ check_batch = (other (codes "batch") _ _ refl refl, (own (codes "batch") _ _ ref
 compile_workers : AllFit (codes "workers") (parser.Unsigned 0 64) (leaf compile).rules
 compile_workers = (own (codes "workers") _ _ refl (one_number 0 64 _ refl refl refl), (other (codes "workers") _ _ refl refl, tt))
 
+many_workers : AllFit (codes "workers") (parser.Unsigned 0 64) (leaf many).rules
+many_workers = (own (codes "workers") _ _ refl (one_number 0 64 _ refl refl refl), (other (codes "workers") _ _ refl refl, tt))
+
 compile_batch : AllFit (codes "batch") (parser.Unsigned 1 1048576) (leaf compile).rules
 compile_batch = (other (codes "batch") _ _ refl refl, (own (codes "batch") _ _ refl (one_number 1 1048576 _ refl refl refl), tt))
+
+many_batch : AllFit (codes "batch") (parser.Unsigned 1 1048576) (leaf many).rules
+many_batch = (other (codes "batch") _ _ refl refl, (own (codes "batch") _ _ refl (one_number 1 1048576 _ refl refl refl), tt))
 
 exec_export : AllFit (codes "export") parser.String (leaf exec).rules
 exec_export = (own (codes "export") _ _ refl (record { range = refl; parser = refl; exact = refl; reading = refl }), (inr (refl, refl), (other (codes "export") _ _ refl refl, (other (codes "export") _ _ refl refl, tt))))
@@ -147,6 +154,12 @@ compile_read words e =
     let w = number_read (codes "workers") 0 64 (leaf compile) compile_workers no_short_compile refl words e in
     let b = number_read (codes "batch") 1 1048576 (leaf compile) compile_batch no_short_compile refl words e in
     options_read (rows_of (leaf compile) words) w.0 b.0 w.1 b.1
+
+many_read : (words : List Text) → Passes (leaf many) words → (o : Options) × (options_in (rows_of (leaf many) words) ≡ Some o)
+many_read words e =
+    let w = number_read (codes "workers") 0 64 (leaf many) many_workers no_short_many refl words e in
+    let b = number_read (codes "batch") 1 1048576 (leaf many) many_batch no_short_many refl words e in
+    options_read (rows_of (leaf many) words) w.0 b.0 w.1 b.1
 
 run_options : (words : List Text) → Passes (leaf run) words → (o : Options) × (options_in (rows_of (leaf run) words) ≡ Some o)
 run_options words e =
@@ -265,22 +278,25 @@ stop_read : (stop : Option (Text × List Text)) → entered_fault (built program
     → IsEither (entered (built program) stop)
 stop_read None e has = absurd (true≢false (sym has))
 stop_read (Some p) e has =
-    go (answers_to p.0 (label_of (leaf check))) (answers_to p.0 (label_of (leaf compile))) (answers_to p.0 (label_of (leaf run))) (answers_to p.0 (label_of (leaf exec)))
+    go (answers_to p.0 (label_of (leaf check))) (answers_to p.0 (label_of (leaf compile))) (answers_to p.0 (label_of (leaf many))) (answers_to p.0 (label_of (leaf run))) (answers_to p.0 (label_of (leaf exec)))
     (answers_to p.0 (label_of (leaf drill))) e has
   where
-    go : (a b c d f : Bool) → option_map_or (λ s. level_fault s [] nothing_held p.1 false []) (cond a (Some (leaf check)) (cond b (Some (leaf compile)) (cond c (Some (leaf run)) (cond d (Some (leaf exec)) (cond f (Some (leaf drill)) None))))) [] ≡ []
-        → is_some (option_map (λ s. rows_at s p.1) (cond a (Some (leaf check)) (cond b (Some (leaf compile)) (cond c (Some (leaf run)) (cond d (Some (leaf exec)) (cond f (Some (leaf drill)) None)))))) ≡ true
-        → IsEither (option_map (λ s. rows_at s p.1) (cond a (Some (leaf check)) (cond b (Some (leaf compile)) (cond c (Some (leaf run)) (cond d (Some (leaf exec)) (cond f (Some (leaf drill)) None))))))
-    go true b c d f e has =
+    go : (a b m c d f : Bool) → option_map_or (λ s. level_fault s [] nothing_held p.1 false []) (cond a (Some (leaf check)) (cond b (Some (leaf compile)) (cond m (Some (leaf many)) (cond c (Some (leaf run)) (cond d (Some (leaf exec)) (cond f (Some (leaf drill)) None)))))) [] ≡ []
+        → is_some (option_map (λ s. rows_at s p.1) (cond a (Some (leaf check)) (cond b (Some (leaf compile)) (cond m (Some (leaf many)) (cond c (Some (leaf run)) (cond d (Some (leaf exec)) (cond f (Some (leaf drill)) None))))))) ≡ true
+        → IsEither (option_map (λ s. rows_at s p.1) (cond a (Some (leaf check)) (cond b (Some (leaf compile)) (cond m (Some (leaf many)) (cond c (Some (leaf run)) (cond d (Some (leaf exec)) (cond f (Some (leaf drill)) None)))))))
+    go true b m c d f e has =
         let o = check_read p.1 e in
         inl (command.Check o.0, ap (option_map command.Check) o.1)
-    go false true c d f e has =
+    go false true m c d f e has =
         let o = compile_read p.1 e in
         inl (command.Compile o.0, ap (option_map command.Compile) o.1)
-    go false false true d f e has = run_read p.1 e
-    go false false false true f e has = exec_read p.1 e
-    go false false false false true e has = drill_read p.1 e
-    go false false false false false e has = absurd (true≢false (sym has))
+    go false false true c d f e has =
+        let o = many_read p.1 e in
+        inl (command.Many o.0, ap (option_map command.Many) o.1)
+    go false false false true d f e has = run_read p.1 e
+    go false false false false true f e has = exec_read p.1 e
+    go false false false false false true e has = drill_read p.1 e
+    go false false false false false false e has = absurd (true≢false (sym has))
 
 named_read : (words : List Text) → fault_of program words ≡ [] → IsEither (subcommand_of program words)
 named_read words e =

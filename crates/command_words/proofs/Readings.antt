@@ -109,6 +109,7 @@ drill_bounds rows d is =
 abbrev IsRead : List Row → Command → Type 0
 IsRead rows (command.Check o) = options_in rows ≡ Some o
 IsRead rows (command.Compile o) = options_in rows ≡ Some o
+IsRead rows (command.Many o) = options_in rows ≡ Some o
 IsRead rows (command.Run r) = run_in rows ≡ Some r
 IsRead rows (command.Exec c) = call_in rows ≡ Some c
 IsRead rows (command.Drill d) = drill_in rows ≡ Some d
@@ -117,22 +118,24 @@ made_of : {X : Type 0} (make : X → Command) (P : Command → Type 0) (read x :
 made_of make P read None c each is e = absurd (some≢none c e)
 made_of make P read (Some v) c each is e = subst P (ap (λ y. unwrap_or y c) e) (each v is)
 
--- the command of a subcommand that has one of the five names, or none
-abbrev by_name : Bool → Bool → Bool → Bool → Bool → List Row → Option Command
-by_name check compile run exec drill rows =
+-- the command of a subcommand that has one of the six names, or none
+abbrev by_name : Bool → Bool → Bool → Bool → Bool → Bool → List Row → Option Command
+by_name check compile many run exec drill rows =
     cond check (option_map command.Check (options_in rows))
-    (cond compile (option_map command.Compile (options_in rows)) (cond run (option_map command.Run (run_in rows)) (cond exec (option_map command.Exec (call_in rows)) (cond drill (option_map command.Drill (drill_in rows)) None))))
+    (cond compile (option_map command.Compile (options_in rows)) (cond many (option_map command.Many (options_in rows))
+    (cond run (option_map command.Run (run_in rows)) (cond exec (option_map command.Exec (call_in rows)) (cond drill (option_map command.Drill (drill_in rows)) None)))))
 
-by_name_read : (check compile run exec drill : Bool) (rows : List Row) (c : Command) → by_name check compile run exec drill rows ≡ Some c → IsRead rows c
-by_name_read true compile run exec drill rows c e = made_of command.Check (IsRead rows) (options_in rows) (options_in rows) c (λ v is. is) refl e
-by_name_read false true run exec drill rows c e = made_of command.Compile (IsRead rows) (options_in rows) (options_in rows) c (λ v is. is) refl e
-by_name_read false false true exec drill rows c e = made_of command.Run (IsRead rows) (run_in rows) (run_in rows) c (λ v is. is) refl e
-by_name_read false false false true drill rows c e = made_of command.Exec (IsRead rows) (call_in rows) (call_in rows) c (λ v is. is) refl e
-by_name_read false false false false true rows c e = made_of command.Drill (IsRead rows) (drill_in rows) (drill_in rows) c (λ v is. is) refl e
-by_name_read false false false false false rows c e = absurd (some≢none c e)
+by_name_read : (check compile many run exec drill : Bool) (rows : List Row) (c : Command) → by_name check compile many run exec drill rows ≡ Some c → IsRead rows c
+by_name_read true compile many run exec drill rows c e = made_of command.Check (IsRead rows) (options_in rows) (options_in rows) c (λ v is. is) refl e
+by_name_read false true many run exec drill rows c e = made_of command.Compile (IsRead rows) (options_in rows) (options_in rows) c (λ v is. is) refl e
+by_name_read false false true run exec drill rows c e = made_of command.Many (IsRead rows) (options_in rows) (options_in rows) c (λ v is. is) refl e
+by_name_read false false false true exec drill rows c e = made_of command.Run (IsRead rows) (run_in rows) (run_in rows) c (λ v is. is) refl e
+by_name_read false false false false true drill rows c e = made_of command.Exec (IsRead rows) (call_in rows) (call_in rows) c (λ v is. is) refl e
+by_name_read false false false false false true rows c e = made_of command.Drill (IsRead rows) (drill_in rows) (drill_in rows) c (λ v is. is) refl e
+by_name_read false false false false false false rows c e = absurd (some≢none c e)
 
 named_read : (p : Text × List Row) (c : Command) → command_named p ≡ Some c → IsRead p.1 c
-named_read p c e = by_name_read (bytes_eq p.0 (codes "check")) (bytes_eq p.0 (codes "compile")) (bytes_eq p.0 (codes "run")) (bytes_eq p.0 (codes "exec")) (bytes_eq p.0 (codes "drill")) p.1 c e
+named_read p c e = by_name_read (bytes_eq p.0 (codes "check")) (bytes_eq p.0 (codes "compile")) (bytes_eq p.0 (codes "many")) (bytes_eq p.0 (codes "run")) (bytes_eq p.0 (codes "exec")) (bytes_eq p.0 (codes "drill")) p.1 c e
 
 short_bounds : (least most : ℕ) (t : Text) (n : ℕ) → short_number least most t ≡ Some n → (least ≤ n) × (n ≤ most)
 short_bounds least most t n is = go (is_short t) is
@@ -169,6 +172,7 @@ call_bounds rows c is =
 read_bounds : (rows : List Row) (c : Command) → IsRead rows c → IsInRange c
 read_bounds rows (command.Check o) is = options_bounds rows o is
 read_bounds rows (command.Compile o) is = options_bounds rows o is
+read_bounds rows (command.Many o) is = options_bounds rows o is
 read_bounds rows (command.Run r) is = let read = run_parts rows r is in (options_bounds rows r.options read.0, call_bounds rows r.call read.1)
 read_bounds rows (command.Exec c) is = call_bounds rows c is
 read_bounds rows (command.Drill d) is = drill_bounds rows d is
@@ -206,16 +210,18 @@ none_of_call : (rows : List Row) (c : Call) → call_in rows ≡ Some c → IsNo
 none_of_call rows c is (inl any) = no_other (found_words rows) c.arguments (call_parts rows c is).arguments any
 none_of_call rows c is (inr none) = not_both (peek_said (found_peek rows)) c.peek (call_parts rows c is).peek none
 
-no_call : (check compile run exec drill : Bool) (rows : List Row) (c : Command) → (check ≡ true → (run || exec) ≡ false) → (compile ≡ true → (run || exec) ≡ false)
-    → by_name check compile run exec drill rows ≡ Some c → IsNone (run || exec) rows → ⊥
-no_call check compile false false drill rows c one two e none = none_of_no_call rows none
-no_call true compile true exec drill rows c one two e none = absurd (true≢false (one refl))
-no_call true compile false true drill rows c one two e none = absurd (true≢false (one refl))
-no_call false true true exec drill rows c one two e none = absurd (true≢false (two refl))
-no_call false true false true drill rows c one two e none = absurd (true≢false (two refl))
-no_call false false true exec drill rows c one two e none =
+no_call : (check compile many run exec drill : Bool) (rows : List Row) (c : Command) → (check ≡ true → (run || exec) ≡ false) → (compile ≡ true → (run || exec) ≡ false) → (many ≡ true → (run || exec) ≡ false)
+    → by_name check compile many run exec drill rows ≡ Some c → IsNone (run || exec) rows → ⊥
+no_call check compile many false false drill rows c one two three e none = none_of_no_call rows none
+no_call true compile many true exec drill rows c one two three e none = absurd (true≢false (one refl))
+no_call true compile many false true drill rows c one two three e none = absurd (true≢false (one refl))
+no_call false true many true exec drill rows c one two three e none = absurd (true≢false (two refl))
+no_call false true many false true drill rows c one two three e none = absurd (true≢false (two refl))
+no_call false false true true exec drill rows c one two three e none = absurd (true≢false (three refl))
+no_call false false true false true drill rows c one two three e none = absurd (true≢false (three refl))
+no_call false false false true exec drill rows c one two three e none =
     made_of command.Run (λ c. ⊥) (run_in rows) (run_in rows) c (λ r is. none_of_call rows r.call (run_parts rows r is).1 none) refl e
-no_call false false false true drill rows c one two e none =
+no_call false false false false true drill rows c one two three e none =
     made_of command.Exec (λ c. ⊥) (call_in rows) (call_in rows) c (λ d is. none_of_call rows d is none) refl e
 
 -- no name is that of two subcommands
@@ -229,9 +235,10 @@ neither_name name a x is not_run not_exec e = go (bytes_eq name (codes "run")) (
 
 none_other : (p : Text × List Row) (c : Command) → command_named p ≡ Some c → IsNoCall (Some p) → ⊥
 none_other p c e none =
-    no_call (bytes_eq p.0 (codes "check")) (bytes_eq p.0 (codes "compile")) (bytes_eq p.0 (codes "run")) (bytes_eq p.0 (codes "exec")) (bytes_eq p.0 (codes "drill")) p.1 c
+    no_call (bytes_eq p.0 (codes "check")) (bytes_eq p.0 (codes "compile")) (bytes_eq p.0 (codes "many")) (bytes_eq p.0 (codes "run")) (bytes_eq p.0 (codes "exec")) (bytes_eq p.0 (codes "drill")) p.1 c
     (neither_name p.0 (codes "check") 104 refl (λ x. omega (arith, x)) (λ x. omega (arith, x)))
-    (neither_name p.0 (codes "compile") 111 refl (λ x. omega (arith, x)) (λ x. omega (arith, x))) e none
+    (neither_name p.0 (codes "compile") 111 refl (λ x. omega (arith, x)) (λ x. omega (arith, x)))
+    (neither_name p.0 (codes "many") 97 refl (λ x. omega (arith, x)) (λ x. omega (arith, x))) e none
 
 -- where a command is read, the words of a call are one
 no_other_word : (ks : Kinds) (named : Option (Text × List Row)) (c : Command) → command_without ks named ≡ Some c → IsNoCall named → ⊥
@@ -250,23 +257,25 @@ apart ks named c e (inr none) = no_other_word ks named c e none
 abbrev HasArguments : List Text → Command → Type 0
 HasArguments words (command.Check o) = Unit {0}
 HasArguments words (command.Compile o) = Unit {0}
+HasArguments words (command.Many o) = Unit {0}
 HasArguments words (command.Run r) = AreArguments words r.call.arguments
 HasArguments words (command.Exec c) = AreArguments words c.arguments
 HasArguments words (command.Drill d) = Unit {0}
 
-by_name_arguments : (check compile run exec drill : Bool) (rows : List Row) (c : Command) → by_name check compile run exec drill rows ≡ Some c → HasArguments (cond (run || exec) (found_words rows) []) c
-by_name_arguments true compile run exec drill rows c e = made_of command.Check (HasArguments _) (options_in rows) (options_in rows) c (λ v is. tt) refl e
-by_name_arguments false true run exec drill rows c e = made_of command.Compile (HasArguments _) (options_in rows) (options_in rows) c (λ v is. tt) refl e
-by_name_arguments false false true exec drill rows c e =
+by_name_arguments : (check compile many run exec drill : Bool) (rows : List Row) (c : Command) → by_name check compile many run exec drill rows ≡ Some c → HasArguments (cond (run || exec) (found_words rows) []) c
+by_name_arguments true compile many run exec drill rows c e = made_of command.Check (HasArguments _) (options_in rows) (options_in rows) c (λ v is. tt) refl e
+by_name_arguments false true many run exec drill rows c e = made_of command.Compile (HasArguments _) (options_in rows) (options_in rows) c (λ v is. tt) refl e
+by_name_arguments false false true run exec drill rows c e = made_of command.Many (HasArguments _) (options_in rows) (options_in rows) c (λ v is. tt) refl e
+by_name_arguments false false false true exec drill rows c e =
     made_of command.Run (HasArguments (found_words rows)) (run_in rows) (run_in rows) c (λ r is. are_arguments (found_words rows) r.call.arguments (call_parts rows r.call (run_parts rows r is).1).arguments) refl e
-by_name_arguments false false false true drill rows c e =
+by_name_arguments false false false false true drill rows c e =
     made_of command.Exec (HasArguments (found_words rows)) (call_in rows) (call_in rows) c (λ d is. are_arguments (found_words rows) d.arguments (call_parts rows d is).arguments) refl e
-by_name_arguments false false false false true rows c e = made_of command.Drill (HasArguments []) (drill_in rows) (drill_in rows) c (λ v is. tt) refl e
-by_name_arguments false false false false false rows c e = absurd (some≢none c e)
+by_name_arguments false false false false false true rows c e = made_of command.Drill (HasArguments []) (drill_in rows) (drill_in rows) c (λ v is. tt) refl e
+by_name_arguments false false false false false false rows c e = absurd (some≢none c e)
 
 pub command_arguments : (ks : Kinds) (named : Option (Text × List Row)) (c : Command) → command_without ks named ≡ Some c → HasArguments (call_words named) c
 command_arguments [] None c e = absurd (some≢none c e)
-command_arguments [] (Some p) c e = by_name_arguments (bytes_eq p.0 (codes "check")) (bytes_eq p.0 (codes "compile")) (bytes_eq p.0 (codes "run")) (bytes_eq p.0 (codes "exec")) (bytes_eq p.0 (codes "drill")) p.1 c e
+command_arguments [] (Some p) c e = by_name_arguments (bytes_eq p.0 (codes "check")) (bytes_eq p.0 (codes "compile")) (bytes_eq p.0 (codes "many")) (bytes_eq p.0 (codes "run")) (bytes_eq p.0 (codes "exec")) (bytes_eq p.0 (codes "drill")) p.1 c e
 command_arguments (k ∷ ks) named c e = absurd (some≢none c e)
 
 pub run_arguments : (ks : Kinds) (named : Option (Text × List Row)) (r : Run) → command_without ks named ≡ Some (command.Run r) → AreArguments (call_words named) r.call.arguments

@@ -72,6 +72,9 @@ check = with_options (new_app (codes "check"))
 abbrev pub compile : App
 compile = with_options (new_app (codes "compile"))
 
+abbrev pub many : App
+many = with_options (new_app (codes "many"))
+
 abbrev pub run : App
 run = with_options (with_words (new_app (codes "run")))
 
@@ -83,7 +86,7 @@ drill = with_rule (with_options (with_rule (new_app (codes "drill")) count)) ste
 
 -- the commands on a module that call nothing, and those that call a function
 abbrev pub with_modules : App → App
-with_modules a = with_subcommand (with_subcommand a check.top) compile.top
+with_modules a = with_subcommand (with_subcommand (with_subcommand a check.top) compile.top) many.top
 
 abbrev pub with_calls : App → App
 with_calls a = with_subcommand (with_subcommand (with_subcommand a run.top) exec.top) drill.top
@@ -168,6 +171,7 @@ abbrev pub command_named : Text × List Row → Option Command
 command_named p =
     if bytes_eq p.0 (codes "check") then option_map command.Check (options_in p.1)
     else if bytes_eq p.0 (codes "compile") then option_map command.Compile (options_in p.1)
+    else if bytes_eq p.0 (codes "many") then option_map command.Many (options_in p.1)
     else if bytes_eq p.0 (codes "run") then option_map command.Run (run_in p.1)
     else if bytes_eq p.0 (codes "exec") then option_map command.Exec (call_in p.1)
     else if bytes_eq p.0 (codes "drill") then option_map command.Drill (drill_in p.1)
@@ -200,6 +204,7 @@ IsCallInRange c = (c.steps ≤ 1000000000000) × IsPeekInRange c.peek
 abbrev pub IsInRange : Command → Type 0
 IsInRange (command.Check o) = AreInRange o
 IsInRange (command.Compile o) = AreInRange o
+IsInRange (command.Many o) = AreInRange o
 IsInRange (command.Run r) = AreInRange r.options × IsCallInRange r.call
 IsInRange (command.Exec c) = IsCallInRange c
 IsInRange (command.Drill d) = AreInRange d.options × (1 ≤ d.count) × (d.count ≤ 50000) × (d.steps ≤ 1000000000000)

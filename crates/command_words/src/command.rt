@@ -58,6 +58,8 @@ pub enum Command {
     Check(Options),
     /// `compile`: compile the module to its image.
     Compile(Options),
+    /// `many`: compile each of several modules, whose bytes come in frames, interleaved.
+    Many(Options),
     /// `run`: compile the module, and call a function that it exports.
     Run(Run),
     /// `exec`: call a function that an image exports.

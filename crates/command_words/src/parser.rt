@@ -3,7 +3,7 @@
 ghost use Rattle.std.specs.Prelude.{◌≡◌, IfOk, false};
 ghost use Rattle.clap.specs.Words.{app_of, rule_of};
 ghost use Rattle.clap.specs.declared.builder.command.Command.TheViews.{out-Command};
-ghost use Rattle.command_words.specs.Grammar.{arguments, batch, check, compile, count, drill, exec, export, peek, program, run, steps, with_calls, with_modules, with_options, with_words, workers};
+ghost use Rattle.command_words.specs.Grammar.{arguments, batch, check, compile, count, drill, exec, export, many, peek, program, run, steps, with_calls, with_modules, with_options, with_words, workers};
 
 use clap::{Arg, ArgAction, Command as Parser, value_parser};
 use std::alloc::{AllocError, Global};
@@ -99,6 +99,14 @@ fn compile<'a>(alloc: Global) -> Result<Parser<'a>, AllocError>
     with_options(alloc, Parser::new(alloc, "compile"))
 }
 
+/// The subcommand `many`.
+fn many<'a>(alloc: Global) -> Result<Parser<'a>, AllocError>
+    ensures app { IfOk result (λ p. app_of p ≡ many) }
+    ensures local { IfOk result (λ p. (out-Command p).has_globals ≡ false) }
+{
+    with_options(alloc, Parser::new(alloc, "many"))
+}
+
 /// The parser with the arguments of a call and its options.
 fn with_words<'a>(alloc: Global, parser: Parser<'a>) -> Result<Parser<'a>, AllocError>
     ensures app { IfOk result (λ p. app_of p ≡ with_words (app_of parser.entry)) }
@@ -134,13 +142,14 @@ fn drill<'a>(alloc: Global) -> Result<Parser<'a>, AllocError>
     with_options(alloc, words)?.arg(steps(alloc))
 }
 
-/// The parser with `check` and `compile`.
+/// The parser with `check`, `compile` and `many`.
 fn with_modules<'a>(alloc: Global, parser: Parser<'a>) -> Result<Parser<'a>, AllocError>
     ensures { IfOk result (λ p. app_of p ≡ with_modules (app_of parser.entry)) }
 {
     parser
         .subcommand(check(alloc)?)?
-        .subcommand(compile(alloc)?)
+        .subcommand(compile(alloc)?)?
+        .subcommand(many(alloc)?)
 }
 
 /// The parser with `run`, `exec` and `drill`.

@@ -135,6 +135,7 @@ fn command_in(alloc: Global, matches: &ArgMatches<'_>) -> Result<Command, WordsS
     match name {
         "check" => Ok(Command::Check(options_in(inner).ok_or(WordsStop::Outside)?)),
         "compile" => Ok(Command::Compile(options_in(inner).ok_or(WordsStop::Outside)?)),
+        "many" => Ok(Command::Many(options_in(inner).ok_or(WordsStop::Outside)?)),
         "run" => Ok(Command::Run(run_in(alloc, inner)?)),
         "exec" => Ok(Command::Exec(call_in(alloc, inner)?)),
         "drill" => Ok(Command::Drill(drill_in(inner).ok_or(WordsStop::Outside)?)),
@@ -144,9 +145,9 @@ fn command_in(alloc: Global, matches: &ArgMatches<'_>) -> Result<Command, WordsS
 
 /// Reads the command that a command line gives, whose first argument is the program's name.
 ///
-/// After it comes a subcommand: `check`, `compile`, `run EXPORT ARGS`, `exec EXPORT ARGS`, or `drill N`. EXPORT is one argument,
-/// any string, and ARGS are any number of arguments, each `i32:N` or `i64:N` as `argument_of` reads them. `check`, `compile`, `run`
-/// and `drill` have the options `--workers N` and `--batch N`; `run`, `exec` and `drill` have `--steps N`; and `run` and `exec`
+/// After it comes a subcommand: `check`, `compile`, `many`, `run EXPORT ARGS`, `exec EXPORT ARGS`, or `drill N`. EXPORT is one
+/// argument, any string, and ARGS are any number of arguments, each `i32:N` or `i64:N` as `argument_of` reads them. All but `exec`
+/// have the options `--workers N` and `--batch N`; `run`, `exec` and `drill` have `--steps N`; and `run` and `exec`
 /// have `--peek A:N`, which `peek_of` reads. An option may be written `--workers=N`, and comes once at most, before, between or
 /// after the other arguments of its subcommand. N is decimal digits, before which a plus may be. All arguments that follow a `--`
 /// belong to EXPORT and ARGS, or are the N of `drill`. A request for help is outside the grammar.

@@ -65,6 +65,7 @@ fn command_told(alloc: Global, command: Command) -> Result<String, AllocError> {
         Command::Compile(options) => {
             format!(in alloc; "compile {}", options_told(alloc, options)?)
         }
+        Command::Many(options) => { format!(in alloc; "many {}", options_told(alloc, options)?) }
         Command::Run(run) => {
             let options = options_told(alloc, run.options)?;
             format!(in alloc; "run {options} {}", call_told(alloc, run.call)?)

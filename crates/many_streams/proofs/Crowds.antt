@@ -9,7 +9,6 @@ use Rattle.std.proofs.lemmas.List.{append-nil, take-append-drop, take_all, lengt
 use Rattle.std.proofs.lemmas.List.Elements.{All-head, All-tail}
 use Rattle.std.specs.declared.vec.Vec.{Vec}
 use Rattle.std.specs.declared.alloc.Global.{Global}
-use Rattle.many_streams.specs.declared.member.Each.{Each}
 use Rattle.many_streams.specs.declared.member.Member.{Member}
 use Rattle.many_streams.specs.declared.reader.Taken.{Taken}
 use Rattle.many_streams.specs.declared.reader.Taken.TheVariants as taken
@@ -18,8 +17,8 @@ use Rattle.many_streams.specs.declared.streams.ManyStop.{ManyStop}
 use Rattle.many_streams.specs.declared.streams.ManyStop.TheVariants as stop
 use Rattle.many_streams.specs.Frames.{IsBadFrame}
 use Rattle.many_streams.specs.Reading.{Progress, IsReading, Takes, Ends, with_more}
-use Rattle.many_streams.specs.Members.{IsMember, IsJudged, IsEach}
-use Rattle.many_streams.specs.Many.{AreMembers, AreJudged, AreEach, IsStreaming, TakesSome, TakesAll, AnswersEnd, IsFront}
+use Rattle.many_streams.specs.Members.{IsMember, IsJudged}
+use Rattle.many_streams.specs.Many.{AreMembers, AreJudged, AreEach, IsStreaming, TakesSome, TakesAll, ComesToEnd, IsFront}
 
 -- ---- lists
 
@@ -53,36 +52,56 @@ slice_all P (y ∷ xs) (suc i) x all at = slice_all P xs i x (All-tail P y xs al
 
 -- ---- so many are judged
 
-abbrev pub AreMixed : ℕ → (ℕ → List ℕ) → List Member → Type 0
-AreMixed k of members = (i : ℕ) (m : Member) → slice_get members i ≡ Some m → (i < k → IsJudged (of i) m) × (k ≤ i → IsMember (of i) m)
+abbrev pub AreMixed : Bool → ℕ → (ℕ → List ℕ) → List Member → Type 0
+AreMixed keeps k of members = (i : ℕ) (m : Member) → slice_get members i ≡ Some m → (i < k → IsJudged keeps (of i) m) × (k ≤ i → IsMember keeps (of i) m)
 
-pub none_judged : (of : ℕ → List ℕ) (members : List Member) → AreMembers of members → AreMixed 0 of members
-none_judged of members are i m at = (λ less. absurd (omega arith), λ _. are i m at)
+pub none_judged : (keeps : Bool) (of : ℕ → List ℕ) (members : List Member) → AreMembers keeps of members → AreMixed keeps 0 of members
+none_judged keeps of members are i m at = (λ less. absurd (omega arith), λ _. are i m at)
 
-pub all_judged : (k : ℕ) (of : ℕ → List ℕ) (members : List Member) → length members ≤ k → AreMixed k of members → AreJudged of members
-all_judged k of members over mixed i m at = (mixed i m at).0 (let w = slice_get_within members i m at in omega arith)
+pub all_judged : (keeps : Bool) (k : ℕ) (of : ℕ → List ℕ) (members : List Member) → length members ≤ k → AreMixed keeps k of members → AreJudged keeps of members
+all_judged keeps k of members over mixed i m at = (mixed i m at).0 (let w = slice_get_within members i m at in omega arith)
 
-pub member_at : (k : ℕ) (of : ℕ → List ℕ) (members : List Member) (m : Member) → k < length members → m ≡ get_or members k m → AreMixed k of members → IsMember (of k) m
-member_at k of members m in' is mixed = (mixed k m (slice_get_read members (length members) k m refl in' is)).1 (omega arith)
+pub member_at : (keeps : Bool) (k : ℕ) (of : ℕ → List ℕ) (members : List Member) (m : Member) → k < length members → m ≡ get_or members k m → AreMixed keeps k of members → IsMember keeps (of k) m
+member_at keeps k of members m in' is mixed = (mixed k m (slice_get_read members (length members) k m refl in' is)).1 (omega arith)
 
-pub one_judged : (k : ℕ) (of : ℕ → List ℕ) (members members' : List Member) (m' : Member) → k < length members → members' ≡ set members k m' → IsJudged (of k) m' → AreMixed k of members → AreMixed (k + 1) of members'
-one_judged k of members members' m' in' now judged mixed i m at = dite (ℕ_discrete i k)
+pub one_judged : (keeps : Bool) (k : ℕ) (of : ℕ → List ℕ) (members members' : List Member) (m' : Member) → k < length members → members' ≡ set members k m' → IsJudged keeps (of k) m' → AreMixed keeps k of members → AreMixed keeps (k + 1) of members'
+one_judged keeps k of members members' m' in' now judged mixed i m at = dite (ℕ_discrete i k)
     (λ same.
     let e : m' ≡ m = let a = slice_set_same members k m' in' in let b : slice_get (set members k m') k ≡ Some m = subst (λ (j : ℕ). slice_get (set members k m') j ≡ Some m) same (ap (λ (l : List Member). slice_get l i) (sym now) ∙ at) in cc in
-    (λ _. subst (λ (x : Member). IsJudged (of i) x) e (subst (λ (j : ℕ). IsJudged (of j) m') (sym same) judged), λ over. absurd (omega arith)))
+    (λ _. subst (λ (x : Member). IsJudged keeps (of i) x) e (subst (λ (j : ℕ). IsJudged keeps (of j) m') (sym same) judged), λ over. absurd (omega arith)))
     (λ other.
     let was = mixed i m (sym (slice_set_other members i k m' other) ∙ (ap (λ (l : List Member). slice_get l i) (sym now) ∙ at)) in
     (λ less. was.0 (omega arith), λ over. was.1 (omega arith)))
 
-pub judged_at : (k : ℕ) (of : ℕ → List ℕ) (members : List Member) (m : Member) → k < length members → m ≡ get_or members k m → AreJudged of members → IsJudged (of k) m
-judged_at k of members m in' is are = are k m (slice_get_read members (length members) k m refl in' is)
+-- ---- what each comes to
 
-pub each_push : (of : ℕ → List ℕ) (each each' : List Each) (e : Each) (k : ℕ) → length each ≡ k → each' ≡ each ++ e ∷ [] → AreEach of each → IsEach (of k) e → AreEach of each'
-each_push of each each' e k count now are is i f at = got (slice_push each e f i (ap (λ (l : List Each). slice_get l i) (sym now) ∙ at))
-  where
-    got : (slice_get each i ≡ Some f) ⊎ ((i ≡ length each) × (e ≡ f)) → IsEach (of i) f
-    got (inl h) = are i f h
-    got (inr h) = subst (λ (x : Each). IsEach (of i) x) h.1 (subst (λ (j : ℕ). IsEach (of j) e) (sym (h.0 ∙ count)) is)
+-- an element at an index below the length
+at_index : {X : Type 0} (xs : List X) (i : ℕ) → i < length xs → (x : X) × (slice_get xs i ≡ Some x)
+at_index [] i in' = absurd (omega arith)
+at_index (x ∷ xs) zero in' = (x, refl)
+at_index (x ∷ xs) (suc i) in' = at_index xs i (omega arith)
+
+pub judged_at : (keeps : Bool) (k : ℕ) (list : List (List ℕ)) (members : List Member) (m : Member) → k < length members → m ≡ get_or members k m → AreEach (IsJudged keeps) list members
+    → (bytes : List ℕ) × (slice_get list k ≡ Some bytes) × IsJudged keeps bytes m
+judged_at keeps k list members m in' is are =
+    let count = are.0 in
+    let a = at_index list k (omega arith) in (a.0, a.1, are.1 k a.0 m a.1 (slice_get_read members (length members) k m refl in' is))
+
+pub judged_so : (keeps : Bool) (k : ℕ) (list : List (List ℕ)) (members : List Member) (m : Member) → k < length members → m ≡ get_or members k m → AreEach (IsJudged keeps) list members
+    → (bytes : List ℕ) → slice_get list k ≡ Some bytes → IsJudged keeps bytes m
+judged_so keeps k list members m in' is are bytes at = are.1 k bytes m at (slice_get_read members (length members) k m refl in' is)
+
+module _ {E : Type 0} (Comes : List ℕ → E → Type 0) where
+  -- so many of a list come to these
+  abbrev pub AreSome : List (List ℕ) → List E → Type 0
+  AreSome list each = (i : ℕ) (bytes : List ℕ) (e : E) → slice_get list i ≡ Some bytes → slice_get each i ≡ Some e → Comes bytes e
+
+  pub some_push : (list : List (List ℕ)) (each each' : List E) (e : E) (k : ℕ) → length each ≡ k → each' ≡ each ++ e ∷ [] → AreSome list each → ((bytes : List ℕ) → slice_get list k ≡ Some bytes → Comes bytes e) → AreSome list each'
+  some_push list each each' e k count now are is i bytes f at in' = got (slice_push each e f i (ap (λ (l : List E). slice_get l i) (sym now) ∙ in'))
+    where
+      got : (slice_get each i ≡ Some f) ⊎ ((i ≡ length each) × (e ≡ f)) → Comes bytes f
+      got (inl h) = are i bytes f at h
+      got (inr h) = subst (λ (x : E). Comes bytes x) h.1 (is bytes (ap (λ (j : ℕ). slice_get list j) (sym (h.0 ∙ count)) ∙ at))
 
 -- ---- the bytes of one module more
 
@@ -93,20 +112,20 @@ not_eqb a b other = of (eqb_tells a b)
     of (inl t) = absurd (other t.1)
     of (inr t) = t.0
 
-pub members_fed : (of : ℕ → List ℕ) (members members' : List Member) (k : ℕ) (more : List ℕ) (m m' : Member) → k < length members → m ≡ get_or members k m → members' ≡ set members k m' → AreMembers of members
-    → (IsMember (of k) m → IsMember (of k ++ more) m') → AreMembers (with_more of k more) members'
-members_fed of members members' k more m m' in' is now are feeds i x at = dite (ℕ_discrete i k)
+pub members_fed : (keeps : Bool) (of : ℕ → List ℕ) (members members' : List Member) (k : ℕ) (more : List ℕ) (m m' : Member) → k < length members → m ≡ get_or members k m → members' ≡ set members k m' → AreMembers keeps of members
+    → (IsMember keeps (of k) m → IsMember keeps (of k ++ more) m') → AreMembers keeps (with_more of k more) members'
+members_fed keeps of members members' k more m m' in' is now are feeds i x at = dite (ℕ_discrete i k)
     (λ same.
     let e : m' ≡ x = let a = slice_set_same members k m' in' in let b : slice_get (set members k m') k ≡ Some x = subst (λ (j : ℕ). slice_get (set members k m') j ≡ Some x) same (ap (λ (l : List Member). slice_get l i) (sym now) ∙ at) in cc in
     let fed = feeds (are k m (slice_get_read members (length members) k m refl in' is)) in
     let here : with_more of k more i ≡ of k ++ more = ap (λ (b : Bool). of i ++ cond b more []) (eq-eqb k i (sym same)) ∙ ap (λ (j : ℕ). of j ++ more) same in
-    subst (λ (l : List ℕ). IsMember l x) (sym here) (subst (λ (y : Member). IsMember (of k ++ more) y) e fed))
+    subst (λ (l : List ℕ). IsMember keeps l x) (sym here) (subst (λ (y : Member). IsMember keeps (of k ++ more) y) e fed))
     (λ other.
     let here : with_more of k more i ≡ of i = ap (λ (b : Bool). of i ++ cond b more []) (not_eqb k i (λ e. other (sym e))) ∙ append-nil (of i) in
-    subst (λ (l : List ℕ). IsMember l x) (sym here) (are i x (sym (slice_set_other members i k m' other) ∙ (ap (λ (l : List Member). slice_get l i) (sym now) ∙ at))))
+    subst (λ (l : List ℕ). IsMember keeps l x) (sym here) (are i x (sym (slice_set_other members i k m' other) ∙ (ap (λ (l : List Member). slice_get l i) (sym now) ∙ at))))
 
-pub members_new : (of : ℕ → List ℕ) (members : List Member) → All (IsMember []) members → ((i : ℕ) → of i ≡ []) → AreMembers of members
-members_new of members all none i m at = subst (λ (l : List ℕ). IsMember l m) (sym (none i)) (slice_all (IsMember []) members i m all at)
+pub members_new : (keeps : Bool) (of : ℕ → List ℕ) (members : List Member) → All (IsMember keeps []) members → ((i : ℕ) → of i ≡ []) → AreMembers keeps of members
+members_new keeps of members all none i m at = subst (λ (l : List ℕ). IsMember keeps l m) (sym (none i)) (slice_all (IsMember keeps []) members i m all at)
 
 -- ---- what taking comes to
 
@@ -118,25 +137,25 @@ streams_number bytes piece s s' f i now some reading same = (
 )
 
 pub streams_counted : (bytes piece : List ℕ) (s s' : Streams) (f : Progress) (members : Vec Member Global) → (i : IsStreaming bytes s) → s' ≡ record s { reader = f; members = members } → 0 < length piece → IsReading (bytes ++ take 1 piece) i.of f
-    → ((k : ℕ) → i.of k ≡ []) → length members.items ≡ f.modules → All (IsMember []) members.items → TakesSome bytes piece (Ok 1) s'
+    → ((k : ℕ) → i.of k ≡ []) → length members.items ≡ f.modules → All (IsMember s.keeps []) members.items → TakesSome bytes piece (Ok 1) s'
 streams_counted bytes piece s s' f members i now some reading none count all = (
-  subst (IsStreaming (bytes ++ take 1 piece)) (sym now) (record { of = i.of; reading = reading; count = count; members = members_new i.of members.items all none }),
+  subst (IsStreaming (bytes ++ take 1 piece)) (sym now) (record { of = i.of; reading = reading; count = count; members = members_new s.keeps i.of members.items all none }),
   omega arith,
   omega arith,
 )
 
-pub none_in : (of : ℕ → List ℕ) (members : List Member) → members ≡ [] → AreMembers of members
-none_in of members none i m at = absurd (let e : slice_get members i ≡ None = ap (λ (l : List Member). slice_get l i) none in cc)
+pub none_in : (keeps : Bool) (of : ℕ → List ℕ) (members : List Member) → members ≡ [] → AreMembers keeps of members
+none_in keeps of members none i m at = absurd (let e : slice_get members i ≡ None = ap (λ (l : List Member). slice_get l i) none in cc)
 
 -- what was taken, by what it was
 pub taken_so : (bytes : List ℕ) (of : ℕ → List ℕ) (piece : List ℕ) (t u : Taken) (f f' : Progress) → t ≡ u → Takes bytes of piece (Ok t) f f' → Takes bytes of piece (Ok u) f f'
 taken_so bytes of piece t u f f' same = subst (λ (x : Taken). Takes bytes of piece (Ok x) f f') same
 
-pub member_fits : (bytes : List ℕ) (s : Streams) (i : IsStreaming bytes s) (k : ℕ) (m : Member) → k < s.reader.modules → m ≡ get_or s.members.items k m → IsMember (i.of k) m
+pub member_fits : (bytes : List ℕ) (s : Streams) (i : IsStreaming bytes s) (k : ℕ) (m : Member) → k < s.reader.modules → m ≡ get_or s.members.items k m → IsMember s.keeps (i.of k) m
 member_fits bytes s i k m in' is = let c = i.count in i.members k m (slice_get_read s.members.items (length s.members.items) k m refl (omega arith) is)
 
 pub streams_bytes : (bytes piece : List ℕ) (s s' : Streams) (f : Progress) (k n : ℕ) (m m' : Member) (members : Vec Member Global) → (i : IsStreaming bytes s) → s' ≡ record s { reader = f; members = members } → members.items ≡ set s.members.items k m'
-    → Takes bytes i.of piece (Ok (taken.Bytes k n)) s.reader f → m ≡ get_or s.members.items k m → ((came : List ℕ) → IsMember came m → IsMember (came ++ take n piece) m') → TakesSome bytes piece (Ok n) s'
+    → Takes bytes i.of piece (Ok (taken.Bytes k n)) s.reader f → m ≡ get_or s.members.items k m → ((keeps : Bool) (came : List ℕ) → IsMember keeps came m → IsMember keeps (came ++ take n piece) m') → TakesSome bytes piece (Ok n) s'
 streams_bytes bytes piece s s' f k n m m' members i now items t is feeds =
     let c = i.count in
     let below = t.2 in (
@@ -144,7 +163,7 @@ streams_bytes bytes piece s s' f k n m m' members i now items t is feeds =
         of = with_more i.of k (take n piece);
         reading = t.0;
         count = ap length items ∙ (length-set s.members.items k m' ∙ (i.count ∙ sym t.1));
-        members = members_fed i.of s.members.items members.items k (take n piece) m m' (omega arith) is items i.members (feeds (i.of k));
+        members = members_fed s.keeps i.of s.members.items members.items k (take n piece) m m' (omega arith) is items i.members (feeds s.keeps (i.of k));
       }),
       t.3,
       t.4,
@@ -197,20 +216,21 @@ tab_at zero of i in' = absurd (omega arith)
 tab_at (suc n) of zero in' = refl
 tab_at (suc n) of (suc i) in' = tab_at n (λ k. of (suc k)) i (omega arith)
 
-pub answers_end : (bytes : List ℕ) (s : Streams) (each : List Each) → (i : IsStreaming bytes s) → Ends bytes i.of (Ok tt) s.reader → length each ≡ length s.members.items → AreEach i.of each → AnswersEnd bytes (Ok each)
-answers_end bytes s each i ends count are =
+pub judged_end : (bytes : List ℕ) (s : Streams) (members : List Member) → (i : IsStreaming bytes s) → Ends bytes i.of (Ok tt) s.reader → length members ≡ length s.members.items → AreJudged s.keeps i.of members
+    → ComesToEnd (IsJudged s.keeps) bytes (Ok members)
+judged_end bytes s members i ends count are =
     let n = s.reader.modules in
     let list = tab n i.of in (
       list,
       ends list (length-tab n i.of) (tab_at n i.of),
       (
         count ∙ (i.count ∙ sym (length-tab n i.of)),
-        λ k b e at is.
+        λ k b m at is.
             let w = slice_get_within list k b at in
             let l = length-tab n i.of in
             let here : slice_get list k ≡ Some (i.of k) = tab_at n i.of k (omega arith) in
             let same : i.of k ≡ b = cc in
-            subst (λ (x : List ℕ). IsEach x e) same (are k e is),
+            subst (λ (x : List ℕ). IsJudged s.keeps x m) same (are k m is),
       ),
     )
 

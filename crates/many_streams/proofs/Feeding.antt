@@ -1,11 +1,12 @@
 -- How the bytes of one module go on.
-use Rattle.std.proofs.Common.{◌≡◌, inl, inr, ◌≤◌, ◌<◌, ◌+◌, ◌-◌, ℕ, zero, suc, ◌∷◌, true, false, List, [], ◌++◌, length, take, drop, All, Option, Some, None, Ok, Err, refl, sym, ap, ◌∙◌, subst, arith, append_assoc, length-append, length-take}
-use Rattle.std.specs.Prelude.{is_some, IsSome}
+use Rattle.std.proofs.Common.{◌≡◌, inl, inr, ◌≤◌, ◌<◌, ◌+◌, ◌-◌, ℕ, zero, suc, ◌∷◌, true, false, List, [], ◌++◌, length, take, drop, All, Option, Some, None, Result, Ok, Err, refl, sym, ap, ◌∙◌, subst, arith, append_assoc, length-append, length-take}
+use Rattle.std.specs.Prelude.{Bool, is_some}
 use Rattle.std.proofs.lemmas.Bool.{cases_lt}
 use Rattle.std.proofs.lemmas.List.{append-nil, take-append-drop, take_all, drop_all}
 use Rattle.std.proofs.lemmas.List.Elements.{All-append}
 use Rattle.wasm_defs.specs.declared.fault.Refusal.{Refusal}
-use Rattle.wasm_defs.specs.declared.front_stop.FrontStop.TheVariants.{Refused}
+use Rattle.wasm_defs.specs.declared.front_stop.FrontStop.{FrontStop}
+use Rattle.wasm_defs.specs.declared.front_stop.FrontStop.TheVariants.{Refused, NoMemory}
 use Rattle.wasm_defs.specs.Faults.{Rejected}
 use Rattle.image_linker.specs.Judging.{IsVerdictOf}
 use Rattle.module_stream.specs.declared.compilation.Compilation.{Compilation}
@@ -13,8 +14,10 @@ use Rattle.module_stream.specs.Codes.{KeepsAlike}
 use Rattle.module_stream.specs.Done.{IsDone, Decides}
 use Rattle.module_stream.specs.Streaming.{IsGoing, IsUnread, MayGo, MayEnd, Advances}
 use Rattle.module_stream.proofs.Staying.{no_module, verdict_stays}
+use Rattle.many_streams.specs.declared.member.Part.{Part}
 use Rattle.many_streams.specs.declared.member.Member.{Member}
-use Rattle.many_streams.specs.Members.{max_fed, IsFed, IsRefusedFor, StandsIn, EndsIn, IsMember, IsJudged}
+use Rattle.many_streams.specs.declared.member.Member.TheVariants as member
+use Rattle.many_streams.specs.Members.{max_fed, IsFed, IsRefusedFor, FeedsOn, IsMember, IsJudged}
 
 -- ---- what is looked at
 
@@ -50,46 +53,35 @@ decided_early came r few v rest =
 
 -- ---- before the first byte
 
-pub fed_none : (s : Compilation) (m : Member) → m ≡ record { compilation = s; fed = 0; stop = None } → IsUnread s → IsSome s.codes.kept → IsMember [] m
-fed_none s m same unread kept = subst (IsMember []) (sym same) (record {
-  stands = record { count = refl; bytes = λ k d in'. absurd (omega arith); going = λ more few. unread more few };
-  kept = kept;
-})
+pub fed_none : (s : Compilation) (p : Part) → p ≡ record { compilation = s; fed = 0 } → IsUnread s → IsFed [] p
+fed_none s p same unread = subst (IsFed []) (sym same) (record { count = refl; bytes = λ k d in'. absurd (omega arith); going = λ more few. unread more few })
 
 -- ---- bytes are taken
 
-pub kept_on : (s t : Compilation) → KeepsAlike s.codes t.codes → IsSome s.codes.kept → IsSome t.codes.kept
-kept_on s t alike some = of s.codes.kept t.codes.kept alike some
-  where
-    of : {X : Type 0} (a b : Option X) → is_some b ≡ is_some a → IsSome a → IsSome b
-    of (Some x) (Some y) e h = h
-    of (Some x) None e h = absurd cc
-    of None b e h = absurd (cc)
-
-module _ (came : List ℕ) (m : Member) (f : IsFed came m) where
-  fed_is : m.fed ≡ length (front came)
+module _ (came : List ℕ) (p : Part) (f : IsFed came p) where
+  fed_is : p.fed ≡ length (front came)
   fed_is = f.count
 
-  pub room_is : m.fed ≤ max_fed
+  pub room_is : p.fed ≤ max_fed
   room_is = let l = front_length came in let c = f.count in omega arith
 
   -- what is looked at of the next piece
-  front_more : (piece part : List ℕ) → part ≡ take (max_fed - m.fed) piece → front (came ++ piece) ≡ front came ++ part
+  front_more : (piece part : List ℕ) → part ≡ take (max_fed - p.fed) piece → front (came ++ piece) ≡ front came ++ part
   front_more piece part is = take-append max_fed came piece ∙ ap (λ (l : List ℕ). front came ++ l) (ap (λ (n : ℕ). take (max_fed - n) piece) (sym f.count) ∙ sym is)
 
-  going_on : (part more : List ℕ) → length ((front came ++ part) ++ more) ≤ max_fed → IsGoing ((front came ++ part) ++ more) m.compilation (part ++ more)
+  going_on : (part more : List ℕ) → length ((front came ++ part) ++ more) ≤ max_fed → IsGoing ((front came ++ part) ++ more) p.compilation (part ++ more)
   going_on part more few =
       let e = append_assoc (front came) part more in
-      subst (λ (l : List ℕ). IsGoing l m.compilation (part ++ more)) (sym e) (f.going (part ++ more) (omega (arith, ap length e)))
+      subst (λ (l : List ℕ). IsGoing l p.compilation (part ++ more)) (sym e) (f.going (part ++ more) (omega (arith, ap length e)))
 
-  pub may_go : (piece part : List ℕ) → part ≡ take (max_fed - m.fed) piece → MayGo m.compilation part
+  pub may_go : (piece part : List ℕ) → part ≡ take (max_fed - p.fed) piece → MayGo p.compilation part
   may_go piece part is =
       let l = front_length (came ++ piece) in
       let e = ap length (front_more piece part is) in
       ((front came ++ part) ++ [], [], going_on part [] (let n = ap length (append-nil (front came ++ part)) in omega arith))
 
-  pub fed_on : (piece part : List ℕ) (n : ℕ) (s : Compilation) → part ≡ take (max_fed - m.fed) piece → All (λ b. b < 256) part → n ≡ length part
-      → ((bytes more : List ℕ) → IsGoing bytes m.compilation (part ++ more) → Advances bytes part (Ok n) s more) → IsFed (came ++ piece) (record m { compilation = s; fed = m.fed + length part })
+  pub fed_on : (piece part : List ℕ) (n : ℕ) (s : Compilation) → part ≡ take (max_fed - p.fed) piece → All (λ b. b < 256) part → n ≡ length part
+      → ((bytes more : List ℕ) → IsGoing bytes p.compilation (part ++ more) → Advances bytes part (Ok n) s more) → IsFed (came ++ piece) (record p { compilation = s; fed = p.fed + length part })
   fed_on piece part n s is low all goes =
       let e = front_more piece part is in
       record {
@@ -102,8 +94,8 @@ module _ (came : List ℕ) (m : Member) (f : IsFed came m) where
             subst (λ (l : List ℕ). IsGoing (l ++ more) s more) (sym e) (subst (λ (l : List ℕ). IsGoing ((front came ++ part) ++ more) s (l ++ more)) none taken);
       }
 
-  pub fed_refused : (piece part : List ℕ) (r : Refusal) (s : Compilation) → part ≡ take (max_fed - m.fed) piece
-      → ((bytes more : List ℕ) → IsGoing bytes m.compilation (part ++ more) → Advances bytes part (Err (Refused r)) s more) → IsRefusedFor (came ++ piece) r
+  pub fed_refused : (piece part : List ℕ) (r : Refusal) (s : Compilation) → part ≡ take (max_fed - p.fed) piece
+      → ((bytes more : List ℕ) → IsGoing bytes p.compilation (part ++ more) → Advances bytes part (Err (Refused r)) s more) → IsRefusedFor (came ++ piece) r
   fed_refused piece part r s is goes rest =
       let e = front_more piece part is in
       let l = front_length (came ++ piece) in
@@ -112,18 +104,23 @@ module _ (came : List ℕ) (m : Member) (f : IsFed came m) where
       subst (λ (x : List ℕ). IsVerdictOf x (Rejected r)) whole
       (decided_early (front came ++ part) r (let g = ap length e in omega arith) (λ more few. goes ((front came ++ part) ++ more) more (going_on part more few)) (drop max_fed (came ++ piece) ++ rest))
 
+  pub fed_stop : (piece part : List ℕ) (e : FrontStop) (s : Compilation) (p' : Part) → part ≡ take (max_fed - p.fed) piece
+      → ((bytes more : List ℕ) → IsGoing bytes p.compilation (part ++ more) → Advances bytes part (Err e) s more) → FeedsOn (came ++ piece) (Err e) p'
+  fed_stop piece part (Refused r) s p' is goes = fed_refused piece part r s is goes
+  fed_stop piece part NoMemory s p' is goes = tt
+
   -- ---- no more bytes come
 
-  going_all : IsGoing (front came) m.compilation []
-  going_all = subst (λ (l : List ℕ). IsGoing l m.compilation []) (append-nil (front came)) (f.going [] (let l = front_length came in let n = ap length (append-nil (front came)) in omega arith))
+  going_all : IsGoing (front came) p.compilation []
+  going_all = subst (λ (l : List ℕ). IsGoing l p.compilation []) (append-nil (front came)) (f.going [] (let l = front_length came in let n = ap length (append-nil (front came)) in omega arith))
 
-  pub may_end : MayEnd m.compilation
+  pub may_end : MayEnd p.compilation
   may_end = (front came, f.bytes, going_all)
 
   all_looked_at : length (front came) < max_fed → front came ≡ came
   all_looked_at less = take_all max_fed came (let l = length-take max_fed came in omega arith)
 
-  pub done_on : (s : Compilation) → ((bytes : List ℕ) → All (λ b. b < 256) bytes → IsGoing bytes m.compilation [] → Decides bytes (Ok tt) s) → IsDone came s
+  pub done_on : (s : Compilation) → ((bytes : List ℕ) → All (λ b. b < 256) bytes → IsGoing bytes p.compilation [] → Decides bytes (Ok tt) s) → IsDone came s
   done_on s ends =
       let d = ends (front came) f.bytes going_all in
       elim (cases_lt (length (front came)) max_fed) [
@@ -131,7 +128,7 @@ module _ (came : List ℕ) (m : Member) (f : IsFed came m) where
         | inr full ↦ absurd (no_module (front came) full d.«module» d.is.is)
       ]
 
-  pub refused_on : (r : Refusal) (s : Compilation) → ((bytes : List ℕ) → All (λ b. b < 256) bytes → IsGoing bytes m.compilation [] → Decides bytes (Err (Refused r)) s) → IsVerdictOf came (Rejected r)
+  pub refused_on : (r : Refusal) (s : Compilation) → ((bytes : List ℕ) → All (λ b. b < 256) bytes → IsGoing bytes p.compilation [] → Decides bytes (Err (Refused r)) s) → IsVerdictOf came (Rejected r)
   refused_on r s ends =
       let v = ends (front came) f.bytes going_all in
       elim (cases_lt (length (front came)) max_fed) [
@@ -139,61 +136,25 @@ module _ (came : List ℕ) (m : Member) (f : IsFed came m) where
         | inr full ↦ subst (λ (l : List ℕ). IsVerdictOf l (Rejected r)) (take-append-drop max_fed came) (verdict_stays (front came) (drop max_fed came) full (Rejected r) v)
       ]
 
--- a fault that is known already
+  pub decided : (r : Result (Unit {0}) FrontStop) (s : Compilation) → ((bytes : List ℕ) → All (λ b. b < 256) bytes → IsGoing bytes p.compilation [] → Decides bytes r s) → Decides came r s
+  decided (Ok done) s ends = done_on s ends
+  decided (Err (Refused r)) s ends = refused_on r s ends
+  decided (Err NoMemory) s ends = tt
+
+-- an error that is known already
 pub refused_more : (came piece : List ℕ) (r : Refusal) → IsRefusedFor came r → IsRefusedFor (came ++ piece) r
 refused_more came piece r v rest = subst (λ (l : List ℕ). IsVerdictOf l (Rejected r)) (sym (append_assoc came piece rest)) (v (piece ++ rest))
 
 pub refused_whole : (came : List ℕ) (r : Refusal) → IsRefusedFor came r → IsVerdictOf came (Rejected r)
 refused_whole came r v = subst (λ (l : List ℕ). IsVerdictOf l (Rejected r)) (append-nil came) (v [])
 
--- ---- a module whose fault is known, and one without
+-- ---- a module whose error is known, and one that is open
 
-none_of : (o : Option Refusal) → is_some o ≡ false → o ≡ None
-none_of None e = refl
-none_of (Some r) e = absurd cc
+pub passed_over : (keeps : Bool) (came piece : List ℕ) (m : Member) (r : Refusal) → m ≡ member.Refused r → IsMember keeps came m → IsMember keeps (came ++ piece) m
+passed_over keeps came piece m r is i = subst (IsMember keeps (came ++ piece)) (sym is) (refused_more came piece r (subst (IsMember keeps came) is i))
 
-pub fed_of : (came : List ℕ) (m : Member) → is_some m.stop ≡ false → IsMember came m → IsFed came m
-fed_of came m none i = subst (λ (o : Option Refusal). StandsIn o came m) (none_of m.stop none) i.stands
+pub judged_already : (keeps : Bool) (came : List ℕ) (m : Member) (r : Refusal) → m ≡ member.Refused r → IsMember keeps came m → IsJudged keeps came m
+judged_already keeps came m r is i = subst (IsJudged keeps came) (sym is) (refused_whole came r (subst (IsMember keeps came) is i))
 
-pub passed_over : (came piece : List ℕ) (m : Member) → is_some m.stop ≡ true → IsMember came m → IsMember (came ++ piece) m
-passed_over came piece m some i = record { stands = of m.stop some i.stands; kept = i.kept }
-  where
-    of : (o : Option Refusal) → is_some o ≡ true → StandsIn o came m → StandsIn o (came ++ piece) m
-    of None e h = absurd cc
-    of (Some r) e h = refused_more came piece r h
-
-pub judged_already : (came : List ℕ) (m : Member) → is_some m.stop ≡ true → IsMember came m → IsJudged came m
-judged_already came m some i = record { stands = of m.stop some i.stands; kept = i.kept }
-  where
-    of : (o : Option Refusal) → is_some o ≡ true → StandsIn o came m → EndsIn o came m
-    of None e h = absurd cc
-    of (Some r) e h = refused_whole came r h
-
-pub member_fed : (came piece part : List ℕ) (n : ℕ) (s : Compilation) (m m' : Member) → is_some m.stop ≡ false → IsMember came m → part ≡ take (max_fed - m.fed) piece → All (λ b. b < 256) part → n ≡ length part
-    → ((bytes more : List ℕ) → IsGoing bytes m.compilation (part ++ more) → Advances bytes part (Ok n) s more) → KeepsAlike m.compilation.codes s.codes → m' ≡ record m { compilation = s; fed = m.fed + length part }
-    → IsMember (came ++ piece) m'
-member_fed came piece part n s m m' none i is low all goes alike same = subst (IsMember (came ++ piece)) (sym same) (record {
-  stands = subst (λ (o : Option Refusal). StandsIn o (came ++ piece) (record m { compilation = s; fed = m.fed + length part })) (sym (none_of m.stop none)) (fed_on came m (fed_of came m none i) piece part n s is low all goes);
-  kept = kept_on m.compilation s alike i.kept;
-})
-
-pub member_refused : (came piece part : List ℕ) (r : Refusal) (s : Compilation) (m m' : Member) → is_some m.stop ≡ false → IsMember came m → part ≡ take (max_fed - m.fed) piece
-    → ((bytes more : List ℕ) → IsGoing bytes m.compilation (part ++ more) → Advances bytes part (Err (Refused r)) s more) → KeepsAlike m.compilation.codes s.codes → m' ≡ record m { compilation = s; stop = Some r } → IsMember (came ++ piece) m'
-member_refused came piece part r s m m' none i is goes alike same = subst (IsMember (came ++ piece)) (sym same) (record {
-  stands = fed_refused came m (fed_of came m none i) piece part r s is goes;
-  kept = kept_on m.compilation s alike i.kept;
-})
-
-pub member_done : (came : List ℕ) (s : Compilation) (m m' : Member) → is_some m.stop ≡ false → IsMember came m → ((bytes : List ℕ) → All (λ b. b < 256) bytes → IsGoing bytes m.compilation [] → Decides bytes (Ok tt) s) → KeepsAlike m.compilation.codes s.codes
-    → m' ≡ record m { compilation = s } → IsJudged came m'
-member_done came s m m' none i ends alike same = subst (IsJudged came) (sym same) (record {
-  stands = subst (λ (o : Option Refusal). EndsIn o came (record m { compilation = s })) (sym (none_of m.stop none)) (done_on came m (fed_of came m none i) s ends);
-  kept = kept_on m.compilation s alike i.kept;
-})
-
-pub member_ended : (came : List ℕ) (r : Refusal) (s : Compilation) (m m' : Member) → is_some m.stop ≡ false → IsMember came m → ((bytes : List ℕ) → All (λ b. b < 256) bytes → IsGoing bytes m.compilation [] → Decides bytes (Err (Refused r)) s)
-    → KeepsAlike m.compilation.codes s.codes → m' ≡ record m { compilation = s; stop = Some r } → IsJudged came m'
-member_ended came r s m m' none i ends alike same = subst (IsJudged came) (sym same) (record {
-  stands = refused_on came m (fed_of came m none i) r s ends;
-  kept = kept_on m.compilation s alike i.kept;
-})
+pub fed_of : (keeps : Bool) (came : List ℕ) (m : Member) (p : Part) → m ≡ member.Open p → IsMember keeps came m → IsFed came p
+fed_of keeps came m p is i = (subst (IsMember keeps came) is i).0

@@ -4,28 +4,29 @@ use Rattle.std.specs.Io.KnownBytes.{prepend_known, IsAtEnd}
 use Rattle.std.specs.declared.vec.Vec.{Vec}
 use Rattle.std.specs.declared.alloc.Global.{Global}
 use Rattle.many_streams.specs.declared.member.Each.{Each}
+use Rattle.many_streams.specs.declared.member.EachChecked.{EachChecked}
 use Rattle.many_streams.specs.declared.member.Member.{Member}
 use Rattle.many_streams.specs.declared.streams.Streams.{Streams}
 use Rattle.many_streams.specs.declared.streams.ManyStop.{ManyStop}
 use Rattle.many_streams.specs.declared.streams.ManyStop.TheVariants as stop
 use Rattle.many_streams.specs.Frames.{Frames, IsCutOff, IsBadFrame}
-use Rattle.many_streams.specs.Members.{IsMember, IsJudged, IsEach}
+use Rattle.many_streams.specs.Members.{IsMember, IsJudged, IsEach, IsEachChecked}
 use Rattle.many_streams.specs.Reading.{IsReading}
 
 -- of each module these bytes came
-abbrev pub AreMembers : (ℕ → List ℕ) → List Member → Type 0
-AreMembers of members = (i : ℕ) (m : Member) → slice_get members i ≡ Some m → IsMember (of i) m
+abbrev pub AreMembers : Bool → (ℕ → List ℕ) → List Member → Type 0
+AreMembers keeps of members = (i : ℕ) (m : Member) → slice_get members i ≡ Some m → IsMember keeps (of i) m
 
 -- and no more
-abbrev pub AreJudged : (ℕ → List ℕ) → List Member → Type 0
-AreJudged of members = (i : ℕ) (m : Member) → slice_get members i ≡ Some m → IsJudged (of i) m
+abbrev pub AreJudged : Bool → (ℕ → List ℕ) → List Member → Type 0
+AreJudged keeps of members = (i : ℕ) (m : Member) → slice_get members i ≡ Some m → IsJudged keeps (of i) m
 
 -- these bytes came
 pub record IsStreaming (bytes : List ℕ) (s : Streams) : Type 0 where
   pub of : ℕ → List ℕ
   pub reading : IsReading bytes of s.reader
   pub count : length s.members.items ≡ s.reader.modules
-  pub members : AreMembers of s.members.items
+  pub members : AreMembers s.keeps of s.members.items
 
 abbrev pub MayStream : Streams → Type 0
 MayStream s = (bytes : List ℕ) × IsStreaming bytes s
@@ -43,35 +44,40 @@ TakesAll bytes piece (Err (stop.Frame at)) s = IsBadFrame (bytes ++ piece) at
 TakesAll bytes piece (Err stop.ReadFault) s = ⊥
 TakesAll bytes piece (Err stop.NoMemory) s = Unit {0}
 
--- each module's answer is that of the bytes that came of it
-abbrev pub AreEach : (ℕ → List ℕ) → List Each → Type 0
-AreEach of each = (i : ℕ) (e : Each) → slice_get each i ≡ Some e → IsEach (of i) e
-
 -- the list that a vector holds
-abbrev pub view : Result (Vec Each Global) ManyStop → Result (List Each) ManyStop
+abbrev pub view : {E : Type 0} → Result (Vec E Global) ManyStop → Result (List E) ManyStop
 view (Ok v) = Ok v.items
 view (Err s) = Err s
-
--- each module's answer is that of its bytes alone
-abbrev pub AreAnswers : List (List ℕ) → List Each → Type 0
-AreAnswers list each = (length each ≡ length list) × ((i : ℕ) (bytes : List ℕ) (e : Each) → slice_get list i ≡ Some bytes → slice_get each i ≡ Some e → IsEach bytes e)
-
--- the bytes are frames, and each module has its answer; or they end too soon
-abbrev pub AnswersEnd : List ℕ → Result (List Each) ManyStop → Type 0
-AnswersEnd bytes (Ok each) = (list : List (List ℕ)) × Frames bytes list × AreAnswers list each
-AnswersEnd bytes (Err (stop.Frame at)) = IsCutOff bytes × (at ≡ length bytes)
-AnswersEnd bytes (Err stop.ReadFault) = ⊥
-AnswersEnd bytes (Err stop.NoMemory) = Unit {0}
 
 -- nothing is wrong with them: they are frames, or the front of some
 abbrev pub IsFront : List ℕ → Type 0
 IsFront bytes = IsCutOff bytes ⊎ ((list : List (List ℕ)) × Frames bytes list)
 
--- By whether the source failed, and what was left in it before and behind. A good answer comes at its end; a bad frame where the bytes
+-- for each module there is what its bytes alone come to
+abbrev pub AreEach : {E : Type 0} → (List ℕ → E → Type 0) → List (List ℕ) → List E → Type 0
+AreEach {E} Comes list each = (length each ≡ length list) × ((i : ℕ) (bytes : List ℕ) (e : E) → slice_get list i ≡ Some bytes → slice_get each i ≡ Some e → Comes bytes e)
+
+-- the bytes are frames, and for each module there is what it comes to; or they end too soon
+abbrev pub ComesToEnd : {E : Type 0} → (List ℕ → E → Type 0) → List ℕ → Result (List E) ManyStop → Type 0
+ComesToEnd Comes bytes (Ok each) = (list : List (List ℕ)) × Frames bytes list × AreEach Comes list each
+ComesToEnd Comes bytes (Err (stop.Frame at)) = IsCutOff bytes × (at ≡ length bytes)
+ComesToEnd Comes bytes (Err stop.ReadFault) = ⊥
+ComesToEnd Comes bytes (Err stop.NoMemory) = Unit {0}
+
+-- By whether the source failed, and what was left in it before and after. A good answer comes at its end; a bad frame where the bytes
 -- that came are none, or where they ended too soon; a read error where the source failed and no bad frame came
-abbrev pub AnswersMany : Bool → (left rest : Option (List ℕ)) → Result (List Each) ManyStop → Type 0
-AnswersMany failed left rest (Ok each) = (failed ≡ false) × (bytes : List ℕ) × (left ≡ prepend_known bytes rest) × IsAtEnd rest × (list : List (List ℕ)) × Frames bytes list × AreAnswers list each
-AnswersMany failed left rest (Err (stop.Frame at)) =
+abbrev pub ComesToMany : {E : Type 0} → (List ℕ → E → Type 0) → Bool → (left rest : Option (List ℕ)) → Result (List E) ManyStop → Type 0
+ComesToMany Comes failed left rest (Ok each) =
+    (failed ≡ false) × (bytes : List ℕ) × (left ≡ prepend_known bytes rest) × IsAtEnd rest × (list : List (List ℕ)) × Frames bytes list × AreEach Comes list each
+ComesToMany Comes failed left rest (Err (stop.Frame at)) =
     (failed ≡ false) × (bytes : List ℕ) × (left ≡ prepend_known bytes rest) × (IsBadFrame bytes at ⊎ (IsAtEnd rest × IsCutOff bytes × (at ≡ length bytes)))
-AnswersMany failed left rest (Err stop.ReadFault) = (failed ≡ true) × (bytes : List ℕ) × (left ≡ prepend_known bytes rest) × IsFront bytes
-AnswersMany failed left rest (Err stop.NoMemory) = Unit {0}
+ComesToMany Comes failed left rest (Err stop.ReadFault) = (failed ≡ true) × (bytes : List ℕ) × (left ≡ prepend_known bytes rest) × IsFront bytes
+ComesToMany Comes failed left rest (Err stop.NoMemory) = Unit {0}
+
+-- each module's answer is that of its bytes alone: its one image, or its error of least offset
+abbrev pub AnswersMany : Bool → (left rest : Option (List ℕ)) → Result (List Each) ManyStop → Type 0
+AnswersMany failed left rest r = ComesToMany IsEach failed left rest r
+
+-- or that they are a module, its numbers of functions and bytes
+abbrev pub ChecksMany : Bool → (left rest : Option (List ℕ)) → Result (List EachChecked) ManyStop → Type 0
+ChecksMany failed left rest r = ComesToMany IsEachChecked failed left rest r

@@ -2,9 +2,10 @@
 
 ghost use Rattle.std.specs.Prelude.{◌≡◌, ◌<◌, ◌^◌, ◌-◌, true, length, nat_lt, IfOk};
 ghost use Rattle.io_edges.specs.Streams.{TookFront};
-ghost use Rattle.many_streams.specs.Many.{AnswersMany, view};
+ghost use Rattle.many_streams.specs.Many.{ComesToMany, view};
+ghost use Rattle.many_streams.specs.Members.{IsJudged};
 
-use crate::member::Each;
+use crate::member::Member;
 use crate::streams::{ManyStop, Streams};
 use io_edges::{Got, Source};
 use std::alloc::{AllocError, Global};
@@ -19,23 +20,24 @@ fn buffer_of(alloc: Global, len: usize) -> Result<Vec<u8>, AllocError>
     vec![in alloc; 0; len]
 }
 
-/// Compiles the modules whose bytes the source gives in frames, each by itself: its one image, or its error of least offset. The input is
-/// read to its end, to the source's error, or to where it is no frames.
-pub fn many_alone<S: Source>(
+/// Compiles the modules whose bytes the source gives in frames, each by itself, and judges them. Their codes are kept or only counted.
+/// The input is read to its end, to the source's error, or to where it is no frames.
+pub fn judge_alone<S: Source>(
     alloc: Global,
     source: &mut S,
     batch: u32,
-) -> Result<Vec<Each>, ManyStop>
+    keeps: bool,
+) -> Result<Vec<Member>, ManyStop>
     requires faults { S.faults source.old < 2 ^ 64 - 1 }
     requires open { S.is_open source.old ≡ true }
-    ensures answer { AnswersMany (nat_lt (S.faults source.old) (S.faults source.new)) (S.left source.old) (S.left source.new) (view result) }
+    ensures answer { ComesToMany (IsJudged keeps) (nat_lt (S.faults source.old) (S.faults source.new)) (S.left source.old) (S.left source.new) (view result) }
     ensures front { TookFront (S.left source.old) (S.faults source.old) (S.left source.new) (S.faults source.new) }
 {
     let Ok(mut buffer) = buffer_of(alloc, CHUNK) else {
         return Err(ManyStop::NoMemory);
     };
     let buf = buffer.as_mut_slice();
-    let mut streams = Streams::new(alloc, batch);
+    let mut streams = Streams::new(alloc, batch, keeps);
     loop {
         match source.read(buf) {
             Got::Bytes(count) => match streams.feed(&buf[..count]) {

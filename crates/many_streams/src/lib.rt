@@ -6,13 +6,14 @@ mod laws;
 mod limits;
 mod member;
 mod reader;
+mod several;
 mod streams;
 #[cfg(test)]
 mod tests;
 
-pub use alone::many_alone;
 pub use laws::frames_are_one;
 pub use limits::{MAX_INPUT, MAX_MODULES};
-pub use member::{Each, Member};
+pub use member::{Each, EachChecked, Member, Part};
 pub use reader::{FrameReader, Taken};
+pub use several::{check_many, many};
 pub use streams::{ManyStop, Streams};

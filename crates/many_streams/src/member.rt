@@ -1,16 +1,18 @@
 //! One of several modules, whose bytes come among those of the others.
 
-ghost use Rattle.std.specs.Prelude.{◌≡◌, ◌<◌, ◌++◌, ℕ, List, [], All, take, OnOk, IfOk};
-ghost use Rattle.many_streams.specs.Members.{IsMember, IsJudged, IsEach};
+ghost use Rattle.std.specs.Prelude.{◌≡◌, ◌<◌, ◌++◌, ℕ, Bool, List, [], true, All, take, is_some, OnOk, IfOk};
+ghost use Rattle.module_stream.specs.Codes.{AreAll, KeepsAlike};
+ghost use Rattle.module_stream.specs.Done.{Decides};
+ghost use Rattle.many_streams.specs.Members.{IsFed, FeedsOn, IsMember, IsJudged, IsEach, IsEachChecked};
 
-use module_stream::{Built, Codes, Compilation};
+use module_stream::{Built, Checked, Codes, Compilation};
 use std::alloc::{AllocError, Global};
 use wasm_defs::{FrontStop, Refusal};
 
 /// The most bytes of a module that are looked at: so many decide about any.
 const MAX_FED: usize = 67_108_869;
 
-/// What one module comes to.
+/// What compiling one module comes to.
 #[derive(Drop)]
 pub enum Each {
     /// Its bytes are a module, and this is its image.
@@ -19,14 +21,30 @@ pub enum Each {
     Refused(Refusal),
 }
 
-/// What came of one module, and how far it was compiled.
+/// What validating one module comes to.
 #[derive(Drop)]
-pub struct Member {
+pub enum EachChecked {
+    /// Its bytes are a module.
+    Valid(Checked),
+    /// They are none: this is the error of least offset.
+    Refused(Refusal),
+}
+
+/// A module of whose bytes nothing is wrong so far.
+#[derive(Drop)]
+pub struct Part {
     pub compilation: Compilation,
     /// How many of its bytes were taken.
     pub fed: usize,
-    /// Its error, where it is known.
-    pub stop: Option<Refusal>,
+}
+
+/// What came of one module.
+#[derive(Drop)]
+pub enum Member {
+    /// Nothing is wrong with it: how far it was compiled.
+    Open(Part),
+    /// Its error of least offset, whatever follows. Nothing else of it is kept.
+    Refused(Refusal),
 }
 
 /// So many bytes, or all of them where there are fewer.
@@ -40,34 +58,68 @@ fn front_of(bytes: &[u8], most: usize) -> &[u8]
     &bytes[..most]
 }
 
-impl Member {
-    /// Before the first byte. A batch closes where its bodies have `batch` bytes.
-    pub fn new(alloc: Global, batch: u32) -> Member
-        ensures { IsMember [] result }
-    {
-        Member {
-            compilation: Compilation::new(alloc, batch, Codes::kept(alloc)),
-            fed: 0,
-            stop: None,
-        }
+/// No code so far. The codes will be kept, or they will only be counted.
+fn no_codes(alloc: Global, keeps: bool) -> Codes
+    ensures none { AreAll result [] }
+    ensures kept { is_some result.kept ≡ keeps }
+{
+    if keeps {
+        Codes::kept(alloc)
+    } else {
+        Codes::counted()
     }
+}
 
-    /// Takes the next bytes. Those of a module whose error is known are passed over.
-    pub fn feed(&mut self, piece: &[u8]) -> Result<(), AllocError>
-        requires { (came : List ℕ) × IsMember came self.old }
-        ensures { OnOk result ((came : List ℕ) → IsMember came self.old → IsMember (came ++ piece.now) self.new) }
+impl Part {
+    /// Takes the next bytes, and says what is wrong as soon as no further byte can mend it.
+    fn feed(&mut self, piece: &[u8]) -> Result<(), FrontStop>
+        requires { (came : List ℕ) × IsFed came self.old }
+        ensures fed { (came : List ℕ) → IsFed came self.old → FeedsOn (came ++ piece.now) result self.new }
+        ensures kept { KeepsAlike self.old.compilation.codes self.new.compilation.codes }
     {
-        if self.stop.is_some() {
-            return Ok(());
-        }
         let part = front_of(piece, MAX_FED - self.fed);
         match self.compilation.feed(part, false) {
             Ok(_) => {
                 self.fed += part.len();
                 Ok(())
             }
+            Err(stop) => Err(stop),
+        }
+    }
+
+    /// The module's bytes have ended: judges what is left.
+    fn finish(&mut self) -> Result<(), FrontStop>
+        requires { (came : List ℕ) × IsFed came self.old }
+        ensures decides { (came : List ℕ) → IsFed came self.old → Decides came result self.new.compilation }
+        ensures kept { KeepsAlike self.old.compilation.codes self.new.compilation.codes }
+    {
+        self.compilation.finish()
+    }
+}
+
+impl Member {
+    /// Before the first byte. A batch closes where its bodies have `batch` bytes. Codes are kept or only counted.
+    pub fn new(alloc: Global, batch: u32, keeps: bool) -> Member
+        ensures { IsMember keeps [] result }
+    {
+        Member::Open(Part {
+            compilation: Compilation::new(alloc, batch, no_codes(alloc, keeps)),
+            fed: 0,
+        })
+    }
+
+    /// Takes the next bytes. Those of a module whose error is known are passed over.
+    pub fn feed(&mut self, piece: &[u8]) -> Result<(), AllocError>
+        requires { (keeps : Bool) × (came : List ℕ) × IsMember keeps came self.old }
+        ensures { OnOk result ((keeps : Bool) (came : List ℕ) → IsMember keeps came self.old → IsMember keeps (came ++ piece.now) self.new) }
+    {
+        let Member::Open(part) = self else {
+            return Ok(());
+        };
+        match part.feed(piece) {
+            Ok(()) => Ok(()),
             Err(FrontStop::Refused(refusal)) => {
-                self.stop = Some(refusal);
+                *self = Member::Refused(refusal);
                 Ok(())
             }
             Err(FrontStop::NoMemory) => Err(AllocError),
@@ -76,30 +128,40 @@ impl Member {
 
     /// The module's bytes have ended: judges what is left.
     pub fn finish(&mut self) -> Result<(), AllocError>
-        requires { (came : List ℕ) × IsMember came self.old }
-        ensures { OnOk result ((came : List ℕ) → IsMember came self.old → IsJudged came self.new) }
+        requires { (keeps : Bool) × (came : List ℕ) × IsMember keeps came self.old }
+        ensures { OnOk result ((keeps : Bool) (came : List ℕ) → IsMember keeps came self.old → IsJudged keeps came self.new) }
     {
-        if self.stop.is_some() {
+        let Member::Open(part) = self else {
             return Ok(());
-        }
-        match self.compilation.finish() {
+        };
+        match part.finish() {
             Ok(()) => Ok(()),
             Err(FrontStop::Refused(refusal)) => {
-                self.stop = Some(refusal);
+                *self = Member::Refused(refusal);
                 Ok(())
             }
             Err(FrontStop::NoMemory) => Err(AllocError),
         }
     }
 
-    /// What a module whose bytes have ended comes to.
+    /// What compiling a module whose bytes have ended comes to. Its codes were kept.
     pub fn answer(&self) -> Result<Each, AllocError>
-        requires { (came : List ℕ) × IsJudged came self.now }
-        ensures { IfOk result (λ e. (came : List ℕ) → IsJudged came self.now → IsEach came e) }
+        requires { (came : List ℕ) × IsJudged true came self.now }
+        ensures { IfOk result (λ e. (came : List ℕ) → IsJudged true came self.now → IsEach came e) }
     {
-        match self.stop {
-            Some(refusal) => Ok(Each::Refused(refusal)),
-            None => Ok(Each::Image(self.compilation.build()?)),
+        match self {
+            Member::Open(part) => Ok(Each::Image(part.compilation.build()?)),
+            Member::Refused(refusal) => Ok(Each::Refused(*refusal)),
+        }
+    }
+
+    /// What validating a module whose bytes have ended comes to.
+    pub fn verdict(&self) -> EachChecked
+        ensures { (keeps : Bool) (came : List ℕ) → IsJudged keeps came self.now → IsEachChecked came result }
+    {
+        match self {
+            Member::Open(part) => EachChecked::Valid(part.compilation.checked()),
+            Member::Refused(refusal) => EachChecked::Refused(*refusal),
         }
     }
 }

@@ -1,10 +1,10 @@
 //! Several modules whose bytes come in one input.
 
-ghost use Rattle.std.specs.Prelude.{◌≡◌, ◌<◌, ℕ, List, [], All, length, OnOk, IfOk};
-ghost use Rattle.many_streams.specs.Many.{IsStreaming, MayStream, TakesSome, TakesAll, AreMembers, AreJudged, AreEach, AnswersEnd, IsFront, view};
-ghost use Rattle.many_streams.specs.Members.{IsMember, IsJudged, IsEach};
+ghost use Rattle.std.specs.Prelude.{◌≡◌, ◌<◌, ℕ, Bool, List, [], All, length, OnOk, IfOk};
+ghost use Rattle.many_streams.specs.Many.{IsStreaming, MayStream, TakesSome, TakesAll, AreMembers, AreJudged, ComesToEnd, IsFront, view};
+ghost use Rattle.many_streams.specs.Members.{IsMember, IsJudged};
 
-use crate::member::{Each, Member};
+use crate::member::Member;
 use crate::reader::{FrameReader, Taken};
 use std::alloc::{AllocError, Global};
 
@@ -25,28 +25,35 @@ pub struct Streams {
     pub alloc: Global,
     /// How many bytes of bodies close a batch.
     pub batch: u32,
+    /// Whether codes are kept, or only counted.
+    pub keeps: bool,
     pub reader: FrameReader,
     /// The modules in order. Before their number came there are none.
     pub members: Vec<Member>,
 }
 
 /// So many modules, of which nothing came.
-fn new_members(alloc: Global, count: u32, batch: u32) -> Result<Vec<Member>, AllocError>
+fn new_members(
+    alloc: Global,
+    count: u32,
+    batch: u32,
+    keeps: bool,
+) -> Result<Vec<Member>, AllocError>
     ensures count { IfOk result (λ v. length v.items ≡ count) }
-    ensures each { IfOk result (λ v. All (IsMember []) v.items) }
+    ensures each { IfOk result (λ v. All (IsMember keeps []) v.items) }
 {
     let mut members = Vec::new(alloc);
     for k in 0..count {
         let _ = k;
-        members.push(Member::new(alloc, batch))?;
+        members.push(Member::new(alloc, batch, keeps))?;
     }
     Ok(members)
 }
 
 /// Judges what is left of each module, whose bytes have ended.
 fn finish_all(members: &mut Vec<Member>) -> Result<(), AllocError>
-    requires { (of : ℕ → List ℕ) × AreMembers of members.old.items }
-    ensures judged { OnOk result ((of : ℕ → List ℕ) → AreMembers of members.old.items → AreJudged of members.new.items) }
+    requires { (keeps : Bool) × (of : ℕ → List ℕ) × AreMembers keeps of members.old.items }
+    ensures judged { OnOk result ((keeps : Bool) (of : ℕ → List ℕ) → AreMembers keeps of members.old.items → AreJudged keeps of members.new.items) }
     ensures count { length members.new.items ≡ length members.old.items }
 {
     for k in 0..members.len() {
@@ -55,27 +62,16 @@ fn finish_all(members: &mut Vec<Member>) -> Result<(), AllocError>
     Ok(())
 }
 
-/// What each module comes to.
-fn answers(alloc: Global, members: &[Member]) -> Result<Vec<Each>, AllocError>
-    requires { (of : ℕ → List ℕ) × AreJudged of members.now }
-    ensures each { IfOk result (λ v. (of : ℕ → List ℕ) → AreJudged of members.now → AreEach of v.items) }
-    ensures count { IfOk result (λ v. length v.items ≡ length members.now) }
-{
-    let mut each = Vec::new(alloc);
-    for k in 0..members.len() {
-        each.push(members[k].answer()?)?;
-    }
-    Ok(each)
-}
-
 impl Streams {
     /// Before the first byte.
-    pub fn new(alloc: Global, batch: u32) -> Streams
-        ensures { IsStreaming [] result }
+    pub fn new(alloc: Global, batch: u32, keeps: bool) -> Streams
+        ensures streaming { IsStreaming [] result }
+        ensures keeps { result.keeps ≡ keeps }
     {
         Streams {
             alloc,
             batch,
+            keeps,
             reader: FrameReader::new(),
             members: Vec::new(alloc),
         }
@@ -85,13 +81,14 @@ impl Streams {
     fn take(&mut self, piece: &[u8]) -> Result<usize, ManyStop>
         requires some { 0 < length piece.now }
         requires may { MayStream self.old }
-        ensures { (bytes : List ℕ) → IsStreaming bytes self.old → TakesSome bytes piece.now result self.new }
+        ensures takes { (bytes : List ℕ) → IsStreaming bytes self.old → TakesSome bytes piece.now result self.new }
+        ensures keeps { self.new.keeps ≡ self.old.keeps }
     {
         match self.reader.take(piece) {
             Ok(Taken::Number) => Ok(1),
             Ok(Taken::End(_)) => Ok(1),
             Ok(Taken::Count) => {
-                match new_members(self.alloc, self.reader.modules(), self.batch) {
+                match new_members(self.alloc, self.reader.modules(), self.batch, self.keeps) {
                     Ok(members) => {
                         self.members = members;
                         Ok(1)
@@ -115,7 +112,8 @@ impl Streams {
     /// `Frame` where they are no frames, whatever follows.
     pub fn feed(&mut self, piece: &[u8]) -> Result<(), ManyStop>
         requires { MayStream self.old }
-        ensures { (bytes : List ℕ) → IsStreaming bytes self.old → TakesAll bytes piece.now result self.new }
+        ensures takes { (bytes : List ℕ) → IsStreaming bytes self.old → TakesAll bytes piece.now result self.new }
+        ensures keeps { self.new.keeps ≡ self.old.keeps }
     {
         let mut from = 0;
         while from < piece.len() {
@@ -127,17 +125,18 @@ impl Streams {
         Ok(())
     }
 
-    /// The input has ended: what each module comes to.
+    /// The input has ended: the modules, each judged.
     ///
     /// # Errors
     /// `Frame` at the number of bytes, where these end too soon.
-    pub fn end(self) -> Result<Vec<Each>, ManyStop>
+    pub fn end(self) -> Result<Vec<Member>, ManyStop>
         requires { MayStream self }
-        ensures { (bytes : List ℕ) → IsStreaming bytes self → AnswersEnd bytes (view result) }
+        ensures { (bytes : List ℕ) → IsStreaming bytes self → ComesToEnd (IsJudged self.keeps) bytes (view result) }
     {
         let Streams {
-            alloc,
+            alloc: _,
             batch: _,
+            keeps: _,
             reader,
             members,
         } = self;
@@ -147,11 +146,7 @@ impl Streams {
         }
         let mut members = members;
         match finish_all(&mut members) {
-            Ok(()) => {}
-            Err(_) => return Err(ManyStop::NoMemory),
-        }
-        match answers(alloc, members.as_slice()) {
-            Ok(each) => Ok(each),
+            Ok(()) => Ok(members),
             Err(_) => Err(ManyStop::NoMemory),
         }
     }
@@ -165,6 +160,7 @@ impl Streams {
         let Streams {
             alloc: _,
             batch: _,
+            keeps: _,
             reader,
             members: _,
         } = self;

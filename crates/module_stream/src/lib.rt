@@ -9,8 +9,10 @@ mod bodies;
 mod built;
 mod codes;
 mod compilation;
+mod settings;
 mod shared;
 
 pub use built::{Built, Checked};
 pub use codes::Codes;
 pub use compilation::Compilation;
+pub use settings::Settings;

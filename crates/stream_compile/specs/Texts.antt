@@ -3,11 +3,11 @@ use Rattle.std.specs.Prelude.{◌≡◌, ◌<◌, ◌≤◌, ◌⊎◌, ◌+◌,
 use Rattle.std.specs.Fmt.{decimal, signed_decimal}
 use Rattle.std.specs.List.{flat_map}
 use Rattle.std.specs.Global.{Global}
-use Rattle.std.specs.Io.KnownBytes.{append_known}
+use Rattle.std.specs.Io.KnownBytes.{append_known, prepend_known, IsAtEnd}
 use Rattle.command_words.specs.declared.argument.Argument.{Argument}
 use Rattle.command_words.specs.declared.argument.Argument.TheVariants as argument
 use Rattle.command_words.specs.declared.command.Command.{Command}
-use Rattle.command_words.specs.declared.command.Command.TheVariants.{Check, Compile, Run, Exec, Drill}
+use Rattle.command_words.specs.declared.command.Command.TheVariants.{Check, Compile, Many, Run, Exec, Drill}
 use Rattle.command_words.specs.declared.command.Call.{Call as Given}
 use Rattle.command_words.specs.declared.peek.Peek.{Peek}
 use Rattle.command_words.specs.declared.command.Drill.{Drill as Drilled}
@@ -49,6 +49,10 @@ use Rattle.rv_isa.specs.declared.stepping.FaultKind.{FaultKind}
 use Rattle.rv_isa.specs.declared.stepping.FaultKind.TheVariants.{Fetch, Word, Break, Target, Load, Store, Call}
 use Rattle.module_gen.specs.Drill.{drill_bytes}
 use Rattle.drill_laws.specs.Functions.{sum_below}
+use Rattle.many_streams.specs.declared.member.EachChecked.{EachChecked}
+use Rattle.many_streams.specs.declared.member.EachChecked.TheVariants as each
+use Rattle.many_streams.specs.Frames.{Frames, IsBadFrame, IsCutOff}
+use Rattle.many_streams.specs.Many.{IsFront}
 use Rattle.stream_compile.specs.Came.{Came, CameUpTo, image_input}
 
 -- a status, and what is written
@@ -83,6 +87,30 @@ kind_name Ended = codes "ended"
 -- what is wrong, and the offset of the byte where it is
 abbrev pub rejected : Refusal → Outcome
 rejected r = record { status = 2; text = codes "refused " ++ kind_name r.kind ++ codes " at " ++ decimal r.offset ++ codes "\n" }
+
+-- of several modules: the line of the one with this index is the index and its own line; the status is 2 where one is refused
+abbrev pub many_line : ℕ → Outcome → List ℕ
+many_line index o = decimal index ++ (codes " " ++ o.text)
+
+abbrev pub many_text : ℕ → List Outcome → List ℕ
+many_text index [] = []
+many_text index (o ∷ os) = many_line index o ++ many_text (index + 1) os
+
+abbrev pub many_status : List Outcome → ℕ
+many_status [] = 0
+many_status (o ∷ os) = if o.status == 0 then many_status os else 2
+
+abbrev pub told_many : List Outcome → Outcome
+told_many os = record { status = many_status os; text = many_text 0 os }
+
+-- what validating one of them is reported as
+abbrev pub said : EachChecked → Outcome
+said (each.Valid c) = accepted c.functions c.bytes
+said (each.Refused r) = rejected r
+
+-- the bytes are no frames: the offset of their error, or their number where they are cut off
+abbrev pub bad_frame : ℕ → Outcome
+bad_frame offset = record { status = 12; text = codes "bad frame at " ++ decimal offset ++ codes "\n" }
 
 abbrev pub reason : NotRunnable → List ℕ
 reason UnknownImport = codes "unknown import"
@@ -314,11 +342,32 @@ OfImage c false bytes o = OfReading c (image_or_offset bytes) o
 abbrev pub ComesOfModule : ((bytes : ℕ) → Module → Outcome → Type 0) → Bool → (left rest : Option (List ℕ)) → Outcome → Type 0
 ComesOfModule Tells failed left rest o = (bytes : List ℕ) × Came left rest failed bytes × OfModule Tells failed bytes o
 
+-- of each module is reported what `check` reports of its bytes alone
+abbrev pub AreChecked : List (List ℕ) → List Outcome → Type 0
+AreChecked [] [] = Unit {0}
+AreChecked [] (o ∷ os) = ⊥
+AreChecked (bytes ∷ list) [] = ⊥
+AreChecked (bytes ∷ list) (o ∷ os) = OfModule TellsCheck false bytes o × AreChecked list os
+
+-- the bytes are frames, and of their modules this is reported
+abbrev pub OfFrames : List ℕ → Outcome → Type 0
+OfFrames bytes o = (list : List (List ℕ)) × Frames bytes list × (os : List Outcome) × AreChecked list os × (o ≡ told_many os)
+
+-- Of several modules, by whether the source failed, and what was left in it before and after: a bad frame among the bytes that came decides,
+-- whatever would have followed; else all bytes came, and are frames or are cut off; or the source failed, and nothing is wrong with those
+-- that came.
+abbrev pub ComesOfMany : Bool → (left rest : Option (List ℕ)) → Outcome → Type 0
+ComesOfMany true left rest o = (bytes : List ℕ) × (left ≡ prepend_known bytes rest) × IsFront bytes × (o ≡ read_fault)
+ComesOfMany false left rest o =
+    (bytes : List ℕ) × (left ≡ prepend_known bytes rest)
+    × (((at : ℕ) × IsBadFrame bytes at × (o ≡ bad_frame at)) ⊎ (IsAtEnd rest × IsCutOff bytes × (o ≡ bad_frame (length bytes))) ⊎ (IsAtEnd rest × OfFrames bytes o))
+
 -- what the words, the source's failing and what it gave come to
 abbrev pub ComesTo : Option Command → Bool → (left rest : Option (List ℕ)) → Outcome → Type 0
 ComesTo None failed left rest o = o ≡ usage
 ComesTo (Some (Check options)) failed left rest o = ComesOfModule TellsCheck failed left rest o
 ComesTo (Some (Compile options)) failed left rest o = ComesOfModule (λ bytes m. TellsImage m) failed left rest o
+ComesTo (Some (Many options)) failed left rest o = ComesOfMany failed left rest o
 ComesTo (Some (Run r)) failed left rest o = ComesOfModule (λ bytes m. TellsCall None r.call m) failed left rest o
 ComesTo (Some (Exec c)) failed left rest o = (bytes : List ℕ) × CameUpTo image_input left rest failed bytes × OfImage c failed bytes o
 ComesTo (Some (Drill d)) failed left rest o = OfDrill d o
@@ -328,6 +377,7 @@ abbrev pub ReadsNothing : Option Command → Type 0
 ReadsNothing None = Unit {0}
 ReadsNothing (Some (Check options)) = ⊥
 ReadsNothing (Some (Compile options)) = ⊥
+ReadsNothing (Some (Many options)) = ⊥
 ReadsNothing (Some (Run r)) = ⊥
 ReadsNothing (Some (Exec c)) = ⊥
 ReadsNothing (Some (Drill d)) = Unit {0}

@@ -3,15 +3,6 @@
 use module_stream::{Built, Checked};
 use wasm_defs::Refusal;
 
-/// How a module is compiled. Neither setting has an effect on the answer.
-#[derive(Clone, Copy, Debug, PartialEq, Eq)]
-pub struct Settings {
-    /// The worker threads, from 0 to 64.
-    pub workers: u32,
-    /// The most bytes of bodies that a worker is handed at a time, from 1 to 1,048,576.
-    pub batch: u32,
-}
-
 /// What compiling comes to.
 #[derive(Drop)]
 pub enum Answer {

@@ -3,20 +3,23 @@
 ghost use Rattle.std.specs.Prelude.{◌≡◌, ◌<◌, ◌^◌, ◌-◌, true, None, Some, min, nat_lt, IfOk, IfSome, OnErr};
 ghost use Rattle.io_edges.specs.Streams.{TookFront};
 ghost use Rattle.command_words.specs.Grammar.{IsInRange};
-ghost use Rattle.command_words.specs.declared.command.Command.TheVariants.{Check, Compile, Exec, Run as RunCommand};
+ghost use Rattle.command_words.specs.declared.command.Command.TheVariants.{Check, Compile, Exec, Many, Run as RunCommand};
 ghost use Rattle.stream_compile.specs.Reading.{view};
 ghost use Rattle.stream_compile.specs.Running.{IsTold};
 ghost use Rattle.stream_compile.specs.Texts.{command_said, ComesTo, AnswersAndWrites, ReadsNothing};
 
-use crate::answer::{Answer, CheckAnswer, Settings};
+use crate::answer::{Answer, CheckAnswer};
 use crate::compiling::{stream_check, stream_compile};
 use crate::drill::drill;
 use crate::foreign::{Foreign, read_foreign};
 use crate::output::{Output, accepted, bad_image, compiled, read_fault, rejected, usage};
 use crate::running::run_image;
+use crate::several::{bad_frame, told_many};
 use crate::writing::write;
 use command_words::{Call, Command, Options, Run, WordsStop, command_of};
 use io_edges::{Gate, Sink, Source};
+use many_streams::{ManyStop, check_many};
+use module_stream::Settings;
 use std::alloc::{AllocError, Global};
 use std::sync::Wait;
 use std::thread::Threads;
@@ -81,6 +84,27 @@ fn compile<R: Threads + Wait + Sync, S: Source, G: Gate>(
         Answer::Refused(refusal) => rejected(alloc, refusal),
         Answer::ReadFault => read_fault(alloc),
         Answer::NoMemory => Err(AllocError),
+    }
+}
+
+/// Validates each of the modules whose bytes the source gives in frames.
+fn many<R: Threads + Wait + Sync, S: Source, G: Gate>(
+    rt: &R,
+    alloc: Global,
+    options: &Options,
+    source: &mut S,
+    gate: &G,
+) -> Result<Output, AllocError>
+    requires faults { S.faults source.old < 2 ^ 64 - 1 }
+    requires open { S.is_open source.old ≡ true }
+    ensures answer { IfOk result (λ o. ComesTo (Some (Many options.now)) (nat_lt (S.faults source.old) (S.faults source.new)) (S.left source.old) (S.left source.new) (view o)) }
+    ensures front { TookFront (S.left source.old) (S.faults source.old) (S.left source.new) (S.faults source.new) }
+{
+    match check_many(rt, alloc, source, gate, settings_of(options)) {
+        Ok(each) => told_many(alloc, each.as_slice()),
+        Err(ManyStop::Frame(offset)) => bad_frame(alloc, offset),
+        Err(ManyStop::ReadFault) => read_fault(alloc),
+        Err(ManyStop::NoMemory) => Err(AllocError),
     }
 }
 
@@ -159,6 +183,7 @@ fn answer_to<R: Threads + Wait + Sync, S: Source, O: Sink, G: Gate>(
         Some(Command::Compile(options)) => {
             Ok(write(out, &compile(rt, alloc, options, source, gate)?))
         }
+        Some(Command::Many(options)) => Ok(write(out, &many(rt, alloc, options, source, gate)?)),
         Some(Command::Run(call)) => run(rt, alloc, call, source, out, gate),
         Some(Command::Exec(call)) => exec(alloc, call, source, out),
         Some(Command::Drill(words)) => {
@@ -173,8 +198,9 @@ fn answer_to<R: Threads + Wait + Sync, S: Source, O: Sink, G: Gate>(
 /// where the command line is outside the command grammar, 2 where the bytes are no module, 3 where the function can't be called
 /// so, 4 where it trapped, 5 where its run hadn't ended after all steps, 6 where the source failed and the bytes that came have
 /// no error that more bytes don't mend, 7 where the sink failed, 8 where memory ran out, after which nothing is written, 9 where
-/// the machine had no step, and 10 where the bytes are no image; the last two come of `exec` alone. For a command line outside
-/// the command grammar, and for `drill`, the source isn't read.
+/// the machine had no step, and 10 where the bytes are no image; the last two come of `exec` alone. It is 11 where the run called
+/// `proc_exit` with another code than 0, and 12 where the bytes are no frames, which comes of `many` alone; that gives 2 where one
+/// of the modules is refused. For a command line outside the command grammar, and for `drill`, the source isn't read.
 #[tactic(auto, using(crate::proofs::Fronts::took_nothing))]
 pub fn top<R: Threads + Wait + Sync, S: Source, O: Sink, G: Gate>(
     rt: &R,

@@ -4,10 +4,10 @@ ghost use Rattle.std.specs.Prelude.{◌≡◌, ◌<◌, ◌^◌, ◌-◌, true, 
 ghost use Rattle.io_edges.specs.Streams.{TookFront};
 ghost use Rattle.stream_compile.specs.Compiling.{CompilesSource, ChecksSource};
 
-use crate::answer::{Answer, CheckAnswer, Settings};
+use crate::answer::{Answer, CheckAnswer};
 use crate::reading::judge_source;
 use io_edges::{Gate, Source};
-use module_stream::{Codes, Compilation};
+use module_stream::{Codes, Compilation, Settings};
 use std::alloc::Global;
 use std::sync::Wait;
 use std::thread::Threads;

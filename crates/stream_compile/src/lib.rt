@@ -13,13 +13,14 @@ mod laws;
 mod output;
 mod reading;
 mod running;
+mod several;
 mod shown;
 mod writing;
 
-pub use answer::{Answer, CheckAnswer, Settings};
+pub use answer::{Answer, CheckAnswer};
 pub use command::top;
 pub use compiling::{stream_check, stream_compile};
 pub use laws::{
     ended_is_owed, faults_share_no_offset, faults_stay, verdicts_are_one, what_stopped_decides,
 };
-pub use module_stream::{Built, Checked};
+pub use module_stream::{Built, Checked, Settings};

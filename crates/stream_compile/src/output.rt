@@ -86,7 +86,8 @@ pub fn compiled(alloc: Global, image: &Image) -> Result<Output, AllocError>
     }
 }
 
-fn kind_name(kind: Kind) -> &'static str
+/// The name of a kind of error.
+pub fn kind_name(kind: Kind) -> &'static str
     ensures { result.now ≡ kind_name kind }
 {
     match kind {

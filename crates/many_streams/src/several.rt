@@ -1,0 +1,89 @@
+//! What several modules come to.
+
+ghost use Rattle.std.specs.Prelude.{◌≡◌, ◌<◌, ◌^◌, ◌-◌, ℕ, Bool, List, true, length, nat_lt, IfOk};
+ghost use Rattle.io_edges.specs.Streams.{TookFront};
+ghost use Rattle.many_streams.specs.Many.{AreEach, AnswersMany, ChecksMany, view};
+ghost use Rattle.many_streams.specs.Members.{IsJudged, IsEach, IsEachChecked};
+
+use crate::alone::judge_alone;
+use crate::member::{Each, EachChecked, Member};
+use crate::streams::ManyStop;
+use io_edges::{Gate, Source};
+use module_stream::Settings;
+use std::alloc::{AllocError, Global};
+use std::sync::Wait;
+use std::thread::Threads;
+
+/// What compiling each module comes to.
+fn answers(alloc: Global, members: &[Member]) -> Result<Vec<Each>, AllocError>
+    requires { (list : List (List ℕ)) × AreEach (IsJudged true) list members.now }
+    ensures { IfOk result (λ v. (list : List (List ℕ)) → AreEach (IsJudged true) list members.now → AreEach IsEach list v.items) }
+{
+    let mut each = Vec::new(alloc);
+    for k in 0..members.len() {
+        each.push(members[k].answer()?)?;
+    }
+    Ok(each)
+}
+
+/// What validating each module comes to.
+fn verdicts(alloc: Global, members: &[Member]) -> Result<Vec<EachChecked>, AllocError>
+    ensures { IfOk result (λ v. (keeps : Bool) (list : List (List ℕ)) → AreEach (IsJudged keeps) list members.now → AreEach IsEachChecked list v.items) }
+{
+    let mut each = Vec::new(alloc);
+    for k in 0..members.len() {
+        each.push(members[k].verdict())?;
+    }
+    Ok(each)
+}
+
+/// Compiles the modules whose bytes the source gives in frames, each by itself: its one image, or its error of least offset. The input is
+/// read to its end, to the source's error, or to where it is no frames.
+///
+/// All of it is done on the caller's thread: `settings.workers` has no effect yet, so neither `rt` nor `gate` is used.
+pub fn many<R: Threads + Wait + Sync, S: Source, G: Gate>(
+    _rt: &R,
+    alloc: Global,
+    source: &mut S,
+    _gate: &G,
+    settings: Settings,
+) -> Result<Vec<Each>, ManyStop>
+    requires faults { S.faults source.old < 2 ^ 64 - 1 }
+    requires open { S.is_open source.old ≡ true }
+    ensures answer { AnswersMany (nat_lt (S.faults source.old) (S.faults source.new)) (S.left source.old) (S.left source.new) (view result) }
+    ensures front { TookFront (S.left source.old) (S.faults source.old) (S.left source.new) (S.faults source.new) }
+{
+    match judge_alone(alloc, source, settings.batch, true) {
+        Ok(members) => match answers(alloc, members.as_slice()) {
+            Ok(each) => Ok(each),
+            Err(_) => Err(ManyStop::NoMemory),
+        },
+        Err(stop) => Err(stop),
+    }
+}
+
+/// Validates the modules whose bytes the source gives in frames, each by itself: how many functions it declares and how many bytes it
+/// has, or its error of least offset.
+///
+/// It validates and compiles as `many` does, and keeps no code: of each module it keeps what that declares outside its bodies, and
+/// nothing of one whose error is known.
+pub fn check_many<R: Threads + Wait + Sync, S: Source, G: Gate>(
+    _rt: &R,
+    alloc: Global,
+    source: &mut S,
+    _gate: &G,
+    settings: Settings,
+) -> Result<Vec<EachChecked>, ManyStop>
+    requires faults { S.faults source.old < 2 ^ 64 - 1 }
+    requires open { S.is_open source.old ≡ true }
+    ensures answer { ChecksMany (nat_lt (S.faults source.old) (S.faults source.new)) (S.left source.old) (S.left source.new) (view result) }
+    ensures front { TookFront (S.left source.old) (S.faults source.old) (S.left source.new) (S.faults source.new) }
+{
+    match judge_alone(alloc, source, settings.batch, false) {
+        Ok(members) => match verdicts(alloc, members.as_slice()) {
+            Ok(each) => Ok(each),
+            Err(_) => Err(ManyStop::NoMemory),
+        },
+        Err(stop) => Err(stop),
+    }
+}
