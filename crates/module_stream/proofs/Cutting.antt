@@ -25,7 +25,7 @@ left_bodies : (c : Cutting) (more : List ℕ) → bodies_in (left c more).queue 
 unfolding left
 left_bodies c more = handed_join c.queue (still c.place more) ∙ append_assoc c.queue.closed c.queue.begun (still c.place more).bodies
 
-left_ending : (c : Cutting) (more : List ℕ) → (left c more).ending ≡ (still c.place more).ending
+pub left_ending : (c : Cutting) (more : List ℕ) → (left c more).ending ≡ (still c.place more).ending
 unfolding left
 left_ending c more = refl
 

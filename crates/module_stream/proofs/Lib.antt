@@ -9,6 +9,7 @@ pub mod CodeEnds
 pub mod Streaming
 pub mod Wholes
 pub mod RightSoFar
+pub mod NoErrors
 pub mod Sharing
 pub mod Once
 pub mod Stopped

@@ -1,6 +1,6 @@
 -- What a compilation took of a module's bytes is right so far.
-use Rattle.std.proofs.Common.{◌≡◌, ℕ, zero, suc, ◌+◌, ◌-◌, Bool, true, false, cond, List, [], ◌∷◌, ◌++◌, length, drop, Option, Some, None, refl, sym, ap, ◌∙◌, append_assoc, arith}
-use Rattle.std.specs.Prelude.{is_some}
+use Rattle.std.proofs.Common.{◌≡◌, ℕ, zero, suc, ◌+◌, ◌-◌, Bool, true, false, cond, List, [], ◌∷◌, ◌++◌, length, drop, Option, Some, None, refl, sym, ap, subst, ◌∙◌, append_assoc, arith}
+use Rattle.std.specs.Prelude.{◌≢◌, is_some}
 use Rattle.std.proofs.lemmas.List.{append-nil}
 use Rattle.wasm_defs.specs.declared.fault.Kind.TheVariants.{Ended}
 use Rattle.wasm_defs.specs.declared.fault.Refusal.{Refusal}
@@ -8,7 +8,8 @@ use Rattle.wasm_defs.specs.declared.item.Item.{Item}
 use Rattle.wasm_defs.specs.Context.{data_count_of}
 use Rattle.wasm_defs.specs.Entries.{Seen}
 use Rattle.wasm_defs.specs.Faults.{items_of, bodies_of, AreValid}
-use Rattle.wasm_defs.specs.Outside.{Part, Section, Listed, Coded, Run, Whole, Owed, ends, owes, no_end, sections_up_to, sections}
+use Rattle.wasm_defs.specs.Outside.{Part, Section, Listed, Coded, Run, Whole, Refused, Owed, ends, owes, no_end, sections_up_to, sections, module_read}
+use Rattle.wasm_laws.proofs.BodyKinds.{EndingLasts, module_lasts}
 use Rattle.wasm_laws.proofs.PartLists.{valid_both}
 use Rattle.index_spaces.specs.Spaces.{Spaces}
 use Rattle.section_reader.specs.declared.front.Front.{Front}
@@ -24,18 +25,19 @@ use Rattle.module_stream.specs.declared.compilation.Compilation.{Compilation}
 use Rattle.module_stream.specs.CutBodies.{counts_data, coded_all, behind, sections_behind}
 use Rattle.module_stream.specs.Progress.{IsJudged}
 use Rattle.module_stream.specs.RightSoFar.{IsRightSoFar}
-use Rattle.module_stream.specs.Streaming.{left_of, IsGoing, IsPlaced}
+use Rattle.module_stream.specs.Streaming.{left_of, IsGoing, IsPlaced, HasNoError, IsErrorFree}
 use Rattle.module_stream.proofs.Judging.{all_told}
+use Rattle.module_stream.proofs.Stopped.{not_ended}
 
 -- ---- parts one after the other
 
-parts_after : (told : List Part) (run : Run) → (after_parts told run).parts ≡ told ++ run.parts
+pub parts_after : (told : List Part) (run : Run) → (after_parts told run).parts ≡ told ++ run.parts
 parts_after [] run = refl
 parts_after (x ∷ told) run = ap (λ (l : List Part). x ∷ l) (parts_after told run)
 
 -- ---- outside the bodies
 
-front_ends : (f : Front) → f.waiting ≡ None → is_at_bodies f.steps.stage ≡ false → (answer : Option Refusal) × EndsOnward f answer
+pub front_ends : (f : Front) → f.waiting ≡ None → is_at_bodies f.steps.stage ≡ false → (answer : Option Refusal) × EndsOnward f answer
 front_ends f waits apart = of f.refusal refl
   where
     held : f.refusal ≡ None → (l : List ℕ) → f.kept.items ≡ l → (answer : Option Refusal) × EndsOnward f answer
@@ -48,7 +50,7 @@ front_ends f waits apart = of f.refusal refl
 
 -- ---- among the bodies
 
-none_dropped : (n : ℕ) (l : List ℕ) → l ≡ [] → drop n l ≡ []
+pub none_dropped : (n : ℕ) (l : List ℕ) → l ≡ [] → drop n l ≡ []
 none_dropped zero [] e = refl
 none_dropped (suc n) [] e = refl
 none_dropped n (b ∷ l) e = absurd cc
@@ -90,8 +92,15 @@ sections_valid items k (Section at position ∷ told) are = sections_valid items
 sections_valid items k (Listed x ∷ told) are = absurd are
 sections_valid items k (Coded b ∷ told) are = absurd are
 
-right : (came : List ℕ) (f : Front) (cutter : Option Cutting) {spaces : _} {bodies : ℕ} → IsPlaced f cutter (length came) [] → IsJudged came (left_of f cutter []) spaces bodies → IsRightSoFar came
-right came f None p j =
+-- an error of what came lasts
+refused_lasts : (came : List ℕ) (r : Refusal) → (module_read came).ending ≡ Refused r → r.kind ≢ Ended
+refused_lasts came r e = not_ended r.kind (subst EndingLasts e (module_lasts came))
+
+no_error_read : (came : List ℕ) (run : Run) {spaces : _} {bodies : ℕ} → IsJudged came run spaces bodies → HasNoError run → (r : Refusal) → (module_read came).ending ≡ Refused r → ⊥
+no_error_read came run j free r e = free r (refused_lasts came r e) (sym j.ending ∙ e)
+
+right : (came : List ℕ) (f : Front) (cutter : Option Cutting) {spaces : _} {bodies : ℕ} → IsPlaced f cutter (length came) [] → IsJudged came (left_of f cutter []) spaces bodies → HasNoError (left_of f cutter []) → IsRightSoFar came
+right came f None p j free =
     let t = front_ends f p.idle p.outside in
     let told = t.1.told in
     record {
@@ -103,14 +112,16 @@ right came f None p j =
           ∙ sym (append_assoc j.front told []);
       trees = j.trees ++ [];
       valid = valid_both [] 0 j.front told j.trees [] j.valid (sections_valid (items_of j.front) (0 + length (bodies_of j.front)) told t.1.sections);
+      no_error = no_error_read came (left_of f None []) j free;
     }
-right came f (Some c) p j = record {
+right came f (Some c) p j free = record {
   front = j.front;
   bodies = bodies_in (left c []).queue;
   parts = j.parts ∙ ap (λ (l : List Part). j.front ++ l) (bodies_cut f c ∙ counted_in came f c j);
   trees = j.trees;
   valid = j.valid;
+  no_error = no_error_read came (left_of f (Some c) []) j free;
 }
 
-pub right_so_far : (came : List ℕ) (s : Compilation) → IsGoing came s [] → IsRightSoFar came
-right_so_far came s g = right came s.front s.cutter g.place g.judging.judged
+pub right_so_far : (came : List ℕ) (s : Compilation) → IsGoing came s [] → IsErrorFree s → IsRightSoFar came
+right_so_far came s g free = right came s.front s.cutter g.place g.judging.judged free

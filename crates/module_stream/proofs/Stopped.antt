@@ -31,7 +31,7 @@ kind_cases Limit = inr (omega arith)
 kind_cases Invalid = inr (omega arith)
 kind_cases Ended = inl refl
 
-not_ended : (k : Kind) → rank k < 4 → k ≡ Ended → ⊥
+pub not_ended : (k : Kind) → rank k < 4 → k ≡ Ended → ⊥
 not_ended k h e = let n = ap rank e in omega arith
 
 faulty_kind : (c : Context) (tokens : List Token) (k : Kind) → IsFaulty c tokens k → rank k < 4

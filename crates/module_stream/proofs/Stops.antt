@@ -23,11 +23,11 @@ advances_behind bytes piece rest NoMemory s t more next h = tt
 pub rest_is : (taken : ℕ) (piece : List ℕ) → take (length piece - taken) (drop taken piece) ≡ drop taken piece
 rest_is taken piece = take_all (length piece - taken) (drop taken piece) (omega (arith, length-drop taken piece))
 
--- none is pending, unless the reading was to stop where bodies begin
-pub none_left : {X : Type 0} (up : Bool) (o : Option X) (pending : List ℕ) → (up ≡ false → pending ≡ []) → (o ≡ None → pending ≡ []) → (up && is_some o) ≡ false → pending ≡ []
-none_left false o pending f g e = f refl
-none_left true None pending f g e = g refl
-none_left true (Some x) pending f g e = absurd (true≢false e)
+-- what holds outside the bodies and where the reading isn't to stop, unless it stops
+pub unless_stopped : {X P : Type 0} (up : Bool) (o : Option X) → (up ≡ false → P) → (o ≡ None → P) → (up && is_some o) ≡ false → P
+unless_stopped false o f g e = f refl
+unless_stopped true None f g e = g refl
+unless_stopped true (Some x) f g e = absurd (true≢false e)
 
 pub not_up : {X : Type 0} (up : Bool) (o : Option X) → (up && is_some o) ≡ true → up ≡ false → ⊥
 not_up false o e f = true≢false (sym e)

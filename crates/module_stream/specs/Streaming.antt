@@ -1,10 +1,13 @@
 -- What is left of a module while its bytes come.
-use Rattle.std.specs.Prelude.{All, ◌≡◌, ◌≤◌, ◌<◌, ℕ, ◌+◌, ◌*◌, ◌^◌, List, [], ◌++◌, length, drop, true, false, Option, None, Some, Result, Ok, Err}
+use Rattle.std.specs.Prelude.{All, ◌≡◌, ◌≢◌, ◌≤◌, ◌<◌, ℕ, ◌+◌, ◌*◌, ◌^◌, List, [], ◌++◌, length, drop, true, false, Option, None, Some, Result, Ok, Err}
 use Rattle.wasm_defs.specs.declared.front_stop.FrontStop.{FrontStop}
 use Rattle.wasm_defs.specs.declared.front_stop.FrontStop.TheVariants.{Refused, NoMemory}
 use Rattle.wasm_defs.specs.Faults.{Rejected}
 use Rattle.wasm_defs.specs.declared.item.Item.{Item}
+use Rattle.wasm_defs.specs.declared.fault.Refusal.{Refusal}
+use Rattle.wasm_defs.specs.declared.fault.Kind.TheVariants.{Ended}
 use Rattle.wasm_defs.specs.Outside.{Listed, Run, after_part}
+use Rattle.wasm_defs.specs.Outside as outside
 use Rattle.section_reader.specs.declared.front.Front.{Front}
 use Rattle.section_reader.specs.Stages.{is_at_bodies}
 use Rattle.section_reader.specs.FrontLeft.{total, can_skip}
@@ -67,6 +70,14 @@ abbrev pub Advances : List ℕ → List ℕ → Result ℕ FrontStop → Compila
 Advances bytes piece (Ok taken) s more = IsGoing bytes s (drop taken piece ++ more)
 Advances bytes piece (Err (Refused r)) s more = IsVerdictOf bytes (Rejected r)
 Advances bytes piece (Err NoMemory) s more = Unit {0}
+
+-- no error is in it; that bytes are owed is none
+abbrev pub HasNoError : Run → Type 0
+HasNoError run = (r : Refusal) → r.kind ≢ Ended → run.ending ≡ outside.Refused r → ⊥
+
+-- what came has no error outside the bytes of bodies
+abbrev pub IsErrorFree : Compilation → Type 0
+IsErrorFree s = HasNoError (left_of s.front s.cutter [])
 
 -- ---- items
 

@@ -31,7 +31,7 @@ ghost use Rattle.module_stream.specs.Kept.{kept_bodies};
 ghost use Rattle.module_stream.specs.Progress.{IsJudging, CanTakeAll, TakesPart};
 ghost use Rattle.module_stream.specs.Done.{IsDone, Decides, IsBuilt};
 ghost use Rattle.module_stream.specs.Done.{checked_of};
-ghost use Rattle.module_stream.specs.Streaming.{IsGoing, IsUnread, MayGo, MayEnd, GoesOn, Advances, Lessens, IsWaiting, AllWait, WaitsAfter, with_cutter, KeepsRest, IsTaking, MayTake, MayBegin, TakesItem};
+ghost use Rattle.module_stream.specs.Streaming.{IsGoing, IsErrorFree, IsUnread, MayGo, MayEnd, GoesOn, Advances, Lessens, IsWaiting, AllWait, WaitsAfter, with_cutter, KeepsRest, IsTaking, MayTake, MayBegin, TakesItem};
 
 use crate::bodies::take_batches;
 use crate::built::{Built, Checked};
@@ -88,6 +88,7 @@ impl Compilation {
         ensures goes { (bytes more : List ℕ) → IsGoing bytes self.old (piece.now ++ more) → Advances bytes piece.now result self.new more }
         ensures few { IfOk result (λ taken. taken ≤ length piece.now) }
         ensures all { IfOk result (λ taken. (up_to_bodies ≡ false → taken ≡ length piece.now) × (self.new.cutter ≡ None → taken ≡ length piece.now)) }
+        ensures no_error { IfOk result (λ taken. (up_to_bodies ≡ false → IsErrorFree self.new) × (self.new.cutter ≡ None → IsErrorFree self.new)) }
         ensures kept { KeepsAlike self.old.codes self.new.codes }
     {
         let mut taken = 0;
@@ -118,6 +119,7 @@ impl Compilation {
     fn tell(&mut self) -> Result<(), FrontStop>
         requires { MayGo self.old [] }
         ensures goes { (bytes more : List ℕ) → IsGoing bytes self.old more → GoesOn bytes result self.new more }
+        ensures no_error { OnOk result (IsErrorFree self.new) }
         ensures kept { KeepsAlike self.old.codes self.new.codes }
     {
         // Why: docs/DECISIONS.md, "A fault of a push reader"
@@ -132,6 +134,7 @@ impl Compilation {
         requires { MayGo self.old piece.now }
         ensures goes { (bytes more : List ℕ) → IsGoing bytes self.old (piece.now ++ more) → Advances bytes piece.now result self.new more }
         ensures less { Lessens self.old piece.now result self.new }
+        ensures no_error { piece.now ≡ [] → OnOk result (IsErrorFree self.new) }
         ensures kept { KeepsAlike self.old.codes self.new.codes }
     {
         match self.cutter.take() {
@@ -146,6 +149,7 @@ impl Compilation {
         ensures goes { (bytes more : List ℕ) → IsGoing bytes (with_cutter self.old cutter) (piece.now ++ more) → Advances bytes piece.now result self.new more }
         ensures less { Lessens (with_cutter self.old cutter) piece.now result self.new }
         ensures waits { WaitsAfter result self.new.cutter }
+        ensures no_error { OnOk result (IsErrorFree self.new) }
         ensures kept { KeepsAlike self.old.codes self.new.codes }
     {
         match cutter.feed(piece) {
@@ -235,6 +239,7 @@ impl Compilation {
         requires goes { MayGo self.old piece.now }
         ensures goes { (bytes more : List ℕ) → IsGoing bytes self.old (piece.now ++ more) → Advances bytes piece.now result self.new more }
         ensures less { Lessens self.old piece.now result self.new }
+        ensures no_error { piece.now ≡ [] → OnOk result (IsErrorFree self.new) }
         ensures kept { KeepsAlike self.old.codes self.new.codes }
     {
         match self.front.feed(piece) {

@@ -13,8 +13,9 @@ use Rattle.stream_compile.specs.Came.{IsRead}
 use Rattle.stream_compile.specs.Chunks.{Chunked}
 use Rattle.module_stream.specs.Done.{Decides}
 use Rattle.stream_compile.specs.Reading.{Settled}
-use Rattle.module_stream.specs.Streaming.{IsGoing, IsUnread, GoesOn, MayGo, MayEnd}
+use Rattle.module_stream.specs.Streaming.{IsGoing, IsErrorFree, IsUnread, GoesOn, MayGo, MayEnd}
 use Rattle.stream_compile.proofs.Pumping.{came_more, going_piece, going_all, early, at_end, at_fault, at_limit}
+use Rattle.module_stream.proofs.NoErrors.{unread_is_none}
 use Rattle.module_stream.proofs.RightSoFar.{right_so_far}
 use Rattle.module_stream.proofs.Streaming.{going_decides}
 
@@ -34,7 +35,7 @@ arriving_begins left before may_read s c is may unread =
       taken = none_prepended left;
       stands = (refl, may);
       short = omega arith;
-      right = right_so_far [] s (unread [] (omega arith));
+      right = right_so_far [] s (unread [] (omega arith)) (unread_is_none s unread);
       going = λ more few. unread more few;
     })
 
@@ -133,9 +134,9 @@ module _ (first : Option (List ℕ)) (before : ℕ) where
     pub read_failed : (left' : Option (List ℕ)) (now' : ℕ) (may_read' : Bool) (d : Chunked) → c.came ≡ Bytes → d ≡ record c { came = Failed } → left' ≡ left → Rose now now' → IsArriving first before left' now' may_read' s d
     read_failed left' now' may_read' d is e same rose = stands_so left' now' may_read' Failed d e same (subst (λ (n : ℕ). Rose n now') (at_bytes is).0 rose)
 
-    pub read_more : (left' : Option (List ℕ)) (now' : ℕ) (may_read' : Bool) (piece : List ℕ) (d : Chunked) → c.came ≡ Bytes → c.pending ≡ [] → d ≡ record { pending = piece; count = c.count + length piece; came = Bytes }
+    pub read_more : (left' : Option (List ℕ)) (now' : ℕ) (may_read' : Bool) (piece : List ℕ) (d : Chunked) → c.came ≡ Bytes → c.pending ≡ [] → IsErrorFree s → d ≡ record { pending = piece; count = c.count + length piece; came = Bytes }
         → All (λ b. b < 256) piece → length piece ≤ 65536 → c.count + length piece ≤ 67108869 → left ≡ prepend_known piece left' → now' ≡ now → may_read' ≡ true → IsArriving first before left' now' may_read' s d
-    read_more left' now' may_read' piece d is none e are short few took calm may =
+    read_more left' now' may_read' piece d is none free e are short few took calm may =
         subst (λ (y : Chunked). IsArriving first before left' now' may_read' s y) (sym e) (record {
           came = all;
           piece = piece;
@@ -145,14 +146,14 @@ module _ (first : Option (List ℕ)) (before : ℕ) where
           taken = a.taken ∙ came_more all piece left left' took;
           stands = (calm ∙ (at_bytes is).0, may);
           short = short;
-          right = right_so_far all s (going_here none);
+          right = right_so_far all s (going_here none) free;
           going = λ more fits. going_piece s all piece (going_none none) more fits;
         })
 
-    pub read_bytes : (left' : Option (List ℕ)) (now' : ℕ) (may_read' : Bool) (n room : ℕ) (xs : List ℕ) (d : Chunked) → c.came ≡ Bytes → c.pending ≡ [] → d ≡ record { pending = take n xs; count = c.count + n; came = Bytes }
+    pub read_bytes : (left' : Option (List ℕ)) (now' : ℕ) (may_read' : Bool) (n room : ℕ) (xs : List ℕ) (d : Chunked) → c.came ≡ Bytes → c.pending ≡ [] → IsErrorFree s → d ≡ record { pending = take n xs; count = c.count + n; came = Bytes }
         → All (λ b. b < 256) xs → n ≤ length (take room xs) → room ≤ 65536 → c.count + room ≤ 67108869 → left ≡ prepend_known (take n (take room xs)) left' → now' ≡ now → may_read' ≡ true → IsArriving first before left' now' may_read' s d
-    read_bytes left' now' may_read' n room xs d is none e are fits short few took calm may =
+    read_bytes left' now' may_read' n room xs d is none free e are fits short few took calm may =
         let len : length (take n xs) ≡ n = omega (arith, length-take n xs, length-take room xs) in
         let within : n ≤ room = omega (arith, length-take room xs) in
-        read_more left' now' may_read' (take n xs) d is none (e ∙ (λ i. record { pending = take n xs; count = c.count + sym len i; came = Bytes })) (All-take (λ b. b < 256) n xs are) (omega arith) (omega arith)
+        read_more left' now' may_read' (take n xs) d is none free (e ∙ (λ i. record { pending = take n xs; count = c.count + sym len i; came = Bytes })) (All-take (λ b. b < 256) n xs are) (omega arith) (omega arith)
         (took ∙ ap (λ (l : List ℕ). prepend_known l left') (take-take n room xs within)) calm may

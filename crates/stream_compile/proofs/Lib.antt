@@ -1,5 +1,6 @@
 pub mod Joins
 pub mod Settling
+pub mod ManyLines
 pub mod Pumping
 pub mod Chunking
 pub mod Fronts

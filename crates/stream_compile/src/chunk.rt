@@ -3,6 +3,7 @@
 ghost use Rattle.std.specs.Prelude.{◌≡◌, ◌≢◌, ◌<◌, ◌≤◌, ℕ, true, [], List, Option, All, IfOk, length, take, drop};
 ghost use Rattle.io_edges.specs.Streams.{Reads, ReadCounts, ReadsOn, TookFront};
 ghost use Rattle.module_stream.specs.declared.compilation.Compilation.{Compilation};
+ghost use Rattle.module_stream.specs.Streaming.{IsErrorFree};
 ghost use Rattle.stream_compile.specs.Arriving.{IsArriving, has_failed};
 
 use io_edges::{Got, Source};
@@ -123,7 +124,7 @@ impl Chunk {
         ensures more { result ≡ Came.Bytes → self.old.count < self.new.count }
         ensures rest { result ≢ Came.Bytes → self.new.pending ≡ [] }
         ensures few { self.new.count ≤ 67108869 }
-        ensures arrives { (first : Option (List ℕ)) (before : ℕ) (s : Compilation) → IsArriving first before (S.left source.old) (S.faults source.old) (S.is_open source.old) s self.old
+        ensures arrives { (first : Option (List ℕ)) (before : ℕ) (s : Compilation) → IsErrorFree s → IsArriving first before (S.left source.old) (S.faults source.old) (S.is_open source.old) s self.old
             → IsArriving first before (S.left source.new) (S.faults source.new) (S.is_open source.new) s self.new }
         ensures front { TookFront (S.left source.old) (S.faults source.old) (S.left source.new) (S.faults source.new) }
     {

@@ -6,6 +6,7 @@ ghost use Rattle.batch_pool.specs.Desks.{IsDesk, IsIdle};
 ghost use Rattle.module_stream.specs.declared.compilation.Compilation.{Compilation};
 ghost use Rattle.stream_compile.specs.Arriving.{IsArriving};
 ghost use Rattle.module_stream.specs.Kept.{kept_bodies};
+ghost use Rattle.module_stream.specs.Streaming.{IsErrorFree};
 ghost use Rattle.stream_compile.specs.Keeping.{keeping, Keeps};
 
 use crate::chunk::{Came, Chunk};
@@ -84,6 +85,7 @@ fn take_piece(
     ensures idle { IsIdle desk.old desk.new }
     ensures all { OnOk result (intake.new.cutter.place.at < intake.new.cutter.place.end → intake.new.chunk.pending ≡ []) }
     ensures going { OnOk result (intake.new.cutter.place.stop ≡ None) }
+    ensures no_error { OnOk result ((s : Compilation) → IsErrorFree (keeping s intake.new)) }
     ensures chunk { (intake.new.chunk.count ≡ intake.old.chunk.count) × (intake.new.chunk.came ≡ intake.old.chunk.came) }
     ensures keeps { (first : Option (List ℕ)) (before : ℕ) (left : Option (List ℕ)) (now : ℕ) (may_read : Bool) (s : Compilation)
         → IsArriving first before left now may_read (keeping s intake.old) intake.old.chunk → Keeps result first before left now may_read s intake.new }

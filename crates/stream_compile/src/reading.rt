@@ -5,7 +5,7 @@ ghost use Rattle.io_edges.specs.Streams.{TookFront};
 ghost use Rattle.stream_compile.specs.Arriving.{IsArriving, Arrives, ReadsOn};
 ghost use Rattle.module_stream.specs.Codes.{KeepsAlike};
 ghost use Rattle.stream_compile.specs.Reading.{Settled, Judged, answer_of, stopped_answer};
-ghost use Rattle.module_stream.specs.Streaming.{IsUnread};
+ghost use Rattle.module_stream.specs.Streaming.{IsErrorFree, IsUnread};
 
 use crate::answer::CheckAnswer;
 use crate::beside::read_beside;
@@ -36,6 +36,7 @@ fn take_pending(
     ensures arrives { (first : Option (List ℕ)) (before : ℕ) (left : Option (List ℕ)) (now : ℕ) (may_read : Bool) → IsArriving first before left now may_read compilation.old chunk.old
         → Arrives result first before left now may_read compilation.new chunk.new }
     ensures all { OnOk result ((up_to_bodies ≡ false → chunk.new.pending ≡ []) × (compilation.new.cutter ≡ None → chunk.new.pending ≡ [])) }
+    ensures no_error { OnOk result ((up_to_bodies ≡ false → IsErrorFree compilation.new) × (compilation.new.cutter ≡ None → IsErrorFree compilation.new)) }
     ensures chunk { (chunk.new.count ≡ chunk.old.count) × (chunk.new.came ≡ chunk.old.came) }
     ensures kept { KeepsAlike compilation.old.codes compilation.new.codes }
 {

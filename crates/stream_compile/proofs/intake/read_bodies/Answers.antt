@@ -33,7 +33,7 @@ read-came-requires-clause-on g c = λ is.
 pub returns-then-ne-clause-keeps : goal.returns-then-ne-clause-keeps
 returns-then-ne-clause-keeps g c = λ first before s a.
     let l = c.loop-stop in
-    c.read-came.ensures.arrives first before (keeping s c.take_piece.new.intake)
+    c.read-came.ensures.arrives first before (keeping s c.take_piece.new.intake) (c.in-Ok.ensures.no_error s)
     (c.in-Ok.ensures.keeps first before (g.S.Source.left l.source) (g.S.Source.faults l.source) (g.S.Source.is_open l.source) s (l.invariant.arrives first before s a))
 
 pub loop-stop-preserved : goal.loop-stop-preserved
@@ -49,7 +49,7 @@ loop-stop-preserved g c =
       front = took_more (g.S.Source.left c.args.source.now) (g.S.Source.left l.source) (g.S.Source.left c.read-came.new.source) (g.S.Source.faults c.args.source.now) (g.S.Source.faults l.source) (g.S.Source.faults c.read-came.new.source) l.invariant.front c.read-came.ensures.front;
       few = c.read-came.ensures.few;
       arrives = λ first before s a.
-          c.read-came.ensures.arrives first before (keeping s c.take_piece.new.intake)
+          c.read-came.ensures.arrives first before (keeping s c.take_piece.new.intake) (c.in-Ok.ensures.no_error s)
           (c.in-Ok.ensures.keeps first before (g.S.Source.left l.source) (g.S.Source.faults l.source) (g.S.Source.is_open l.source) s (l.invariant.arrives first before s a));
     }
 

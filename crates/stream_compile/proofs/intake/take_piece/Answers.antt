@@ -4,7 +4,10 @@ use Rattle.wasm_defs.specs.declared.front_stop.FrontStop.{FrontStop}
 use Rattle.body_cutter.specs.Places.{Place}
 use Rattle.body_cutter.specs.Cuttings.{IsFed, IsRefused, Feeds}
 use Rattle.stream_compile.specs.Chunks.{Chunked}
+use Rattle.module_stream.specs.Kept.{kept_bodies}
 use Rattle.module_stream.proofs.Cutting.{few_taken, all_taken}
+use Rattle.module_stream.proofs.NoErrors.{place_is_none, cut_is_none}
+use Rattle.stream_compile.specs.Keeping.{with_kept}
 use Rattle.stream_compile.proofs.Keeping.{piece_taken, piece_refused}
 use Rattle.stream_compile.proofs.intake.take_piece.Goals as goal
 
@@ -24,6 +27,12 @@ returns-in-Ok-hand_over-clause-all c = λ inside.
 
 pub returns-in-Ok-hand_over-clause-going : goal.returns-in-Ok-hand_over-clause-going
 returns-in-Ok-hand_over-clause-going c = ap (λ (p : Place). p.stop) c.in-Ok-hand_over.ensures.place ∙ (c.in-Ok.ensures).going
+
+pub returns-in-Ok-hand_over-clause-no_error : goal.returns-in-Ok-hand_over-clause-no_error
+returns-in-Ok-hand_over-clause-no_error c = λ s.
+    let j = c.hand_over.new.intake in
+    cut_is_none s.front.steps.seen (with_kept (kept_bodies j.kept.items) j.cutter)
+    (place_is_none c.args.intake.now.cutter c.feed.new.self c.pending.result.now c.in-Ok.taken j.cutter.place c.in-Ok.ensures c.in-Ok-hand_over.ensures.place)
 
 pub returns-in-Ok-hand_over-clause-keeps : goal.returns-in-Ok-hand_over-clause-keeps
 returns-in-Ok-hand_over-clause-keeps c = λ first before left now may_read s a.

@@ -1,7 +1,7 @@
 use Rattle.std.proofs.Common.{◌++◌, Bool, Err, rules, sym, subst, ◌∙◌}
 use Rattle.stream_compile.specs.Reading.{Settled}
 use Rattle.stream_compile.proofs.Arriving.{may_be_read, may_end, going_here, ends_there}
-use Rattle.module_stream.proofs.Stops.{none_left}
+use Rattle.module_stream.proofs.Stops.{unless_stopped}
 use Rattle.stream_compile.proofs.Fronts.{took_more}
 use Rattle.stream_compile.proofs.reading.read_on.Goals as goal
 
@@ -16,7 +16,7 @@ returns-in-Err-clause-reads g c = λ first before a low.
 
 pub read-came-requires-clause-none : goal.read-came-requires-clause-none
 read-came-requires-clause-none g c =
-    none_left c.args.up_to_bodies c.take_pending.new.compilation.cutter c.take_pending.new.chunk.pending c.in-Ok.ensures.all.0 c.in-Ok.ensures.all.1 (sym c.stops.ensures ∙ c.if-stops.false)
+    unless_stopped c.args.up_to_bodies c.take_pending.new.compilation.cutter c.in-Ok.ensures.all.0 c.in-Ok.ensures.all.1 (sym c.stops.ensures ∙ c.if-stops.false)
 
 pub read-came-requires-clause-on : goal.read-came-requires-clause-on
 read-came-requires-clause-on g c = λ is.
@@ -33,7 +33,8 @@ finish-requires g c =
     let r = c.requires in
     let s = c.take_pending.new.compilation in
     let d = c.read-came.new.self in
-    let a = c.read-came.ensures.arrives r.0 r.1 s (c.in-Ok.ensures.arrives r.0 r.1 (g.S.Source.left l.source) (g.S.Source.faults l.source) (g.S.Source.is_open l.source) (l.invariant.arrives r.0 r.1 r.2)) in
+    let free = unless_stopped c.args.up_to_bodies c.take_pending.new.compilation.cutter c.in-Ok.ensures.no_error.0 c.in-Ok.ensures.no_error.1 (sym c.stops.ensures ∙ c.if-stops.false) in
+    let a = c.read-came.ensures.arrives r.0 r.1 s free (c.in-Ok.ensures.arrives r.0 r.1 (g.S.Source.left l.source) (g.S.Source.faults l.source) (g.S.Source.is_open l.source) (l.invariant.arrives r.0 r.1 r.2)) in
     may_end r.0 r.1 (g.S.Source.left c.read-came.new.source) (g.S.Source.faults c.read-came.new.source) (g.S.Source.is_open c.read-came.new.source) s d a (c.read-came.ensures.rest (search rules))
 
 pub returns-then-ne-clause-reads : goal.returns-then-ne-clause-reads
@@ -44,7 +45,8 @@ returns-then-ne-clause-reads g c = λ first before start low.
     let left = g.S.Source.left c.read-came.new.source in
     let now = g.S.Source.faults c.read-came.new.source in
     let may = g.S.Source.is_open c.read-came.new.source in
-    let a = c.read-came.ensures.arrives first before s (c.in-Ok.ensures.arrives first before (g.S.Source.left l.source) (g.S.Source.faults l.source) (g.S.Source.is_open l.source) (l.invariant.arrives first before start)) in
+    let free = unless_stopped c.args.up_to_bodies c.take_pending.new.compilation.cutter c.in-Ok.ensures.no_error.0 c.in-Ok.ensures.no_error.1 (sym c.stops.ensures ∙ c.if-stops.false) in
+    let a = c.read-came.ensures.arrives first before s free (c.in-Ok.ensures.arrives first before (g.S.Source.left l.source) (g.S.Source.faults l.source) (g.S.Source.is_open l.source) (l.invariant.arrives first before start)) in
     let none = c.read-came.ensures.rest (search rules) in
     subst (λ (b : Bool). Settled b c.finish.result c.finish.new.self first left before now) (sym c.has_failed-then-ne.ensures)
     (ends_there first before left now may s d a c.finish.result c.finish.new.self (search rules) (c.finish.ensures.decides (a.came ++ a.piece) a.bytes (going_here first before left now may s d a none)) low)
@@ -55,6 +57,7 @@ loop-stop-preserved g c =
     record {
       arrives = λ first before a.
           c.read-came.ensures.arrives first before c.take_pending.new.compilation
+          (unless_stopped c.args.up_to_bodies c.take_pending.new.compilation.cutter c.in-Ok.ensures.no_error.0 c.in-Ok.ensures.no_error.1 (sym c.stops.ensures ∙ c.if-stops.false))
           (c.in-Ok.ensures.arrives first before (g.S.Source.left l.source) (g.S.Source.faults l.source) (g.S.Source.is_open l.source) (l.invariant.arrives first before a));
       few = c.read-came.ensures.few;
       front = took_more (g.S.Source.left c.args.source.now) (g.S.Source.left l.source) (g.S.Source.left c.read-came.new.source) (g.S.Source.faults c.args.source.now) (g.S.Source.faults l.source) (g.S.Source.faults c.read-came.new.source) l.invariant.front c.read-came.ensures.front;

@@ -7,6 +7,7 @@ use Rattle.body_cutter.specs.Cuttings.{left, Feeds}
 use Rattle.module_stream.specs.CutBodies.{counts_data, cut_run, sections_behind}
 use Rattle.module_stream.specs.Streaming.{with_cutter}
 use Rattle.module_stream.proofs.Cutting.{rest_run, few_taken, all_taken}
+use Rattle.module_stream.proofs.NoErrors.{place_is_none, cut_is_none, behind_is_none}
 use Rattle.module_stream.proofs.Streaming.{IsCutting, cutting_of, going_reading, going_cutting, fed_judging, refused_judging, refused_at, cutting_on, waiting_on, reading_behind, less_whole, less_cut, shorter, fault_advances}
 use Rattle.module_stream.proofs.compilation.Compilation.cut.Goals as goal
 
@@ -142,3 +143,14 @@ returns-in-Err-Refused-clause-goes c = λ bytes more g.
     let k = cutting_of bytes (with_cutter s old) (piece ++ more) old refl g in
     fault_advances bytes piece c.in-Err-judge.stop (ends (Refused r)) c.judge-in-Err-Refused.new.self.spaces c.judge-in-Err-Refused.new.self.codes c.judge-in-Err-Refused.new.self more
     (c.in-Err-judge.ensures.takes bytes (ends (Refused r)) (counts_data s.front.steps.seen) k.few (refused_judging bytes s.front old mid s.spaces s.codes piece more k r refused))
+
+pub returns-then-is_whole-clause-no_error : goal.returns-then-is_whole-clause-no_error
+returns-then-is_whole-clause-no_error c =
+    let t = c.judge.new.self in
+    let seen = t.front.steps.seen in
+    behind_is_none c.skip_to.new.self seen c.judge.new.cutter.place.end (c.skip_to.ensures.onward [] ∙ ap (λ (n : ℕ). sections seen (record { at = n; rest = []; end = no_end })) c.section_end.ensures)
+
+pub returns-else-is_whole-clause-no_error : goal.returns-else-is_whole-clause-no_error
+returns-else-is_whole-clause-no_error c =
+    let new = c.judge.new.cutter in
+    cut_is_none c.judge.new.self.front.steps.seen new (place_is_none c.args.cutter c.feed.new.self c.args.piece.now c.in-Ok.taken new.place c.in-Ok.ensures c.in-Ok-judge.ensures.place)

@@ -70,3 +70,12 @@ returns-in-Err-tell-clause-goes c = λ bytes more g.
     let none = drop_all l.taken c.args.piece.now (omega (arith, c.loop-taken-test.false)) in
     goes_advances bytes c.args.piece.now c.in-Err-tell.stop c.tell.new.self c.tell.new.self more more
     (c.in-Err-tell.ensures.goes bytes more (subst (λ (p : List ℕ). IsGoing bytes l.self (p ++ more)) none (l.invariant.going bytes more g)))
+
+pub returns-then-stops-clause-no_error : goal.returns-then-stops-clause-no_error
+returns-then-stops-clause-no_error c =
+    let l = c.loop-taken in
+    let is = sym c.stops.ensures ∙ c.if-stops.true in
+    (λ up. absurd (not_up c.args.up_to_bodies l.self.cutter is up), λ none. absurd (not_outside c.args.up_to_bodies l.self.cutter is none))
+
+pub returns-in-Ok-tell-clause-no_error : goal.returns-in-Ok-tell-clause-no_error
+returns-in-Ok-tell-clause-no_error c = (λ up. c.in-Ok-tell.ensures.no_error, λ outside. c.in-Ok-tell.ensures.no_error)
