@@ -3,6 +3,7 @@
 -- A weight is one reduction, or one constant that is moved to the operands. A call and the entry of the declared function that it
 -- leads to are one together, and owe one more for each declared local. A branch or a return that carries several values, and the
 -- end of a function that does, owe one more for each of them. So does an instruction that writes many bytes, for each byte.
+-- A function's own label is left together with the function: a branch to it is a return, and the end of its body is one reduction.
 --
 -- A trap has its location in the module: the function and the offset of the instruction's first byte. Where the stack has no room, it is
 -- the callee and the first byte of its body, or of the import.

@@ -243,7 +243,7 @@ abbrev pub option_signature : Option FuncType → Option Signature
 option_signature None = None
 option_signature (Some f) = Some (signature_of f)
 
--- a block's type (Core 2.3.2)
+-- a block's type, by an index too (Core 2.0, 2.4.8 and 3.2.2)
 abbrev pub block_type : Context → BlockType → Option Signature
 block_type c Empty = Some (record { params = []; results = [] })
 block_type c (Value t) = Some (record { params = []; results = t ∷ [] })
