@@ -6,14 +6,14 @@ use Rattle.wasm_defs.specs.declared.types.ValType.TheVariants.{I32}
 use Rattle.wasm_defs.specs.declared.item.Constant.{Constant}
 use Rattle.wasm_defs.specs.Limits.{max_params, max_results}
 use Rattle.wasm_defs.specs.Fields.{Cursor, Read, Got, Wants, Reader, then_go, ◌>>=◌, done, repeated, window, room_of, past, byte, u32, count, vector, room, run, counted_bytes, name}
-use Rattle.wasm_defs.specs.Entries.{Seen, sole, constant, listed_type, listed_index, signature, imported, exported, element, memory_of, passive, segment}
+use Rattle.wasm_defs.specs.Entries.{Seen, index, constant, listed_type, listed_index, signature, imported, exported, element, memory_of, passive, segment}
 use Rattle.wasm_defs.specs.Outside.{Nothing, custom_name}
 use Rattle.wasm_laws.specs.Steadiness.{with_more, Advance}
 use Rattle.wasm_laws.proofs.Steady.{here_in, field_steady, advance_then, repeated_steady}
 use Rattle.wasm_laws.proofs.FieldLaws.{u32_field, count_steady, vector_steady}
 use Rattle.wasm_laws.proofs.Windows.{byte_field}
 use Rattle.wasm_laws.proofs.Names.{name_field}
-use Rattle.wasm_laws.proofs.EntryLaws.{sole_steady, memory_of_steady, constant_steady, listed_type_steady}
+use Rattle.wasm_laws.proofs.EntryLaws.{index_steady, memory_of_steady, constant_steady, listed_type_steady}
 use Rattle.section_reader.specs.declared.stage.Stage.{Stage}
 use Rattle.section_reader.specs.declared.stage.Stage.TheVariants.{Contents}
 use Rattle.section_reader.specs.declared.wait.Element.{Element}
@@ -59,11 +59,11 @@ module _ (P : List ℕ → Type 0) where
       (on_awaits (vector (count max_results) listed_type) _ f
       (then_awaits (count max_results) _ f g n (count_steady [] max_results).by fourth (on_awaits (repeated n.1 listed_type) _ g h)))))
 
-  element_wants : (seen : Seen) (c d e f : Cursor) (i : ℕ × ℕ) (place : Constant) (n : ℕ × ℕ) → sole seen.tables c ≡ Got i d → constant I32 d ≡ Got place e → u32 e ≡ Got n f
+  element_wants : (seen : Seen) (c d e f : Cursor) (i : ℕ × ℕ) (place : Constant) (n : ℕ × ℕ) → index seen.tables c ≡ Got i d → constant I32 d ≡ Got place e → u32 e ≡ Got n f
       → WantsIf (repeated n.1 (listed_index seen.functions)) f P → WantsIf (element seen) c P
   unfolding element vector
   element_wants seen c d e f i place n first second third h =
-      then_awaits (sole seen.tables) _ c d i (sole_steady [] seen.tables).by first
+      then_awaits (index seen.tables) _ c d i (index_steady [] seen.tables).by first
       (then_awaits (constant I32) _ d e place (constant_steady [] I32).by second
       (on_awaits (vector u32 (listed_index seen.functions)) _ e
       (then_awaits u32 _ e f n (field_steady [] u32 u32_field).by third (on_awaits (repeated n.1 (listed_index seen.functions)) _ f h))))
@@ -141,10 +141,10 @@ module _ (seen : Seen) (c d e : Cursor) where
         results_want (Passes (wait.List (length c.rest - length g.rest) n.1 ValueType) c) seen c d e f g form m types n first is second third fourth
         (λ more h. types_want n.1 (with_more g more) (list_at c g n.1 (element_of ValueType) results_advance more h))
 
-  module _ (f : Cursor) (i : ℕ × ℕ) (place : Constant) (n : ℕ × ℕ) (there : ℕ) (first : sole there c ≡ Got i d) (second : constant I32 d ≡ Got place e) (third : u32 e ≡ Got n f) where
+  module _ (f : Cursor) (i : ℕ × ℕ) (place : Constant) (n : ℕ × ℕ) (there : ℕ) (first : index there c ≡ Got i d) (second : constant I32 d ≡ Got place e) (third : u32 e ≡ Got n f) where
     pub indices_advance : Advance c f
     indices_advance =
-        advance_then c d f (got_is (λ x g. Advance c g) (sole there c) i d first ((sole_steady [] there).moves c))
+        advance_then c d f (got_is (λ x g. Advance c g) (index there c) i d first ((index_steady [] there).moves c))
         (advance_then d e f (got_is (λ x g. Advance d g) (constant I32 d) place e second ((constant_steady [] I32).moves d)) (got_is (λ x g. Advance e g) (u32 e) n f third ((field_steady [] u32 u32_field).moves e)))
 
     pub element_awaits : there ≡ seen.tables → Awaits (element seen) c (wait.List (length c.rest - length f.rest) n.1 (Index seen.functions))

@@ -8,7 +8,7 @@ use Rattle.wasm_defs.specs.Numbers.{Reading, Number, CutOff, Bad, number_at, aft
 use Rattle.wasm_defs.specs.Limits.{max_name}
 use Rattle.wasm_defs.specs.Text.{between, completes}
 use Rattle.wasm_defs.specs.Fields.{Cursor, Read, Got, Fault, Wants, Reader, then_go, ◌>>=◌, done, refused, repeated, room_of, window, past, cut, first_of, byte, from_reading, number, nat_of, u32, count, vector, run, room, here, stop, counted_bytes, agree, fixed, text_after, least, length_owed, name_from, name}
-use Rattle.wasm_defs.specs.Entries.{Seen, index, value_type, listed_type, limits, refused_opcode, constant, signature, imported, function, table, memory, mutability, global, extern_kind, exported, start, sole, listed_index, element, code, data_count, memory_of, passive, segment}
+use Rattle.wasm_defs.specs.Entries.{Seen, index, value_type, listed_type, limits, refused_opcode, constant, signature, imported, function, table, memory, mutability, global, extern_kind, exported, start, listed_index, element, code, data_count, memory_of, passive, segment}
 use Rattle.wasm_defs.specs.Outside.{listed, Row, entries_of, rest_of_section, number_of, at_most_one, function_count, segment_count, custom_name, header, preamble, left_over, section_end}
 use Rattle.wasm_laws.specs.Steadiness.{IfGot, with_more, Extends, got, faulty, owed, Advances}
 use Rattle.wasm_laws.proofs.Steady.{field_steady}
@@ -334,15 +334,11 @@ extern_kind_prompt : Prompt extern_kind
 unfolding extern_kind
 extern_kind_prompt = search (prompts) depth 40
 
-sole_prompt : (there : ℕ) → Prompt (sole there)
-unfolding sole
-sole_prompt there = search (u32_prompt, prompts) depth 40
-
 listed_index_prompt : (most : ℕ) → Prompt (listed_index most)
 unfolding listed_index
 listed_index_prompt most = search (index_prompt, prompts) depth 40
 
-ruleset parts = (u32_prompt, count_prompt, vector_prompt, counted_bytes_prompt, index_prompt, value_type_prompt, listed_type_prompt, limits_prompt, constant_prompt, mutability_prompt, extern_kind_prompt, sole_prompt, listed_index_prompt, prompts)
+ruleset parts = (u32_prompt, count_prompt, vector_prompt, counted_bytes_prompt, index_prompt, value_type_prompt, listed_type_prompt, limits_prompt, constant_prompt, mutability_prompt, extern_kind_prompt, listed_index_prompt, prompts)
 
 -- ---- entries, and what is around them
 

@@ -4,7 +4,7 @@ use Rattle.std.proofs.lemmas.Bool.{cases_Bool, cases_eq, cases_lt, eq-eqb, ne_eq
 use Rattle.wasm_defs.specs.declared.item.Item.{Item}
 use Rattle.wasm_defs.specs.Numbers.{number_at}
 use Rattle.wasm_defs.specs.Fields.{Cursor, Read, Reader, then_go, ◌>>=◌, done, window, room_of, cut, first_of, byte, from_reading, number, u32, count, name_from, name, fixed}
-use Rattle.wasm_defs.specs.Entries.{Seen, index, value_type, limits, sole, signature, imported, function, table, memory, global, exported, start, element, code, data_count, segment}
+use Rattle.wasm_defs.specs.Entries.{Seen, index, value_type, limits, signature, imported, function, table, memory, global, exported, start, element, code, data_count, segment}
 use Rattle.wasm_defs.specs.Faults.{ending_fault}
 use Rattle.wasm_defs.specs.Outside.{Nothing, Run, Owed, ends, runs_on, listed, Row, entries_of, body, number_of, at_most_one, function_count, segment_count, custom_name, magic, preamble, entries, after_part, section_end, no_end, owes, noted}
 use Rattle.wasm_laws.proofs.Windows.{all_of}
@@ -76,10 +76,6 @@ index_needs : (most : ℕ) → Needs (index most)
 unfolding index
 index_needs most = bind u32 _ u32_needs
 
-sole_needs : (there : ℕ) → Needs (sole there)
-unfolding sole
-sole_needs there = bind u32 _ u32_needs
-
 value_type_needs : Needs value_type
 unfolding value_type
 value_type_needs = bind byte _ byte_needs
@@ -127,7 +123,7 @@ start_needs seen = bind (index seen.functions) _ (index_needs seen.functions)
 
 element_needs : (seen : Seen) → Needs (element seen)
 unfolding element
-element_needs seen = bind (sole seen.tables) _ (sole_needs seen.tables)
+element_needs seen = bind (index seen.tables) _ (index_needs seen.tables)
 
 code_needs : (seen : Seen) → Needs (code seen)
 unfolding code

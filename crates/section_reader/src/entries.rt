@@ -5,7 +5,7 @@ ghost use Rattle.wasm_defs.specs.Entries.{signature, imported, function, table, 
 ghost use Rattle.wasm_defs.specs.Entries.{exported, start, element, code, data_count, memory_of, passive, segment};
 ghost use Rattle.leb_feed.specs.Reads.{Reads, NeedsNoMemory};
 
-use crate::entry_fields::{constant, index, indices, limits, sole, value_types};
+use crate::entry_fields::{constant, index, indices, limits, value_types};
 use crate::seen::Seen;
 use leb_feed::{Fields, Stop};
 use std::alloc::Global;
@@ -182,7 +182,7 @@ pub fn start(fields: &mut Fields<'_>, seen: &Seen) -> Result<Item, Stop>
 pub fn element(fields: &mut Fields<'_>, alloc: Global, seen: &Seen) -> Result<Item, Stop>
     ensures { Reads (element seen.now) (λ n. n) result fields.old fields.new }
 {
-    let table = sole(fields, seen.tables)?;
+    let table = index(fields, seen.tables)?;
     let place = constant(fields, ValType::I32)?;
     let (at, n) = fields.u32()?;
     let functions = (at, indices(fields, alloc, n, seen.functions)?);
@@ -230,7 +230,7 @@ pub fn memory_of(
     ensures free { NeedsNoMemory result }
 {
     if form.1 == 2 {
-        let memory = sole(fields, seen.memories)?;
+        let memory = index(fields, seen.memories)?;
         return Ok(Some(memory));
     }
     if 0 < seen.memories {

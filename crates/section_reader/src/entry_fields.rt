@@ -2,7 +2,7 @@
 
 ghost use Rattle.std.specs.Prelude.{◌≡◌};
 ghost use Rattle.wasm_defs.specs.Fields.{repeated};
-ghost use Rattle.wasm_defs.specs.Entries.{index, listed_index, listed_type, limits, wrong_opcode, wrong_number, refused_opcode, constant, sole};
+ghost use Rattle.wasm_defs.specs.Entries.{index, listed_index, listed_type, limits, wrong_opcode, wrong_number, refused_opcode, constant};
 ghost use Rattle.leb_feed.specs.Reads.{Reads, NeedsNoMemory};
 
 use leb_feed::{Fields, Stop};
@@ -17,19 +17,6 @@ pub fn index(fields: &mut Fields<'_>, most: u64) -> Result<(u64, u32), Stop>
 {
     let (at, i) = fields.u32()?;
     if u64::from(i) < most {
-        return Ok((at, i));
-    }
-    Err(Fields::refused(Kind::Invalid, at))
-}
-
-/// An index that can only be 0, of what has to be there.
-#[tactic(auto, unfolding(wasm_defs::specs::Entries::sole))]
-pub fn sole(fields: &mut Fields<'_>, there: u64) -> Result<(u64, u32), Stop>
-    ensures read { Reads (sole there) (λ n. n) result fields.old fields.new }
-    ensures free { NeedsNoMemory result }
-{
-    let (at, i) = fields.u32()?;
-    if i == 0 && 0 < there {
         return Ok((at, i));
     }
     Err(Fields::refused(Kind::Invalid, at))

@@ -7,7 +7,7 @@ ghost use Rattle.section_reader.specs.Outline.{outline_row};
 ghost use Rattle.section_reader.specs.Waits.{Awaits, AwaitsAt, IsPlaced, resumes_at};
 
 use crate::entries::memory_of;
-use crate::entry_fields::{constant, sole, value_types};
+use crate::entry_fields::{constant, index, value_types};
 use crate::seen::Seen;
 use crate::wait::{Element, Wait};
 use leb_feed::{Fields, between, state_after};
@@ -115,7 +115,7 @@ fn element_wait(fields: &Fields<'_>, seen: &Seen) -> Wait
     ensures placed { IsPlaced result fields.now }
 {
     let mut next = fields.fork();
-    let Ok(_) = sole(&mut next, seen.tables) else {
+    let Ok(_) = index(&mut next, seen.tables) else {
         return Wait::Nothing;
     };
     let Ok(_) = constant(&mut next, ValType::I32) else {

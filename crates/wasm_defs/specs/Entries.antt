@@ -222,12 +222,6 @@ start seen = do
   i ← index seen.functions
   done (Start i)
 
--- an index that can only be 0, of what has to be there
-unfoldable pub sole : ℕ → Reader (ℕ × ℕ)
-sole there = do
-  i ← u32
-  if i.1 == 0 && nat_lt 0 there then done i else refused Invalid i.0
-
 -- an index, without its offset
 unfoldable pub listed_index : ℕ → Reader ℕ
 listed_index most = do
@@ -236,7 +230,7 @@ listed_index most = do
 
 unfoldable pub element : Seen → Reader Item
 element seen = do
-  i ← sole seen.tables
+  i ← index seen.tables
   place ← constant I32
   functions ← vector u32 (listed_index seen.functions)
   done (Element i place functions)
@@ -260,7 +254,7 @@ data_count seen = do
 unfoldable pub memory_of : Seen → ℕ × ℕ → Reader (Option (ℕ × ℕ))
 memory_of seen form =
     if form.1 == 2 then (do
-      i ← sole seen.memories
+      i ← index seen.memories
       done (Some i))
     else if nat_lt 0 seen.memories then done None
     else refused Invalid form.0

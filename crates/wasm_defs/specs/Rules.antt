@@ -20,10 +20,6 @@ IsUpTo (Some max) min top = (min.1 ≤ max.1) × (max.1 ≤ top)
 abbrev pub LimitsKeep : Limits → ℕ → ℕ → Type 0
 LimitsKeep l most top = (l.min.1 ≤ most) × IsUpTo l.max l.min top
 
--- an index that can only be 0, of what has to be there
-abbrev pub IsSole : ℕ × ℕ → ℕ → Type 0
-IsSole index there = (index.1 ≡ 0) × (0 < there)
-
 -- an item after those that were seen: an index is one of what it counts, and an export's name is new (3.4.10)
 abbrev pub Keeps : Seen → Item → Type 0
 Keeps s (Signature form params results ty) = (length ty.params ≤ max_params) × (length ty.results ≤ max_results)
@@ -34,12 +30,12 @@ Keeps s (Memory limits) = LimitsKeep limits max_pages top_pages
 Keeps s (Global ty mutable init) = Unit {0}
 Keeps s (Exported label kind index) = (length label.1 ≤ max_name) × (is_some (map.get s.names label.1) ≡ false) × (index.1 < space s kind.1)
 Keeps s (Start index) = index.1 < s.functions
-Keeps s (Element table place functions) = IsSole table s.tables × All (λ i. i < s.functions) functions.1
+Keeps s (Element table place functions) = (table.1 < s.tables) × All (λ i. i < s.functions) functions.1
 Keeps s (Code count end) = Unit {0}
 Keeps s (DataCount count) = count.1 ≤ max_entries
 Keeps s (Passive form bytes) = Unit {0}
 Keeps s (Segment form None place bytes) = 0 < s.memories
-Keeps s (Segment form (Some memory) place bytes) = IsSole memory s.memories
+Keeps s (Segment form (Some memory) place bytes) = memory.1 < s.memories
 
 abbrev pub AllKeep : Seen → List Item → Type 0
 AllKeep s [] = Unit {0}

@@ -1,7 +1,7 @@
 -- Entries of sections, and what is before and after them, are steady.
 use Rattle.std.proofs.Common.{ℕ, Bool, List}
 use Rattle.wasm_defs.specs.declared.types.ValType.{ValType}
-use Rattle.wasm_defs.specs.Entries.{Seen, index, value_type, listed_type, limits, refused_opcode, constant, signature, imported, function, table, memory, mutability, global, extern_kind, exported, start, sole, listed_index, element, code, data_count, memory_of, passive, segment}
+use Rattle.wasm_defs.specs.Entries.{Seen, index, value_type, listed_type, limits, refused_opcode, constant, signature, imported, function, table, memory, mutability, global, extern_kind, exported, start, listed_index, element, code, data_count, memory_of, passive, segment}
 use Rattle.wasm_defs.specs.Outside.{rest_of_section, number_of, at_most_one, function_count, segment_count, custom_name, body, header, preamble}
 use Rattle.wasm_laws.proofs.Steady.{Steady, In}
 use Rattle.wasm_laws.proofs.FieldLaws.{readers, count_steady, vector_steady, counted_bytes_steady}
@@ -43,23 +43,19 @@ pub extern_kind_steady : (marks : List ℕ) → Steady marks extern_kind
 unfolding extern_kind
 extern_kind_steady marks = search steady depth 40
 
-pub sole_steady : (marks : List ℕ) (there : ℕ) → Steady marks (sole there)
-unfolding sole
-sole_steady marks there = search steady depth 40
-
 pub listed_index_steady : (marks : List ℕ) (most : ℕ) → Steady marks (listed_index most)
 unfolding listed_index
 listed_index_steady marks most = search (index_steady, steady) depth 40
 
 pub memory_of_steady : (marks : List ℕ) (seen : Seen) (form : ℕ × ℕ) → In form.0 marks → Steady marks (memory_of seen form)
 unfolding memory_of
-memory_of_steady marks seen form i = search (sole_steady, steady) depth 40
+memory_of_steady marks seen form i = search (index_steady, steady) depth 40
 
 pub passive_steady : (marks : List ℕ) (form : ℕ) → Steady marks (passive form)
 unfolding passive
 passive_steady marks form = search steady depth 40
 
-pub ruleset parts = (memory_of_steady, passive_steady, index_steady, value_type_steady, listed_type_steady, limits_steady, constant_steady, mutability_steady, extern_kind_steady, sole_steady, listed_index_steady, steady)
+pub ruleset parts = (memory_of_steady, passive_steady, index_steady, value_type_steady, listed_type_steady, limits_steady, constant_steady, mutability_steady, extern_kind_steady, listed_index_steady, steady)
 
 -- ---- entries
 

@@ -9,7 +9,7 @@ use Rattle.wasm_defs.specs.Limits.{max_name}
 use Rattle.wasm_defs.specs.Numbers.{Reading, Number, CutOff, Bad, number_at}
 use Rattle.wasm_defs.specs.Text.{between, completes}
 use Rattle.wasm_defs.specs.Fields.{Cursor, Read, Got, Fault, Wants, Reader, then_go, ◌>>=◌, done, refused, repeated, room_of, window, cut, first_of, byte, from_reading, number, u32, count, vector, run, room, here, stop, counted_bytes, text_after, least, name_from, nat_of, name, agree, fixed}
-use Rattle.wasm_defs.specs.Entries.{Seen, within, is_left_out, is_opcode, wrong_opcode, wrong_number, refused_opcode, index, value_type, listed_type, limits, constant, signature, imported, function, table, memory, mutability, global, extern_kind, exported, start, sole, listed_index, element, code, data_count, memory_of, passive, segment}
+use Rattle.wasm_defs.specs.Entries.{Seen, within, is_left_out, is_opcode, wrong_opcode, wrong_number, refused_opcode, index, value_type, listed_type, limits, constant, signature, imported, function, table, memory, mutability, global, extern_kind, exported, start, listed_index, element, code, data_count, memory_of, passive, segment}
 use Rattle.wasm_defs.specs.Outside.{Row, row, listed, entries_of, code_entry, left_over, rest_of_section, number_of, at_most_one, function_count, segment_count, custom_name, body, header, preamble, section_end}
 use Rattle.wasm_defs.specs.Faults.{rank}
 
@@ -196,15 +196,11 @@ extern_kind_lasts : Lasting extern_kind
 unfolding extern_kind
 extern_kind_lasts = search lasting depth 40
 
-sole_lasts : (there : ℕ) → Lasting (sole there)
-unfolding sole
-sole_lasts there = search lasting depth 40
-
 listed_index_lasts : (most : ℕ) → Lasting (listed_index most)
 unfolding listed_index
 listed_index_lasts most = search (index_lasts, lasting) depth 40
 
-ruleset parts = (index_lasts, value_type_lasts, listed_type_lasts, limits_lasts, constant_lasts, mutability_lasts, extern_kind_lasts, sole_lasts, listed_index_lasts, lasting)
+ruleset parts = (index_lasts, value_type_lasts, listed_type_lasts, limits_lasts, constant_lasts, mutability_lasts, extern_kind_lasts, listed_index_lasts, lasting)
 
 signature_lasts : (seen : Seen) → Lasting (signature seen)
 unfolding signature

@@ -10,16 +10,16 @@ use Rattle.wasm_defs.specs.declared.item.Item.{Item}
 use Rattle.wasm_defs.specs.declared.item.Item.TheVariants.{Signature, Imported, Function, Table, Memory, Global, Exported, Element, Passive, Segment}
 use Rattle.wasm_defs.specs.Limits.{max_params, max_results, max_table, max_pages, top_pages, top_rows}
 use Rattle.wasm_defs.specs.Fields.{Cursor, Reader, ◌>>=◌, done, byte, u32, count, vector, counted_bytes, name}
-use Rattle.wasm_defs.specs.Entries.{Seen, space, index, value_type, listed_type, limits, constant, signature, imported, function, table, memory, mutability, global, extern_kind, exported, sole, listed_index, element, memory_of, passive, segment}
+use Rattle.wasm_defs.specs.Entries.{Seen, space, index, value_type, listed_type, limits, constant, signature, imported, function, table, memory, mutability, global, extern_kind, exported, listed_index, element, memory_of, passive, segment}
 use Rattle.wasm_defs.specs.Items.{u32_is, vector_is, listed_type_is, listed_index_is, limits_are, item_is, section_of}
-use Rattle.wasm_defs.specs.Rules.{IsSole, Keeps}
+use Rattle.wasm_defs.specs.Rules.{Keeps}
 use Rattle.wasm_laws.proofs.Steady.{IfGot}
 use Rattle.wasm_laws.proofs.Spelt.{Ready, Found, later, found_then, found_as, read, unless, provided, Reads, reads_then, reads_on, reads_last, reads_else, Spelt}
 use Rattle.wasm_laws.proofs.Parts.{then_got, either_got}
 use Rattle.wasm_laws.proofs.SpeltFields.{Always, byte_spelt, u32_spelt}
 use Rattle.wasm_laws.proofs.SpeltLists.{vector_spelt, counted_bytes_spelt}
 use Rattle.wasm_laws.proofs.SpeltNames.{name_spelt}
-use Rattle.wasm_laws.proofs.SpeltParts.{byte_as, count_spelt, index_spelt, sole_spelt, listed_index_spelt, listed_type_spelt, value_type_spelt, mutability_spelt, extern_kind_spelt, ruled_spelt, limits_spelt, constant_spelt}
+use Rattle.wasm_laws.proofs.SpeltParts.{byte_as, count_spelt, index_spelt, listed_index_spelt, listed_type_spelt, value_type_spelt, mutability_spelt, extern_kind_spelt, ruled_spelt, limits_spelt, constant_spelt}
 
 -- an item of the section of that id, which keeps its rule
 abbrev pub Belongs : ℕ → Seen → Item → Type 0
@@ -190,7 +190,7 @@ functions_spelt most =
 element_found : (seen : Seen) (c : Cursor) → Ready c → IfGot (λ x d. Found (item_is x) (Belongs 9 seen x) c d) (element seen c)
 unfolding element
 element_found seen c ready =
-    read _ _ (sole seen.tables) _ _ c (sole_spelt seen.tables) ready (λ i d i_found ready.
+    read _ _ (index seen.tables) _ _ c (index_spelt seen.tables) ready (λ i d i_found ready.
     read _ _ (constant I32) _ _ d (constant_spelt I32) ready (λ place e place_found ready.
     read _ _ (vector u32 (listed_index seen.functions)) _ _ e (functions_spelt seen.functions) ready (λ fs f fs_found ready.
     found_then _ c d f i_found (found_then (Unit {0}) d e f place_found fs_found tt) ((i_found.kept.1, fs_found.kept), refl))))
@@ -198,7 +198,7 @@ element_found seen c ready =
 element_read : (seen : Seen) (x : Item) → Belongs 9 seen x → Reads (element seen) x (item_is x)
 unfolding element
 element_read seen (Element i place fs) k =
-    reads_then (sole seen.tables) _ i _ _ _ ((sole_spelt seen.tables).complete i (tt, k.0.0))
+    reads_then (index seen.tables) _ i _ _ _ ((index_spelt seen.tables).complete i (tt, k.0.0))
     (reads_then (constant I32) _ place _ _ _ ((constant_spelt I32).complete place tt)
     (reads_on (vector u32 (listed_index seen.functions)) _ fs _ _ ((functions_spelt seen.functions).complete fs k.0.1) (λ c. refl)))
 element_read seen x k = absurd (omega (arith, k.1))
@@ -222,13 +222,13 @@ active form m = constant I32 >>= (λ place. counted_bytes >>= (λ bytes. done (S
 -- what an active segment's form says of its memory
 abbrev FormTells : Seen → ℕ × ℕ → Cursor → Option (ℕ × ℕ) → Cursor → Type 0
 FormTells seen form d None e = (form.1 ≡ 0) × (d ≡ e) × (0 < seen.memories)
-FormTells seen form d (Some i) e = (form.1 ≡ 2) × Found (u32_is i) (IsSole i seen.memories) d e
+FormTells seen form d (Some i) e = (form.1 ≡ 2) × Found (u32_is i) (i.1 < seen.memories) d e
 
 memory_found_by : (seen : Seen) (form : ℕ × ℕ) (d : Cursor) → Ready d → form.1 ≤ 2 → form.1 ≢ 1 → IfGot (FormTells seen form d) (memory_of seen form d)
 unfolding memory_of
 memory_found_by seen form d ready low active =
     either_got _ (eqb form.1 2) _ _ d
-    (λ two. read _ _ (sole seen.memories) _ _ d (sole_spelt seen.memories) ready (λ i e found ready. (eqb-true form.1 2 two, found_as (u32_is i) _ d e found (λ at bytes s. s) found.kept.1)))
+    (λ two. read _ _ (index seen.memories) _ _ d (index_spelt seen.memories) ready (λ i e found ready. (eqb-true form.1 2 two, found_as (u32_is i) _ d e found (λ at bytes s. s) found.kept.1)))
     (λ no. either_got _ (ltb 0 seen.memories) _ _ d (λ some. (omega (arith, eqb-false form.1 2 no), refl, ltb-true 0 seen.memories some)) (λ none. tt))
 
 active_found : (seen : Seen) (form : ℕ × ℕ) (K : Type 0) (c d : Cursor) → Ready d → form.1 ≤ 2 → form.1 ≢ 1 → Found (u32_is form) K c d
@@ -256,9 +256,9 @@ segment_found seen c ready =
     (λ one. passive_found seen form _ c d ready (eqb-true form.1 1 one) form_found)
     (λ other. active_found seen form _ c d ready (ltb-false 2 form.1 known) (eqb-false form.1 1 other) form_found)))
 
-named_read : (seen : Seen) (form : ℕ) (i : ℕ × ℕ) → IsSole i seen.memories → Reads (memory_of seen (form, 2)) (Some i) (u32_is i)
+named_read : (seen : Seen) (form : ℕ) (i : ℕ × ℕ) → i.1 < seen.memories → Reads (memory_of seen (form, 2)) (Some i) (u32_is i)
 unfolding memory_of
-named_read seen form i k = reads_last (sole seen.memories) Some i (u32_is i) ((sole_spelt seen.memories).complete i (tt, k))
+named_read seen form i k = reads_last (index seen.memories) Some i (u32_is i) ((index_spelt seen.memories).complete i (tt, k))
 
 segment_read : (seen : Seen) (x : Item) → Belongs 12 seen x → Reads (segment seen) x (item_is x)
 unfolding segment passive memory_of

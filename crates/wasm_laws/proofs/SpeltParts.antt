@@ -1,6 +1,6 @@
 -- Parts of entries are read as they are encoded.
-use Rattle.std.proofs.Common.{inl, inr, ◌≡◌, ◌≤◌, ◌<◌, ℕ, Bool, true, false, ltb, eqb, ◌||◌, ◌&&◌, pos, if◌then◌else◌, List, [], ◌∷◌, Option, Some, None, refl, sym, ap, subst, ◌∙◌, arith}
-use Rattle.std.proofs.lemmas.Bool.{cases_Bool, cases_eq, le-ltb, lt-ltb, ltb-true, ltb-false, eqb-true, eqb-false, eq-eqb, ne_eqb, or_parts, or_from, and_parts, and_from}
+use Rattle.std.proofs.Common.{inl, inr, ◌≡◌, ◌≤◌, ◌<◌, ℕ, Bool, true, false, ltb, eqb, ◌||◌, pos, if◌then◌else◌, List, [], ◌∷◌, Option, Some, None, refl, sym, ap, subst, ◌∙◌, arith}
+use Rattle.std.proofs.lemmas.Bool.{cases_Bool, cases_eq, le-ltb, lt-ltb, ltb-true, ltb-false, eqb-true, eqb-false, eq-eqb, ne_eqb, or_parts, or_from}
 use Rattle.wasm_defs.specs.declared.fault.Kind.{Kind}
 use Rattle.wasm_defs.specs.declared.fault.Kind.TheVariants.{Malformed, Limit, Invalid}
 use Rattle.wasm_defs.specs.declared.types.ValType.{ValType}
@@ -9,9 +9,9 @@ use Rattle.wasm_defs.specs.declared.item.Extern.TheVariants as extern
 use Rattle.wasm_defs.specs.declared.item.Constant.{Constant}
 use Rattle.wasm_defs.specs.Numbers.{Spells}
 use Rattle.wasm_defs.specs.Fields.{Cursor, Read, Got, Fault, Wants, Reader, then_go, ◌>>=◌, done, refused, byte, number, u32, count}
-use Rattle.wasm_defs.specs.Entries.{index, value_type, listed_type, limits, const_opcode, bits_of, constant, mutability, extern_kind, sole, listed_index}
+use Rattle.wasm_defs.specs.Entries.{index, value_type, listed_type, limits, const_opcode, bits_of, constant, mutability, extern_kind, listed_index}
 use Rattle.wasm_defs.specs.Items.{Spelling, ◌then◌, byte_is, u32_is, type_code, type_is, listed_type_is, bounds_are, limits_are, mutability_code, listed_index_is, constant_is, extern_code}
-use Rattle.wasm_defs.specs.Rules.{IsUpTo, LimitsKeep, IsSole}
+use Rattle.wasm_defs.specs.Rules.{IsUpTo, LimitsKeep}
 use Rattle.wasm_laws.proofs.Steady.{IfGot}
 use Rattle.wasm_laws.proofs.Spelt.{Ready, Found, found_then, found_as, read, unless, provided, Reads, reads_then, reads_on, reads_if, reads_else, Spelt}
 use Rattle.wasm_laws.proofs.SpeltFields.{Always, byte_spelt, number_spelt, u32_spelt}
@@ -37,13 +37,6 @@ allowed_spelt S K L p right kind place h to from = record {
 pub index_spelt : (most : ℕ) → Spelt u32_is (λ i. Always i × (i.1 < most)) (index most)
 unfolding index
 index_spelt most = allowed_spelt u32_is Always (λ i. i.1 < most) u32 (λ i. ltb i.1 most) (λ i. Invalid) (λ i. i.0) u32_spelt (λ i e. ltb-true i.1 most e) (λ i k lt. lt-ltb i.1 most lt)
-
-pub sole_spelt : (there : ℕ) → Spelt u32_is (λ i. Always i × IsSole i there) (sole there)
-unfolding sole
-sole_spelt there =
-    allowed_spelt u32_is Always (λ i. IsSole i there) u32 (λ i. eqb i.1 0 && ltb 0 there) (λ i. Invalid) (λ i. i.0) u32_spelt
-    (λ i e. let p = and_parts (eqb i.1 0) (ltb 0 there) e in (eqb-true i.1 0 p.0, ltb-true 0 there p.1))
-    (λ i k h. and_from (eqb i.1 0) (ltb 0 there) (eq-eqb i.1 0 h.0) (lt-ltb 0 there h.1))
 
 -- ---- fields without their offsets
 

@@ -2,7 +2,7 @@
 use Rattle.std.proofs.Common.{ℕ, ◌<◌, Bool, true, false, cond, [], ◌∷◌, length, arith}
 use Rattle.wasm_defs.specs.declared.item.Item.{Item}
 use Rattle.wasm_defs.specs.Fields.{Cursor, Read, Got, Fault, Wants, Reader, then_go, ◌>>=◌, count}
-use Rattle.wasm_defs.specs.Entries.{Seen, index, value_type, limits, signature, imported, function, table, memory, global, exported, start, sole, element, code, data_count, segment}
+use Rattle.wasm_defs.specs.Entries.{Seen, index, value_type, limits, signature, imported, function, table, memory, global, exported, start, element, code, data_count, segment}
 use Rattle.wasm_defs.specs.Outside.{listed, code_entry, body, header}
 pub use Rattle.wasm_laws.specs.Steadiness.{LeavesFewer, Takes}
 use Rattle.wasm_laws.proofs.Steady.{Advances, moves_of, Steady, IfGot, IsMarked, Field, done_steady}
@@ -43,10 +43,6 @@ pub index_takes : (most : ℕ) → Takes (index most)
 unfolding index
 index_takes most = search taking depth 40
 
-pub sole_takes : (there : ℕ) → Takes (sole there)
-unfolding sole
-sole_takes there = search taking depth 40
-
 pub value_type_takes : Takes value_type
 unfolding value_type
 value_type_takes = search taking depth 40
@@ -55,7 +51,7 @@ pub limits_takes : (most top : ℕ) → Takes (limits most top)
 unfolding limits
 limits_takes most top = search taking depth 40
 
-ruleset firsts = (index_takes, sole_takes, value_type_takes, limits_takes, taking)
+ruleset firsts = (index_takes, value_type_takes, limits_takes, taking)
 
 pub signature_takes : (seen : Seen) → Takes (signature seen)
 unfolding signature
