@@ -1,33 +1,75 @@
--- `memory.grow` on a running image: its instruction words ask the environment, which answers, and put the answer into the
--- operand's slot.
-use Rattle.std.proofs.Common.{◌≡◌, ℕ, ◌+◌, ◌-◌, ◌*◌, ◌^◌, ◌<◌, ◌≤◌, ◌==◌, false, List, length, Option, None, Some, refl, sym, ap, subst, ◌∙◌, arith}
+-- `memory.grow`: its instruction words ask the environment and put the answer into the operand's slot; and so on a running image.
+use Rattle.std.proofs.Common.{◌≡◌, ℕ, suc, ◌+◌, ◌-◌, ◌*◌, ◌%◌, ◌^◌, ◌<◌, ◌≤◌, ◌==◌, false, List, [], ◌∷◌, ◌++◌, length, Option, None, Some, refl, sym, ap, subst, ◌∙◌, arith}
 use Rattle.std.specs.Prelude.{◌||◌}
 use Rattle.std.proofs.lemmas.Bool.{or_parts}
+use Rattle.rv_isa.specs.declared.operations.ImmOp.TheVariants.{Addi}
 use Rattle.rv_isa.specs.declared.operations.Op.{Op}
+use Rattle.rv_isa.specs.declared.operations.Op.TheVariants.{Imm, Ecall}
+use Rattle.rv_isa.specs.Words.{IsInRange}
 use Rattle.rv_isa.specs.Steps.{reg, Bytes, State}
-use Rattle.rv_isa.specs.Runs.{place, HasAt, AreBytes}
+use Rattle.rv_isa.specs.Runs.{place, HasAt, AreBytes, AllInRange}
+use Rattle.rv_isa.proofs.RunLaws.{Reaches-then}
 use Rattle.wasm_defs.specs.declared.types.ValType.TheVariants.{I32}
 use Rattle.wasm_defs.specs.Values.{word}
 use Rattle.wasm_defs.specs.Memory.{page, pages_of, grown}
 use Rattle.wasm_defs.specs.Configurations.{Store, max_slots}
 use Rattle.frame_layout.specs.Slots.{operand}
-use Rattle.frame_layout.specs.Macros.{s0, s1, s2, s3, s4, s5, a0, a7}
-use Rattle.frame_layout.specs.Templates.{Around, grow_words}
+use Rattle.frame_layout.specs.Macros.{x0, s0, s1, s2, s3, s4, s5, a0, a7}
+use Rattle.frame_layout.specs.Templates.{Around, load_operand, store_operand, grow_words}
 use Rattle.frame_layout.specs.Laws.{slot_at, with_slot, IsFrame, is_scratch, is_passed, Asks}
-use Rattle.frame_layout.proofs.Jumps.{passed_kept}
-use Rattle.frame_layout.proofs.Steps.{frame_kept}
+use Rattle.frame_layout.proofs.Standing.{has_first, has_rest}
+use Rattle.frame_layout.proofs.SlotLaws.{load_slot_leaves, store_slot_leaves}
+use Rattle.frame_layout.proofs.Steps.{does_leave, does_with, frame_kept}
+use Rattle.frame_layout.proofs.Jumps.{number_leaves, asks_after, passed_apart, passed_kept}
 use Rattle.image_format.specs.Contents.{Image}
 use Rattle.image_format.specs.Environment.{code_of_image}
 use Rattle.image_format.specs.ImageRun.{Running, memory_of}
 use Rattle.simulation.specs.Regions.{memory_now}
-use Rattle.simulation.specs.MemoryLaws.{AsksForPages}
+use Rattle.simulation.specs.MemoryLaws.{AsksForPages, GrowLaw, GrownLaw}
 use Rattle.simulation.specs.StoreLaws.{GlobalsStand, SegmentsStand, HasRoom, Answered, Grows}
 use Rattle.simulation.specs.StoreStands.{StoreStands}
 use Rattle.simulation.proofs.Memory.Answering.{grows_does}
-use Rattle.simulation.proofs.Memory.Growing.{grow_does, grown_does}
+use Rattle.simulation.proofs.Memory.Written.{low_word}
 use Rattle.simulation.proofs.Memory.StoreStanding.{store_kept, store_grown}
+use Rattle.simulation.proofs.MacroRanges.{both_in_range, load_in_range, store_in_range}
 use Rattle.simulation.proofs.Goings.{Goes, goes_by, goes_by_call, goes_then}
 use Rattle.simulation.proofs.Steps.{with_machine}
+
+-- ---- its instruction words
+
+asking_in_range : AllInRange (Imm Addi a7 x0 2 ∷ Ecall ∷ [])
+unfolding IsInRange
+asking_in_range = ((omega arith, omega arith, omega arith), (tt, tt))
+
+pub grow_in_range : (w : Around) (h : ℕ) → AllInRange (grow_words w h)
+grow_in_range w h =
+    let asking : List Op = Imm Addi a7 x0 2 ∷ Ecall ∷ [] in
+    both_in_range (load_operand w a0 (h - 1)) (asking ++ store_operand w a0 (h - 1)) (load_in_range a0 (operand w.layout (h - 1)) (omega arith)) (
+    both_in_range asking (store_operand w a0 (h - 1)) asking_in_range (store_in_range a0 (operand w.layout (h - 1)) (omega arith)))
+
+pub grow_does : GrowLaw
+grow_does w code s i base h a has at frame inside is small =
+    let front = load_operand w a0 (h - 1) in
+    let asking = Imm Addi a7 x0 2 ∷ Ecall ∷ [] in
+    let back = store_operand w a0 (h - 1) in
+    let one = load_slot_leaves code s i base a0 (operand w.layout (h - 1)) (has_first code i front (asking ++ back) has) at frame (λ e. absurd cc) (λ e. absurd cc) inside in
+    let pc_one = one.pc_is in
+    let has_asking = has_first code (i + 3) asking back (has_rest code i front (asking ++ back) has) in
+    let two = number_leaves code one.end (i + 3) 16 2 (has_asking.0, tt) (omega arith) (omega arith) in
+    let pc_two = two.pc_is in
+    let number = ap (λ (x : ℕ). x % 2 ^ 32) (two.others a0 (λ e. absurd cc) ∙ one.value_is ∙ is) ∙ low_word a small in
+    record {
+      asks = asks_after 4 (suc (i + 3)) 4 2 two.end (Reaches-then one.reaches two.reaches) (omega arith) has_asking.1 (omega arith) (two.bytes_are ∙ one.bytes_are) two.value_is (λ r kept. two.others r (passed_apart r a7 kept refl) ∙ one.others r (passed_apart r a0 kept refl));
+      number_is = number;
+    }
+
+pub grown_does : GrownLaw
+grown_does w code s i base h v has at frame inside is =
+    let front = load_operand w a0 (h - 1) ++ (Imm Addi a7 x0 2 ∷ Ecall ∷ []) in
+    let stored = store_slot_leaves code s (i + 5) base a0 (operand w.layout (h - 1)) (has_rest code i front (store_operand w a0 (h - 1)) has) at frame (λ e. absurd cc) inside in
+    does_with (ap (with_slot s.bytes (base + operand w.layout (h - 1))) is) (does_leave refl stored)
+
+-- ---- on a running image
 
 -- a call of the environment keeps the store, and so does an answer that changes no pages
 stands_asked : {code : List (Option Op)} {steps words number pages cap : ℕ} {s : State} (store : Store) → (asks : Asks code steps words number s) → StoreStands store pages cap s → StoreStands store pages cap asks.end

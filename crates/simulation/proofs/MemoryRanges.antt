@@ -1,7 +1,7 @@
 -- The fields of the operations of global and memory instructions fit their instruction words.
 use Rattle.std.proofs.Common.{ℕ, ◌-◌, ◌*◌, ◌^◌, ◌<◌, List, [], ◌∷◌, ◌++◌, arith}
 use Rattle.rv_isa.specs.declared.operations.Op.{Op}
-use Rattle.rv_isa.specs.declared.operations.Op.TheVariants.{Branch, Load, Store, Imm, Shift, Reg, Ecall}
+use Rattle.rv_isa.specs.declared.operations.Op.TheVariants.{Branch, Load, Store, Imm, Shift, Reg}
 use Rattle.rv_isa.specs.declared.operations.BranchOp.TheVariants.{Bgeu}
 use Rattle.rv_isa.specs.declared.operations.LoadOp.{LoadOp as MachineLoad}
 use Rattle.rv_isa.specs.declared.operations.StoreOp.{StoreOp as MachineStore}
@@ -16,8 +16,8 @@ use Rattle.wasm_defs.specs.declared.operation.StoreOp.{StoreOp}
 use Rattle.wasm_defs.specs.declared.operation.StoreOp.TheVariants.{I32Store}
 use Rattle.wasm_defs.specs.Memory.{load_count, store_count}
 use Rattle.frame_layout.specs.Slots.{operand}
-use Rattle.frame_layout.specs.Macros.{x0, t0, t1, t2, t3, s1, s2, s3, a0, a7, forward, trap, zero_extend, const_32}
-use Rattle.frame_layout.specs.Templates.{Around, load_operand, store_operand, address, machine_load, machine_store, load_words, store_words, size_words, grow_words, global_get_words, global_set_words}
+use Rattle.frame_layout.specs.Macros.{t0, t1, t2, t3, s1, s2, s3, forward, trap, zero_extend, const_32}
+use Rattle.frame_layout.specs.Templates.{Around, load_operand, store_operand, address, machine_load, machine_store, load_words, store_words, size_words, global_get_words, global_set_words}
 use Rattle.simulation.proofs.MacroRanges.{both_in_range, load_in_range, store_in_range, const_in_range}
 
 -- ---- globals
@@ -68,10 +68,6 @@ shifted_in_range : AllInRange (Shift Srli t0 s2 16 ∷ [])
 unfolding IsInRange
 shifted_in_range = ((omega arith, omega arith, omega arith), tt)
 
-asking_in_range : AllInRange (Imm Addi a7 x0 2 ∷ Ecall ∷ [])
-unfolding IsInRange
-asking_in_range = ((omega arith, omega arith, omega arith), (tt, tt))
-
 module _ (w : Around) where
   pub global_get_in_range : (h x : ℕ) → AllInRange (global_get_words w h x)
   global_get_in_range h x =
@@ -103,9 +99,3 @@ module _ (w : Around) where
 
   pub size_in_range : (h : ℕ) → AllInRange (size_words w h)
   size_in_range h = both_in_range (Shift Srli t0 s2 16 ∷ []) (store_operand w t0 h) shifted_in_range (store_in_range t0 (operand w.layout h) (omega arith))
-
-  pub grow_in_range : (h : ℕ) → AllInRange (grow_words w h)
-  grow_in_range h =
-      let asking : List Op = Imm Addi a7 x0 2 ∷ Ecall ∷ [] in
-      both_in_range (load_operand w a0 (h - 1)) (asking ++ store_operand w a0 (h - 1)) (load_in_range a0 (operand w.layout (h - 1)) (omega arith)) (
-      both_in_range asking (store_operand w a0 (h - 1)) asking_in_range (store_in_range a0 (operand w.layout (h - 1)) (omega arith)))
