@@ -9,8 +9,7 @@ use Rattle.wasm_defs.specs.declared.operation.StoreOp.{StoreOp}
 use Rattle.wasm_defs.specs.declared.operation.StoreOp.TheVariants.{I32Store}
 use Rattle.wasm_defs.specs.declared.operation.Access.{Access}
 use Rattle.wasm_defs.specs.declared.operation.Access.TheVariants.{Load, Store}
-use Rattle.wasm_defs.specs.Opcodes.{operations, accesses}
-use Rattle.wasm_defs.specs.Codes.{load_code, store_code, operation_code}
+use Rattle.wasm_defs.specs.Opcodes.{operations, accesses, load_code, store_code, operation_code}
 
 -- ---- a table's rows are at their codes
 
@@ -34,6 +33,7 @@ row_code code n (suc i) (Some y ∷ rows) x e h =
 -- ---- operations
 
 operations_are_rows : are_rows operation_code 0x45 operations ≡ true
+unfolding operation_code
 operations_are_rows = refl
 
 pub operation_at : (b : ℕ) (op : Operation) → 0x45 ≤ b → slice_get operations (b - 0x45) ≡ Some (Some op) → operation_code op ≡ b
@@ -46,14 +46,17 @@ access_code (Load op) = load_code op
 access_code (Store op) = store_code op
 
 pub load_row : (op : LoadOp) → slice_get accesses (load_code op - 0x28) ≡ Some (Some (Load op))
+unfolding load_code
 load_row I32Load = refl
 load_row op = refl
 
 pub store_row : (op : StoreOp) → slice_get accesses (store_code op - 0x28) ≡ Some (Some (Store op))
+unfolding store_code
 store_row I32Store = refl
 store_row op = refl
 
 accesses_are_rows : are_rows access_code 0x28 accesses ≡ true
+unfolding load_code store_code
 accesses_are_rows = refl
 
 pub access_at : (b : ℕ) (op : Access) → 0x28 ≤ b → slice_get accesses (b - 0x28) ≡ Some (Some op) → access_code op ≡ b

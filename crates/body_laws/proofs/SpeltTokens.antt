@@ -20,13 +20,13 @@ use Rattle.wasm_defs.specs.declared.token.BulkOp.TheVariants.{Fill, Copy, Init}
 use Rattle.wasm_defs.specs.declared.token.Plain.TheVariants.{Unreachable, Nop, Br, BrIf, BrTable, Return, Call, CallIndirect, Discard, Select, LocalGet, LocalSet, LocalTee, GlobalGet, GlobalSet, Load, Store, MemorySize, MemoryGrow, Bulk, DataDrop, Const, Operate}
 use Rattle.wasm_defs.specs.declared.token.Token.{Token}
 use Rattle.wasm_defs.specs.declared.token.Token.TheVariants as token
-use Rattle.wasm_defs.specs.Opcodes.{operations, accesses}
+use Rattle.wasm_defs.specs.Opcodes.{operations, accesses, load_code, store_code, operation_code}
 use Rattle.wasm_defs.specs.Entries.{const_opcode, bits_of}
 use Rattle.wasm_defs.specs.Numbers.{IsLastByte, Spells}
 use Rattle.wasm_defs.specs.Fields.{Cursor, Read, Got, Reader, then_go, ◌>>=◌, byte, number, u32, vector, here}
 use Rattle.wasm_defs.specs.Items.{Spelling, ◌then◌, exactly, byte_is, number_is, vector_is, listed_index_is}
 use Rattle.wasm_defs.specs.Bodies.{plain, with_index, short_type, type_by, block_type, with_type, label, branch_table, zero_byte, indirect, with_zero, initializing, copying, by_number, prefixed, mem_arg, accessed, with_mem_arg, constant, control, variable, accessed_at, memory, operated_at, numeric, instruction}
-use Rattle.wasm_defs.specs.Codes.{load_code, store_code, operation_code, listed_vector_is, block_type_is, mem_arg_is, signed_is, if_counted, plain_is, instruction_is, token_is}
+use Rattle.wasm_defs.specs.Codes.{listed_vector_is, block_type_is, mem_arg_is, signed_is, if_counted, plain_is, instruction_is, token_is}
 use Rattle.wasm_laws.specs.Steadiness.{token}
 use Rattle.wasm_laws.proofs.Steady.{IfGot}
 use Rattle.wasm_laws.proofs.Parts.{either_got}
@@ -35,7 +35,7 @@ use Rattle.wasm_laws.proofs.SpeltFields.{Always, byte_spelt, number_spelt, u32_s
 use Rattle.wasm_laws.proofs.SpeltLists.{vector_spelt}
 use Rattle.wasm_laws.proofs.SpeltParts.{placed_spelt, ruled_spelt}
 use Rattle.body_laws.proofs.Rows.{operation_at, access_code, access_at}
-use Rattle.wasm_defs.proofs.EachOperation.{each_operation, operation_row}
+use Rattle.wasm_defs.proofs.EachOperation.{all_rows, each_operation, operation_row}
 
 -- ---- fields without their offsets
 
@@ -375,12 +375,12 @@ unfolding constant
 constant_read ty n = reads_only (number true (bits_of ty)) _ n _ (signed_is ty n) (λ o. (number_spelt true (bits_of ty)).complete (o, n) tt) (λ o c. refl)
 
 loads : (counted : Bool) (op : LoadOp) (o : ℕ) → instruction counted o (load_code op) ≡ with_mem_arg (access.Load op)
-unfolding instruction memory
+unfolding instruction memory load_code
 loads counted I32Load o = refl
 loads counted op o = refl
 
 stores : (counted : Bool) (op : StoreOp) (o : ℕ) → instruction counted o (store_code op) ≡ with_mem_arg (access.Store op)
-unfolding instruction memory
+unfolding instruction memory store_code
 stores counted I32Store o = refl
 stores counted op o = refl
 
@@ -388,16 +388,34 @@ not_true : (b : Bool) → not b ≡ true → b ≡ false
 not_true false e = refl
 not_true true e = absurd cc
 
+each_code : (p : ℕ → Bool) (op : Operation) → all_rows (λ (x : Operation). not (p (operation_code x))) operations ≡ true → p (operation_code op) ≡ false
+each_code p op e = not_true _ (each_operation (λ (x : Operation). not (p (operation_code x))) e op)
+
+-- no other instruction has the opcode of an operation
+record IsPast (b : ℕ) : Type 0 where
+  low : nat_lt b 0x20 ≡ false
+  variables : nat_lt b 0x28 ≡ false
+  memories : nat_lt b 0x41 ≡ false
+  i32 : (b == 0x41) ≡ false
+  i64 : (b == 0x42) ≡ false
+  floats : nat_lt b 0x45 ≡ false
+
+codes_are_past : (op : Operation) → IsPast (operation_code op)
+unfolding operation_code
+codes_are_past op = record {
+  low = each_code (λ b. nat_lt b 0x20) op refl;
+  variables = each_code (λ b. nat_lt b 0x28) op refl;
+  memories = each_code (λ b. nat_lt b 0x41) op refl;
+  i32 = each_code (λ b. b == 0x41) op refl;
+  i64 = each_code (λ b. b == 0x42) op refl;
+  floats = each_code (λ b. nat_lt b 0x45) op refl;
+}
+
 operates : (counted : Bool) (op : Operation) (o : ℕ) → instruction counted o (operation_code op) ≡ plain (Operate op)
 unfolding instruction numeric
 operates counted op o =
-    let low = not_true _ (each_operation (λ (x : Operation). not (nat_lt (operation_code x) 0x20)) refl op) in
-    let variables = not_true _ (each_operation (λ (x : Operation). not (nat_lt (operation_code x) 0x28)) refl op) in
-    let memories = not_true _ (each_operation (λ (x : Operation). not (nat_lt (operation_code x) 0x41)) refl op) in
-    let i32 = not_true _ (each_operation (λ (x : Operation). not (operation_code x == 0x41)) refl op) in
-    let i64 = not_true _ (each_operation (λ (x : Operation). not (operation_code x == 0x42)) refl op) in
-    let floats = not_true _ (each_operation (λ (x : Operation). not (nat_lt (operation_code x) 0x45)) refl op) in
-    rw (low, variables, memories, i32, i64, floats, operation_row op) refl
+    let past = codes_are_past op in
+    rw (past.low, past.variables, past.memories, past.i32, past.i64, past.floats, operation_row op) refl
 
 as_reads : (p q : Reader Token) (t : Token) (s : Spelling) → p ≡ q → Reads q t s → Reads p t s
 as_reads p q t s e h = subst (λ (r : Reader Token). Reads r t s) (sym e) h

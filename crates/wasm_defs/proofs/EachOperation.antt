@@ -15,8 +15,7 @@ use Rattle.wasm_defs.specs.declared.operation.ExtendOp.{ExtendOp}
 use Rattle.wasm_defs.specs.declared.operation.ExtendOp.TheVariants.{I32Extend8S}
 use Rattle.wasm_defs.specs.declared.operation.Operation.{Operation}
 use Rattle.wasm_defs.specs.declared.operation.Operation.TheVariants.{Unary, Test, Binary, Compare, Convert, Extend}
-use Rattle.wasm_defs.specs.Opcodes.{operations}
-use Rattle.wasm_defs.specs.Codes.{operation_code}
+use Rattle.wasm_defs.specs.Opcodes.{operations, operation_code}
 use Rattle.wasm_defs.specs.Typing.{operated}
 
 abbrev pub all_rows : (Operation → Bool) → List (Option Operation) → Bool
@@ -41,26 +40,32 @@ abbrev IsAtRow : Operation → Type 0
 IsAtRow op = slice_get operations (operation_code op - 0x45) ≡ Some (Some op)
 
 unary_row : (op : UnaryOp) → IsAtRow (Unary I32 op) × IsAtRow (Unary I64 op)
+unfolding operation_code
 unary_row Clz = (refl, refl)
 unary_row op = (refl, refl)
 
 binary_row : (op : BinaryOp) → IsAtRow (Binary I32 op) × IsAtRow (Binary I64 op)
+unfolding operation_code
 binary_row Add = (refl, refl)
 binary_row op = (refl, refl)
 
 compare_row : (op : CompareOp) → IsAtRow (Compare I32 op) × IsAtRow (Compare I64 op)
+unfolding operation_code
 compare_row Eq = (refl, refl)
 compare_row op = (refl, refl)
 
 convert_row : (op : ConvertOp) → IsAtRow (Convert op)
+unfolding operation_code
 convert_row Wrap = refl
 convert_row op = refl
 
 extend_row : (op : ExtendOp) → IsAtRow (Extend op)
+unfolding operation_code
 extend_row I32Extend8S = refl
 extend_row op = refl
 
 pub operation_row : (op : Operation) → slice_get operations (operation_code op - 0x45) ≡ Some (Some op)
+unfolding operation_code
 operation_row (Test I32) = refl
 operation_row (Test I64) = refl
 operation_row (Unary I32 op) = (unary_row op).0

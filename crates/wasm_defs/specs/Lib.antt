@@ -15,6 +15,7 @@ pub mod Context
 pub mod Faults
 pub mod Items
 pub mod Codes
+pub mod Rows
 pub mod Rules
 pub mod Values
 pub mod Integers

@@ -1,8 +1,5 @@
 //! Operations: instructions without immediates that compute, and those that load and store (Core 2.4.1, 2.4.4). The tables
-//! of their opcodes are here, a row for each opcode.
-
-ghost use Rattle.std.specs.Prelude.{◌≡◌, ◌-◌, ◌≤◌, slice_get};
-ghost use Rattle.wasm_defs.specs.Opcodes.{operations, accesses};
+//! of `opcodes.rt` have a row for each.
 
 use crate::types::ValType;
 
@@ -115,193 +112,23 @@ pub enum Access {
     Store(StoreOp),
 }
 
-/// The operations by their opcodes, from 0x45 to 0xC4 (Core 2.0, 5.4.7). Those on floats are left out.
-pub const OPERATIONS: [Option<Operation>; 128] = [
-    Some(Operation::Test(ValType::I32)),
-    Some(Operation::Compare(ValType::I32, CompareOp::Eq)),
-    Some(Operation::Compare(ValType::I32, CompareOp::Ne)),
-    Some(Operation::Compare(ValType::I32, CompareOp::LtS)),
-    Some(Operation::Compare(ValType::I32, CompareOp::LtU)),
-    Some(Operation::Compare(ValType::I32, CompareOp::GtS)),
-    Some(Operation::Compare(ValType::I32, CompareOp::GtU)),
-    Some(Operation::Compare(ValType::I32, CompareOp::LeS)),
-    Some(Operation::Compare(ValType::I32, CompareOp::LeU)),
-    Some(Operation::Compare(ValType::I32, CompareOp::GeS)),
-    Some(Operation::Compare(ValType::I32, CompareOp::GeU)),
-    Some(Operation::Test(ValType::I64)),
-    Some(Operation::Compare(ValType::I64, CompareOp::Eq)),
-    Some(Operation::Compare(ValType::I64, CompareOp::Ne)),
-    Some(Operation::Compare(ValType::I64, CompareOp::LtS)),
-    Some(Operation::Compare(ValType::I64, CompareOp::LtU)),
-    Some(Operation::Compare(ValType::I64, CompareOp::GtS)),
-    Some(Operation::Compare(ValType::I64, CompareOp::GtU)),
-    Some(Operation::Compare(ValType::I64, CompareOp::LeS)),
-    Some(Operation::Compare(ValType::I64, CompareOp::LeU)),
-    Some(Operation::Compare(ValType::I64, CompareOp::GeS)),
-    Some(Operation::Compare(ValType::I64, CompareOp::GeU)),
-    None,
-    None,
-    None,
-    None,
-    None,
-    None,
-    None,
-    None,
-    None,
-    None,
-    None,
-    None,
-    Some(Operation::Unary(ValType::I32, UnaryOp::Clz)),
-    Some(Operation::Unary(ValType::I32, UnaryOp::Ctz)),
-    Some(Operation::Unary(ValType::I32, UnaryOp::Popcnt)),
-    Some(Operation::Binary(ValType::I32, BinaryOp::Add)),
-    Some(Operation::Binary(ValType::I32, BinaryOp::Sub)),
-    Some(Operation::Binary(ValType::I32, BinaryOp::Mul)),
-    Some(Operation::Binary(ValType::I32, BinaryOp::DivS)),
-    Some(Operation::Binary(ValType::I32, BinaryOp::DivU)),
-    Some(Operation::Binary(ValType::I32, BinaryOp::RemS)),
-    Some(Operation::Binary(ValType::I32, BinaryOp::RemU)),
-    Some(Operation::Binary(ValType::I32, BinaryOp::And)),
-    Some(Operation::Binary(ValType::I32, BinaryOp::Or)),
-    Some(Operation::Binary(ValType::I32, BinaryOp::Xor)),
-    Some(Operation::Binary(ValType::I32, BinaryOp::Shl)),
-    Some(Operation::Binary(ValType::I32, BinaryOp::ShrS)),
-    Some(Operation::Binary(ValType::I32, BinaryOp::ShrU)),
-    Some(Operation::Binary(ValType::I32, BinaryOp::Rotl)),
-    Some(Operation::Binary(ValType::I32, BinaryOp::Rotr)),
-    Some(Operation::Unary(ValType::I64, UnaryOp::Clz)),
-    Some(Operation::Unary(ValType::I64, UnaryOp::Ctz)),
-    Some(Operation::Unary(ValType::I64, UnaryOp::Popcnt)),
-    Some(Operation::Binary(ValType::I64, BinaryOp::Add)),
-    Some(Operation::Binary(ValType::I64, BinaryOp::Sub)),
-    Some(Operation::Binary(ValType::I64, BinaryOp::Mul)),
-    Some(Operation::Binary(ValType::I64, BinaryOp::DivS)),
-    Some(Operation::Binary(ValType::I64, BinaryOp::DivU)),
-    Some(Operation::Binary(ValType::I64, BinaryOp::RemS)),
-    Some(Operation::Binary(ValType::I64, BinaryOp::RemU)),
-    Some(Operation::Binary(ValType::I64, BinaryOp::And)),
-    Some(Operation::Binary(ValType::I64, BinaryOp::Or)),
-    Some(Operation::Binary(ValType::I64, BinaryOp::Xor)),
-    Some(Operation::Binary(ValType::I64, BinaryOp::Shl)),
-    Some(Operation::Binary(ValType::I64, BinaryOp::ShrS)),
-    Some(Operation::Binary(ValType::I64, BinaryOp::ShrU)),
-    Some(Operation::Binary(ValType::I64, BinaryOp::Rotl)),
-    Some(Operation::Binary(ValType::I64, BinaryOp::Rotr)),
-    None,
-    None,
-    None,
-    None,
-    None,
-    None,
-    None,
-    None,
-    None,
-    None,
-    None,
-    None,
-    None,
-    None,
-    None,
-    None,
-    None,
-    None,
-    None,
-    None,
-    None,
-    None,
-    None,
-    None,
-    None,
-    None,
-    None,
-    None,
-    Some(Operation::Convert(ConvertOp::Wrap)),
-    None,
-    None,
-    None,
-    None,
-    Some(Operation::Convert(ConvertOp::ExtendS)),
-    Some(Operation::Convert(ConvertOp::ExtendU)),
-    None,
-    None,
-    None,
-    None,
-    None,
-    None,
-    None,
-    None,
-    None,
-    None,
-    None,
-    None,
-    None,
-    None,
-    None,
-    None,
-    None,
-    None,
-    Some(Operation::Extend(ExtendOp::I32Extend8S)),
-    Some(Operation::Extend(ExtendOp::I32Extend16S)),
-    Some(Operation::Extend(ExtendOp::I64Extend8S)),
-    Some(Operation::Extend(ExtendOp::I64Extend16S)),
-    Some(Operation::Extend(ExtendOp::I64Extend32S)),
-];
-
-/// The loads and stores by their opcodes, from 0x28 to 0x3E (Core 5.4.4). Those of floats are left out.
-pub const ACCESSES: [Option<Access>; 23] = [
-    Some(Access::Load(LoadOp::I32Load)),
-    Some(Access::Load(LoadOp::I64Load)),
-    None,
-    None,
-    Some(Access::Load(LoadOp::I32Load8S)),
-    Some(Access::Load(LoadOp::I32Load8U)),
-    Some(Access::Load(LoadOp::I32Load16S)),
-    Some(Access::Load(LoadOp::I32Load16U)),
-    Some(Access::Load(LoadOp::I64Load8S)),
-    Some(Access::Load(LoadOp::I64Load8U)),
-    Some(Access::Load(LoadOp::I64Load16S)),
-    Some(Access::Load(LoadOp::I64Load16U)),
-    Some(Access::Load(LoadOp::I64Load32S)),
-    Some(Access::Load(LoadOp::I64Load32U)),
-    Some(Access::Store(StoreOp::I32Store)),
-    Some(Access::Store(StoreOp::I64Store)),
-    None,
-    None,
-    Some(Access::Store(StoreOp::I32Store8)),
-    Some(Access::Store(StoreOp::I32Store16)),
-    Some(Access::Store(StoreOp::I64Store8)),
-    Some(Access::Store(StoreOp::I64Store16)),
-    Some(Access::Store(StoreOp::I64Store32)),
-];
-
-fn operation_at(rows: &[Option<Operation>], row: usize) -> Option<Option<Operation>>
-    ensures { result ≡ slice_get rows.now row }
-{
-    rows.get(row).copied()
+/// The operands of a numeric instruction, the last of which is topmost.
+#[derive(Clone, Copy, Debug, PartialEq, Eq)]
+pub enum Operands {
+    One(ValType),
+    Two(ValType, ValType),
 }
 
-fn access_at(rows: &[Option<Access>], row: usize) -> Option<Option<Access>>
-    ensures { result ≡ slice_get rows.now row }
-{
-    rows.get(row).copied()
+/// The type of a numeric instruction (Core 2.0, 3.3.1).
+#[derive(Clone, Copy, Debug, PartialEq, Eq)]
+pub struct NumericType {
+    pub operands: Operands,
+    pub result: ValType,
 }
 
-impl Operation {
-    /// The operation of an opcode from 0x45 on: `None` past the table, `Some(None)` for one that is left out.
-    pub fn of_opcode(opcode: u8) -> Option<Option<Operation>>
-        requires { 0x45 ≤ opcode }
-        ensures { result ≡ slice_get operations (opcode - 0x45) }
-    {
-        operation_at(&OPERATIONS, opcode as usize - 0x45)
-    }
-}
-
-impl Access {
-    /// The load or store of an opcode from 0x28 on: `None` past the table, `Some(None)` for one that is left out.
-    pub fn of_opcode(opcode: u8) -> Option<Option<Access>>
-        requires { 0x28 ≤ opcode }
-        ensures { result ≡ slice_get accesses (opcode - 0x28) }
-    {
-        access_at(&ACCESSES, opcode as usize - 0x28)
-    }
+/// What a load or store accesses (Core 3.3.4.1 to 3.3.4.4): the type of the value, and the greatest alignment, as a power of two.
+#[derive(Clone, Copy, Debug, PartialEq, Eq)]
+pub struct AccessType {
+    pub value: ValType,
+    pub alignment: u32,
 }
