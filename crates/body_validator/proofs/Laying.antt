@@ -438,12 +438,6 @@ shown_same base count o n (inr h) e = inr (omega (arith, h, e.3, ap length e.0))
 pub flat_again : (o n : Operands) → IsOver o n → n.singles.items ≡ o.singles.items → flat n ≡ flat o
 flat_again o n w e = ap (λ (x : List Spread). laid_out (reverse x) n.singles.items) w.lists ∙ ap (laid_out (reverse o.lists.items)) e
 
-pub exchanges_seen : (base : ℕ) (unknown : Bool) (p g : Types) (o n : Operands) (result : Result (Unit {0}) Stop) → IsSeen base unknown o → AreShown base (length p) o → IsOver o n
-    → Exchanges o.unknown o.start p g result o.singles.items n.singles.items → Exchanges unknown base p g result (flat o) (flat n)
-exchanges_seen base unknown p g o n (Ok done) s shown w e = exchange_over base unknown p g o n s w e
-exchanges_seen base unknown p g o n (Err Refused) s shown w e = (refused_seen base unknown p o s shown e.0, flat_again o n w e.1)
-exchanges_seen base unknown p g o n (Err NoMemory) s shown w e = flat_again o n w e
-
 pub tried_over : (base : ℕ) (unknown : Bool) (p g : Types) (o n : Operands) (result : Result (Unit {0}) Stop) → IsSeen base unknown o → IsOver o n
     → Exchanges o.unknown o.start p g result o.singles.items n.singles.items → IsTried base unknown p g result o n
 tried_over base unknown p g o n (Ok done) s w e = (exchange_over base unknown p g o n s w e, below_over base unknown o n s w, seen_over base unknown o n s w)

@@ -9,7 +9,7 @@ use Rattle.body_validator.specs.declared.operands.Stop.{Stop}
 use Rattle.body_validator.specs.declared.operands.Stop.TheVariants.{Refused, NoMemory}
 use Rattle.body_validator.specs.Checking.{Operand, Operands as Checked, Frames, ◌>>=◌, known, take_all, Taken, take_any, put, applied}
 use Rattle.body_validator.specs.Stacks.{own_of, frame_of, frames_of, IsLaid}
-use Rattle.body_validator.specs.Exchange.{Exchanges, TakesOne, TakesThree, Steps}
+use Rattle.body_validator.specs.Exchange.{Exchanges, TakesOne, TakesThree, Steps, Tries}
 use Rattle.body_validator.specs.Kept.{flat, IsKept, IsSeen, IsSeenFrom, IsTried}
 use Rattle.body_validator.proofs.Laying.{base_seen}
 use Rattle.body_validator.proofs.Options.{some_inside}
@@ -170,3 +170,13 @@ pub tried_same : (all : List Flat) (p g : Types) (o n : Operands) (result : Resu
     → flat n ≡ flat o
 tried_same [] p g o n result stop e h s t = absurd (omega arith)
 tried_same (f ∷ fs) p g o n result stop e h s t = (subst (λ (r : Result (Unit {0}) Stop). IsTried f.base f.unknown p g r o n) e (t f.base f.unknown s)).0
+
+pub tried_tries : (all : List Flat) (p g : Types) (o n : Operands) (result : Result (Unit {0}) Stop) → 0 < length all → IsSeenFrom all o → IsTriedAt p g result o n
+    → Tries (applied (Fixed p g) (frames_of all (flat o))) result (frames_of all (flat o)) (frames_of all (flat n))
+tried_tries all p g o n (Ok done) h s t = tried_steps all p g o n (Ok done) done refl h s t
+tried_tries all p g o n (Err stop) h s t = ap (frames_of all) (tried_same all p g o n (Err stop) stop refl h s t)
+
+-- ---- an instruction that was tried, and then taken by its rule
+
+pub tries_same : (answer : Option Frames) (result : Result (Unit {0}) Stop) (stop : Stop) (old new : Frames) → result ≡ Err stop → Tries answer result old new → new ≡ old
+tries_same answer result stop old new is t = subst (λ (r : Result (Unit {0}) Stop). Tries answer r old new) is t

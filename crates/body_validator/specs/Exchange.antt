@@ -30,6 +30,11 @@ Steps answer (Ok done) old new = answer ≡ Some new
 Steps answer (Err Refused) old new = (answer ≡ None) × (new ≡ old)
 Steps answer (Err NoMemory) old new = new ≡ old
 
+-- a step of the frames that was taken, or the frames are as before
+abbrev pub Tries : Option Frames → Result (Unit {0}) Stop → Frames → Frames → Type 0
+Tries answer (Ok done) old new = answer ≡ Some new
+Tries answer (Err stop) old new = new ≡ old
+
 -- the topmost operand above the base is taken, or there is none
 abbrev pub TakesOne : Bool → ℕ → Result (Unit {0}) Stop → List Operand → List Operand → Type 0
 TakesOne unknown base (Ok done) old new = (own_of new base ≡ drop 1 (own_of old base)) × (length old ≡ base → unknown ≡ true)

@@ -172,8 +172,24 @@ impl<'a> Operands<'a> {
         }
     }
 
-    /// Makes so many of the topmost operands above the base single ones, or all of them.
-    pub fn show(&mut self, base: usize, unknown: bool, count: usize) -> Result<(), AllocError>
+    /// Makes so many of the topmost operands above the base single ones, or all of them. Mostly they are.
+    #[inline(always)]
+    fn show(&mut self, base: usize, unknown: bool, count: usize) -> Result<(), AllocError>
+        requires { IsSeen base unknown self.old }
+        ensures same { flat self.new ≡ flat self.old }
+        ensures seen { IsSeen base unknown self.new }
+        ensures shown { OnOk result (AreShown base count self.new) }
+    {
+        if base < self.start + self.listed && self.singles.len() - self.start < count {
+            return self.show_lists(base, unknown, count);
+        }
+        Ok(())
+    }
+
+    /// The same where some of them are in lists.
+    #[cold]
+    #[inline(never)]
+    fn show_lists(&mut self, base: usize, unknown: bool, count: usize) -> Result<(), AllocError>
         requires { IsSeen base unknown self.old }
         ensures same { flat self.new ≡ flat self.old }
         ensures seen { IsSeen base unknown self.new }
@@ -190,6 +206,8 @@ impl<'a> Operands<'a> {
     }
 
     /// Takes the topmost list away, or what of it lies above this height.
+    #[cold]
+    #[inline(never)]
     fn cut_list(&mut self, height: usize)
         requires kept { IsKept self.old }
         requires above { height < floor_of (reverse self.old.lists.items) + self.old.listed }
@@ -272,26 +290,7 @@ impl<'a> Operands<'a> {
     }
 
     /// Takes operands from those above the base, which may be in lists, and puts others in their place.
-    pub fn exchange_below(
-        &mut self,
-        base: usize,
-        unknown: bool,
-        taken: Taken<'_>,
-        given: &[ValType],
-    ) -> Result<(), Stop>
-        requires { IsSeen base unknown self.old }
-        ensures own { Exchanges unknown base (taken_types taken.entry) (reverse given.now) result (flat self.old) (flat self.new) }
-        ensures below { take base (flat self.new) ≡ take base (flat self.old) }
-        ensures seen { IsSeen base unknown self.new }
-    {
-        let count = count_of(taken.types, taken.condition);
-        self.show(base, unknown, count)?;
-        exchange(&mut self.singles, self.start, self.unknown, taken, given)
-    }
-
-    /// Takes operands from those above the base, and puts a list in their place.
-    #[inline(never)]
-    pub fn exchange_list(
+    pub fn exchange(
         &mut self,
         base: usize,
         unknown: bool,
@@ -313,6 +312,7 @@ impl<'a> Operands<'a> {
     }
 
     /// Whether an instruction finds what it takes.
+    #[inline(always)]
     pub fn finds(
         &mut self,
         base: usize,

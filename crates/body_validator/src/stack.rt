@@ -3,10 +3,10 @@
 ghost use Rattle.std.specs.Prelude.{◌≡◌, ◌-◌, ◌<◌, [], ◌∷◌, ◌++◌, length, reverse, take, Some, None, slice_get, MatchOption, IfOk, vec_len, vec_capacity};
 ghost use Rattle.body_validator.specs.Checking.{height, body_frames, label_of, is_open, is_live, may_turn, labels, may_end, takes_else, applied, enter, turned, ended};
 ghost use Rattle.wasm_defs.specs.Typing.{Stops, Fixed, Discards, Selects};
-ghost use Rattle.body_validator.specs.Exchange.{taken_types, Steps};
+ghost use Rattle.body_validator.specs.Exchange.{taken_types, Steps, Tries};
 ghost use Rattle.body_validator.specs.Stacks.{HasLast, is_live_in, signature};
 
-use crate::kept::{LONG, Operands};
+use crate::kept::Operands;
 use crate::operands::{Stop, Taken, are_same, count_of};
 use std::alloc::{AllocError, Global};
 use std::marker::Model;
@@ -201,26 +201,21 @@ impl<'a> Stack<'a> {
         Some(taken_by_label(self.frames[count - 1 - depth]))
     }
 
-    /// Takes operands from the innermost frame, and puts others in their place.
+    /// Takes single operands from the innermost frame, and puts others in their place. A refusal says only that the single ones
+    /// don't do.
     #[inline(always)]
-    pub fn exchange(&mut self, taken: Taken<'_>, given: &[ValType]) -> Result<(), Stop>
-        ensures { Steps (applied (Fixed (taken_types taken.entry) (reverse given.now)) self.old) result
+    pub fn exchange_singles(&mut self, taken: Taken<'_>, given: &[ValType]) -> Result<(), Stop>
+        ensures { Tries (applied (Fixed (taken_types taken.entry) (reverse given.now)) self.old) result
             self.old self.new }
     {
         if self.frames.len() == 0 {
             return Err(Stop::Refused);
         }
-        // those that it takes are mostly single ones
-        match self.operands.exchange_singles(taken, given) {
-            Ok(()) => Ok(()),
-            Err(Stop::NoMemory) => Err(Stop::NoMemory),
-            Err(Stop::Refused) => self.exchange_below(taken, given),
-        }
+        self.operands.exchange_singles(taken, given)
     }
 
-    /// The same where some may be in lists.
-    #[inline(never)]
-    fn exchange_below(&mut self, taken: Taken<'_>, given: &[ValType]) -> Result<(), Stop>
+    /// Takes operands from the innermost frame, which may be in lists, and puts others in their place.
+    pub fn exchange(&mut self, taken: Taken<'_>, given: &'a [ValType]) -> Result<(), Stop>
         ensures { Steps (applied (Fixed (taken_types taken.entry) (reverse given.now)) self.old) result
             self.old self.new }
     {
@@ -228,22 +223,7 @@ impl<'a> Stack<'a> {
             return Err(Stop::Refused);
         };
         self.operands
-            .exchange_below(frame.base, frame.unknown, taken, given)
-    }
-
-    /// Takes operands from the innermost frame, and puts those of a list in their place.
-    pub fn exchange_list(&mut self, taken: Taken<'_>, given: &'a [ValType]) -> Result<(), Stop>
-        ensures { Steps (applied (Fixed (taken_types taken.entry) (reverse given.now)) self.old) result
-            self.old self.new }
-    {
-        if given.len() < LONG {
-            return self.exchange(taken, given);
-        }
-        let Some(frame) = innermost(&self.frames) else {
-            return Err(Stop::Refused);
-        };
-        self.operands
-            .exchange_list(frame.base, frame.unknown, taken, given)
+            .exchange(frame.base, frame.unknown, taken, given)
     }
 
     /// Takes operands, after which the point isn't reachable.

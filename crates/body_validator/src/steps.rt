@@ -3,11 +3,12 @@
 ghost use Rattle.std.specs.Prelude.{◌≡◌};
 ghost use Rattle.body_validator.specs.Checking.{applied, labels, step, fault_kind};
 ghost use Rattle.wasm_defs.specs.Typing.{rule_of};
-ghost use Rattle.body_validator.specs.Exchange.{Steps};
+ghost use Rattle.body_validator.specs.Exchange.{Steps, Tries};
 ghost use Rattle.body_validator.specs.Scopes.{rule_meant, unlabelled, with_labels, begun};
 
 use crate::accesses::{load_alignment, load_type, store_alignment, store_type};
 use crate::instruction_types::{Rule, block_types, conditionally, plainly, rule_for};
+use crate::kept::LONG;
 use crate::operands::{Stop, Taken};
 use crate::scope::Scope;
 use crate::stack::{Opening, Stack};
@@ -17,7 +18,7 @@ fn apply<'a>(stack: &mut Stack<'a>, rule: Option<Rule<'a>>) -> Result<(), Stop>
     ensures { Steps (applied (rule_meant rule.entry) stack.old) result stack.old stack.new }
 {
     match rule {
-        Some(Rule::Fixed(taken, given)) => stack.exchange_list(taken, given),
+        Some(Rule::Fixed(taken, given)) => stack.exchange(taken, given),
         Some(Rule::Stops(taken)) => stack.stop(taken),
         Some(Rule::Discards) => stack.discard(),
         Some(Rule::Selects) => stack.select(),
@@ -28,10 +29,10 @@ fn apply<'a>(stack: &mut Stack<'a>, rule: Option<Rule<'a>>) -> Result<(), Stop>
 /// Takes a `global.set`, where there is such a global and it may be set.
 #[inline(always)]
 fn set_global<'a>(scope: &Scope<'a>, stack: &mut Stack<'a>, index: u32) -> Result<(), Stop>
-    ensures { Steps (applied (rule_of (with_labels scope.now (labels stack.old)) (Plain.GlobalSet index)) stack.old) result stack.old stack.new }
+    ensures { Tries (applied (rule_of (with_labels scope.now (labels stack.old)) (Plain.GlobalSet index)) stack.old) result stack.old stack.new }
 {
     match scope.global(index) {
-        Some(global) if global.mutable => stack.exchange(plainly(&[global.ty]), &[]),
+        Some(global) if global.mutable => stack.exchange_singles(plainly(&[global.ty]), &[]),
         _ => Err(Stop::Refused),
     }
 }
@@ -44,12 +45,12 @@ fn take_load<'a>(
     op: LoadOp,
     place: MemArg,
 ) -> Result<(), Stop>
-    ensures { Steps (applied (rule_of (with_labels scope.now (labels stack.old)) (Plain.Load op place)) stack.old) result stack.old stack.new }
+    ensures { Tries (applied (rule_of (with_labels scope.now (labels stack.old)) (Plain.Load op place)) stack.old) result stack.old stack.new }
 {
     if !scope.can_access(place, load_alignment(op)) {
         return Err(Stop::Refused);
     }
-    stack.exchange(plainly(&[ValType::I32]), &[load_type(op)])
+    stack.exchange_singles(plainly(&[ValType::I32]), &[load_type(op)])
 }
 
 /// Takes a store, where the module has a memory and the access is aligned no further than its bytes.
@@ -60,49 +61,68 @@ fn take_store<'a>(
     op: StoreOp,
     place: MemArg,
 ) -> Result<(), Stop>
-    ensures { Steps (applied (rule_of (with_labels scope.now (labels stack.old)) (Plain.Store op place)) stack.old) result stack.old stack.new }
+    ensures { Tries (applied (rule_of (with_labels scope.now (labels stack.old)) (Plain.Store op place)) stack.old) result stack.old stack.new }
 {
     if !scope.can_access(place, store_alignment(op)) {
         return Err(Stop::Refused);
     }
-    stack.exchange(plainly(&[ValType::I32, store_type(op)]), &[])
+    stack.exchange_singles(plainly(&[ValType::I32, store_type(op)]), &[])
 }
 
-/// Takes one more plain instruction. The commonest have their rules' types here, so that nothing goes over their lists.
-fn take_plain<'a>(scope: &Scope<'a>, stack: &mut Stack<'a>, plain: &Plain) -> Result<(), Stop>
-    ensures { Steps (applied (rule_of (with_labels scope.now (labels stack.old)) plain.now) stack.old) result stack.old stack.new }
+/// Takes one of the commonest instructions, where the single operands do. They have their rules' types here, so that nothing goes
+/// over their lists, and the types are never in memory. A refusal says nothing.
+#[inline(always)]
+fn take_common<'a>(scope: &Scope<'a>, stack: &mut Stack<'a>, plain: &Plain) -> Result<(), Stop>
+    ensures { Tries (applied (rule_of (with_labels scope.now (labels stack.old)) plain.now) stack.old) result stack.old stack.new }
 {
     match plain {
         Plain::LocalGet(x) => match scope.local(*x) {
-            Some(t) => stack.exchange(plainly(&[]), &[t]),
+            Some(t) => stack.exchange_singles(plainly(&[]), &[t]),
             None => Err(Stop::Refused),
         },
         Plain::LocalSet(x) => match scope.local(*x) {
-            Some(t) => stack.exchange(plainly(&[t]), &[]),
+            Some(t) => stack.exchange_singles(plainly(&[t]), &[]),
             None => Err(Stop::Refused),
         },
         Plain::LocalTee(x) => match scope.local(*x) {
-            Some(t) => stack.exchange(plainly(&[t]), &[t]),
+            Some(t) => stack.exchange_singles(plainly(&[t]), &[t]),
             None => Err(Stop::Refused),
         },
-        Plain::Const(t, _) => stack.exchange(plainly(&[]), &[*t]),
-        Plain::Operate(Operation::Binary(t, _)) => stack.exchange(plainly(&[*t, *t]), &[*t]),
-        Plain::Operate(Operation::Compare(t, _)) => {
-            stack.exchange(plainly(&[*t, *t]), &[ValType::I32])
+        Plain::Const(t, _) => stack.exchange_singles(plainly(&[]), &[*t]),
+        Plain::Operate(Operation::Binary(t, _)) => {
+            stack.exchange_singles(plainly(&[*t, *t]), &[*t])
         }
-        Plain::Operate(Operation::Test(t)) => stack.exchange(plainly(&[*t]), &[ValType::I32]),
+        Plain::Operate(Operation::Compare(t, _)) => {
+            stack.exchange_singles(plainly(&[*t, *t]), &[ValType::I32])
+        }
+        Plain::Operate(Operation::Test(t)) => {
+            stack.exchange_singles(plainly(&[*t]), &[ValType::I32])
+        }
         Plain::GlobalGet(x) => match scope.global(*x) {
-            Some(global) => stack.exchange(plainly(&[]), &[global.ty]),
+            Some(global) => stack.exchange_singles(plainly(&[]), &[global.ty]),
             None => Err(Stop::Refused),
         },
         Plain::GlobalSet(x) => set_global(scope, stack, *x),
         Plain::Load(op, place) => take_load(scope, stack, *op, *place),
         Plain::Store(op, place) => take_store(scope, stack, *op, *place),
         Plain::BrIf(label) => match stack.label(*label) {
-            Some(types) => stack.exchange_list(conditionally(types), types),
-            None => Err(Stop::Refused),
+            Some(types) if types.len() < LONG => {
+                stack.exchange_singles(conditionally(types), types)
+            }
+            _ => Err(Stop::Refused),
         },
-        _ => {
+        _ => Err(Stop::Refused),
+    }
+}
+
+/// Takes one more plain instruction.
+fn take_plain<'a>(scope: &Scope<'a>, stack: &mut Stack<'a>, plain: &Plain) -> Result<(), Stop>
+    ensures { Steps (applied (rule_of (with_labels scope.now (labels stack.old)) plain.now) stack.old) result stack.old stack.new }
+{
+    match take_common(scope, stack, plain) {
+        Ok(()) => Ok(()),
+        Err(Stop::NoMemory) => Err(Stop::NoMemory),
+        Err(Stop::Refused) => {
             let rule = rule_for(scope, stack, plain);
             apply(stack, rule)
         }

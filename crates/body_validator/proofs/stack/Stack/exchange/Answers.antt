@@ -1,54 +1,40 @@
-use Rattle.std.proofs.Common.{◌<◌, length, reverse, ap, subst, ◌∙◌, arith}
-use Rattle.std.proofs.lemmas.List.{length-reverse}
+use Rattle.std.proofs.Common.{◌-◌, length, reverse, take, subst}
 use Rattle.wasm_defs.specs.Typing.{Fixed}
 use Rattle.body_validator.specs.Checking.{Frames, applied}
 use Rattle.body_validator.specs.Stacks.{frames_of}
 use Rattle.body_validator.specs.Exchange.{taken_types, Steps}
-use Rattle.body_validator.proofs.Seen.{tried_laid, tried_same}
+use Rattle.body_validator.specs.Kept.{flat}
+use Rattle.body_validator.proofs.Frames.{last_in}
+use Rattle.body_validator.proofs.Laying.{base_seen}
+use Rattle.body_validator.proofs.Seen.{seen_in, seen_from, laid_again, exchange_steps}
 use Rattle.body_validator.proofs.stack.Stack.exchange.Goals as goal
+
+pub exchange-requires : goal.exchange-requires
+exchange-requires c =
+    let s = c.self.inside in
+    let frame = c.in-Some.frame in
+    let frames = s.frames.items in
+    let is = last_in c.deref.result.now frames frame c.deref.ensures.value c.in-Some.ensures in
+    seen_in (reverse frames) frame (reverse (take (length frames - 1) frames)) s.operands is c.self.invariant.1
+
+pub returns : goal.returns
+returns c =
+    let s = c.self.inside in
+    let frame = c.in-Some.frame in
+    let frames = s.frames.items in
+    let p = taken_types c.args.taken in
+    let g = reverse c.args.given.now in
+    let is = last_in c.deref.result.now frames frame c.deref.ensures.value c.in-Some.ensures in
+    subst (λ (x : Frames). Steps (applied (Fixed p g) x) c.exchange.result x (frames_of (reverse frames) (flat c.exchange.new.self))) c.self.view_is
+    (exchange_steps (reverse frames) frame (reverse (take (length frames - 1) frames)) p g c.exchange.result (flat s.operands) (flat c.exchange.new.self) is c.exchange.ensures.own c.exchange.ensures.below)
 
 pub invariant_of-self : goal.invariant_of-self
 invariant_of-self c =
     let s = c.self.inside in
-    let frames = reverse s.frames.items in
-    let p = taken_types c.args.taken in
-    let g = reverse c.args.given.now in
-    let some : 0 < length frames = omega (arith, c.len.ensures, c.if-len-eq0.false, s.frames.ok.0, length-reverse s.frames.items) in
-    tried_laid frames p g s.operands c.exchange_singles.new.self c.exchange_singles.result some c.self.invariant.0 c.self.invariant.1 c.exchange_singles.ensures
-
-pub invariant_of-self-in-Err-NoMemory : goal.invariant_of-self-in-Err-NoMemory
-invariant_of-self-in-Err-NoMemory c =
-    let s = c.self.inside in
-    let frames = reverse s.frames.items in
-    let p = taken_types c.args.taken in
-    let g = reverse c.args.given.now in
-    let some : 0 < length frames = omega (arith, c.len.ensures, c.if-len-eq0.false, s.frames.ok.0, length-reverse s.frames.items) in
-    tried_laid frames p g s.operands c.exchange_singles.new.self c.exchange_singles.result some c.self.invariant.0 c.self.invariant.1 c.exchange_singles.ensures
-
-pub invariant_of-self-in-Err-Refused : goal.invariant_of-self-in-Err-Refused
-invariant_of-self-in-Err-Refused c =
-    let s = c.self.inside in
-    let frames = reverse s.frames.items in
-    let p = taken_types c.args.taken in
-    let g = reverse c.args.given.now in
-    let some : 0 < length frames = omega (arith, c.len.ensures, c.if-len-eq0.false, s.frames.ok.0, length-reverse s.frames.items) in
-    tried_laid frames p g s.operands c.exchange_singles.new.self c.exchange_singles.result some c.self.invariant.0 c.self.invariant.1 c.exchange_singles.ensures
-
-pub returns-in-Err-NoMemory : goal.returns-in-Err-NoMemory
-returns-in-Err-NoMemory c =
-    let s = c.self.inside in
-    let frames = reverse s.frames.items in
-    let p = taken_types c.args.taken in
-    let g = reverse c.args.given.now in
-    let some : 0 < length frames = omega (arith, c.len.ensures, c.if-len-eq0.false, s.frames.ok.0, length-reverse s.frames.items) in
-    ap (frames_of frames) (tried_same frames p g s.operands c.exchange_singles.new.self c.exchange_singles.result c.in-Err-NoMemory.field-0 c.in-Err-NoMemory.is some c.self.invariant.1 c.exchange_singles.ensures) ∙ c.self.view_is
-
-pub returns-in-Err-Refused : goal.returns-in-Err-Refused
-returns-in-Err-Refused c =
-    let s = c.self.inside in
-    let frames = reverse s.frames.items in
-    let p = taken_types c.args.taken in
-    let g = reverse c.args.given.now in
-    let some : 0 < length frames = omega (arith, c.len.ensures, c.if-len-eq0.false, s.frames.ok.0, length-reverse s.frames.items) in
-    let same = tried_same frames p g s.operands c.exchange_singles.new.self c.exchange_singles.result c.in-Err-Refused.field-0 c.in-Err-Refused.is some c.self.invariant.1 c.exchange_singles.ensures in
-    subst (λ (x : Frames). Steps (applied (Fixed p g) x) c.exchange_below.result x c.exchange_below.new.self) (ap (frames_of frames) same ∙ c.self.view_is) c.exchange_below.ensures
+    let frame = c.in-Some.frame in
+    let frames = s.frames.items in
+    let rest = reverse (take (length frames - 1) frames) in
+    let is = last_in c.deref.result.now frames frame c.deref.ensures.value c.in-Some.ensures in (
+      laid_again (reverse frames) frame rest (flat s.operands) (flat c.exchange.new.self) is c.self.invariant.0 c.exchange.ensures.below (base_seen frame.base frame.unknown c.exchange.new.self c.exchange.ensures.seen),
+      seen_from (reverse frames) frame rest c.exchange.new.self is c.exchange.ensures.seen,
+    )

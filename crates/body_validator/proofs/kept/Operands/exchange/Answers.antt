@@ -6,7 +6,7 @@ use Rattle.body_validator.specs.Exchange.{taken_types}
 use Rattle.body_validator.specs.Kept.{flat, AreShown}
 use Rattle.body_validator.proofs.Flat.{exchanged_all, put_own}
 use Rattle.body_validator.proofs.Laying.{seen_same, shown_same, flat_same, base_seen}
-use Rattle.body_validator.proofs.kept.Operands.exchange_list.Goals as goal
+use Rattle.body_validator.proofs.kept.Operands.exchange.Goals as goal
 
 pub put-requires-clause-kept : goal.put-requires-clause-kept
 put-requires-clause-kept c =

@@ -1,6 +1,6 @@
 use Rattle.std.proofs.Common.{◌≡◌, ◌+◌, vec_len}
 use Rattle.body_validator.specs.Kept.{flat, IsSeen}
-use Rattle.body_validator.proofs.kept.Operands.show.Given as goal
+use Rattle.body_validator.proofs.kept.Operands.show_lists.Given as goal
 
 abbrev pub invariant-loop-self : goal.invariant-loop-self
 invariant-loop-self l = record {
