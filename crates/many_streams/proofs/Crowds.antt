@@ -1,11 +1,11 @@
 -- Several modules, and what each comes to.
-use Rattle.std.proofs.Common.{◌≡◌, ◌≢◌, ◌⊎◌, inl, inr, ◌≤◌, ◌<◌, ◌+◌, ◌-◌, ℕ, zero, suc, Bool, true, false, eqb, cond, List, [], ◌∷◌, ◌++◌, length, take, drop, get_or, All, Some, None, Result, Ok, Err, slice_get, refl, sym, ap, ◌∙◌, subst, arith, append_assoc, eq-eqb}
+use Rattle.std.proofs.Common.{◌≡◌, ◌≢◌, ◌⊎◌, inl, inr, ◌≤◌, ◌<◌, ◌+◌, ◌-◌, ℕ, zero, suc, Bool, true, false, eqb, cond, List, [], ◌∷◌, ◌++◌, length, take, drop, get_or, All, Some, None, Result, Ok, Err, slice_get, refl, sym, ap, ◌∙◌, subst, arith, append_assoc, length-append, eq-eqb}
 use mathlib.Core.Logic.{dite}
 use native.Mathlib.Decide.{ℕ_discrete}
 use Rattle.std.proofs.Math.ListN.{set, length-set}
 use Rattle.std.proofs.lemmas.Bool.Decides.{eqb_tells}
 use Rattle.std.proofs.lemmas.Option.{slice_get_within, slice_get_read}
-use Rattle.std.proofs.lemmas.List.{append-nil, take-append-drop, take_all, length-drop}
+use Rattle.std.proofs.lemmas.List.{append-nil, take-append-drop, take_all, length-drop, get_or-set_same, get_or-set_other}
 use Rattle.std.proofs.lemmas.List.Elements.{All-head, All-tail}
 use Rattle.std.specs.declared.vec.Vec.{Vec}
 use Rattle.std.specs.declared.alloc.Global.{Global}
@@ -16,9 +16,9 @@ use Rattle.many_streams.specs.declared.streams.Streams.{Streams}
 use Rattle.many_streams.specs.declared.streams.ManyStop.{ManyStop}
 use Rattle.many_streams.specs.declared.streams.ManyStop.TheVariants as stop
 use Rattle.many_streams.specs.Frames.{IsBadFrame}
-use Rattle.many_streams.specs.Reading.{Progress, IsReading, Takes, Ends, with_more}
+use Rattle.many_streams.specs.Reading.{Progress, IsReading, Takes, Ends, SetsFlags, AreAllSet, with_more}
 use Rattle.many_streams.specs.Members.{IsMember, IsJudged}
-use Rattle.many_streams.specs.Many.{AreMembers, AreJudged, AreEach, IsStreaming, TakesSome, TakesAll, ComesToEnd, IsFront}
+use Rattle.many_streams.specs.Many.{StandsSo, AreMembers, AreEach, IsStreaming, TakesSome, TakesAll, ComesToEnd, IsFront}
 
 -- ---- lists
 
@@ -50,29 +50,6 @@ slice_all P [] i x all at = absurd cc
 slice_all P (y ∷ xs) zero x all at = subst P (let e : y ≡ x = cc in e) (All-head P y xs all)
 slice_all P (y ∷ xs) (suc i) x all at = slice_all P xs i x (All-tail P y xs all) at
 
--- ---- so many are judged
-
-abbrev pub AreMixed : Bool → ℕ → (ℕ → List ℕ) → List Member → Type 0
-AreMixed keeps k of members = (i : ℕ) (m : Member) → slice_get members i ≡ Some m → (i < k → IsJudged keeps (of i) m) × (k ≤ i → IsMember keeps (of i) m)
-
-pub none_judged : (keeps : Bool) (of : ℕ → List ℕ) (members : List Member) → AreMembers keeps of members → AreMixed keeps 0 of members
-none_judged keeps of members are i m at = (λ less. absurd (omega arith), λ _. are i m at)
-
-pub all_judged : (keeps : Bool) (k : ℕ) (of : ℕ → List ℕ) (members : List Member) → length members ≤ k → AreMixed keeps k of members → AreJudged keeps of members
-all_judged keeps k of members over mixed i m at = (mixed i m at).0 (let w = slice_get_within members i m at in omega arith)
-
-pub member_at : (keeps : Bool) (k : ℕ) (of : ℕ → List ℕ) (members : List Member) (m : Member) → k < length members → m ≡ get_or members k m → AreMixed keeps k of members → IsMember keeps (of k) m
-member_at keeps k of members m in' is mixed = (mixed k m (slice_get_read members (length members) k m refl in' is)).1 (omega arith)
-
-pub one_judged : (keeps : Bool) (k : ℕ) (of : ℕ → List ℕ) (members members' : List Member) (m' : Member) → k < length members → members' ≡ set members k m' → IsJudged keeps (of k) m' → AreMixed keeps k of members → AreMixed keeps (k + 1) of members'
-one_judged keeps k of members members' m' in' now judged mixed i m at = dite (ℕ_discrete i k)
-    (λ same.
-    let e : m' ≡ m = let a = slice_set_same members k m' in' in let b : slice_get (set members k m') k ≡ Some m = subst (λ (j : ℕ). slice_get (set members k m') j ≡ Some m) same (ap (λ (l : List Member). slice_get l i) (sym now) ∙ at) in cc in
-    (λ _. subst (λ (x : Member). IsJudged keeps (of i) x) e (subst (λ (j : ℕ). IsJudged keeps (of j) m') (sym same) judged), λ over. absurd (omega arith)))
-    (λ other.
-    let was = mixed i m (sym (slice_set_other members i k m' other) ∙ (ap (λ (l : List Member). slice_get l i) (sym now) ∙ at)) in
-    (λ less. was.0 (omega arith), λ over. was.1 (omega arith)))
-
 -- ---- what each comes to
 
 -- an element at an index below the length
@@ -81,20 +58,53 @@ at_index [] i in' = absurd (omega arith)
 at_index (x ∷ xs) zero in' = (x, refl)
 at_index (x ∷ xs) (suc i) in' = at_index xs i (omega arith)
 
-pub judged_at : (keeps : Bool) (k : ℕ) (list : List (List ℕ)) (members : List Member) (m : Member) → k < length members → m ≡ get_or members k m → AreEach (IsJudged keeps) list members
-    → (bytes : List ℕ) × (slice_get list k ≡ Some bytes) × IsJudged keeps bytes m
-judged_at keeps k list members m in' is are =
-    let count = are.0 in
-    let a = at_index list k (omega arith) in (a.0, a.1, are.1 k a.0 m a.1 (slice_get_read members (length members) k m refl in' is))
+-- the element after some
+at_next : {X : Type 0} (done rest : List X) (x : X) → slice_get (done ++ x ∷ rest) (length done) ≡ Some x
+at_next [] rest x = refl
+at_next (y ∷ done) rest x = at_next done rest x
 
-pub judged_so : (keeps : Bool) (k : ℕ) (list : List (List ℕ)) (members : List Member) (m : Member) → k < length members → m ≡ get_or members k m → AreEach (IsJudged keeps) list members
-    → (bytes : List ℕ) → slice_get list k ≡ Some bytes → IsJudged keeps bytes m
-judged_so keeps k list members m in' is are bytes at = are.1 k bytes m at (slice_get_read members (length members) k m refl in' is)
+-- the members from some on
+pub record AreAfter (all rest : List Member) (count : ℕ) : Type 0 where
+  pub done : List Member
+  pub are : all ≡ done ++ rest
+  pub length_is : length done ≡ count
+
+pub after_none : (all rest : List Member) (count : ℕ) → rest ≡ all → count ≡ 0 → AreAfter all rest count
+after_none all rest count same none = record { done = []; are = sym same; length_is = sym none }
+
+module _ (keeps : Bool) (all rest rest' : List Member) (count : ℕ) (m : Member) (next : rest ≡ m ∷ rest') (a : AreAfter all rest count) where
+  pub after_one : AreAfter all rest' (count + 1)
+  after_one = record {
+    done = a.done ++ m ∷ [];
+    are = a.are ∙ (ap (λ (l : List Member). a.done ++ l) next ∙ sym (append_assoc a.done (m ∷ []) rest'));
+    length_is = let n = a.length_is in omega (arith, length-append a.done (m ∷ []));
+  }
+
+  next_at : slice_get all count ≡ Some m
+  next_at =
+      ap (λ (l : List Member). slice_get l count) (a.are ∙ ap (λ (l : List Member). a.done ++ l) next)
+      ∙ (ap (λ (n : ℕ). slice_get (a.done ++ m ∷ rest') n) (sym a.length_is) ∙ at_next a.done rest' m)
+
+  pub judged_so : (list : List (List ℕ)) → AreEach (IsJudged keeps) list all → (bytes : List ℕ) → slice_get list count ≡ Some bytes → IsJudged keeps bytes m
+  judged_so list are bytes at = are.1 count bytes m at next_at
+
+  pub judged_at : (list : List (List ℕ)) → AreEach (IsJudged keeps) list all → (bytes : List ℕ) × IsJudged keeps bytes m
+  judged_at list are =
+      let n = are.0 in
+      let w = slice_get_within all count m next_at in
+      let x = at_index list count (omega arith) in
+      (x.0, judged_so list are x.0 x.1)
+
+pub after_all : (all rest : List Member) (count : ℕ) → length rest ≡ 0 → AreAfter all rest count → length all ≡ count
+after_all all rest count none a = let e = ap length a.are in let n = a.length_is in omega (arith, length-append a.done rest)
 
 module _ {E : Type 0} (Comes : List ℕ → E → Type 0) where
   -- so many of a list come to these
   abbrev pub AreSome : List (List ℕ) → List E → Type 0
   AreSome list each = (i : ℕ) (bytes : List ℕ) (e : E) → slice_get list i ≡ Some bytes → slice_get each i ≡ Some e → Comes bytes e
+
+  pub some_none : (list : List (List ℕ)) (each : List E) → each ≡ [] → AreSome list each
+  some_none list each none i bytes e at in' = absurd (let n : slice_get each i ≡ None = ap (λ (l : List E). slice_get l i) none in cc)
 
   pub some_push : (list : List (List ℕ)) (each each' : List E) (e : E) (k : ℕ) → length each ≡ k → each' ≡ each ++ e ∷ [] → AreSome list each → ((bytes : List ℕ) → slice_get list k ≡ Some bytes → Comes bytes e) → AreSome list each'
   some_push list each each' e k count now are is i bytes f at in' = got (slice_push each e f i (ap (λ (l : List E). slice_get l i) (sym now) ∙ in'))
@@ -112,61 +122,120 @@ not_eqb a b other = of (eqb_tells a b)
     of (inl t) = absurd (other t.1)
     of (inr t) = t.0
 
-pub members_fed : (keeps : Bool) (of : ℕ → List ℕ) (members members' : List Member) (k : ℕ) (more : List ℕ) (m m' : Member) → k < length members → m ≡ get_or members k m → members' ≡ set members k m' → AreMembers keeps of members
-    → (IsMember keeps (of k) m → IsMember keeps (of k ++ more) m') → AreMembers keeps (with_more of k more) members'
-members_fed keeps of members members' k more m m' in' is now are feeds i x at = dite (ℕ_discrete i k)
-    (λ same.
-    let e : m' ≡ x = let a = slice_set_same members k m' in' in let b : slice_get (set members k m') k ≡ Some x = subst (λ (j : ℕ). slice_get (set members k m') j ≡ Some x) same (ap (λ (l : List Member). slice_get l i) (sym now) ∙ at) in cc in
-    let fed = feeds (are k m (slice_get_read members (length members) k m refl in' is)) in
-    let here : with_more of k more i ≡ of k ++ more = ap (λ (b : Bool). of i ++ cond b more []) (eq-eqb k i (sym same)) ∙ ap (λ (j : ℕ). of j ++ more) same in
-    subst (λ (l : List ℕ). IsMember keeps l x) (sym here) (subst (λ (y : Member). IsMember keeps (of k ++ more) y) e fed))
-    (λ other.
-    let here : with_more of k more i ≡ of i = ap (λ (b : Bool). of i ++ cond b more []) (not_eqb k i (λ e. other (sym e))) ∙ append-nil (of i) in
-    subst (λ (l : List ℕ). IsMember keeps l x) (sym here) (are i x (sym (slice_set_other members i k m' other) ∙ (ap (λ (l : List Member). slice_get l i) (sym now) ∙ at))))
+set_at : {X : Type 0} (xs xs' : List X) (i k : ℕ) (x y : X) → k < length xs → xs' ≡ set xs k y → i ≡ k → slice_get xs' i ≡ Some x → y ≡ x
+set_at {X = X} xs xs' i k x y in' now same at =
+    let a = slice_set_same xs k y in' in
+    let b : slice_get (set xs k y) k ≡ Some x = subst (λ (j : ℕ). slice_get (set xs k y) j ≡ Some x) same (ap (λ (l : List X). slice_get l i) (sym now) ∙ at) in cc
 
-pub members_new : (keeps : Bool) (of : ℕ → List ℕ) (members : List Member) → All (IsMember keeps []) members → ((i : ℕ) → of i ≡ []) → AreMembers keeps of members
-members_new keeps of members all none i m at = subst (λ (l : List ℕ). IsMember keeps l m) (sym (none i)) (slice_all (IsMember keeps []) members i m all at)
+set_apart : {X : Type 0} (xs xs' : List X) (i k : ℕ) (x y : X) → xs' ≡ set xs k y → i ≢ k → slice_get xs' i ≡ Some x → slice_get xs i ≡ Some x
+set_apart {X = X} xs xs' i k x y now other at = sym (slice_set_other xs i k y other) ∙ (ap (λ (l : List X). slice_get l i) (sym now) ∙ at)
+
+open_here : (keeps : Bool) (flags : List Bool) (of : ℕ → List ℕ) (members : List Member) (k : ℕ) (m : Member) → k < length members → get_or flags k false ≡ false → m ≡ get_or members k m → AreMembers keeps flags of members → IsMember keeps (of k) m
+open_here keeps flags of members k m in' going is are = subst (λ (b : Bool). StandsSo b keeps (of k) m) going (are k m (slice_get_read members (length members) k m refl in' is))
+
+module _ (keeps : Bool) (flags : List Bool) (of : ℕ → List ℕ) (members members' : List Member) (k : ℕ) (m m' : Member) (in' : k < length members) (going : get_or flags k false ≡ false)
+    (is : m ≡ get_or members k m) (now : members' ≡ set members k m') (are : AreMembers keeps flags of members) where
+  was_open : IsMember keeps (of k) m
+  was_open = open_here keeps flags of members k m in' going is are
+
+  -- bytes of one came
+  pub members_fed : (more : List ℕ) → (IsMember keeps (of k) m → IsMember keeps (of k ++ more) m') → AreMembers keeps flags (with_more of k more) members'
+  members_fed more feeds i x at = dite (ℕ_discrete i k)
+      (λ same.
+      let here : with_more of k more i ≡ of k ++ more = ap (λ (b : Bool). of i ++ cond b more []) (eq-eqb k i (sym same)) ∙ ap (λ (j : ℕ). of j ++ more) same in
+      let flag : get_or flags i false ≡ false = ap (λ (j : ℕ). get_or flags j false) same ∙ going in
+      subst (λ (b : Bool). StandsSo b keeps (with_more of k more i) x) (sym flag)
+      (subst (λ (l : List ℕ). IsMember keeps l x) (sym here) (subst (λ (y : Member). IsMember keeps (of k ++ more) y) (set_at members members' i k x m' in' now same at) (feeds was_open))))
+      (λ other.
+      let here : with_more of k more i ≡ of i = ap (λ (b : Bool). of i ++ cond b more []) (not_eqb k i (λ e. other (sym e))) ∙ append-nil (of i) in
+      subst (λ (l : List ℕ). StandsSo (get_or flags i false) keeps l x) (sym here) (are i x (set_apart members members' i k x m' now other at)))
+
+  -- one ended
+  pub members_ended : k < length flags → (IsMember keeps (of k) m → IsJudged keeps (of k) m') → AreMembers keeps (set flags k true) of members'
+  members_ended within ends i x at = dite (ℕ_discrete i k)
+      (λ same.
+      let flag : get_or (set flags k true) i false ≡ true = ap (λ (j : ℕ). get_or (set flags k true) j false) same ∙ get_or-set_same flags k true false within in
+      subst (λ (b : Bool). StandsSo b keeps (of i) x) (sym flag)
+      (subst (λ (y : Member). IsJudged keeps (of i) y) (set_at members members' i k x m' in' now same at) (subst (λ (j : ℕ). IsJudged keeps (of j) m') (sym same) (ends was_open))))
+      (λ other.
+      subst (λ (b : Bool). StandsSo b keeps (of i) x) (sym (get_or-set_other flags k i true false other)) (are i x (set_apart members members' i k x m' now other at)))
+
+pub members_new : (keeps : Bool) (flags : List Bool) (of : ℕ → List ℕ) (members : List Member) → length members ≤ 64 → ((i : ℕ) → i < 64 → get_or flags i false ≡ false) → All (IsMember keeps []) members → ((i : ℕ) → of i ≡ [])
+    → AreMembers keeps flags of members
+members_new keeps flags of members few clear all none i m at =
+    let w = slice_get_within members i m at in
+    subst (λ (b : Bool). StandsSo b keeps (of i) m) (sym (clear i (omega arith))) (subst (λ (l : List ℕ). IsMember keeps l m) (sym (none i)) (slice_all (IsMember keeps []) members i m all at))
 
 -- ---- what taking comes to
 
-pub streams_number : (bytes piece : List ℕ) (s s' : Streams) (f : Progress) → (i : IsStreaming bytes s) → s' ≡ record s { reader = f } → 0 < length piece → IsReading (bytes ++ take 1 piece) i.of f → f.modules ≡ s.reader.modules → TakesSome bytes piece (Ok 1) s'
-streams_number bytes piece s s' f i now some reading same = (
-  subst (IsStreaming (bytes ++ take 1 piece)) (sym now) (record { of = i.of; reading = reading; count = i.count ∙ sym same; members = i.members }),
+pub streams_number : (bytes piece : List ℕ) (s s' : Streams) (f : Progress) → (i : IsStreaming bytes s) → s' ≡ record s { reader = f } → 0 < length piece → IsReading (bytes ++ take 1 piece) i.of f → f.modules ≡ s.reader.modules → f.ended ≡ s.reader.ended
+    → TakesSome bytes piece (Ok 1) s'
+streams_number bytes piece s s' f i now some reading same flags = (
+  subst (IsStreaming (bytes ++ take 1 piece)) (sym now) (record {
+    of = i.of;
+    reading = reading;
+    count = i.count ∙ sym same;
+    members = subst (λ (l : List Bool). AreMembers s.keeps l i.of s.members.items) (sym flags) i.members;
+  }),
   omega arith,
   omega arith,
 )
 
 pub streams_counted : (bytes piece : List ℕ) (s s' : Streams) (f : Progress) (members : Vec Member Global) → (i : IsStreaming bytes s) → s' ≡ record s { reader = f; members = members } → 0 < length piece → IsReading (bytes ++ take 1 piece) i.of f
-    → ((k : ℕ) → i.of k ≡ []) → length members.items ≡ f.modules → All (IsMember s.keeps []) members.items → TakesSome bytes piece (Ok 1) s'
-streams_counted bytes piece s s' f members i now some reading none count all = (
-  subst (IsStreaming (bytes ++ take 1 piece)) (sym now) (record { of = i.of; reading = reading; count = count; members = members_new s.keeps i.of members.items all none }),
+    → ((k : ℕ) → i.of k ≡ []) → length members.items ≡ f.modules → f.modules ≤ 64 → SetsFlags (Ok taken.Count) s.reader.ended f.ended → All (IsMember s.keeps []) members.items → TakesSome bytes piece (Ok 1) s'
+streams_counted bytes piece s s' f members i now some reading none count few clear all = (
+  subst (IsStreaming (bytes ++ take 1 piece)) (sym now) (record { of = i.of; reading = reading; count = count; members = members_new s.keeps f.ended i.of members.items (omega arith) clear all none }),
   omega arith,
   omega arith,
 )
 
-pub none_in : (keeps : Bool) (of : ℕ → List ℕ) (members : List Member) → members ≡ [] → AreMembers keeps of members
-none_in keeps of members none i m at = absurd (let e : slice_get members i ≡ None = ap (λ (l : List Member). slice_get l i) none in cc)
+pub none_in : (keeps : Bool) (flags : List Bool) (of : ℕ → List ℕ) (members : List Member) → members ≡ [] → AreMembers keeps flags of members
+none_in keeps flags of members none i m at = absurd (let e : slice_get members i ≡ None = ap (λ (l : List Member). slice_get l i) none in cc)
 
 -- what was taken, by what it was
 pub taken_so : (bytes : List ℕ) (of : ℕ → List ℕ) (piece : List ℕ) (t u : Taken) (f f' : Progress) → t ≡ u → Takes bytes of piece (Ok t) f f' → Takes bytes of piece (Ok u) f f'
 taken_so bytes of piece t u f f' same = subst (λ (x : Taken). Takes bytes of piece (Ok x) f f') same
 
-pub member_fits : (bytes : List ℕ) (s : Streams) (i : IsStreaming bytes s) (k : ℕ) (m : Member) → k < s.reader.modules → m ≡ get_or s.members.items k m → IsMember s.keeps (i.of k) m
-member_fits bytes s i k m in' is = let c = i.count in i.members k m (slice_get_read s.members.items (length s.members.items) k m refl (omega arith) is)
+-- which flags are set, by what was taken
+pub flags_so : (t u : Taken) (old new : List Bool) → t ≡ u → SetsFlags (Ok t) old new → SetsFlags (Ok u) old new
+flags_so t u old new same = subst (λ (x : Taken). SetsFlags (Ok x) old new) same
+
+pub member_fits : (bytes : List ℕ) (s : Streams) (i : IsStreaming bytes s) (k : ℕ) (m : Member) → k < s.reader.modules → get_or s.reader.ended k false ≡ false → m ≡ get_or s.members.items k m → IsMember s.keeps (i.of k) m
+member_fits bytes s i k m in' going is =
+    let c = i.count in open_here s.keeps s.reader.ended i.of s.members.items k m (omega arith) going is i.members
 
 pub streams_bytes : (bytes piece : List ℕ) (s s' : Streams) (f : Progress) (k n : ℕ) (m m' : Member) (members : Vec Member Global) → (i : IsStreaming bytes s) → s' ≡ record s { reader = f; members = members } → members.items ≡ set s.members.items k m'
-    → Takes bytes i.of piece (Ok (taken.Bytes k n)) s.reader f → m ≡ get_or s.members.items k m → ((keeps : Bool) (came : List ℕ) → IsMember keeps came m → IsMember keeps (came ++ take n piece) m') → TakesSome bytes piece (Ok n) s'
-streams_bytes bytes piece s s' f k n m m' members i now items t is feeds =
+    → Takes bytes i.of piece (Ok (taken.Bytes k n)) s.reader f → SetsFlags (Ok (taken.Bytes k n)) s.reader.ended f.ended → m ≡ get_or s.members.items k m → ((keeps : Bool) (came : List ℕ) → IsMember keeps came m → IsMember keeps (came ++ take n piece) m')
+    → TakesSome bytes piece (Ok n) s'
+streams_bytes bytes piece s s' f k n m m' members i now items t sets is feeds =
     let c = i.count in
     let below = t.2 in (
       subst (IsStreaming (bytes ++ take n piece)) (sym now) (record {
         of = with_more i.of k (take n piece);
         reading = t.0;
         count = ap length items ∙ (length-set s.members.items k m' ∙ (i.count ∙ sym t.1));
-        members = members_fed s.keeps i.of s.members.items members.items k (take n piece) m m' (omega arith) is items i.members (feeds s.keeps (i.of k));
+        members = subst (λ (l : List Bool). AreMembers s.keeps l (with_more i.of k (take n piece)) members.items) (sym sets.1)
+            (members_fed s.keeps s.reader.ended i.of s.members.items members.items k m m' (omega arith) sets.0 is items i.members (take n piece) (feeds s.keeps (i.of k)));
       }),
       t.3,
       t.4,
+    )
+
+pub streams_ended : (bytes piece : List ℕ) (s s' : Streams) (f : Progress) (k : ℕ) (m m' : Member) (members : Vec Member Global) → (i : IsStreaming bytes s) → s' ≡ record s { reader = f; members = members } → members.items ≡ set s.members.items k m'
+    → 0 < length piece → Takes bytes i.of piece (Ok (taken.End k)) s.reader f → SetsFlags (Ok (taken.End k)) s.reader.ended f.ended → m ≡ get_or s.members.items k m → ((keeps : Bool) (came : List ℕ) → IsMember keeps came m → IsJudged keeps came m')
+    → TakesSome bytes piece (Ok 1) s'
+streams_ended bytes piece s s' f k m m' members i now items some t sets is ends =
+    let c = i.count in
+    let below = t.2 in (
+      subst (IsStreaming (bytes ++ take 1 piece)) (sym now) (record {
+        of = i.of;
+        reading = t.0;
+        count = ap length items ∙ (length-set s.members.items k m' ∙ (i.count ∙ sym t.1));
+        members = subst (λ (l : List Bool). AreMembers s.keeps l i.of members.items) (sym sets.2)
+            (members_ended s.keeps s.reader.ended i.of s.members.items members.items k m m' (omega arith) sets.0 is items i.members sets.1 (ends s.keeps (i.of k)));
+      }),
+      omega arith,
+      omega arith,
     )
 
 -- ---- pieces
@@ -216,21 +285,20 @@ tab_at zero of i in' = absurd (omega arith)
 tab_at (suc n) of zero in' = refl
 tab_at (suc n) of (suc i) in' = tab_at n (λ k. of (suc k)) i (omega arith)
 
-pub judged_end : (bytes : List ℕ) (s : Streams) (members : List Member) → (i : IsStreaming bytes s) → Ends bytes i.of (Ok tt) s.reader → length members ≡ length s.members.items → AreJudged s.keeps i.of members
-    → ComesToEnd (IsJudged s.keeps) bytes (Ok members)
-judged_end bytes s members i ends count are =
+pub judged_end : (bytes : List ℕ) (s : Streams) → (i : IsStreaming bytes s) → Ends bytes i.of (Ok tt) s.reader → AreAllSet s.reader.modules s.reader.ended → ComesToEnd (IsJudged s.keeps) bytes (Ok s.members.items)
+judged_end bytes s i ends set =
     let n = s.reader.modules in
     let list = tab n i.of in (
       list,
       ends list (length-tab n i.of) (tab_at n i.of),
       (
-        count ∙ (i.count ∙ sym (length-tab n i.of)),
+        i.count ∙ sym (length-tab n i.of),
         λ k b m at is.
             let w = slice_get_within list k b at in
             let l = length-tab n i.of in
             let here : slice_get list k ≡ Some (i.of k) = tab_at n i.of k (omega arith) in
             let same : i.of k ≡ b = cc in
-            subst (λ (x : List ℕ). IsJudged s.keeps x m) same (are k m is),
+            subst (λ (x : List ℕ). IsJudged s.keeps x m) same (subst (λ (b : Bool). StandsSo b s.keeps (i.of k) m) (set k (omega arith)) (i.members k m is)),
       ),
     )
 

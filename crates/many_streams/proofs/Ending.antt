@@ -7,7 +7,7 @@ use Rattle.many_streams.specs.declared.limits.TheConstants.{MAX_INPUT}
 use Rattle.many_streams.specs.declared.reader.Next.{Next}
 use Rattle.many_streams.specs.declared.reader.Next.TheVariants as next
 use Rattle.many_streams.specs.Frames.{Chunk, u32, AreWhole, IsError, IsBadFrame, IsCut, IsCutOff, Frames}
-use Rattle.many_streams.specs.Reading.{Progress, AreOf, IsReading, StandsAt}
+use Rattle.many_streams.specs.Reading.{Progress, AreOf, IsReading, StandsAt, AreAllSet}
 use Rattle.many_streams.proofs.Errors.{error_refused}
 
 pub cut : (bytes : List ℕ) (of : ℕ → List ℕ) (f : Progress) → IsReading bytes of f → f.next ≢ next.Nothing → length f.number < 4 → IsCut bytes
@@ -48,7 +48,14 @@ whole : (bytes : List ℕ) (of : ℕ → List ℕ) (f : Progress) → f.next ≡
 whole bytes of f at r = on (subst (λ (p : Next). StandsAt p f bytes of) at r.stands)
   where
     on : StandsAt next.Nothing f bytes of → (cs : List Chunk) × AreWhole bytes f.modules cs × AreOf of cs
-    on (cs, formed, ended, none, are, each) = (cs, record { formed = formed; ended = ended; are = are }, each)
+    on (cs, formed, ended, set, none, are, each) = (cs, record { formed = formed; ended = ended; are = are }, each)
+
+-- and all flags are set
+pub all_set : (bytes : List ℕ) (of : ℕ → List ℕ) (f : Progress) → f.next ≡ next.Nothing → IsReading bytes of f → AreAllSet f.modules f.ended
+all_set bytes of f at r = on (subst (λ (p : Next). StandsAt p f bytes of) at r.stands)
+  where
+    on : StandsAt next.Nothing f bytes of → AreAllSet f.modules f.ended
+    on (cs, formed, ended, set, none, are, each) = set
 
 pub whole_frames : (bytes : List ℕ) (of : ℕ → List ℕ) (f : Progress) (list : List (List ℕ)) → f.next ≡ next.Nothing → IsReading bytes of f
     → length list ≡ f.modules → ((i : ℕ) → i < f.modules → slice_get list i ≡ Some (of i)) → Frames bytes list

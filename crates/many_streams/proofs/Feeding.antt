@@ -11,13 +11,15 @@ use Rattle.wasm_defs.specs.Faults.{Rejected}
 use Rattle.image_linker.specs.Judging.{IsVerdictOf}
 use Rattle.module_stream.specs.declared.compilation.Compilation.{Compilation}
 use Rattle.module_stream.specs.Codes.{KeepsAlike}
-use Rattle.module_stream.specs.Done.{IsDone, Decides}
+use Rattle.module_stream.specs.declared.built.Built.{Built}
+use Rattle.module_stream.specs.declared.built.Checked.{Checked}
+use Rattle.module_stream.specs.Done.{IsDone, IsBuilt, IsValid, Decides}
 use Rattle.module_stream.specs.Streaming.{IsGoing, IsUnread, MayGo, MayEnd, Advances}
 use Rattle.module_stream.proofs.Staying.{no_module, verdict_stays}
 use Rattle.many_streams.specs.declared.member.Part.{Part}
 use Rattle.many_streams.specs.declared.member.Member.{Member}
 use Rattle.many_streams.specs.declared.member.Member.TheVariants as member
-use Rattle.many_streams.specs.Members.{max_fed, IsFed, IsRefusedFor, FeedsOn, IsMember, IsJudged}
+use Rattle.many_streams.specs.Members.{max_fed, KeepsCodes, IsFed, IsRefusedFor, FeedsOn, IsMember, IsJudged}
 
 -- ---- what is looked at
 
@@ -155,6 +157,16 @@ passed_over keeps came piece m r is i = subst (IsMember keeps (came ++ piece)) (
 
 pub judged_already : (keeps : Bool) (came : List ℕ) (m : Member) (r : Refusal) → m ≡ member.Refused r → IsMember keeps came m → IsJudged keeps came m
 judged_already keeps came m r is i = subst (IsJudged keeps came) (sym is) (refused_whole came r (subst (IsMember keeps came) is i))
+
+pub open_so : (keeps : Bool) (came : List ℕ) (m : Member) (p : Part) → m ≡ member.Open p → IsMember keeps came m → IsFed came p × KeepsCodes keeps p.compilation
+open_so keeps came m p is i = subst (IsMember keeps came) is i
+
+-- what a module that is done comes to
+pub image_judged : (keeps : Bool) (came : List ℕ) (s : Compilation) (built : Built) → is_some s.codes.kept ≡ true → KeepsCodes keeps s → IsBuilt came built → IsJudged keeps came (member.Image built)
+image_judged keeps came s built kept same is = (sym same ∙ kept, is)
+
+pub valid_judged : (keeps : Bool) (came : List ℕ) (s : Compilation) (c : Checked) → is_some s.codes.kept ≡ false → KeepsCodes keeps s → IsValid came c → IsJudged keeps came (member.Valid c)
+valid_judged keeps came s c none same is = (sym same ∙ none, is)
 
 pub fed_of : (keeps : Bool) (came : List ℕ) (m : Member) (p : Part) → m ≡ member.Open p → IsMember keeps came m → IsFed came p
 fed_of keeps came m p is i = (subst (IsMember keeps came) is i).0

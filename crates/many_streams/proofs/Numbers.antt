@@ -124,6 +124,7 @@ ended_all bytes of f f' m few c same all = subst (λ (g : Progress). IsReading b
       c.chunks ++ record { index = m; bytes = [] } ∷ [],
       formed_push f.modules c.chunks (record { index = m; bytes = [] }) c.among.formed (next_empty f.modules c.chunks m c.going),
       (λ i in'. sym ((known_ended f.modules m f.ended c.chunks few c.going.0 c.among.known).1 i in') ∙ all i in'),
+      all,
       c.between.number,
       ended_bytes f.modules m c.chunks bytes c.are,
       of_ended of c.chunks m c.each,
@@ -158,6 +159,22 @@ ended_one bytes of f f' m i few c same in' going = subst (λ (g : Progress). IsR
   refl,
   c.going.0,
 )
+
+-- a module whose chunk's length comes has not ended
+pub length_flag : (bytes : List ℕ) (of : ℕ → List ℕ) (f : Progress) (m n : ℕ) → HasLength bytes of f m n → (get_or f.ended m false ≡ false) × (m < length f.ended)
+length_flag bytes of f m n c =
+    let known = c.among.known in
+    let count = known.0 in
+    let few = c.among.formed.few in
+    let below = c.going.0 in
+    (known.1 m c.going.0 ∙ c.going.1, omega arith)
+
+-- nor one whose bytes come
+pub bytes_flag : (bytes : List ℕ) (of : ℕ → List ℕ) (f : Progress) (m left : ℕ) → f.next ≡ next.Bytes m left → IsReading bytes of f → get_or f.ended m false ≡ false
+bytes_flag bytes of f m left at r = on (subst (λ (p : Next). StandsAt p f bytes of) at r.stands)
+  where
+    on : StandsAt (next.Bytes m left) f bytes of → get_or f.ended m false ≡ false
+    on (cs, came, among, going, none, owed, fits, are, each) = among.known.1 m going.0 ∙ going.1
 
 -- ---- a byte of a number
 

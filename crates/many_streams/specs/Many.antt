@@ -1,5 +1,5 @@
 -- What several modules in one input come to.
-use Rattle.std.specs.Prelude.{◌≡◌, ◌≤◌, ◌<◌, ◌⊎◌, ℕ, Bool, true, false, List, ◌++◌, length, take, slice_get, Option, Some, Result, Ok, Err}
+use Rattle.std.specs.Prelude.{◌≡◌, ◌≤◌, ◌<◌, ◌⊎◌, ℕ, Bool, true, false, List, ◌++◌, length, take, slice_get, slice_index_or, Option, Some, Result, Ok, Err}
 use Rattle.std.specs.Io.KnownBytes.{prepend_known, IsAtEnd}
 use Rattle.std.specs.declared.vec.Vec.{Vec}
 use Rattle.std.specs.declared.alloc.Global.{Global}
@@ -13,20 +13,21 @@ use Rattle.many_streams.specs.Frames.{Frames, IsCutOff, IsBadFrame}
 use Rattle.many_streams.specs.Members.{IsMember, IsJudged, IsEach, IsEachChecked}
 use Rattle.many_streams.specs.Reading.{IsReading}
 
--- of each module these bytes came
-abbrev pub AreMembers : Bool → (ℕ → List ℕ) → List Member → Type 0
-AreMembers keeps of members = (i : ℕ) (m : Member) → slice_get members i ≡ Some m → IsMember keeps (of i) m
+-- of a module these bytes came, by whether it has ended
+abbrev pub StandsSo : (ended keeps : Bool) → List ℕ → Member → Type 0
+StandsSo false keeps came m = IsMember keeps came m
+StandsSo true keeps came m = IsJudged keeps came m
 
--- and no more
-abbrev pub AreJudged : Bool → (ℕ → List ℕ) → List Member → Type 0
-AreJudged keeps of members = (i : ℕ) (m : Member) → slice_get members i ≡ Some m → IsJudged keeps (of i) m
+-- of each module these bytes came; those have ended whose flags are set
+abbrev pub AreMembers : Bool → List Bool → (ℕ → List ℕ) → List Member → Type 0
+AreMembers keeps flags of members = (i : ℕ) (m : Member) → slice_get members i ≡ Some m → StandsSo (slice_index_or flags i false) keeps (of i) m
 
 -- these bytes came
 pub record IsStreaming (bytes : List ℕ) (s : Streams) : Type 0 where
   pub of : ℕ → List ℕ
   pub reading : IsReading bytes of s.reader
   pub count : length s.members.items ≡ s.reader.modules
-  pub members : AreMembers s.keeps of s.members.items
+  pub members : AreMembers s.keeps s.reader.ended of s.members.items
 
 abbrev pub MayStream : Streams → Type 0
 MayStream s = (bytes : List ℕ) × IsStreaming bytes s

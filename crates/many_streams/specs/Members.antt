@@ -1,12 +1,12 @@
 -- What came of one module's bytes.
-use Rattle.std.specs.Prelude.{◌≡◌, ◌≤◌, ◌<◌, ℕ, Bool, List, ◌++◌, length, take, All, is_some, Result, Ok, Err}
+use Rattle.std.specs.Prelude.{◌≡◌, ◌≤◌, ◌<◌, ℕ, Bool, true, false, List, ◌++◌, length, take, All, is_some, Result, Ok, Err}
 use Rattle.wasm_defs.specs.declared.fault.Refusal.{Refusal}
 use Rattle.wasm_defs.specs.declared.front_stop.FrontStop.{FrontStop}
 use Rattle.wasm_defs.specs.declared.front_stop.FrontStop.TheVariants as stop
 use Rattle.wasm_defs.specs.Faults.{Rejected}
 use Rattle.image_linker.specs.Judging.{IsVerdictOf}
 use Rattle.module_stream.specs.declared.compilation.Compilation.{Compilation}
-use Rattle.module_stream.specs.Done.{IsDone, IsBuilt, IsValid}
+use Rattle.module_stream.specs.Done.{IsBuilt, IsValid}
 use Rattle.module_stream.specs.Streaming.{IsGoing}
 use Rattle.many_streams.specs.declared.member.Part.{Part}
 use Rattle.many_streams.specs.declared.member.Member.{Member}
@@ -40,14 +40,18 @@ FeedsOn came (Err stop.NoMemory) p = Unit {0}
 abbrev pub KeepsCodes : Bool → Compilation → Type 0
 KeepsCodes keeps s = is_some s.codes.kept ≡ keeps
 
--- of a module these bytes came
+-- of a module that has not ended these bytes came
 abbrev pub IsMember : Bool → List ℕ → Member → Type 0
 IsMember keeps came (member.Open p) = IsFed came p × KeepsCodes keeps p.compilation
+IsMember keeps came (member.Image built) = ⊥
+IsMember keeps came (member.Valid c) = ⊥
 IsMember keeps came (member.Refused r) = IsRefusedFor came r
 
--- and no more: they are judged
+-- of one that has ended: this is what they come to
 abbrev pub IsJudged : Bool → List ℕ → Member → Type 0
-IsJudged keeps came (member.Open p) = IsDone came p.compilation × KeepsCodes keeps p.compilation
+IsJudged keeps came (member.Open p) = ⊥
+IsJudged keeps came (member.Image built) = (keeps ≡ true) × IsBuilt came built
+IsJudged keeps came (member.Valid c) = (keeps ≡ false) × IsValid came c
 IsJudged keeps came (member.Refused r) = IsVerdictOf came (Rejected r)
 
 -- a module's image, and its numbers of functions and bytes; or its error of least offset

@@ -1,5 +1,5 @@
 -- How far frames were read.
-use Rattle.std.specs.Prelude.{◌≡◌, ◌<◌, ◌≤◌, ◌^◌, ℕ, ◌+◌, ◌==◌, Bool, false, if◌then◌else◌, List, [], ◌∷◌, ◌++◌, length, slice_index_or, take, Result, Ok, Err, Option, Some, None, slice_get}
+use Rattle.std.specs.Prelude.{◌≡◌, ◌<◌, ◌≤◌, ◌^◌, ℕ, ◌+◌, ◌==◌, Bool, true, false, if◌then◌else◌, List, [], ◌∷◌, ◌++◌, length, slice_index_or, slice_set, take, Result, Ok, Err, Option, Some, None, slice_get}
 use Rattle.many_streams.specs.declared.limits.TheConstants.{MAX_INPUT}
 use Rattle.many_streams.specs.declared.reader.Next.{Next}
 use Rattle.many_streams.specs.declared.reader.Next.TheVariants as next
@@ -18,6 +18,10 @@ pub record Progress : Type 0 where
 -- the flags say which modules have ended after these chunks
 abbrev pub AreFlags : ℕ → List Bool → List Chunk → Type 0
 AreFlags modules flags cs = (length flags ≡ 64) × ((i : ℕ) → i < modules → slice_index_or flags i false ≡ is_ended i cs)
+
+-- all modules have ended, as the flags say
+abbrev pub AreAllSet : ℕ → List Bool → Type 0
+AreAllSet modules flags = (i : ℕ) → i < modules → slice_index_or flags i false ≡ true
 
 -- well-formed chunks came, and a module is open
 pub record IsAmong (modules : ℕ) (flags : List Bool) (cs : List Chunk) : Type 0 where
@@ -44,7 +48,7 @@ StandsAt (next.Bytes m left) p bytes of =
     (cs : List Chunk) × (came : List ℕ) × IsAmong p.modules p.ended cs × IsOpen p.modules cs m × (p.number ≡ []) × (0 < left) × (length came + left < 2 ^ 32)
     × (bytes ≡ encoding p.modules cs ++ (u32 m ++ (u32 (length came + left) ++ came))) × AreOfWith of cs m came
 StandsAt next.Nothing p bytes of =
-    (cs : List Chunk) × AreWellFormed p.modules cs × AreEnded p.modules cs × (p.number ≡ []) × (bytes ≡ encoding p.modules cs) × AreOf of cs
+    (cs : List Chunk) × AreWellFormed p.modules cs × AreEnded p.modules cs × AreAllSet p.modules p.ended × (p.number ≡ []) × (bytes ≡ encoding p.modules cs) × AreOf of cs
 
 -- these bytes came, and of each module these
 pub record IsReading (bytes : List ℕ) (of : ℕ → List ℕ) (p : Progress) : Type 0 where
@@ -137,6 +141,14 @@ Takes bytes of piece (Ok (taken.End m)) p p' = IsReading (bytes ++ take 1 piece)
 Takes bytes of piece (Ok (taken.Bytes m n)) p p' =
     IsReading (bytes ++ take n piece) (with_more of m (take n piece)) p' × (p'.modules ≡ p.modules) × (m < p.modules) × (0 < n) × (n ≤ length piece)
 Takes bytes of piece (Err at) p p' = (more : List ℕ) → IsBadFrame (bytes ++ (piece ++ more)) at
+
+-- which modules have ended, before and after: bytes are of a module that has not, and its end sets its flag
+abbrev pub SetsFlags : Result Taken ℕ → List Bool → List Bool → Type 0
+SetsFlags (Ok taken.Number) old new = new ≡ old
+SetsFlags (Ok taken.Count) old new = (i : ℕ) → i < 64 → slice_index_or new i false ≡ false
+SetsFlags (Ok (taken.End m)) old new = (slice_index_or old m false ≡ false) × (m < length old) × (new ≡ slice_set old m true)
+SetsFlags (Ok (taken.Bytes m n)) old new = (slice_index_or old m false ≡ false) × (new ≡ old)
+SetsFlags (Err at) old new = Unit {0}
 
 -- no bytes follow: they are frames, or they are cut off
 abbrev pub Ends : List ℕ → (ℕ → List ℕ) → Result (Unit {0}) ℕ → Progress → Type 0

@@ -1,9 +1,9 @@
 //! One of several modules, whose bytes come among those of the others.
 
-ghost use Rattle.std.specs.Prelude.{◌≡◌, ◌<◌, ◌++◌, ℕ, Bool, List, [], true, All, take, is_some, OnOk, IfOk};
+ghost use Rattle.std.specs.Prelude.{◌≡◌, ◌<◌, ◌++◌, ℕ, Bool, List, [], true, false, All, take, is_some, OnOk, IfOk};
 ghost use Rattle.module_stream.specs.Codes.{AreAll, KeepsAlike};
-ghost use Rattle.module_stream.specs.Done.{Decides};
-ghost use Rattle.many_streams.specs.Members.{IsFed, FeedsOn, IsMember, IsJudged, IsEach, IsEachChecked};
+ghost use Rattle.module_stream.specs.Done.{IsDone, Decides};
+ghost use Rattle.many_streams.specs.Members.{KeepsCodes, IsFed, FeedsOn, IsMember, IsJudged, IsEach, IsEachChecked};
 
 use module_stream::{Built, Checked, Codes, Compilation};
 use std::alloc::{AllocError, Global};
@@ -38,12 +38,24 @@ pub struct Part {
     pub fed: usize,
 }
 
-/// What came of one module.
+/// What came of one module:
+///
+/// ```text
+/// Open ---the module's end, where codes are kept-------> Image
+///   |  ---the module's end, where they are counted-----> Valid
+///   +-----an error that no further byte can mend-------> Refused
+/// ```
+///
+/// Of a module that isn't open nothing is kept but what it came to.
 #[derive(Drop)]
 pub enum Member {
-    /// Nothing is wrong with it: how far it was compiled.
+    /// Nothing is wrong with it so far: how far it was compiled.
     Open(Part),
-    /// Its error of least offset, whatever follows. Nothing else of it is kept.
+    /// It has ended, and this is its image.
+    Image(Built),
+    /// It has ended, and is a module.
+    Valid(Checked),
+    /// Its error of least offset, whatever follows.
     Refused(Refusal),
 }
 
@@ -95,6 +107,30 @@ impl Part {
     {
         self.compilation.finish()
     }
+
+    /// What a module that is done comes to.
+    fn answer(&self) -> Result<Member, AllocError>
+        requires { (came : List ℕ) × IsDone came self.now.compilation }
+        ensures { IfOk result (λ m. (keeps : Bool) (came : List ℕ) → IsDone came self.now.compilation → KeepsCodes keeps self.now.compilation → IsJudged keeps came m) }
+    {
+        if self.compilation.keeps_codes() {
+            Ok(Member::Image(self.compilation.build()?))
+        } else {
+            Ok(Member::Valid(self.compilation.checked()))
+        }
+    }
+
+    /// The module's bytes have ended: what it comes to.
+    fn end(&mut self) -> Result<Member, AllocError>
+        requires { (came : List ℕ) × IsFed came self.old }
+        ensures { IfOk result (λ m. (keeps : Bool) (came : List ℕ) → IsFed came self.old → KeepsCodes keeps self.old.compilation → IsJudged keeps came m) }
+    {
+        match self.finish() {
+            Ok(()) => self.answer(),
+            Err(FrontStop::Refused(refusal)) => Ok(Member::Refused(refusal)),
+            Err(FrontStop::NoMemory) => Err(AllocError),
+        }
+    }
 }
 
 impl Member {
@@ -108,60 +144,62 @@ impl Member {
         })
     }
 
-    /// Takes the next bytes. Those of a module whose error is known are passed over.
+    /// Takes the next bytes of a module that has not ended. Those of a module whose error is known are passed over.
     pub fn feed(&mut self, piece: &[u8]) -> Result<(), AllocError>
         requires { (keeps : Bool) × (came : List ℕ) × IsMember keeps came self.old }
         ensures { OnOk result ((keeps : Bool) (came : List ℕ) → IsMember keeps came self.old → IsMember keeps (came ++ piece.now) self.new) }
     {
-        let Member::Open(part) = self else {
-            return Ok(());
-        };
-        match part.feed(piece) {
-            Ok(()) => Ok(()),
-            Err(FrontStop::Refused(refusal)) => {
-                *self = Member::Refused(refusal);
-                Ok(())
-            }
-            Err(FrontStop::NoMemory) => Err(AllocError),
+        match self {
+            Member::Open(part) => match part.feed(piece) {
+                Ok(()) => Ok(()),
+                Err(FrontStop::Refused(refusal)) => {
+                    *self = Member::Refused(refusal);
+                    Ok(())
+                }
+                Err(FrontStop::NoMemory) => Err(AllocError),
+            },
+            Member::Refused(_) => Ok(()),
+            Member::Image(_) | Member::Valid(_) => unreachable!(),
         }
     }
 
-    /// The module's bytes have ended: judges what is left.
-    pub fn finish(&mut self) -> Result<(), AllocError>
+    /// The module's bytes have ended: judges what is left, and keeps nothing but what the module comes to.
+    pub fn end(&mut self) -> Result<(), AllocError>
         requires { (keeps : Bool) × (came : List ℕ) × IsMember keeps came self.old }
         ensures { OnOk result ((keeps : Bool) (came : List ℕ) → IsMember keeps came self.old → IsJudged keeps came self.new) }
     {
-        let Member::Open(part) = self else {
-            return Ok(());
-        };
-        match part.finish() {
-            Ok(()) => Ok(()),
-            Err(FrontStop::Refused(refusal)) => {
-                *self = Member::Refused(refusal);
+        match self {
+            Member::Open(part) => {
+                let answer = part.end()?;
+                *self = answer;
                 Ok(())
             }
-            Err(FrontStop::NoMemory) => Err(AllocError),
+            Member::Refused(_) => Ok(()),
+            Member::Image(_) | Member::Valid(_) => unreachable!(),
         }
     }
 
-    /// What compiling a module whose bytes have ended comes to. Its codes were kept.
-    pub fn answer(&self) -> Result<Each, AllocError>
-        requires { (came : List ℕ) × IsJudged true came self.now }
-        ensures { IfOk result (λ e. (came : List ℕ) → IsJudged true came self.now → IsEach came e) }
+    /// What compiling a module that has ended came to. Its codes were kept.
+    pub fn into_each(self) -> Each
+        requires { (came : List ℕ) × IsJudged true came self }
+        ensures { (came : List ℕ) → IsJudged true came self → IsEach came result }
     {
         match self {
-            Member::Open(part) => Ok(Each::Image(part.compilation.build()?)),
-            Member::Refused(refusal) => Ok(Each::Refused(*refusal)),
+            Member::Image(built) => Each::Image(built),
+            Member::Refused(refusal) => Each::Refused(refusal),
+            Member::Open(_) | Member::Valid(_) => unreachable!(),
         }
     }
 
-    /// What validating a module whose bytes have ended comes to.
-    pub fn verdict(&self) -> EachChecked
-        ensures { (keeps : Bool) (came : List ℕ) → IsJudged keeps came self.now → IsEachChecked came result }
+    /// What validating a module that has ended came to. Its codes were only counted.
+    pub fn into_checked(self) -> EachChecked
+        requires { (came : List ℕ) × IsJudged false came self }
+        ensures { (came : List ℕ) → IsJudged false came self → IsEachChecked came result }
     {
         match self {
-            Member::Open(part) => EachChecked::Valid(part.compilation.checked()),
-            Member::Refused(refusal) => EachChecked::Refused(*refusal),
+            Member::Valid(checked) => EachChecked::Valid(checked),
+            Member::Refused(refusal) => EachChecked::Refused(refusal),
+            Member::Open(_) | Member::Image(_) => unreachable!(),
         }
     }
 }

@@ -1,9 +1,9 @@
 //! The push parser of frames: it is fed with the input's bytes, in pieces however they are cut.
 
 ghost use Rattle.std.specs.Prelude.{◌≡◌, ◌<◌, ◌≤◌, ◌+◌, ◌++◌, ◌^◌, ◌∷◌, ℕ, List, [], true, false};
-ghost use Rattle.std.specs.Prelude.{length, slice_index, slice_index_or, slice_set, MatchOption, IfOk};
+ghost use Rattle.std.specs.Prelude.{length, slice_index, slice_index_or, slice_set, MatchOption, IfOk, OnOk};
 ghost use Rattle.many_streams.specs.Frames.{u32};
-ghost use Rattle.many_streams.specs.Reading.{byte_count, IsReading, MayTake, Takes, Ends, TakesNumber, TakesDigit, IsNumberNext, HasCount, HasIndex, HasLength};
+ghost use Rattle.many_streams.specs.Reading.{byte_count, IsReading, MayTake, Takes, Ends, TakesNumber, TakesDigit, IsNumberNext, HasCount, HasIndex, HasLength, SetsFlags, AreAllSet};
 
 use crate::limits::{MAX_INPUT, MAX_MODULES};
 use std::marker::Model;
@@ -141,7 +141,8 @@ impl FrameReader {
     /// Takes the number of modules.
     fn take_count(&mut self, number: u32) -> Result<Taken, u64>
         requires { (bytes : List ℕ) × (of : ℕ → List ℕ) × HasCount bytes of self.old number }
-        ensures { (bytes : List ℕ) (of : ℕ → List ℕ) → HasCount bytes of self.old number → TakesNumber bytes of result self.old self.new }
+        ensures takes { (bytes : List ℕ) (of : ℕ → List ℕ) → HasCount bytes of self.old number → TakesNumber bytes of result self.old self.new }
+        ensures flags { SetsFlags result self.old.ended self.new.ended }
     {
         if number == 0 || MAX_MODULES < number {
             return Err(0);
@@ -154,7 +155,8 @@ impl FrameReader {
     /// Takes a chunk's index.
     fn take_index(&mut self, number: u32) -> Result<Taken, u64>
         requires { (bytes : List ℕ) × (of : ℕ → List ℕ) × HasIndex bytes of self.old number }
-        ensures { (bytes : List ℕ) (of : ℕ → List ℕ) → HasIndex bytes of self.old number → TakesNumber bytes of result self.old self.new }
+        ensures takes { (bytes : List ℕ) (of : ℕ → List ℕ) → HasIndex bytes of self.old number → TakesNumber bytes of result self.old self.new }
+        ensures flags { SetsFlags result self.old.ended self.new.ended }
     {
         let place = self.at - 4;
         if self.modules <= number || self.ended[number as usize] {
@@ -167,7 +169,8 @@ impl FrameReader {
     /// Takes the length of a chunk of this module. A chunk without bytes ends it.
     fn take_length(&mut self, index: u32, number: u32) -> Result<Taken, u64>
         requires { (bytes : List ℕ) × (of : ℕ → List ℕ) × HasLength bytes of self.old index number }
-        ensures { (bytes : List ℕ) (of : ℕ → List ℕ) → HasLength bytes of self.old index number → TakesNumber bytes of result self.old self.new }
+        ensures takes { (bytes : List ℕ) (of : ℕ → List ℕ) → HasLength bytes of self.old index number → TakesNumber bytes of result self.old self.new }
+        ensures flags { SetsFlags result self.old.ended self.new.ended }
     {
         if number != 0 {
             self.next = Next::Bytes(index, number);
@@ -187,7 +190,8 @@ impl FrameReader {
         requires some { 0 < length piece.now }
         requires part { self.old.next ≡ Next.Bytes index left }
         requires may { MayTake self.old }
-        ensures { (bytes : List ℕ) (of : ℕ → List ℕ) → IsReading bytes of self.old → Takes bytes of piece.now result self.old self.new }
+        ensures takes { (bytes : List ℕ) (of : ℕ → List ℕ) → IsReading bytes of self.old → Takes bytes of piece.now result self.old self.new }
+        ensures flags { SetsFlags result self.old.ended self.new.ended }
     {
         let room = MAX_INPUT - self.at;
         if room == 0 {
@@ -208,7 +212,8 @@ impl FrameReader {
         requires some { 0 < length piece.now }
         requires part { IsNumberNext self.old.next }
         requires may { MayTake self.old }
-        ensures { (bytes : List ℕ) (of : ℕ → List ℕ) → IsReading bytes of self.old → TakesDigit bytes of piece.now result self.old self.new }
+        ensures takes { (bytes : List ℕ) (of : ℕ → List ℕ) → IsReading bytes of self.old → TakesDigit bytes of piece.now result self.old self.new }
+        ensures flags { self.new.ended ≡ self.old.ended }
     {
         if self.at == MAX_INPUT {
             return Err(self.at);
@@ -227,6 +232,7 @@ impl FrameReader {
         requires some { 0 < length piece.now }
         requires may { MayTake self.old }
         ensures taken { (bytes : List ℕ) (of : ℕ → List ℕ) → IsReading bytes of self.old → Takes bytes of piece.now result self.old self.new }
+        ensures flags { SetsFlags result self.old.ended self.new.ended }
         ensures on { IfOk result (λ t. MayTake self.new × (0 < byte_count t) × (byte_count t ≤ length piece.now)) }
     {
         match self.next {
@@ -253,7 +259,8 @@ impl FrameReader {
     /// The number of bytes of the input, where it is cut off: a module hasn't ended, or a chunk isn't whole.
     pub fn end(&self) -> Result<(), u64>
         requires { MayTake self.now }
-        ensures { (bytes : List ℕ) (of : ℕ → List ℕ) → IsReading bytes of self.now → Ends bytes of result self.now }
+        ensures ends { (bytes : List ℕ) (of : ℕ → List ℕ) → IsReading bytes of self.now → Ends bytes of result self.now }
+        ensures flags { OnOk result (AreAllSet self.now.modules self.now.ended) }
     {
         match self.next {
             Next::Nothing => Ok(()),

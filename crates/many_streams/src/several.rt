@@ -1,6 +1,6 @@
 //! What several modules come to.
 
-ghost use Rattle.std.specs.Prelude.{◌≡◌, ◌<◌, ◌^◌, ◌-◌, ℕ, Bool, List, true, length, nat_lt, IfOk};
+ghost use Rattle.std.specs.Prelude.{◌≡◌, ◌<◌, ◌^◌, ◌-◌, ℕ, List, true, false, length, nat_lt, IfOk};
 ghost use Rattle.io_edges.specs.Streams.{TookFront};
 ghost use Rattle.many_streams.specs.Many.{AreEach, AnswersMany, ChecksMany, view};
 ghost use Rattle.many_streams.specs.Members.{IsJudged, IsEach, IsEachChecked};
@@ -14,25 +14,26 @@ use std::alloc::{AllocError, Global};
 use std::sync::Wait;
 use std::thread::Threads;
 
-/// What compiling each module comes to.
-fn answers(alloc: Global, members: &[Member]) -> Result<Vec<Each>, AllocError>
-    requires { (list : List (List ℕ)) × AreEach (IsJudged true) list members.now }
-    ensures { IfOk result (λ v. (list : List (List ℕ)) → AreEach (IsJudged true) list members.now → AreEach IsEach list v.items) }
+/// What compiling each module came to.
+fn answers(alloc: Global, members: Vec<Member>) -> Result<Vec<Each>, AllocError>
+    requires { (list : List (List ℕ)) × AreEach (IsJudged true) list members.items }
+    ensures { IfOk result (λ v. (list : List (List ℕ)) → AreEach (IsJudged true) list members.items → AreEach IsEach list v.items) }
 {
     let mut each = Vec::new(alloc);
-    for k in 0..members.len() {
-        each.push(members[k].answer()?)?;
+    for member in members {
+        each.push(member.into_each())?;
     }
     Ok(each)
 }
 
-/// What validating each module comes to.
-fn verdicts(alloc: Global, members: &[Member]) -> Result<Vec<EachChecked>, AllocError>
-    ensures { IfOk result (λ v. (keeps : Bool) (list : List (List ℕ)) → AreEach (IsJudged keeps) list members.now → AreEach IsEachChecked list v.items) }
+/// What validating each module came to.
+fn verdicts(alloc: Global, members: Vec<Member>) -> Result<Vec<EachChecked>, AllocError>
+    requires { (list : List (List ℕ)) × AreEach (IsJudged false) list members.items }
+    ensures { IfOk result (λ v. (list : List (List ℕ)) → AreEach (IsJudged false) list members.items → AreEach IsEachChecked list v.items) }
 {
     let mut each = Vec::new(alloc);
-    for k in 0..members.len() {
-        each.push(members[k].verdict())?;
+    for member in members {
+        each.push(member.into_checked())?;
     }
     Ok(each)
 }
@@ -54,7 +55,7 @@ pub fn many<R: Threads + Wait + Sync, S: Source, G: Gate>(
     ensures front { TookFront (S.left source.old) (S.faults source.old) (S.left source.new) (S.faults source.new) }
 {
     match judge_alone(alloc, source, settings.batch, true) {
-        Ok(members) => match answers(alloc, members.as_slice()) {
+        Ok(members) => match answers(alloc, members) {
             Ok(each) => Ok(each),
             Err(_) => Err(ManyStop::NoMemory),
         },
@@ -80,7 +81,7 @@ pub fn check_many<R: Threads + Wait + Sync, S: Source, G: Gate>(
     ensures front { TookFront (S.left source.old) (S.faults source.old) (S.left source.new) (S.faults source.new) }
 {
     match judge_alone(alloc, source, settings.batch, false) {
-        Ok(members) => match verdicts(alloc, members.as_slice()) {
+        Ok(members) => match verdicts(alloc, members) {
             Ok(each) => Ok(each),
             Err(_) => Err(ManyStop::NoMemory),
         },

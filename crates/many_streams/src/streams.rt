@@ -1,7 +1,7 @@
 //! Several modules whose bytes come in one input.
 
-ghost use Rattle.std.specs.Prelude.{◌≡◌, ◌<◌, ℕ, Bool, List, [], All, length, OnOk, IfOk};
-ghost use Rattle.many_streams.specs.Many.{IsStreaming, MayStream, TakesSome, TakesAll, AreMembers, AreJudged, ComesToEnd, IsFront, view};
+ghost use Rattle.std.specs.Prelude.{◌≡◌, ◌<◌, List, ℕ, [], All, length, IfOk};
+ghost use Rattle.many_streams.specs.Many.{IsStreaming, MayStream, TakesSome, TakesAll, ComesToEnd, IsFront, view};
 ghost use Rattle.many_streams.specs.Members.{IsMember, IsJudged};
 
 use crate::member::Member;
@@ -50,18 +50,6 @@ fn new_members(
     Ok(members)
 }
 
-/// Judges what is left of each module, whose bytes have ended.
-fn finish_all(members: &mut Vec<Member>) -> Result<(), AllocError>
-    requires { (keeps : Bool) × (of : ℕ → List ℕ) × AreMembers keeps of members.old.items }
-    ensures judged { OnOk result ((keeps : Bool) (of : ℕ → List ℕ) → AreMembers keeps of members.old.items → AreJudged keeps of members.new.items) }
-    ensures count { length members.new.items ≡ length members.old.items }
-{
-    for k in 0..members.len() {
-        members[k].finish()?;
-    }
-    Ok(())
-}
-
 impl Streams {
     /// Before the first byte.
     pub fn new(alloc: Global, batch: u32, keeps: bool) -> Streams
@@ -86,7 +74,10 @@ impl Streams {
     {
         match self.reader.take(piece) {
             Ok(Taken::Number) => Ok(1),
-            Ok(Taken::End(_)) => Ok(1),
+            Ok(Taken::End(index)) => match self.members[index as usize].end() {
+                Ok(()) => Ok(1),
+                Err(_) => Err(ManyStop::NoMemory),
+            },
             Ok(Taken::Count) => {
                 match new_members(self.alloc, self.reader.modules(), self.batch, self.keeps) {
                     Ok(members) => {
@@ -125,7 +116,7 @@ impl Streams {
         Ok(())
     }
 
-    /// The input has ended: the modules, each judged.
+    /// The input has ended: the modules, each with what it comes to.
     ///
     /// # Errors
     /// `Frame` at the number of bytes, where these end too soon.
@@ -141,13 +132,8 @@ impl Streams {
             members,
         } = self;
         match reader.end() {
-            Ok(()) => {}
-            Err(place) => return Err(ManyStop::Frame(place)),
-        }
-        let mut members = members;
-        match finish_all(&mut members) {
             Ok(()) => Ok(members),
-            Err(_) => Err(ManyStop::NoMemory),
+            Err(place) => Err(ManyStop::Frame(place)),
         }
     }
 

@@ -1,16 +1,32 @@
-use Rattle.std.proofs.Common.{rules, sym, ◌∙◌, true, arith}
+use Rattle.std.proofs.Common.{◌≡◌, ◌+◌, ◌∙◌, ℕ, List, [], ◌∷◌, length-append, true, length, sym, ap, subst, refl, arith, rules}
+use Rattle.std.specs.Vec.Iter.{into_iter_items}
 use Rattle.many_streams.specs.Members.{IsEach}
-use Rattle.many_streams.proofs.Crowds.{judged_at, judged_so, some_push}
+use Rattle.many_streams.proofs.Crowds.{AreAfter, after_none, after_one, after_all, judged_at, judged_so, some_none, some_push}
 use Rattle.many_streams.proofs.several.answers.Goals as goal
 
-pub answer-requires : goal.answer-requires
-answer-requires c =
+pub into_each-requires : goal.into_each-requires
+into_each-requires c =
     let r = c.requires in
-    let j = judged_at true c.loop-k.k r.0 c.args.members.now c.index-members-k.result (omega arith) c.index-members-k.is r.1 in (j.0, j.2)
+    let l = c.loop-member in
+    judged_at true c.args.members.items (into_iter_items l.member-iterator) (into_iter_items c.next.new.self) (length l.each.items) c.in-Some.member c.in-Some.ensures.steps.0 l.invariant.after r.0 r.1
 
-pub loop-k-preserved : goal.loop-k-preserved
-loop-k-preserved c = (
-  search rules,
-  λ list are. some_push IsEach list c.loop-k.each.items c.push.new.self.items c.in_ok-answer.field-0 c.loop-k.k c.loop-k.invariant.0 c.in_ok-push.ensures.items (c.loop-k.invariant.1 list are)
-      (λ bytes at. c.in_ok-answer.ensures bytes (judged_so true c.loop-k.k list c.args.members.now c.index-members-k.result (omega arith) c.index-members-k.is are bytes at)),
-)
+pub loop-member-init : goal.loop-member-init
+loop-member-init c = record { after = after_none _ _ _ (search rules) (search rules); some = λ list are. some_none IsEach list _ (search rules); few = search rules }
+
+pub loop-member-preserved : goal.loop-member-preserved
+loop-member-preserved c =
+    let l = c.loop-member in
+    let all = into_iter_items l.member-iterator in
+    let rest = into_iter_items c.next.new.self in
+    record {
+      after = subst (λ (n : ℕ). AreAfter c.args.members.items rest n) (sym (ap length c.in_ok-push.ensures.items ∙ length-append l.each.items (c.into_each.result ∷ []))) (after_one true c.args.members.items all rest (length l.each.items) c.in-Some.member c.in-Some.ensures.steps.0 l.invariant.after);
+      some = λ list are. some_push IsEach list l.each.items c.push.new.self.items c.into_each.result (length l.each.items) refl c.in_ok-push.ensures.items (l.invariant.some list are)
+          (λ bytes at. c.into_each.ensures bytes (judged_so true c.args.members.items all rest (length l.each.items) c.in-Some.member c.in-Some.ensures.steps.0 l.invariant.after list are bytes at));
+      few = search rules;
+    }
+
+pub returns : goal.returns
+returns c = λ list are.
+    let l = c.loop-member in
+    let none : length (into_iter_items l.member-iterator) ≡ 0 = search rules in
+    (sym (after_all c.args.members.items (into_iter_items l.member-iterator) (length l.each.items) none l.invariant.after) ∙ are.0, l.invariant.some list are)

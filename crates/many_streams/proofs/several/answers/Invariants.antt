@@ -1,8 +1,13 @@
 use Rattle.std.proofs.Common.{◌≡◌, ℕ, List, true, length}
+use Rattle.std.specs.Vec.Iter.{into_iter_items, into_iter_len}
 use Rattle.many_streams.specs.Members.{IsJudged, IsEach}
 use Rattle.many_streams.specs.Many.{AreEach}
-use Rattle.many_streams.proofs.Crowds.{AreSome}
+use Rattle.many_streams.proofs.Crowds.{AreAfter, AreSome}
 use Rattle.many_streams.proofs.several.answers.Given as goal
 
-abbrev pub invariant-loop-k : goal.invariant-loop-k
-invariant-loop-k l = (length l.each.items ≡ l.k) × ((list : List (List ℕ)) → AreEach (IsJudged true) list l.members → AreSome IsEach list l.each.items)
+abbrev pub invariant-loop-member : goal.invariant-loop-member
+invariant-loop-member l = record {
+  after : AreAfter l.fn.members.items (into_iter_items l.member-iterator) (length l.each.items);
+  some : (list : List (List ℕ)) → AreEach (IsJudged true) list l.fn.members.items → AreSome IsEach list l.each.items;
+  few : length (into_iter_items l.member-iterator) ≡ into_iter_len l.member-iterator;
+}

@@ -1,8 +1,8 @@
-use Rattle.std.proofs.Common.{◌≡◌, ◌<◌, ◌≤◌, ◌++◌, ℕ, List, Option, Some, Result, Ok, Err, IfOk, length, arith, take, sym, ap, ◌∙◌, subst}
+use Rattle.std.proofs.Common.{◌≡◌, ◌<◌, ◌≤◌, ◌++◌, ℕ, Bool, List, Option, Some, Result, Ok, Err, IfOk, length, arith, take, sym, ap, ◌∙◌, subst}
 use Rattle.many_streams.specs.Frames.{IsBadFrame}
 use Rattle.many_streams.specs.declared.reader.Taken.{Taken}
 use Rattle.many_streams.specs.declared.reader.Taken.TheVariants as taken
-use Rattle.many_streams.specs.Reading.{Progress, MayTake, byte_count, with_more, IsKnown, Takes, TakesDigit}
+use Rattle.many_streams.specs.Reading.{Progress, MayTake, byte_count, with_more, IsKnown, Takes, TakesDigit, SetsFlags}
 use Rattle.many_streams.proofs.Ending.{trailing}
 use Rattle.many_streams.proofs.Numbers.{count_now, index_now, length_now, taken_number, same_modules}
 use Rattle.many_streams.proofs.reader.FrameReader.take.Goals as goal
@@ -26,7 +26,7 @@ take_index-requires c =
     let piece = c.args.piece.now in
     let now = c.args.self.now in
     let m = c.requires.may in
-    let k = known m.0 m.1 piece _ c.in-Some-2.number now c.take_digit-in-Index.new.self c.in-Some-2.is (c.in_ok-number-in-Index.ensures m.0 m.1 m.2) in
+    let k = known m.0 m.1 piece _ c.in-Some-2.number now c.take_digit-in-Index.new.self c.in-Some-2.is (c.in_ok-number-in-Index.ensures.takes m.0 m.1 m.2) in
     let at = sym (ap (λ (f : Progress). f.next) c.self.view_is) ∙ c.in-Index.is in
     (m.0 ++ take 1 piece, m.1, index_now m.0 m.1 piece c.in-Some-2.number now c.take_digit-in-Index.new.self at m.2 k)
 
@@ -35,7 +35,7 @@ take_length-requires c =
     let piece = c.args.piece.now in
     let now = c.args.self.now in
     let m = c.requires.may in
-    let k = known m.0 m.1 piece _ c.in-Some-3.number now c.take_digit-in-Length.new.self c.in-Some-3.is (c.in_ok-number-in-Length.ensures m.0 m.1 m.2) in
+    let k = known m.0 m.1 piece _ c.in-Some-3.number now c.take_digit-in-Length.new.self c.in-Some-3.is (c.in_ok-number-in-Length.ensures.takes m.0 m.1 m.2) in
     let at = sym (ap (λ (f : Progress). f.next) c.self.view_is) ∙ c.in-Length.is in
     (m.0 ++ take 1 piece, m.1, length_now m.0 m.1 piece c.in-Length.index c.in-Some-3.number now c.take_digit-in-Length.new.self at m.2 k)
 
@@ -44,10 +44,10 @@ returns-in-Some-clause-taken c =
     let piece = c.args.piece.now in
     let now = c.args.self.now in
     λ bytes of r.
-    let k = known bytes of piece _ c.in-Some.number now c.take_digit.new.self c.in-Some.is (c.in_ok-number-in-Count.ensures bytes of r) in
+    let k = known bytes of piece _ c.in-Some.number now c.take_digit.new.self c.in-Some.is (c.in_ok-number-in-Count.ensures.takes bytes of r) in
     let at = sym (ap (λ (f : Progress). f.next) c.self.view_is) ∙ c.in-Count.is in
     taken_number bytes of piece c.take_count.result now c.take_digit.new.self c.take_count.new.self (same_modules _ _ _ _ k)
-    (c.take_count.ensures (bytes ++ take 1 piece) of (count_now bytes of piece c.in-Some.number now c.take_digit.new.self at r k))
+    (c.take_count.ensures.takes (bytes ++ take 1 piece) of (count_now bytes of piece c.in-Some.number now c.take_digit.new.self at r k))
 
 pub returns-in-Some-clause-on : goal.returns-in-Some-clause-on
 returns-in-Some-clause-on c =
@@ -58,10 +58,10 @@ returns-in-Some-2-clause-taken c =
     let piece = c.args.piece.now in
     let now = c.args.self.now in
     λ bytes of r.
-    let k = known bytes of piece _ c.in-Some-2.number now c.take_digit-in-Index.new.self c.in-Some-2.is (c.in_ok-number-in-Index.ensures bytes of r) in
+    let k = known bytes of piece _ c.in-Some-2.number now c.take_digit-in-Index.new.self c.in-Some-2.is (c.in_ok-number-in-Index.ensures.takes bytes of r) in
     let at = sym (ap (λ (f : Progress). f.next) c.self.view_is) ∙ c.in-Index.is in
     taken_number bytes of piece c.take_index.result now c.take_digit-in-Index.new.self c.take_index.new.self (same_modules _ _ _ _ k)
-    (c.take_index.ensures (bytes ++ take 1 piece) of (index_now bytes of piece c.in-Some-2.number now c.take_digit-in-Index.new.self at r k))
+    (c.take_index.ensures.takes (bytes ++ take 1 piece) of (index_now bytes of piece c.in-Some-2.number now c.take_digit-in-Index.new.self at r k))
 
 pub returns-in-Some-2-clause-on : goal.returns-in-Some-2-clause-on
 returns-in-Some-2-clause-on c =
@@ -72,10 +72,10 @@ returns-in-Some-3-clause-taken c =
     let piece = c.args.piece.now in
     let now = c.args.self.now in
     λ bytes of r.
-    let k = known bytes of piece _ c.in-Some-3.number now c.take_digit-in-Length.new.self c.in-Some-3.is (c.in_ok-number-in-Length.ensures bytes of r) in
+    let k = known bytes of piece _ c.in-Some-3.number now c.take_digit-in-Length.new.self c.in-Some-3.is (c.in_ok-number-in-Length.ensures.takes bytes of r) in
     let at = sym (ap (λ (f : Progress). f.next) c.self.view_is) ∙ c.in-Length.is in
     taken_number bytes of piece c.take_length.result now c.take_digit-in-Length.new.self c.take_length.new.self (same_modules _ _ _ _ k)
-    (c.take_length.ensures (bytes ++ take 1 piece) of (length_now bytes of piece c.in-Length.index c.in-Some-3.number now c.take_digit-in-Length.new.self at r k))
+    (c.take_length.ensures.takes (bytes ++ take 1 piece) of (length_now bytes of piece c.in-Length.index c.in-Some-3.number now c.take_digit-in-Length.new.self at r k))
 
 pub returns-in-Some-3-clause-on : goal.returns-in-Some-3-clause-on
 returns-in-Some-3-clause-on c =
@@ -89,3 +89,12 @@ returns-in-Nothing-clause-taken c =
     let at : c.self.inside.at ≡ now.at = ap (λ (f : Progress). f.at) c.self.view_is in
     subst (λ (n : ℕ). IsBadFrame (bytes ++ (piece ++ more)) n) (sym at) (trailing bytes of now piece more (sym (ap (λ (f : Progress). f.next) c.self.view_is)
     ∙ c.in-Nothing.is) r c.requires.some)
+
+pub returns-in-Some-clause-flags : goal.returns-in-Some-clause-flags
+returns-in-Some-clause-flags c = subst (λ (l : List Bool). SetsFlags c.take_count.result l c.take_count.new.self.ended) c.take_digit.ensures.flags c.take_count.ensures.flags
+
+pub returns-in-Some-2-clause-flags : goal.returns-in-Some-2-clause-flags
+returns-in-Some-2-clause-flags c = subst (λ (l : List Bool). SetsFlags c.take_index.result l c.take_index.new.self.ended) c.take_digit-in-Index.ensures.flags c.take_index.ensures.flags
+
+pub returns-in-Some-3-clause-flags : goal.returns-in-Some-3-clause-flags
+returns-in-Some-3-clause-flags c = subst (λ (l : List Bool). SetsFlags c.take_length.result l c.take_length.new.self.ended) c.take_digit-in-Length.ensures.flags c.take_length.ensures.flags

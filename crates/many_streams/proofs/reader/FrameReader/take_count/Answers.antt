@@ -7,6 +7,6 @@ out_of_range : (n : ℕ) → (n ≡ 0) ⊎ ((n ≡ 0 → ⊥) × (MAX_MODULES < 
 out_of_range n (inl none) = inl none
 out_of_range n (inr (some, many)) = inr many
 
-pub returns-then-number-eq0 : goal.returns-then-number-eq0
-returns-then-number-eq0 c =
+pub returns-then-number-eq0-clause-takes : goal.returns-then-number-eq0-clause-takes
+returns-then-number-eq0-clause-takes c =
     λ bytes of counted more. bad_count bytes of c.args.self.now c.args.number counted (omega arith) (out_of_range c.args.number c.then-number-eq0.either) more

@@ -5,8 +5,8 @@ use Rattle.many_streams.specs.Reading.{Progress}
 use Rattle.many_streams.proofs.Numbers.{number_too_long}
 use Rattle.many_streams.proofs.reader.FrameReader.take_digit.Goals as goal
 
-pub returns-then-self-eq-MAX_INPUT : goal.returns-then-self-eq-MAX_INPUT
-returns-then-self-eq-MAX_INPUT c =
+pub returns-then-self-eq-MAX_INPUT-clause-takes : goal.returns-then-self-eq-MAX_INPUT-clause-takes
+returns-then-self-eq-MAX_INPUT-clause-takes c =
     let piece = c.args.piece.now in
     let now = c.args.self.now in
     λ bytes of r more.

@@ -18,8 +18,8 @@ overflow_sub-place c =
     let at : c.self.inside.at ≡ c.args.self.now.at = ap (λ (f : Progress). f.at) c.self.view_is in
     let p = place_of c.requires.0 c.requires.1 c.args.self.now c.args.number c.self.inside.at c.requires.2 at in omega arith
 
-pub returns-then-self-number : goal.returns-then-self-number
-returns-then-self-number c =
+pub returns-then-self-number-clause-takes : goal.returns-then-self-number-clause-takes
+returns-then-self-number-clause-takes c =
     let now = c.args.self.now in
     λ bytes of n more.
     let at : c.self.inside.at ≡ now.at = ap (λ (f : Progress). f.at) c.self.view_is in
