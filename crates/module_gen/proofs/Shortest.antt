@@ -71,39 +71,27 @@ rest_is n b (negsuc k) least most is =
     let sum : pos n ≡ pos (b - 128) +ℤ neg_ℤ (pos (128 * suc k)) = is ∙ ap (λ z. pos (b - 128) +ℤ z) product in
     absurd (omega (arith, ints, sum, least, most))
 
-longer_unsigned : (k bits n b : ℕ) (l : List ℕ) → Spells (pos n) bits false (b ∷ l) → 128 ≤ n → (Spells (pos (n / 128)) (bits - 7) false l → length (spelling 128 k (n / 128)) ≤ length l)
-    → length ((n % 128 + 128) ∷ spelling 128 k (n / 128)) ≤ length (b ∷ l)
-longer_unsigned k bits n b [] h high below = let e = h.2 in absurd (omega (arith, ints, e, high, h.0))
-longer_unsigned k bits n b (c ∷ l) h high below =
-    let tail = subst (λ m. Spells m (bits - 7) false (c ∷ l)) (rest_is n b h.3 h.0 h.1 h.5) h.4 in
+-- a last byte encodes a number below this
+abbrev limit : Bool → ℕ
+limit false = 128
+limit true = 64
+
+longer : (with_sign : Bool) (k bits n b : ℕ) (l : List ℕ) → Spells (pos n) bits with_sign (b ∷ l) → limit with_sign ≤ n → (Spells (pos (n / 128)) (bits - 7) with_sign l → length (spelling (limit with_sign) k (n / 128)) ≤ length l)
+    → length ((n % 128 + 128) ∷ spelling (limit with_sign) k (n / 128)) ≤ length (b ∷ l)
+longer false k bits n b [] h high below = let e = h.2 in absurd (omega (arith, ints, e, high, h.0))
+longer true k bits n b [] (inl h) high below = let e = h.2 in absurd (omega (arith, ints, e, high, h.0))
+longer true k bits n b [] (inr h) high below = let e = h.3 in absurd (omega (arith, ints, e))
+longer with_sign k bits n b (c ∷ l) h high below =
+    let tail = subst (λ m. Spells m (bits - 7) with_sign (c ∷ l)) (rest_is n b h.3 h.0 h.1 h.5) h.4 in
     let fewer = below tail in
     omega (arith, fewer)
 
-pub no_shorter_unsigned : (k bits n : ℕ) (other : List ℕ) → Spells (pos n) bits false other → length (spelling 128 k n) ≤ length other
+pub no_shorter : (with_sign : Bool) (k bits n : ℕ) (other : List ℕ) → Spells (pos n) bits with_sign other → length (spelling (limit with_sign) k n) ≤ length other
 unfolding spelling
-no_shorter_unsigned k bits n [] h = absurd h
-no_shorter_unsigned zero bits n (b ∷ l) h = omega arith
-no_shorter_unsigned (suc k) bits n (b ∷ l) h =
-    elim (cases_lt n 128) [
-      | inl low ↦ rw (last 128 k n low) (omega arith)
-      | inr high ↦ rw (more 128 k n high) (longer_unsigned k bits n b l h high (λ t. no_shorter_unsigned k (bits - 7) (n / 128) l t))
-    ]
-
-longer_signed : (k bits n b : ℕ) (l : List ℕ) → Spells (pos n) bits true (b ∷ l) → 64 ≤ n → (Spells (pos (n / 128)) (bits - 7) true l → length (spelling 64 k (n / 128)) ≤ length l)
-    → length ((n % 128 + 128) ∷ spelling 64 k (n / 128)) ≤ length (b ∷ l)
-longer_signed k bits n b [] (inl h) high below = let e = h.2 in absurd (omega (arith, ints, e, high, h.0))
-longer_signed k bits n b [] (inr h) high below = let e = h.3 in absurd (omega (arith, ints, e))
-longer_signed k bits n b (c ∷ l) h high below =
-    let tail = subst (λ m. Spells m (bits - 7) true (c ∷ l)) (rest_is n b h.3 h.0 h.1 h.5) h.4 in
-    let fewer = below tail in
-    omega (arith, fewer)
-
-pub no_shorter_signed : (k bits n : ℕ) (other : List ℕ) → Spells (pos n) bits true other → length (spelling 64 k n) ≤ length other
-unfolding spelling
-no_shorter_signed k bits n [] h = absurd h
-no_shorter_signed zero bits n (b ∷ l) h = omega arith
-no_shorter_signed (suc k) bits n (b ∷ l) h =
-    elim (cases_lt n 64) [
-      | inl low ↦ rw (last 64 k n low) (omega arith)
-      | inr high ↦ rw (more 64 k n high) (longer_signed k bits n b l h high (λ t. no_shorter_signed k (bits - 7) (n / 128) l t))
+no_shorter with_sign k bits n [] h = absurd h
+no_shorter with_sign zero bits n (b ∷ l) h = omega arith
+no_shorter with_sign (suc k) bits n (b ∷ l) h =
+    elim (cases_lt n (limit with_sign)) [
+      | inl low ↦ rw (last (limit with_sign) k n low) (omega arith)
+      | inr high ↦ rw (more (limit with_sign) k n high) (longer with_sign k bits n b l h high (λ t. no_shorter with_sign k (bits - 7) (n / 128) l t))
     ]
