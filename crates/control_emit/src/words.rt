@@ -2,21 +2,11 @@
 
 ghost use Rattle.std.specs.Prelude.{◌≡◌, map};
 ghost use Rattle.rv_isa.specs.declared.operations.Op.TheVariants.{Auipc as AuipcGiven};
-ghost use Rattle.rv_isa.specs.Runs.{hi};
 ghost use Rattle.rv_isa.specs.Words.{word_of};
 ghost use Rattle.frame_layout.specs.Macros.{distance, far};
 
-use frame_layout::macros::distance;
+use frame_layout::macros::{distance, upper};
 use rv_isa::{Imm12, Imm20, Register, encode_jalr, encode_lui};
-
-/// The upper part of a distance, which may lead back.
-#[inline(always)]
-fn upper(distance: u64) -> Imm20
-    ensures { result ≡ hi distance }
-{
-    let low = distance % 0x1_0000_0000;
-    Imm20::new(((low + 2048) / 4096 % 0x10_0000) as u32)
-}
 
 /// The instruction word of AUIPC: that of LUI but for the opcode.
 #[inline(always)]
