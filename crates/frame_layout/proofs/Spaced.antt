@@ -83,8 +83,19 @@ module _ (w : Around) where
   ends_at : (from to end : ℕ) (ps : List ℕ) → to ≡ end → AreSpaced from ps to → AreSpaced from ps end
   ends_at from to end ps e h = subst (λ (n : ℕ). AreSpaced from ps n) e h
 
-  begins_at : (from begin to : ℕ) (ps : List ℕ) → from ≡ begin → AreSpaced from ps to → AreSpaced begin ps to
-  begins_at from begin to ps e h = subst (λ (n : ℕ). AreSpaced n ps to) e h
+  -- traps of n words, and then of m more
+  then_spaced : (here n m : ℕ) (ts us : List Trap) → AreSpaced here (places_of ts) (here + n) → AreSpaced (here + n) (places_of us) (here + n + m) → AreSpaced here (places_of (ts ++ us)) (here + (n + m))
+  then_spaced here n m ts us first more =
+      traps-both here (here + n) (here + (n + m)) ts us first (subst (AreSpaced (here + n) (places_of us)) (let e : here + n + m ≡ here + (n + m) = omega arith in e) more)
+
+  -- a body, and what follows it
+  nested : (c : Context) (labels : List Label) (within : Context) (inner : List Label) (h : ℕ) (next : Place) (here behind : ℕ) (body rest : Seq)
+      → TreeSpaced within inner (Some h) here (1 + tokens_in rest + behind) body → ((after : ℕ) → TreeSpaced c labels next after behind rest)
+      → AreSpaced here (places_of (traps w within inner (Some h) here (1 + tokens_in rest + behind) body ++ traps w c labels next (here + size w within inner (Some h) body) behind rest))
+      (here + (size w within inner (Some h) body + size w c labels next rest))
+  nested c labels within inner h next here behind body rest own more =
+      let n = size w within inner (Some h) body in
+      then_spaced here n (size w c labels next rest) (traps w within inner (Some h) here (1 + tokens_in rest + behind) body) (traps w c labels next (here + n) behind rest) own (more (here + n))
 
   tree_spaced : (c : Context) (labels : List Label) (place : Place) (here behind : ℕ) (tree : Seq) → TreeSpaced c labels place here behind tree
   tree_spaced c labels None here behind tree = omega arith
@@ -93,30 +104,18 @@ module _ (w : Around) where
       let next = after_rule (rule_of c p) (Some h) in
       let n = length (words w c labels h 0 p) in
       let left = tokens_in (Simple p rest) + behind in
-      let m = size w c labels next rest in
-      let first = begins_at (here + 0) here (here + n) (places_of (traps_of here left p)) (omega arith) (spaced-on here left 0 n (trap_places p) (plain_spaced c labels h 0 p)) in
-      let more = ends_at (here + n) (here + n + m) (here + (n + m)) (places_of (traps w c labels next (here + n) behind rest)) (omega arith) (tree_spaced c labels next (here + n) behind rest) in
-      traps-both here (here + n) (here + (n + m)) (traps_of here left p) (traps w c labels next (here + n) behind rest) first more
+      let own = subst (λ (from : ℕ). AreSpaced from (places_of (traps_of here left p)) (here + n)) (let e : here + 0 ≡ here = omega arith in e) (spaced-on here left 0 n (trap_places p) (plain_spaced c labels h 0 p)) in
+      then_spaced here n (size w c labels next rest) (traps_of here left p) (traps w c labels next (here + n) behind rest) own (tree_spaced c labels next (here + n) behind rest)
   tree_spaced c labels (Some h) here behind (Block type body rest) =
       let s = shape c type in
-      let within = inside c s.results in
-      let inner = label (h - length s.params) (length s.results) 0 ∷ labels in
-      let next = after_block s (Some h) in
-      let n = size w within inner (Some h) body in
-      let m = size w c labels next rest in
-      let more = ends_at (here + n) (here + n + m) (here + (n + m)) (places_of (traps w c labels next (here + n) behind rest)) (omega arith) (tree_spaced c labels next (here + n) behind rest) in
-      traps-both here (here + n) (here + (n + m)) (traps w within inner (Some h) here (1 + tokens_in rest + behind) body) (traps w c labels next (here + n) behind rest)
-      (tree_spaced within inner (Some h) here (1 + tokens_in rest + behind) body) more
+      nested c labels (inside c s.results) (label (h - length s.params) (length s.results) 0 ∷ labels) h (after_block s (Some h)) here behind body rest
+      (tree_spaced (inside c s.results) (label (h - length s.params) (length s.results) 0 ∷ labels) (Some h) here (1 + tokens_in rest + behind) body)
+      (λ after. tree_spaced c labels (after_block s (Some h)) after behind rest)
   tree_spaced c labels (Some h) here behind (Loop type body rest) =
       let s = shape c type in
-      let within = inside c s.params in
-      let inner = label (h - length s.params) (length s.params) 0 ∷ labels in
-      let next = after_block s (Some h) in
-      let n = size w within inner (Some h) body in
-      let m = size w c labels next rest in
-      let more = ends_at (here + n) (here + n + m) (here + (n + m)) (places_of (traps w c labels next (here + n) behind rest)) (omega arith) (tree_spaced c labels next (here + n) behind rest) in
-      traps-both here (here + n) (here + (n + m)) (traps w within inner (Some h) here (1 + tokens_in rest + behind) body) (traps w c labels next (here + n) behind rest)
-      (tree_spaced within inner (Some h) here (1 + tokens_in rest + behind) body) more
+      nested c labels (inside c s.params) (label (h - length s.params) (length s.params) 0 ∷ labels) h (after_block s (Some h)) here behind body rest
+      (tree_spaced (inside c s.params) (label (h - length s.params) (length s.params) 0 ∷ labels) (Some h) here (1 + tokens_in rest + behind) body)
+      (λ after. tree_spaced c labels (after_block s (Some h)) after behind rest)
   tree_spaced c labels (Some h) here behind (If type body rest) =
       let s = shape c type in
       let within = inside c s.results in
