@@ -21,7 +21,7 @@ use Rattle.wasm_defs.specs.declared.token.Plain.TheVariants.{Unreachable, Nop, B
 use Rattle.wasm_defs.specs.declared.token.Token.{Token}
 use Rattle.wasm_defs.specs.declared.token.Token.TheVariants as token
 use Rattle.wasm_defs.specs.Opcodes.{operations, accesses, load_code, store_code, operation_code}
-use Rattle.wasm_defs.specs.Entries.{const_opcode, bits_of}
+use Rattle.wasm_defs.specs.Entries.{const_opcode}
 use Rattle.wasm_defs.specs.Numbers.{IsLastByte, Spells}
 use Rattle.wasm_defs.specs.Fields.{Cursor, Read, Got, Reader, then_go, ◌>>=◌, byte, number, u32, vector, here}
 use Rattle.wasm_defs.specs.Items.{Spelling, ◌then◌, exactly, byte_is, number_is, vector_is, listed_index_is}
@@ -36,6 +36,7 @@ use Rattle.wasm_laws.proofs.SpeltLists.{vector_spelt}
 use Rattle.wasm_laws.proofs.SpeltParts.{placed_spelt, ruled_spelt}
 use Rattle.body_laws.proofs.Rows.{operation_at, access_code, access_at}
 use Rattle.wasm_defs.proofs.EachOperation.{all_rows, each_operation, operation_row}
+use Rattle.wasm_defs.specs.Values.{bits}
 
 -- ---- fields without their offsets
 
@@ -268,7 +269,7 @@ module _ (counted : Bool) (o b : ℕ) (c d : Cursor) (found : Found (byte_is o b
   constants : (ty : ValType) → eqb b (const_opcode ty) ≡ true → IfGot Q (constant ty d)
   unfolding constant
   constants ty e =
-      read _ _ (number true (bits_of ty)) _ _ d (number_spelt true (bits_of ty)) ready (λ n g value ready.
+      read _ _ (number true (bits ty)) _ _ d (number_spelt true (bits ty)) ready (λ n g value ready.
       followed (const_opcode ty) (token.Plain (Const ty n.1)) g (is (const_opcode ty) e) (found_as (signed_is ty n.1) (Unit {0}) d g value (λ at bytes s. s.1) tt) (λ at bytes s. s))
 
   control_found : IfGot Q (control o b d)
@@ -372,7 +373,7 @@ mem_arg_read op m = reads_on mem_arg _ m _ (mem_arg_is m) (mem_arg_spelt.complet
 
 constant_read : (ty : ValType) (n : ℤ) → Reads (constant ty) (token.Plain (Const ty n)) (signed_is ty n)
 unfolding constant
-constant_read ty n = reads_only (number true (bits_of ty)) _ n _ (signed_is ty n) (λ o. (number_spelt true (bits_of ty)).complete (o, n) tt) (λ o c. refl)
+constant_read ty n = reads_only (number true (bits ty)) _ n _ (signed_is ty n) (λ o. (number_spelt true (bits ty)).complete (o, n) tt) (λ o c. refl)
 
 loads : (counted : Bool) (op : LoadOp) (o : ℕ) → instruction counted o (load_code op) ≡ with_mem_arg (access.Load op)
 unfolding instruction memory load_code

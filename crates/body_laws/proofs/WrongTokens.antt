@@ -16,13 +16,13 @@ use Rattle.wasm_defs.specs.declared.token.Plain.{Plain}
 use Rattle.wasm_defs.specs.declared.token.Plain.TheVariants as plains
 use Rattle.wasm_defs.specs.declared.token.Token.{Token}
 use Rattle.wasm_defs.specs.declared.token.Token.TheVariants as token
-use Rattle.wasm_defs.specs.Entries.{bits_of}
 use Rattle.wasm_defs.specs.Fields.{Cursor, Read, Got, Fault, Reader, then_go, ◌>>=◌, done, refused, repeated, room_of, window, past, first_of, from_reading, byte, number, here, u32, vector}
 use Rattle.wasm_defs.specs.Numbers.{Reading, Number, CutOff, Bad, number_at}
 use Rattle.wasm_defs.specs.Items.{Spelling, ◌then◌, exactly, byte_is, u32_is, number_is, listed_index_is}
 use Rattle.wasm_defs.specs.Bodies.{with_index, short_type, type_by, block_type, with_type, label, branch_table, zero_byte, indirect, with_zero, initializing, copying, by_number, prefixed, mem_arg, accessed, with_mem_arg, constant, control, variable, accessed_at, memory, operated_at, numeric, instruction}
 use Rattle.wasm_defs.specs.Codes.{block_type_is, instruction_is}
 use Rattle.wasm_defs.proofs.NumberLaws.{AreBytes}
+use Rattle.wasm_defs.specs.Values.{bits}
 use Rattle.wasm_laws.specs.Sections as sections
 use Rattle.wasm_laws.specs.Steadiness as steady
 use Rattle.wasm_laws.proofs.Bytes.{each_byte}
@@ -142,10 +142,10 @@ zero_field = record {
   wrong = λ last c fits. read_wrong (λ (u : Unit {0}). field_is Zero) zero_byte last c (λ u front back e s. (tt, cursor (c.at + length front) back c.end, got_of zero_byte tt (exactly (0x00 ∷ [])) c fits (zero_spelt.complete tt tt) front back e s)) (zero_place c);
 }
 
-signed_field : (ty : ValType) → FieldIs (Signed ty) (number true (bits_of ty))
+signed_field : (ty : ValType) → FieldIs (Signed ty) (number true (bits ty))
 signed_field ty = record {
-  found = λ c ready. got_map (λ n d. Found (number_is true (bits_of ty) n) (Always n) c d) (λ n d. Found (field_is (Signed ty)) (Unit {0}) c d) (number true (bits_of ty) c) (λ n d found. found_here (field_is (Signed ty)) (Unit {0}) c d found (n.1, found.spelled.1) tt) ((number_spelt true (bits_of ty)).sound c ready);
-  wrong = λ last c fits. read_wrong (λ (u : Unit {0}). field_is (Signed ty)) (number true (bits_of ty)) last c (λ u front back e s. ((c.at, s.0), cursor (c.at + length front) back c.end, got_of (number true (bits_of ty)) (c.at, s.0) (number_is true (bits_of ty) (c.at, s.0)) c fits ((number_spelt true (bits_of ty)).complete (c.at, s.0) tt) front back e (refl, s.1))) (number_place true (bits_of ty) c);
+  found = λ c ready. got_map (λ n d. Found (number_is true (bits ty) n) (Always n) c d) (λ n d. Found (field_is (Signed ty)) (Unit {0}) c d) (number true (bits ty) c) (λ n d found. found_here (field_is (Signed ty)) (Unit {0}) c d found (n.1, found.spelled.1) tt) ((number_spelt true (bits ty)).sound c ready);
+  wrong = λ last c fits. read_wrong (λ (u : Unit {0}). field_is (Signed ty)) (number true (bits ty)) last c (λ u front back e s. ((c.at, s.0), cursor (c.at + length front) back c.end, got_of (number true (bits ty)) (c.at, s.0) (number_is true (bits ty) (c.at, s.0)) c fits ((number_spelt true (bits ty)).complete (c.at, s.0) tt) front back e (refl, s.1))) (number_place true (bits ty) c);
 }
 
 -- ---- what follows an opcode
@@ -268,7 +268,7 @@ accessing at op = inr (Fields (Index ∷ Index ∷ []), as_fields (Index ∷ Ind
 
 numbered : (at : ℕ) (ty : ValType) → Known at (constant ty)
 unfolding constant
-numbered at ty = inr (Fields (Signed ty ∷ []), as_fields (Signed ty ∷ []) (constant ty) (last_field (Signed ty) (number true (bits_of ty)) (λ n. token.Plain (plains.Const ty n.1)) (signed_field ty)))
+numbered at ty = inr (Fields (Signed ty ∷ []), as_fields (Signed ty ∷ []) (constant ty) (last_field (Signed ty) (number true (bits ty)) (λ n. token.Plain (plains.Const ty n.1)) (signed_field ty)))
 
 control_known : (at b : ℕ) → Known at (control at b)
 unfolding control

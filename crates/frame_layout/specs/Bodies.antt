@@ -22,6 +22,7 @@ use Rattle.wasm_defs.specs.declared.operation.ConvertOp.{ConvertOp}
 use Rattle.wasm_defs.specs.declared.operation.ConvertOp.TheVariants.{Wrap, ExtendS, ExtendU}
 use Rattle.wasm_defs.specs.declared.operation.ExtendOp.{ExtendOp}
 use Rattle.wasm_defs.specs.declared.operation.ExtendOp.TheVariants.{I32Extend8S, I32Extend16S, I64Extend8S, I64Extend16S, I64Extend32S}
+use Rattle.wasm_defs.specs.Values.{bits}
 use Rattle.frame_layout.specs.Macros.{x0, t0, t1, t2, forward, minus_one, const_64, trap, zero_extend}
 
 -- an operation of a width: on the low 32 bits, or on all
@@ -107,14 +108,10 @@ abbrev pub last_smear : ValType → List Op
 last_smear I32 = []
 last_smear I64 = smear 32
 
-abbrev pub width : ValType → ℕ
-width I32 = 32
-width I64 = 64
-
 abbrev pub unary_body : UnaryOp → ValType → List Op
 unary_body Clz t =
     cut t ++ (smear 1 ++ (smear 2 ++ (smear 4 ++ (smear 8 ++ (smear 16 ++ (last_smear t ++ (population
-    ++ (Imm Addi t1 x0 (width t) ∷ Reg reg.Sub t0 t1 t0 ∷ []))))))))
+    ++ (Imm Addi t1 x0 (bits t) ∷ Reg reg.Sub t0 t1 t0 ∷ []))))))))
 unary_body Ctz t = Imm Xori t1 t0 minus_one ∷ Imm Addi t0 t0 minus_one ∷ Reg reg.And t0 t0 t1 ∷ cut t ++ population
 unary_body Popcnt t = cut t ++ population
 

@@ -18,8 +18,9 @@ use Rattle.wasm_defs.specs.declared.token.Token.TheVariants as token
 use Rattle.wasm_defs.specs.Limits.{max_locals}
 use Rattle.wasm_defs.specs.Opcodes.{operations, accesses}
 use Rattle.wasm_defs.specs.Fields.{Cursor, Read, Got, Fault, Wants, Reader, ◌>>=◌, done, refused, byte, number, u32, vector, here}
-use Rattle.wasm_defs.specs.Entries.{value_type, bits_of}
+use Rattle.wasm_defs.specs.Entries.{value_type}
 use Rattle.wasm_defs.specs.Outside.{Nothing}
+use Rattle.wasm_defs.specs.Values.{bits}
 
 -- ---- locals (5.5.13)
 
@@ -132,7 +133,7 @@ with_mem_arg op = do
 
 unfoldable pub constant : ValType → Reader Token
 constant ty = do
-  n ← number true (bits_of ty)
+  n ← number true (bits ty)
   plain (Const ty n.1)
 
 -- ---- instructions, after an opcode b at an offset

@@ -12,9 +12,10 @@ use Rattle.wasm_defs.specs.declared.token.Token.{Token}
 use Rattle.wasm_defs.specs.declared.token.Token.TheVariants as token
 use Rattle.wasm_defs.specs.Numbers.{Spells}
 use Rattle.wasm_defs.specs.Opcodes.{load_code, store_code, operation_code}
-use Rattle.wasm_defs.specs.Entries.{const_opcode, bits_of}
+use Rattle.wasm_defs.specs.Entries.{const_opcode}
 use Rattle.wasm_defs.specs.Bodies.{Group}
 use Rattle.wasm_defs.specs.Items.{Spelling, ◌then◌, exactly, each_is, listed_type_is, listed_index_is}
+use Rattle.wasm_defs.specs.Values.{bits}
 
 -- ---- immediates, without their offsets
 
@@ -34,7 +35,7 @@ mem_arg_is m = listed_index_is m.align then listed_index_is m.offset
 
 -- a number as a signed one (5.4.5)
 abbrev pub signed_is : ValType → ℤ → Spelling
-signed_is ty n = λ at bytes. Spells n (bits_of ty) true bytes
+signed_is ty n = λ at bytes. Spells n (bits ty) true bytes
 
 -- ---- instructions (5.4)
 

@@ -15,6 +15,7 @@ use Rattle.wasm_defs.specs.declared.item.Item.{Item}
 use Rattle.wasm_defs.specs.declared.item.Item.TheVariants.{Signature, Imported, Function, Table, Memory, Global, Exported, Start, Element, Code, DataCount, Passive, Segment}
 use Rattle.wasm_defs.specs.Limits.{max_params, max_results, max_entries, max_table, max_pages, top_pages, top_rows}
 use Rattle.wasm_defs.specs.Fields.{Reader, ◌>>=◌, done, refused, byte, number, u32, count, vector, stop, counted_bytes, name}
+use Rattle.wasm_defs.specs.Values.{bits}
 
 -- the names that were exported, each with its offset
 abbrev pub Names : Type 0
@@ -118,10 +119,6 @@ abbrev pub const_opcode : ValType → ℕ
 const_opcode I32 = 0x41
 const_opcode I64 = 0x42
 
-abbrev pub bits_of : ValType → ℕ
-bits_of I32 = 32
-bits_of I64 = 64
-
 -- an opcode in place of the right one is refused at its offset; after the prefix FC its number has to be whole
 unfoldable pub refused_opcode : {A : Type 0} → ℕ × ℕ → Reader A
 refused_opcode b =
@@ -135,7 +132,7 @@ unfoldable pub constant : ValType → Reader Constant
 constant ty = do
   opcode ← byte
   if opcode.1 == const_opcode ty then (do
-    value ← number true (bits_of ty)
+    value ← number true (bits ty)
     end ← byte
     if end.1 == 0x0B then done (record { opcode = opcode.0; value = value; end = end.0 })
         else refused_opcode end)

@@ -15,12 +15,7 @@ use Rattle.wasm_defs.specs.declared.operation.ConvertOp.{ConvertOp}
 use Rattle.wasm_defs.specs.declared.operation.ConvertOp.TheVariants.{Wrap, ExtendS, ExtendU}
 use Rattle.wasm_defs.specs.declared.operation.ExtendOp.{ExtendOp}
 use Rattle.wasm_defs.specs.declared.operation.ExtendOp.TheVariants.{I32Extend8S, I32Extend16S, I64Extend8S, I64Extend16S, I64Extend32S}
-use Rattle.wasm_defs.specs.Values.{modulus, signed, unsigned}
-
--- N
-abbrev pub bits : ValType → ℕ
-bits I32 = 32
-bits I64 = 64
+use Rattle.wasm_defs.specs.Values.{modulus, signed, unsigned, bits}
 
 -- what an operation gives that is not defined at some operands: where it is undefined, the instruction traps
 pub data Computed : Type 0 where

@@ -12,9 +12,10 @@ use Rattle.wasm_defs.specs.declared.item.Constant.{Constant}
 use Rattle.wasm_defs.specs.declared.item.Item.{Item}
 use Rattle.wasm_defs.specs.declared.item.Item.TheVariants.{Signature, Imported, Function, Table, Memory, Global, Exported, Start, Element, Code, DataCount, Passive, Segment}
 use Rattle.wasm_defs.specs.Numbers.{Spells}
-use Rattle.wasm_defs.specs.Entries.{const_opcode, bits_of}
+use Rattle.wasm_defs.specs.Entries.{const_opcode}
 use Rattle.wasm_defs.specs.Context.{declared_count, data_count_of, segment_count_of}
 use Rattle.wasm_defs.specs.Outside.{Body, magic, version, agrees, id_of}
+use Rattle.wasm_defs.specs.Values.{bits}
 
 -- ---- encodings
 
@@ -110,7 +111,7 @@ listed_index_is i = λ at bytes. Spells (pos i) 32 false bytes
 
 -- a constant of a type, and `end` (5.4.5, 5.4.6)
 abbrev pub constant_is : ValType → Constant → Spelling
-constant_is ty c = byte_is c.opcode (const_opcode ty) then number_is true (bits_of ty) c.value then byte_is c.end 0x0B
+constant_is ty c = byte_is c.opcode (const_opcode ty) then number_is true (bits ty) c.value then byte_is c.end 0x0B
 
 -- what is exported (5.5.10)
 abbrev pub extern_code : Extern → ℕ

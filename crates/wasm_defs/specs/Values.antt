@@ -13,6 +13,11 @@ pub record Value : Type 0 where
   pub ty : ValType
   pub number : ℕ
 
+-- N for a type of N bits
+abbrev pub bits : ValType → ℕ
+bits I32 = 32
+bits I64 = 64
+
 -- 2 ^ N for a type of N bits
 abbrev pub modulus : ValType → ℕ
 modulus I32 = 2 ^ 32

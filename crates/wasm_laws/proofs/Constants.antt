@@ -8,10 +8,11 @@ use Rattle.wasm_defs.specs.declared.item.Item.TheVariants.{Signature, Global}
 use Rattle.wasm_defs.specs.declared.types.ValType.{ValType}
 use Rattle.wasm_defs.specs.declared.types.ValType.TheVariants.{I32, I64}
 use Rattle.wasm_defs.specs.Fields.{Cursor, Read, Got, Fault, Wants, byte, number}
-use Rattle.wasm_defs.specs.Entries.{Seen, nothing, value_type, mutability, const_opcode, bits_of, constant, global, code}
+use Rattle.wasm_defs.specs.Entries.{Seen, nothing, value_type, mutability, const_opcode, constant, global, code}
 use Rattle.wasm_defs.specs.Faults.{items_of}
 use Rattle.wasm_defs.specs.Items.{section_of}
 use Rattle.wasm_defs.specs.Outside.{Part, Section, Listed, Coded, listed, body, code_entry, custom_name, row, header, entered, noted, inside, section_end, Run, after_part, runs_on, Next, finish, entries, contents, section, position_of, owes, at_the_end, or_section, sections_up_to, preamble, beginning, module_read}
+use Rattle.wasm_defs.specs.Values.{bits}
 use Rattle.wasm_laws.specs.Kept.{FitsType, ConstantsFit}
 use Rattle.wasm_laws.specs.Sections as sections
 use Rattle.wasm_laws.specs.Steadiness.{Advances, Leaves}
@@ -39,7 +40,7 @@ bytes_later c Wants p fits = tt
 abbrev Fits : ValType → Constant → Cursor → Type 0
 Fits ty k d = FitsType ty k.value.1
 
-typed_number : (ty : ValType) (c : Cursor) → HasBytes c → IfGot (λ n d. FitsType ty n.1) (number true (bits_of ty) c)
+typed_number : (ty : ValType) (c : Cursor) → HasBytes c → IfGot (λ n d. FitsType ty n.1) (number true (bits ty) c)
 typed_number I32 c fits = number_got c fits
 typed_number I64 c fits = wide_number_got c fits
 
@@ -50,7 +51,7 @@ constant_got ty c fits =
     (λ opcode d behind.
     elim (cases_Bool (eqb opcode.1 (const_opcode ty))) [
       | inr other ↦ rw other (refused_got (Fits ty) opcode d)
-      | inl right ↦ rw right (then_got (λ n e. FitsType ty n.1) (Fits ty) (number true (bits_of ty) d) _ (typed_number ty d behind)
+      | inl right ↦ rw right (then_got (λ n e. FitsType ty n.1) (Fits ty) (number true (bits ty) d) _ (typed_number ty d behind)
           (λ n e fit.
           then_got (λ b f. Unit {0}) (Fits ty) (byte e) _ (always (byte e))
           (λ b f t.

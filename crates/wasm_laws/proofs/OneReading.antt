@@ -12,12 +12,13 @@ use Rattle.wasm_defs.specs.declared.item.Limits.{Limits}
 use Rattle.wasm_defs.specs.declared.item.Constant.{Constant}
 use Rattle.wasm_defs.specs.declared.item.Item.{Item}
 use Rattle.wasm_defs.specs.declared.item.Item.TheVariants.{Signature, Imported, Function, Table, Memory, Global, Exported, Start, Element, Code, DataCount, Passive, Segment}
-use Rattle.wasm_defs.specs.Entries.{const_opcode, bits_of}
+use Rattle.wasm_defs.specs.Entries.{const_opcode}
 use Rattle.wasm_defs.specs.Context.{data_count_of}
 use Rattle.wasm_defs.specs.Outside.{Body, position_of}
 use Rattle.wasm_laws.proofs.Positions.{position_again}
 use Rattle.wasm_laws.proofs.DataCounts.{all_front, all_back}
 use Rattle.wasm_defs.specs.Items.{Spelling, Joined, ◌then◌, exactly, each_is, byte_is, number_is, u32_is, vector_is, Sized, bytes_are, name_is, type_code, listed_type_is, bounds_are, limits_are, mutability_code, listed_index_is, constant_is, extern_code, item_is, section_of, body_is, AllOf, Section, Payload, Custom, Vector, Starting, Counting, Bodies, payload_id, payload_position, HoldsVector, payload_is, payload_items, payload_bodies, items_in, bodies_in, section_is, Items}
+use Rattle.wasm_defs.specs.Values.{bits}
 
 -- two things that bytes begin with are one, and so is what is left
 pub record Same {A : Type 0} (x y : A) (f g b c : List ℕ) : Type 0 where
@@ -197,7 +198,7 @@ constant_one ty x y =
     let op = const_opcode ty in
     as_one (λ (z : (ℕ × ℕ) × ((ℕ × ℤ) × (ℕ × ℕ))). record { opcode = z.0.0; value = z.1.0; end = z.1.1.0 }) _ _ ((x.opcode, op), (x.value, (x.end, 0x0B))) ((y.opcode, op), (y.value, (y.end, 0x0B)))
     (two_one (byte_is x.opcode op) (byte_is y.opcode op) _ _ (x.opcode, op) (y.opcode, op) (x.value, (x.end, 0x0B)) (y.value, (y.end, 0x0B)) (byte_one (x.opcode, op) (y.opcode, op))
-    (λ d. two_one (number_is true (bits_of ty) x.value) (number_is true (bits_of ty) y.value) (byte_is x.end 0x0B) (byte_is y.end 0x0B) x.value y.value (x.end, 0x0B) (y.end, 0x0B) (number_one true (bits_of ty) x.value y.value) (λ d. byte_one (x.end, 0x0B) (y.end, 0x0B))))
+    (λ d. two_one (number_is true (bits ty) x.value) (number_is true (bits ty) y.value) (byte_is x.end 0x0B) (byte_is y.end 0x0B) x.value y.value (x.end, 0x0B) (y.end, 0x0B) (number_one true (bits ty) x.value y.value) (λ d. byte_one (x.end, 0x0B) (y.end, 0x0B))))
 
 name_one : IsOne name_is
 name_one m n at f g b c s t e = bytes_one m n at f g b c s.1 t.1 e

@@ -9,9 +9,10 @@ use Rattle.wasm_defs.specs.declared.item.Extern.TheVariants as extern
 use Rattle.wasm_defs.specs.declared.item.Constant.{Constant}
 use Rattle.wasm_defs.specs.Numbers.{Spells}
 use Rattle.wasm_defs.specs.Fields.{Cursor, Read, Got, Fault, Wants, Reader, then_go, ◌>>=◌, done, refused, byte, number, u32, count}
-use Rattle.wasm_defs.specs.Entries.{index, value_type, listed_type, limits, const_opcode, bits_of, constant, mutability, extern_kind, listed_index}
+use Rattle.wasm_defs.specs.Entries.{index, value_type, listed_type, limits, const_opcode, constant, mutability, extern_kind, listed_index}
 use Rattle.wasm_defs.specs.Items.{Spelling, ◌then◌, byte_is, u32_is, type_code, type_is, listed_type_is, bounds_are, limits_are, mutability_code, listed_index_is, constant_is, extern_code}
 use Rattle.wasm_defs.specs.Rules.{IsUpTo, LimitsKeep}
+use Rattle.wasm_defs.specs.Values.{bits}
 use Rattle.wasm_laws.proofs.Steady.{IfGot}
 use Rattle.wasm_laws.proofs.Spelt.{Ready, Found, found_then, found_as, read, unless, provided, Reads, reads_then, reads_on, reads_if, reads_else, Spelt}
 use Rattle.wasm_laws.proofs.SpeltFields.{Always, byte_spelt, number_spelt, u32_spelt}
@@ -171,7 +172,7 @@ constant_found ty c ready =
     read _ _ byte _ _ c byte_spelt ready (λ opcode d opcode_found ready.
     either_got _ (eqb opcode.1 (const_opcode ty)) _ _ d
     (λ right.
-    read _ _ (number true (bits_of ty)) _ _ d (number_spelt true (bits_of ty)) ready (λ value e value_found ready.
+    read _ _ (number true (bits ty)) _ _ d (number_spelt true (bits ty)) ready (λ value e value_found ready.
     read _ _ byte _ _ e byte_spelt ready (λ end f end_found ready.
     either_got _ (eqb end.1 0x0B) _ _ f
     (λ closed.
@@ -186,7 +187,7 @@ unfolding constant
 constant_read ty x =
     reads_then byte _ (x.opcode, const_opcode ty) x _ _ (byte_spelt.complete (x.opcode, const_opcode ty) tt)
     (reads_if (eqb (const_opcode ty) (const_opcode ty)) _ _ x _ (eq-eqb (const_opcode ty) (const_opcode ty) refl)
-    (reads_then (number true (bits_of ty)) _ x.value x _ _ ((number_spelt true (bits_of ty)).complete x.value tt)
+    (reads_then (number true (bits ty)) _ x.value x _ _ ((number_spelt true (bits ty)).complete x.value tt)
     (reads_on byte _ (x.end, 0x0B) x _ (byte_spelt.complete (x.end, 0x0B) tt) (λ c. refl))))
 
 pub constant_spelt : (ty : ValType) → Spelt (constant_is ty) Always (constant ty)

@@ -9,8 +9,8 @@ use Rattle.wasm_defs.specs.declared.types.ValType.{ValType}
 use Rattle.wasm_defs.specs.declared.types.ValType.TheVariants.{I32, I64}
 use Rattle.wasm_defs.specs.declared.operation.UnaryOp.{UnaryOp}
 use Rattle.wasm_defs.specs.declared.operation.UnaryOp.TheVariants.{Clz, Ctz, Popcnt}
-use Rattle.wasm_defs.specs.Values.{modulus, word}
-use Rattle.wasm_defs.specs.Integers.{bits, unary}
+use Rattle.wasm_defs.specs.Values.{modulus, word, bits}
+use Rattle.wasm_defs.specs.Integers.{unary}
 use Rattle.simulation.proofs.Integers.Extensions.{word_small, low_word, word_below}
 use Rattle.simulation.proofs.Integers.Populations.{population_value, population_is}
 use Rattle.simulation.proofs.Integers.Smears.{filled_first, filled_more, filled_all, trailing}

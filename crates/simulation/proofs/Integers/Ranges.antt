@@ -15,8 +15,8 @@ use Rattle.wasm_defs.specs.declared.types.ValType.TheVariants.{I32, I64}
 use Rattle.wasm_defs.specs.declared.operation.BinaryOp.TheVariants.{Add, Sub, Mul, DivS, DivU, RemS, RemU, And, Or, Xor, Shl, ShrS, ShrU, Rotl, Rotr}
 use Rattle.wasm_defs.specs.declared.operation.CompareOp.TheVariants.{Eq, Ne, LtS, LtU, GtS, GtU, LeS, LeU, GeS, GeU}
 use Rattle.wasm_defs.specs.declared.operation.ConvertOp.TheVariants.{Wrap, ExtendS, ExtendU}
-use Rattle.wasm_defs.specs.Values.{modulus, signed, unsigned, word}
-use Rattle.wasm_defs.specs.Integers.{Computed, Number, DividesByZero, Overflows, bits, flag, irotl, irotr, idiv_s}
+use Rattle.wasm_defs.specs.Values.{modulus, signed, unsigned, word, bits}
+use Rattle.wasm_defs.specs.Integers.{Computed, Number, DividesByZero, Overflows, flag, irotl, irotr, idiv_s}
 use Rattle.simulation.specs.IntegerLaws.{BinaryRangeLaw, CompareRangeLaw, UnaryRangeLaw, TestRangeLaw, ConvertRangeLaw}
 use Rattle.simulation.proofs.Integers.Extensions.{narrow, word_large, word_below}
 use Rattle.simulation.proofs.Integers.Sized.{exact_value, add_is, sub_is, mul_is, shl_is, shr_u_is, shr_s_is, div_u_is, rem_u_is, div_s_is, rem_s_is}
