@@ -1,21 +1,20 @@
 -- The bodies of a module are encoded, and what is encoded is a module.
-use Rattle.std.proofs.Common.{◌≡◌, ℕ, suc, ◌+◌, List, [], ◌∷◌, ◌++◌, length, None, refl, sym, ap, ◌∙◌, subst, append_assoc}
+use Rattle.std.proofs.Common.{◌≡◌, ℕ, suc, ◌+◌, List, [], ◌∷◌, ◌++◌, length, refl, sym, ap, ◌∙◌, subst, append_assoc}
 use Rattle.std.proofs.lemmas.List.{append-nil}
 use Rattle.wasm_defs.specs.declared.item.Item.{Item}
 use Rattle.wasm_defs.specs.declared.token.Token.{Token}
 use Rattle.wasm_defs.specs.Bodies.{Group}
 use Rattle.wasm_defs.specs.Context.{context_of, import_count, body_context, type_of_function}
-use Rattle.wasm_defs.specs.Entries.{Seen}
 use Rattle.wasm_defs.specs.Faults.{ending_fault, tokens_of, read_of, context_at, items_of, bodies_of, IsValidCode, AreValid, Module, IsModule}
 use Rattle.wasm_defs.specs.Items.{Section}
-use Rattle.wasm_defs.specs.Outside.{Body, Part, Section as Headed, Listed, Coded, Ending, Whole, Refused, Owed, Run, module_read}
+use Rattle.wasm_defs.specs.Outside.{Body, Part, Section as Headed, Listed, Coded, Ending, Run, module_read}
 use Rattle.wasm_defs.specs.Trees.{Seq, Tree}
 use Rattle.wasm_defs.specs.Typing.{Context, IsBody}
 use Rattle.wasm_laws.specs.Behind.{SayTheSame, UsesKeep, AreValidIn}
 use Rattle.wasm_laws.specs.Sections.{AreBytes, parts_in}
 use Rattle.wasm_laws.proofs.Behind.{bodies_stand_behind, bodies_are_valid, uses_keep}
 use Rattle.wasm_laws.proofs.Bytes.{each_byte, HaveBytes, bodies_have_bytes}
-use Rattle.wasm_laws.proofs.Described.{items_of_parts, bodies_of_parts, whole_is_described}
+use Rattle.wasm_laws.proofs.Described.{items_of_parts, bodies_of_parts, whole_is_described, whole_ending}
 use Rattle.wasm_laws.proofs.Locals.{locals_are_few}
 use Rattle.wasm_laws.proofs.WholeModules.{described_is_whole}
 use Rattle.body_laws.specs.Spelled.{IsSpelled, AreSpelled, IsSpelledModule}
@@ -89,11 +88,6 @@ valid_at_parts bytes front items k (Coded b ∷ parts) (tree ∷ trees) e same s
     )
 
 -- ---- modules
-
-whole_ending : (len : ℕ) (ending : Ending) → ending_fault len ending ≡ None → (seen : Seen) × (ending ≡ Whole seen)
-whole_ending len (Whole seen) e = (seen, refl)
-whole_ending len (Refused r) e = absurd cc
-whole_ending len Owed e = absurd cc
 
 pub module_is_spelled : (bytes : List ℕ) (m : Module) → AreBytes bytes → IsModule bytes m → (sections : List Section) × IsSpelledModule bytes m sections
 module_is_spelled bytes m fits is =

@@ -1,6 +1,5 @@
 -- What the instruction words of instructions do.
-use Rattle.std.proofs.Common.{◌≡◌, ℕ, ◌+◌, ◌-◌, ◌%◌, ◌^◌, ◌==◌, ◌<◌, true, List, [], ◌∷◌, ◌++◌, Option, inl, inr, refl, ap, ap₂, ◌∙◌, arith}
-use Rattle.std.proofs.lemmas.Bool.{cases_lt, lt-ltb, le-ltb}
+use Rattle.std.proofs.Common.{◌≡◌, ℕ, ◌+◌, ◌-◌, ◌%◌, ◌^◌, ◌==◌, ◌<◌, true, List, [], ◌∷◌, ◌++◌, Option, refl, ap, ap₂, ◌∙◌, arith}
 use Rattle.rv_isa.specs.declared.operations.RegOpW.TheVariants.{Addw}
 use Rattle.rv_isa.specs.declared.operations.Op.{Op}
 use Rattle.rv_isa.specs.declared.operations.Op.TheVariants.{RegW}
@@ -19,6 +18,7 @@ use Rattle.frame_layout.proofs.Standing.{has_first, has_rest}
 use Rattle.frame_layout.proofs.Constants.{block_leaves, const_word_leaves, const_64_leaves}
 use Rattle.frame_layout.proofs.SlotLaws.{load_slot_leaves, store_slot_leaves}
 use Rattle.frame_layout.proofs.Steps.{does_leave, does_then, does_with, frame_stays}
+use Rattle.frame_layout.proofs.WordLaws.{low_word}
 
 -- what t0 holds then goes to a slot of the frame
 pub stored_does : (code : List (Option Op)) (s : State) (i steps count base k v : ℕ) → (first : Does code steps count s s.bytes) → reg first.end.registers t0 ≡ v → HasAt code i (store_slot t0 k) → first.end.pc ≡ place i → IsFrame base s → base + k < max_slots → Does code (steps + 3) (count + 3) s (with_slot s.bytes (base + k) v)
@@ -55,13 +55,6 @@ local_get_does w code s i base h x has at frame near inside =
     copied_does code s i base x (operand w.layout h) has at frame near inside
 
 -- ---- numbers
-
-low_word : (n : ℕ) → n < 2 ^ 32 → word I32 n % 2 ^ 32 ≡ n
-low_word n small =
-    elim (cases_lt n (2 ^ 31)) [
-      | inl h ↦ rw (lt-ltb n (2 ^ 31) h) (omega arith)
-      | inr h ↦ rw (le-ltb n (2 ^ 31) h) (omega arith)
-    ]
 
 -- the machine's sum of two words is the word of the sum
 add_word : (a b : ℕ) → a < 2 ^ 32 → b < 2 ^ 32 → computed_w Addw (word I32 a) (word I32 b) ≡ word I32 (iadd I32 a b)

@@ -1,4 +1,5 @@
 pub mod Standing
+pub mod WordLaws
 pub mod Constants
 pub mod SlotLaws
 pub mod Steps
@@ -9,4 +10,5 @@ pub mod Zeroing
 pub mod Beginnings
 pub mod Imports
 pub mod TrapWords
+pub mod Sizes
 pub mod Spaced

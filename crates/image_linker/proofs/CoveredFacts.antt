@@ -6,10 +6,10 @@ use Rattle.wasm_defs.specs.declared.types.ValType.TheVariants.{I32, I64}
 use Rattle.wasm_defs.specs.declared.token.Plain.{Plain}
 use Rattle.wasm_defs.specs.declared.token.Plain.TheVariants.{Load, Store, Const}
 use Rattle.wasm_defs.specs.Context.{type_or_empty, type_of_function, context_of, import_count, declared_count, data_count_of, types_of, functions_of}
-use Rattle.wasm_defs.specs.Entries.{Seen, or_zero}
-use Rattle.wasm_defs.specs.Outside.{Body, Ending, Whole, Refused, Owed, module_read}
+use Rattle.wasm_defs.specs.Entries.{or_zero}
+use Rattle.wasm_defs.specs.Outside.{Body, module_read}
 use Rattle.wasm_defs.specs.Trees.{Seq, Nothing, Simple, Block, Loop, If, IfElse}
-use Rattle.wasm_defs.specs.Faults.{tokens_of, read_of, context_at, ending_fault, IsValidCode, Module, IsModule}
+use Rattle.wasm_defs.specs.Faults.{tokens_of, read_of, context_at, IsValidCode, Module, IsModule}
 use Rattle.wasm_defs.specs.Instances.{rows_of, elements_of, data_of, segments_of, instance_of, exports_of, named, start_of}
 use Rattle.wasm_laws.specs.Behind.{AreValidIn}
 use Rattle.wasm_defs.specs.SmallTypes.{TypeIsSmall, TypesAreSmall}
@@ -29,7 +29,6 @@ use Rattle.wasm_laws.proofs.Ranges.{constant_fits, long_constant_fits, tree_is_i
 use Rattle.wasm_laws.proofs.Spaces.{spaces_are_small}
 use Rattle.wasm_laws.proofs.Starts.{start_is_right}
 use Rattle.wasm_laws.proofs.ImportTypes.{imports_return_one}
-use Rattle.wasm_laws.proofs.Typed.{functions_of-counts}
 use Rattle.simulation.specs.Covered.{IsCoveredStep, IsCovered}
 use Rattle.wasm_defs.specs.Places.{or_empty}
 use Rattle.wasm_defs.specs.Typing.{Types, Context, inside, option_signature, function_type}
@@ -41,10 +40,12 @@ use Rattle.wasm_defs.specs.declared.token.BlockType.{BlockType}
 use Rattle.wasm_defs.specs.declared.token.BlockType.TheVariants.{Empty, Value, Index}
 use Rattle.wasm_defs.specs.declared.token.Token.{Token}
 use Rattle.wasm_defs.specs.declared.token.Token.TheVariants as token
+use Rattle.wasm_defs.proofs.ItemLaws.{functions_of-counts}
 use Rattle.simulation.proofs.Frames.Lows.{max_lift, TakesFew, IsFew, FewIn, body_low, tokens_spelled}
 use Rattle.image_linker.specs.ImageOf.{segments_at_first}
 use Rattle.image_linker.proofs.CoveredModules.{IsCoveredBody, AreCoveredBodies, AreCounted, IsCoveredModule}
 use Rattle.wasm_laws.proofs.ShortOffsets.{offsets_are_short}
+use Rattle.wasm_laws.proofs.Described.{whole_ending}
 use Rattle.image_linker.proofs.Imported.{ImportsFirst, imports_come_first}
 use Rattle.image_linker.proofs.NamedRows.{joined_first}
 use Rattle.image_linker.proofs.SegmentFacts.{AreHeld, segments_are_held, segments_are_counted, first_bytes}
@@ -155,11 +156,6 @@ module _ (items : List Item) (types : TypesAreSmall (context_of items).types) wh
 
 -- ---- modules
 
-no_fault : (len : ℕ) (ending : Ending) → ending_fault len ending ≡ None → (seen : Seen) × (ending ≡ Whole seen)
-no_fault len (Whole seen) e = (seen, refl)
-no_fault len (Refused r) e = absurd cc
-no_fault len Owed e = absurd cc
-
 functions_are_few : (items : List Item) → length (functions_of items) ≤ entries_in 2 items + entries_in 3 items
 functions_are_few [] = omega arith
 functions_are_few (item.Imported from what kind type_index ∷ items) = omega (arith, functions_are_few items)
@@ -170,7 +166,7 @@ module _ (bytes : List ℕ) (m : Module) (fits : AreBytes bytes) (is : IsModule 
   -- as many declared functions as bodies
   functions_match : length (functions_of m.items) ≡ import_count m.items + length m.bodies
   functions_match =
-      let whole = no_fault (length bytes) (module_read bytes).ending is.whole in
+      let whole = whole_ending (length bytes) (module_read bytes).ending is.whole in
       let matched = bodies_match bytes whole.0 whole.1 in
       omega (arith, functions_of-counts m.items, matched, ap declared_count is.items, ap length is.bodies)
 

@@ -21,7 +21,7 @@ use Rattle.frame_layout.specs.Templates.{Label, Around, label_at, last_label, mo
 use Rattle.frame_layout.specs.Functions.{label, over, size, code, test_words, Trap, trap_at, traps_of, site_of, traps, body_place, body_size, body_code, function_code, body_traps, sites_of}
 use Rattle.frame_layout.specs.Traps.{is_number, is_call, found, trap_places, room_trap}
 use Rattle.frame_layout.proofs.TrapWords.{traps_are_found}
-use Rattle.simulation.proofs.Frames.Sizes.{taken_by, words_size, over_size, code_size}
+use Rattle.frame_layout.proofs.Sizes.{taken_by, words_size, over_size, code_size}
 
 -- whether the last of some operations gives a7 the number of traps, or else what was before them
 abbrev after : Bool → List Op → Bool

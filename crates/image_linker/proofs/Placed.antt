@@ -17,7 +17,7 @@ use Rattle.frame_layout.specs.Templates.{exit_stub}
 use Rattle.frame_layout.specs.Functions.{no_distance}
 use Rattle.frame_layout.proofs.Standing.{has_first, has_rest as has_second}
 use Rattle.simulation.proofs.Frames.Sitting.{has_at}
-use Rattle.simulation.proofs.Frames.Sizes.{function_length}
+use Rattle.frame_layout.proofs.Sizes.{function_length}
 use Rattle.simulation.proofs.MacroRanges.{both_in_range}
 use Rattle.simulation.proofs.Ranges.{exit_in_range, function_in_range}
 use Rattle.image_format.specs.declared.image.TrapPlace.{TrapPlace}

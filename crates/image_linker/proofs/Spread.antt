@@ -17,7 +17,7 @@ use Rattle.frame_layout.specs.Templates.{exit_stub}
 use Rattle.frame_layout.specs.Traps.{room_trap, AreSpaced}
 use Rattle.frame_layout.proofs.Spaced.{function_spaced}
 use Rattle.simulation.specs.Functions.{AreSited}
-use Rattle.simulation.proofs.Frames.Sizes.{function_length}
+use Rattle.frame_layout.proofs.Sizes.{function_length}
 use Rattle.image_format.specs.declared.image.TrapPlace.{TrapPlace}
 use Rattle.image_format.specs.Bounds.{Each, bound_of, PlaceFits}
 use Rattle.image_format.specs.ImageRun.{place_told}

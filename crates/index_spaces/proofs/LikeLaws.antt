@@ -2,12 +2,13 @@
 use Rattle.std.proofs.Common.{◌≡◌, ◌≢◌, ℕ, zero, suc, ◌<◌, ◌≤◌, Bool, true, false, ◌&&◌, inl, inr, List, [], ◌∷◌, ◌++◌, map, length, get_or, Option, Some, refl, sym, ap, ◌∙◌, subst, arith}
 use Rattle.std.specs.Prelude.{slice_get, option_map}
 use Rattle.std.specs.Str.{bytes_eq}
-use Rattle.std.proofs.lemmas.Bool.{cases_Bool}
+use Rattle.std.proofs.lemmas.Bool.{cases_Bool, and_from, and_parts}
 use Rattle.wasm_defs.specs.declared.types.FuncType.{FuncType}
 use Rattle.wasm_defs.specs.declared.types.ValType.TheVariants.{I32, I64}
 use Rattle.wasm_defs.specs.Typing.{Types, same_types}
 use Rattle.wasm_defs.specs.Context.{type_or_empty, first_like, like}
 use Rattle.wasm_defs.specs.Items.{type_code}
+use Rattle.wasm_defs.proofs.TypeLaws.{same_types-self, same_types-equal}
 use Rattle.index_spaces.specs.Likes.{LikeIsLeast, key_of, first_index}
 
 -- ---- equal types
@@ -15,36 +16,12 @@ use Rattle.index_spaces.specs.Likes.{LikeIsLeast, key_of, first_index}
 abbrev pub same : FuncType → FuncType → Bool
 same t u = same_types t.params u.params && same_types t.results u.results
 
-same_types-self : (ts : Types) → same_types ts ts ≡ true
-same_types-self [] = refl
-same_types-self (I32 ∷ ts) = same_types-self ts
-same_types-self (I64 ∷ ts) = same_types-self ts
-
-same_types-equal : (ts us : Types) → same_types ts us ≡ true → ts ≡ us
-same_types-equal [] [] e = refl
-same_types-equal (t ∷ ts) [] e = absurd (cc)
-same_types-equal [] (u ∷ us) e = absurd (cc)
-same_types-equal (I32 ∷ ts) (I32 ∷ us) e = ap (λ (l : Types). I32 ∷ l) (same_types-equal ts us e)
-same_types-equal (I64 ∷ ts) (I64 ∷ us) e = ap (λ (l : Types). I64 ∷ l) (same_types-equal ts us e)
-same_types-equal (I32 ∷ ts) (I64 ∷ us) e = absurd (cc)
-same_types-equal (I64 ∷ ts) (I32 ∷ us) e = absurd (cc)
-
-both : (a b : Bool) → a ≡ true → b ≡ true → a && b ≡ true
-both true true e f = refl
-both true false e f = f
-both false b e f = e
-
-parts : (a b : Bool) → a && b ≡ true → (a ≡ true) × (b ≡ true)
-parts true true e = (refl, refl)
-parts true false e = (refl, e)
-parts false b e = absurd (cc)
-
 pub same-self : (t : FuncType) → same t t ≡ true
-same-self t = both (same_types t.params t.params) (same_types t.results t.results) (same_types-self t.params) (same_types-self t.results)
+same-self t = and_from (same_types t.params t.params) (same_types t.results t.results) (same_types-self t.params) (same_types-self t.results)
 
 pub same-equal : (t u : FuncType) → same t u ≡ true → t ≡ u
 same-equal t u e =
-    let p = parts (same_types t.params u.params) (same_types t.results u.results) e in
+    let p = and_parts (same_types t.params u.params) (same_types t.results u.results) e in
     let params : t.params ≡ u.params = same_types-equal t.params u.params p.0 in
     let results : t.results ≡ u.results = same_types-equal t.results u.results p.1 in
     λ i. record { params = params i; results = results i }

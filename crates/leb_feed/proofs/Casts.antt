@@ -1,5 +1,5 @@
 -- Numbers that were encoded fit what they are cast to.
-use Rattle.std.proofs.Common.{◌≡◌, ℕ, ◌+◌, ◌-◌, ◌*◌, ◌^◌, ◌<◌, ◌≤◌, inl, inr, Bool, true, false, List, [], ◌∷◌, length, refl, sym, ap, ◌∙◌, arith, ℤ, pos, ◌+ℤ◌}
+use Rattle.std.proofs.Common.{◌≡◌, ℕ, ◌+◌, ◌-◌, ◌*◌, ◌^◌, ◌<◌, ◌≤◌, inl, inr, Bool, true, false, List, [], ◌∷◌, length, refl, ap, ◌∙◌, arith, ℤ, pos, ◌+ℤ◌}
 use Rattle.std.specs.Prelude.{◌*ℤ◌, neg_ℤ, ◌≤ℤ◌, ◌<ℤ◌}
 use Rattle.std.proofs.Common.{T, Fits, to_z, of_z, w32, w64}
 use mir.Syntax.{w128}
@@ -13,16 +13,14 @@ use Rattle.std.proofs.Math.Pow.{pow_mono}
 use Rattle.std.proofs.Common.{ltb}
 use Rattle.leb_feed.specs.declared.number.ReadAt.TheVariants as answers
 use Rattle.leb_feed.specs.Answers.{answer}
-use Rattle.wasm_defs.specs.Numbers.{Reading, Number, CutOff, Bad, Spells, number_at, last_byte, after_byte}
+use Rattle.wasm_defs.specs.Numbers.{Reading, Number, CutOff, Bad, Spells, number_at}
+use Rattle.wasm_defs.proofs.NumberLaws.{seven_more, last_is_whole, after_cut}
 
 -- an unsigned number is a natural one
 pub record IsNatural (limit : ℕ) (n : ℤ) : Type 0 where
   pub value : ℕ
   pub is : n ≡ pos value
   pub small : value < limit
-
-seven_more : (bits : ℕ) → 7 < bits → 2 ^ bits ≡ 128 * 2 ^ (bits - 7)
-seven_more bits wide = let e : 7 + (bits - 7) ≡ bits = omega arith in ap (λ (k : ℕ). 2 ^ k) (sym e) ∙ pow-add 2 7 (bits - 7)
 
 pub unsigned_natural : (n : ℤ) (bits : ℕ) (bytes : List ℕ) → Spells n bits false bytes → IsNatural (2 ^ bits) n
 unsigned_natural n bits [] p = absurd p
@@ -93,35 +91,12 @@ cast_is n nat computes r = rw (r.is, wide r.value r.small) (computes r.value)
 
 -- ---- encodings that are cut off are short
 
-last_whole : (signed : Bool) (bits b : ℕ) → last_byte signed bits b ≡ CutOff → ⊥
-last_whole false bits b e =
-    elim (cases_Bool (ltb b (2 ^ bits))) [
-      | inl h ↦ absurd (let t = rw h at e in cc)
-      | inr h ↦ absurd (let t = rw h at e in cc)
-    ]
-last_whole true bits b e =
-    elim (cases_Bool (ltb b 64)) [
-      | inl low ↦ let t = rw low at e in elim (cases_Bool (ltb b (2 ^ (bits - 1)))) [
-        | inl h ↦ absurd (let u = rw h at t in cc)
-        | inr h ↦ absurd (let u = rw h at t in cc)
-      ]
-      | inr high ↦ let t = rw high at e in elim (cases_Bool (ltb (b + 2 ^ (bits - 1)) 128)) [
-        | inl h ↦ absurd (let u = rw h at t in cc)
-        | inr h ↦ absurd (let u = rw h at t in cc)
-      ]
-    ]
-
-after_cut : (b : ℕ) (r : Reading) → after_byte b r ≡ CutOff → r ≡ CutOff
-after_cut b (Number n len) e = absurd cc
-after_cut b CutOff e = refl
-after_cut b Bad e = absurd cc
-
 pub cut_short : (signed : Bool) (bits : ℕ) (bytes : List ℕ) → 1 ≤ bits → number_at signed bits bytes ≡ CutOff → 7 * length bytes < bits
 unfolding number_at
 cut_short signed bits [] some e = omega arith
 cut_short signed bits (b ∷ bytes) some e =
     elim (cases_Bool (ltb b 128)) [
-      | inl low ↦ absurd (last_whole signed bits b (rw low at e))
+      | inl low ↦ absurd (last_is_whole signed bits b (rw low at e))
       | inr high ↦ let t = rw high at e in elim (cases_Bool (ltb 7 bits)) [
         | inl wide ↦ let u = rw wide at t in shorter (ltb-true 7 bits wide) (cut_short signed (bits - 7) bytes (omega (arith, ltb-true 7 bits wide)) (after_cut b (number_at signed (bits - 7) bytes) u))
         | inr narrow ↦ absurd (let u = rw narrow at t in cc)

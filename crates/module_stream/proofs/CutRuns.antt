@@ -11,6 +11,7 @@ use Rattle.wasm_laws.proofs.EntryLaws.{body_steady}
 use Rattle.wasm_laws.proofs.RowLaws.{end_steady}
 use Rattle.wasm_laws.proofs.Sorts.{IsBody, body_yields}
 use Rattle.section_reader.specs.Onward.{after_parts}
+use Rattle.section_reader.proofs.Telling.{after_append}
 use Rattle.body_cutter.specs.declared.body.Body.{Body}
 use Rattle.body_cutter.specs.Sections.{End, Whole, Faulty, Owed, Given, goes_on, with_part, bodies_from}
 use Rattle.body_cutter.specs.Sections as cut
@@ -19,10 +20,6 @@ use Rattle.body_cutter.proofs.Joined.{handed_join}
 use Rattle.module_stream.specs.CutBodies.{counts_data, coded, coded_all, behind, given_run, cut_run, sections_behind}
 
 -- ---- parts in a row
-
-pub after_append : (xs ys : List Part) (r : Run) → after_parts (xs ++ ys) r ≡ after_parts xs (after_parts ys r)
-after_append [] ys r = refl
-after_append (x ∷ xs) ys r = ap (after_part x) (after_append xs ys r)
 
 pub coded_append : (counted : Bool) (xs ys : List Body) → coded_all counted (xs ++ ys) ≡ coded_all counted xs ++ coded_all counted ys
 coded_append counted [] ys = refl

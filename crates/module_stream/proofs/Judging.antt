@@ -11,6 +11,7 @@ use Rattle.wasm_defs.specs.Entries.{Seen}
 use Rattle.wasm_defs.specs.Context.{context_of, data_count_of, import_count, declared_count, functions_of}
 use Rattle.wasm_defs.specs.Outside.{Part, Section, Listed, Coded, Body, Run, Whole, after_part, ends, module_read}
 use Rattle.wasm_defs.specs.Faults.{ending_fault, items_of, bodies_of, IsCodeFault, IsValidCode, read_of, context_at, use_of, UsesRight, IsUseFault, IsFaultInside, AreValid, IsOutsideFault, IsFault, Module, IsModule, Verdict, Accepted, Rejected}
+use Rattle.wasm_defs.proofs.ItemLaws.{functions_of-counts}
 use Rattle.wasm_laws.specs.Order.{AreOrdered, BodyStands, UseStands, behind_use, end_of, first_section}
 use Rattle.wasm_laws.specs.Typed.{AreTyped}
 use Rattle.wasm_laws.proofs.Typed.{functions_have_types}
@@ -24,7 +25,7 @@ use Rattle.section_reader.specs.Onward.{after_parts}
 use Rattle.body_cutter.specs.declared.body.Body.{Body as GivenBody}
 use Rattle.module_stream.specs.CutBodies.{coded_all}
 use Rattle.module_stream.specs.Progress.{IsJudged, body_of_spaces}
-use Rattle.index_spaces.proofs.SpaceLaws.{spaces_of-append, functions_of-counts}
+use Rattle.index_spaces.proofs.SpaceLaws.{spaces_of-append}
 use Rattle.wasm_laws.proofs.PartLists.{items_of-append, bodies_of-append, typed_behind, valid_both, fault_behind, fault_of_rest, functions_are_few, bodies_are_few}
 use Rattle.wasm_laws.proofs.PartOrder.{use_fault_stands, use_once, fault_after}
 

@@ -36,6 +36,7 @@ use Rattle.module_stream.proofs.Compiled.{begins, after_item, sections_taken, st
 use Rattle.module_stream.proofs.Taking.{judging_on}
 use Rattle.module_stream.proofs.Judging.{few_functions, few_imports}
 use Rattle.module_stream.proofs.CodeEnds.{code_ends}
+use Rattle.wasm_laws.proofs.Described.{whole_ending}
 
 -- ---- what came is right
 
@@ -139,11 +140,6 @@ refused_reading bytes f g spaces codes piece more r t p =
 
 -- ---- the bytes end outside the bodies
 
-whole_of : (len : ℕ) (ending : Ending) → ending_fault len ending ≡ None → (seen : Seen) × (ending ≡ Whole seen)
-whole_of len (Whole seen) e = (seen, refl)
-whole_of len (Refused r) e = absurd cc
-whole_of len Owed e = absurd cc
-
 module _ (bytes : List ℕ) (f : Front) (spaces : Spaces) (codes : Coding) (fault : Option Refusal) (t : EndsOnward f fault) (p : IsReading bytes f spaces codes []) where
   judging_end : IsJudging bytes (ends t.ending) spaces codes
   judging_end = sections_taken bytes spaces codes t.told (ends t.ending) t.sections (judging_on bytes (onward_left f []) (after_parts t.told (ends t.ending)) spaces codes t.run p.judging)
@@ -159,7 +155,7 @@ module _ (bytes : List ℕ) (f : Front) (spaces : Spaces) (codes : Coding) (faul
 
   pub end_whole : fault ≡ None → (seen : Seen) × IsJudging bytes (ends (Whole seen)) spaces codes
   end_whole is =
-      let w = whole_of (length bytes) t.ending (fault_is ∙ is) in
+      let w = whole_ending (length bytes) t.ending (fault_is ∙ is) in
       (w.0, judging_on bytes (ends t.ending) (ends (Whole w.0)) spaces codes (ap ends w.1) judging_end)
 
 -- ---- items

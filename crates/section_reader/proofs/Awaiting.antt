@@ -14,6 +14,7 @@ use Rattle.wasm_laws.proofs.FieldLaws.{u32_field, count_steady, vector_steady}
 use Rattle.wasm_laws.proofs.Windows.{byte_field}
 use Rattle.wasm_laws.proofs.Names.{name_field}
 use Rattle.wasm_laws.proofs.EntryLaws.{index_steady, memory_of_steady, constant_steady, listed_type_steady}
+use Rattle.wasm_laws.proofs.Parts.{got_is}
 use Rattle.section_reader.specs.declared.stage.Stage.{Stage}
 use Rattle.section_reader.specs.declared.stage.Stage.TheVariants.{Contents}
 use Rattle.section_reader.specs.declared.wait.Element.{Element}
@@ -22,7 +23,6 @@ use Rattle.section_reader.specs.declared.wait.Wait.{Wait}
 use Rattle.section_reader.specs.declared.wait.Wait.TheVariants as wait
 use Rattle.section_reader.specs.Waits.{element_of, Passes, Awaits, AwaitsAt, wants_more, IsFree, IsPlaced}
 use Rattle.section_reader.proofs.Leading.{Stable, more_got}
-use Rattle.section_reader.proofs.Going.{got_is}
 use Rattle.section_reader.proofs.Skimming.{past_is, types_want, indices_want}
 
 -- ---- readers that wait

@@ -4,13 +4,14 @@ use Rattle.std.proofs.Math.Seq.{drop-length}
 use Rattle.std.proofs.lemmas.Bool.{cases_Bool, le-ltb, eqb-true}
 use Rattle.std.proofs.lemmas.List.{append-nil}
 use Rattle.wasm_defs.specs.declared.item.Item.{Item}
-use Rattle.wasm_defs.specs.Fields.{Cursor, Read, Got, Fault, Wants, Reader, past, room_of, window, run}
+use Rattle.wasm_defs.specs.Fields.{Cursor, Got, Wants, Reader, past, room_of, window, run}
 use Rattle.wasm_defs.specs.Entries.{Seen, note}
 use Rattle.wasm_defs.specs.Outside.{position_of, Section, Listed, Nothing, rest_of_section, header, preamble, section_end, entered, inside, no_end}
-use Rattle.wasm_laws.specs.Steadiness.{IfGot, Advance}
+use Rattle.wasm_laws.specs.Steadiness.{Advance}
 use Rattle.wasm_laws.proofs.EntryLaws.{header_steady, preamble_steady}
 use Rattle.wasm_laws.proofs.RowLaws.{end_steady}
 use Rattle.wasm_laws.proofs.Takes.{header_takes}
+use Rattle.wasm_laws.proofs.Parts.{got_is}
 use Rattle.leb_feed.specs.declared.stop.Stop.{Stop}
 use Rattle.leb_feed.specs.declared.stop.Stop.TheVariants as stop
 use Rattle.leb_feed.specs.Reads.{Stops}
@@ -41,11 +42,6 @@ stops_at old there c s e h k = (
 )
 
 -- ---- bytes that were taken
-
-pub got_is : {A : Type 0} (P : A → Cursor → Type 0) (r : Read A) (x : A) (d : Cursor) → r ≡ Got x d → IfGot P r → P x d
-got_is P (Got y f) x d e h = let a : y ≡ x = cc in let b : f ≡ d = cc in rw (← a, ← b) h
-got_is P (Fault r) x d e h = absurd cc
-got_is P Wants x d e h = absurd cc
 
 passed_of : (c d : Cursor) → Advance c d → Passed c d
 passed_of c d p = record { taken = p.taken; parts = p.parts; at = p.at }

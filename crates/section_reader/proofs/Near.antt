@@ -7,6 +7,7 @@ use Rattle.wasm_defs.specs.Fields.{Cursor, Read, Got, Fault, Wants, Reader, room
 use Rattle.wasm_defs.specs.Entries.{Seen}
 use Rattle.wasm_defs.specs.Outside.{Listed, Run, after_part, runs_on, preamble, header, entered, inside, noted, contents, entries, section_end}
 use Rattle.wasm_laws.specs.Steadiness.{with_more}
+use Rattle.wasm_laws.proofs.Parts.{got_is}
 use Rattle.section_reader.specs.declared.front.Front.{Front}
 use Rattle.section_reader.specs.declared.stage.Stage.{Stage}
 use Rattle.section_reader.specs.declared.stage.Stage.TheVariants.{Preamble, Between, Contents, Entries}
@@ -16,7 +17,6 @@ use Rattle.section_reader.specs.FrontLeft.{cursor_of}
 use Rattle.section_reader.specs.Near.{IsNearIn, IsNear}
 use Rattle.section_reader.proofs.OutlineRuns.{outline_is}
 use Rattle.section_reader.proofs.Leading.{more_got, more_refused}
-use Rattle.section_reader.proofs.Going.{got_is}
 use Rattle.section_reader.proofs.Prompts.{Prompt, preamble_prompt, header_prompt, row_prompt, end_prompt}
 
 cut_gives : (c : Cursor) (bytes : List ℕ) (d : Cursor) → cut c ≡ Got bytes d → ⊥

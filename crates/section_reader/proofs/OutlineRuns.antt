@@ -7,7 +7,7 @@ use Rattle.wasm_defs.specs.Outside.{nothing_more, rest_of_section, Row, header, 
 use Rattle.wasm_laws.specs.Steadiness.{LeavesFewer, SteadyRow}
 use Rattle.wasm_laws.proofs.Steady.{done_steady}
 use Rattle.wasm_laws.proofs.EntryLaws.{code_steady, rest_steady}
-use Rattle.wasm_laws.proofs.RowLaws.{listed_steady, row_steady}
+use Rattle.wasm_laws.proofs.RowLaws.{listed_steady, row_steady, either_row}
 use Rattle.wasm_laws.proofs.Takes.{listed_takes, code_takes, header_takes}
 use Rattle.wasm_laws.proofs.Runs.{Same, contents_same}
 use Rattle.section_reader.specs.Outline.{counted_code, outline_row, outline_section, or_outline, outline_up_to, outline_sections}
@@ -15,10 +15,6 @@ use Rattle.section_reader.specs.Stages.{passes}
 
 counted_steady : SteadyRow counted_code
 counted_steady = record { front = λ s. done_steady [] 1; entry = λ s. listed_steady [] _ (code_steady [] s); back = rest_steady []; takes = λ s. listed_takes _ (code_takes s) }
-
-either_row : (b : Bool) (p q : Row) → SteadyRow p → SteadyRow q → SteadyRow (cond b p q)
-either_row true p q hp hq = hp
-either_row false p q hp hq = hq
 
 pub outline_steady : (id : ℕ) → SteadyRow (outline_row id)
 outline_steady id = either_row (eqb id 11) _ _ counted_steady (row_steady id)

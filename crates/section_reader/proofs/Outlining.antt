@@ -10,10 +10,11 @@ use Rattle.wasm_defs.specs.Fields.{Cursor, Read, Got, Fault, Wants, ◌>>=◌, d
 use Rattle.wasm_defs.specs.Entries.{Seen, note, nothing, code}
 use Rattle.wasm_defs.specs.Outside.{position_of, Part, Section, Listed, Coded, Body, Nothing, rest_of_section, body, listed, code_entry, Row, row, Ending, Whole, Owed, Refused, Run, ends, after_part, runs_on, noted, entered, inside, no_end, preamble, header, finish, entries, contents, sections, or_section, section_end, beginning, module_read}
 use Rattle.wasm_laws.specs.Steadiness.{IfGot, Advance}
-use Rattle.wasm_laws.proofs.Steady.{no_advance, advance_then}
+use Rattle.wasm_laws.proofs.Steady.{no_advance, advance_then, advance_fewer}
 use Rattle.wasm_laws.proofs.RowLaws.{end_steady}
 use Rattle.wasm_laws.proofs.EntryLaws.{body_steady}
 use Rattle.wasm_laws.proofs.Takes.{header_takes}
+use Rattle.wasm_laws.proofs.Parts.{got_is}
 use Rattle.section_reader.specs.declared.stage.Stage.TheVariants.{Between, Contents, Entries}
 use Rattle.section_reader.specs.Outline.{counted_code, outline_row, or_outline, outline_sections, outline}
 use Rattle.section_reader.specs.Onward.{IsOrdered, is_count}
@@ -21,7 +22,6 @@ use Rattle.section_reader.specs.Outlining.{in_bodies, IsOutlined}
 use Rattle.section_reader.proofs.Runs.{sections_are}
 use Rattle.section_reader.proofs.OutlineRuns.{outline_steady, outline_is}
 use Rattle.section_reader.proofs.Telling.{CodeRead, code_reads, other_row, ordered_between, header_ordered, front_ordered, entry_ordered}
-use Rattle.section_reader.proofs.Going.{got_is}
 
 -- ---- runs next to each other
 
@@ -70,9 +70,6 @@ stops_here : (ending : Ending) (o : Run) → ((seen : Seen) → ending ≡ Whole
 stops_here ending o h = record { whole = λ seen e. absurd (h seen e); apart = λ e. absurd cc }
 
 -- ---- the rest of a section
-
-fewer : (c d : Cursor) → Advance c d → length d.rest ≤ length c.rest
-fewer c d p = omega (arith, ap length p.parts, length-append p.taken d.rest)
 
 rest_is_passed : (c d : Cursor) → Advance c d → room_of d ≡ 0 → rest_of_section c ≡ Got tt d
 unfolding rest_of_section room run
@@ -139,7 +136,7 @@ module _ (n : ℕ) (next : NextMatch n) where
       of_end (Got tt e) is =
           let left = got_is (λ y f. (room_of d ≡ 0) × (f ≡ inside d no_end)) (section_end d) tt e is (end_steady.leaves d) in
           let rest = rest_is_passed c d p left.0 in
-          let shorter : length e.rest < n = omega (arith, ap (λ (f : Cursor). length f.rest) left.1, fewer c d p, few) in
+          let shorter : length e.rest < n = omega (arith, ap (λ (f : Cursor). length f.rest) left.1, advance_fewer c d p, few) in
           rw (rest, is) (next seen e shorter o true)
       of_end (Fault r) is = stops_here (Refused r) _ (λ s e. absurd cc)
       of_end Wants is = stops_here Owed _ (λ s e. absurd cc)
@@ -169,7 +166,7 @@ module _ (n : ℕ) (next : NextMatch n) where
           let ordered = ordered_between (Entries 11 0) (note seen x) (entry_ordered 11 1 seen c d x (omega arith) read (front_ordered seen c c 11 1 refl o)) in
           let counted : (note seen x).counted ≡ true = rw same refl in
           let count : is_count x ≡ true = rw same refl in
-          let inner = bodies_match seen.declared (note seen x) d d counted ordered (no_advance d) (omega (arith, fewer c d moves, few)) in
+          let inner = bodies_match seen.declared (note seen x) d d counted ordered (no_advance d) (omega (arith, advance_fewer c d moves, few)) in
           λ behind. record {
             whole = λ s e. after_outlined (Listed x) _ _ (inner.whole s e);
             apart = λ e. after_outlined (Listed x) _ _ (inner.apart (sym (ap (λ (b : Bool). in_bodies (b || behind) (entries seen.declared (row 11) sections (note seen x) d).parts) count) ∙ e));
@@ -185,11 +182,11 @@ module _ (n : ℕ) (next : NextMatch n) where
       runs_match ((outline_row id).back c) _ _ (λ x d is. runs_match (section_end d) _ _ (λ y e over.
       let p = got_is (λ z f. Advance c f) ((outline_row id).back c) x d is ((outline_steady id).back.moves c) in
       let left = got_is (λ z f. (room_of d ≡ 0) × (f ≡ inside d no_end)) (section_end d) y e over (end_steady.leaves d) in
-      next seen e (omega (arith, ap (λ (f : Cursor). length f.rest) left.1, fewer c d p, few)) (ordered_between (Entries id 0) seen o)))
+      next seen e (omega (arith, ap (λ (f : Cursor). length f.rest) left.1, advance_fewer c d p, few)) (ordered_between (Entries id 0) seen o)))
   other_matches id other (suc k) seen c o few =
       runs_match ((outline_row id).entry seen c) _ _ (λ x d is. after_matches x _ _ (
       let p = got_is (λ z f. Advance c f) ((outline_row id).entry seen c) x d is (((outline_steady id).entry seen).moves c) in
-      other_matches id other k (noted seen x) d (ordered x d is) (omega (arith, fewer c d p, few))))
+      other_matches id other k (noted seen x) d (ordered x d is) (omega (arith, advance_fewer c d p, few))))
     where
       ordered : (x : Part) (d : Cursor) → (outline_row id).entry seen c ≡ Got x d → IsOrdered (Entries id k) (noted seen x)
       ordered (Listed x) d is = let less : suc k - 1 ≡ k = omega arith in subst (λ (m : ℕ). IsOrdered (Entries id m) (note seen x)) less (entry_ordered id (suc k) seen c d x (omega arith) is o)
@@ -209,7 +206,7 @@ module _ (n : ℕ) (next : NextMatch n) where
             subst (λ (r : Row). MatchesAll (contents r sections seen c) (contents (outline_row id) outline_sections seen c)) (other_row id other)
             (runs_match ((outline_row id).front seen c) _ _ (λ k d is.
             let p = got_is (λ z f. Advance c f) ((outline_row id).front seen c) k d is (((outline_steady id).front seen).moves c) in
-            other_matches id other k seen d (front_ordered seen c d id k is o) (omega (arith, fewer c d p, few))))
+            other_matches id other k seen d (front_ordered seen c d id k is o) (omega (arith, advance_fewer c d p, few))))
       ]
 
   section_match : (seen : Seen) (c : Cursor) → IsOrdered Between seen → length c.rest ≤ n → (rest : List ℕ) → MatchesAll (or_section sections seen c rest) (or_outline outline_sections seen c rest)

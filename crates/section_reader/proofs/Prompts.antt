@@ -1,23 +1,23 @@
 -- A reader that wants more bytes reads, where they come, on into them.
-use Rattle.std.proofs.Common.{◌≡◌, ◌≤◌, ◌<◌, ℕ, zero, suc, ◌+◌, ◌-◌, Bool, true, false, cond, eqb, ltb, List, [], ◌∷◌, ◌++◌, length, take, drop, refl, sym, ap, ◌∙◌, arith, length-append, length-drop, length-take, inl, inr, ℤ}
-use Rattle.std.proofs.lemmas.Bool.{cases_Bool, cases_eq, cases_lt, ne_eqb, lt-ltb, le-ltb, lt-leb, le-leb}
-use Rattle.wasm_defs.specs.declared.types.ValType.{ValType}
+use Rattle.std.proofs.Common.{◌≡◌, ◌≤◌, ◌<◌, ℕ, suc, ◌+◌, ◌-◌, Bool, false, eqb, ltb, List, [], ◌∷◌, ◌++◌, length, take, drop, refl, sym, ap, ◌∙◌, arith, length-append, length-drop, length-take, inl, inr, ℤ}
+use Rattle.std.proofs.lemmas.Bool.{cases_Bool, cases_lt, lt-ltb, le-ltb, lt-leb, le-leb}
 use Rattle.wasm_defs.specs.declared.fault.Kind.{Kind}
-use Rattle.wasm_defs.specs.declared.item.Item.{Item}
 use Rattle.wasm_defs.specs.Numbers.{Reading, Number, CutOff, Bad, number_at, after_byte}
 use Rattle.wasm_defs.specs.Limits.{max_name}
 use Rattle.wasm_defs.specs.Text.{between, completes}
-use Rattle.wasm_defs.specs.Fields.{Cursor, Read, Got, Fault, Wants, Reader, then_go, ◌>>=◌, done, refused, repeated, room_of, window, past, cut, first_of, byte, from_reading, number, nat_of, u32, count, vector, run, room, here, stop, counted_bytes, agree, fixed, text_after, least, length_owed, name_from, name}
-use Rattle.wasm_defs.specs.Entries.{Seen, index, value_type, listed_type, limits, refused_opcode, constant, signature, imported, function, table, memory, mutability, global, extern_kind, exported, start, listed_index, element, code, data_count, memory_of, passive, segment}
-use Rattle.wasm_defs.specs.Outside.{listed, Row, entries_of, rest_of_section, number_of, at_most_one, function_count, segment_count, custom_name, header, preamble, left_over, section_end}
+use Rattle.wasm_defs.specs.Fields.{Cursor, Read, Got, Fault, Wants, Reader, then_go, ◌>>=◌, done, refused, room_of, window, past, cut, first_of, byte, from_reading, number, nat_of, count, run, room, here, stop, agree, fixed, text_after, least, length_owed, name_from, name}
+use Rattle.wasm_defs.specs.Entries.{Seen, code}
+use Rattle.wasm_defs.specs.Outside.{header, preamble, left_over, section_end}
+use Rattle.wasm_defs.proofs.NumberLaws.{last_is_whole, after_cut}
 use Rattle.wasm_laws.specs.Steadiness.{IfGot, with_more, Extends, got, faulty, owed, Advances}
-use Rattle.wasm_laws.proofs.Steady.{field_steady}
+use Rattle.wasm_laws.proofs.Steady.{field_steady, then_extends}
 use Rattle.wasm_laws.proofs.Windows.{all_of, take_over, window_reads_on, LiesIn, number_lies, ReadsOn, byte_field, number_field}
 use Rattle.wasm_laws.proofs.FieldLaws.{run_steady, fixed_steady}
 use Rattle.wasm_laws.proofs.Names.{name_field}
-use Rattle.wasm_laws.proofs.Completing.{room_left, window_is, last_is_whole, after_cut, text_owes, owed_fits}
+use Rattle.wasm_laws.proofs.Completing.{room_left, window_is, text_owes, owed_fits}
 use Rattle.wasm_laws.proofs.RowLaws.{end_steady}
-use Rattle.section_reader.specs.Outline.{outline_row}
+use Rattle.wasm_laws.proofs.EachReader.{Composes, RowHas, listed_has, code_has, rest_has, either_row, header_has, preamble_has, row_has}
+use Rattle.section_reader.specs.Outline.{outline_row, counted_code}
 
 -- at most so many bytes are left
 abbrev pub Leaves : {A : Type 0} → ℕ → Read A → Type 0
@@ -34,11 +34,6 @@ leaves_less : {A : Type 0} (least most : ℕ) (x : Read A) → least ≤ most �
 leaves_less least most (Got x d) le h = omega (arith, h)
 leaves_less least most (Fault r) le h = tt
 leaves_less least most Wants le h = tt
-
-then_extends : {A B : Type 0} (more : List ℕ) (x y : Read A) (f : A → Reader B) → ((a : A) (c : Cursor) → Extends B more (f a c) (f a (with_more c more))) → Extends A more x y → Extends B more (then_go x f) (then_go y f)
-then_extends more x y f h (got a c) = h a c
-then_extends more x y f h (faulty r) = faulty r
-then_extends more x y f h (owed later) = owed (then_go later f)
 
 then_leaves : {A B : Type 0} (most : ℕ) (x : Read A) (f : A → Reader B) → ((a : A) (d : Cursor) → Leaves (length d.rest) (f a d)) → Leaves most x → Leaves most (then_go x f)
 then_leaves most (Got a d) f h le = leaves_less (length d.rest) most (f a d) le (h a d)
@@ -59,19 +54,11 @@ bind p f hp hf = record {
   late = λ c more e. then_late more (p c) (p (with_more c more)) f (hp.by c more) (hp.late c more) (λ a d. (hf a).fewer d) (λ a d. (hf a).late d more) e;
 }
 
-either : {A : Type 0} (b : Bool) (p q : Reader A) → Prompt p → Prompt q → Prompt (cond b p q)
-either true p q hp hq = hp
-either false p q hp hq = hq
-
 done_prompt : {A : Type 0} (x : A) → Prompt (done x)
 done_prompt x = record { by = λ c more. got x c; fewer = λ c. omega arith; late = λ c more e. absurd cc }
 
 refused_prompt : {A : Type 0} (kind : Kind) (at : ℕ) → Prompt (refused {A = A} kind at)
 refused_prompt kind at = record { by = λ c more. faulty (record { offset = at; kind = kind }); fewer = λ c. tt; late = λ c more e. absurd cc }
-
-repeated_prompt : {A : Type 0} (n : ℕ) (p : Reader A) → Prompt p → Prompt (repeated n p)
-repeated_prompt zero p h = done_prompt _
-repeated_prompt (suc n) p h = bind p _ h (λ x. bind (repeated n p) _ (repeated_prompt n p h) (λ xs. done_prompt _))
 
 -- ---- fields
 
@@ -282,189 +269,44 @@ stop_prompt : Prompt stop
 unfolding stop
 stop_prompt = record { by = λ c more. got c.end c; fewer = λ c. omega arith; late = λ c more e. absurd cc }
 
--- ---- parts of entries
+-- ---- all readers
 
-ruleset prompts = (bind, either, done_prompt, refused_prompt, repeated_prompt, byte_prompt, number_prompt, name_prompt, run_prompt, fixed_prompt, room_prompt, here_prompt, stop_prompt)
+abbrev pub AsPrompt : (A : Type 0) → Reader A → Type 0
+AsPrompt A p = Prompt p
 
-u32_prompt : Prompt u32
-unfolding u32
-u32_prompt = search prompts depth 40
-
-count_prompt : (most : ℕ) → Prompt (count most)
-unfolding count
-count_prompt most = search (u32_prompt, prompts) depth 40
-
-vector_prompt : {A : Type 0} (counted : Reader (ℕ × ℕ)) (p : Reader A) → Prompt counted → Prompt p → Prompt (vector counted p)
-unfolding vector
-vector_prompt counted p hc hp = bind counted _ hc (λ n. bind _ _ (repeated_prompt n.1 p hp) (λ xs. done_prompt _))
-
-counted_bytes_prompt : Prompt counted_bytes
-unfolding counted_bytes
-counted_bytes_prompt = search (u32_prompt, prompts) depth 40
-
-index_prompt : (most : ℕ) → Prompt (index most)
-unfolding index
-index_prompt most = search (u32_prompt, prompts) depth 40
-
-value_type_prompt : Prompt value_type
-unfolding value_type
-value_type_prompt = search (prompts) depth 40
-
-listed_type_prompt : Prompt listed_type
-unfolding listed_type
-listed_type_prompt = search (value_type_prompt, prompts) depth 40
-
-limits_prompt : (most : ℕ) (top : ℕ) → Prompt (limits most top)
-unfolding limits
-limits_prompt most top = search (u32_prompt, prompts) depth 40
-
-refused_opcode_prompt : {A : Type 0} (b : ℕ × ℕ) → Prompt (refused_opcode {A = A} b)
-unfolding refused_opcode
-refused_opcode_prompt b = search (u32_prompt, prompts) depth 40
-
-constant_prompt : (ty : ValType) → Prompt (constant ty)
-unfolding constant
-constant_prompt ty = search (refused_opcode_prompt, prompts) depth 40
-
-mutability_prompt : Prompt mutability
-unfolding mutability
-mutability_prompt = search (prompts) depth 40
-
-extern_kind_prompt : Prompt extern_kind
-unfolding extern_kind
-extern_kind_prompt = search (prompts) depth 40
-
-listed_index_prompt : (most : ℕ) → Prompt (listed_index most)
-unfolding listed_index
-listed_index_prompt most = search (index_prompt, prompts) depth 40
-
-ruleset parts = (u32_prompt, count_prompt, vector_prompt, counted_bytes_prompt, index_prompt, value_type_prompt, listed_type_prompt, limits_prompt, constant_prompt, mutability_prompt, extern_kind_prompt, listed_index_prompt, prompts)
-
--- ---- entries, and what is around them
-
-signature_prompt : (seen : Seen) → Prompt (signature seen)
-unfolding signature
-signature_prompt seen = search parts depth 40
-
-imported_prompt : (seen : Seen) → Prompt (imported seen)
-unfolding imported
-imported_prompt seen = search parts depth 40
-
-function_prompt : (seen : Seen) → Prompt (function seen)
-unfolding function
-function_prompt seen = search parts depth 40
-
-table_prompt : (seen : Seen) → Prompt (table seen)
-unfolding table
-table_prompt seen = search parts depth 40
-
-memory_prompt : (seen : Seen) → Prompt (memory seen)
-unfolding memory
-memory_prompt seen = search parts depth 40
-
-global_prompt : (seen : Seen) → Prompt (global seen)
-unfolding global
-global_prompt seen = search parts depth 40
-
-exported_prompt : (seen : Seen) → Prompt (exported seen)
-unfolding exported
-exported_prompt seen = search parts depth 40
-
-start_prompt : (seen : Seen) → Prompt (start seen)
-unfolding start
-start_prompt seen = search parts depth 40
-
-element_prompt : (seen : Seen) → Prompt (element seen)
-unfolding element
-element_prompt seen = search parts depth 40
-
-code_prompt : (seen : Seen) → Prompt (code seen)
-unfolding code
-code_prompt seen = search parts depth 40
-
-data_count_prompt : (seen : Seen) → Prompt (data_count seen)
-unfolding data_count
-data_count_prompt seen = search parts depth 40
-
-memory_of_prompt : (seen : Seen) (form : ℕ × ℕ) → Prompt (memory_of seen form)
-unfolding memory_of
-memory_of_prompt seen form = search parts depth 40
-
-passive_prompt : (form : ℕ) → Prompt (passive form)
-unfolding passive
-passive_prompt form = search parts depth 40
-
-segment_prompt : (seen : Seen) → Prompt (segment seen)
-unfolding segment
-segment_prompt seen = search (memory_of_prompt, passive_prompt, parts) depth 40
-
-rest_of_section_prompt : Prompt rest_of_section
-unfolding rest_of_section
-rest_of_section_prompt = search parts depth 40
-
-number_of_prompt : (most : ℕ) → Prompt (number_of most)
-unfolding number_of
-number_of_prompt most = search parts depth 40
-
-at_most_one_prompt : Prompt at_most_one
-unfolding at_most_one
-at_most_one_prompt = search parts depth 40
-
-function_count_prompt : (seen : Seen) → Prompt (function_count seen)
-unfolding function_count
-function_count_prompt seen = search parts depth 40
-
-segment_count_prompt : (seen : Seen) → Prompt (segment_count seen)
-unfolding segment_count
-segment_count_prompt seen = search parts depth 40
-
-custom_name_prompt : Prompt custom_name
-unfolding custom_name
-custom_name_prompt = search parts depth 40
+prompt_composes : Composes AsPrompt
+prompt_composes = record {
+  of_bind = bind;
+  of_done = done_prompt;
+  of_refused = λ kind at few. refused_prompt kind at;
+  of_byte = byte_prompt;
+  of_number = number_prompt;
+  of_run = run_prompt;
+  of_room = room_prompt;
+  of_here = here_prompt;
+  of_stop = stop_prompt;
+  of_fixed = fixed_prompt;
+  of_name = name_prompt;
+}
 
 pub header_prompt : (seen : Seen) → Prompt (header seen)
-unfolding header
-header_prompt seen = search parts depth 40
+header_prompt seen = header_has AsPrompt prompt_composes seen
 
 pub preamble_prompt : Prompt preamble
-unfolding preamble
-preamble_prompt = search parts depth 40
+preamble_prompt = preamble_has AsPrompt prompt_composes
 
--- ---- rows
+-- in an outline the code section has one entry, its count
+counted_prompt : RowHas AsPrompt counted_code
+counted_prompt = record {
+  front = λ s. done_prompt 1;
+  entry = λ s. listed_has AsPrompt prompt_composes (code s) (code_has AsPrompt prompt_composes s);
+  back = rest_has AsPrompt prompt_composes;
+}
 
-pub record RowPrompt (r : Row) : Type 0 where
-  pub front : (seen : Seen) → Prompt (r.front seen)
-  pub entry : (seen : Seen) → Prompt (r.entry seen)
-  pub back : Prompt r.back
+pub row_prompt : (id : ℕ) → RowHas AsPrompt (outline_row id)
+row_prompt id = either_row AsPrompt prompt_composes (eqb id 11) _ _ counted_prompt (row_has AsPrompt prompt_composes id)
 
-listed_prompt : (p : Reader Item) → Prompt p → Prompt (listed p)
-listed_prompt p h = bind p _ h (λ x. done_prompt _)
-
-listing : (front : Seen → Reader ℕ) (entry : Seen → Reader Item) → ((seen : Seen) → Prompt (front seen)) → ((seen : Seen) → Prompt (entry seen)) → RowPrompt (entries_of front entry)
-listing front entry hf he = record { front = hf; entry = λ s. listed_prompt (entry s) (he s); back = done_prompt tt }
-
-either_row : (b : Bool) (p q : Row) → RowPrompt p → RowPrompt q → RowPrompt (cond b p q)
-either_row true p q hp hq = hp
-either_row false p q hp hq = hq
-
-pub row_prompt : (id : ℕ) → RowPrompt (outline_row id)
-row_prompt id =
-    elim (cases_eq id 11) [
-      | inl is ↦ rw is (record { front = λ s. done_prompt 1; entry = λ s. listed_prompt (code s) (code_prompt s); back = rest_of_section_prompt })
-      | inr other ↦ rw (ne_eqb id 11 other) (
-          either_row (eqb id 1) _ _ (listing _ _ (λ s. number_of_prompt _) signature_prompt)
-          (either_row (eqb id 2) _ _ (listing _ _ (λ s. number_of_prompt _) imported_prompt)
-          (either_row (eqb id 3) _ _ (listing _ _ function_count_prompt function_prompt)
-          (either_row (eqb id 4) _ _ (listing _ _ (λ s. at_most_one_prompt) table_prompt)
-          (either_row (eqb id 5) _ _ (listing _ _ (λ s. at_most_one_prompt) memory_prompt)
-          (either_row (eqb id 6) _ _ (listing _ _ (λ s. number_of_prompt _) global_prompt)
-          (either_row (eqb id 7) _ _ (listing _ _ (λ s. number_of_prompt _) exported_prompt)
-          (either_row (eqb id 8) _ _ (listing _ _ (λ s. done_prompt 1) start_prompt)
-          (either_row (eqb id 9) _ _ (listing _ _ (λ s. number_of_prompt _) element_prompt)
-          (either_row (eqb id 10) _ _ (listing _ _ (λ s. done_prompt 1) data_count_prompt)
-          (either_row (eqb id 12) _ _ (listing _ _ segment_count_prompt segment_prompt)
-          (record { front = λ s. custom_name_prompt; entry = λ s. listed_prompt (start s) (start_prompt s); back = rest_of_section_prompt }))))))))))))
-    ]
+-- ---- where a section ends
 
 left_late : (c : Cursor) (most : ℕ) (rest : List ℕ) → Leaves most (left_over c rest)
 left_late c most [] = tt

@@ -9,12 +9,12 @@ use Rattle.wasm_defs.specs.Outside.{Nothing}
 use Rattle.wasm_laws.proofs.Steady.{with_more, Steady, Advance, no_advance, advance_then, bind, done_steady}
 use Rattle.wasm_laws.proofs.Windows.{all_of}
 use Rattle.wasm_laws.proofs.EntryLaws.{value_type_steady, index_steady}
+use Rattle.wasm_laws.proofs.Parts.{got_is}
 use Rattle.section_reader.specs.declared.wait.Element.{Element}
 use Rattle.section_reader.specs.declared.wait.Element.TheVariants.{ValueType, Index}
 use Rattle.section_reader.specs.declared.wait.Wait.TheVariants as wait
 use Rattle.section_reader.specs.Waits.{element_of, Follows, Skims, Stays}
 use Rattle.section_reader.proofs.Leading.{Stable, more_got}
-use Rattle.section_reader.proofs.Going.{got_is}
 
 pub element_steady : (e : Element) → Steady [] (element_of e)
 element_steady ValueType = bind [] value_type _ (value_type_steady []) (λ ty. done_steady [] tt)
@@ -36,9 +36,6 @@ past_is c d p =
     (omega (arith, p.at, taken))
     (ap (λ (k : ℕ). drop k c.rest) taken ∙ ap (drop (length p.taken)) p.parts ∙ drop-append_seam p.taken d.rest)
     (sym p.end)
-
-pub fewer : (c d : Cursor) → Advance c d → length d.rest ≤ length c.rest
-fewer c d p = omega (arith, ap length p.parts, length-append p.taken d.rest)
 
 pub rest_from : (place : ℕ) (all : List ℕ) → take (length all - place) (drop place all) ≡ drop place all
 rest_from place all = all_of (length all - place) (drop place all) (omega (arith, length-drop place all))

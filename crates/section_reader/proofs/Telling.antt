@@ -12,6 +12,7 @@ use Rattle.wasm_laws.proofs.Headers.{Follows, header_tells, entered_as}
 use Rattle.wasm_laws.proofs.Sorts.{IsPlain, IsFunction, IsItem, listed_yields, function_yields, row_is_plain, notes, plain_keeps}
 use Rattle.wasm_laws.proofs.EntryLaws.{header_steady, preamble_steady}
 use Rattle.wasm_laws.proofs.RowLaws.{end_steady}
+use Rattle.wasm_laws.proofs.Parts.{got_is}
 use Rattle.leb_feed.specs.declared.stop.Stop.{Stop}
 use Rattle.leb_feed.specs.declared.stop.Stop.TheVariants as stops
 use Rattle.leb_feed.specs.Reads.{Stops}
@@ -47,11 +48,6 @@ begun_is_section (Contents id) c = tt
 begun_is_section (Entries id n) c = tt
 
 -- ---- what was read
-
-got_is : {A : Type 0} (P : A → Cursor → Type 0) (r : Read A) (x : A) (d : Cursor) → r ≡ Got x d → IfGot P r → P x d
-got_is P (Got y f) x d e h = let a : y ≡ x = cc in let b : f ≡ d = cc in rw (← a, ← b) h
-got_is P (Fault r) x d e h = absurd cc
-got_is P Wants x d e h = absurd cc
 
 -- the code section's count: it is that of the declared functions, and its item says where the section ends
 pub record CodeRead (seen : Seen) (x : Part) (d : Cursor) : Type 0 where

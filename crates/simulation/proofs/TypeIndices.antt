@@ -1,39 +1,20 @@
 -- The least index of an equal type distinguishes types.
-use Rattle.std.proofs.Common.{◌≡◌, ℕ, zero, suc, ◌<◌, ◌≤◌, ◌==◌, Bool, true, false, ◌&&◌, inl, inr, List, [], ◌∷◌, length, Option, Some, refl, sym, ap, ◌∙◌, subst, arith}
+use Rattle.std.proofs.Common.{◌≡◌, ℕ, zero, suc, ◌<◌, ◌≤◌, ◌==◌, Bool, true, false, inl, inr, List, [], ◌∷◌, length, Option, Some, refl, sym, ap, ◌∙◌, subst, arith}
 use Rattle.std.specs.Prelude.{slice_get}
-use Rattle.std.proofs.lemmas.Bool.{cases_Bool, and_parts, eq-eqb, ne_eqb, false≢true}
+use Rattle.std.proofs.lemmas.Bool.{cases_Bool, and_parts, eq-eqb, ne_eqb, false≢true, and_from}
 use Rattle.wasm_defs.specs.declared.types.FuncType.{FuncType}
-use Rattle.wasm_defs.specs.declared.types.ValType.TheVariants.{I32, I64}
-use Rattle.wasm_defs.specs.Typing.{Types, same_types, same_function_types}
+use Rattle.wasm_defs.specs.Typing.{same_types, same_function_types}
 use Rattle.wasm_defs.specs.Context.{type_or_empty, first_like, like}
-
-types_self : (ts : Types) → same_types ts ts ≡ true
-types_self [] = refl
-types_self (I32 ∷ ts) = types_self ts
-types_self (I64 ∷ ts) = types_self ts
-
-types_equal : (ts us : Types) → same_types ts us ≡ true → ts ≡ us
-types_equal [] [] e = refl
-types_equal (t ∷ ts) [] e = absurd cc
-types_equal [] (u ∷ us) e = absurd cc
-types_equal (I32 ∷ ts) (I32 ∷ us) e = ap (λ (l : Types). I32 ∷ l) (types_equal ts us e)
-types_equal (I64 ∷ ts) (I64 ∷ us) e = ap (λ (l : Types). I64 ∷ l) (types_equal ts us e)
-types_equal (I32 ∷ ts) (I64 ∷ us) e = absurd cc
-types_equal (I64 ∷ ts) (I32 ∷ us) e = absurd cc
-
-both : (a b : Bool) → a ≡ true → b ≡ true → a && b ≡ true
-both true true e f = refl
-both true false e f = f
-both false b e f = e
+use Rattle.wasm_defs.proofs.TypeLaws.{same_types-self, same_types-equal}
 
 pub same_self : (t : FuncType) → same_function_types t t ≡ true
-same_self t = both (same_types t.params t.params) (same_types t.results t.results) (types_self t.params) (types_self t.results)
+same_self t = and_from (same_types t.params t.params) (same_types t.results t.results) (same_types-self t.params) (same_types-self t.results)
 
 pub same_equal : (t u : FuncType) → same_function_types t u ≡ true → t ≡ u
 same_equal t u e =
     let p = and_parts (same_types t.params u.params) (same_types t.results u.results) e in
-    let params : t.params ≡ u.params = types_equal t.params u.params p.0 in
-    let results : t.results ≡ u.results = types_equal t.results u.results p.1 in
+    let params : t.params ≡ u.params = same_types-equal t.params u.params p.0 in
+    let results : t.results ≡ u.results = same_types-equal t.results u.results p.1 in
     λ i. record { params = params i; results = results i }
 
 -- ---- the least index

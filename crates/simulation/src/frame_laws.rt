@@ -3,7 +3,7 @@
 ghost use Rattle.simulation.specs.FrameLaws.{SizesAreCounted, CallsAreFilled};
 
 /// The number of a sequence's instruction words depends on no distance, and on no label's index.
-#[tactic(auto, using(crate::proofs::Frames::Sizes::code_size))]
+#[tactic(auto, using(frame_layout::proofs::Sizes::code_size))]
 pub fn sizes_are_counted()
     ensures { SizesAreCounted }
 {}

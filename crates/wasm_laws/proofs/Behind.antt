@@ -1,8 +1,9 @@
 -- After a body are data segments alone, so that the items before it say all that bodies may name.
-use Rattle.std.proofs.Common.{◌≡◌, ℕ, suc, ◌+◌, ◌≤◌, List, [], ◌∷◌, ◌++◌, length, max, Option, refl, ap, subst, sym, ◌∙◌, append_assoc, arith}
+use Rattle.std.proofs.Common.{◌≡◌, ℕ, suc, ◌+◌, ◌≤◌, List, [], ◌∷◌, ◌++◌, length, max, Option, refl, ap, subst, sym, ◌∙◌, append_assoc, arith, None, append-nil}
+use Rattle.std.specs.Option.{option_or}
 use Rattle.wasm_defs.specs.declared.context.GlobalType.{GlobalType}
 use Rattle.wasm_defs.specs.declared.item.Item.{Item}
-use Rattle.wasm_defs.specs.declared.item.Item.TheVariants.{Signature, Imported, Function, Table, Memory, Global, DataCount, Passive, Segment}
+use Rattle.wasm_defs.specs.declared.item.Item.TheVariants.{Passive, Segment}
 use Rattle.wasm_defs.specs.declared.item.Limits.{Limits}
 use Rattle.wasm_defs.specs.declared.types.FuncType.{FuncType}
 use Rattle.wasm_defs.specs.Context.{types_of, functions_of, import_count, declared_count, tables_of, memories_of, globals_of, data_count_of, context_of, body_context, type_of_function}
@@ -11,75 +12,24 @@ use Rattle.wasm_defs.specs.Faults.{items_of, bodies_of, read_of, context_at, IsV
 use Rattle.wasm_defs.specs.Outside.{Body, Part, Section, Listed, Coded, module_read}
 use Rattle.wasm_defs.specs.Trees.{Seq}
 use Rattle.wasm_defs.specs.Typing.{Context}
+use Rattle.wasm_defs.proofs.ItemLaws.{types_of-append, functions_of-append, tables_of-append, memories_of-append, globals_of-append, import_count-append, declared_count-append, data_count_of-append, option_or-none}
 use Rattle.wasm_laws.specs.Behind.{AreSegments, SayTheSame, StandBehind, UsesKeep, AreValidIn}
 use Rattle.wasm_laws.proofs.Sorted.{AreSorted, parts_are_sorted}
 
 -- ---- segments add nothing
 
-types_end : (xs ys : List Item) → AreSegments ys → types_of (xs ++ ys) ≡ types_of xs
-types_end [] [] h = refl
-types_end [] (Passive form bytes ∷ ys) h = types_end [] ys h
-types_end [] (Segment form memory place bytes ∷ ys) h = types_end [] ys h
-types_end [] (_ ∷ ys) h = absurd h
-types_end (Signature form params results ty ∷ xs) ys h = ap (λ (l : List FuncType). ty ∷ l) (types_end xs ys h)
-types_end (_ ∷ xs) ys h = types_end xs ys h
+abbrev AddNothing : List Item → Type 0
+AddNothing ys =
+    (types_of ys ≡ []) × (functions_of ys ≡ []) × (import_count ys ≡ 0) × (declared_count ys ≡ 0) × (tables_of ys ≡ []) × (memories_of ys ≡ []) × (globals_of ys ≡ []) × (data_count_of ys ≡ None)
 
-functions_end : (xs ys : List Item) → AreSegments ys → functions_of (xs ++ ys) ≡ functions_of xs
-functions_end [] [] h = refl
-functions_end [] (Passive form bytes ∷ ys) h = functions_end [] ys h
-functions_end [] (Segment form memory place bytes ∷ ys) h = functions_end [] ys h
-functions_end [] (_ ∷ ys) h = absurd h
-functions_end (Imported from what kind i ∷ xs) ys h = ap (λ (l : List ℕ). i.1 ∷ l) (functions_end xs ys h)
-functions_end (Function i ∷ xs) ys h = ap (λ (l : List ℕ). i.1 ∷ l) (functions_end xs ys h)
-functions_end (_ ∷ xs) ys h = functions_end xs ys h
+add_nothing : (ys : List Item) → AreSegments ys → AddNothing ys
+add_nothing [] h = (refl, refl, refl, refl, refl, refl, refl, refl)
+add_nothing (Passive form bytes ∷ ys) h = add_nothing ys h
+add_nothing (Segment form memory place bytes ∷ ys) h = add_nothing ys h
+add_nothing (_ ∷ ys) h = absurd h
 
-imports_end : (xs ys : List Item) → AreSegments ys → import_count (xs ++ ys) ≡ import_count xs
-imports_end [] [] h = refl
-imports_end [] (Passive form bytes ∷ ys) h = imports_end [] ys h
-imports_end [] (Segment form memory place bytes ∷ ys) h = imports_end [] ys h
-imports_end [] (_ ∷ ys) h = absurd h
-imports_end (Imported from what kind i ∷ xs) ys h = ap (λ (n : ℕ). n + 1) (imports_end xs ys h)
-imports_end (_ ∷ xs) ys h = imports_end xs ys h
-
-declared_end : (xs ys : List Item) → AreSegments ys → declared_count (xs ++ ys) ≡ declared_count xs
-declared_end [] [] h = refl
-declared_end [] (Passive form bytes ∷ ys) h = declared_end [] ys h
-declared_end [] (Segment form memory place bytes ∷ ys) h = declared_end [] ys h
-declared_end [] (_ ∷ ys) h = absurd h
-declared_end (Function i ∷ xs) ys h = ap (λ (n : ℕ). n + 1) (declared_end xs ys h)
-declared_end (_ ∷ xs) ys h = declared_end xs ys h
-
-tables_end : (xs ys : List Item) → AreSegments ys → tables_of (xs ++ ys) ≡ tables_of xs
-tables_end [] [] h = refl
-tables_end [] (Passive form bytes ∷ ys) h = tables_end [] ys h
-tables_end [] (Segment form memory place bytes ∷ ys) h = tables_end [] ys h
-tables_end [] (_ ∷ ys) h = absurd h
-tables_end (Table element limits ∷ xs) ys h = ap (λ (l : List Limits). limits ∷ l) (tables_end xs ys h)
-tables_end (_ ∷ xs) ys h = tables_end xs ys h
-
-memories_end : (xs ys : List Item) → AreSegments ys → memories_of (xs ++ ys) ≡ memories_of xs
-memories_end [] [] h = refl
-memories_end [] (Passive form bytes ∷ ys) h = memories_end [] ys h
-memories_end [] (Segment form memory place bytes ∷ ys) h = memories_end [] ys h
-memories_end [] (_ ∷ ys) h = absurd h
-memories_end (Memory limits ∷ xs) ys h = ap (λ (l : List Limits). limits ∷ l) (memories_end xs ys h)
-memories_end (_ ∷ xs) ys h = memories_end xs ys h
-
-globals_end : (xs ys : List Item) → AreSegments ys → globals_of (xs ++ ys) ≡ globals_of xs
-globals_end [] [] h = refl
-globals_end [] (Passive form bytes ∷ ys) h = globals_end [] ys h
-globals_end [] (Segment form memory place bytes ∷ ys) h = globals_end [] ys h
-globals_end [] (_ ∷ ys) h = absurd h
-globals_end (Global ty mutable init ∷ xs) ys h = ap (λ (l : List GlobalType). record { ty = ty.1; mutable = mutable.1 } ∷ l) (globals_end xs ys h)
-globals_end (_ ∷ xs) ys h = globals_end xs ys h
-
-data_count_end : (xs ys : List Item) → AreSegments ys → data_count_of (xs ++ ys) ≡ data_count_of xs
-data_count_end [] [] h = refl
-data_count_end [] (Passive form bytes ∷ ys) h = data_count_end [] ys h
-data_count_end [] (Segment form memory place bytes ∷ ys) h = data_count_end [] ys h
-data_count_end [] (_ ∷ ys) h = absurd h
-data_count_end (DataCount count ∷ xs) ys h = refl
-data_count_end (_ ∷ xs) ys h = data_count_end xs ys h
+none_more : {A : Type 0} (all xs ys : List A) → all ≡ xs ++ ys → ys ≡ [] → all ≡ xs
+none_more all xs ys e none = e ∙ ap (λ l. xs ++ l) none ∙ append-nil xs
 
 -- a context of these lists, and of so many data segments
 abbrev made_of : List FuncType → List ℕ → List Limits → List Limits → Option ℕ → List GlobalType → Context
@@ -97,15 +47,16 @@ made_of types functions tables memories data_count globals = record {
 
 segments_say_nothing : (xs ys : List Item) → AreSegments ys → SayTheSame (xs ++ ys) xs
 segments_say_nothing xs ys h =
-    let types = types_end xs ys h in
-    let functions = functions_end xs ys h in
-    let tables = tables_end xs ys h in
-    let memories = memories_end xs ys h in
-    let globals = globals_end xs ys h in
-    let counted = data_count_end xs ys h in
+    let n = add_nothing ys h in
+    let types = none_more _ (types_of xs) _ (types_of-append xs ys) n.0 in
+    let functions = none_more _ (functions_of xs) _ (functions_of-append xs ys) n.1 in
+    let tables = none_more _ (tables_of xs) _ (tables_of-append xs ys) n.4 in
+    let memories = none_more _ (memories_of xs) _ (memories_of-append xs ys) n.5 in
+    let globals = none_more _ (globals_of xs) _ (globals_of-append xs ys) n.6 in
+    let counted = data_count_of-append xs ys ∙ ap (option_or (data_count_of xs)) n.7 ∙ option_or-none (data_count_of xs) in
     let context : made_of (types_of (xs ++ ys)) (functions_of (xs ++ ys)) (tables_of (xs ++ ys)) (memories_of (xs ++ ys)) (data_count_of (xs ++ ys)) (globals_of (xs ++ ys))
     ≡ made_of (types_of xs) (functions_of xs) (tables_of xs) (memories_of xs) (data_count_of xs) (globals_of xs) = rw (types, functions, tables, memories, globals, counted) refl in
-    record { context = context; imports = imports_end xs ys h; declared = declared_end xs ys h; tables = tables; memories = memories; data_count = counted }
+    record { context = context; imports = omega (arith, import_count-append xs ys, n.2); declared = omega (arith, declared_count-append xs ys, n.3); tables = tables; memories = memories; data_count = counted }
 
 -- ---- after a body
 

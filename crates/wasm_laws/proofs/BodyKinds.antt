@@ -16,7 +16,8 @@ use Rattle.wasm_defs.specs.Entries.{Seen, nothing}
 use Rattle.wasm_defs.specs.Bodies.{Group, Spelled, group, groups, local_groups, with_index, short_type, type_by, block_type, with_type, label, branch_table, zero_byte, indirect, with_zero, initializing, copying, by_number, prefixed, mem_arg, with_mem_arg, constant, control, variable, accessed_at, memory, operated_at, numeric, instruction, malformed_at, closed, goes_on, depth_after, spelled_from, read_code, last_of, body_cursor, body_read}
 use Rattle.wasm_defs.specs.Outside.{Row, row, entered, noted, inside, Ending, Whole, Refused, Owed, Run, runs_on, Next, finish, entries, contents, section, owes, or_section, sections_up_to, beginning, module_read}
 use Rattle.wasm_defs.specs.Faults.{rank}
-use Rattle.wasm_laws.proofs.FieldKinds.{Lasts, Lasting, LastingRow, lasting, value_type_lasts, bind, done_lasts, refused_lasts, either, unsupported, malformed, byte_lasts, number_lasts, here_lasts, header_lasts, preamble_lasts, end_lasts, row_lasts}
+use Rattle.wasm_laws.proofs.FieldKinds.{Lasts, Lasting, lasting, value_type_lasts, bind, done_lasts, refused_lasts, either, byte_lasts, number_lasts, here_lasts, header_lasts, preamble_lasts, end_lasts, row_lasts, AsLasting}
+use Rattle.wasm_laws.proofs.EachReader.{RowHas, unsupported, malformed}
 
 -- ---- locals
 
@@ -189,7 +190,7 @@ runs_last Wants f h k = tt
 abbrev LastingNext : Next → Type 0
 LastingNext next = (seen : Seen) (c : Cursor) → EndingLasts (next seen c).ending
 
-module _ (r : Row) (lasts : LastingRow r) (next : Next) (h : LastingNext next) where
+module _ (r : Row) (lasts : RowHas AsLasting r) (next : Next) (h : LastingNext next) where
   finish_lasts : LastingNext (finish r next)
   finish_lasts seen c = runs_last _ _ (lasts.back.by c) (λ x d. runs_last _ _ (end_lasts.by d) (λ y e. h seen e))
 

@@ -5,11 +5,12 @@ use Rattle.std.proofs.lemmas.Bool.{cases_lt, cases_Bool, lt-ltb, le-ltb, le-leb,
 use Rattle.std.proofs.lemmas.List.{drop-append-le}
 use Rattle.std.proofs.lemmas.List.Elements.{All-nil, All-cons, All-drop}
 use Rattle.std.proofs.lemmas.Nat.{pow_pos}
-use Rattle.wasm_defs.specs.Numbers.{Reading, Number, CutOff, Bad, number_at, last_byte, after_byte}
+use Rattle.wasm_defs.specs.Numbers.{Reading, Number, CutOff, Bad, number_at, last_byte}
 use Rattle.wasm_defs.specs.Limits.{max_name}
 use Rattle.wasm_defs.specs.declared.text.Inside.{Inside}
 use Rattle.wasm_defs.specs.Text.{between, due_in, first_byte, next_byte, completes}
 use Rattle.wasm_defs.specs.Fields.{Cursor, Read, Wants, room_of, window, cut, first_of, byte, from_reading, number, nat_of, agree, fixed, text_after, least, length_owed, name_from, name}
+use Rattle.wasm_defs.proofs.NumberLaws.{last_is_whole, after_cut}
 use Rattle.wasm_laws.specs.Sections.{AreBytes}
 use Rattle.wasm_laws.specs.Completing.{IsGot, IsTooLong, Completes, CompletesOrPasses}
 use Rattle.wasm_laws.proofs.Steady.{with_more}
@@ -63,29 +64,6 @@ byte_completes c e =
 last_zero : (signed : Bool) (bits : ℕ) → last_byte signed bits 0 ≡ Number (pos 0) 1
 last_zero false bits = rw (lt-ltb 0 (2 ^ bits) (pow_pos bits)) refl
 last_zero true bits = rw (lt-ltb 0 (2 ^ (bits - 1)) (pow_pos (bits - 1))) refl
-
-pub last_is_whole : (signed : Bool) (bits b : ℕ) → last_byte signed bits b ≡ CutOff → ⊥
-last_is_whole false bits b e =
-    elim (cases_Bool (ltb b (2 ^ bits))) [
-      | inl h ↦ absurd (let t = rw h at e in cc)
-      | inr h ↦ absurd (let t = rw h at e in cc)
-    ]
-last_is_whole true bits b e =
-    elim (cases_Bool (ltb b 64)) [
-      | inl low ↦ let t = rw low at e in elim (cases_Bool (ltb b (2 ^ (bits - 1)))) [
-        | inl h ↦ absurd (let u = rw h at t in cc)
-        | inr h ↦ absurd (let u = rw h at t in cc)
-      ]
-      | inr high ↦ let t = rw high at e in elim (cases_Bool (ltb (b + 2 ^ (bits - 1)) 128)) [
-        | inl h ↦ absurd (let u = rw h at t in cc)
-        | inr h ↦ absurd (let u = rw h at t in cc)
-      ]
-    ]
-
-pub after_cut : (b : ℕ) (r : Reading) → after_byte b r ≡ CutOff → r ≡ CutOff
-after_cut b (Number n len) e = absurd cc
-after_cut b CutOff e = refl
-after_cut b Bad e = absurd cc
 
 -- a byte 0 ends a number that is cut off
 zero_ends : (signed : Bool) (bits : ℕ) (bytes more : List ℕ) → number_at signed bits bytes ≡ CutOff → (n : ℤ) × (number_at signed bits (bytes ++ 0 ∷ more) ≡ Number n (length bytes + 1))

@@ -125,16 +125,16 @@ whole_is_described bytes parts fits seen e =
     let ends : (module_read bytes).ending ≡ Whole seen = ap (λ (r : Run). r.ending) e in
     described bytes parts (subst (Behind bytes) same (module_found bytes fits seen ends)) (subst (λ (l : List Part). length (bodies_of l) ≡ declared_count (items_of l)) same (bodies_match bytes seen ends)) (subst HasSegments same (segments_agree bytes seen ends, bodies_are_told bytes))
 
-no_fault : (len : ℕ) (ending : Ending) → ending_fault len ending ≡ None → (seen : Seen) × (ending ≡ Whole seen)
-no_fault len (Whole seen) e = (seen, refl)
-no_fault len (Refused r) e = absurd cc
-no_fault len Owed e = absurd cc
+pub whole_ending : (len : ℕ) (ending : Ending) → ending_fault len ending ≡ None → (seen : Seen) × (ending ≡ Whole seen)
+whole_ending len (Whole seen) e = (seen, refl)
+whole_ending len (Refused r) e = absurd cc
+whole_ending len Owed e = absurd cc
 
 -- the items and bodies of a module
 pub module_is_described : (bytes : List ℕ) (m : Module) → numbers.AreBytes bytes → IsModule bytes m → (sections : List Section) × AreSectionsOf sections bytes × (m.items ≡ items_in sections) × (m.bodies ≡ bodies_in sections)
 module_is_described bytes m fits is =
     let run = module_read bytes in
-    let whole = no_fault (length bytes) run.ending is.whole in
+    let whole = whole_ending (length bytes) run.ending is.whole in
     let d = whole_is_described bytes run.parts fits whole.0 (ap (λ (z : Ending). record { parts = run.parts; ending = z }) whole.1) in (
       d.0,
       d.1,

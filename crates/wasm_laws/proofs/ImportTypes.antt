@@ -8,10 +8,10 @@ use Rattle.wasm_defs.specs.declared.types.FuncType.{FuncType}
 use Rattle.wasm_defs.specs.Context.{types_of, type_or_empty}
 use Rattle.wasm_defs.specs.Outside.{module_read}
 use Rattle.wasm_defs.specs.Faults.{is_import_type, Module, IsModule}
+use Rattle.wasm_defs.proofs.ItemLaws.{types_of-append}
 use Rattle.wasm_laws.specs.Behind.{UsesKeep}
 use Rattle.wasm_laws.specs.Kept.{ImportsReturnOne}
 use Rattle.wasm_laws.proofs.Behind.{uses_keep}
-use Rattle.wasm_laws.proofs.Typed.{types_of-append}
 use Rattle.wasm_laws.proofs.Starts.{found_more}
 
 abbrev ReturnsOne : FuncType → Type 0

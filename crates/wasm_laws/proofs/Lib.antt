@@ -54,6 +54,7 @@ pub mod Constants
 pub mod Spaces
 pub mod BodyKinds
 pub mod Completing
+pub mod EachReader
 pub mod FieldKinds
 pub mod PartLists
 pub mod PartOrder

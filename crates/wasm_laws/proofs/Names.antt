@@ -9,6 +9,7 @@ use Rattle.wasm_defs.specs.declared.text.Inside.{Inside}
 use Rattle.wasm_defs.specs.Limits.{max_name}
 use Rattle.wasm_defs.specs.Text.{between, due_in, next_byte, completes}
 use Rattle.wasm_defs.specs.Fields.{Cursor, refused, room_of, window, nat_of, text_after, least, length_owed, name_from, name}
+use Rattle.wasm_defs.proofs.NumberLaws.{after_cut}
 use Rattle.wasm_laws.proofs.Steady.{with_more, Extends, faulty, owed, Advances, StandsIn, IsThere, IsDecided, IfGot, IsMarked, Field}
 use Rattle.wasm_laws.proofs.Windows.{same_window, wider_window, added, window_short, window_whole, take_over, all_of, got_past, past_advance, stands_here, LiesIn, ReadsOn, number_lies, window_reads_on}
 
@@ -81,11 +82,6 @@ last_is_whole bits b e =
       | inl h ↦ absurd (let t = rw h at e in cc)
       | inr h ↦ absurd (let t = rw h at e in cc)
     ]
-
-after_cut : (b : ℕ) (r : Reading) → after_byte b r ≡ CutOff → r ≡ CutOff
-after_cut b (Number n len) e = absurd cc
-after_cut b CutOff e = refl
-after_cut b Bad e = absurd cc
 
 -- an encoding that goes on is no less, and longer
 pub least_of_more : (bits : ℕ) (bytes more : List ℕ) → number_at false bits bytes ≡ CutOff → AtLeast (least bytes) (length bytes) (bytes ++ more) (number_at false bits (bytes ++ more))

@@ -25,6 +25,12 @@ got_both P Q (Got a d) p q = (p, q)
 got_both P Q (Fault r) p q = tt
 got_both P Q Wants p q = tt
 
+-- what was got
+pub got_is : {A : Type 0} (P : A → Cursor → Type 0) (r : Read A) (x : A) (d : Cursor) → r ≡ Got x d → IfGot P r → P x d
+got_is P (Got y f) x d e h = let a : y ≡ x = cc in let b : f ≡ d = cc in rw (← a, ← b) h
+got_is P (Fault r) x d e h = absurd cc
+got_is P Wants x d e h = absurd cc
+
 pub got_map : {A : Type 0} (P Q : A → Cursor → Type 0) (x : Read A) → ((a : A) (d : Cursor) → P a d → Q a d) → IfGot P x → IfGot Q x
 got_map P Q (Got a d) h p = h a d p
 got_map P Q (Fault r) h p = tt

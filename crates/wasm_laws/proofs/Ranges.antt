@@ -4,9 +4,9 @@ use Rattle.std.specs.Prelude.{slice_get, negsuc, neg_ℤ, ◌≤ℤ◌, ◌<ℤ�
 use Rattle.std.specs.Int.{w32, w64}
 use Rattle.std.proofs.lemmas.Bool.{cases_lt, lt-ltb, le-ltb}
 use Rattle.std.proofs.lemmas.Int.{ints}
-use Rattle.std.proofs.lemmas.Nat.{pow_pos, pow-add}
-use Rattle.wasm_defs.proofs.NumberLaws.{AreBytes, reading_small}
-use Rattle.wasm_defs.specs.Numbers.{Reading, Number, CutOff, Bad, last_byte, after_byte, number_at, IsSmall}
+use Rattle.std.proofs.lemmas.Nat.{pow-add}
+use Rattle.wasm_defs.proofs.NumberLaws.{AreBytes, reading_small, IsSigned, last_signed}
+use Rattle.wasm_defs.specs.Numbers.{Reading, Number, CutOff, Bad, after_byte, number_at, IsSmall}
 use Rattle.wasm_defs.specs.Faults.{tokens_of}
 use Rattle.wasm_defs.specs.Fields.{Cursor, nat_of, window, room_of, from_reading, number, here, u32, vector, repeated, Read, Got, Fault, Wants}
 use Rattle.wasm_defs.specs.Bodies.{with_index, constant, instruction, body_read, type_by, block_type, with_type, branch_table, label, indirect, with_zero, copying, by_number, prefixed, with_mem_arg, mem_arg, zero_byte, initializing, memory, accessed_at}
@@ -32,26 +32,6 @@ use Rattle.wasm_laws.proofs.FieldLaws.{u32_field}
 use Rattle.wasm_defs.specs.declared.operation.Access.TheVariants as access
 
 -- ---- signed numbers
-
--- a signed number of so many bits
-abbrev IsSigned : ℕ → Reading → Type 0
-IsSigned bits (Number n len) = (neg_ℤ (pos (2 ^ (bits - 1))) ≤ℤ n) × (n <ℤ pos (2 ^ (bits - 1)))
-IsSigned bits CutOff = Unit {0}
-IsSigned bits Bad = Unit {0}
-
-last_signed : (bits b : ℕ) → b < 128 → IsSigned bits (last_byte true bits b)
-last_signed bits b lt =
-    let some = pow_pos (bits - 1) in
-    elim (cases_lt b 64) [
-      | inl low ↦ rw (lt-ltb b 64 low) (elim (cases_lt b (2 ^ (bits - 1))) [
-        | inl h ↦ rw (lt-ltb b (2 ^ (bits - 1)) h) (omega (arith, ints), omega (arith, ints))
-        | inr h ↦ rw (le-ltb b (2 ^ (bits - 1)) h) tt
-      ])
-      | inr high ↦ rw (le-ltb b 64 high) (elim (cases_lt (b + 2 ^ (bits - 1)) 128) [
-        | inl h ↦ rw (lt-ltb (b + 2 ^ (bits - 1)) 128 h) tt
-        | inr h ↦ rw (le-ltb (b + 2 ^ (bits - 1)) 128 h) (omega (arith, ints), omega (arith, ints))
-      ])
-    ]
 
 seven_more : (bits : ℕ) → 7 < bits → 2 ^ (bits - 1) ≡ 128 * 2 ^ (bits - 7 - 1)
 seven_more bits wide = let e : 7 + (bits - 7 - 1) ≡ bits - 1 = omega arith in ap (λ (k : ℕ). 2 ^ k) (sym e) ∙ pow-add 2 7 (bits - 7 - 1)

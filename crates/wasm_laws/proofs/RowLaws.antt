@@ -22,7 +22,7 @@ code_entry_steady marks seen = either marks _ _ _ (body_steady marks _) (listed_
 entries_steady : (front : Seen → Reader ℕ) (entry : Seen → Reader Item) → ((seen : Seen) → Steady [] (front seen)) → ((seen : Seen) → Steady [] (entry seen)) → ((seen : Seen) → Takes (entry seen)) → SteadyRow (entries_of front entry)
 entries_steady front entry hf he ht = record { front = hf; entry = λ s. listed_steady [] _ (he s); back = done_steady [] tt; takes = λ s. listed_takes _ (ht s) }
 
-either_row : (b : Bool) (p q : Row) → SteadyRow p → SteadyRow q → SteadyRow (cond b p q)
+pub either_row : (b : Bool) (p q : Row) → SteadyRow p → SteadyRow q → SteadyRow (cond b p q)
 either_row true p q hp hq = hp
 either_row false p q hp hq = hq
 

@@ -101,11 +101,11 @@ section_same most f g seen c same h = runs_same most _ _ _ (fewer (header seen c
     fewer (Fault r) p = tt
     fewer Wants p = tt
 
-or_same : (most : ℕ) (f g : Next) (seen : Seen) (c : Cursor) (rest : List ℕ) → Same most f g → length c.rest ≤ suc most → or_section f seen c rest ≡ or_section g seen c rest
+pub or_same : (most : ℕ) (f g : Next) (seen : Seen) (c : Cursor) (rest : List ℕ) → Same most f g → length c.rest ≤ suc most → or_section f seen c rest ≡ or_section g seen c rest
 or_same most f g seen c [] same h = refl
 or_same most f g seen c (b ∷ rest) same h = ap (after_part (Section c.at (position_of b))) (section_same most f g seen c same h)
 
-no_bytes : (f g : Next) (seen : Seen) (c : Cursor) (rest : List ℕ) → length rest ≤ 0 → or_section f seen c rest ≡ or_section g seen c rest
+pub no_bytes : (f g : Next) (seen : Seen) (c : Cursor) (rest : List ℕ) → length rest ≤ 0 → or_section f seen c rest ≡ or_section g seen c rest
 no_bytes f g seen c [] h = refl
 no_bytes f g seen c (b ∷ rest) h = absurd (omega arith)
 

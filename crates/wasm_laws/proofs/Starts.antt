@@ -1,7 +1,7 @@
 -- A module's start function is one of its functions, and takes and gives nothing.
 use Rattle.std.proofs.Common.{◌≡◌, ℕ, zero, suc, Bool, true, false, List, [], ◌∷◌, ◌++◌, length, Option, None, Some, refl, sym, ap, ◌∙◌, subst, append_assoc, arith}
-use Rattle.std.specs.Prelude.{slice_get, ◌==◌, ◌&&◌}
-use Rattle.std.proofs.lemmas.Bool.{eqb-true}
+use Rattle.std.specs.Prelude.{slice_get, ◌==◌}
+use Rattle.std.proofs.lemmas.Bool.{eqb-true, and_parts}
 use Rattle.wasm_defs.specs.declared.item.Item.{Item}
 use Rattle.wasm_defs.specs.declared.item.Item.TheVariants.{Signature}
 use Rattle.wasm_defs.specs.declared.types.FuncType.{FuncType}
@@ -10,10 +10,10 @@ use Rattle.wasm_defs.specs.Context.{context_of, types_of, functions_of}
 use Rattle.wasm_defs.specs.Instances.{start_of}
 use Rattle.wasm_defs.specs.Outside.{module_read}
 use Rattle.wasm_defs.specs.Faults.{is_start_type, Use, use_of, UsesRight, serves, Module, IsModule}
+use Rattle.wasm_defs.proofs.ItemLaws.{types_of-append, functions_of-append}
 use Rattle.wasm_laws.specs.Behind.{UsesKeep}
 use Rattle.wasm_laws.specs.Kept.{TakesNothing}
 use Rattle.wasm_laws.proofs.Behind.{uses_keep}
-use Rattle.wasm_laws.proofs.Typed.{types_of-append, functions_of-append}
 
 -- ---- what is there stays there with more after it
 
@@ -44,15 +44,10 @@ no_elements : {A : Type 0} (xs : List A) → length xs ≡ 0 → xs ≡ []
 no_elements [] e = refl
 no_elements (x ∷ xs) e = absurd (omega arith)
 
-both_true : (a b : Bool) → (a && b) ≡ true → (a ≡ true) × (b ≡ true)
-both_true true true e = (refl, refl)
-both_true true false e = absurd cc
-both_true false b e = absurd cc
-
 takes_nothing : (o : Option FuncType) → is_start_type o ≡ true → (t : FuncType) × (o ≡ Some t) × TakesNothing t
 takes_nothing None e = absurd cc
 takes_nothing (Some t) e =
-    let both = both_true (length t.params == 0) (length t.results == 0) e in
+    let both = and_parts (length t.params == 0) (length t.results == 0) e in
     (t, refl, record { params = no_elements t.params (eqb-true (length t.params) 0 both.0); results = no_elements t.results (eqb-true (length t.results) 0 both.1) })
 
 -- ---- the start function of some items

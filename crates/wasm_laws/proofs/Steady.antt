@@ -37,6 +37,9 @@ moves_of c d p = record {
 pub moves_then : (c d e : Cursor) → Moves c d → Moves d e → Moves c e
 moves_then c d e p q = record { by = p.by + q.by; rest = omega (arith, p.rest, q.rest); at = omega (arith, p.at, q.at); room = omega (arith, p.room, q.room) }
 
+pub advance_fewer : (c d : Cursor) → Advance c d → length d.rest ≤ length c.rest
+advance_fewer c d p = omega (arith, ap length p.parts, length-append p.taken d.rest)
+
 -- ---- offsets
 
 pub stands_later : (low : ℕ) (c d : Cursor) (r : Refusal) → Moves c d → Stands low d r → Stands low c r
@@ -55,7 +58,7 @@ there_later c d p h = omega (arith, p.rest, p.room, h)
 
 -- ---- one after the other
 
-then_extends : {A B : Type 0} (more : List ℕ) (x y : Read A) (f : A → Reader B) → ((a : A) (c : Cursor) → Extends B more (f a c) (f a (with_more c more))) → Extends A more x y → Extends B more (then_go x f) (then_go y f)
+pub then_extends : {A B : Type 0} (more : List ℕ) (x y : Read A) (f : A → Reader B) → ((a : A) (c : Cursor) → Extends B more (f a c) (f a (with_more c more))) → Extends A more x y → Extends B more (then_go x f) (then_go y f)
 then_extends more x y f h (got a c) = h a c
 then_extends more x y f h (faulty r) = faulty r
 then_extends more x y f h (owed later) = owed (then_go later f)

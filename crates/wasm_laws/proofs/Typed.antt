@@ -14,6 +14,7 @@ use Rattle.wasm_defs.specs.Outside.{Part, Section, Listed, Coded, entered, modul
 use Rattle.wasm_defs.specs.Context.{types_of, functions_of, import_count, declared_count, context_of}
 use Rattle.wasm_defs.specs.Faults.{items_of}
 use Rattle.wasm_defs.specs.Typing.{Context, function_type}
+use Rattle.wasm_defs.proofs.ItemLaws.{types_of-append, functions_of-append, declared_count-append, functions_of-counts}
 use Rattle.wasm_laws.specs.Counts.{AreDeclared}
 use Rattle.wasm_laws.specs.Typed.{AreTyped}
 use Rattle.wasm_laws.proofs.Steady.{IfGot, always}
@@ -154,31 +155,8 @@ items_are_indexed bytes = of_module (λ s. s.types) IsIndexed AreIndexed (λ typ
 
 -- ---- items that are added one by one
 
-pub types_of-append : (xs ys : List Item) → types_of (xs ++ ys) ≡ types_of xs ++ types_of ys
-types_of-append [] ys = refl
-types_of-append (Signature form params results ty ∷ xs) ys = ap (λ l. ty ∷ l) (types_of-append xs ys)
-types_of-append (_ ∷ xs) ys = types_of-append xs ys
-
-pub functions_of-append : (xs ys : List Item) → functions_of (xs ++ ys) ≡ functions_of xs ++ functions_of ys
-functions_of-append [] ys = refl
-functions_of-append (Imported from what kind type_index ∷ xs) ys = ap (λ l. type_index.1 ∷ l) (functions_of-append xs ys)
-functions_of-append (Function type_index ∷ xs) ys = ap (λ l. type_index.1 ∷ l) (functions_of-append xs ys)
-functions_of-append (_ ∷ xs) ys = functions_of-append xs ys
-
-declared_count-append : (xs ys : List Item) → declared_count (xs ++ ys) ≡ declared_count xs + declared_count ys
-declared_count-append [] ys = omega arith
-declared_count-append (Function type_index ∷ xs) ys = omega (arith, declared_count-append xs ys)
-declared_count-append (_ ∷ xs) ys = declared_count-append xs ys
-
 types_count : (xs ys : List Item) → length (types_of (xs ++ ys)) ≡ length (types_of xs) + length (types_of ys)
 types_count xs ys = ap length (types_of-append xs ys) ∙ length-append (types_of xs) (types_of ys)
-
--- the functions are the imported and the declared ones
-pub functions_of-counts : (xs : List Item) → length (functions_of xs) ≡ import_count xs + declared_count xs
-functions_of-counts [] = omega arith
-functions_of-counts (Imported from what kind type_index ∷ xs) = omega (arith, functions_of-counts xs)
-functions_of-counts (Function type_index ∷ xs) = omega (arith, functions_of-counts xs)
-functions_of-counts (_ ∷ xs) = functions_of-counts xs
 
 -- each function has its type among so many
 pub record AreBelow (types : ℕ) (functions : List ℕ) : Type 0 where

@@ -1,30 +1,14 @@
 -- The locals of a function that was called: its arguments, and zeros.
 use Rattle.std.proofs.Common.{◌≡◌, ℕ, zero, suc, ◌<◌, true, List, [], ◌∷◌, length, map, Some, refl, sym, ap, subst, arith}
 use Rattle.std.specs.Prelude.{slice_get}
-use Rattle.std.proofs.lemmas.Bool.{and_parts, ltb-true, false≢true}
+use Rattle.std.proofs.lemmas.Bool.{and_parts, ltb-true}
 use Rattle.wasm_defs.specs.declared.types.ValType.{ValType}
-use Rattle.wasm_defs.specs.declared.types.ValType.TheVariants.{I32, I64}
-use Rattle.wasm_defs.specs.Typing.{Types, same_type, same_types}
+use Rattle.wasm_defs.specs.Typing.{Types, same_types}
 use Rattle.wasm_defs.specs.Values.{Value, InRange, modulus, zero_of, types_of_values}
 use Rattle.wasm_defs.specs.Host.{in_range, all_in_range, are_of}
+use Rattle.wasm_defs.proofs.TypeLaws.{same_types-equal}
 
 -- ---- arguments of given types
-
-same_type_is : (t u : ValType) → same_type t u ≡ true → t ≡ u
-same_type_is I32 I32 e = refl
-same_type_is I64 I64 e = refl
-same_type_is I32 I64 e = absurd (false≢true e)
-same_type_is I64 I32 e = absurd (false≢true e)
-
-same_types_are : (ts us : Types) → same_types ts us ≡ true → ts ≡ us
-same_types_are [] [] e = refl
-same_types_are (t ∷ ts) [] e = absurd (false≢true e)
-same_types_are [] (u ∷ us) e = absurd (false≢true e)
-same_types_are (t ∷ ts) (u ∷ us) e =
-    let parts = and_parts (same_type t u) (same_types ts us) e in
-    let first = same_type_is t u parts.0 in
-    let rest = same_types_are ts us parts.1 in
-    cc
 
 all_are_in_range : (vs : List Value) → all_in_range vs ≡ true → (k : ℕ) (v : Value) → slice_get vs k ≡ Some v → InRange v
 all_are_in_range [] e k v is = absurd cc
@@ -41,7 +25,7 @@ pub record AreOf (types : Types) (values : List Value) : Type 0 where
 pub are_of_types : (types : Types) (values : List Value) → are_of types values ≡ true → AreOf types values
 are_of_types types values e =
     let parts = and_parts (same_types types (types_of_values values)) (all_in_range values) e in
-    record { types_are = sym (same_types_are types (types_of_values values) parts.0); ranges = all_are_in_range values parts.1 }
+    record { types_are = sym (same_types-equal types (types_of_values values) parts.0); ranges = all_are_in_range values parts.1 }
 
 -- ---- zeros
 

@@ -32,7 +32,7 @@ use Rattle.simulation.proofs.Frames.Heights.{peak, peak_here}
 use Rattle.simulation.proofs.Frames.Leaving.{address_fits}
 use Rattle.simulation.proofs.Frames.Rules.{types_length, types_append}
 use Rattle.simulation.proofs.Frames.Sited.{traps_alike}
-use Rattle.simulation.proofs.Frames.Sizes.{code_size}
+use Rattle.frame_layout.proofs.Sizes.{code_size}
 use Rattle.simulation.proofs.Frames.Values.{Holds, holds_as, Locals, Agree, SameBeside}
 use Rattle.simulation.proofs.Frames.Words.{zero_word, modulus_positive}
 use Rattle.simulation.proofs.Frames.Reversed.{among_both}

@@ -20,7 +20,7 @@ use Rattle.simulation.proofs.Frames.Frames.{Open, labels_of, under, Compiled, Si
 use Rattle.simulation.proofs.Frames.Follows.{same_beside, registers_of, ahead, labels_ahead, Follows, owed_of}
 use Rattle.simulation.proofs.Frames.Holding.{Held, held_after, held_less, arrives, follows_less, follows_after}
 use Rattle.simulation.proofs.Frames.Jumps.{Lands}
-use Rattle.simulation.proofs.Frames.Sizes.{jump_count, jump_length, unless_count, unless_length}
+use Rattle.frame_layout.proofs.Sizes.{jump_count, jump_length, unless_count, unless_length}
 use Rattle.simulation.proofs.Frames.Values.{Operands}
 use Rattle.simulation.proofs.Control.Branches.{branch_follows, carried_pays}
 use Rattle.simulation.proofs.Control.Entries.{still}

@@ -7,14 +7,14 @@ use Rattle.std.proofs.lemmas.List.{length-append}
 use Rattle.rv_isa.specs.declared.operations.Op.{Op}
 use Rattle.rv_isa.specs.Steps.{State, Bytes}
 use Rattle.rv_isa.specs.Runs.{place, HasAt}
-use Rattle.wasm_defs.specs.declared.types.ValType.{ValType}
-use Rattle.wasm_defs.specs.declared.types.ValType.TheVariants.{I32, I64}
+use Rattle.wasm_defs.specs.declared.types.ValType.TheVariants.{I32}
 use Rattle.wasm_defs.specs.declared.token.Plain.TheVariants.{BrTable}
 use Rattle.wasm_defs.specs.Trees.{Seq, Simple}
-use Rattle.wasm_defs.specs.Typing.{Types, Stops, Moves, with_type, only_if, are_these, are_labels, same_type, same_types}
+use Rattle.wasm_defs.specs.Typing.{Types, Stops, Moves, with_type, only_if, are_these, are_labels}
 use Rattle.wasm_defs.specs.Values.{Value, types_of_values}
 use Rattle.wasm_defs.specs.Configurations.{Instance, Config, Step, belows, used}
 use Rattle.wasm_defs.specs.Reductions.{simple, branch, branch_table}
+use Rattle.wasm_defs.proofs.TypeLaws.{same_types-equal}
 use Rattle.frame_layout.specs.Macros.{s0, s5}
 use Rattle.frame_layout.specs.Slots.{operand}
 use Rattle.frame_layout.specs.Templates.{Label, Around, label_at, jump_words, jumps, table_front, exit_stub}
@@ -24,28 +24,12 @@ use Rattle.simulation.proofs.Frames.Frames.{Open, labels_of, Compiled, FramesSta
 use Rattle.simulation.proofs.Frames.Follows.{same_beside, registers_of, ahead, labels_ahead, Follows, owed_of}
 use Rattle.simulation.proofs.Frames.Holding.{Held, held_after, held_less, follows_less, follows_after}
 use Rattle.simulation.proofs.Frames.Sitting.{has_at}
-use Rattle.simulation.proofs.Frames.Sizes.{jump_count, jump_length, front_count, front_length}
+use Rattle.frame_layout.proofs.Sizes.{jump_count, jump_length, front_count, front_length}
 use Rattle.simulation.proofs.Frames.Values.{Operands}
 use Rattle.simulation.proofs.Control.Branches.{branch_follows, carried_pays}
 use Rattle.simulation.proofs.Control.Steps.{StopsAt, stops, held_here, has_here, inside_here, high_here, stand_here}
 use Rattle.simulation.proofs.Control.Tables.{chosen, front_lands}
 use Rattle.simulation.proofs.Frames.Rules.{types_split}
-
-same_type_is : (t u : ValType) → same_type t u ≡ true → t ≡ u
-same_type_is I32 I32 e = refl
-same_type_is I64 I64 e = refl
-same_type_is I32 I64 e = absurd (false≢true e)
-same_type_is I64 I32 e = absurd (false≢true e)
-
-same_types_are : (ts us : Types) → same_types ts us ≡ true → ts ≡ us
-same_types_are [] [] e = refl
-same_types_are (t ∷ ts) [] e = absurd (false≢true e)
-same_types_are [] (u ∷ us) e = absurd (false≢true e)
-same_types_are (t ∷ ts) (u ∷ us) e =
-    let parts = and_parts (same_type t u) (same_types ts us) e in
-    let first = same_type_is t u parts.0 in
-    let rest = same_types_are ts us parts.1 in
-    cc
 
 -- ---- the labels of a table
 
@@ -65,7 +49,7 @@ by_table labels ls l from mid (Some ts) is m = with_labels labels ls l from mid 
 
 these_are : (ts : Types) (o : Option Types) → are_these ts o ≡ true → o ≡ Some ts
 these_are ts None e = absurd (false≢true e)
-these_are ts (Some us) e = ap (λ (xs : Types). Some xs) (same_types_are us ts e)
+these_are ts (Some us) e = ap (λ (xs : Types). Some xs) (same_types-equal us ts e)
 
 -- the label that is taken takes the same types
 picked_is : (labels : List Types) (ts : Types) (ls : List ℕ) (l n : ℕ) → are_labels labels ts ls ≡ true → slice_get labels l ≡ Some ts → slice_get labels (slice_index_or ls n l) ≡ Some ts

@@ -18,7 +18,7 @@ use Rattle.simulation.proofs.Frames.Frames.{Open, labels_of, behind_of, under, A
 use Rattle.simulation.proofs.Frames.Heights.{peak, peak_nothing, peak_here, peak_if, peak_if_else, of_if, of_if_else}
 use Rattle.simulation.proofs.Frames.Sited.{sited_first, sited_rest, traps_alike}
 use Rattle.simulation.proofs.Frames.Sitting.{has_at, ending_at}
-use Rattle.simulation.proofs.Frames.Sizes.{code_size, over_size}
+use Rattle.frame_layout.proofs.Sizes.{code_size, over_size}
 use Rattle.simulation.proofs.Control.Blocks.{Pieces, ending_falls}
 
 module _ (text : List (Option Op)) (inst : Instance) (places : TextPlaces) {f : Func} (k : Compiled text inst places f) (os : List Open) where

@@ -1,5 +1,5 @@
 -- The first part of a branch by an index: it leads to the jump of that index, or to the last one.
-use Rattle.std.proofs.Common.{◌≡◌, ℕ, zero, suc, ◌+◌, ◌-◌, ◌*◌, ◌/◌, ◌%◌, ◌^◌, ◌<◌, ◌≤◌, true, false, inl, inr, ⊎_elim, List, [], ◌∷◌, ◌++◌, length, Option, refl, sym, ap, ◌∙◌, subst, arith, mul_assoc, mul_comm, ap₂}
+use Rattle.std.proofs.Common.{◌≡◌, ℕ, zero, suc, ◌+◌, ◌-◌, ◌*◌, ◌/◌, ◌%◌, ◌^◌, ◌<◌, ◌≤◌, true, false, ⊎_elim, List, [], ◌∷◌, ◌++◌, length, Option, refl, sym, ap, ◌∙◌, subst, arith, mul_assoc, mul_comm, ap₂}
 use Rattle.std.specs.Prelude.{nat_lt, if◌then◌else◌}
 use Rattle.std.proofs.lemmas.Bool.{cond-true, cond-false, cases_lt, lt-ltb, le-ltb, eq-eqb}
 use Rattle.std.proofs.lemmas.Option.{slice_get_within}
@@ -25,19 +25,12 @@ use Rattle.frame_layout.proofs.Standing.{has_first, has_rest}
 use Rattle.frame_layout.proofs.Constants.{block_leaves, const_32_leaves}
 use Rattle.frame_layout.proofs.Steps.{apart}
 use Rattle.frame_layout.proofs.Jumps.{taken_reaches}
+use Rattle.frame_layout.proofs.WordLaws.{low_word}
 use Rattle.simulation.proofs.Frames.Jumps.{Lands}
 use Rattle.simulation.proofs.Frames.Sitting.{has_at}
-use Rattle.simulation.proofs.Frames.Sizes.{jump_count, front_count}
+use Rattle.frame_layout.proofs.Sizes.{jump_count, front_count}
 use Rattle.simulation.proofs.Frames.Values.{Matches}
 use Rattle.simulation.proofs.Control.Tests.{loads}
-
--- the lower half of an i32's word is the number
-low_word : (n : ℕ) → n < 2 ^ 32 → word I32 n % 2 ^ 32 ≡ n
-low_word n small =
-    elim (cases_lt n (2 ^ 31)) [
-      | inl h ↦ rw (lt-ltb n (2 ^ 31) h) (omega arith)
-      | inr h ↦ rw (le-ltb n (2 ^ 31) h) (omega arith)
-    ]
 
 up_and_down : (w n : ℕ) → w % 2 ^ 32 ≡ n → (w * 2 ^ 32) % 2 ^ 64 / 2 ^ 32 ≡ n
 up_and_down w n e = omega arith

@@ -18,7 +18,7 @@ use Rattle.wasm_defs.specs.Places.{Place, after_rule, shape, after_block, after_
 use Rattle.frame_layout.specs.Macros.{ra, t0, distance, far}
 use Rattle.frame_layout.specs.Templates.{Label, Around, load_operand, operate_words, prologue, epilogue, move_words, jump_words, unless_words, jumps, table_front, label_at, last_label, call_words, words}
 use Rattle.frame_layout.specs.Functions.{label, over, test_words, size, code, no_distance, near, with_distance, with_distances, call_of, calls, body_place, body_size, body_code, calls_of, function_code}
-use Rattle.simulation.proofs.Frames.Sizes.{taken_by, words_size, over_size, code_size}
+use Rattle.frame_layout.proofs.Sizes.{taken_by, words_size, over_size, code_size}
 
 -- ---- lists
 

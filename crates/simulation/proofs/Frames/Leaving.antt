@@ -29,7 +29,7 @@ use Rattle.simulation.proofs.Frames.Heights.{peak_here}
 use Rattle.simulation.proofs.Frames.Rules.{types_length, types_append}
 use Rattle.simulation.proofs.Frames.Reversed.{types_reverse, operands_in_order}
 use Rattle.simulation.proofs.Frames.Sitting.{has_at}
-use Rattle.simulation.proofs.Frames.Sizes.{code_size}
+use Rattle.frame_layout.proofs.Sizes.{code_size}
 use Rattle.simulation.proofs.Frames.Values.{holds_as, Operands, Locals, Agree, SameBeside, Matches}
 use Rattle.simulation.proofs.Frames.Results.{ResultsMoved, results_moved, operands_small, operands_moved}
 

@@ -10,7 +10,7 @@ use Rattle.frame_layout.specs.Templates.{Label, Around, words}
 use Rattle.frame_layout.specs.Traps.{trap_places}
 use Rattle.frame_layout.specs.Functions.{label, over, size, Trap, trap_at, traps_of, traps, body_traps, body_place}
 use Rattle.simulation.specs.Functions.{AreSited}
-use Rattle.simulation.proofs.Frames.Sizes.{taken_by, words_size, code_size}
+use Rattle.frame_layout.proofs.Sizes.{taken_by, words_size, code_size}
 
 -- ---- what is known of them
 

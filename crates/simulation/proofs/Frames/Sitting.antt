@@ -16,7 +16,7 @@ use Rattle.frame_layout.proofs.Standing.{has_first, has_rest}
 use Rattle.simulation.proofs.Frames.Frames.{Open, labels_of, behind_of, under, TextPlaces, AreSited, Compiled, Ending, SitsAt, Fit, behind_now}
 use Rattle.simulation.proofs.Frames.Heights.{peak_rest}
 use Rattle.simulation.proofs.Frames.Sited.{IsIn, sited_first, sited_rest, told_of}
-use Rattle.simulation.proofs.Frames.Sizes.{words_size}
+use Rattle.frame_layout.proofs.Sizes.{words_size}
 
 pub has_at : (code : List (Option Op)) (i j : ℕ) (ops : List Op) → i ≡ j → HasAt code i ops → HasAt code j ops
 has_at code i j ops e has = subst (λ (k : ℕ). HasAt code k ops) e has

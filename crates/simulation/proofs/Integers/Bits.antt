@@ -5,7 +5,7 @@ use Rattle.std.proofs.lemmas.Bool.{cases_lt}
 use Rattle.std.proofs.lemmas.Nat.{and_block, or_block, xor_block, and_le_l, or_lt, xor_lt}
 use Rattle.wasm_defs.specs.declared.types.ValType.TheVariants.{I32}
 use Rattle.wasm_defs.specs.Values.{word}
-use Rattle.simulation.proofs.Integers.Extensions.{word_small, word_large}
+use Rattle.frame_layout.proofs.WordLaws.{word_small, word_large}
 
 -- bit 31 and its copies, over the 31 bits below
 word_is : (a : ℕ) → a < 2 ^ 32 → word I32 a ≡ (a / 2 ^ 31 * (2 ^ 33 - 1)) * 2 ^ 31 + a % 2 ^ 31

@@ -10,8 +10,9 @@ use Rattle.wasm_defs.specs.declared.types.ValType.TheVariants.{I32}
 use Rattle.wasm_defs.specs.declared.operation.ConvertOp.TheVariants.{Wrap, ExtendU}
 use Rattle.wasm_defs.specs.Values.{word}
 use Rattle.frame_layout.specs.Bodies.{convert_body}
+use Rattle.frame_layout.proofs.WordLaws.{low_word}
 use Rattle.simulation.specs.IntegerLaws.{Converts, ConvertLaw}
-use Rattle.simulation.proofs.Integers.Extensions.{low_word, word_of_signed}
+use Rattle.simulation.proofs.Integers.Extensions.{word_of_signed}
 use Rattle.simulation.proofs.Integers.Runs.{one_does}
 
 -- the lower half, by two shifts

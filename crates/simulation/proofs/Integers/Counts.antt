@@ -11,9 +11,10 @@ use Rattle.wasm_defs.specs.declared.operation.UnaryOp.{UnaryOp}
 use Rattle.wasm_defs.specs.declared.operation.UnaryOp.TheVariants.{Clz, Ctz, Popcnt}
 use Rattle.wasm_defs.specs.Values.{modulus, word, bits}
 use Rattle.wasm_defs.specs.Integers.{unary}
-use Rattle.simulation.proofs.Integers.Extensions.{word_small, low_word, word_below}
+use Rattle.simulation.proofs.Integers.Extensions.{word_below}
 use Rattle.simulation.proofs.Integers.Populations.{population_value, population_is}
 use Rattle.simulation.proofs.Integers.Smears.{filled_first, filled_more, filled_all, trailing}
+use Rattle.frame_layout.proofs.WordLaws.{word_small, low_word}
 
 -- ---- what the bodies compute, from what is in the register
 

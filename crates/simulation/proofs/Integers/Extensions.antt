@@ -1,5 +1,5 @@
 -- An i32 as an instruction word: what the extension by its sign keeps.
-use Rattle.std.proofs.Common.{◌≡◌, ℕ, suc, ◌+◌, ◌-◌, ◌%◌, ◌==◌, ◌^◌, ◌<◌, ◌≤◌, ℤ, pos, negsuc, inl, inr, refl, sym, ap, ap₂, ◌∙◌, arith, FitsSigned, le_of_eq, le_of_lt}
+use Rattle.std.proofs.Common.{◌≡◌, ℕ, suc, ◌+◌, ◌-◌, ◌%◌, ◌==◌, ◌^◌, ◌<◌, ℤ, pos, negsuc, inl, inr, refl, sym, ap, ap₂, ◌∙◌, arith, FitsSigned, le_of_eq, le_of_lt}
 use Rattle.std.specs.Prelude.{nat_lt}
 use Rattle.std.specs.Int.{w32, w64, cast_signed, cast_unsigned}
 use Rattle.std.proofs.lemmas.Bool.{cases_lt, cases_eq, lt-ltb, le-ltb, eq-eqb, ne_eqb}
@@ -8,27 +8,7 @@ use Rattle.rv_isa.specs.Values.{extended, computed_w, computed_word}
 use Rattle.wasm_defs.specs.declared.types.ValType.{ValType}
 use Rattle.wasm_defs.specs.declared.types.ValType.TheVariants.{I32, I64}
 use Rattle.wasm_defs.specs.Values.{modulus, signed, word}
-
-pub word_small : (a : ℕ) → a < 2 ^ 31 → word I32 a ≡ a
-word_small a h = rw (lt-ltb a (2 ^ 31) h) refl
-
-pub word_large : (a : ℕ) → 2 ^ 31 ≤ a → word I32 a ≡ a + (2 ^ 64 - 2 ^ 32)
-word_large a h = rw (le-ltb a (2 ^ 31) h) refl
-
-word_i32_below : (a : ℕ) → a < 2 ^ 32 → word I32 a < 2 ^ 64
-word_i32_below a h =
-    elim (cases_lt a (2 ^ 31)) [
-      | inl p ↦ omega (arith, word_small a p)
-      | inr p ↦ omega (arith, word_large a p)
-    ]
-
--- the lower half of the word is the number
-pub low_word : (a : ℕ) → a < 2 ^ 32 → word I32 a % 2 ^ 32 ≡ a
-low_word a h =
-    elim (cases_lt a (2 ^ 31)) [
-      | inl p ↦ omega (arith, word_small a p)
-      | inr p ↦ omega (arith, word_large a p)
-    ]
+use Rattle.frame_layout.proofs.WordLaws.{word_small, word_large, word_i32_below, low_word}
 
 -- so an operation on the lower halves gives the word of what it computes from the numbers
 pub narrow : (op : RegOpW) (a b : ℕ) → a < 2 ^ 32 → b < 2 ^ 32 → computed_w op (word I32 a) (word I32 b) ≡ word I32 (computed_word op a b)

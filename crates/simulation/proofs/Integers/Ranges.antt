@@ -18,11 +18,12 @@ use Rattle.wasm_defs.specs.declared.operation.ConvertOp.TheVariants.{Wrap, Exten
 use Rattle.wasm_defs.specs.Values.{modulus, signed, unsigned, word, bits}
 use Rattle.wasm_defs.specs.Integers.{Computed, Number, DividesByZero, Overflows, flag, irotl, irotr, idiv_s}
 use Rattle.simulation.specs.IntegerLaws.{BinaryRangeLaw, CompareRangeLaw, UnaryRangeLaw, TestRangeLaw, ConvertRangeLaw}
-use Rattle.simulation.proofs.Integers.Extensions.{narrow, word_large, word_below}
+use Rattle.simulation.proofs.Integers.Extensions.{narrow, word_below}
 use Rattle.simulation.proofs.Integers.Sized.{exact_value, add_is, sub_is, mul_is, shl_is, shr_u_is, shr_s_is, div_u_is, rem_u_is, div_s_is, rem_s_is}
 use Rattle.simulation.proofs.Integers.Rotations.{rotated_left, rotated_right}
 use Rattle.simulation.proofs.Integers.Conversions.{extended_is}
 use Rattle.simulation.proofs.Integers.Counts.{unary_small}
+use Rattle.frame_layout.proofs.WordLaws.{word_large}
 
 -- ---- operations on two operands
 

@@ -15,7 +15,8 @@ use Rattle.wasm_defs.specs.Integers.{irotl, irotr}
 use Rattle.frame_layout.specs.Macros.{t0, t1}
 use Rattle.frame_layout.specs.Bodies.{binary_body}
 use Rattle.frame_layout.specs.Laws.{is_scratch}
-use Rattle.simulation.proofs.Integers.Extensions.{low_word, word_below}
+use Rattle.frame_layout.proofs.WordLaws.{low_word}
+use Rattle.simulation.proofs.Integers.Extensions.{word_below}
 use Rattle.simulation.proofs.Integers.Bits.{or_word}
 use Rattle.simulation.proofs.Integers.Rotations.{rotated_left, rotated_right}
 use Rattle.simulation.proofs.Integers.Sized.{sized_value}

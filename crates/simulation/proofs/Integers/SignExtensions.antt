@@ -18,8 +18,8 @@ use Rattle.frame_layout.specs.Slots.{operand}
 use Rattle.frame_layout.specs.Bodies.{shifts, extend_body}
 use Rattle.frame_layout.specs.Templates.{Around, on_one}
 use Rattle.frame_layout.specs.Laws.{slot_at, with_slot, IsFrame, Does}
+use Rattle.frame_layout.proofs.WordLaws.{low_word, word_small, word_large}
 use Rattle.simulation.specs.IntegerLaws.{ExtendLaw, ExtendRangeLaw}
-use Rattle.simulation.proofs.Integers.Extensions.{low_word, word_small, word_large}
 use Rattle.simulation.proofs.Integers.Conversions.{wrapped, extended_is}
 use Rattle.simulation.proofs.Integers.Runs.{one_does}
 
@@ -108,15 +108,15 @@ extend_does w code s i base h I64Extend32S a = does_32 w code s i base h a
 
 -- ---- ranges
 
-below_8 : (t : ValType) (n : ℕ) → n < 2 ^ 8 → unsigned t (cast_signed w8 n) < modulus t
+pub below_8 : (t : ValType) (n : ℕ) → n < 2 ^ 8 → unsigned t (cast_signed w8 n) < modulus t
 below_8 I32 n small = elim (cases_lt n (2 ^ 7)) [ inl h ↦ rw (lt-ltb n (2 ^ 7) h) (omega arith) | inr h ↦ rw (le-ltb n (2 ^ 7) h) (omega arith) ]
 below_8 I64 n small = elim (cases_lt n (2 ^ 7)) [ inl h ↦ rw (lt-ltb n (2 ^ 7) h) (omega arith) | inr h ↦ rw (le-ltb n (2 ^ 7) h) (omega arith) ]
 
-below_16 : (t : ValType) (n : ℕ) → n < 2 ^ 16 → unsigned t (cast_signed w16 n) < modulus t
+pub below_16 : (t : ValType) (n : ℕ) → n < 2 ^ 16 → unsigned t (cast_signed w16 n) < modulus t
 below_16 I32 n small = elim (cases_lt n (2 ^ 15)) [ inl h ↦ rw (lt-ltb n (2 ^ 15) h) (omega arith) | inr h ↦ rw (le-ltb n (2 ^ 15) h) (omega arith) ]
 below_16 I64 n small = elim (cases_lt n (2 ^ 15)) [ inl h ↦ rw (lt-ltb n (2 ^ 15) h) (omega arith) | inr h ↦ rw (le-ltb n (2 ^ 15) h) (omega arith) ]
 
-below_32 : (n : ℕ) → n < 2 ^ 32 → unsigned I64 (cast_signed w32 n) < 2 ^ 64
+pub below_32 : (n : ℕ) → n < 2 ^ 32 → unsigned I64 (cast_signed w32 n) < 2 ^ 64
 below_32 n small = elim (cases_lt n (2 ^ 31)) [ inl h ↦ rw (lt-ltb n (2 ^ 31) h) (omega arith) | inr h ↦ rw (le-ltb n (2 ^ 31) h) (omega arith) ]
 
 pub extend_is_below : ExtendRangeLaw

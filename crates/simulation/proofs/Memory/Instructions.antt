@@ -1,7 +1,7 @@
 -- What the instruction words of variable and parametric instructions do.
-use Rattle.std.proofs.Common.{◌≡◌, ℕ, zero, suc, ◌+◌, ◌-◌, ◌^◌, ◌==◌, ◌<◌, ◌≤◌, List, [], ◌∷◌, ◌++◌, length, Option, inl, inr, refl, sym, ap, ◌∙◌, arith}
+use Rattle.std.proofs.Common.{◌≡◌, ℕ, zero, suc, ◌+◌, ◌-◌, ◌^◌, ◌==◌, ◌<◌, ◌≤◌, List, [], ◌∷◌, ◌++◌, length, Option, refl, sym, ap, ◌∙◌, arith}
 use Rattle.std.specs.Prelude.{not, ◌≢◌}
-use Rattle.std.proofs.lemmas.Bool.{cases_lt, lt-ltb, le-ltb, eq-eqb, ne_eqb, cond-false}
+use Rattle.std.proofs.lemmas.Bool.{eq-eqb, ne_eqb, cond-false}
 use Rattle.std.proofs.lemmas.Option.{slice_get_within}
 use Rattle.rv_isa.specs.declared.operations.BranchOp.TheVariants.{Bne}
 use Rattle.rv_isa.specs.declared.operations.Op.{Op}
@@ -21,6 +21,7 @@ use Rattle.frame_layout.proofs.SlotLaws.{load_slot_leaves}
 use Rattle.frame_layout.proofs.Steps.{does_leave, does_then, does_with, frame_stays}
 use Rattle.frame_layout.proofs.Instructions.{copied_does}
 use Rattle.frame_layout.proofs.Jumps.{passed_does, taken_does}
+use Rattle.frame_layout.proofs.WordLaws.{word_is_some}
 use Rattle.simulation.specs.VariableLaws.{LocalSetLaw, chosen, Chooses, SelectLaw}
 
 pub local_set_does : LocalSetLaw
@@ -28,14 +29,6 @@ local_set_does w code s i base h x has at frame near inside =
     copied_does code s i base (operand w.layout (h - 1)) x has at frame near inside
 
 -- ---- select
-
--- the word of an i32 that isn't zero
-word_is_some : (n : ℕ) → word I32 (suc n) ≢ 0
-word_is_some n e =
-    elim (cases_lt (suc n) (2 ^ 31)) [
-      | inl h ↦ let is : suc n ≡ 0 = rw (lt-ltb (suc n) (2 ^ 31) h) at e in absurd (omega arith)
-      | inr h ↦ let is : suc n + (2 ^ 64 - 2 ^ 32) ≡ 0 = rw (le-ltb (suc n) (2 ^ 31) h) at e in absurd (omega arith)
-    ]
 
 module _ (w : Around) (code : List (Option Op)) (s : State) (i base h : ℕ) (has : HasAt code i (select_words w h)) (at : s.pc ≡ place i) (short : length code ≤ 2 ^ 26) (frame : IsFrame base s)
     (three : 3 ≤ h) (inside : base + operand w.layout (h - 1) < max_slots) where

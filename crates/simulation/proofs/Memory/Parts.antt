@@ -19,6 +19,7 @@ use Rattle.wasm_defs.specs.Values.{modulus, unsigned, word}
 use Rattle.wasm_defs.specs.Memory.{number_of, bytes_of, load_count, store_count, extended}
 use Rattle.frame_layout.specs.Templates.{Around, machine_load, machine_store}
 use Rattle.simulation.specs.MemoryLaws.{LoadRangeLaw}
+use Rattle.simulation.proofs.Integers.SignExtensions.{below_8, below_16, below_32}
 
 -- ---- numbers of bytes: the language's and the machine's
 
@@ -108,17 +109,6 @@ loaded_word w I64Load32S n small = extended_32 n small
 loaded_word w I64Load32U n small = refl
 
 -- ---- the range of what is loaded
-
-below_8 : (t : ValType) (n : ℕ) → n < 2 ^ 8 → unsigned t (cast_signed w8 n) < modulus t
-below_8 I32 n small = elim (cases_lt n (2 ^ 7)) [ inl h ↦ rw (lt-ltb n (2 ^ 7) h) (omega arith) | inr h ↦ rw (le-ltb n (2 ^ 7) h) (omega arith) ]
-below_8 I64 n small = elim (cases_lt n (2 ^ 7)) [ inl h ↦ rw (lt-ltb n (2 ^ 7) h) (omega arith) | inr h ↦ rw (le-ltb n (2 ^ 7) h) (omega arith) ]
-
-below_16 : (t : ValType) (n : ℕ) → n < 2 ^ 16 → unsigned t (cast_signed w16 n) < modulus t
-below_16 I32 n small = elim (cases_lt n (2 ^ 15)) [ inl h ↦ rw (lt-ltb n (2 ^ 15) h) (omega arith) | inr h ↦ rw (le-ltb n (2 ^ 15) h) (omega arith) ]
-below_16 I64 n small = elim (cases_lt n (2 ^ 15)) [ inl h ↦ rw (lt-ltb n (2 ^ 15) h) (omega arith) | inr h ↦ rw (le-ltb n (2 ^ 15) h) (omega arith) ]
-
-below_32 : (n : ℕ) → n < 2 ^ 32 → unsigned I64 (cast_signed w32 n) < 2 ^ 64
-below_32 n small = elim (cases_lt n (2 ^ 31)) [ inl h ↦ rw (lt-ltb n (2 ^ 31) h) (omega arith) | inr h ↦ rw (le-ltb n (2 ^ 31) h) (omega arith) ]
 
 extended_below : (op : LoadOp) (n : ℕ) → n < 256 ^ load_count op → extended op n < modulus (load_type op)
 extended_below I32Load n small = small

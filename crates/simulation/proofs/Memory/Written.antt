@@ -1,6 +1,5 @@
 -- Bytes that are written into the memory: the language's list and the machine's.
-use Rattle.std.proofs.Common.{◌≡◌, ℕ, ◌+◌, ◌/◌, ◌%◌, ◌^◌, ◌<◌, ◌≤◌, List, [], ◌∷◌, ◌++◌, take, drop, length, inl, inr, sym, ap, ap₂, ◌∙◌, arith, length-append, length-take, length-drop, append_assoc}
-use Rattle.std.proofs.lemmas.Bool.{cases_lt, lt-ltb, le-ltb}
+use Rattle.std.proofs.Common.{◌≡◌, ℕ, ◌+◌, ◌/◌, ◌%◌, ◌^◌, ◌<◌, ◌≤◌, List, [], ◌∷◌, ◌++◌, take, drop, length, sym, ap, ap₂, ◌∙◌, arith, length-append, length-take, length-drop, append_assoc}
 use Rattle.std.proofs.lemmas.List.{take-take, drop-drop, length-take-le, take-append-drop, drop-append-le}
 use Rattle.rv_isa.specs.Steps.{le_bytes, put}
 use Rattle.rv_isa.proofs.ByteLaws.{length-le_bytes}
@@ -11,15 +10,9 @@ use Rattle.wasm_defs.specs.Typing.{store_type}
 use Rattle.wasm_defs.specs.Values.{modulus, word}
 use Rattle.wasm_defs.specs.Memory.{bytes_of, store_count}
 use Rattle.simulation.proofs.Memory.Parts.{bytes_are}
+use Rattle.frame_layout.proofs.WordLaws.{low_word}
 
 -- ---- the low bytes of an instruction word
-
-pub low_word : (a : ℕ) → a < 2 ^ 32 → word I32 a % 2 ^ 32 ≡ a
-low_word a small =
-    elim (cases_lt a (2 ^ 31)) [
-      | inl h ↦ rw (lt-ltb a (2 ^ 31) h) (omega arith)
-      | inr h ↦ rw (le-ltb a (2 ^ 31) h) (omega arith)
-    ]
 
 bytes_1 : (x y : ℕ) → x % 2 ^ 32 ≡ y → le_bytes 1 x ≡ le_bytes 1 y
 bytes_1 x y e =

@@ -3,13 +3,13 @@ use Rattle.wasm_defs.specs.Entries.{Seen, element}
 use Rattle.section_reader.specs.declared.wait.Element.TheVariants.{Index}
 use Rattle.section_reader.specs.declared.wait.Wait.TheVariants as wait
 use Rattle.section_reader.specs.Waits.{Awaits}
-use Rattle.section_reader.proofs.Skimming.{fewer}
 use Rattle.section_reader.proofs.Awaiting.{indices_advance, element_awaits, list_is_placed}
 use Rattle.section_reader.proofs.entry_waits.element_wait.Goals as goal
+use Rattle.wasm_laws.proofs.Steady.{advance_fewer}
 
 pub list_wait-requires : goal.list_wait-requires
 list_wait-requires c =
-    fewer c.args.fields.now c.u32.new.self (indices_advance c.args.seen.now c.args.fields.now c.index.new.fields c.constant.new.fields c.u32.new.self c.in-Ok.field-0 c.in-Ok-constant.field-0 c.in-Ok-u32.indices _ (rw c.fork-next.ensures at c.in-Ok.ensures.read) c.in-Ok-constant.ensures.read c.in-Ok-u32.ensures.read)
+    advance_fewer c.args.fields.now c.u32.new.self (indices_advance c.args.seen.now c.args.fields.now c.index.new.fields c.constant.new.fields c.u32.new.self c.in-Ok.field-0 c.in-Ok-constant.field-0 c.in-Ok-u32.indices _ (rw c.fork-next.ensures at c.in-Ok.ensures.read) c.in-Ok-constant.ensures.read c.in-Ok-u32.ensures.read)
 
 pub returns-clause-awaits : goal.returns-clause-awaits
 returns-clause-awaits c =

@@ -23,8 +23,9 @@ use Rattle.frame_layout.proofs.SlotLaws.{load_slot_leaves}
 use Rattle.frame_layout.proofs.Steps.{does_then, does_with, frame_stays}
 use Rattle.frame_layout.proofs.Jumps.{traps_after}
 use Rattle.simulation.specs.Regions.{memory_now, HasRegions}
-use Rattle.simulation.proofs.Memory.Written.{over_part, low_word}
+use Rattle.simulation.proofs.Memory.Written.{over_part}
 use Rattle.frame_layout.specs.BulkWords.{bound, fill_loop, load_number, fill_places, fill_words}
+use Rattle.frame_layout.proofs.WordLaws.{low_word}
 use Rattle.simulation.specs.BulkLaws.{Writes, Filled, FillLaw}
 use Rattle.simulation.proofs.Memory.Bulk.Loops.{address, filled, fill_does}
 use Rattle.simulation.proofs.Memory.Bulk.Moved.{with_bytes, filled_is}
