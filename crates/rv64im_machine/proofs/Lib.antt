@@ -1,4 +1,5 @@
 pub mod RegisterLaws
+mod BaseLaws
 pub mod WindowLaws
 pub mod Underway
 pub mod SequenceLaws
