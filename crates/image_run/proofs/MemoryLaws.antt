@@ -19,6 +19,22 @@ length-over : (old new : List ℕ) (at : ℕ) → at + length new ≤ length old
 length-over old new at inside =
     omega (arith, length-append (take at old) (new ++ drop (at + length new) old), length-append new (drop (at + length new) old), length-take at old, length-drop (at + length new) old)
 
+-- a memory with segments has its size
+pub length-all_over : (size : ℕ) (bytes : List ℕ) (segments : List Segment) → length bytes ≡ size → all_fit size (segments_of segments) ≡ true → length (all_over bytes (segments_of segments)) ≡ size
+length-all_over size bytes [] is fit = is
+length-all_over size bytes (s ∷ later) is fit =
+    let parts = and_parts (nat_le (s.place + length s.bytes) size) (all_fit size (segments_of later)) fit in
+    let inside : s.place + length s.bytes ≤ length bytes = omega (arith, leb-true (s.place + length s.bytes) size parts.0, is) in
+    length-all_over size (over bytes (s.place, s.bytes)) later (length-over bytes s.bytes s.place inside ∙ is) parts.1
+
+-- segments that fit in the first bytes fit in all
+pub all_fit-more : (first size : ℕ) (segments : List Segment) → first ≤ size → all_fit first (segments_of segments) ≡ true → all_fit size (segments_of segments) ≡ true
+all_fit-more first size [] more fit = refl
+all_fit-more first size (s ∷ later) more fit =
+    let parts = and_parts (nat_le (s.place + length s.bytes) first) (all_fit first (segments_of later)) fit in
+    let here : nat_le (s.place + length s.bytes) size ≡ true = le-leb (s.place + length s.bytes) size (omega (arith, leb-true (s.place + length s.bytes) first parts.0, more)) in
+    rw (here, all_fit-more first size later more parts.1) refl
+
 -- the next segment has room
 pub has_room : (size : ℕ) (all : List Segment) (bytes : List ℕ) (s : Segment) (rest : List Segment) → Placing size all bytes (s ∷ rest) → s.place + length s.bytes ≤ length bytes
 has_room size all bytes s rest h =

@@ -4,6 +4,7 @@ ghost use Rattle.wasm_defs.specs.Values.{type_of, value_of};
 ghost use Rattle.image_format.specs.declared.image.Export.{Export};
 ghost use Rattle.image_run.specs.Checks.{export_named, unfit};
 ghost use Rattle.image_run.specs.Ends.{RunsTo, TellsCount};
+ghost use Rattle.image_run.specs.Sizes.{bytes_wanted};
 ghost use Rattle.image_run.specs.States.{first_memory};
 
 use crate::checks::find_export;
@@ -11,6 +12,7 @@ use crate::host::Host;
 use crate::outcome::Outcome;
 use crate::regions::regions_of;
 use crate::run::{enter, run_function, run_start};
+use crate::sizes::bytes_wanted;
 use crate::words::{value_in, word_in};
 use image_format::{Export, Image, PARAMS};
 use rv64im_machine::{Machine, Region};
@@ -46,6 +48,14 @@ impl<'a> Model for Instance<'a> {
 }
 
 impl<'a> Instance<'a> {
+    /// How many bytes `load` takes for an image, all of them at once: the regions, its memory up to the cap among them, the text, what
+    /// the machine keeps of the words that it has decoded, and the arguments of an import. What `malloc` adds isn't counted.
+    pub fn bytes_wanted(image: &Image) -> u64
+        ensures { result ≡ bytes_wanted image.now }
+    {
+        bytes_wanted(image)
+    }
+
     /// Loads an image: takes the memory for its stack, its globals, its table, its memory as large as it may grow, its text, and the
     /// arguments of its imports. The memory has the image's segments at their addresses, and zeros elsewhere (Core 1.0, 4.5.4). Room
     /// for it is taken up to the image's cap, but only the pages that it has at first are written.

@@ -13,6 +13,7 @@ mod outcome;
 mod regions;
 mod run;
 mod sink_host;
+mod sizes;
 mod wasi_function;
 mod words;
 
