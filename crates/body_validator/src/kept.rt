@@ -270,22 +270,24 @@ impl<'a> Operands<'a> {
             types,
             below: self.singles.len(),
         };
-        match self.lists.push(list) {
-            Ok(()) => {}
-            Err(_) => unreachable!(),
-        }
+        self.lists.push_reserved(list);
         self.listed += types.len();
         self.start = self.singles.len();
         self.unknown = false;
     }
 
-    /// Takes single operands from those above the base, and puts others in their place. A refusal says only that the single ones don't do.
+    /// Takes single operands from those above the base, and puts others in their place. A refusal says only that the single ones
+    /// don't do. Where they are fewer than it takes, it looks no further.
     #[inline(always)]
     pub fn exchange_singles(&mut self, taken: Taken<'_>, given: &[ValType]) -> Result<(), Stop>
         requires { self.old.start ≤ vec_len self.old.singles }
         ensures { (base : ℕ) (unknown : Bool) → IsSeen base unknown self.old
             → IsTried base unknown (taken_types taken.entry) (reverse given.now) result self.old self.new }
     {
+        let count = count_of(taken.types, taken.condition);
+        if self.singles.len() - self.start < count {
+            return Err(Stop::Refused);
+        }
         exchange(&mut self.singles, self.start, self.unknown, taken, given)
     }
 

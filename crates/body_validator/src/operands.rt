@@ -102,10 +102,7 @@ pub fn put_all(operands: &mut Vec<Operand>, types: &[ValType])
     ensures { operands.new.items ≡ operands.old.items ++ map Some types.now }
 {
     for t in types {
-        match operands.push(Some(*t)) {
-            Ok(()) => {}
-            Err(_) => unreachable!(),
-        }
+        operands.push_reserved(Some(*t));
     }
 }
 
@@ -202,10 +199,7 @@ pub fn put(operands: &mut Vec<Operand>, operand: Operand)
     requires { vec_len operands.old < vec_capacity operands.old }
     ensures { operands.new.items ≡ operands.old.items ++ operand ∷ [] }
 {
-    match operands.push(operand) {
-        Ok(()) => {}
-        Err(_) => unreachable!(),
-    }
+    operands.push_reserved(operand);
 }
 
 /// The operand so far below the topmost one.
