@@ -1,5 +1,5 @@
 -- How the bytes of one module go on.
-use Rattle.std.proofs.Common.{◌≡◌, inl, inr, ◌≤◌, ◌<◌, ◌+◌, ◌-◌, ℕ, zero, suc, ◌∷◌, true, false, List, [], ◌++◌, length, take, drop, All, Option, Some, None, Result, Ok, Err, refl, sym, ap, ◌∙◌, subst, arith, append_assoc, length-append, length-take}
+use Rattle.std.proofs.Common.{◌≡◌, inl, inr, ◌≤◌, ◌<◌, ◌+◌, ◌-◌, ℕ, zero, suc, ◌∷◌, true, false, List, [], ◌++◌, length, take, drop, All, Result, Ok, Err, refl, sym, ap, ◌∙◌, subst, arith, append_assoc, length-append, length-take}
 use Rattle.std.specs.Prelude.{Bool, is_some}
 use Rattle.std.proofs.lemmas.Bool.{cases_lt}
 use Rattle.std.proofs.lemmas.List.{append-nil, take-append-drop, take_all, drop_all}
@@ -10,7 +10,6 @@ use Rattle.wasm_defs.specs.declared.front_stop.FrontStop.TheVariants.{Refused, N
 use Rattle.wasm_defs.specs.Faults.{Rejected}
 use Rattle.image_linker.specs.Judging.{IsVerdictOf}
 use Rattle.module_stream.specs.declared.compilation.Compilation.{Compilation}
-use Rattle.module_stream.specs.Codes.{KeepsAlike}
 use Rattle.module_stream.specs.declared.built.Built.{Built}
 use Rattle.module_stream.specs.declared.built.Checked.{Checked}
 use Rattle.module_stream.specs.Done.{IsDone, IsBuilt, IsValid, Decides}

@@ -111,7 +111,8 @@ impl Part {
     /// What a module that is done comes to.
     fn answer(&self) -> Result<Member, AllocError>
         requires { (came : List ℕ) × IsDone came self.now.compilation }
-        ensures { IfOk result (λ m. (keeps : Bool) (came : List ℕ) → IsDone came self.now.compilation → KeepsCodes keeps self.now.compilation → IsJudged keeps came m) }
+        ensures { IfOk result (λ m. (keeps : Bool) (came : List ℕ) → IsDone came self.now.compilation → KeepsCodes keeps self.now.compilation
+            → IsJudged keeps came m) }
     {
         if self.compilation.keeps_codes() {
             Ok(Member::Image(self.compilation.build()?))

@@ -3,7 +3,8 @@
 ghost use Rattle.std.specs.Prelude.{◌≡◌, ◌<◌, ◌≤◌, ◌+◌, ◌++◌, ◌^◌, ◌∷◌, ℕ, List, [], true, false};
 ghost use Rattle.std.specs.Prelude.{length, slice_index, slice_index_or, slice_set, MatchOption, IfOk, OnOk};
 ghost use Rattle.many_streams.specs.Frames.{u32};
-ghost use Rattle.many_streams.specs.Reading.{byte_count, IsReading, MayTake, Takes, Ends, TakesNumber, TakesDigit, IsNumberNext, HasCount, HasIndex, HasLength, SetsFlags, AreAllSet};
+ghost use Rattle.many_streams.specs.Reading.{byte_count, IsReading, MayTake, Takes, Ends, TakesNumber, TakesDigit, IsNumberNext};
+ghost use Rattle.many_streams.specs.Reading.{HasCount, HasIndex, HasLength, SetsFlags, AreAllSet};
 
 use crate::limits::{MAX_INPUT, MAX_MODULES};
 use std::marker::Model;

@@ -1,4 +1,4 @@
-use Rattle.std.proofs.Common.{◌≡◌, ◌+◌, ◌∙◌, ℕ, List, [], ◌∷◌, length-append, false, length, sym, ap, subst, refl, arith, rules}
+use Rattle.std.proofs.Common.{◌≡◌, ◌∙◌, ℕ, [], ◌∷◌, length-append, false, length, sym, ap, subst, refl, rules}
 use Rattle.std.specs.Vec.Iter.{into_iter_items}
 use Rattle.many_streams.specs.Members.{IsEachChecked}
 use Rattle.many_streams.proofs.Crowds.{AreAfter, after_none, after_one, after_all, judged_at, judged_so, some_none, some_push}

@@ -1,4 +1,4 @@
-use Rattle.std.proofs.Common.{◌∙◌, Err, subst}
+use Rattle.std.proofs.Common.{Err, subst}
 use Rattle.wasm_defs.specs.declared.front_stop.FrontStop.{FrontStop}
 use Rattle.module_stream.specs.Done.{Decides}
 use Rattle.many_streams.proofs.member.Part.end.Goals as goal
