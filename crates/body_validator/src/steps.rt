@@ -26,6 +26,17 @@ fn apply<'a>(stack: &mut Stack<'a>, rule: Option<Rule<'a>>) -> Result<(), Stop>
     }
 }
 
+/// Takes a `global.get`, where there is such a global.
+#[inline(always)]
+fn get_global<'a>(scope: &Scope<'a>, stack: &mut Stack<'a>, index: u32) -> Result<(), Stop>
+    ensures { Tries (applied (rule_of (with_labels scope.now (labels stack.old)) (Plain.GlobalGet index)) stack.old) result stack.old stack.new }
+{
+    match scope.global(index) {
+        Some(global) => stack.exchange_singles(plainly(&[]), &[global.ty]),
+        None => Err(Stop::Refused),
+    }
+}
+
 /// Takes a `global.set`, where there is such a global and it may be set.
 #[inline(always)]
 fn set_global<'a>(scope: &Scope<'a>, stack: &mut Stack<'a>, index: u32) -> Result<(), Stop>
@@ -98,10 +109,7 @@ fn take_common<'a>(scope: &Scope<'a>, stack: &mut Stack<'a>, plain: &Plain) -> R
         Plain::Operate(Operation::Test(t)) => {
             stack.exchange_singles(plainly(&[*t]), &[ValType::I32])
         }
-        Plain::GlobalGet(x) => match scope.global(*x) {
-            Some(global) => stack.exchange_singles(plainly(&[]), &[global.ty]),
-            None => Err(Stop::Refused),
-        },
+        Plain::GlobalGet(x) => get_global(scope, stack, *x),
         Plain::GlobalSet(x) => set_global(scope, stack, *x),
         Plain::Load(op, place) => take_load(scope, stack, *op, *place),
         Plain::Store(op, place) => take_store(scope, stack, *op, *place),
