@@ -1,4 +1,5 @@
 pub mod AfterReading
+pub mod Complete
 pub mod Gathered
 pub mod Handing
 pub mod Moves

@@ -8,6 +8,7 @@
 mod feeder;
 mod hand;
 mod idle;
+mod laws;
 mod pool;
 mod queue;
 mod rule;
@@ -20,6 +21,7 @@ mod worker;
 
 pub use feeder::Feeder;
 pub use hand::Hand;
+pub use laws::row_law;
 pub use pool::Pool;
 pub use scope::{
     Desk, Joined, Labour, Reading, Settled, by_number, join_all, keep, labour_at, run_beside,

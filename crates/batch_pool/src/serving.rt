@@ -19,7 +19,7 @@ ghost use Rattle.std.specs.Arc.{arc_value};
 ghost use Rattle.cancel_drain.specs.Views.{times};
 ghost use Rattle.body_compiler.specs.LowBatches.{IsLow};
 ghost use Rattle.body_compiler.specs.BatchRows.{IsRowOf, FitsBody};
-ghost use Rattle.batch_pool.specs.Working.{Fits, Grows, IsServed};
+ghost use Rattle.batch_pool.specs.Working.{Fits, Grows, IsServed, AddsRowOf};
 ghost use Rattle.batch_pool.specs.Serving.{Tries, Runs, told};
 
 use crate::ticket::Ticket;
@@ -145,7 +145,8 @@ pub fn serve_fitting<G: Gate>(
     ensures table { seat.new.table ≡ seat.old.table }
     ensures grows { Grows context.now cells.now seat.old.view seat.new.view rows.old.items rows.new.items }
     ensures running { OnOk result (seat.new.view.running ≡ seat.old.view.running) }
-    ensures served { OnOk result (IsServed seat.new.view ticket) }
+    ensures served { OnOk result (IsServed seat.old.view seat.new.view ticket) }
+    ensures batch { AddsRowOf ticket rows.old.items rows.new.items }
 {
     rows.reserve(1)?;
     let Ticket {
@@ -178,7 +179,8 @@ pub fn serve<G: Gate>(
     ensures table { seat.new.table ≡ seat.old.table }
     ensures grows { Grows context.now cells.now seat.old.view seat.new.view rows.old.items rows.new.items }
     ensures running { OnOk result (seat.new.view.running ≡ seat.old.view.running) }
-    ensures served { OnOk result (Fits context.now board.now.functions ticket → IsServed seat.new.view ticket) }
+    ensures served { OnOk result (Fits context.now board.now.functions ticket → IsServed seat.old.view seat.new.view ticket) }
+    ensures batch { AddsRowOf ticket rows.old.items rows.new.items }
 {
     // Why: docs/DECISIONS.md, "A ticket that doesn't fit is passed over"
     if !fits(board, context, &ticket) {

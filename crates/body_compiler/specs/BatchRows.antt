@@ -1,5 +1,5 @@
 -- What comes of a batch of bodies.
-use Rattle.std.specs.Prelude.{◌≡◌, ℕ, ◌+◌, ◌*◌, ◌<◌, List, [], ◌∷◌, ◌++◌, length, slice_index, Option, None, Some, IsSome, is_some, Result, Ok, Err}
+use Rattle.std.specs.Prelude.{◌≡◌, ◌≢◌, ℕ, ◌+◌, ◌*◌, ◌<◌, ◌≤◌, List, [], ◌∷◌, ◌++◌, length, slice_index, Option, None, Some, IsSome, is_some, Result, Ok, Err}
 use Rattle.std.specs.Arc.{arc_value}
 use Rattle.wasm_defs.specs.declared.fault.Refusal.{Refusal}
 use Rattle.wasm_defs.specs.Bodies.{body_read}
@@ -14,7 +14,7 @@ use Rattle.body_compiler.specs.declared.code.BodyStop.TheVariants.{Refused}
 use Rattle.body_compiler.specs.declared.batch.row.Row.{Row}
 use Rattle.body_compiler.specs.declared.batch.row.RowCode.{RowCode}
 use Rattle.body_compiler.specs.declared.batch.row.Stored.{Stored}
-use Rattle.body_compiler.specs.declared.batch.row.Stored.TheVariants.{Cell, Apart, Counted, TooLong}
+use Rattle.body_compiler.specs.declared.batch.row.Stored.TheVariants.{Cell, Apart, Judged, NoRoom, TooLong}
 use Rattle.body_compiler.specs.declared.batch.bodies.Made.{Made}
 use Rattle.body_compiler.specs.declared.batch.bodies.Made.TheVariants.{Coded, Faulty}
 use Rattle.body_compiler.specs.Compiling.{Compiles}
@@ -27,12 +27,15 @@ FitsBody c b = IsSome (function_type (context_in c) b.index)
 abbrev pub CompilesBody : Spaces → Body → Result Code BodyStop → Type 0
 CompilesBody c b made = Compiles (first_minimum c.tables) b.first (context_in c) b.index (body_read (is_some c.data_count) b.first b.bytes) made
 
--- this is kept of the code of the function with this index: a note of the function's cell, which knows the code; or the code; or how
--- many words it has; or that it has more words than a text
+-- This is kept of the code of the function with this index: a note of the function's cell, which knows the code; or the code, with such
+-- a note, which knows another one; or how many words it has, where the function has no cell, or the cells had no room; or that it has
+-- more words than a text
 abbrev pub Stores : List ℕ → ℕ → Stored → Code → Type 0
 Stores cells index (Cell note) code = (index < length cells) × (note.cell ≡ slice_index cells index) × (note.known ≡ Some code)
-Stores cells index (Apart held) code = arc_value held ≡ code
-Stores cells index (Counted words) code = words ≡ length code.words
+Stores cells index (Apart note kept) code =
+    (index < length cells) × (note.cell ≡ slice_index cells index) × ((held : Code) × (note.known ≡ Some held) × (held ≢ code)) × (arc_value kept ≡ code)
+Stores cells index (Judged words) code = (length cells ≤ index) × (words ≡ length code.words)
+Stores cells index (NoRoom words) code = (index < length cells) × (words ≡ length code.words)
 Stores cells index TooLong code = max_text < 4 * length code.words
 
 -- it is of the body's code

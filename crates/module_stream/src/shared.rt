@@ -50,6 +50,26 @@ fn are_same(bodies: &LinkedList<Body>, others: &LinkedList<Body>) -> bool
     others.next().is_none()
 }
 
+/// Takes the next body, of whose code a worker kept the number of instruction words: by compiling it again where codes are kept.
+fn take_counted(
+    alloc: Global,
+    spaces: &ContextBuilder,
+    codes: &mut Codes,
+    body: &Body,
+    words: u64,
+) -> Result<(), FrontStop>
+    requires can { CanTakeNext spaces.now codes.old body.now }
+    requires code { (code : GivenCode) × (words ≡ length code.words) × TakesBody spaces.now codes.old.count body.now (Ok code) }
+    ensures takes { TakesCode spaces.now codes.old body.now result codes.new }
+    ensures kept { KeepsAlike codes.old codes.new }
+{
+    if codes.are_kept() {
+        take_code(alloc, spaces, codes, body)
+    } else {
+        count_code(spaces, codes, body, words)
+    }
+}
+
 /// Takes the next body, of which a worker stored the code.
 fn take_stored(
     alloc: Global,
@@ -66,14 +86,9 @@ fn take_stored(
     ensures kept { KeepsAlike codes.old codes.new }
 {
     match stored {
-        Stored::Counted(words) => {
-            if codes.are_kept() {
-                take_code(alloc, spaces, codes, body)
-            } else {
-                count_code(spaces, codes, body, words)
-            }
-        }
-        Stored::Apart(code) => share_code(spaces, codes, body, code),
+        Stored::Judged(words) => take_counted(alloc, spaces, codes, body, words),
+        Stored::NoRoom(words) => take_counted(alloc, spaces, codes, body, words),
+        Stored::Apart(_, code) => share_code(spaces, codes, body, code),
         Stored::Cell(mut note) => match cells.get(index, &mut note) {
             Some(code) => match Arc::try_clone(code) {
                 Ok(code) => share_code(spaces, codes, body, code),

@@ -113,8 +113,9 @@ fn push_row(alloc: Global, text: &mut String, row: &Row) -> Result<(), Fail> {
     for code in row.codes.as_slice() {
         let told = match code.stored {
             Stored::Cell(_) => format!(in alloc; ", in its cell")?,
-            Stored::Apart(_) => format!(in alloc; ", apart")?,
-            Stored::Counted(words) => format!(in alloc; ", {words} words counted")?,
+            Stored::Apart(_, _) => format!(in alloc; ", apart")?,
+            Stored::Judged(words) => format!(in alloc; ", {words} words judged")?,
+            Stored::NoRoom(words) => format!(in alloc; ", {words} words without room")?,
             Stored::TooLong => format!(in alloc; ", too long")?,
         };
         text.push_str(told.as_str())?;
@@ -180,7 +181,7 @@ fn a_worker_serves_until_a_fault_and_while_codes_have_room(rt: HostRuntime) -> R
         (
             40,
             valid,
-            "false None (187, 219) batch 0, None, in its cell; batch 1, None, 31 words counted; ",
+            "false None (187, 219) batch 0, None, in its cell; batch 1, None, 31 words without room; ",
         ),
     ];
     for (room, first, want) in rows {

@@ -24,25 +24,23 @@ pub enum Made {
     Faulty(Refusal),
 }
 
-/// Puts a code into the cell of its function, or else keeps it apart. Where the function has no cell, or the cells have no room
-/// left for the code, its instruction words are counted.
+/// Puts a code into the cell of its function, or keeps it apart where that cell holds another one. Where the function has no cell,
+/// or the cells have no room left for the code, its instruction words are counted.
 fn store(alloc: Global, cells: &Cells, index: u32, code: Code) -> Result<Stored, AllocError>
     ensures { IfOk result (λ s. Stores cells.now index s code) }
 {
     let words = code.words.as_slice().len() as u64;
-    if index >= cells.count() || !cells.take_room(words) {
-        return Ok(Stored::Counted(words));
+    if index >= cells.count() {
+        return Ok(Stored::Judged(words));
+    }
+    if !cells.take_room(words) {
+        return Ok(Stored::NoRoom(words));
     }
     let code = Arc::new(alloc, fitted(code))?;
     let mut note = cells.note(index);
-    let placed = match cells.put(index, &mut note, &code)? {
-        Put::Placed => true,
-        Put::Clash(_) => false,
-    };
-    Ok(if placed {
-        Stored::Cell(note)
-    } else {
-        Stored::Apart(code)
+    Ok(match cells.put(index, &mut note, &code)? {
+        Put::Placed => Stored::Cell(note),
+        Put::Clash(_) => Stored::Apart(note, code),
     })
 }
 

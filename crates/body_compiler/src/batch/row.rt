@@ -11,11 +11,12 @@ use wasm_defs::{Refusal, Sequence};
 pub enum Stored {
     /// The code is in the cell of the body's function, and the note knows it.
     Cell(CellNote),
-    /// The code: that cell held another one.
-    Apart(Arc<Code, Global>),
-    /// How many instruction words the code has: the function has no cell, or the codes that are kept left no room for this one. So
-    /// the body was only validated.
-    Counted(u64),
+    /// The code, and a note of that cell, which knows that it holds another one.
+    Apart(CellNote, Arc<Code, Global>),
+    /// How many instruction words the code has: the function has no cell, so the body was only validated.
+    Judged(u64),
+    /// How many instruction words the code has: the codes that are kept left no room for this one, so the body was only validated.
+    NoRoom(u64),
     /// The instruction words of the code are more than a text may have: it isn't kept.
     TooLong,
 }

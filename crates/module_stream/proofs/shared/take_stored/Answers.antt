@@ -4,23 +4,27 @@ use Rattle.rv_isa.specs.declared.compiled.Code.{Code}
 use Rattle.body_compiler.specs.declared.batch.row.Stored.{Stored}
 use Rattle.body_compiler.specs.BatchRows.{Stores}
 use Rattle.module_stream.specs.Progress.{TakesBody}
-use Rattle.module_stream.proofs.Sharing.{not_kept, known_code, not_unknown}
+use Rattle.module_stream.proofs.Sharing.{known_code, not_unknown}
 use Rattle.module_stream.proofs.Taking.{long_taken}
 use Rattle.module_stream.proofs.shared.take_stored.Goals as goal
 
-pub count_code-requires-clause-none : goal.count_code-requires-clause-none
-count_code-requires-clause-none c = not_kept c.args.codes.now.kept (sym c.are_kept.ensures ∙ c.if-are_kept.false)
-
-pub count_code-requires-clause-code : goal.count_code-requires-clause-code
-count_code-requires-clause-code c =
+pub take_counted-requires-clause-code : goal.take_counted-requires-clause-code
+take_counted-requires-clause-code c =
     let r = c.requires.code in
-    (r.0, subst (λ (s : Stored). Stores c.args.cells.now c.args.index s r.0) c.in-Counted.is r.1, r.2)
+    let here = subst (λ (s : Stored). Stores c.args.cells.now c.args.index s r.0) c.in-Judged.is r.1 in
+    (r.0, here.1, r.2)
+
+pub take_counted-requires-in-NoRoom-clause-code : goal.take_counted-requires-in-NoRoom-clause-code
+take_counted-requires-in-NoRoom-clause-code c =
+    let r = c.requires.code in
+    let here = subst (λ (s : Stored). Stores c.args.cells.now c.args.index s r.0) c.in-NoRoom.is r.1 in
+    (r.0, here.1, r.2)
 
 pub share_code-requires-clause-code : goal.share_code-requires-clause-code
 share_code-requires-clause-code c =
     let r = c.requires.code in
     let same = subst (λ (s : Stored). Stores c.args.cells.now c.args.index s r.0) c.in-Apart.is r.1 in
-    subst (λ (k : Code). TakesBody c.args.spaces.now c.args.codes.now.count c.args.body.now (Ok k)) (sym same) r.2
+    subst (λ (k : Code). TakesBody c.args.spaces.now c.args.codes.now.count c.args.body.now (Ok k)) (sym same.3) r.2
 
 pub get-requires-clause-index : goal.get-requires-clause-index
 get-requires-clause-index c =
