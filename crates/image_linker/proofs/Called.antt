@@ -17,6 +17,7 @@ use Rattle.image_format.specs.Contents.{Image}
 use Rattle.image_format.specs.Environment.{Entry, stack_size, with_words, words_at, word_bytes, row_words, segments_of, loaded}
 use Rattle.simulation.specs.StoreLaws.{GlobalsStand, SegmentsStand}
 use Rattle.image_format.specs.ImageRun.{begin}
+use Rattle.image_format.proofs.EnvironmentLaws.{length-word_bytes, length-row_words}
 use Rattle.simulation.specs.Laws.{IsInvoked}
 use Rattle.simulation.proofs.Calls.Arguments.{are_of_types}
 use Rattle.simulation.proofs.FirstSlots.{stack_is, slots_are}
@@ -24,7 +25,7 @@ use Rattle.simulation.proofs.Frames.Rules.{types_length}
 use Rattle.simulation.proofs.Frames.Words.{word_small}
 use Rattle.image_linker.specs.ImageOf.{segment_words, joined}
 use Rattle.image_linker.proofs.LoadedMemory.{HaveBytes, IsLoaded, is_loaded}
-use Rattle.image_linker.proofs.Regions.{AreWords, word_bytes_length, row_words_length, first_words_are_read}
+use Rattle.image_linker.proofs.Regions.{AreWords, first_words_are_read}
 use Rattle.image_linker.proofs.Segmented.{words_front, segments_loaded}
 
 -- an image whose regions keep their limits, and whose segments are of bytes and fit
@@ -55,8 +56,8 @@ module _ (i : Image) (small : IsSmall i) where
 
   short_windows : (stack : List ℕ) → length stack ≡ stack_size → FitWindows (record (loaded i) { stack = stack })
   short_windows stack size Stack = omega (arith, size)
-  short_windows stack size Globals = omega (arith, word_bytes_length i.globals, small.globals)
-  short_windows stack size Table = omega (arith, word_bytes_length (row_words i.table), row_words_length i.table, small.table)
+  short_windows stack size Globals = omega (arith, length-word_bytes i.globals, small.globals)
+  short_windows stack size Table = omega (arith, length-word_bytes (row_words i.table), length-row_words i.table, small.table)
   short_windows stack size Memory = omega (arith, memory_is.size, small.cap)
   short_windows stack size Passive = omega (arith, small.passive)
 
@@ -89,7 +90,7 @@ module _ (i : Image) (small : IsSmall i) where
     -- the globals' words are the image's first ones
     globals_first : GlobalsStand (loaded i) store.globals
     globals_first = record {
-      within = omega (arith, word_bytes_length i.globals, ap length first.globals, length-append own telling, own_length);
+      within = omega (arith, length-word_bytes i.globals, ap length first.globals, length-append own telling, own_length);
       are =
           ap (λ (l : List ℕ). words_at (word_bytes l) 0 (length store.globals)) first.globals
           ∙ ap (λ (n : ℕ). words_at (word_bytes (own ++ telling)) 0 n) (sym own_length)

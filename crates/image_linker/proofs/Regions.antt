@@ -12,14 +12,6 @@ abbrev pub AreWords : List ℕ → Type 0
 AreWords [] = Unit {0}
 AreWords (w ∷ ws) = (w < 2 ^ 64) × AreWords ws
 
-pub word_bytes_length : (ws : List ℕ) → length (word_bytes ws) ≡ 8 * length ws
-word_bytes_length [] = refl
-word_bytes_length (w ∷ ws) = length-append (le_bytes 8 w) (word_bytes ws) ∙ omega (arith, length-le_bytes 8 w, word_bytes_length ws)
-
-pub row_words_length : (rows : List Row) → length (row_words rows) ≡ 2 * length rows
-row_words_length [] = refl
-row_words_length (r ∷ rows) = omega (arith, row_words_length rows)
-
 -- a word after others
 word_behind : (front : List ℕ) (from w : ℕ) (back : List ℕ) → length front ≡ 8 * from → w < 2 ^ 64 → word_at (front ++ (le_bytes 8 w ++ back)) from ≡ w
 word_behind front from w back len small =

@@ -5,10 +5,11 @@ use Rattle.std.proofs.lemmas.List.{drop_at, take_at}
 use Rattle.rv_isa.specs.declared.stepping.Region.TheVariants.{Passive}
 use Rattle.rv_isa.specs.Steps.{Bytes, region_base}
 use Rattle.image_format.specs.Environment.{word_bytes, word_at}
+use Rattle.image_format.proofs.EnvironmentLaws.{length-word_bytes}
 use Rattle.simulation.specs.Regions.{global_at, SegmentStands}
 use Rattle.simulation.specs.StoreLaws.{SegmentsStand}
 use Rattle.image_linker.specs.ImageOf.{segment_words, joined}
-use Rattle.image_linker.proofs.Regions.{AreWords, word_bytes_length, word_is_read}
+use Rattle.image_linker.proofs.Regions.{AreWords, word_is_read}
 
 -- ---- their sizes
 
@@ -53,7 +54,7 @@ module _ (b : Bytes) where
       let words = front ++ behind in
       subst (λ (l : List ℕ). SegmentStands b (length front + 2 * 0) l) same (record {
         from = length before;
-        inside = omega (arith, ap length globals, word_bytes_length words, length-append front behind);
+        inside = omega (arith, ap length globals, length-word_bytes words, length-append front behind);
         length_is = word_there words (length front + 2 * 0) (length front + 0) (length s) small globals (omega arith) (get_behind front behind 0);
         address_is = word_there words (length front + 2 * 0 + 1) (length front + 1) (region_base Passive + length before) small globals (omega arith) (get_behind front behind 1);
         within = omega (arith, ap length passive, length-append before (s ++ joined ss), length-append s (joined ss));

@@ -23,11 +23,11 @@ use Rattle.image_format.specs.declared.image.Export.{Export}
 use Rattle.image_format.specs.declared.image.TrapPlace.{TrapPlace}
 use Rattle.image_format.specs.declared.version.Version.{Version}
 use Rattle.image_format.specs.declared.version.Version.TheVariants.{One, Two, Three}
-use Rattle.image_format.specs.Versions.{most_globals}
 use Rattle.image_format.specs.Bounds.{Each, IsImport, ExportFits}
 use Rattle.image_format.specs.Contents.{Image, IsImage}
 use Rattle.image_format.specs.Sizes.{results_size, segment_size, import_size, export_size, places_size, passive_size, size_of}
 use Rattle.image_format.proofs.Sizes.{spelling_size}
+use Rattle.image_format.proofs.EnvironmentLaws.{globals_few}
 use Rattle.image_linker.specs.ImageOf.{segment_of, placed_segments, imports_of, export_of, joined, image_of}
 use Rattle.image_linker.specs.Laws.{ImagesAreShort}
 use Rattle.image_linker.proofs.NamedRows.{joined_first}
@@ -120,11 +120,6 @@ passive_bounded One bytes = omega arith
 passive_bounded Two bytes = omega arith
 passive_bounded Three bytes = omega arith
 
-globals_bounded : (v : Version) → most_globals v ≤ 300000
-globals_bounded One = omega arith
-globals_bounded Two = omega arith
-globals_bounded Three = omega arith
-
 size_is_bounded : (i : Image) → IsImage i → 3 * length i.places ≤ length i.text → sum_by data_bytes i.segments + sum_by import_names i.imports + sum_by export_name i.exports + length i.passive ≤ 67108864 → size_of i ≤ 1073741824
 size_is_bounded i bounded traps held =
     let words = bounded.text.most in
@@ -138,7 +133,7 @@ size_is_bounded i bounded traps held =
     let c = exports_size (length i.text) [] i.exports bounded.exports.1 in
     let d = places_bounded i.version i.places in
     let e = passive_bounded i.version i.passive in
-    let f = globals_bounded i.version in
+    let f = globals_few i.version in
     omega (arith, words, globals, rows, segments, imports, exports, a, b, c, d, e, f, traps, held)
 
 pub images_are_short : ImagesAreShort

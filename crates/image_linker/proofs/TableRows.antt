@@ -17,6 +17,7 @@ use Rattle.wasm_laws.proofs.Counted.{entries_in}
 use Rattle.image_format.specs.Environment.{Entry, word_bytes, row_words, loaded}
 use Rattle.image_format.specs.ImageRun.{begin}
 use Rattle.image_format.specs.Contents.{Image}
+use Rattle.image_format.proofs.EnvironmentLaws.{length-word_bytes, length-row_words}
 use Rattle.wasm_defs.specs.Host.{Reply}
 use Rattle.wasm_defs.specs.declared.types.ValType.{ValType}
 use Rattle.simulation.specs.Regions.{row_code, row_like}
@@ -25,7 +26,7 @@ use Rattle.simulation.specs.Tables.{type_in, TableHolds}
 use Rattle.simulation.proofs.Entering.{table_kept}
 use Rattle.image_linker.specs.ImageOf.{places_of_functions, row_of, table_of, image_of}
 use Rattle.image_linker.proofs.LoadedMemory.{all_over_length}
-use Rattle.image_linker.proofs.Regions.{AreWords, word_bytes_length, row_words_length, word_is_read, row_words_at}
+use Rattle.image_linker.proofs.Regions.{AreWords, word_is_read, row_words_at}
 
 -- ---- types
 
@@ -96,7 +97,7 @@ module _ (m : Module) (linkable : is_linkable m ≡ true) (few_types : length (c
       let rows = (instance_of m).table in
       record {
         rows = record {
-          size = omega (arith, word_bytes_length (row_words (map (row_of m) rows)), row_words_length (map (row_of m) rows), length-map rows (row_of m));
+          size = omega (arith, length-word_bytes (row_words (map (row_of m) rows)), length-row_words (map (row_of m) rows), length-map rows (row_of m));
           empty = λ a is. (row_read m rows own a None is).0;
           code_is = λ a f is. let place_is = places_are f in (row_read m rows own a (Some f) is).0 ∙ omega arith;
           like_is = λ a f is.

@@ -11,19 +11,14 @@ use Rattle.frame_layout.specs.declared.layout.Layout.{Layout}
 use Rattle.frame_layout.specs.Slots.{operand}
 use Rattle.frame_layout.specs.Macros.{t0, t1, t2, t3, s1, s3, a0, forward, load_slot, trap, zero_extend}
 use Rattle.frame_layout.specs.BulkWords.{bound, fill_loop, up_loop, down_loop, copy_places, copy_up, copy_down, init_test, init_places, load_number, load_three, fill_front, fill_places, fill_words, copy_words, init_words, bulk_words, drop_words}
-use Rattle.simulation.proofs.MacroRanges.{both_in_range, load_in_range}
+use Rattle.simulation.proofs.MacroRanges.{both_in_range, load_in_range, behind_in_range, trap_in_range}
 
 trapping : AllInRange (trap 4)
-unfolding IsInRange
-trapping = ((omega arith, omega arith, omega arith), ((omega arith, omega arith, omega arith), (tt, tt)))
+trapping = trap_in_range 4 (omega arith)
 
 bound_in_range : (a b r : ℕ) → a < 2 ^ 5 → b < 2 ^ 5 → r < 2 ^ 5 → AllInRange (bound a b r)
 unfolding IsInRange
 bound_in_range a b r small_a small_b small_r = ((small_r, small_a, small_b), ((omega arith, small_r, omega arith), trapping))
-
-word_in_range : (r base offset : ℕ) → r < 2 ^ 5 → base < 2 ^ 5 → AllInRange (load_behind r base offset)
-unfolding IsInRange
-word_in_range r base offset small based = ((small, omega arith), ((small, small, based), ((small, small, omega arith), tt)))
 
 pub drop_in_range : (g : ℕ) → AllInRange (drop_words g)
 unfolding IsInRange
@@ -102,10 +97,10 @@ module _ (l : Layout) where
   init_in_range : (h g : ℕ) → AllInRange (init_words l h g)
   init_in_range h g =
       both_in_range (load_three l h) (init_test g ++ (bound t0 t2 a0 ++ (init_places g ++ up_loop 24))) (three_in_range h) (
-      both_in_range (init_test g) (bound t0 t2 a0 ++ (init_places g ++ up_loop 24)) (both_in_range (load_behind t3 s3 g) (Reg Add a0 t1 t2 ∷ Branch Bgeu t3 a0 (forward 16) ∷ trap 4) (word_in_range t3 s3 g (omega arith) (omega arith)) init_bound) (
+      both_in_range (init_test g) (bound t0 t2 a0 ++ (init_places g ++ up_loop 24)) (both_in_range (load_behind t3 s3 g) (Reg Add a0 t1 t2 ∷ Branch Bgeu t3 a0 (forward 16) ∷ trap 4) (behind_in_range t3 s3 g (omega arith) (omega arith)) init_bound) (
       both_in_range (bound t0 t2 a0) (init_places g ++ up_loop 24) (bound_in_range t0 t2 a0 (omega arith) (omega arith) (omega arith)) (
       both_in_range (init_places g) (up_loop 24) (both_in_range (Reg Add t0 t0 s1 ∷ []) (load_behind a0 s3 (g + 8) ++ (Reg Add t1 t1 a0 ∷ Reg Add t2 t2 t0 ∷ [])) (one_sum t0 s1 t0 (omega arith) (omega arith) (omega arith))
-      (both_in_range (load_behind a0 s3 (g + 8)) (Reg Add t1 t1 a0 ∷ Reg Add t2 t2 t0 ∷ []) (word_in_range a0 s3 (g + 8) (omega arith) (omega arith)) init_sums)) (up_loop_in_range 24 (omega arith)))))
+      (both_in_range (load_behind a0 s3 (g + 8)) (Reg Add t1 t1 a0 ∷ Reg Add t2 t2 t0 ∷ []) (behind_in_range a0 s3 (g + 8) (omega arith) (omega arith)) init_sums)) (up_loop_in_range 24 (omega arith)))))
 
   pub bulk_in_range : (globals h : ℕ) (op : BulkOp) → AllInRange (bulk_words l globals h op)
   bulk_in_range globals h Fill = fill_in_range h

@@ -18,23 +18,11 @@ use Rattle.wasm_defs.specs.Memory.{load_count, store_count}
 use Rattle.frame_layout.specs.Slots.{operand}
 use Rattle.frame_layout.specs.Macros.{t0, t1, t2, t3, s1, s2, s3, forward, trap, zero_extend, const_32}
 use Rattle.frame_layout.specs.Templates.{Around, load_operand, store_operand, address, machine_load, machine_store, load_words, store_words, size_words, global_get_words, global_set_words}
-use Rattle.simulation.proofs.MacroRanges.{both_in_range, load_in_range, store_in_range, const_in_range}
+use Rattle.simulation.proofs.MacroRanges.{both_in_range, load_in_range, store_in_range, const_in_range, behind_in_range, stored_in_range, extended_in_range}
 
 -- ---- globals
 
-behind_in_range : (r base offset : ℕ) → r < 2 ^ 5 → base < 2 ^ 5 → AllInRange (load_behind r base offset)
-unfolding IsInRange
-behind_in_range r base offset small based = ((small, omega arith), ((small, small, based), ((small, small, omega arith), tt)))
-
-stored_in_range : (r t base offset : ℕ) → r < 2 ^ 5 → t < 2 ^ 5 → base < 2 ^ 5 → AllInRange (store_behind r t base offset)
-unfolding IsInRange
-stored_in_range r t base offset small also based = ((also, omega arith), ((also, also, based), ((also, small, omega arith), tt)))
-
 -- ---- addresses
-
-extended_in_range : AllInRange (zero_extend t0)
-unfolding IsInRange
-extended_in_range = ((omega arith, omega arith, omega arith), ((omega arith, omega arith, omega arith), tt))
 
 -- the end of the bytes against the memory's
 bound_in_range : (count : ℕ) → count < 2 ^ 12 → AllInRange (Reg Add t0 t0 t1 ∷ Imm Addi t1 t0 count ∷ Branch Bgeu s2 t1 (forward 16) ∷ trap 4)

@@ -1,5 +1,5 @@
 -- The fields of the operations of `call_indirect` fit their instruction words.
-use Rattle.std.proofs.Common.{ℕ, ◌-◌, ◌*◌, ◌^◌, ◌<◌, List, [], ◌∷◌, ◌++◌, arith}
+use Rattle.std.proofs.Common.{ℕ, ◌-◌, ◌*◌, List, [], ◌∷◌, ◌++◌, arith}
 use Rattle.rv_isa.specs.declared.operations.Op.{Op}
 use Rattle.rv_isa.specs.declared.operations.Op.TheVariants.{Branch, Load, Shift, Reg, Jalr}
 use Rattle.rv_isa.specs.declared.operations.BranchOp.TheVariants.{Beq, Bne, Bltu}
@@ -11,15 +11,7 @@ use Rattle.rv_isa.specs.Runs.{AllInRange}
 use Rattle.frame_layout.specs.Slots.{operand}
 use Rattle.frame_layout.specs.Macros.{x0, ra, t0, t1, t2, s0, s4, forward, trap, zero_extend, const_32, shift, back}
 use Rattle.frame_layout.specs.Templates.{Around, load_operand, indirect_words}
-use Rattle.simulation.proofs.MacroRanges.{both_in_range, load_in_range, const_in_range}
-
-widened_in_range : AllInRange (zero_extend t0)
-unfolding IsInRange
-widened_in_range = ((omega arith, omega arith, omega arith), ((omega arith, omega arith, omega arith), tt))
-
-kind_in_range : (kind : ℕ) → kind < 2 ^ 12 → AllInRange (trap kind)
-unfolding IsInRange
-kind_in_range kind small = ((omega arith, omega arith, small), ((omega arith, omega arith, omega arith), (tt, tt)))
+use Rattle.simulation.proofs.MacroRanges.{both_in_range, load_in_range, const_in_range, extended_in_range, trap_in_range}
 
 within_in_range : AllInRange (Branch Bltu t0 t1 (forward 16) ∷ [])
 unfolding IsInRange
@@ -61,15 +53,15 @@ module _ (w : Around) where
       let tested = row ++ (trap 6 ++ typed) in
       let inside : List Op = Branch Bltu t0 t1 (forward 16) ∷ [] in
       both_in_range (load_operand w t0 (h - 1)) (zero_extend t0 ++ (const_32 t1 w.rows ++ (inside ++ (trap 5 ++ tested)))) (load_in_range t0 (operand w.layout (h - 1)) (omega arith)) (
-      both_in_range (zero_extend t0) (const_32 t1 w.rows ++ (inside ++ (trap 5 ++ tested))) widened_in_range (
+      both_in_range (zero_extend t0) (const_32 t1 w.rows ++ (inside ++ (trap 5 ++ tested))) extended_in_range (
       both_in_range (const_32 t1 w.rows) (inside ++ (trap 5 ++ tested)) (const_in_range t1 w.rows (omega arith)) (
       both_in_range inside (trap 5 ++ tested) within_in_range (
-      both_in_range (trap 5) tested (kind_in_range 5 (omega arith)) (
+      both_in_range (trap 5) tested (trap_in_range 5 (omega arith)) (
       both_in_range row (trap 6 ++ typed) row_in_range (
-      both_in_range (trap 6) typed (kind_in_range 6 (omega arith)) (
+      both_in_range (trap 6) typed (trap_in_range 6 (omega arith)) (
       both_in_range (Load Ld t0 t0 8 ∷ []) (const_32 t2 (w.like type) ++ (same ++ (trap 7 ++ last))) like_in_range (
       both_in_range (const_32 t2 (w.like type)) (same ++ (trap 7 ++ last)) (const_in_range t2 (w.like type) (omega arith)) (
       both_in_range same (trap 7 ++ last) same_in_range (
-      both_in_range (trap 7) last (kind_in_range 7 (omega arith)) (
+      both_in_range (trap 7) last (trap_in_range 7 (omega arith)) (
       both_in_range (shift slots) (jump ++ back slots) (both_in_range (const_32 t0 (8 * slots)) (Reg Add s0 s0 t0 ∷ []) (const_in_range t0 (8 * slots) (omega arith)) up_in_range) (
       both_in_range jump (back slots) jump_in_range (both_in_range (const_32 t0 (8 * slots)) (Reg Sub s0 s0 t0 ∷ []) (const_in_range t0 (8 * slots) (omega arith)) down_in_range)))))))))))))
