@@ -1,7 +1,7 @@
 -- What a cutter hands over, by where its walk is.
 use Rattle.std.proofs.Common.{◌≡◌, ℕ, suc, ◌+◌, ◌-◌, ◌<◌, inl, inr, Bool, true, false, leb, eqb, ◌||◌, ◌&&◌, List, [], ◌∷◌, ◌++◌, length, Option, Some, None, refl, sym, ap, subst, ◌∙◌, arith, length-append, eq-eqb}
 use Rattle.std.specs.Prelude.{is_some, not}
-use Rattle.std.proofs.lemmas.Bool.{cases_Bool, cases_lt, ne_eqb, eqb-true}
+use Rattle.std.proofs.lemmas.Bool.{cases_Bool, cases_lt, ne_eqb, eqb-true, and_parts}
 use Rattle.std.proofs.lemmas.List.{append-nil}
 use Rattle.wasm_defs.specs.declared.fault.Refusal.{Refusal}
 use Rattle.wasm_defs.specs.Numbers.{IsCutOff}
@@ -83,11 +83,6 @@ module _ (w : Walk) (sound : IsSound w) where
   pub idle : still (position_of w) [] ≡ ends (end_by w)
   idle = idle_at w.stop w.sized refl refl
 
-  both_true : (a b : Bool) → (a && b) ≡ true → (a ≡ true) × (b ≡ true)
-  both_true true true e = (refl, refl)
-  both_true true false e = absurd cc
-  both_true false b e = absurd cc
-
   over_at : (o : Option Refusal) (s : Bool) → w.stop ≡ o → w.sized ≡ s → is_over w ≡ true → (more : List ℕ) → still (position_of w) more ≡ ends (end_by w)
   over_at (Some r) s e f over more =
       ap (λ (o : Option Refusal). unless_refused o (on_hand (position_of w) w.sized more)) e
@@ -100,7 +95,7 @@ module _ (w : Walk) (sound : IsSound w) where
   over_at None false e f over more =
       let h : IsAtSize w = hand None false e f in
       let t = subst (λ (o : Option Refusal). (is_some o || (eqb w.count 0 && eqb w.at w.end)) ≡ true) e over in
-      let both = both_true (eqb w.count 0) (eqb w.at w.end) t in
+      let both = and_parts (eqb w.count 0) (eqb w.at w.end) t in
       let n : w.count ≡ 0 = eqb-true w.count 0 both.0 in
       let same : w.at ≡ w.end = eqb-true w.at w.end both.1 in
       let place : w.size_at ≡ w.end = omega (arith, h.place, ap length (h.fresh n)) in

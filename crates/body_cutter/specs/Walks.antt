@@ -1,6 +1,7 @@
 -- What a walk over a code section has given, and has still to give.
 use Rattle.std.specs.Prelude.{◌≡◌, ℕ, ◌+◌, ◌-◌, ◌<◌, ◌≤◌, ◌^◌, Bool, true, false, List, [], ◌∷◌, length, take, Option, None, Some, is_some, ◌||◌, ◌&&◌, ◌==◌}
 use Rattle.wasm_defs.specs.declared.fault.Refusal.{Refusal}
+use Rattle.wasm_defs.specs.Limits.{max_body}
 use Rattle.leb_feed.specs.Feeding.{IsUnfinished}
 use Rattle.body_cutter.specs.declared.body.Body.{Body}
 use Rattle.body_cutter.specs.declared.walk.Walk.{Walk}
@@ -52,7 +53,7 @@ pub record IsAtSize (w : Walk) : Type 0 where
 pub record IsInBody (w : Walk) : Type 0 where
   pub one : 0 < w.count
   pub short : length w.bytes.items < w.len
-  pub small : w.len ≤ 1048576
+  pub small : w.len ≤ max_body
   pub came : length w.bytes.items ≤ w.at
   pub room : w.at + w.len ≤ w.end + length w.bytes.items
 
@@ -88,7 +89,7 @@ pub record IsFull (w : Walk) : Type 0 where
   pub going : w.stop ≡ None
   pub one : 0 < w.count
   pub full : length w.bytes.items ≡ w.len
-  pub small : w.len ≤ 1048576
+  pub small : w.len ≤ max_body
   pub came : w.len ≤ w.at
   pub counted : w.count ≤ w.behind
   pub inside : w.at ≤ w.end

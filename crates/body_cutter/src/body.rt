@@ -13,12 +13,13 @@ pub struct BodyBytes {
 
 impl Model for BodyBytes {
     ghost use Rattle.std.specs.Prelude.{List, ℕ, ◌≤◌, length};
+    ghost use Rattle.wasm_defs.specs.Limits.{max_body};
 
     ghost Value = { List ℕ };
 
     ghost view = { λ l. l.bytes.items };
 
-    ghost invariant = { λ l. length l.bytes.items ≤ 1048576 };
+    ghost invariant = { λ l. length l.bytes.items ≤ max_body };
 }
 
 impl BodyBytes {
@@ -33,7 +34,7 @@ impl BodyBytes {
     /// The bytes in order.
     pub fn as_slice(&self) -> &[u8]
         ensures value { result.now ≡ self.now }
-        ensures small { length self.now ≤ 1048576 }
+        ensures small { length self.now ≤ MAX_BODY }
     {
         self.bytes.as_slice()
     }
@@ -41,7 +42,7 @@ impl BodyBytes {
     /// Gives the bytes back, without taking memory.
     pub fn into_vec(self) -> Vec<u8>
         ensures value { result.items ≡ self }
-        ensures small { length self ≤ 1048576 }
+        ensures small { length self ≤ MAX_BODY }
     {
         self.bytes
     }

@@ -1,6 +1,7 @@
 //! Batches that wait to be taken, and the one that is begun.
 
 ghost use Rattle.std.specs.Prelude.{◌≡◌, ◌<◌, ◌≤◌, ◌+◌, ◌^◌, [], ◌∷◌, length, take, drop, OnOk, OnErr, IfSome, IfNone};
+ghost use Rattle.wasm_defs.specs.Limits.{max_body};
 ghost use Rattle.body_cutter.specs.Queues.{with_bodies, all_closed, batch_length, without_first, with_count, counted, starts_at};
 ghost use Rattle.body_cutter.specs.Tallies.{tally};
 
@@ -45,7 +46,7 @@ impl Tally {
     fn count(self, least: u32, len: usize) -> Tally
         requires all { self.all < 2 ^ 63 }
         requires bytes { self.bytes ≤ least }
-        requires small { len ≤ 1048576 }
+        requires small { len ≤ max_body }
         ensures value { tally result ≡ with_count least (self.all + 1) self.settled (self.bytes + len) }
         ensures few { result.bytes ≤ least }
         ensures more { result.all ≡ self.all + 1 }

@@ -63,7 +63,7 @@ fn natural(n: i128) -> u32
 /// What is wrong with a size after which the section has so many bytes.
 fn size_fault(size: u32, room: u64) -> Option<Kind>
     ensures exact { result ≡ size_fault size room }
-    ensures right { IfNone result ((2 ≤ size) × (size ≤ room) × (size ≤ 1048576)) }
+    ensures right { IfNone result ((2 ≤ size) × (size ≤ room) × (size ≤ MAX_BODY)) }
 {
     if size < 2 || room < u64::from(size) {
         return Some(Kind::Malformed);
