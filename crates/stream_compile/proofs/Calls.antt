@@ -29,7 +29,7 @@ use Rattle.wasi_host.specs.Answers.{bytes_written, replies}
 use Rattle.wasi_host.specs.ExitCodes.{exit_code}
 use Rattle.command_words.specs.declared.command.Call.{Call}
 use Rattle.command_words.specs.declared.peek.Peek.{Peek}
-use Rattle.stream_compile.specs.Texts.{Outcome, after, arguments_of, EndsAs, ChecksAndCalls, GoesOn, TellsEnd, TellsRun, ChecksAndRuns}
+use Rattle.stream_compile.specs.Texts.{Outcome, after, arguments_of, line_of_end, ChecksAndCalls, GoesOn, RunsAlike, TellsRun, ChecksAndRuns}
 use Rattle.stream_compile.specs.Running.{RunsAs}
 use Rattle.stream_compile.proofs.Lasting.{Lasts, image_stays, own_lasts}
 
@@ -156,36 +156,39 @@ module _ (runs : ℕ → module_runs.Run) (image : ℕ → ImageRun) (n : ℕ) (
       by_end Going is = is
       by_end Fails is = absurd (alike.never_fails k is)
 
+-- a run that no rule leads on has no line
+fails_untold : (drill : Option ℕ) (peek : Option Peek) (exit : Option ℕ) (o : Outcome) → line_of_end drill peek exit (As Fails) ≡ Some o → ⊥
+fails_untold drill peek None o h = cc
+fails_untold drill peek (Some code) o h = cc
+
 -- what an image's end says of its module
-tells_end : (drill : Option ℕ) (peek : Option Peek) (runs : ℕ → module_runs.Run) (image : ℕ → ImageRun) (n : ℕ) (exit : Option ℕ) (calls : List HostCall) (end : Ending) (o : Outcome) → SameRuns runs image → Lasts image → image n ≡ record { calls = calls; end = end } → EndsAs drill peek exit end o → TellsEnd drill peek n exit calls end runs o
-tells_end drill peek runs image n None calls (As (Returns values memory globals)) o alike stays is tells =
-    let k = alike.ends_only n (Returns values memory globals) (ap (λ (r : ImageRun). r.end) is) tt in
-    (k.0, same_run (runs k.0) calls (Returns values memory globals) (sym k.1 ∙ is), tells)
-tells_end drill peek runs image n None calls (As (Traps kind place memory globals)) o alike stays is tells =
-    let k = alike.ends_only n (Traps kind place memory globals) (ap (λ (r : ImageRun). r.end) is) tt in
-    (k.0, same_run (runs k.0) calls (Traps kind place memory globals) (sym k.1 ∙ is), tells)
-tells_end drill peek runs image n None calls (As (Stops memory)) o alike stays is tells = tells
-tells_end drill peek runs image n None calls (As Going) o alike stays is tells =
-    let going = ap (λ (r : ImageRun). r.end) is in
-    let k = alike.calls_lead n going in
-    (k.0, subst (λ (l : List HostCall). BeginsWith (runs k.0).calls l) (ap (λ (r : ImageRun). r.calls) is) k.1, goes_on runs image n alike stays going, tells)
-tells_end drill peek runs image n None calls (As Fails) o alike stays is tells = tells
-tells_end drill peek runs image n None calls (Fault kind pc) o alike stays is tells = absurd (alike.never_faults n kind pc (ap (λ (r : ImageRun). r.end) is))
-tells_end drill peek runs image n (Some code) calls (As (Stops memory)) o alike stays is tells =
-    let k = alike.ends_only n (Stops memory) (ap (λ (r : ImageRun). r.end) is) tt in
-    (k.0, same_run (runs k.0) calls (Stops memory) (sym k.1 ∙ is), tells)
-tells_end drill peek runs image n (Some code) calls end o alike stays is tells = absurd tells
+module _ (runs : ℕ → module_runs.Run) (image : ℕ → ImageRun) (n : ℕ) (calls : List HostCall) (alike : SameRuns runs image) (stays : Lasts image) where
+  over_alike : (end : End) → IsOver end → image n ≡ record { calls = calls; end = As end } → (k : ℕ) × (runs k ≡ record { calls = calls; end = end })
+  over_alike end over is =
+      let k = alike.ends_only n end (ap (λ (r : ImageRun). r.end) is) over in
+      (k.0, same_run (runs k.0) calls end (sym k.1 ∙ is))
+
+  runs_on_alike : (drill : Option ℕ) (peek : Option Peek) (exit : Option ℕ) (end : Ending) (o : Outcome) → image n ≡ record { calls = calls; end = end } → line_of_end drill peek exit end ≡ Some o → RunsAlike n calls end runs
+  runs_on_alike drill peek exit (As (Returns values memory globals)) o is told = over_alike (Returns values memory globals) tt is
+  runs_on_alike drill peek exit (As (Traps kind place memory globals)) o is told = over_alike (Traps kind place memory globals) tt is
+  runs_on_alike drill peek exit (As (Stops memory)) o is told = over_alike (Stops memory) tt is
+  runs_on_alike drill peek exit (As Going) o is told =
+      let going = ap (λ (r : ImageRun). r.end) is in
+      let k = alike.calls_lead n going in
+      (k.0, subst (λ (l : List HostCall). BeginsWith (runs k.0).calls l) (ap (λ (r : ImageRun). r.calls) is) k.1, goes_on runs image n alike stays going)
+  runs_on_alike drill peek exit (As Fails) o is told = absurd (fails_untold drill peek exit o told)
+  runs_on_alike drill peek exit (Fault kind pc) o is told = absurd (alike.never_faults n kind pc (ap (λ (r : ImageRun). r.end) is))
 
 -- what is reported of one run, which has these replies
 abbrev TellsOne : (drill : Option ℕ) → Option Peek → List Import → List Reply → Outcome → ImageRun → Type 0
 TellsOne drill peek imports rs o run =
-    (rs ≡ replies imports run.calls) × (line : Outcome) × EndsAs drill peek (exit_code imports run.calls) run.end line × (o ≡ after (bytes_written imports run.calls) line)
+    (rs ≡ replies imports run.calls) × (line : Outcome) × (line_of_end drill peek (exit_code imports run.calls) run.end ≡ Some line) × (o ≡ after (bytes_written imports run.calls) line)
 
 -- no line reports the globals
-own_ends_as : (g : ℕ) (drill : Option ℕ) (peek : Option Peek) (exit : Option ℕ) (x : Ending) (o : Outcome) → EndsAs drill peek exit x o → EndsAs drill peek exit (own_ending g x) o
-own_ends_as g drill peek None (As (Returns values memory globals)) o h = h
-own_ends_as g drill peek (Some code) (As (Stops memory)) o h = h
-own_ends_as g drill peek exit x o h = h
+own_line : (g : ℕ) (drill : Option ℕ) (peek : Option Peek) (exit : Option ℕ) (end : Ending) → line_of_end drill peek exit (own_ending g end) ≡ line_of_end drill peek exit end
+own_line g drill peek None (As (Returns values memory globals)) = refl
+own_line g drill peek (Some code) (As (Stops memory)) = refl
+own_line g drill peek exit end = refl
 
 tells_run : (drill : Option ℕ) (m : Module) (r : Call) (o : Outcome) → Same m (image_of m) → all_in_range (arguments_of r.arguments) ≡ true → not_runnable (image_of m) r.export (types_of_values (arguments_of r.arguments)) ≡ None
     → ChecksAndCalls drill None (image_of m) r o → TellsRun drill m r o
@@ -200,19 +203,10 @@ tells_run drill m r o same ranges passes (e, is, tells) =
     let image : ℕ → ImageRun = image_run i (offset_of m f) (Results m f) arguments rs in
     let run = run_of_export i (export_of m (r.export, f)) arguments rs r.steps in
     let exit = exit_code i.imports run.calls in
-    let here : TellsOne drill r.peek i.imports rs o run = subst (λ (x : ImageRun). TellsOne drill r.peek i.imports rs o x) (runs_there m r.export (exports_of m.items) e found arguments rs r.steps) (tells.1, tells.2, tells.3, tells.4) in (
-      f,
-      found.named_is,
-      (
-        rs,
-        here.0,
-        here.1,
-        tells_end drill r.peek (module_run m f arguments rs) (λ n. own_run g (image n)) r.steps exit run.calls (own_ending g run.end) here.1 alike
-            (own_lasts g image (image_stays i (offset_of m f) (Results m f) arguments rs))
-            (ap (own_run g) (sym (run_is m r.export f arguments rs r.steps))) (own_ends_as g drill r.peek exit run.end here.1 here.2),
-        here.3,
-      ),
-    )
+    let here : TellsOne drill r.peek i.imports rs o run = subst (λ (x : ImageRun). TellsOne drill r.peek i.imports rs o x) (runs_there m r.export (exports_of m.items) e found arguments rs r.steps) (tells.1, tells.2, tells.3, tells.4) in
+    let told = own_line g drill r.peek exit run.end ∙ here.2 in
+    let own = runs_on_alike (module_run m f arguments rs) (λ n. own_run g (image n)) r.steps run.calls alike (own_lasts g image (image_stays i (offset_of m f) (Results m f) arguments rs)) in
+    (f, found.named_is, (rs, here.0, own drill r.peek exit (own_ending g run.end) here.1 (ap (own_run g) (sym (run_is m r.export f arguments rs r.steps))) told, here.1, told, here.3))
 
 checked_done : (drill : Option ℕ) (m : Module) (r : Call) (o : Outcome) (why : Option NotRunnable) → Same m (image_of m) → all_in_range (arguments_of r.arguments) ≡ true → not_runnable (image_of m) r.export (types_of_values (arguments_of r.arguments)) ≡ why
     → ChecksAndCalls drill why (image_of m) r o → ChecksAndRuns drill why m r o

@@ -10,12 +10,11 @@ use Rattle.wasm_defs.specs.Effects.{value}
 use Rattle.wasm_defs.specs.Faults.{Accepted, Module, Rejected}
 use Rattle.wasm_defs.specs.Host.{HostCall, Reply, are_of}
 use Rattle.wasm_defs.specs.Instances.{exports_of, named}
-use Rattle.wasm_defs.specs.ModuleRun.{Going, Returns, module_run}
-use Rattle.wasm_defs.specs.ModuleRun as module_runs
+use Rattle.wasm_defs.specs.ModuleRun.{module_run}
 use Rattle.wasm_defs.specs.declared.fault.Refusal.{Refusal}
 use Rattle.wasm_defs.specs.Values.{signed}
 use Rattle.image_format.specs.declared.image.Import.{Import}
-use Rattle.image_format.specs.ImageRun.{As, Ending, ImageRun}
+use Rattle.image_format.specs.ImageRun.{Ending, ImageRun}
 use Rattle.image_linker.specs.ImageOf.{image_of, export_of, offset_of}
 use Rattle.image_linker.specs.Judging.{IsModuleOf, IsVerdictOf}
 use Rattle.image_linker.specs.Same.{Same}
@@ -29,7 +28,7 @@ use Rattle.drill_laws.specs.Functions.{sum_below}
 use Rattle.drill_laws.specs.Modules.{IsDrill}
 use Rattle.drill_laws.proofs.Sums.{sum_small}
 use Rattle.simulation.specs.SameRuns.{own_ending, own_run}
-use Rattle.stream_compile.specs.Texts.{ChecksAndRuns, Outcome, TellsDrill, TellsEnd, TellsModuleRun, TellsSum, after, drill_call, drill_line, drilled}
+use Rattle.stream_compile.specs.Texts.{ChecksAndRuns, Outcome, TellsDrill, TellsModuleRun, TellsSum, after, drill_call, drill_line, drilled, line_of_end, steps_spent}
 use Rattle.stream_compile.proofs.Calls.{Results, run_is}
 use Rattle.stream_compile.proofs.DrillRuns.{DrillEnds, drill_ends, drill_fits, drill_runnable, drill_type, imports_nothing}
 use Rattle.module_stream.proofs.Once.{verdict_once}
@@ -58,13 +57,16 @@ sum_line n functions most counted =
     let sum : signed I32 (sum_below n) ≡ pos (sum_below n) = to_z_pos w32 (sum_below n) (sum_small n most) in
     rw (sum, counted) refl
 
-line_told : (d : Drill) (functions : ℕ) (calls : List HostCall) (end : Ending) (runs : ℕ → module_runs.Run) (o : Outcome) → d.count ≤ 50000 → functions ≡ d.count + 1 → DrillEnds d.count d.steps end → TellsEnd (Some functions) None d.steps None calls end runs o → TellsSum d o
-line_told d functions calls end runs o most counted (inl (memory, globals, is)) tells =
-    let told : TellsEnd (Some functions) None d.steps None calls (As (Returns (value I32 (sum_below d.count) ∷ []) memory globals)) runs o = subst (λ (e : Ending). TellsEnd (Some functions) None d.steps None calls e runs o) is tells in
-    inl (told.2 ∙ sum_line d.count functions most counted)
-line_told d functions calls end runs o most counted (inr (few, is)) tells =
-    let told : TellsEnd (Some functions) None d.steps None calls (As Going) runs o = subst (λ (e : Ending). TellsEnd (Some functions) None d.steps None calls e runs o) is tells in
-    inr (few, told.3)
+some_one : {A : Type 0} (x y : A) → Some x ≡ Some y → x ≡ y
+some_one x y same = cc
+
+line_told : (d : Drill) (functions : ℕ) (end : Ending) (o : Outcome) → d.count ≤ 50000 → functions ≡ d.count + 1 → DrillEnds d.count d.steps end → line_of_end (Some functions) None None end ≡ Some o → TellsSum d o
+line_told d functions end o most counted (inl (memory, globals, is)) tells =
+    let told : Some (drilled functions (value I32 (sum_below d.count) ∷ [])) ≡ Some o = subst (λ (e : Ending). line_of_end (Some functions) None None e ≡ Some o) is tells in
+    inl (some_one o _ (sym told) ∙ sum_line d.count functions most counted)
+line_told d functions end o most counted (inr (few, is)) tells =
+    let told : Some steps_spent ≡ Some o = subst (λ (e : Ending). line_of_end (Some functions) None None e ≡ Some o) is tells in
+    inr (few, some_one o _ (sym told))
 
 -- where nothing is imported, nothing is written, and proc_exit isn't called
 nothing_written : (calls : List HostCall) → bytes_written [] calls ≡ []
@@ -76,9 +78,6 @@ no_exit [] = refl
 no_exit (c ∷ calls) = rw (no_exit calls) refl
 
 -- ---- the run
-
-some_one : (f n : ℕ) → Some f ≡ Some n → f ≡ n
-some_one f n same = cc
 
 own_drill : (g n steps : ℕ) (x : Ending) → DrillEnds n steps x → DrillEnds n steps (own_ending g x)
 own_drill g n steps x (inl (memory, globals, is)) = inl (memory, take g globals, ap (own_ending g) is)
@@ -106,6 +105,6 @@ sum_told d m o most is same tells =
     let none : i.imports ≡ [] = imports_nothing m drill.imported in
     let nothing : bytes_written i.imports calls ≡ [] = ap (λ (l : List Import). bytes_written l calls) none ∙ nothing_written calls in
     let exit : exit_code i.imports calls ≡ None = ap (λ (l : List Import). exit_code l calls) none ∙ no_exit calls in
-    let alone : o ≡ told.2 = told.4 ∙ ap (λ (l : List ℕ). after l told.2) nothing in
-    let line : TellsEnd (Some functions) None steps None calls (run n rs).end (module_run m n [] rs) told.2 = subst (λ (x : Option ℕ). TellsEnd (Some functions) None steps x calls (run n rs).end (module_run m n [] rs) told.2) exit told.3 in
-    subst (TellsSum d) (sym alone) (line_told d functions calls (run n rs).end (module_run m n [] rs) told.2 most drill.declared end line)
+    let alone : o ≡ told.3 = told.5 ∙ ap (λ (l : List ℕ). after l told.3) nothing in
+    let line : line_of_end (Some functions) None None (run n rs).end ≡ Some told.3 = subst (λ (x : Option ℕ). line_of_end (Some functions) None x (run n rs).end ≡ Some told.3) exit told.4 in
+    subst (TellsSum d) (sym alone) (line_told d functions (run n rs).end told.3 most drill.declared end line)

@@ -17,7 +17,7 @@ use Rattle.wasi_host.specs.ExitCodes.{exit_code}
 use Rattle.wasi_host.specs.Own.{AreOwn}
 use Rattle.command_words.specs.declared.argument.Argument.{Argument}
 use Rattle.command_words.specs.declared.command.Call.{Call}
-use Rattle.stream_compile.specs.Texts.{Outcome, unrunnable, given_value, arguments_of, after, EndsAs, TellsImageRun, ChecksAndCalls}
+use Rattle.stream_compile.specs.Texts.{Outcome, unrunnable, given_value, arguments_of, after, line_of_end, TellsImageRun, ChecksAndCalls}
 use Rattle.stream_compile.specs.Running.{RunsAs}
 
 pub types_are : (values : List Given) → types_of_values (map value_of values) ≡ map type_of values
@@ -61,7 +61,7 @@ unrunnable_runs drill i call name values checked why o b some is e =
 module _ (drill : Option ℕ) (i : Image) (call : Call) (name : List ℕ) (values : List Given) (checked : Option NotRunnable) (b : Begun call name values) (none : checked ≡ None) (is : checked ≡ not_runnable i name (map type_of values)) where
   pub runs_as : (e : Export) (rs : List Reply) (line : Outcome) → export_named name i.exports ≡ Some e
       → AreOwn i.imports (λ q. (run_of_export i e (map value_of values) q call.steps).calls) rs
-      → EndsAs drill call.peek (exit_code i.imports (run_of_export i e (map value_of values) rs call.steps).calls) (run_of_export i e (map value_of values) rs call.steps).end line
+      → line_of_end drill call.peek (exit_code i.imports (run_of_export i e (map value_of values) rs call.steps).calls) (run_of_export i e (map value_of values) rs call.steps).end ≡ Some line
       → RunsAs drill i call (after (bytes_written i.imports (run_of_export i e (map value_of values) rs call.steps).calls) line)
   runs_as e rs line found own ends =
       let there : export_named call.export i.exports ≡ Some e = ap (λ (n : List ℕ). export_named n i.exports) (sym b.name_is) ∙ found in

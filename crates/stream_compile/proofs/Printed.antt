@@ -29,12 +29,12 @@ use Rattle.wasi_host.specs.Hosted.{HostsRun, code_of_end, outcome_of}
 use Rattle.wasi_host.proofs.HostedEnds.{stops_by_exit}
 use Rattle.command_words.specs.declared.command.Call.{Call}
 use Rattle.command_words.specs.declared.peek.Peek.{Peek}
-use Rattle.stream_compile.specs.Texts.{Outcome, Told, after, exited, returned_by, showing, trapped, steps_spent, machine_fault, EndsAs}
+use Rattle.stream_compile.specs.Texts.{Outcome, Told, after, exited, returned_by, showing, trapped, steps_spent, machine_fault, line_of_end}
 use Rattle.stream_compile.specs.Running.{IsTold, RunsAs, lines_of}
 use Rattle.stream_compile.proofs.ImageCalls.{Begun, runs_as}
 
 -- the lines of an end that no reply stopped
-unstopped_line : (drill : Option ℕ) (peek : Option Peek) (end : Ending) → IsUnstopped end → (line : Outcome) × EndsAs drill peek None end line
+unstopped_line : (drill : Option ℕ) (peek : Option Peek) (end : Ending) → IsUnstopped end → (line : Outcome) × (line_of_end drill peek None end ≡ Some line)
 unstopped_line drill peek (As (Returns values memory globals)) h = (showing peek memory (returned_by drill values), refl)
 unstopped_line drill peek (As (Traps kind place memory globals)) h = (showing peek memory (trapped kind place), refl)
 unstopped_line drill peek (As (Stops memory)) h = absurd h
@@ -43,22 +43,22 @@ unstopped_line drill peek (As Fails) h = absurd h
 unstopped_line drill peek (Fault kind pc) h = (machine_fault kind pc, refl)
 
 -- and of one that proc_exit stopped
-some_line : (drill : Option ℕ) (peek : Option Peek) (imports : List Import) (run : ImageRun) → StopsByExit imports run → (line : Outcome) × EndsAs drill peek (exit_code imports run.calls) run.end line
+some_line : (drill : Option ℕ) (peek : Option Peek) (imports : List Import) (run : ImageRun) → StopsByExit imports run → (line : Outcome) × (line_of_end drill peek (exit_code imports run.calls) run.end ≡ Some line)
 some_line drill peek imports run (inl (unstopped, none)) =
     let line = unstopped_line drill peek run.end unstopped in
-    (line.0, subst (λ (exit : Option ℕ). EndsAs drill peek exit run.end line.0) (sym none) line.1)
+    (line.0, subst (λ (exit : Option ℕ). line_of_end drill peek exit run.end ≡ Some line.0) (sym none) line.1)
 some_line drill peek imports run (inr (code, some, memory, stops)) =
     let line = showing peek memory (exited code) in
-    let here : EndsAs drill peek (Some code) run.end line = subst (λ (end : Ending). EndsAs drill peek (Some code) end line) (sym stops) refl in
-    (line, subst (λ (exit : Option ℕ). EndsAs drill peek exit run.end line) (sym some) here)
+    let here : line_of_end drill peek (Some code) run.end ≡ Some line = subst (λ (end : Ending). line_of_end drill peek (Some code) end ≡ Some line) (sym stops) refl in
+    (line, subst (λ (exit : Option ℕ). line_of_end drill peek exit run.end ≡ Some line) (sym some) here)
 
 -- the lines of a run's end are those of the end that its outcome and its exit code give
-line_ends : (drill : Option ℕ) (peek : Option Peek) (end : RunEnd) (memory : List ℕ) (results : List Value) (ending : Ending) → IsEnd (outcome_of end) memory results ending → EndsAs drill peek (code_of_end end) ending (lines_of drill peek end memory results)
-line_ends drill peek (run_end.Returned n) memory results ending h = subst (λ (e : Ending). EndsAs drill peek None e (lines_of drill peek (run_end.Returned n) memory results)) (sym h.2) refl
-line_ends drill peek (run_end.Trapped kind place) memory results ending h = subst (λ (e : Ending). EndsAs drill peek None e (lines_of drill peek (run_end.Trapped kind place) memory results)) (sym h.1) refl
-line_ends drill peek run_end.StepsSpent memory results ending h = subst (λ (e : Ending). EndsAs drill peek None e steps_spent) (sym h) refl
-line_ends drill peek (run_end.Exited code) memory results ending h = subst (λ (e : Ending). EndsAs drill peek (Some code) e (lines_of drill peek (run_end.Exited code) memory results)) (sym h) refl
-line_ends drill peek (run_end.Fault kind pc) memory results ending h = subst (λ (e : Ending). EndsAs drill peek None e (lines_of drill peek (run_end.Fault kind pc) memory results)) (sym h) refl
+line_ends : (drill : Option ℕ) (peek : Option Peek) (end : RunEnd) (memory : List ℕ) (results : List Value) (ending : Ending) → IsEnd (outcome_of end) memory results ending → line_of_end drill peek (code_of_end end) ending ≡ Some (lines_of drill peek end memory results)
+line_ends drill peek (run_end.Returned n) memory results ending h = subst (λ (e : Ending). line_of_end drill peek None e ≡ Some (lines_of drill peek (run_end.Returned n) memory results)) (sym h.2) refl
+line_ends drill peek (run_end.Trapped kind place) memory results ending h = subst (λ (e : Ending). line_of_end drill peek None e ≡ Some (lines_of drill peek (run_end.Trapped kind place) memory results)) (sym h.1) refl
+line_ends drill peek run_end.StepsSpent memory results ending h = subst (λ (e : Ending). line_of_end drill peek None e ≡ Some steps_spent) (sym h) refl
+line_ends drill peek (run_end.Exited code) memory results ending h = subst (λ (e : Ending). line_of_end drill peek (Some code) e ≡ Some (lines_of drill peek (run_end.Exited code) memory results)) (sym h) refl
+line_ends drill peek (run_end.Fault kind pc) memory results ending h = subst (λ (e : Ending). line_of_end drill peek None e ≡ Some (lines_of drill peek (run_end.Fault kind pc) memory results)) (sym h) refl
 
 -- a prefix of a text is one of what begins with it
 prefix_of_more : (n : ℕ) (text more : List ℕ) → (k : ℕ) × (take n text ≡ take k (text ++ more))
@@ -93,7 +93,7 @@ module _ (drill : Option ℕ) (i : Image) (call : Call) (name : List ℕ) (value
   lines_told e end memory results status failed old between new found (rs, own, ends, code, text) told =
       let bytes = bytes_written i.imports (run e rs).calls in
       let line = lines_of drill call.peek end memory results in
-      let here : EndsAs drill call.peek (exit_code i.imports (run e rs).calls) (run e rs).end line = subst (λ (exit : Option ℕ). EndsAs drill call.peek exit (run e rs).end line) (sym code) (line_ends drill call.peek end memory results (run e rs).end ends) in
+      let here : line_of_end drill call.peek (exit_code i.imports (run e rs).calls) (run e rs).end ≡ Some line = subst (λ (exit : Option ℕ). line_of_end drill call.peek exit (run e rs).end ≡ Some line) (sym code) (line_ends drill call.peek end memory results (run e rs).end ends) in
       (after bytes line, runs_as drill i call name values checked b none is e rs line found own here, by_sink failed bytes line text told)
     where
       by_sink : (failed : Bool) (bytes : List ℕ) (line : Outcome) → between ≡ append_known old bytes → Told status line failed between new → Told status (after bytes line) failed old new

@@ -25,7 +25,7 @@ use Rattle.wasm_defs.specs.Values.{Value, signed, value_of, trap_text, types_of_
 use Rattle.wasm_defs.specs.Context.{context_of, declared_count}
 use Rattle.wasm_defs.specs.Faults.{Module, Verdict, Accepted, Rejected}
 use Rattle.wasm_defs.specs.Instances.{exports_of, named}
-use Rattle.wasm_defs.specs.ModuleRun.{Returns, Traps, Stops, Going, Fails, module_run}
+use Rattle.wasm_defs.specs.ModuleRun.{Returns, Traps, Stops, Going, module_run}
 use Rattle.wasm_defs.specs.ModuleRun as module_runs
 use Rattle.image_format.specs.Contents.{Image}
 use Rattle.image_format.specs.ImageBytes.{spelling}
@@ -214,16 +214,14 @@ abbrev pub showing : Option Peek → (memory : List ℕ) → Outcome → Outcome
 showing peek memory line = record line { text = with_peek peek memory line.text }
 
 -- The lines of a run of an image that ended so, by the exit code of its calls of proc_exit: where there is one, the host stopped the
--- run, and else it didn't.
-abbrev pub EndsAs : (drill : Option ℕ) → Option Peek → (exit : Option ℕ) → Ending → Outcome → Type 0
-EndsAs drill peek None (As (Returns values memory globals)) o = o ≡ showing peek memory (returned_by drill values)
-EndsAs drill peek None (As (Traps kind place memory globals)) o = o ≡ showing peek memory (trapped kind place)
-EndsAs drill peek None (As Going) o = o ≡ steps_spent
-EndsAs drill peek None (As (Stops memory)) o = ⊥
-EndsAs drill peek None (As Fails) o = ⊥
-EndsAs drill peek None (Fault kind pc) o = o ≡ machine_fault kind pc
-EndsAs drill peek (Some code) (As (Stops memory)) o = o ≡ showing peek memory (exited code)
-EndsAs drill peek (Some code) end o = ⊥
+-- run, and else it didn't. Other ends have none.
+abbrev pub line_of_end : (drill : Option ℕ) → Option Peek → (exit : Option ℕ) → Ending → Option Outcome
+line_of_end drill peek None (As (Returns values memory globals)) = Some (showing peek memory (returned_by drill values))
+line_of_end drill peek None (As (Traps kind place memory globals)) = Some (showing peek memory (trapped kind place))
+line_of_end drill peek None (As Going) = Some steps_spent
+line_of_end drill peek None (Fault kind pc) = Some (machine_fault kind pc)
+line_of_end drill peek (Some code) (As (Stops memory)) = Some (showing peek memory (exited code))
+line_of_end drill peek exit end = None
 
 -- after what the calls of a run write come its lines
 abbrev pub after : List ℕ → Outcome → Outcome
@@ -234,7 +232,7 @@ after text line = record line { text = text ++ line.text }
 abbrev pub TellsImageRun : (drill : Option ℕ) → Option Peek → List Import → (List Reply → ImageRun) → Outcome → Type 0
 TellsImageRun drill peek imports run o =
     (rs : List Reply) × AreOwn imports (λ q. (run q).calls) rs
-    × (line : Outcome) × EndsAs drill peek (exit_code imports (run rs).calls) (run rs).end line × (o ≡ after (bytes_written imports (run rs).calls) line)
+    × (line : Outcome) × (line_of_end drill peek (exit_code imports (run rs).calls) (run rs).end ≡ Some line) × (o ≡ after (bytes_written imports (run rs).calls) line)
 
 -- of the function that the image exports under the name
 abbrev pub ChecksAndCalls : (drill : Option ℕ) → Option NotRunnable → Image → Given → Outcome → Type 0
@@ -250,26 +248,21 @@ TellsImageCall drill c i o = ChecksAndCalls drill (not_runnable i c.export (type
 abbrev pub GoesOn : (steps : ℕ) → (ℕ → module_runs.Run) → Type 0
 GoesOn steps runs = (k : ℕ) → 128 * k + 64 ≤ steps → (runs k).end ≡ Going
 
--- The lines of a run of a module whose image made these calls, of which those of proc_exit have this exit code, and ended so within
--- these steps. The same calls and the same end are those of the module's run by the reduction rules, for some weight; or the image goes
--- on after all its steps, its calls are a prefix of the module's for some weight, and the module's run goes on at each weight that the
--- steps were enough for.
-abbrev pub TellsEnd : (drill : Option ℕ) → Option Peek → (steps : ℕ) → (exit : Option ℕ) → List HostCall → Ending → (ℕ → module_runs.Run) → Outcome → Type 0
-TellsEnd drill peek steps None calls (As (Returns values memory globals)) runs o = (k : ℕ) × (runs k ≡ record { calls = calls; end = Returns values memory globals }) × (o ≡ showing peek memory (returned_by drill values))
-TellsEnd drill peek steps None calls (As (Traps kind place memory globals)) runs o = (k : ℕ) × (runs k ≡ record { calls = calls; end = Traps kind place memory globals }) × (o ≡ showing peek memory (trapped kind place))
-TellsEnd drill peek steps None calls (As Going) runs o = (k : ℕ) × BeginsWith (runs k).calls calls × GoesOn steps runs × (o ≡ steps_spent)
-TellsEnd drill peek steps None calls (As (Stops memory)) runs o = ⊥
-TellsEnd drill peek steps None calls (As Fails) runs o = ⊥
-TellsEnd drill peek steps None calls (Fault kind pc) runs o = ⊥
-TellsEnd drill peek steps (Some code) calls (As (Stops memory)) runs o = (k : ℕ) × (runs k ≡ record { calls = calls; end = Stops memory }) × (o ≡ showing peek memory (exited code))
-TellsEnd drill peek steps (Some code) calls end runs o = ⊥
+-- A module's runs, where its image made these calls and ended so within these steps: the run by the reduction rules has the same calls
+-- and the same end, for some weight; or the image goes on after all its steps, its calls are a prefix of the module's for some weight,
+-- and the module's run goes on at each weight that the steps were enough for. An image of a module has no faults.
+abbrev pub RunsAlike : (steps : ℕ) → List HostCall → Ending → (ℕ → module_runs.Run) → Type 0
+RunsAlike steps calls (As Going) runs = (k : ℕ) × BeginsWith (runs k).calls calls × GoesOn steps runs
+RunsAlike steps calls (As end) runs = (k : ℕ) × (runs k ≡ record { calls = calls; end = end })
+RunsAlike steps calls (Fault kind pc) runs = ⊥
 
 -- What its calls write, and its lines, where the replies are the host's own. By the runs with each list of replies, of the image and of
 -- the module.
 abbrev pub TellsModuleRun : (drill : Option ℕ) → Option Peek → (steps : ℕ) → List Import → (List Reply → ImageRun) → (List Reply → ℕ → module_runs.Run) → Outcome → Type 0
 TellsModuleRun drill peek steps imports run runs o =
     (rs : List Reply) × AreOwn imports (λ q. (run q).calls) rs
-    × (line : Outcome) × TellsEnd drill peek steps (exit_code imports (run rs).calls) (run rs).calls (run rs).end (runs rs) line × (o ≡ after (bytes_written imports (run rs).calls) line)
+    × RunsAlike steps (run rs).calls (run rs).end (runs rs)
+    × (line : Outcome) × (line_of_end drill peek (exit_code imports (run rs).calls) (run rs).end ≡ Some line) × (o ≡ after (bytes_written imports (run rs).calls) line)
 
 -- of the function that is exported under the name. Of the image's globals the module's count, which are the first ones.
 abbrev pub TellsRun : (drill : Option ℕ) → Module → Given → Outcome → Type 0
