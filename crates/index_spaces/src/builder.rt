@@ -14,7 +14,7 @@
 
 ghost use Rattle.std.specs.Prelude.{◌≡◌, [], true, false, OnOk, OnErr, IfOk, Some, Err};
 ghost use Rattle.std.specs.Option.{option_or};
-ghost use Rattle.wasm_defs.specs.Faults.{may_start, may_import, use_of, UsesRight, IsUseFault};
+ghost use Rattle.wasm_defs.specs.Faults.{Starts, Imports, may_start, may_import, use_of, UsesRight, IsUseFault};
 ghost use Rattle.wasm_defs.specs.Instances.{i32_value};
 ghost use Rattle.index_spaces.specs.ItemLimits.{HasSmallType};
 ghost use Rattle.index_spaces.specs.Spaces.{context_in, spaces_of, with_import, with_item};
@@ -125,7 +125,7 @@ fn may_start(context: &Context, index: u32) -> bool
 fn add_start(context: &mut Context, index: (u64, u32)) -> Result<(), AddStop>
     ensures ok { OnOk result (context.new ≡ record context.old { start = option_or context.old.start (Some index.1) }) }
     ensures starts { OnOk result (may_start (context_in context.old) index.1 ≡ true) }
-    ensures refused { (r : Refused) → result ≡ Err (AddStop.Refused r) → IsUseFault (context_in context.old) (Some (index.0, index.1, true)) r }
+    ensures refused { (r : Refused) → result ≡ Err (AddStop.Refused r) → IsUseFault (context_in context.old) (Some (Starts index.0 index.1)) r }
     ensures err { OnErr result (context.new ≡ context.old) }
 {
     if !may_start(context, index.1) {
@@ -159,7 +159,7 @@ fn add_import(
 ) -> Result<(), AddStop>
     ensures ok { OnOk result (context.new ≡ with_import context.old (record { offset = «module».now.0; «module» = «module».now.1; name = name.now; type_index = type_index.1 })) }
     ensures uses { OnOk result (may_import (context_in context.old) type_index.1 ≡ true) }
-    ensures refused { (r : Refused) → result ≡ Err (AddStop.Refused r) → IsUseFault (context_in context.old) (Some (type_index.0, type_index.1, false)) r }
+    ensures refused { (r : Refused) → result ≡ Err (AddStop.Refused r) → IsUseFault (context_in context.old) (Some (Imports type_index.0 type_index.1)) r }
     ensures err { OnErr result (context.new ≡ context.old) }
 {
     if !may_import(context, type_index.1) {

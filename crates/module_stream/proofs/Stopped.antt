@@ -1,5 +1,5 @@
 -- What decides after a source's error stays, whatever else would have come.
-use Rattle.std.proofs.Common.{◌≡◌, ◌≢◌, ◌≤◌, ◌<◌, ◌⊎◌, inl, inr, Bool, true, false, ℕ, suc, ◌+◌, List, [], ◌∷◌, ◌++◌, length, Option, Some, None, refl, sym, ap, ◌∙◌, subst, arith, length-append}
+use Rattle.std.proofs.Common.{◌≡◌, ◌≢◌, ◌≤◌, ◌<◌, ◌⊎◌, inl, inr, ℕ, suc, ◌+◌, List, [], ◌∷◌, ◌++◌, length, Option, Some, None, refl, sym, ap, ◌∙◌, subst, arith, length-append}
 use Rattle.wasm_defs.specs.declared.fault.Kind.{Kind}
 use Rattle.wasm_defs.specs.declared.fault.Kind.TheVariants.{Malformed, Unsupported, Limit, Invalid, Ended}
 use Rattle.wasm_defs.specs.declared.fault.Refusal.{Refusal}
@@ -10,7 +10,7 @@ use Rattle.wasm_defs.specs.Typing.{Context}
 use Rattle.wasm_defs.specs.Context.{context_of}
 use Rattle.wasm_defs.specs.Viable.{IsFaulty}
 use Rattle.wasm_defs.specs.Outside.{Part, Section, Listed, Coded, Body, Ending, Whole, Refused, Owed, Run, module_read}
-use Rattle.wasm_defs.specs.Faults.{rank, ending_fault, tokens_of, IsCodeFault, Use, use_of, use_kind, IsUseFault, IsFaultInside, read_of, context_at, Verdict, Accepted, Rejected}
+use Rattle.wasm_defs.specs.Faults.{rank, ending_fault, tokens_of, IsCodeFault, Use, Starts, Imports, use_of, use_kind, IsUseFault, IsFaultInside, read_of, context_at, Verdict, Accepted, Rejected}
 use Rattle.wasm_laws.specs.Runs.{Becomes}
 use Rattle.wasm_laws.specs.Order.{AreOrdered, behind_use, end_of, first_section}
 use Rattle.wasm_laws.proofs.Order.{use_goes_on, use_before, parts_before_fault, parts_in_module}
@@ -45,13 +45,13 @@ code_kind : (c : Context) (b : Body) (r : Refusal) → IsCodeFault c (read_of b)
 code_kind c b r (inl t) = faulty_kind c (tokens_of t.before ++ t.token ∷ []) r.kind t.faulty
 code_kind c b r (inr s) = body_fault_lasts b.counted b.first b.bytes r s.is
 
-use_ranks : (at index : ℕ) (starts : Bool) → rank (use_kind (at, index, starts)) < 4
-use_ranks at index true = omega arith
-use_ranks at index false = omega arith
+use_ranks : (u : Use) → rank (use_kind u) < 4
+use_ranks (Starts at index) = omega arith
+use_ranks (Imports at index) = omega arith
 
 use_kind_rank : (c : Context) (o : Option Use) (r : Refusal) → IsUseFault c o r → rank r.kind < 4
 use_kind_rank c None r f = absurd f
-use_kind_rank c (Some u) r f = omega (arith, use_ranks u.0 u.1 u.2, ap (λ (s : Refusal). rank s.kind) f.1)
+use_kind_rank c (Some u) r f = omega (arith, use_ranks u, ap (λ (s : Refusal). rank s.kind) f.1)
 
 inside_kind : (items : List Item) (k : ℕ) (parts : List Part) (r : Refusal) → IsFaultInside items k parts r → rank r.kind < 4
 inside_kind items k [] r f = absurd f

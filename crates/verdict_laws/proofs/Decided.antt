@@ -11,7 +11,7 @@ use Rattle.wasm_defs.specs.Trees.{Seq}
 use Rattle.wasm_defs.specs.Typing.{Context}
 use Rattle.wasm_defs.specs.Context.{context_of}
 use Rattle.wasm_defs.specs.declared.fault.Kind.TheVariants.{Invalid}
-use Rattle.wasm_defs.specs.Faults.{ending_fault, items_of, bodies_of, read_of, context_at, Use, use_of, serves, use_kind, UsesRight, IsUseFault, IsCodeFault, IsValidCode, IsOutsideFault, IsFaultInside, IsFault, AreValid, Module, Verdict, Accepted, Rejected}
+use Rattle.wasm_defs.specs.Faults.{ending_fault, items_of, bodies_of, read_of, context_at, Use, use_of, offset_of_use, serves, use_kind, UsesRight, IsUseFault, IsCodeFault, IsValidCode, IsOutsideFault, IsFaultInside, IsFault, AreValid, Module, Verdict, Accepted, Rejected}
 use Rattle.wasm_laws.specs.Sections.{AreBytes}
 use Rattle.wasm_laws.proofs.Behind.{bodies_stand_behind}
 use Rattle.wasm_laws.proofs.Counted.{entries_are_few}
@@ -42,7 +42,7 @@ use_least c None = inr (λ s f. f)
 use_least c (Some u) =
     elim (cases_Bool (serves c u)) [
       | inl does ↦ inr (λ s f. uses_without_fault c (Some u) s does f)
-      | inr wrong ↦ inl (record { offset = u.0; kind = use_kind u }, (wrong, refl), λ s f. omega (arith, ap (λ (r : Refusal). r.offset) f.1))
+      | inr wrong ↦ inl (record { offset = offset_of_use u; kind = use_kind u }, (wrong, refl), λ s f. omega (arith, ap (λ (r : Refusal). r.offset) f.1))
     ]
 
 uses_of : (c : Context) (o : Option Use) → ((s : Refusal) → IsUseFault c o s → ⊥) → UsesRight c o
@@ -50,7 +50,7 @@ uses_of c None none = tt
 uses_of c (Some u) none =
     elim (cases_Bool (serves c u)) [
       | inl does ↦ does
-      | inr wrong ↦ absurd (none (record { offset = u.0; kind = use_kind u }) (wrong, refl))
+      | inr wrong ↦ absurd (none (record { offset = offset_of_use u; kind = use_kind u }) (wrong, refl))
     ]
 
 inside_least : (items : List Item) (k : ℕ) (parts : List Part) → HasLeast (IsFaultInside items k parts)

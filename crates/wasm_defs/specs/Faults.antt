@@ -1,5 +1,5 @@
 -- The errors of a module, but for that of its image's text.
-use Rattle.std.specs.Prelude.{◌≡◌, ◌⊎◌, ℕ, suc, ◌+◌, List, [], ◌∷◌, ◌++◌, ◌==◌, ◌&&◌, length, Bool, true, false, Option, None, Some, slice_get, nat_le, if◌then◌else◌}
+use Rattle.std.specs.Prelude.{◌≡◌, ◌⊎◌, ℕ, suc, ◌+◌, List, [], ◌∷◌, ◌++◌, ◌==◌, ◌&&◌, length, Bool, true, false, Option, None, Some, slice_get, nat_le}
 use Rattle.wasm_defs.specs.declared.fault.Kind.{Kind}
 use Rattle.wasm_defs.specs.declared.fault.Kind.TheVariants.{Malformed, Unsupported, Limit, Invalid, Ended}
 use Rattle.wasm_defs.specs.declared.fault.Refusal.{Refusal}
@@ -52,19 +52,24 @@ is_import_type (Some t) = nat_le (length t.results) 1
 abbrev pub may_import : Context → ℕ → Bool
 may_import c index = is_import_type (slice_get c.types index)
 
--- an index that not every type serves: its offset, the index, and whether it is that of the start function, or else of an import's
--- type
-abbrev pub Use : Type 0
-Use = ℕ × ℕ × Bool
+-- an index that not every type serves, with its offset: that of the start function, or that of an import's type
+pub data Use : Type 0 where
+  Starts : (at index : ℕ) → Use
+  Imports : (at index : ℕ) → Use
 
 -- that of an item
 abbrev pub use_of : Item → Option Use
-use_of (Start index) = Some (index.0, index.1, true)
-use_of (Imported from what kind type_index) = Some (type_index.0, type_index.1, false)
+use_of (Start index) = Some (Starts index.0 index.1)
+use_of (Imported from what kind type_index) = Some (Imports type_index.0 type_index.1)
 use_of x = None
 
+abbrev pub offset_of_use : Use → ℕ
+offset_of_use (Starts at index) = at
+offset_of_use (Imports at index) = at
+
 abbrev pub serves : Context → Use → Bool
-serves c u = if u.2 then may_start c u.1 else may_import c u.1
+serves c (Starts at index) = may_start c index
+serves c (Imports at index) = may_import c index
 
 -- its type serves
 abbrev pub UsesRight : Context → Option Use → Type 0
@@ -73,11 +78,12 @@ UsesRight c (Some u) = serves c u ≡ true
 
 -- else the start function is invalid, and an import unsupported, at the index
 abbrev pub use_kind : Use → Kind
-use_kind u = if u.2 then Invalid else Unsupported
+use_kind (Starts at index) = Invalid
+use_kind (Imports at index) = Unsupported
 
 abbrev pub IsUseFault : Context → Option Use → Refusal → Type 0
 IsUseFault c None r = ⊥
-IsUseFault c (Some u) r = (serves c u ≡ false) × (r ≡ record { offset = u.0; kind = use_kind u })
+IsUseFault c (Some u) r = (serves c u ≡ false) × (r ≡ record { offset = offset_of_use u; kind = use_kind u })
 
 -- ---- in a body
 

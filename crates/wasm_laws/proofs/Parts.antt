@@ -7,7 +7,7 @@ use Rattle.wasm_defs.specs.Limits.{max_body}
 use Rattle.wasm_defs.specs.Fields.{Cursor, Read, Got, Fault, Wants, Reader, then_go, past, room_of, window, byte, u32, name, room, here, run, agree, fixed, done, refused}
 use Rattle.wasm_defs.specs.Entries.{Seen, refused_opcode, index, signature, imported, function, table, memory, global, exported, start, element, code, data_count, passive, segment}
 use Rattle.wasm_defs.specs.Outside.{Body, Part, Section, Listed, Coded, listed, body, entries_of, code_entry, Row, row}
-use Rattle.wasm_defs.specs.Faults.{Use, use_of}
+use Rattle.wasm_defs.specs.Faults.{Use, use_of, offset_of_use}
 use Rattle.wasm_laws.specs.Order.{end_of}
 use Rattle.wasm_laws.proofs.Steady.{IfGot, always, Advance, advance_then, IsMarked}
 use Rattle.wasm_laws.proofs.Windows.{cut_got, byte_field}
@@ -66,7 +66,7 @@ pub record Lies (c d : Cursor) (b : Body) : Type 0 where
 -- an item that was taken: the index that not every type serves is among what was
 abbrev pub UseLies : Cursor → Option Use → Cursor → Type 0
 UseLies c None d = Unit {0}
-UseLies c (Some u) d = IsMarked c (u.0, u.1) d
+UseLies c (Some u) d = (c.at ≤ offset_of_use u) × (offset_of_use u < d.at)
 
 abbrev pub PartLies : Cursor → Part → Cursor → Type 0
 PartLies c (Section at id) d = ⊥

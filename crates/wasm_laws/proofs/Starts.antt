@@ -9,7 +9,7 @@ use Rattle.wasm_defs.specs.Typing.{function_type}
 use Rattle.wasm_defs.specs.Context.{context_of, types_of, functions_of}
 use Rattle.wasm_defs.specs.Instances.{start_of}
 use Rattle.wasm_defs.specs.Outside.{module_read}
-use Rattle.wasm_defs.specs.Faults.{is_start_type, Use, use_of, UsesRight, serves, Module, IsModule}
+use Rattle.wasm_defs.specs.Faults.{is_start_type, Use, Starts, Imports, use_of, UsesRight, Module, IsModule}
 use Rattle.wasm_defs.proofs.ItemLaws.{types_of-append, functions_of-append}
 use Rattle.wasm_laws.specs.Behind.{UsesKeep}
 use Rattle.wasm_laws.specs.Kept.{TakesNothing}
@@ -52,13 +52,10 @@ takes_nothing (Some t) e =
 
 -- ---- the start function of some items
 
-abbrev from_index : (starts : Bool) → ℕ → Option ℕ → Option ℕ
-from_index true index later = Some index
-from_index false index later = later
-
 abbrev from_use : Option Use → Option ℕ → Option ℕ
 from_use None later = later
-from_use (Some u) later = from_index u.2 u.1 later
+from_use (Some (Starts at index)) later = Some index
+from_use (Some (Imports at index)) later = later
 
 start_by : (x : Item) (xs : List Item) → start_of (x ∷ xs) ≡ from_use (use_of x) (start_of xs)
 start_by (Signature form params results ty) xs = refl
@@ -70,15 +67,12 @@ IsRight items f = (t : FuncType) × (function_type (context_of items) f ≡ Some
 right_more : (xs ys : List Item) (f : ℕ) → IsRight xs f → IsRight (xs ++ ys) f
 right_more xs ys f (t, e, is) = (t, function_more xs ys f t e, is)
 
-index_right : (before later : List Item) (at index : ℕ) (starts : Bool) (next : Option ℕ) (f : ℕ) → serves (context_of before) (at, index, starts) ≡ true → from_index starts index next ≡ Some f → (next ≡ Some f → IsRight (before ++ later) f) → IsRight (before ++ later) f
-index_right before later at index true next f right e rest =
-    let same : index ≡ f = cc in
-    subst (IsRight (before ++ later)) same (right_more before later index (takes_nothing (function_type (context_of before) index) right))
-index_right before later at index false next f right e rest = rest e
-
 first_right : (before later : List Item) (o : Option Use) (next : Option ℕ) (f : ℕ) → UsesRight (context_of before) o → from_use o next ≡ Some f → (next ≡ Some f → IsRight (before ++ later) f) → IsRight (before ++ later) f
 first_right before later None next f right e rest = rest e
-first_right before later (Some u) next f right e rest = index_right before later u.0 u.1 u.2 next f right e rest
+first_right before later (Some (Starts at index)) next f right e rest =
+    let same : index ≡ f = cc in
+    subst (IsRight (before ++ later)) same (right_more before later index (takes_nothing (function_type (context_of before) index) right))
+first_right before later (Some (Imports at index)) next f right e rest = rest e
 
 all_right : (before xs : List Item) (f : ℕ) → UsesKeep before xs → start_of xs ≡ Some f → IsRight (before ++ xs) f
 all_right before [] f keep e = absurd cc

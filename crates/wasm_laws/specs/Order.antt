@@ -2,7 +2,7 @@
 use Rattle.std.specs.Prelude.{◌≡◌, ◌≤◌, ◌<◌, ℕ, suc, ◌+◌, List, [], ◌∷◌, length, take, drop, Option, None, Some}
 use Rattle.wasm_defs.specs.Limits.{max_body}
 use Rattle.wasm_defs.specs.Outside.{Body, Part, Section, Listed, Coded, id_of}
-use Rattle.wasm_defs.specs.Faults.{Use, use_of}
+use Rattle.wasm_defs.specs.Faults.{Use, use_of, offset_of_use}
 
 -- the offset after a body
 abbrev pub end_of : Body → ℕ
@@ -19,12 +19,12 @@ pub record BodyStands (low last : ℕ) (b : Body) : Type 0 where
 -- an item from low on, and no later than last: the index that not every type serves before it, since that may be an error
 abbrev pub UseStands : (low last : ℕ) → Option Use → Type 0
 UseStands low last None = low ≤ last
-UseStands low last (Some u) = (low ≤ u.0) × (u.0 < last)
+UseStands low last (Some u) = (low ≤ offset_of_use u) × (offset_of_use u < last)
 
 -- the first offset at which another part may be after an item
 abbrev pub behind_use : ℕ → Option Use → ℕ
 behind_use low None = low
-behind_use low (Some u) = suc u.0
+behind_use low (Some u) = suc (offset_of_use u)
 
 -- the parts are from low on, each after the one before: sections and items no later than last, and bodies before it. Items
 -- follow what was read before them
