@@ -17,8 +17,8 @@ use Rattle.body_validator.specs.declared.check.Step.{Step as Taken_step}
 use Rattle.body_validator.specs.Checking.{guarded, step_checker}
 use Rattle.body_validator.specs.Checks.{Checked, IsReached}
 use Rattle.frame_layout.specs.declared.layout.Layout.{Layout}
-use Rattle.frame_layout.specs.Templates.{Label, Around, label_at, jump_words, jumps, table_front}
-use Rattle.control_emit.specs.Emits.{Draft}
+use Rattle.frame_layout.specs.Templates.{Label, EmitContext, label_at, jump_words, jumps, table_front}
+use Rattle.control_emit.specs.Emits.{FunctionBuilder}
 use Rattle.control_emit.specs.Pending.{Ends, shapes, named}
 use Rattle.control_emit.specs.Walks.{Step, token_calls, token_sites, count_of}
 use Rattle.control_emit.proofs.Partly.{next_is_within}
@@ -31,7 +31,7 @@ use Rattle.body_compiler.proofs.Walking.{next-place, compiles_behind}
 
 -- ---- a table has its jumps, and one more
 
-front-jumps : (w : Around) (h here : ℕ) (ls ms : List Label) → length (jumps w h here ls) ≤ length (jumps w h here (ls ++ ms))
+front-jumps : (w : EmitContext) (h here : ℕ) (ls ms : List Label) → length (jumps w h here ls) ≤ length (jumps w h here (ls ++ ms))
 front-jumps w h here [] ms = omega arith
 front-jumps w h here (l ∷ ls) ms =
     let first = jump_words w h here l in
@@ -41,7 +41,7 @@ front-jumps w h here (l ∷ ls) ms =
     omega arith
 
 -- at some index, which has no part in how many there are
-table-within : (w : Around) (c : Context) (t : Token) (h : ℕ) (d : Draft) (ends : List Ends) → (here : ℕ) × (length (table_jumps w h here (named (shapes d.labels) ends) t) ≤ count_of w c t (Some h) d ends)
+table-within : (w : EmitContext) (c : Context) (t : Token) (h : ℕ) (d : FunctionBuilder) (ends : List Ends) → (here : ℕ) × (length (table_jumps w h here (named (shapes d.labels) ends) t) ≤ count_of w c t (Some h) d ends)
 table-within w c (token.Plain (BrTable is l)) h d ends =
     let labels = named (shapes d.labels) ends in
     let ls = map (label_at w labels) is in
@@ -89,8 +89,8 @@ pub takes_behind : (counted : Bool) (c module_context : Context) (last at b : �
     → ((more : List Token) (tree : Seq) → Tree (tokens ++ t ∷ more) tree → IsBody check.context tree → slice_get (places_of check.context tree) (length tokens) ≡ Some (guarded s.live s.height_before))
     → HaveSameFunctions check.context module_context
     → GetsTooLong was is_now s.live old.draft.labels old.draft.words t
-    → ((w : Around) (c : Context) → w.layout ≡ layout → IsUnlinked old.rows module_context.types w → HaveSameFunctions c module_context → Step w c t (appended_at is_now t (guarded s.live s.height_before)) old.draft new.draft)
-    → ((w : Around) → new.calls ≡ old.calls ++ token_calls w t (guarded s.live s.height_before) (length old.draft.words))
+    → ((w : EmitContext) (c : Context) → w.layout ≡ layout → IsUnlinked old.rows module_context.types w → HaveSameFunctions c module_context → Step w c t (appended_at is_now t (guarded s.live s.height_before)) old.draft new.draft)
+    → ((w : EmitContext) → new.calls ≡ old.calls ++ token_calls w t (guarded s.live s.height_before) (length old.draft.words))
     → new.sites ≡ old.sites ++ token_sites t (guarded s.live s.height_before) (length old.draft.words) at
     → new.rows ≡ old.rows → IsTaking counted is_now c last e later code layout front new
 takes_behind counted c m last at b before d e t s check later code layout front old new false false k h more is stepped same reached placed functions gets steps calls sites rows =

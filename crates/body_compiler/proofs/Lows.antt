@@ -5,7 +5,7 @@ use Rattle.std.proofs.lemmas.List.{length-reverse}
 use Rattle.wasm_defs.specs.declared.token.BlockType.{BlockType}
 use Rattle.wasm_defs.specs.declared.token.BlockType.TheVariants.{Empty, Value, Index}
 use Rattle.wasm_defs.specs.declared.token.Plain.{Plain}
-use Rattle.wasm_defs.specs.declared.token.Plain.TheVariants.{Unreachable, Nop, Br, BrIf, BrTable, Return, Call, CallIndirect, Discard, Select, LocalGet, LocalSet, LocalTee, GlobalGet, GlobalSet, Const, Operate}
+use Rattle.wasm_defs.specs.declared.token.Plain.TheVariants.{Unreachable, Nop, Br, BrIf, BrTable, Return, Call, CallIndirect, Drop, Select, LocalGet, LocalSet, LocalTee, GlobalGet, GlobalSet, Const, Numeric}
 use Rattle.wasm_defs.specs.declared.token.Token.{Token}
 use Rattle.wasm_defs.specs.declared.token.Token.TheVariants as token
 use Rattle.wasm_defs.specs.declared.types.FuncType.{FuncType}
@@ -119,7 +119,7 @@ plain_low c (BrTable ls l) small functions = type_low (slice_get c.labels l) (λ
 plain_low c Return small functions = tt
 plain_low c (Call f) small functions = called_low [] (function_type c f) (λ t e. function_small c functions f t e)
 plain_low c (CallIndirect i table) small functions = only_low (nat_lt table c.tables) (with_type (slice_get c.types i) (called (I32 ∷ []))) (called_low (I32 ∷ []) (slice_get c.types i) (λ t e. (functions i t e).1))
-plain_low c Discard small functions = tt
+plain_low c Drop small functions = tt
 plain_low c Select small functions = tt
 plain_low c (LocalGet x) small functions = local_low (slice_get c.locals x) _ (λ t. omega arith)
 plain_low c (LocalSet x) small functions = local_low (slice_get c.locals x) _ (λ t. omega arith)
@@ -127,7 +127,7 @@ plain_low c (LocalTee x) small functions = local_low (slice_get c.locals x) _ (�
 plain_low c (GlobalGet x) small functions = local_low (slice_get c.globals x) _ (λ g. omega arith)
 plain_low c (GlobalSet x) small functions = local_low (slice_get c.globals x) _ (λ g. only_low g.mutable (Fixed (g.ty ∷ []) []) (omega arith))
 plain_low c (Const t n) small functions = omega arith
-plain_low c (Operate op) small functions = omega (arith, leaves_one op)
+plain_low c (Numeric op) small functions = omega (arith, leaves_one op)
 plain_low c p small functions = search (only_low, arith)
 
 -- ---- the labels of frames

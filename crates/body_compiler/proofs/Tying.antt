@@ -12,9 +12,9 @@ use Rattle.wasm_defs.specs.Typing.{Types, Context, Rule, Fixed, Stops, with_type
 use Rattle.body_validator.specs.Checking.{Frame, Frames, applied, at, step, step_checker, measured}
 use Rattle.body_validator.specs.Checks.{Checked}
 use Rattle.body_validator.proofs.Options.{through, true_parts}
-use Rattle.frame_layout.specs.Templates.{Around}
+use Rattle.frame_layout.specs.Templates.{EmitContext}
 use Rattle.control_emit.specs.Pending.{Pending, AreBelow}
-use Rattle.control_emit.specs.Emits.{Draft}
+use Rattle.control_emit.specs.Emits.{FunctionBuilder}
 use Rattle.control_emit.specs.Walks.{Step}
 use Rattle.control_emit.proofs.Composing.{count-shapes, count-more}
 use Rattle.wasm_defs.specs.Limits.{max_body}
@@ -81,8 +81,8 @@ names labels check later t left tied e =
 
 -- ---- the labels go as the frames do
 
-step_count : (w : Around) (c : Context) (t : Token) (q : Place) (a b : Draft) → Step w c t q a b → length b.labels ≡ depth_after t (length a.labels)
-step_count w c (token.Plain p) None a b s = ap (λ (d : Draft). length d.labels) s
+step_count : (w : EmitContext) (c : Context) (t : Token) (q : Place) (a b : FunctionBuilder) → Step w c t q a b → length b.labels ≡ depth_after t (length a.labels)
+step_count w c (token.Plain p) None a b s = ap (λ (d : FunctionBuilder). length d.labels) s
 step_count w c (token.Plain p) (Some h) a b s = count-shapes b.labels a.labels s.shapes_are
 step_count w c (token.Block t) None a b s = let n = count-more b.labels a.labels s.shape s.opens.shapes_are in omega arith
 step_count w c (token.Block t) (Some h) a b s = let n = count-more b.labels a.labels _ s.shapes_are in omega arith
@@ -97,7 +97,7 @@ depth_rises : (t : Token) (n : ℕ) → depth_after t n ≤ n + 1
 depth_rises (token.Plain p) n = omega arith
 depth_rises p n = omega arith
 
-pub tied-after : (w : Around) (c : Context) (t : Token) (q : Place) (a b : Draft) (check later : Checked) (left fewer : ℕ) → fewer + 1 ≤ left → AreTied a.labels check left → Step w c t q a b
+pub tied-after : (w : EmitContext) (c : Context) (t : Token) (q : Place) (a b : FunctionBuilder) (check later : Checked) (left fewer : ℕ) → fewer + 1 ≤ left → AreTied a.labels check left → Step w c t q a b
     → step_checker check.context t check.checker ≡ Some later.checker → later.context ≡ check.context → AreTied b.labels later fewer
 tied-after w c t q a b check later left fewer less tied s e same =
     let low = low-after check later t left fewer (max_lift * max_body) tied.unlabelled tied.functions less (record { small = tied.small; low = tied.low; most = tied.most }) e in

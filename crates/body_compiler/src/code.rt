@@ -23,7 +23,7 @@ ghost use Rattle.body_compiler.specs.Steps.{max_lift, AreTied};
 ghost use Rattle.body_compiler.specs.Going.{IsCompiling, IsTaking, calling, Goes, Judges, reading_stop};
 ghost use Rattle.control_emit.specs.Emits.{draft as drafted, IsHeld};
 
-use crate::draft::{Draft, take_step};
+use crate::function_builder::{FunctionBuilder, take_step};
 use crate::instructions::instruction;
 use crate::noting::note_token;
 use body_validator::{Check, TokenStop};
@@ -76,7 +76,7 @@ fn take_instruction(
     alloc: Global,
     fields: &mut Fields<'_>,
     check: &mut Check<'_>,
-    draft: &mut Draft,
+    draft: &mut FunctionBuilder,
     sites: &mut Vec<TrapSite>,
     counted: bool,
     last: u64,
@@ -95,7 +95,11 @@ fn take_instruction(
     ensures bytes { OnOk result (AreBytes fields.new.rest) }
     ensures tied { OnOk result (AreTied draft.new.labels check.new (length fields.new.rest)) }
     ensures grows { OnOk result (length draft.old.words ≤ length draft.new.words) }
-    ensures goes { (c : ContextGiven) (code : SpelledGiven) (before : CursorGiven) (front : List ℕ) → IsTaking counted draft.old.too_long c last before check.old code draft.old.layout front (calling draft.old.labels draft.old.words draft.old.calls.items draft.old.rows sites.old.items) → byte before ≡ Got (at, opcode) fields.old → check.old.checker.frames ≢ [] → Goes counted c last code draft.old.layout front result draft.new.too_long fields.new check.new (calling draft.new.labels draft.new.words draft.new.calls.items draft.new.rows sites.new.items) }
+    ensures goes { (c : ContextGiven) (code : SpelledGiven) (before : CursorGiven) (front : List ℕ)
+        → IsTaking counted draft.old.too_long c last before check.old code draft.old.layout front
+        (calling draft.old.labels draft.old.words draft.old.calls.items draft.old.rows sites.old.items) → byte before ≡ Got (at, opcode) fields.old
+        → check.old.checker.frames ≢ [] → Goes counted c last code draft.old.layout front result draft.new.too_long fields.new check.new
+        (calling draft.new.labels draft.new.words draft.new.calls.items draft.new.rows sites.new.items) }
 {
     let token = match instruction(fields, alloc, counted, at, opcode) {
         Ok(token) => token,
@@ -123,7 +127,7 @@ pub fn judge_code(
     alloc: Global,
     fields: &mut Fields<'_>,
     check: &mut Check<'_>,
-    draft: &mut Draft,
+    draft: &mut FunctionBuilder,
     sites: &mut Vec<TrapSite>,
     counted: bool,
     last: u64,
@@ -139,7 +143,11 @@ pub fn judge_code(
     ensures over { OnOk result (check.new.checker.frames ≡ []) }
     ensures most { OnOk result (check.new.checker.greatest ≤ max_lift * max_body) }
     ensures grows { OnOk result (length draft.old.words ≤ length draft.new.words) }
-    ensures judges { (c : ContextGiven) (code : SpelledGiven) (front : List ℕ) → IsCompiling counted c last fields.old check.old code draft.old.layout front (calling draft.old.labels draft.old.words draft.old.calls.items draft.old.rows sites.old.items) → Judges c code draft.old.layout front result check.new (calling draft.new.labels draft.new.words draft.new.calls.items draft.new.rows sites.new.items) }
+    ensures judges { (c : ContextGiven) (code : SpelledGiven) (front : List ℕ)
+        → IsCompiling counted c last fields.old check.old code draft.old.layout front
+        (calling draft.old.labels draft.old.words draft.old.calls.items draft.old.rows sites.old.items)
+        → Judges c code draft.old.layout front result check.new
+        (calling draft.new.labels draft.new.words draft.new.calls.items draft.new.rows sites.new.items) }
 {
     while !check.is_over() {
         match fields.byte() {

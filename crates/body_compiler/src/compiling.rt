@@ -16,7 +16,7 @@ ghost use Rattle.body_compiler.specs.Steps.{FunctionsAreSmall};
 ghost use Rattle.body_compiler.specs.Going.{IsGoing};
 
 use crate::code::{BodyStop, judge_code, stop_of};
-use crate::draft::{begin, finish};
+use crate::function_builder::{begin, finish};
 use crate::locals::declare_locals;
 use body_validator::Check;
 use frame_layout::Layout;
@@ -47,7 +47,9 @@ fn compile_code(
     requires unlabelled { check.context.labels ≡ [] }
     requires functions { FunctionsAreSmall check.context }
     requires results { length check.context.results ≡ length function.now.results }
-    ensures { (c : ContextGiven) (code : SpelledGiven) (g : IsGoing counted c last fields.old check.entry code) → g.tokens ≡ [] → length c.results ≡ length function.now.results → Makes rows first c code (record { params = length function.now.params; locals = locals; greatest = 0 }) (length function.now.results) result }
+    ensures { (c : ContextGiven) (code : SpelledGiven) (g : IsGoing counted c last fields.old check.entry code) → g.tokens ≡ []
+        → length c.results ≡ length function.now.results → Makes rows first c code
+        (record { params = length function.now.params; locals = locals; greatest = 0 }) (length function.now.results) result }
 {
     let layout = Layout {
         params: function.params.as_slice().len() as u32,
@@ -100,7 +102,8 @@ pub fn compile(
     requires function { IsSome (function_type (context_in context.now) index) }
     requires most { length bytes.now ≤ max_body }
     requires fits { offset + length bytes.now < 2 ^ 63 }
-    ensures { Compiles (first_minimum context.now.tables) offset (context_in context.now) index (body_read (is_some context.now.data_count) offset bytes.now) result }
+    ensures { Compiles (first_minimum context.now.tables) offset (context_in context.now) index
+        (body_read (is_some context.now.data_count) offset bytes.now) result }
 {
     context.keeps_limits();
     let counted = context.data_count().is_some();

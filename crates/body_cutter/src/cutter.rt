@@ -57,7 +57,8 @@ impl Cutter {
         requires indices { first_index + count < 2 ^ 32 }
         requires ahead { first_offset ≤ section_end }
         requires near { section_end < 2 ^ 60 }
-        ensures left { (more : List ℕ) → left result more ≡ handed (no_batch batch_bytes) (bodies_from first_index count (record { at = first_offset; rest = more; end = section_end })) }
+        ensures left { (more : List ℕ) → left result more ≡ handed (no_batch batch_bytes)
+            (bodies_from first_index count (record { at = first_offset; rest = more; end = section_end })) }
         ensures at { result.place.at ≡ first_offset }
         ensures end { result.place.end ≡ section_end }
     {
@@ -96,7 +97,8 @@ impl Cutter {
         requires inside { self.old.place.at + length piece.now ≤ self.old.place.end }
         ensures same { OnOk result ((more : List ℕ) → left self.old (piece.now ++ more) ≡ left self.new more) }
         ensures prompt { OnOk result (IsPrompt self.new) }
-        ensures place { OnOk result ((self.new.place.stop ≡ None → self.new.place.at ≡ self.old.place.at + length piece.now) × (self.new.place.end ≡ self.old.place.end)) }
+        ensures place { OnOk result ((self.new.place.stop ≡ None → self.new.place.at ≡ self.old.place.at + length piece.now)
+            × (self.new.place.end ≡ self.old.place.end)) }
         ensures err { OnErr result (self.new ≡ self.old) }
     {
         // Why: docs/DECISIONS.md, "Where memory runs out, the bytes of the body in hand are cut back"

@@ -30,7 +30,8 @@ impl Model for Queue {
 
     ghost view = { λ q. record { least = q.least; number = q.number; closed = take q.settled q.bodies; begun = drop q.settled q.bodies } };
 
-    ghost invariant = { λ q. (q.settled ≤ length q.bodies) × (q.begun_bytes ≡ bytes_of (drop q.settled q.bodies)) × (q.begun_bytes ≤ q.least) × (q.number + length q.bodies < 2 ^ 32) };
+    ghost invariant = { λ q. (q.settled ≤ length q.bodies) × (q.begun_bytes ≡ bytes_of (drop q.settled q.bodies)) × (q.begun_bytes ≤ q.least)
+        × (q.number + length q.bodies < 2 ^ 32) };
 }
 
 /// How many bodies there are, how many of them are those of closed batches, and how many bytes the others have.
@@ -140,7 +141,8 @@ impl Queue {
 
     /// The first closed batch. It takes no memory.
     pub fn take(&mut self) -> Option<Batch>
-        ensures some { IfSome result (λ b. (b.number ≡ self.old.number) × (b.bodies ≡ take (batch_length self.old.least self.old.closed) self.old.closed) × (self.new ≡ without_first self.old)) }
+        ensures some { IfSome result (λ b. (b.number ≡ self.old.number) × (b.bodies ≡ take (batch_length self.old.least self.old.closed) self.old.closed)
+            × (self.new ≡ without_first self.old)) }
         ensures start { IfSome result (λ b. starts_at b.start self.old.closed) }
         ensures none { IfNone result ((self.old.closed ≡ []) × (self.new ≡ self.old)) }
     {

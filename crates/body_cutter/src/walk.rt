@@ -4,7 +4,8 @@
 //! in a size ---right---> in a body ---its last byte---> in a size, or at the section's end
 //! ```
 
-ghost use Rattle.std.specs.Prelude.{◌≡◌, ◌<◌, ◌≤◌, ◌+◌, ◌-◌, ◌^◌, ℕ, List, [], ◌∷◌, ◌++◌, length, take, drop, false, true, None, IsOk, OnOk, OnErr, IfOk, IfNone, pos, ◌≤ℤ◌, ◌<ℤ◌};
+ghost use Rattle.std.specs.Prelude.{◌≡◌, ◌<◌, ◌≤◌, ◌+◌, ◌-◌, ◌^◌, ℕ, List, [], ◌∷◌, ◌++◌, length, take, drop, false, true, None, IsOk, OnOk, OnErr, IfOk};
+ghost use Rattle.std.specs.Prelude.{IfNone, pos, ◌≤ℤ◌, ◌<ℤ◌};
 ghost use Rattle.leb_feed.specs.Feeding.{IsUnfinished};
 ghost use Rattle.body_cutter.specs.Sections.{size_fault, bodies_from};
 ghost use Rattle.body_cutter.specs.Walks.{given, index_of, first_bytes, is_over, IsSound, IsBetween, IsFull, Begins};
@@ -89,7 +90,15 @@ pub struct Saved {
 impl Walk {
     /// The state of the walk, to be put back where memory runs out on the way.
     pub fn save(&self) -> Saved
-        ensures { result ≡ record { count = self.now.count; at = self.now.at; size_at = self.now.size_at; leb = self.now.leb; sized = self.now.sized; len = self.now.len; kept = length self.now.bytes.items } }
+        ensures { result ≡ record {
+          count = self.now.count;
+          at = self.now.at;
+          size_at = self.now.size_at;
+          leb = self.now.leb;
+          sized = self.now.sized;
+          len = self.now.len;
+          kept = length self.now.bytes.items;
+        } }
     {
         Saved {
             count: self.count,
@@ -104,7 +113,8 @@ impl Walk {
 
     /// Puts the walk back to a saved state, without copying bytes: those of the body in hand are the first ones that came.
     pub fn restore(&mut self, saved: Saved)
-        ensures place { (self.new.count ≡ saved.count) × (self.new.at ≡ saved.at) × (self.new.size_at ≡ saved.size_at) × (self.new.leb ≡ saved.leb) × (self.new.sized ≡ saved.sized) × (self.new.len ≡ saved.len) }
+        ensures place { (self.new.count ≡ saved.count) × (self.new.at ≡ saved.at) × (self.new.size_at ≡ saved.size_at) × (self.new.leb ≡ saved.leb)
+            × (self.new.sized ≡ saved.sized) × (self.new.len ≡ saved.len) }
         ensures bytes { self.new.bytes.items ≡ take saved.kept (first_bytes self.old.done self.old.bytes.items) }
         ensures rest { (self.new.done ≡ []) × (self.new.stop ≡ None) × (self.new.behind ≡ self.old.behind) × (self.new.end ≡ self.old.end) }
     {
@@ -241,7 +251,8 @@ impl Walk {
         requires { IsFull self.old }
         ensures same { OnOk result ((more : List ℕ) → given self.old more ≡ given self.new more) }
         ensures sound { OnOk result (IsSound self.new) }
-        ensures given { OnOk result (self.new.done ≡ self.old.done ++ record { index = index_of self.old; size = self.old.size_at; first = self.old.at - self.old.len; bytes = self.old.bytes.items } ∷ []) }
+        ensures given { OnOk result (self.new.done ≡ self.old.done ++ record
+            { index = index_of self.old; size = self.old.size_at; first = self.old.at - self.old.len; bytes = self.old.bytes.items } ∷ []) }
         ensures place { (self.new.end ≡ self.old.end) × (self.new.at ≡ self.old.at) × (self.new.behind ≡ self.old.behind) }
         ensures count { OnOk result (self.new.count + 1 ≡ self.old.count) }
         ensures kept { OnErr result ((self.new.done ≡ self.old.done) × (self.new.bytes.items ≡ self.old.bytes.items)) }

@@ -5,7 +5,7 @@ use Rattle.wasm_defs.proofs.NumberLaws.{AreBytes}
 use Rattle.wasm_defs.specs.declared.fault.Kind.TheVariants.{Limit}
 use Rattle.wasm_defs.specs.declared.token.Plain.{Plain}
 use Rattle.wasm_defs.specs.declared.token.BulkOp.TheVariants.{Fill, Copy, Init}
-use Rattle.wasm_defs.specs.declared.token.Plain.TheVariants.{Unreachable, Nop, Return, Discard, Select, Bulk, DataDrop, Operate}
+use Rattle.wasm_defs.specs.declared.token.Plain.TheVariants.{Unreachable, Nop, Return, Drop, Select, Bulk, DataDrop, Numeric}
 use Rattle.wasm_defs.specs.declared.token.Token.{Token}
 use Rattle.wasm_defs.specs.declared.token.Token.TheVariants as token
 use Rattle.wasm_defs.specs.Limits.{max_locals}
@@ -59,9 +59,9 @@ plain_some : (counted : Bool) (p : Plain) (at : ℕ) (bytes : List ℕ) → plai
 plain_some counted Unreachable at bytes s = one_byte s
 plain_some counted Nop at bytes s = one_byte s
 plain_some counted Return at bytes s = one_byte s
-plain_some counted Discard at bytes s = one_byte s
+plain_some counted Drop at bytes s = one_byte s
 plain_some counted Select at bytes s = one_byte s
-plain_some counted (Operate op) at bytes s = one_byte s
+plain_some counted (Numeric op) at bytes s = one_byte s
 plain_some counted (Bulk Fill) at bytes s = bytes_behind_one s
 plain_some counted (Bulk Copy) at bytes s = bytes_behind_one s
 plain_some counted (Bulk (Init x)) at bytes s = bytes_behind_one s.1

@@ -17,7 +17,7 @@ use Rattle.wasm_defs.specs.declared.token.BlockType.TheVariants.{Empty, Value, I
 use Rattle.wasm_defs.specs.declared.token.MemArg.{MemArg}
 use Rattle.wasm_defs.specs.declared.token.Plain.{Plain}
 use Rattle.wasm_defs.specs.declared.token.BulkOp.TheVariants.{Fill, Copy, Init}
-use Rattle.wasm_defs.specs.declared.token.Plain.TheVariants.{Unreachable, Nop, Br, BrIf, BrTable, Return, Call, CallIndirect, Discard, Select, LocalGet, LocalSet, LocalTee, GlobalGet, GlobalSet, Load, Store, MemorySize, MemoryGrow, Bulk, DataDrop, Const, Operate}
+use Rattle.wasm_defs.specs.declared.token.Plain.TheVariants.{Unreachable, Nop, Br, BrIf, BrTable, Return, Call, CallIndirect, Drop, Select, LocalGet, LocalSet, LocalTee, GlobalGet, GlobalSet, Load, Store, MemorySize, MemoryGrow, Bulk, DataDrop, Const, Numeric}
 use Rattle.wasm_defs.specs.declared.token.Token.{Token}
 use Rattle.wasm_defs.specs.declared.token.Token.TheVariants as token
 use Rattle.wasm_defs.specs.Opcodes.{operations, accesses, load_code, store_code, operation_code}
@@ -288,7 +288,7 @@ module _ (counted : Bool) (o b : ℕ) (c d : Cursor) (found : Found (byte_is o b
       either_got Q (eqb b 0x0F) _ _ d (λ e. bare 0x0F (token.Plain Return) (is 0x0F e) (λ at bytes s. s)) (λ no.
       either_got Q (eqb b 0x10) _ _ d (λ e. indexed 0x10 Call e (λ i at bytes s. s)) (λ no.
       either_got Q (eqb b 0x11) _ _ d (λ e. calls_indirect e) (λ no.
-      either_got Q (eqb b 0x1A) _ _ d (λ e. bare 0x1A (token.Plain Discard) (is 0x1A e) (λ at bytes s. s)) (λ no.
+      either_got Q (eqb b 0x1A) _ _ d (λ e. bare 0x1A (token.Plain Drop) (is 0x1A e) (λ at bytes s. s)) (λ no.
       either_got Q (eqb b 0x1B) _ _ d (λ e. bare 0x1B (token.Plain Select) (is 0x1B e) (λ at bytes s. s)) (λ no.
       tt)))))))))))))))
 
@@ -325,7 +325,7 @@ module _ (counted : Bool) (o b : ℕ) (c d : Cursor) (found : Found (byte_is o b
       in_table : 0x45 ≤ b → (row : Option (Option Operation)) → slice_get operations (b - 0x45) ≡ row → IfGot Q (operated_at counted o b row d)
       in_table ge None e = either_got Q (eqb b 0xFC) _ _ d (λ y. prefixed_found y) (λ n. tt)
       in_table ge (Some None) e = tt
-      in_table ge (Some (Some op)) e = bare (operation_code op) (token.Plain (Operate op)) (sym (operation_at b op ge e)) (λ at bytes s. s)
+      in_table ge (Some (Some op)) e = bare (operation_code op) (token.Plain (Numeric op)) (sym (operation_at b op ge e)) (λ at bytes s. s)
 
   pub instruction_found : IfGot Q (instruction counted o b d)
   unfolding instruction
@@ -412,7 +412,7 @@ codes_are_past op = record {
   floats = each_code (λ b. nat_lt b 0x45) op refl;
 }
 
-operates : (counted : Bool) (op : Operation) (o : ℕ) → instruction counted o (operation_code op) ≡ plain (Operate op)
+operates : (counted : Bool) (op : Operation) (o : ℕ) → instruction counted o (operation_code op) ≡ plain (Numeric op)
 unfolding instruction numeric
 operates counted op o =
     let past = codes_are_past op in
@@ -463,7 +463,7 @@ plain_read counted (BrTable labels last) = before counted 0x0E _ (listed_vector_
 plain_read counted Return = alone counted 0x0F _ (λ o c. refl)
 plain_read counted (Call x) = before counted 0x10 _ (listed_index_is x) (λ o. index_read Call x)
 plain_read counted (CallIndirect i table) = before counted 0x11 _ (listed_index_is i then listed_index_is table) (λ o. indirect_read i table)
-plain_read counted Discard = alone counted 0x1A _ (λ o c. refl)
+plain_read counted Drop = alone counted 0x1A _ (λ o c. refl)
 plain_read counted Select = alone counted 0x1B _ (λ o c. refl)
 plain_read counted (LocalGet x) = before counted 0x20 _ (listed_index_is x) (λ o. index_read LocalGet x)
 plain_read counted (LocalSet x) = before counted 0x21 _ (listed_index_is x) (λ o. index_read LocalSet x)
@@ -480,7 +480,7 @@ plain_read counted (Bulk (Init x)) = if_counted_read counted _ _ (before true 0x
 plain_read counted (DataDrop x) = if_counted_read counted _ _ (before true 0xFC _ (listed_index_is 9 then listed_index_is x) (λ o. drop_read o x))
 plain_read counted (Const I32 n) = before counted 0x41 _ (signed_is I32 n) (λ o. constant_read I32 n)
 plain_read counted (Const I64 n) = before counted 0x42 _ (signed_is I64 n) (λ o. constant_read I64 n)
-plain_read counted (Operate op) = alone counted (operation_code op) _ (λ o c. ap (λ (r : Reader Token). r c) (operates counted op o))
+plain_read counted (Numeric op) = alone counted (operation_code op) _ (λ o c. ap (λ (r : Reader Token). r c) (operates counted op o))
 
 pub token_read : (counted : Bool) (t : Token) → Reads (token counted) t (instruction_is counted t)
 unfolding instruction control

@@ -240,7 +240,7 @@ pub fn rule_for<'a>(scope: &Scope<'a>, stack: &Stack<'a>, plain: &Plain) -> Opti
         Plain::Return => Some(Rule::Stops(plainly(scope.results))),
         Plain::Call(f) => call(scope.type_of_function(*f)?),
         Plain::CallIndirect(i, table) => call_indirect(scope, *i, *table),
-        Plain::Discard => Some(Rule::Discards),
+        Plain::Drop => Some(Rule::Discards),
         Plain::Select => Some(Rule::Selects),
         Plain::LocalGet(x) => fixed(none(), one(scope.local(*x)?)),
         Plain::LocalSet(x) => fixed(one(scope.local(*x)?), none()),
@@ -254,7 +254,7 @@ pub fn rule_for<'a>(scope: &Scope<'a>, stack: &Stack<'a>, plain: &Plain) -> Opti
         Plain::Bulk(op) => bulk(scope, *op),
         Plain::DataDrop(segment) => only_if(scope.has_segment(*segment), fixed(none(), none())),
         Plain::Const(t, _) => fixed(none(), one(*t)),
-        Plain::Operate(op) => operation(*op),
+        Plain::Numeric(op) => operation(*op),
     }
 }
 

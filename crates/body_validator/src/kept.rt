@@ -10,7 +10,8 @@
 //!
 //! An instruction that takes five lacks three: the list's last 16 become single ones between c and d, and it takes five of them all.
 
-ghost use Rattle.std.specs.Prelude.{◌≡◌, ℕ, ◌+◌, ◌<◌, ◌≤◌, Bool, false, [], ◌++◌, length, map, reverse, take, drop, is_some, Some, vec_len, vec_capacity, IfOk, OnOk, OnErr};
+ghost use Rattle.std.specs.Prelude.{◌≡◌, ℕ, ◌+◌, ◌<◌, ◌≤◌, Bool, false, [], ◌++◌, length, map, reverse, take, drop, is_some, Some, vec_len, vec_capacity, IfOk};
+ghost use Rattle.std.specs.Prelude.{OnOk, OnErr};
 ghost use Rattle.body_validator.specs.Checking.{take_all, none_left, selected_of};
 ghost use Rattle.body_validator.specs.Stacks.{own_of};
 ghost use Rattle.body_validator.specs.Exchange.{taken_types, Exchanges, TakesOne, TakesThree};

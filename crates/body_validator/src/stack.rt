@@ -1,7 +1,8 @@
 //! The open frames of a body, and their operands.
 
 ghost use Rattle.std.specs.Prelude.{◌≡◌, ◌-◌, ◌<◌, [], ◌∷◌, ◌++◌, length, reverse, take, Some, None, slice_get, MatchOption, IfOk, vec_len, vec_capacity};
-ghost use Rattle.body_validator.specs.Checking.{height, body_frames, label_of, is_open, is_live, may_turn, labels, may_end, takes_else, applied, enter, turned, ended};
+ghost use Rattle.body_validator.specs.Checking.{height, body_frames, label_of, is_open, is_live, may_turn, labels, may_end, takes_else, applied, enter, turned};
+ghost use Rattle.body_validator.specs.Checking.{ended};
 ghost use Rattle.wasm_defs.specs.Typing.{Stops, Fixed, Discards, Selects};
 ghost use Rattle.body_validator.specs.Exchange.{taken_types, Steps, Tries};
 ghost use Rattle.body_validator.specs.Stacks.{HasLast, is_live_in, signature};

@@ -100,13 +100,13 @@ fn take_common<'a>(scope: &Scope<'a>, stack: &mut Stack<'a>, plain: &Plain) -> R
             None => Err(Stop::Refused),
         },
         Plain::Const(t, _) => stack.exchange_singles(plainly(&[]), &[*t]),
-        Plain::Operate(Operation::Binary(t, _)) => {
+        Plain::Numeric(Operation::Binary(t, _)) => {
             stack.exchange_singles(plainly(&[*t, *t]), &[*t])
         }
-        Plain::Operate(Operation::Compare(t, _)) => {
+        Plain::Numeric(Operation::Compare(t, _)) => {
             stack.exchange_singles(plainly(&[*t, *t]), &[ValType::I32])
         }
-        Plain::Operate(Operation::Test(t)) => {
+        Plain::Numeric(Operation::Test(t)) => {
             stack.exchange_singles(plainly(&[*t]), &[ValType::I32])
         }
         Plain::GlobalGet(x) => get_global(scope, stack, *x),

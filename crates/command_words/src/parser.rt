@@ -3,7 +3,8 @@
 ghost use Rattle.std.specs.Prelude.{◌≡◌, IfOk, false};
 ghost use Rattle.clap.specs.Words.{app_of, rule_of};
 ghost use Rattle.clap.specs.declared.builder.command.Command.TheViews.{out-Command};
-ghost use Rattle.command_words.specs.Grammar.{arguments, batch, check, compile, count, drill, exec, export, many, peek, program, run, steps, with_calls, with_modules, with_options, with_words, workers};
+ghost use Rattle.command_words.specs.Grammar.{arguments, batch, check, compile, count, drill, exec, export, many, peek, program, run, steps, with_calls};
+ghost use Rattle.command_words.specs.Grammar.{with_modules, with_options, with_words, workers};
 
 use clap::{Arg, ArgAction, Command as Parser, value_parser};
 use std::alloc::{AllocError, Global};

@@ -3,7 +3,8 @@
 ghost use Rattle.std.specs.Prelude.{◌≡◌, codes, map, option_and_then, option_map, string_bytes};
 ghost use Rattle.clap.specs.Words.{first_of, found_of, one_of, rows_of, subcommand_rows_of};
 ghost use Rattle.command_words.specs.Arguments.{arguments_in};
-ghost use Rattle.command_words.specs.Grammar.{Gives, Reads, call_in, found_words, command_in, command_named, drill_in, found_peek, in_range, number_in, options_in, peek_said, run_in};
+ghost use Rattle.command_words.specs.Grammar.{Gives, Reads, call_in, found_words, command_in, command_named, drill_in, found_peek, in_range, number_in};
+ghost use Rattle.command_words.specs.Grammar.{options_in, peek_said, run_in};
 
 use crate::argument::argument_of;
 use crate::command::{Call, Command, Drill, Options, Run, WordsStop};

@@ -7,13 +7,13 @@ use Rattle.rv_isa.specs.Words.{word_of}
 use Rattle.frame_layout.specs.Macros.{x0, t0, distance, far, forward}
 use Rattle.rv_isa.specs.declared.operations.Op.TheVariants.{Branch}
 use Rattle.rv_isa.specs.declared.operations.BranchOp.TheVariants.{Bne}
-use Rattle.frame_layout.specs.Templates.{Label, Around, label_at, load_operand, move_words, unless_words, jump_words, jump_if_words, jumps, table_front, jump_table_words}
+use Rattle.frame_layout.specs.Templates.{Label, EmitContext, label_at, load_operand, move_words, unless_words, jump_words, jump_if_words, jumps, table_front, jump_table_words}
 use Rattle.frame_layout.specs.declared.layout.Layout.{Layout}
 use Rattle.frame_layout.specs.Functions.{over, test_words}
 use Rattle.wasm_defs.specs.Places.{Place}
 use Rattle.control_emit.specs.Pending.{Pending, Shape, shape_of, shapes, Ends, label_of, named, place_or, meaning, patched, filled, test_patched, IsTestWithin, AreBelow, Within, jumping, end_at, TakesTest}
 use Rattle.control_emit.specs.Walks.{end_shape, IsLive}
-use Rattle.control_emit.specs.Emits.{Draft, draft, IsHeld, meant, Emits, Opens, Turns, Closes}
+use Rattle.control_emit.specs.Emits.{FunctionBuilder, draft, IsHeld, meant, Emits, Opens, Turns, Closes}
 use Rattle.control_emit.proofs.Meanings.{meaning-front, meaning-jump, within-later, within-jump, patched-seam, length-filled, length-test}
 use Rattle.control_emit.proofs.Composing.{emits-as, emits-both, emits-nothing, longer, count-shapes}
 
@@ -51,7 +51,7 @@ emits-jump labels after old new k n h lt e is waits =
 
 -- ---- the label that is named
 
-pub named-at : (w : Around) (ss : List Shape) (es : List Ends) (k : ℕ) (d s : Shape) → length es ≡ length ss → k < length ss → get_or ss k d ≡ s
+pub named-at : (w : EmitContext) (ss : List Shape) (es : List Ends) (k : ℕ) (d s : Shape) → length es ≡ length ss → k < length ss → get_or ss k d ≡ s
     → label_at w (named ss es) k ≡ record { base = s.base; takes = s.takes; place = place_or s.start (end_at k es) }
 named-at w [] es k d s e lt is = absurd (omega arith)
 named-at w (t ∷ ss) [] k d s e lt is = absurd (omega arith)
@@ -59,7 +59,7 @@ named-at w (t ∷ ss) (f ∷ es) zero d s e lt is = ap (λ (x : Shape). label_of
 named-at w (t ∷ ss) (f ∷ es) (suc k) d s e lt is = named-at w ss es k d s (omega arith) (omega arith) is
 
 -- the moves, and then the jump
-pub emits-lead : (w : Around) (a b z : Draft) (h k : ℕ) (s d : Shape) → Emits a b (λ es. move_words w s.takes (h - s.takes) s.base) → Emits b z (λ es. far (distance (length b.words) (place_or s.start (end_at k es))))
+pub emits-lead : (w : EmitContext) (a b z : FunctionBuilder) (h k : ℕ) (s d : Shape) → Emits a b (λ es. move_words w s.takes (h - s.takes) s.base) → Emits b z (λ es. far (distance (length b.words) (place_or s.start (end_at k es))))
     → get_or (shapes a.labels) k d ≡ s → k < length a.labels → Emits a z (λ es. jump_words w h (length a.words) (label_at w (named (shapes a.labels) es) k))
 emits-lead w a b z h k s d x y is lt =
     let moves = move_words w s.takes (h - s.takes) s.base in
@@ -74,7 +74,7 @@ emits-lead w a b z h k s d x y is lt =
 
 -- ---- tables
 
-pub jumps-more : (w : Around) (j here : ℕ) (ls : List Label) (l : Label) → jumps w j here (ls ++ l ∷ []) ≡ jumps w j here ls ++ jump_words w j (here + length (jumps w j here ls)) l
+pub jumps-more : (w : EmitContext) (j here : ℕ) (ls : List Label) (l : Label) → jumps w j here (ls ++ l ∷ []) ≡ jumps w j here ls ++ jump_words w j (here + length (jumps w j here ls)) l
 jumps-more w j here [] l = let zero_more : here + 0 ≡ here = omega arith in append-nil (jump_words w j here l) ∙ ap (λ (m : ℕ). jump_words w j m l) (sym zero_more)
 jumps-more w j here (m ∷ ls) l =
     let first = jump_words w j here m in
@@ -90,7 +90,7 @@ on_ok (Ok x) f h = f h
 on_ok (Err x) f h = tt
 
 -- any function's surroundings, with that frame
-abbrev pub framed : Layout → Around
+abbrev pub framed : Layout → EmitContext
 framed l = record { layout = l; rows = 0; like = λ i. i; distance_to = λ here function. 0 }
 
 -- ---- a block, and a loop
@@ -106,7 +106,7 @@ opens-label labels after words base takes start held opened = record {
 
 -- ---- an `if`
 
-pub opens-test : (w : Around) (labels after : List Pending) (old mid new : List ℕ) (base takes h n : ℕ) → Within (length old) labels
+pub opens-test : (w : EmitContext) (labels after : List Pending) (old mid new : List ℕ) (base takes h n : ℕ) → Within (length old) labels
     → mid ≡ old ++ map word_of (load_operand w t0 (h - 1) ++ (Branch Bne t0 x0 (forward 12) ∷ [])) → n ≡ length mid → new ≡ mid ++ map word_of (far (distance (length mid) n))
     → after ≡ record { base = base; takes = takes; start = None; test = Some n; jumps = [] } ∷ labels
     → Opens (draft labels old) (draft after new) (end_shape base takes) (λ e. test_words w h (length old) e.other)
@@ -154,7 +154,7 @@ test-meant n other end test (l ∷ ls) after es words new t is =
     ap (λ (ms : List Pending). meaning ms (record { other = other; end = end } ∷ es) new) t.1
     ∙ ap (λ (x : List ℕ). meaning (record l { test = None } ∷ ls) (record { other = other; end = end } ∷ es) x) (is ∙ ap (λ (p : Option ℕ). test_patched n p words) t.0)
 
-pub turns : (a b : Draft) (after : List Pending) (new : List ℕ) (n : ℕ) (test : Option ℕ) (q : Place) → Emits a b (λ es. over q (length a.words) (end_at 0 es)) → n ≡ length b.words → TakesTest test b.labels after
+pub turns : (a b : FunctionBuilder) (after : List Pending) (new : List ℕ) (n : ℕ) (test : Option ℕ) (q : Place) → Emits a b (λ es. over q (length a.words) (end_at 0 es)) → n ≡ length b.words → TakesTest test b.labels after
     → new ≡ test_patched n test b.words → Turns a (draft after new) (λ end. over q (length a.words) end)
 turns a b after new n test q x here takes is =
     let size : length new ≡ length b.words = ap length is ∙ length-test n test b.words in
@@ -168,11 +168,11 @@ turns a b after new n test q x here takes is =
           ∙ ap (λ (m : ℕ). meant a (record { other = m; end = end } ∷ es) ++ map word_of (over q (length a.words) end)) (here ∙ sym size);
     }
 
-pub passes-live : (a b : Draft) (q : Place) → IsLive true q → Emits a b (λ es. far (distance (length a.words) (end_at 0 es))) → Emits a b (λ es. over q (length a.words) (end_at 0 es))
+pub passes-live : (a b : FunctionBuilder) (q : Place) → IsLive true q → Emits a b (λ es. far (distance (length a.words) (end_at 0 es))) → Emits a b (λ es. over q (length a.words) (end_at 0 es))
 passes-live a b None live x = absurd live
 passes-live a b (Some h) live x = x
 
-pub passes-dead : (a : Draft) (q : Place) → IsLive false q → IsHeld a → Emits a a (λ es. over q (length a.words) (end_at 0 es))
+pub passes-dead : (a : FunctionBuilder) (q : Place) → IsLive false q → IsHeld a → Emits a a (λ es. over q (length a.words) (end_at 0 es))
 passes-dead a None live h = emits-nothing a h
 passes-dead a (Some k) live h = absurd live
 
@@ -195,7 +195,7 @@ closes labels after l old new n held here parts is =
 
 -- ---- a condition, and a table
 
-pub emits-if : (w : Around) (a b z : Draft) (h k : ℕ) (s d : Shape) → Emits a b (λ es. load_operand w t0 (h - 1) ++ unless_words w (length a.words + 3) s.takes)
+pub emits-if : (w : EmitContext) (a b z : FunctionBuilder) (h k : ℕ) (s d : Shape) → Emits a b (λ es. load_operand w t0 (h - 1) ++ unless_words w (length a.words + 3) s.takes)
     → Emits b z (λ es. jump_words w (h - 1) (length b.words) (label_at w (named (shapes b.labels) es) k)) → get_or (shapes a.labels) k d ≡ s → k < length a.labels
     → Emits a z (λ es. jump_if_words w h (length a.words) (label_at w (named (shapes a.labels) es) k))
 emits-if w a b z h k s d x y is lt =
@@ -214,11 +214,11 @@ emits-if w a b z h k s d x y is lt =
     ∙ ap (λ (m : ℕ). first ++ jump_words w (h - 1) m label) n
     ∙ ap (λ (m : ℕ). load_operand w t0 (h - 1) ++ (unless_words w (here + 3) m ++ jump_words w (h - 1) (here + 3 + length (unless_words w (here + 3) m)) label)) (sym (ap (λ (x : Label). x.takes) l)))
 
-abbrev pub named_all : Around → Draft → List ℕ → List Ends → List Label
+abbrev pub named_all : EmitContext → FunctionBuilder → List ℕ → List Ends → List Label
 named_all w a is es = map (label_at w (named (shapes a.labels) es)) is
 
 -- one jump more
-pub emits-more : (w : Around) (a b z : Draft) (j i : ℕ) (is : List ℕ) → Emits a b (λ es. jumps w j (length a.words) (named_all w a (take i is) es))
+pub emits-more : (w : EmitContext) (a b z : FunctionBuilder) (j i : ℕ) (is : List ℕ) → Emits a b (λ es. jumps w j (length a.words) (named_all w a (take i is) es))
     → Emits b z (λ es. jump_words w j (length b.words) (label_at w (named (shapes b.labels) es) (get_or is i 0))) → i < length is
     → Emits a z (λ es. jumps w j (length a.words) (named_all w a (take (i + 1) is) es))
 emits-more w a b z j i is x y lt =
@@ -236,7 +236,7 @@ emits-more w a b z j i is x y lt =
     ∙ ap (λ (ls : List Label). jumps w j (length a.words) ls) (sym (map-append L (take i is) (l ∷ [])))
     ∙ ap (λ (ls : List ℕ). jumps w j (length a.words) (map L ls)) (sym more))
 
-pub emits-table : (w : Around) (a b c z : Draft) (h l : ℕ) (is : List ℕ) (s d : Shape) → Emits a b (λ es. table_front w h (length is) s.takes)
+pub emits-table : (w : EmitContext) (a b c z : FunctionBuilder) (h l : ℕ) (is : List ℕ) (s d : Shape) → Emits a b (λ es. table_front w h (length is) s.takes)
     → Emits b c (λ es. jumps w (h - 1) (length b.words) (named_all w b is es)) → Emits c z (λ es. jump_words w (h - 1) (length c.words) (label_at w (named (shapes c.labels) es) l))
     → get_or (shapes a.labels) l d ≡ s → l < length a.labels
     → Emits a z (λ es. jump_table_words w h (length a.words) (named_all w a is es) (label_at w (named (shapes a.labels) es) l))

@@ -5,7 +5,7 @@ use Rattle.rv_isa.specs.declared.operations.Op.{Op}
 use Rattle.rv_isa.specs.Words.{word_of}
 use Rattle.frame_layout.specs.Templates.{Label}
 use Rattle.control_emit.specs.Pending.{Pending, Shape, shape_of, shapes, Ends, label_of, named}
-use Rattle.control_emit.specs.Emits.{Draft, IsHeld, meant, Emits, Opens, Turns, Closes}
+use Rattle.control_emit.specs.Emits.{FunctionBuilder, IsHeld, meant, Emits, Opens, Turns, Closes}
 use Rattle.control_emit.proofs.Meanings.{length-meaning}
 
 -- ---- numbers of labels and instruction words
@@ -16,7 +16,7 @@ count-shapes ls ms e = let a = length-map ls shape_of in let b = length-map ms s
 pub count-more : (ls ms : List Pending) (s : Shape) → shapes ls ≡ s ∷ shapes ms → length ls ≡ length ms + 1
 count-more ls ms s e = let a = length-map ls shape_of in let b = length-map ms shape_of in let c = ap length e in omega arith
 
-appended : (old new : Draft) (es fs : List Ends) (ops : List Op) → meant new es ≡ meant old fs ++ map word_of ops → length new.words ≡ length old.words + length ops
+appended : (old new : FunctionBuilder) (es fs : List Ends) (ops : List Op) → meant new es ≡ meant old fs ++ map word_of ops → length new.words ≡ length old.words + length ops
 appended old new es fs ops e =
     let a = length-meaning new.labels es new.words in
     let b = ap length e in
@@ -25,13 +25,13 @@ appended old new es fs ops e =
     let f = length-map ops word_of in
     omega arith
 
-pub longer : (old new : Draft) (ops : List Ends → List Op) → Emits old new ops → (es : List Ends) → length es ≡ length old.labels → length new.words ≡ length old.words + length (ops es)
+pub longer : (old new : FunctionBuilder) (ops : List Ends → List Op) → Emits old new ops → (es : List Ends) → length es ≡ length old.labels → length new.words ≡ length old.words + length (ops es)
 longer old new ops x es e = appended old new es es (ops es) (x.words_are es e)
 
-pub longer-opens : (old new : Draft) (s : Shape) (ops : Ends → List Op) → Opens old new s ops → (e : Ends) (es : List Ends) → length es ≡ length old.labels → length new.words ≡ length old.words + length (ops e)
+pub longer-opens : (old new : FunctionBuilder) (s : Shape) (ops : Ends → List Op) → Opens old new s ops → (e : Ends) (es : List Ends) → length es ≡ length old.labels → length new.words ≡ length old.words + length (ops e)
 longer-opens old new s ops x e es is = appended old new (e ∷ es) es (ops e) (x.words_are e es is)
 
-pub longer-turns : (old new : Draft) (ops : ℕ → List Op) → Turns old new ops → (end : ℕ) (es : List Ends) → 1 + length es ≡ length old.labels → length new.words ≡ length old.words + length (ops end)
+pub longer-turns : (old new : FunctionBuilder) (ops : ℕ → List Op) → Turns old new ops → (end : ℕ) (es : List Ends) → 1 + length es ≡ length old.labels → length new.words ≡ length old.words + length (ops end)
 longer-turns old new ops x end es is =
     let e : Ends = record { other = 0; end = end } in
     let f : Ends = record { other = length new.words; end = end } in
@@ -39,10 +39,10 @@ longer-turns old new ops x end es is =
 
 -- ---- emission
 
-pub emits-nothing : (d : Draft) → IsHeld d → Emits d d (λ es. [])
+pub emits-nothing : (d : FunctionBuilder) → IsHeld d → Emits d d (λ es. [])
 emits-nothing d h = record { held = h; shapes_are = refl; words_are = λ es e. sym (append-nil (meant d es)) }
 
-pub emits-as : (a b : Draft) (f g : List Ends → List Op) → Emits a b f → ((es : List Ends) → length es ≡ length a.labels → f es ≡ g es) → Emits a b g
+pub emits-as : (a b : FunctionBuilder) (f g : List Ends → List Op) → Emits a b f → ((es : List Ends) → length es ≡ length a.labels → f es ≡ g es) → Emits a b g
 emits-as a b f g x same = record {
   held = x.held;
   shapes_are = x.shapes_are;
@@ -53,7 +53,7 @@ joined : (x y z : List ℕ) (f g : List Op) → z ≡ y ++ map word_of g → y �
 joined x y z f g later first =
     later ∙ ap (λ (l : List ℕ). l ++ map word_of g) first ∙ append_assoc x (map word_of f) (map word_of g) ∙ ap (λ (l : List ℕ). x ++ l) (sym (map-append word_of f g))
 
-pub emits-both : (a b c : Draft) (f g : List Ends → List Op) → Emits a b f → Emits b c g → Emits a c (λ es. f es ++ g es)
+pub emits-both : (a b c : FunctionBuilder) (f g : List Ends → List Op) → Emits a b f → Emits b c g → Emits a c (λ es. f es ++ g es)
 emits-both a b c f g x y = record {
   held = y.held;
   shapes_are = y.shapes_are ∙ x.shapes_are;
@@ -65,11 +65,11 @@ emits-both a b c f g x y = record {
 abbrev pub ends_there : ℕ → Ends
 ends_there n = record { other = n; end = n }
 
-pub closed-shapes : (a b c d : Draft) (s t : Shape) → shapes b.labels ≡ s ∷ shapes a.labels → shapes c.labels ≡ shapes b.labels → shapes c.labels ≡ t ∷ shapes d.labels → shapes d.labels ≡ shapes a.labels
+pub closed-shapes : (a b c d : FunctionBuilder) (s t : Shape) → shapes b.labels ≡ s ∷ shapes a.labels → shapes c.labels ≡ shapes b.labels → shapes c.labels ≡ t ∷ shapes d.labels → shapes d.labels ≡ shapes a.labels
 closed-shapes a b c d s t x y z = cc
 
 -- what is emitted in a block, and closed
-pub enclosed : (a b c d : Draft) (s : Shape) (first : Ends → List Op) (f : List Label → ℕ → List Op) → Opens a b s first → Emits b c (λ es. f (named (shapes b.labels) es) (length b.words)) → Closes c d
+pub enclosed : (a b c d : FunctionBuilder) (s : Shape) (first : Ends → List Op) (f : List Label → ℕ → List Op) → Opens a b s first → Emits b c (λ es. f (named (shapes b.labels) es) (length b.words)) → Closes c d
     → Emits a d (λ es. let e = ends_there (length c.words) in first e ++ f (label_of s e ∷ named (shapes a.labels) es) (length a.words + length (first e)))
 enclosed a b c d s first f x y z =
     let e = ends_there (length c.words) in
@@ -91,7 +91,7 @@ enclosed a b c d s first f x y z =
     }
 
 -- how long it is
-pub enclosed-size : (a b c : Draft) (s : Shape) (first : Ends → List Op) (f : List Label → ℕ → List Op) → Opens a b s first → Emits b c (λ es. f (named (shapes b.labels) es) (length b.words))
+pub enclosed-size : (a b c : FunctionBuilder) (s : Shape) (first : Ends → List Op) (f : List Label → ℕ → List Op) → Opens a b s first → Emits b c (λ es. f (named (shapes b.labels) es) (length b.words))
     → (e : Ends) (es : List Ends) → length es ≡ length a.labels
     → length c.words ≡ length a.words + length (first e) + length (f (label_of s e ∷ named (shapes a.labels) es) (length a.words + length (first e)))
 enclosed-size a b c s first f x y e es is =
@@ -109,7 +109,7 @@ enclosed-size a b c s first f x y e es is =
 abbrev pub branches_end : (second end : ℕ) → Ends
 branches_end second end = record { other = second; end = end }
 
-pub both-enclosed : (a b c d e z : Draft) (s : Shape) (first : Ends → List Op) (f g : List Label → ℕ → List Op) (t : ℕ → List Op) → ((i j k : ℕ) → label_of s (branches_end i k) ≡ label_of s (branches_end j k)) → Opens a b s first
+pub both-enclosed : (a b c d e z : FunctionBuilder) (s : Shape) (first : Ends → List Op) (f g : List Label → ℕ → List Op) (t : ℕ → List Op) → ((i j k : ℕ) → label_of s (branches_end i k) ≡ label_of s (branches_end j k)) → Opens a b s first
     → Emits b c (λ es. f (named (shapes b.labels) es) (length b.words)) → Turns c d t → Emits d e (λ es. g (named (shapes d.labels) es) (length d.words)) → Closes e z
     → Emits a z (λ es.
     let n = length e.words in

@@ -2,7 +2,7 @@
 use Rattle.std.proofs.Common.{◌≡◌, ℕ, zero, suc, ◌+◌, ◌-◌, ◌*◌, List, [], ◌∷◌, map, length, get_or, ◌++◌, refl, sym, ◌∙◌, arith, length-append}
 use Rattle.std.proofs.lemmas.List.{length-map}
 use Rattle.frame_layout.specs.Macros.{distance, far}
-use Rattle.frame_layout.specs.Templates.{Label, Around, move_words, jump_words, jumps, label_at}
+use Rattle.frame_layout.specs.Templates.{Label, EmitContext, move_words, jump_words, jumps, label_at}
 use Rattle.control_emit.specs.Pending.{Pending, Shape, shape_of, shapes, Ends, named}
 use Rattle.control_emit.specs.Walks.{end_shape}
 
@@ -18,7 +18,7 @@ abbrev pub words_of_jumps : List Shape → List ℕ → ℕ
 words_of_jumps ss [] = 0
 words_of_jumps ss (k ∷ ks) = words_of_jump (takes_at ss k) + words_of_jumps ss ks
 
-module _ (w : Around) where
+module _ (w : EmitContext) where
   move-length : (takes j base d : ℕ) → length (move_words w takes j base ++ far d) ≡ words_of_jump takes
   move-length zero j base d = refl
   move-length (suc n) j base d = let more = move-length n (j + 1) (base + 1) d in omega arith

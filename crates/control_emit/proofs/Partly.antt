@@ -9,17 +9,17 @@ use Rattle.wasm_defs.specs.declared.token.Token.TheVariants as token
 use Rattle.wasm_defs.specs.Places.{Place, shape, after_rule, after_block, after_if, end_of, places, places_of}
 use Rattle.wasm_defs.specs.Trees.{Seq, Nothing, Simple, Block, Loop, If, IfElse, Tree, spelled}
 use Rattle.wasm_defs.specs.Typing.{Types, Signature, Context, inside, rule_of}
-use Rattle.frame_layout.specs.Templates.{Around, words}
+use Rattle.frame_layout.specs.Templates.{EmitContext, words}
 use Rattle.frame_layout.specs.Functions.{label, over, test_words, size, body_place, body_size, body_code}
 use Rattle.control_emit.specs.Pending.{Pending, Shape, shape_of, shapes, Ends, named}
-use Rattle.control_emit.specs.Emits.{Draft, Emits, Opens, Turns, Closes}
+use Rattle.control_emit.specs.Emits.{FunctionBuilder, Emits, Opens, Turns, Closes}
 use Rattle.control_emit.specs.Walks.{end_shape, start_shape, OpensDead, Step, Walk, begun, count_of, NextLaw}
 use Rattle.control_emit.proofs.Composing.{longer, longer-opens, longer-turns, ends_there}
 use Rattle.control_emit.proofs.Sizes.{AreAlike, words_size, over_size, size_dead, size_is}
 use Rattle.control_emit.proofs.Trees.{labelled, words_labelled, shape_labelled, after_dead, end_dead, counted, ends_of, counted_alike, length-ends, ends_count}
 
 -- a token's own words, where only lengths are counted
-abbrev own_words : Around → Context → Token → Place → List Pending → ℕ
+abbrev own_words : EmitContext → Context → Token → Place → List Pending → ℕ
 own_words w c (token.Plain p) None ls = 0
 own_words w c (token.Plain p) (Some h) ls = length (words w c (counted (shapes ls)) h 0 p)
 own_words w c (token.Block t) q ls = 0
@@ -28,31 +28,31 @@ own_words w c (token.If t) q ls = 0
 own_words w c token.Else q ls = 0
 own_words w c token.End q ls = 0
 
-abbrev ahead : Around → Context → List Token → List Place → List Pending → ℕ
+abbrev ahead : EmitContext → Context → List Token → List Place → List Pending → ℕ
 ahead w c [] qs ls = 0
 ahead w c (t ∷ ts) [] ls = 0
 ahead w c (t ∷ ts) (q ∷ qs) ls = own_words w c t q ls
 
 -- so many of the tokens, each at its point, lead to so many words, those of the next token among them
-abbrev Partly : Around → Context → ℕ → List Token → List Place → Draft → ℕ → Type 0
+abbrev Partly : EmitContext → Context → ℕ → List Token → List Place → FunctionBuilder → ℕ → Type 0
 Partly w c zero ts qs old new = new ≡ length old.words + ahead w c ts qs old.labels
 Partly w c (suc k) [] qs old new = ⊥
 Partly w c (suc k) (t ∷ ts) [] old new = ⊥
-Partly w c (suc k) (t ∷ ts) (q ∷ qs) old new = (mid : Draft) × Step w c t q old mid × Partly w c k ts qs mid new
+Partly w c (suc k) (t ∷ ts) (q ∷ qs) old new = (mid : FunctionBuilder) × Step w c t q old mid × Partly w c k ts qs mid new
 
-partly-next : (w : Around) (c : Context) (ts more : List Token) (t : Token) (qs rest : List Place) (q : Place) (old new : Draft) → length qs ≡ length ts → Walk w c ts qs old new
+partly-next : (w : EmitContext) (c : Context) (ts more : List Token) (t : Token) (qs rest : List Place) (q : Place) (old new : FunctionBuilder) → length qs ≡ length ts → Walk w c ts qs old new
     → Partly w c (length ts) (ts ++ t ∷ more) (qs ++ q ∷ rest) old (length new.words + own_words w c t q new.labels)
-partly-next w c [] more t [] rest q old new e x = ap (λ (d : Draft). length d.words + own_words w c t q d.labels) x
+partly-next w c [] more t [] rest q old new e x = ap (λ (d : FunctionBuilder). length d.words + own_words w c t q d.labels) x
 partly-next w c [] more t (p ∷ qs) rest q old new e x = absurd (omega arith)
 partly-next w c (u ∷ ts) more t [] rest q old new e x = absurd x
 partly-next w c (u ∷ ts) more t (p ∷ qs) rest q old new e x = (x.0, x.1, partly-next w c ts more t qs rest q x.0 new (omega arith) x.2)
 
-partly-none : (w : Around) (c : Context) (k : ℕ) (old : Draft) (new : ℕ) → Partly w c k [] [] old new → new ≡ length old.words + 0
+partly-none : (w : EmitContext) (c : Context) (k : ℕ) (old : FunctionBuilder) (new : ℕ) → Partly w c k [] [] old new → new ≡ length old.words + 0
 partly-none w c zero old new x = x
 partly-none w c (suc k) old new x = absurd x
 
 -- a token's own words fit
-abbrev Fits : Around → Context → Token → Place → Draft → (most : ℕ) → Type 0
+abbrev Fits : EmitContext → Context → Token → Place → FunctionBuilder → (most : ℕ) → Type 0
 Fits w c (token.Plain p) None d most = length d.words ≤ most
 Fits w c (token.Plain p) (Some h) d most = length d.words + length (words w c (counted (shapes d.labels)) h 0 p) ≤ most
 Fits w c (token.Block t) q d most = length d.words ≤ most
@@ -64,7 +64,7 @@ Fits w c token.End q d most = length d.words ≤ most
 none-fits : (n most : ℕ) → n ≤ most → n + 0 ≤ most
 none-fits n most le = omega arith
 
-own-fits : (w : Around) (c : Context) (t : Token) (q : Place) (d : Draft) (most : ℕ) → Fits w c t q d most → length d.words + own_words w c t q d.labels ≤ most
+own-fits : (w : EmitContext) (c : Context) (t : Token) (q : Place) (d : FunctionBuilder) (most : ℕ) → Fits w c t q d most → length d.words + own_words w c t q d.labels ≤ most
 own-fits w c (token.Plain p) None d most le = none-fits (length d.words) most le
 own-fits w c (token.Plain p) (Some h) d most le = le
 own-fits w c (token.Block t) q d most le = none-fits (length d.words) most le
@@ -77,20 +77,20 @@ along : (a b most : ℕ) → a ≡ b → b ≤ most → a ≤ most
 along a b most e le = omega arith
 
 -- it ends before a token, or goes on after it
-onward : (w : Around) (c : Context) (k : ℕ) (t : Token) (ts : List Token) (q : Place) (qs : List Place) (old : Draft) (new most : ℕ) → Fits w c t q old most
-    → ((mid : Draft) (j : ℕ) → Step w c t q old mid → Partly w c j ts qs mid new → new ≤ most) → Partly w c k (t ∷ ts) (q ∷ qs) old new → new ≤ most
+onward : (w : EmitContext) (c : Context) (k : ℕ) (t : Token) (ts : List Token) (q : Place) (qs : List Place) (old : FunctionBuilder) (new most : ℕ) → Fits w c t q old most
+    → ((mid : FunctionBuilder) (j : ℕ) → Step w c t q old mid → Partly w c j ts qs mid new → new ≤ most) → Partly w c k (t ∷ ts) (q ∷ qs) old new → new ≤ most
 onward w c zero t ts q qs old new most le go x = along new (length old.words + own_words w c t q old.labels) most x (own-fits w c t q old most le)
 onward w c (suc k) t ts q qs old new most le go x = go x.0 k x.1 x.2
 
 -- ---- how many words a step adds
 
-opens-size : (old new : Draft) (s : Shape) (ops : Ends → List Op) → Opens old new s ops → (e : Ends) → length new.words ≡ length old.words + length (ops e)
+opens-size : (old new : FunctionBuilder) (s : Shape) (ops : Ends → List Op) → Opens old new s ops → (e : Ends) → length new.words ≡ length old.words + length (ops e)
 opens-size old new s ops x e = longer-opens old new s ops x e (ends_of (shapes old.labels)) (ends_count old.labels)
 
-opens-none : (old new : Draft) (s : Shape) → Opens old new s (λ e. []) → length new.words ≡ length old.words
+opens-none : (old new : FunctionBuilder) (s : Shape) → Opens old new s (λ e. []) → length new.words ≡ length old.words
 opens-none old new s x = let n : length new.words ≡ length old.words + 0 = opens-size old new s (λ e. []) x (ends_there 0) in omega arith
 
-turns-size : (old new : Draft) (ops : ℕ → List Op) (s : Shape) (ss : List Shape) → shapes old.labels ≡ s ∷ ss → Turns old new ops → length new.words ≡ length old.words + length (ops 0)
+turns-size : (old new : FunctionBuilder) (ops : ℕ → List Op) (s : Shape) (ss : List Shape) → shapes old.labels ≡ s ∷ ss → Turns old new ops → length new.words ≡ length old.words + length (ops 0)
 turns-size old new ops s ss e x =
     let a = length-map old.labels shape_of in
     let b = length-ends ss in
@@ -99,12 +99,12 @@ turns-size old new ops s ss e x =
     longer-turns old new ops x 0 (ends_of ss) count
 
 -- where only lengths are counted, a plain token has as many words under these labels
-plain-own : (w : Around) (c : Context) (ls : List Types) (h : ℕ) (p : Plain) (ss : List Shape) (d : Draft) → shapes d.labels ≡ ss
+plain-own : (w : EmitContext) (c : Context) (ls : List Types) (h : ℕ) (p : Plain) (ss : List Shape) (d : FunctionBuilder) → shapes d.labels ≡ ss
     → length (words w c (counted (shapes d.labels)) h 0 p) ≡ length (words w (labelled c ls) (counted ss) h 0 p)
 plain-own w c ls h p ss d e =
     ap (λ (l : List Shape). length (words w c (counted l) h 0 p)) e ∙ ap (λ (ops : List Op). length ops) (words_labelled w c ls (counted ss) h 0 p)
 
-plain-size : (w : Around) (c : Context) (ls : List Types) (h : ℕ) (p : Plain) (ss : List Shape) (old new : Draft) → shapes old.labels ≡ ss → Emits old new (λ ends. words w c (named (shapes old.labels) ends) h (length old.words) p)
+plain-size : (w : EmitContext) (c : Context) (ls : List Types) (h : ℕ) (p : Plain) (ss : List Shape) (old new : FunctionBuilder) → shapes old.labels ≡ ss → Emits old new (λ ends. words w c (named (shapes old.labels) ends) h (length old.words) p)
     → length new.words ≡ length old.words + length (words w (labelled c ls) (counted ss) h 0 p)
 plain-size w c ls h p ss old new e x =
     let here = length old.words in
@@ -121,7 +121,7 @@ alike-named [] es e = tt
 alike-named (s ∷ ss) [] e = absurd (omega arith)
 alike-named (s ∷ ss) (x ∷ es) e = (refl, alike-named ss es (omega arith))
 
-own-count : (w : Around) (c : Context) (t : Token) (q : Place) (d : Draft) (ends : List Ends) → length ends ≡ length d.labels → own_words w c t q d.labels ≡ count_of w c t q d ends
+own-count : (w : EmitContext) (c : Context) (t : Token) (q : Place) (d : FunctionBuilder) (ends : List Ends) → length ends ≡ length d.labels → own_words w c t q d.labels ≡ count_of w c t q d ends
 own-count w c (token.Plain p) None d ends e = refl
 own-count w c (token.Plain p) (Some h) d ends e =
     words_size w c (counted (shapes d.labels)) (named (shapes d.labels) ends) h 0 (length d.words) p (alike-named (shapes d.labels) ends (e ∙ sym (length-map d.labels shape_of)))
@@ -129,21 +129,21 @@ own-count w c (token.Block t) q d ends e = refl
 own-count w c p q d ends e = refl
 
 -- after a block its label is gone
-closed-behind : (b d : Draft) (s t : Shape) (ss : List Shape) → shapes b.labels ≡ s ∷ ss → shapes b.labels ≡ t ∷ shapes d.labels → shapes d.labels ≡ ss
+closed-behind : (b d : FunctionBuilder) (s t : Shape) (ss : List Shape) → shapes b.labels ≡ s ∷ ss → shapes b.labels ≡ t ∷ shapes d.labels → shapes d.labels ≡ ss
 closed-behind b d s t ss x y = cc
 
 -- ---- what isn't reachable
 
 -- a limit that holds of what follows these tokens, which add no words, holds of all
-abbrev Stays : Around → Context → (List Token → List Token) → (List Place → List Place) → Type 0
+abbrev Stays : EmitContext → Context → (List Token → List Token) → (List Place → List Place) → Type 0
 Stays w c tokens placed =
-    (k : ℕ) (more : List Token) (after : List Place) (old : Draft) (new most : ℕ) → length old.words ≤ most
-    → ((mid : Draft) (j : ℕ) → shapes mid.labels ≡ shapes old.labels → length mid.words ≡ length old.words → Partly w c j more after mid new → new ≤ most)
+    (k : ℕ) (more : List Token) (after : List Place) (old : FunctionBuilder) (new most : ℕ) → length old.words ≤ most
+    → ((mid : FunctionBuilder) (j : ℕ) → shapes mid.labels ≡ shapes old.labels → length mid.words ≡ length old.words → Partly w c j more after mid new → new ≤ most)
     → Partly w c k (tokens more) (placed after) old new → new ≤ most
 
 -- such are a token that opens a block, what the block holds, its end, and what follows it
-stays-enclosed : (w : Around) (c : Context) (t : Token) (q : Place) (body rest : List Token → List Token) (inner behind : List Place → List Place)
-    → ((d : Draft) (most : ℕ) → length d.words ≤ most → Fits w c t None d most) → ((a b : Draft) → Step w c t None a b → OpensDead a b)
+stays-enclosed : (w : EmitContext) (c : Context) (t : Token) (q : Place) (body rest : List Token → List Token) (inner behind : List Place → List Place)
+    → ((d : FunctionBuilder) (most : ℕ) → length d.words ≤ most → Fits w c t None d most) → ((a b : FunctionBuilder) → Step w c t None a b → OpensDead a b)
     → Stays w c body inner → Stays w c rest behind → Stays w c (λ more. t ∷ body (token.End ∷ rest more)) (λ after. None ∷ inner (q ∷ behind after))
 stays-enclosed w c t q body rest inner behind wordless opens holds follows = λ k more after old new most le go x.
     onward w c k t (body (token.End ∷ rest more)) None (inner (q ∷ behind after)) old new most (wordless old most le)
@@ -165,16 +165,16 @@ stays-enclosed w c t q body rest inner behind wordless opens holds follows = λ 
     y)
     x
 
-dead : (w : Around) (c d : Context) (t : Seq) → Stays w c (spelled t) (places d t None)
+dead : (w : EmitContext) (c d : Context) (t : Seq) → Stays w c (spelled t) (places d t None)
 dead w c d Nothing = λ k more after old new most le go x. go old k refl refl x
 dead w c d (Simple p rest) = λ k more after old new most le go x.
     onward w c k (token.Plain p) (spelled rest more) None (places d rest (after_rule (rule_of d p) None) after) old new most le
     (λ a i step y.
     let same : a ≡ old = step in
     let none : Partly w c i (spelled rest more) (places d rest None after) a new = subst (λ (q : Place). Partly w c i (spelled rest more) (places d rest q after) a new) (after_dead (rule_of d p)) y in
-    let fits : length a.words ≤ most = subst (λ (e : Draft). length e.words ≤ most) (sym same) le in
+    let fits : length a.words ≤ most = subst (λ (e : FunctionBuilder). length e.words ≤ most) (sym same) le in
     dead w c d rest i more after a new most fits
-    (λ b j bs bn. go b j (bs ∙ ap (λ (e : Draft). shapes e.labels) same) (bn ∙ ap (λ (e : Draft). length e.words) same))
+    (λ b j bs bn. go b j (bs ∙ ap (λ (e : FunctionBuilder). shapes e.labels) same) (bn ∙ ap (λ (e : FunctionBuilder). length e.words) same))
     none)
     x
 dead w c d (Block type body rest) =
@@ -226,20 +226,20 @@ dead w c d (IfElse type body other rest) = λ k more after old new most le go x.
 -- ---- what is reachable
 
 -- the same of tokens that add so many words under these labels
-abbrev Adds : Around → Context → List Shape → ℕ → (List Token → List Token) → (List Place → List Place) → Type 0
+abbrev Adds : EmitContext → Context → List Shape → ℕ → (List Token → List Token) → (List Place → List Place) → Type 0
 Adds w c ss size tokens placed =
-    (k : ℕ) (more : List Token) (after : List Place) (old : Draft) (new most : ℕ) → shapes old.labels ≡ ss → length old.words + size ≤ most
-    → ((mid : Draft) (j : ℕ) → shapes mid.labels ≡ ss → length mid.words ≡ length old.words + size → Partly w c j more after mid new → new ≤ most)
+    (k : ℕ) (more : List Token) (after : List Place) (old : FunctionBuilder) (new most : ℕ) → shapes old.labels ≡ ss → length old.words + size ≤ most
+    → ((mid : FunctionBuilder) (j : ℕ) → shapes mid.labels ≡ ss → length mid.words ≡ length old.words + size → Partly w c j more after mid new → new ≤ most)
     → Partly w c k (tokens more) (placed after) old new → new ≤ most
 
 -- a token that opens a block has its shape, and adds so many words
-record Opened (old new : Draft) (s : Shape) (size : ℕ) : Type 0 where
+record Opened (old new : FunctionBuilder) (s : Shape) (size : ℕ) : Type 0 where
   shapes_are : shapes new.labels ≡ s ∷ shapes old.labels
   words : length new.words ≡ length old.words + size
 
-adds-enclosed : (w : Around) (c : Context) (ss : List Shape) (t : Token) (p q : Place) (sh : Draft → Shape) (first one two : ℕ) (body rest : List Token → List Token) (inner behind : List Place → List Place)
-    → ((d : Draft) (most : ℕ) → length d.words ≤ most → Fits w c t p d most) → ((a b : Draft) → Step w c t p a b → Opened a b (sh a) first)
-    → ((d : Draft) → Adds w c (sh d ∷ ss) one body inner) → Adds w c ss two rest behind → Adds w c ss (first + one + two) (λ more. t ∷ body (token.End ∷ rest more)) (λ after. p ∷ inner (q ∷ behind after))
+adds-enclosed : (w : EmitContext) (c : Context) (ss : List Shape) (t : Token) (p q : Place) (sh : FunctionBuilder → Shape) (first one two : ℕ) (body rest : List Token → List Token) (inner behind : List Place → List Place)
+    → ((d : FunctionBuilder) (most : ℕ) → length d.words ≤ most → Fits w c t p d most) → ((a b : FunctionBuilder) → Step w c t p a b → Opened a b (sh a) first)
+    → ((d : FunctionBuilder) → Adds w c (sh d ∷ ss) one body inner) → Adds w c ss two rest behind → Adds w c ss (first + one + two) (λ more. t ∷ body (token.End ∷ rest more)) (λ after. p ∷ inner (q ∷ behind after))
 adds-enclosed w c ss t p q sh first one two body rest inner behind wordless opens holds follows = λ k more after old new most e le go x.
     let before : length old.words ≤ most = omega arith in
     onward w c k t (body (token.End ∷ rest more)) p (inner (q ∷ behind after)) old new most (wordless old most before)
@@ -264,7 +264,7 @@ adds-enclosed w c ss t p q sh first one two body rest inner behind wordless open
     y)
     x
 
-live : (w : Around) (c : Context) (ls : List Types) (t : Seq) (q : Place) (ss : List Shape) → Adds w c ss (size w (labelled c ls) (counted ss) q t) (spelled t) (places (labelled c ls) t q)
+live : (w : EmitContext) (c : Context) (ls : List Types) (t : Seq) (q : Place) (ss : List Shape) → Adds w c ss (size w (labelled c ls) (counted ss) q t) (spelled t) (places (labelled c ls) t q)
 live w c ls t None ss = λ k more after old new most e le go x.
     let none : size w (labelled c ls) (counted ss) None t ≡ 0 = size_dead w (labelled c ls) (counted ss) t in
     let fits : length old.words ≤ most = omega arith in
@@ -308,7 +308,7 @@ live w c ls (Loop type body rest) (Some h) ss = λ k more after old new most e l
     let d = labelled c ls in
     let s = shape d type in
     let within = labelled c (s.params ∷ ls) in
-    let sh : Draft → Shape = λ a. start_shape (h - length s.params) (length s.params) (length a.words) in
+    let sh : FunctionBuilder → Shape = λ a. start_shape (h - length s.params) (length s.params) (length a.words) in
     let next = after_block s (Some h) in
     adds-enclosed w c ss (token.Loop type) (Some h) (end_of within body (Some h)) sh 0 (size w within (counted (sh old ∷ ss)) (Some h) body) (size w d (counted ss) next rest) (spelled body) (spelled rest) (places within body (Some h)) (places d rest next)
     (λ a most le. le)
@@ -325,7 +325,7 @@ live w c ls (If type body rest) (Some h) ss = λ k more after old new most e le 
     let below : Place = Some (h - 1) in
     let q : Place = Some (h - 1 + 0) in
     let from : q ≡ below = ap (λ (m : ℕ). Some m) (let m : h - 1 + 0 ≡ h - 1 = omega arith in m) in
-    let first : Draft → Ends → List Op = λ a e. test_words w h (length a.words) e.other in
+    let first : FunctionBuilder → Ends → List Op = λ a e. test_words w h (length a.words) e.other in
     let rests = places d rest next after in
     let there : Partly w c k (token.If type ∷ spelled body (token.End ∷ spelled rest more)) (Some h ∷ places within body below (end_of within body below ∷ rests)) old new =
     subst (λ (r : Place). Partly w c k (token.If type ∷ spelled body (token.End ∷ spelled rest more)) (Some h ∷ places within body r (end_of within body r ∷ rests)) old new) from x in
@@ -394,7 +394,7 @@ live w c ls (IfElse type body other rest) (Some h) ss = λ k more after old new 
 
 -- ---- a body
 
-partly-fits : (w : Around) (c : Context) (tokens : List Token) (qs : List Place) (tree : Seq) (front : List ℕ) (k new : ℕ) → Tree tokens tree → places_of c tree ≡ qs
+partly-fits : (w : EmitContext) (c : Context) (tokens : List Token) (qs : List Place) (tree : Seq) (front : List ℕ) (k new : ℕ) → Tree tokens tree → places_of c tree ≡ qs
     → Partly w c k tokens qs (begun (length c.results) front) new → new ≤ length front + length (body_code w c tree)
 partly-fits w c tokens qs tree front k new spells placed x =
     let n = length c.results in

@@ -9,10 +9,10 @@ use Rattle.wasm_defs.specs.declared.token.Token.TheVariants as token
 use Rattle.wasm_defs.specs.Configurations.{Origin, offset_of}
 use Rattle.wasm_defs.specs.Places.{Place, places_of}
 use Rattle.wasm_defs.specs.Typing.{Context}
-use Rattle.frame_layout.specs.Templates.{Around}
+use Rattle.frame_layout.specs.Templates.{EmitContext}
 use Rattle.frame_layout.specs.Functions.{Trap, trap_at, site_of, body_traps}
 use Rattle.frame_layout.specs.Traps.{trap_places, site_at}
-use Rattle.control_emit.specs.Emits.{Draft}
+use Rattle.control_emit.specs.Emits.{FunctionBuilder}
 use Rattle.control_emit.specs.Walks.{Walk, token_traps, walk_traps, token_sites, walk_sites, begun, SitesLaw}
 use Rattle.control_emit.proofs.Trees.{traps_are_those}
 
@@ -41,7 +41,7 @@ token_sited o here left a (token.Block t) q e = refl
 token_sited o here left a p q e = refl
 
 -- after some tokens
-walk_sited : (o : Origin) (front os : List ℕ) (w : Around) (c : Context) (ts : List Token) (qs : List Place) (old new : Draft) (x : Walk w c ts qs old new) → o.offsets ≡ front ++ os → length os ≡ length ts
+walk_sited : (o : Origin) (front os : List ℕ) (w : EmitContext) (c : Context) (ts : List Token) (qs : List Place) (old new : FunctionBuilder) (x : Walk w c ts qs old new) → o.offsets ≡ front ++ os → length os ≡ length ts
     → walk_sites w c ts os qs old new x ≡ map (site_of o) (walk_traps w c ts qs old new x)
 walk_sited o front os w c [] qs old new x e f = refl
 walk_sited o front [] w c (t ∷ ts) qs old new x e f = absurd (omega (arith, f))

@@ -4,7 +4,7 @@ use Rattle.wasm_defs.specs.declared.token.Plain.{Plain}
 use Rattle.wasm_defs.specs.Places.{Place}
 use Rattle.wasm_defs.specs.Trees.{Seq, Nothing}
 use Rattle.wasm_defs.specs.Typing.{Context}
-use Rattle.frame_layout.specs.Templates.{Label, Around, words}
+use Rattle.frame_layout.specs.Templates.{Label, EmitContext, words}
 use Rattle.frame_layout.specs.Functions.{over, size, code}
 use Rattle.frame_layout.proofs.Sizes.{taken_by}
 use Rattle.frame_layout.proofs.Sizes as sizes
@@ -25,7 +25,7 @@ takes_alike [] (m ∷ ms) h = absurd h
 takes_alike (l ∷ ls) [] h = absurd h
 takes_alike (l ∷ ls) (m ∷ ms) h = ap₂ (λ (n : ℕ) (ns : List ℕ). n ∷ ns) h.0 (takes_alike ls ms h.1)
 
-module _ (w : Around) where
+module _ (w : EmitContext) where
   pub words_size : (c : Context) (ls ms : List Label) (h here there : ℕ) (p : Plain) → AreAlike ls ms → length (words w c ls h here p) ≡ length (words w c ms h there p)
   words_size c ls ms h here there p a = sizes.words_size w w.distance_to c ls ms (takes_alike ls ms a) h here p ∙ sym (sizes.words_size w w.distance_to c ms ms refl h there p)
 

@@ -13,10 +13,10 @@ use Rattle.wasm_defs.specs.declared.token.BlockType.TheVariants.{Empty, Value, I
 use Rattle.wasm_defs.specs.Places.{Place, moved, shape, after_rule, after_block, after_if, end_of, places, places_of}
 use Rattle.wasm_defs.specs.Trees.{Seq, Nothing, Simple, Block, Loop, If, IfElse, Tree, spelled, tokens_in}
 use Rattle.wasm_defs.specs.Typing.{Types, Signature, Context, Rule, Untyped, inside, rule_of}
-use Rattle.frame_layout.specs.Templates.{Label, Around, words}
+use Rattle.frame_layout.specs.Templates.{Label, EmitContext, words}
 use Rattle.frame_layout.specs.Functions.{label, over, test_words, size, code, call_of, calls, Trap, traps_of, traps, body_place, body_size, body_traps}
 use Rattle.control_emit.specs.Pending.{Pending, Shape, shape_of, shapes, Ends, named, meaning}
-use Rattle.control_emit.specs.Emits.{Draft, IsHeld, Emits, Opens, Turns, Closes}
+use Rattle.control_emit.specs.Emits.{FunctionBuilder, IsHeld, Emits, Opens, Turns, Closes}
 use Rattle.control_emit.specs.Walks.{end_shape, start_shape, OpensDead, Step, Walk, token_calls, walk_calls, Calling, token_traps, walk_traps, begun, WordsLaw, CallsLaw}
 use Rattle.control_emit.proofs.Composing.{longer, longer-opens, longer-turns, emits-nothing, emits-as, emits-both, ends_there, enclosed, enclosed-size, closed-shapes, both-enclosed, count-more, count-shapes}
 use Rattle.control_emit.proofs.Sizes.{AreAlike, alike-same, words_size, size_is, code_dead, over_size}
@@ -25,7 +25,7 @@ use Rattle.control_emit.proofs.Sizes.{AreAlike, alike-same, words_size, size_is,
 abbrev pub labelled : Context → List Types → Context
 labelled c ls = record c { labels = ls }
 
-pub words_labelled : (w : Around) (c : Context) (ls : List Types) (labels : List Label) (h here : ℕ) (p : Plain) → words w c labels h here p ≡ words w (labelled c ls) labels h here p
+pub words_labelled : (w : EmitContext) (c : Context) (ls : List Types) (labels : List Label) (h here : ℕ) (p : Plain) → words w c labels h here p ≡ words w (labelled c ls) labels h here p
 words_labelled w c ls labels h here Unreachable = refl
 words_labelled w c ls labels h here p = refl
 
@@ -71,11 +71,11 @@ ends_count ls = length-ends (shapes ls) ∙ length-map ls shape_of
 
 -- ---- calls
 
-calls_dead : (w : Around) (c : Context) (ls : List Label) (here : ℕ) (t : Seq) → calls w c ls None here t ≡ []
+calls_dead : (w : EmitContext) (c : Context) (ls : List Label) (here : ℕ) (t : Seq) → calls w c ls None here t ≡ []
 calls_dead w c ls here Nothing = refl
 calls_dead w c ls here p = refl
 
-calls_at : (w : Around) (c : Context) (q : Place) (t : Seq) (ls ms : List Label) (i j : ℕ) → ls ≡ ms → i ≡ j → calls w c ls q i t ≡ calls w c ms q j t
+calls_at : (w : EmitContext) (c : Context) (q : Place) (t : Seq) (ls ms : List Label) (i j : ℕ) → ls ≡ ms → i ≡ j → calls w c ls q i t ≡ calls w c ms q j t
 calls_at w c q t ls ms i j e f = ap (λ (l : List Label). calls w c l q i t) e ∙ ap (λ (n : ℕ). calls w c ms q n t) f
 
 -- one run after the other, and what follows
@@ -85,11 +85,11 @@ both_lists {A} all first then_all second rest own next e f g h =
 
 -- ---- traps
 
-traps_dead : (w : Around) (c : Context) (ls : List Label) (here behind : ℕ) (t : Seq) → traps w c ls None here behind t ≡ []
+traps_dead : (w : EmitContext) (c : Context) (ls : List Label) (here behind : ℕ) (t : Seq) → traps w c ls None here behind t ≡ []
 traps_dead w c ls here behind Nothing = refl
 traps_dead w c ls here behind p = refl
 
-traps_at : (w : Around) (c : Context) (q : Place) (t : Seq) (ls ms : List Label) (i j m n : ℕ) → ls ≡ ms → i ≡ j → m ≡ n → traps w c ls q i m t ≡ traps w c ms q j n t
+traps_at : (w : EmitContext) (c : Context) (q : Place) (t : Seq) (ls ms : List Label) (i j m n : ℕ) → ls ≡ ms → i ≡ j → m ≡ n → traps w c ls q i m t ≡ traps w c ms q j n t
 traps_at w c q t ls ms i j m n e f g = ap (λ (l : List Label). traps w c l q i m t) e ∙ ap (λ (k : ℕ). traps w c ms q k m t) f ∙ ap (λ (k : ℕ). traps w c ms q j k t) g
 
 -- how many tokens there are with others after them
@@ -115,19 +115,19 @@ behind_first : (other rest : Seq) (more : List Token) → length (token.Else ∷
 behind_first other rest more = omega (arith, spelled_length other (token.End ∷ spelled rest more), spelled_length rest more)
 
 -- the tokens of a sequence, whose calls and traps and all after them are given, lead through a draft in the middle
-record Through (w : Around) (c : Context) (more : List Token) (after : List Place) (old new : Draft) (ops : List Ends → List Op) (all own : List Relocation) (all_traps own_traps : List Trap) : Type 0 where
-  mid : Draft
+record Through (w : EmitContext) (c : Context) (more : List Token) (after : List Place) (old new : FunctionBuilder) (ops : List Ends → List Op) (all own : List Relocation) (all_traps own_traps : List Trap) : Type 0 where
+  mid : FunctionBuilder
   emits : Emits old mid ops
   walk : Walk w c more after mid new
   noted : (all ≡ own ++ walk_calls w c more after mid new walk) × (all_traps ≡ own_traps ++ walk_traps w c more after mid new walk)
 
-none_both : (a b c : Draft) → Emits a b (λ es. []) → Emits b c (λ es. []) → Emits a c (λ es. [])
+none_both : (a b c : FunctionBuilder) → Emits a b (λ es. []) → Emits b c (λ es. []) → Emits a c (λ es. [])
 none_both a b c x y = emits-both a b c (λ es. []) (λ es. []) x y
 
-none_enclosed : (a b c d : Draft) (s : Shape) → Opens a b s (λ e. []) → Emits b c (λ es. []) → Closes c d → Emits a d (λ es. [])
+none_enclosed : (a b c d : FunctionBuilder) (s : Shape) → Opens a b s (λ e. []) → Emits b c (λ es. []) → Closes c d → Emits a d (λ es. [])
 none_enclosed a b c d s x y z = enclosed a b c d s (λ e. []) (λ labels here. []) x y z
 
-none_turned : (a b c : Draft) (s : Shape) → Opens a b s (λ e. []) → Turns b c (λ n. []) → Opens a c s (λ e. [])
+none_turned : (a b c : FunctionBuilder) (s : Shape) → Opens a b s (λ e. []) → Turns b c (λ n. []) → Opens a c s (λ e. [])
 none_turned a b c s x y =
     let count = count-more b.labels a.labels s x.shapes_are in
     record {
@@ -138,7 +138,7 @@ none_turned a b c s x y =
           y.words_are e.other e.end es l ∙ append-nil _ ∙ x.words_are (record { other = length c.words; end = e.end }) es is;
     }
 
-none_more : (a b c : Draft) (s : Shape) → Opens a b s (λ e. []) → Emits b c (λ es. []) → Opens a c s (λ e. [])
+none_more : (a b c : FunctionBuilder) (s : Shape) → Opens a b s (λ e. []) → Emits b c (λ es. []) → Opens a c s (λ e. [])
 none_more a b c s x y =
     let count = count-more b.labels a.labels s x.shapes_are in
     record {
@@ -149,7 +149,7 @@ none_more a b c s x y =
           y.words_are (e ∷ es) l ∙ append-nil _ ∙ x.words_are e es is;
     }
 
-dead : (w : Around) (c d : Context) (t : Seq) (q : Place) → q ≡ None → (more : List Token) (after : List Place) (old new : Draft) → IsHeld old → (x : Walk w c (spelled t more) (places d t q after) old new)
+dead : (w : EmitContext) (c d : Context) (t : Seq) (q : Place) → q ≡ None → (more : List Token) (after : List Place) (old new : FunctionBuilder) → IsHeld old → (x : Walk w c (spelled t more) (places d t q after) old new)
     → Through w c more after old new (λ es. []) (walk_calls w c (spelled t more) (places d t q after) old new x) [] (walk_traps w c (spelled t more) (places d t q after) old new x) []
 dead w c d Nothing q none more after old new held x = record { mid = old; emits = emits-nothing old held; walk = x; noted = (refl, refl) }
 dead w c d (Simple p rest) q none more after old new held x =
@@ -159,7 +159,7 @@ dead w c d (Simple p rest) q none more after old new held x =
     let traps_behind = walk_traps w c (spelled rest more) (places d rest (after_rule (rule_of d p) q) after) x.0 new x.2 in
     record {
       mid = r.mid;
-      emits = subst (λ (y : Draft). Emits y r.mid (λ es. [])) same r.emits;
+      emits = subst (λ (y : FunctionBuilder). Emits y r.mid (λ es. [])) same r.emits;
       walk = r.walk;
       noted = (
         ap (λ (r : Place). token_calls w (token.Plain p) r (length old.words) ++ behind) none ∙ r.noted.0,
@@ -202,14 +202,14 @@ dead w c d (IfElse type body other rest) q none more after old new held x =
 -- ---- what is reachable
 
 -- a block, and what follows it: where it ends is known
-behind : (a b d : Draft) (f g k : List Ends → List Op) (rest : List Label → ℕ → List Op) → Emits a b f → Emits b d (λ es. rest (named (shapes b.labels) es) (length b.words))
+behind : (a b d : FunctionBuilder) (f g k : List Ends → List Op) (rest : List Label → ℕ → List Op) → Emits a b f → Emits b d (λ es. rest (named (shapes b.labels) es) (length b.words))
     → ((es : List Ends) → length es ≡ length a.labels → f es ++ rest (named (shapes a.labels) es) (length b.words) ≡ k es) → Emits a d k
 behind a b d f g k rest x y same =
     emits-as a d (λ es. f es ++ rest (named (shapes b.labels) es) (length b.words)) k
     (emits-both a b d f (λ es. rest (named (shapes b.labels) es) (length b.words)) x y)
     (λ es is. ap (λ (ss : List Shape). f es ++ rest (named ss es) (length b.words)) x.shapes_are ∙ same es is)
 
-live : (w : Around) (c : Context) (ls : List Types) (t : Seq) (q : Place) (more : List Token) (after : List Place) (old new : Draft) → IsHeld old → (x : Walk w c (spelled t more) (places (labelled c ls) t q after) old new)
+live : (w : EmitContext) (c : Context) (ls : List Types) (t : Seq) (q : Place) (more : List Token) (after : List Place) (old new : FunctionBuilder) → IsHeld old → (x : Walk w c (spelled t more) (places (labelled c ls) t q after) old new)
     → Through w c more after old new (λ es. code w (labelled c ls) (named (shapes old.labels) es) q (length old.words) t)
     (walk_calls w c (spelled t more) (places (labelled c ls) t q after) old new x) (calls w (labelled c ls) (counted (shapes old.labels)) q (length old.words) t)
     (walk_traps w c (spelled t more) (places (labelled c ls) t q after) old new x) (traps w (labelled c ls) (counted (shapes old.labels)) q (length old.words) (length more) t)
@@ -530,7 +530,7 @@ words_are_code w c tokens tree front last spells at x =
     let none = count-more i.mid.labels i.walk.0.labels closes.shape closes.shapes_are in
     let one = count-shapes i.mid.labels old.labels i.emits.shapes_are in
     let empty : length {A = Ends} [] ≡ length i.walk.0.labels = omega arith in
-    ap (λ (d : Draft). d.words) final
+    ap (λ (d : FunctionBuilder). d.words) final
     ∙ sym (meaning-none i.walk.0.labels i.walk.0.words (sym empty))
     ∙ closes.words_are [] empty
     ∙ i.emits.words_are (e ∷ []) refl
@@ -548,10 +548,10 @@ calls_are_those w c tokens tree front last rs spells at x =
     sym y.1 ∙ i.noted.0 ∙ append-nil _ ∙ ap (λ (m : ℕ). calls w within (label 0 n 0 ∷ []) (Some 0) m tree) at
 
 -- the traps of a walk are those of the body
-abbrev pub Trapping : Around → Context → List Token → List Place → Draft → Draft → List Trap → Type 0
+abbrev pub Trapping : EmitContext → Context → List Token → List Place → FunctionBuilder → FunctionBuilder → List Trap → Type 0
 Trapping w c tokens places old new ts = (walk : Walk w c tokens places old new) × (walk_traps w c tokens places old new walk ≡ ts)
 
-pub traps_are_those : (w : Around) (c : Context) (tokens : List Token) (tree : Seq) (front : List ℕ) (last : Draft) (ts : List Trap) → Tree tokens tree → length front ≡ body_place w
+pub traps_are_those : (w : EmitContext) (c : Context) (tokens : List Token) (tree : Seq) (front : List ℕ) (last : FunctionBuilder) (ts : List Trap) → Tree tokens tree → length front ≡ body_place w
     → Trapping w c tokens (places_of c tree) (begun (length c.results) front) last ts → ts ≡ body_traps w c tree
 traps_are_those w c tokens tree front last all spells at x =
     let n = length c.results in

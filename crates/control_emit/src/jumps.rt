@@ -6,7 +6,7 @@ ghost use Rattle.rv_isa.specs.declared.operations.BranchOp.TheVariants.{Bne as B
 ghost use Rattle.rv_isa.specs.Words.{word_of};
 ghost use Rattle.frame_layout.specs.Slots.{operand};
 ghost use Rattle.frame_layout.specs.Macros.{x0, t0, distance, far, forward};
-ghost use Rattle.frame_layout.specs.Templates.{Around, load_operand, store_operand, move_words, unless_words, scale_words, table_front};
+ghost use Rattle.frame_layout.specs.Templates.{EmitContext, load_operand, store_operand, move_words, unless_words, scale_words, table_front};
 ghost use Rattle.control_emit.specs.Choices.{count_words, choice_words};
 ghost use Rattle.control_emit.specs.Emits.{IsFront};
 
@@ -39,7 +39,8 @@ fn append_move(
 ) -> Result<(), AllocError>
     requires from { operand layout.now from < 2 ^ 32 }
     requires to { operand layout.now to < 2 ^ 32 }
-    ensures ok { (w : Around) → w.layout ≡ layout.now → OnOk result (buffer.new ≡ buffer.old ++ map word_of (load_operand w t0 from ++ store_operand w t0 to)) }
+    ensures ok { (w : EmitContext) → w.layout ≡ layout.now → OnOk result
+        (buffer.new ≡ buffer.old ++ map word_of (load_operand w t0 from ++ store_operand w t0 to)) }
     ensures err { OnErr result (buffer.new ≡ buffer.old) }
 {
     let [a, b, c] = slot_load(Register::T0, layout.operand(from));
@@ -58,7 +59,7 @@ pub fn append_moves(
 ) -> Result<(), AllocError>
     requires from { operand layout.now (j + takes) < 2 ^ 32 }
     requires to { operand layout.now (base + takes) < 2 ^ 32 }
-    ensures ok { (w : Around) → w.layout ≡ layout.now → OnOk result (buffer.new ≡ buffer.old ++ map word_of (move_words w takes j base)) }
+    ensures ok { (w : EmitContext) → w.layout ≡ layout.now → OnOk result (buffer.new ≡ buffer.old ++ map word_of (move_words w takes j base)) }
     ensures front { IsFront buffer.old buffer.new }
 {
     for i in 0..takes {
@@ -74,7 +75,7 @@ pub fn append_topmost(
     height: u32,
 ) -> Result<(), AllocError>
     requires { operand layout.now height < 2 ^ 32 }
-    ensures ok { (w : Around) → w.layout ≡ layout.now → OnOk result (buffer.new ≡ buffer.old ++ map word_of (load_operand w t0 (height - 1))) }
+    ensures ok { (w : EmitContext) → w.layout ≡ layout.now → OnOk result (buffer.new ≡ buffer.old ++ map word_of (load_operand w t0 (height - 1))) }
     ensures err { OnErr result (buffer.new ≡ buffer.old) }
 {
     buffer.append(&slot_load(Register::T0, layout.operand(height.saturating_sub(1))))
@@ -82,7 +83,7 @@ pub fn append_topmost(
 
 /// Appends the instruction words that pass over a jump, which takes so many values along, where t0 is zero.
 pub fn append_unless(buffer: &mut WordBuffer, takes: u32) -> Result<(), AllocError>
-    ensures ok { (w : Around) → OnOk result (buffer.new ≡ buffer.old ++ map word_of (unless_words w (length buffer.old) takes)) }
+    ensures ok { (w : EmitContext) → OnOk result (buffer.new ≡ buffer.old ++ map word_of (unless_words w (length buffer.old) takes)) }
     ensures err { OnErr result (buffer.new ≡ buffer.old) }
 {
     if takes <= MOST_PASSED {
@@ -101,9 +102,10 @@ pub fn append_unless(buffer: &mut WordBuffer, takes: u32) -> Result<(), AllocErr
 /// Appends the instruction words that pass over a jump where the topmost operand isn't zero, and a jump that leads to itself.
 pub fn append_test(buffer: &mut WordBuffer, layout: &Layout, height: u32) -> Result<(), AllocError>
     requires { operand layout.now height < 2 ^ 32 }
-    ensures ok { (w : Around) → w.layout ≡ layout.now → OnOk result (
+    ensures ok { (w : EmitContext) → w.layout ≡ layout.now → OnOk result (
         let here = length buffer.old + 4 in
-        buffer.new ≡ buffer.old ++ (map word_of (load_operand w t0 (height - 1) ++ (BranchGiven BneGiven t0 x0 (forward 12) ∷ [])) ++ map word_of (far (distance here here)))) }
+        buffer.new ≡ buffer.old ++ (map word_of (load_operand w t0 (height - 1) ++ (BranchGiven BneGiven t0 x0 (forward 12) ∷ [])) ++ map word_of
+        (far (distance here here)))) }
     ensures err { OnErr result (buffer.new ≡ buffer.old) }
 {
     let here = place_in(buffer) + 4;
@@ -131,7 +133,7 @@ fn append_count(buffer: &mut WordBuffer, count: usize) -> Result<(), AllocError>
 /// Appends the instruction words that make of an index in t0 the bytes of so many jumps, each of which takes so many values
 /// along.
 fn append_scale(buffer: &mut WordBuffer, takes: u32) -> Result<(), AllocError>
-    ensures ok { (w : Around) → OnOk result (buffer.new ≡ buffer.old ++ map word_of (scale_words w takes)) }
+    ensures ok { (w : EmitContext) → OnOk result (buffer.new ≡ buffer.old ++ map word_of (scale_words w takes)) }
     ensures err { OnErr result (buffer.new ≡ buffer.old) }
 {
     match takes {
@@ -173,7 +175,7 @@ pub fn append_front(
     takes: u32,
 ) -> Result<(), AllocError>
     requires { operand layout.now height < 2 ^ 32 }
-    ensures ok { (w : Around) → w.layout ≡ layout.now → OnOk result (buffer.new ≡ buffer.old ++ map word_of (table_front w height count takes)) }
+    ensures ok { (w : EmitContext) → w.layout ≡ layout.now → OnOk result (buffer.new ≡ buffer.old ++ map word_of (table_front w height count takes)) }
     ensures front { IsFront buffer.old buffer.new }
 {
     append_topmost(buffer, layout, height)?;

@@ -4,9 +4,10 @@ ghost use Rattle.std.specs.Prelude.{◌≡◌, ◌<◌, ◌≤◌, ◌+◌, ◌-
 ghost use Rattle.rv_isa.specs.Words.{word_of};
 ghost use Rattle.frame_layout.specs.Slots.{link};
 ghost use Rattle.wasm_defs.specs.Places.{Place};
-ghost use Rattle.frame_layout.specs.Templates.{Around, label_at, jump_words, jump_if_words, jumps, jump_table_words};
+ghost use Rattle.frame_layout.specs.Templates.{EmitContext, label_at, jump_words, jump_if_words, jumps, jump_table_words};
 ghost use Rattle.frame_layout.specs.Functions.{over, test_words};
-ghost use Rattle.control_emit.specs.Pending.{Ends, shapes, named, patched, all_patched, test_patched, AreWithin, IsTestWithin, AreBelow, TakesTest, jumping, fewer, unjumped, all_unjumped, end_at, chain, IsBefore, AreLinked, AreKept};
+ghost use Rattle.control_emit.specs.Pending.{Ends, shapes, named, patched, all_patched, test_patched, AreWithin, IsTestWithin, AreBelow, TakesTest, jumping};
+ghost use Rattle.control_emit.specs.Pending.{fewer, unjumped, all_unjumped, end_at, chain, IsBefore, AreLinked, AreKept};
 ghost use Rattle.frame_layout.specs.Macros.{distance, far};
 ghost use Rattle.control_emit.specs.Emits.{draft, IsFront, IsHeld, Emits, Opens, Turns, Closes};
 ghost use Rattle.control_emit.specs.Begins.{IsOpening, Begins};
@@ -265,7 +266,9 @@ impl Labels {
         requires low { base + values < 0x8000_0000 }
         requires high { height < 0x8000_0000 }
         requires slots { link layout.now < 0x7FFF_FFFF }
-        ensures ok { (w : Around) → w.layout ≡ layout.now → OnOk result (Opens (draft self.old buffer.old) (draft self.new buffer.new) (end_shape base values) (λ e. test_words w height (length buffer.old) e.other)) }
+        ensures ok { (w : EmitContext) → w.layout ≡ layout.now
+            → OnOk result (Opens (draft self.old buffer.old) (draft self.new buffer.new) (end_shape base values)
+            (λ e. test_words w height (length buffer.old) e.other)) }
         ensures err { OnErr result (buffer.new ≡ buffer.old) }
         ensures kept { OnErr result (self.new ≡ self.old) }
     {
@@ -300,7 +303,8 @@ impl Labels {
         requires low { base + values < 0x8000_0000 }
         requires high { height < 0x8000_0000 }
         requires slots { link layout.now < 0x7FFF_FFFF }
-        ensures ok { (w : Around) → w.layout ≡ layout.now → OnOk result (Begins w token.now live height base values (draft self.old buffer.old) (draft self.new buffer.new)) }
+        ensures ok { (w : EmitContext) → w.layout ≡ layout.now
+            → OnOk result (Begins w token.now live height base values (draft self.old buffer.old) (draft self.new buffer.new)) }
         ensures err { OnErr result (buffer.new ≡ buffer.old) }
         ensures kept { OnErr result (self.new ≡ self.old) }
     {
@@ -337,7 +341,8 @@ impl Labels {
     /// and six for each value that it takes along.
     pub fn jump_words(&self, labels: &[u32]) -> u128
         requires { AreBelow (length self.now) labels.now }
-        ensures { (w : Around) (height here : ℕ) (ends : List Ends) → length ends ≡ length self.now → result ≡ length (jumps w height here (map (label_at w (named (shapes self.now) ends)) labels.now)) }
+        ensures { (w : EmitContext) (height here : ℕ) (ends : List Ends) → length ends ≡ length self.now
+            → result ≡ length (jumps w height here (map (label_at w (named (shapes self.now) ends)) labels.now)) }
     {
         let mut count = 0;
         for label in labels {
@@ -412,7 +417,8 @@ impl Labels {
     fn lead_behind(&mut self, buffer: &mut WordBuffer, label: u32) -> Result<(), AllocError>
         requires held { IsHeld (draft self.old buffer.old) }
         requires label { label < length self.old }
-        ensures ok { OnOk result (Emits (draft self.old buffer.old) (draft self.new buffer.new) (λ ends. far (distance (length buffer.old) (end_at label ends)))) }
+        ensures ok { OnOk result (Emits (draft self.old buffer.old) (draft self.new buffer.new)
+            (λ ends. far (distance (length buffer.old) (end_at label ends)))) }
         ensures noted { OnOk result (self.new ≡ jumping (length buffer.old) label self.old) }
         ensures front { IsFront buffer.old buffer.new }
         ensures err { OnErr result (buffer.new ≡ buffer.old) }
@@ -436,7 +442,9 @@ impl Labels {
         requires label { label < length self.old }
         requires high { height < 0x8000_0000 }
         requires slots { link layout.now < 0x7FFF_FFFF }
-        ensures ok { (w : Around) → w.layout ≡ layout.now → OnOk result (Emits (draft self.old buffer.old) (draft self.new buffer.new) (λ ends. jump_words w height (length buffer.old) (label_at w (named (shapes self.old) ends) label))) }
+        ensures ok { (w : EmitContext) → w.layout ≡ layout.now
+            → OnOk result (Emits (draft self.old buffer.old) (draft self.new buffer.new)
+            (λ ends. jump_words w height (length buffer.old) (label_at w (named (shapes self.old) ends) label))) }
         ensures front { IsFront buffer.old buffer.new }
         ensures noted { OnOk result (unjumped label self.new ≡ self.old) }
         ensures kept { OnErr result (self.new ≡ self.old) }
@@ -463,7 +471,9 @@ impl Labels {
         requires label { label < length self.old }
         requires high { height < 0x8000_0000 }
         requires slots { link layout.now < 0x7FFF_FFFF }
-        ensures ok { (w : Around) → w.layout ≡ layout.now → OnOk result (Emits (draft self.old buffer.old) (draft self.new buffer.new) (λ ends. jump_words w height (length buffer.old) (label_at w (named (shapes self.old) ends) label))) }
+        ensures ok { (w : EmitContext) → w.layout ≡ layout.now
+            → OnOk result (Emits (draft self.old buffer.old) (draft self.new buffer.new)
+            (λ ends. jump_words w height (length buffer.old) (label_at w (named (shapes self.old) ends) label))) }
         ensures err { OnErr result (buffer.new ≡ buffer.old) }
         ensures kept { OnErr result (self.new ≡ self.old) }
     {
@@ -484,7 +494,9 @@ impl Labels {
         requires label { label < length self.old }
         requires high { height < 0x8000_0000 }
         requires slots { link layout.now < 0x7FFF_FFFF }
-        ensures ok { (w : Around) → w.layout ≡ layout.now → OnOk result (Emits (draft self.old buffer.old) (draft self.new buffer.new) (λ ends. jump_if_words w height (length buffer.old) (label_at w (named (shapes self.old) ends) label))) }
+        ensures ok { (w : EmitContext) → w.layout ≡ layout.now
+            → OnOk result (Emits (draft self.old buffer.old) (draft self.new buffer.new)
+            (λ ends. jump_if_words w height (length buffer.old) (label_at w (named (shapes self.old) ends) label))) }
         ensures front { IsFront buffer.old buffer.new }
         ensures kept { OnErr result (self.new ≡ self.old) }
     {
@@ -507,7 +519,9 @@ impl Labels {
         requires label { label < length self.old }
         requires high { height < 0x8000_0000 }
         requires slots { link layout.now < 0x7FFF_FFFF }
-        ensures ok { (w : Around) → w.layout ≡ layout.now → OnOk result (Emits (draft self.old buffer.old) (draft self.new buffer.new) (λ ends. jump_if_words w height (length buffer.old) (label_at w (named (shapes self.old) ends) label))) }
+        ensures ok { (w : EmitContext) → w.layout ≡ layout.now
+            → OnOk result (Emits (draft self.old buffer.old) (draft self.new buffer.new)
+            (λ ends. jump_if_words w height (length buffer.old) (label_at w (named (shapes self.old) ends) label))) }
         ensures err { OnErr result (buffer.new ≡ buffer.old) }
         ensures kept { OnErr result (self.new ≡ self.old) }
     {
@@ -531,7 +545,9 @@ impl Labels {
         requires label { label < length self.old }
         requires high { height < 0x8000_0000 }
         requires slots { link layout.now < 0x7FFF_FFFF }
-        ensures ok { (w : Around) → w.layout ≡ layout.now → OnOk result (Emits (draft self.old buffer.old) (draft self.new buffer.new) (λ ends. jump_words w height (length buffer.old) (label_at w (named (shapes self.old) ends) label))) }
+        ensures ok { (w : EmitContext) → w.layout ≡ layout.now
+            → OnOk result (Emits (draft self.old buffer.old) (draft self.new buffer.new)
+            (λ ends. jump_words w height (length buffer.old) (label_at w (named (shapes self.old) ends) label))) }
         ensures front { IsFront buffer.old buffer.new }
         ensures noted { OnOk result (unjumped label self.new ≡ self.old) }
         ensures err { OnErr result (self.new ≡ all_unjumped others.now self.old) }
@@ -557,7 +573,9 @@ impl Labels {
         requires labels { AreBelow (length self.old) labels.now }
         requires high { height < 0x8000_0000 }
         requires slots { link layout.now < 0x7FFF_FFFF }
-        ensures ok { (w : Around) → w.layout ≡ layout.now → OnOk result (Emits (draft self.old buffer.old) (draft self.new buffer.new) (λ ends. jumps w height (length buffer.old) (map (label_at w (named (shapes self.old) ends)) labels.now))) }
+        ensures ok { (w : EmitContext) → w.layout ≡ layout.now
+            → OnOk result (Emits (draft self.old buffer.old) (draft self.new buffer.new)
+            (λ ends. jumps w height (length buffer.old) (map (label_at w (named (shapes self.old) ends)) labels.now))) }
         ensures front { IsFront buffer.old buffer.new }
         ensures noted { OnOk result (all_unjumped labels.now self.new ≡ self.old) }
         ensures kept { OnErr result (self.new ≡ self.old) }
@@ -582,7 +600,10 @@ impl Labels {
         requires last { last < length self.old }
         requires high { height < 0x8000_0000 }
         requires slots { link layout.now < 0x7FFF_FFFF }
-        ensures ok { (w : Around) → w.layout ≡ layout.now → OnOk result (Emits (draft self.old buffer.old) (draft self.new buffer.new) (λ ends. jump_table_words w height (length buffer.old) (map (label_at w (named (shapes self.old) ends)) labels.now) (label_at w (named (shapes self.old) ends) last))) }
+        ensures ok { (w : EmitContext) → w.layout ≡ layout.now
+            → OnOk result (Emits (draft self.old buffer.old) (draft self.new buffer.new)
+            (λ ends. jump_table_words w height (length buffer.old) (map (label_at w (named (shapes self.old) ends)) labels.now)
+            (label_at w (named (shapes self.old) ends) last))) }
         ensures front { IsFront buffer.old buffer.new }
         ensures kept { OnErr result (self.new ≡ self.old) }
     {
@@ -608,7 +629,10 @@ impl Labels {
         requires last { last < length self.old }
         requires high { height < 0x8000_0000 }
         requires slots { link layout.now < 0x7FFF_FFFF }
-        ensures ok { (w : Around) → w.layout ≡ layout.now → OnOk result (Emits (draft self.old buffer.old) (draft self.new buffer.new) (λ ends. jump_table_words w height (length buffer.old) (map (label_at w (named (shapes self.old) ends)) labels.now) (label_at w (named (shapes self.old) ends) last))) }
+        ensures ok { (w : EmitContext) → w.layout ≡ layout.now
+            → OnOk result (Emits (draft self.old buffer.old) (draft self.new buffer.new)
+            (λ ends. jump_table_words w height (length buffer.old) (map (label_at w (named (shapes self.old) ends)) labels.now)
+            (label_at w (named (shapes self.old) ends) last))) }
         ensures err { OnErr result (buffer.new ≡ buffer.old) }
         ensures kept { OnErr result (self.new ≡ self.old) }
     {
@@ -621,7 +645,8 @@ impl Labels {
     fn pass_over(&mut self, buffer: &mut WordBuffer, live: bool) -> Result<(), AllocError>
         requires held { IsHeld (draft self.old buffer.old) }
         requires some { 0 < length self.old }
-        ensures ok { (place : Place) → IsLive live place → OnOk result (Emits (draft self.old buffer.old) (draft self.new buffer.new) (λ ends. over place (length buffer.old) (end_at 0 ends))) }
+        ensures ok { (place : Place) → IsLive live place → OnOk result
+            (Emits (draft self.old buffer.old) (draft self.new buffer.new) (λ ends. over place (length buffer.old) (end_at 0 ends))) }
         ensures err { OnErr result (buffer.new ≡ buffer.old) }
         ensures kept { OnErr result (self.new ≡ self.old) }
     {
@@ -636,7 +661,8 @@ impl Labels {
     pub fn otherwise(&mut self, buffer: &mut WordBuffer, live: bool) -> Result<(), AllocError>
         requires held { IsHeld (draft self.old buffer.old) }
         requires some { 0 < length self.old }
-        ensures ok { (place : Place) → IsLive live place → OnOk result (Turns (draft self.old buffer.old) (draft self.new buffer.new) (λ end. over place (length buffer.old) end)) }
+        ensures ok { (place : Place) → IsLive live place → OnOk result
+            (Turns (draft self.old buffer.old) (draft self.new buffer.new) (λ end. over place (length buffer.old) end)) }
         ensures err { OnErr result (buffer.new ≡ buffer.old) }
         ensures kept { OnErr result (self.new ≡ self.old) }
     {

@@ -4,7 +4,7 @@ use Rattle.std.specs.List.{flat_map, range_with_len}
 use Rattle.wasm_defs.specs.declared.types.ValType.TheVariants.{I32}
 use Rattle.wasm_defs.specs.declared.operation.BinaryOp.TheVariants.{Add}
 use Rattle.wasm_defs.specs.declared.operation.Operation.TheVariants.{Binary}
-use Rattle.wasm_defs.specs.declared.token.Plain.TheVariants.{Call, Const, LocalGet, Operate}
+use Rattle.wasm_defs.specs.declared.token.Plain.TheVariants.{Call, Const, LocalGet, Numeric}
 use Rattle.wasm_defs.specs.declared.token.Token.{Token}
 use Rattle.wasm_defs.specs.declared.token.Token.TheVariants as token
 use Rattle.wasm_defs.specs.Codes.{Code, instruction_is, token_is}
@@ -46,16 +46,16 @@ abbrev pub adder_tokens : (first i : ℕ) → List (ℕ × Token)
 adder_tokens first i =
     let constant = first + 1 + 2 in
     let sum = constant + length (0x41 ∷ signed i) in
-    (first + 1, token.Plain (LocalGet 0)) ∷ (constant, token.Plain (Const I32 (pos i))) ∷ (sum, token.Plain (Operate (Binary I32 Add))) ∷ (sum + 1, token.End) ∷ []
+    (first + 1, token.Plain (LocalGet 0)) ∷ (constant, token.Plain (Const I32 (pos i))) ∷ (sum, token.Plain (Numeric (Binary I32 Add))) ∷ (sum + 1, token.End) ∷ []
 
 pub adder_spelled : (first i : ℕ) → i < 2 ^ 31 → Spell (adder_tokens first i) first (adder_content i)
 adder_spelled first i small =
     let constant = first + 1 + 2 in
     let sum = constant + length (0x41 ∷ signed i) in
     let last : List (ℕ × Token) = (sum + 1, token.End) ∷ [] in
-    let adding : List (ℕ × Token) = (sum, token.Plain (Operate (Binary I32 Add))) ∷ last in
+    let adding : List (ℕ × Token) = (sum, token.Plain (Numeric (Binary I32 Add))) ∷ last in
     let all : List (ℕ × Token) = (constant, token.Plain (Const I32 (pos i))) ∷ adding in
-    let adds = token_then sum (token.Plain (Operate (Binary I32 Add))) last (0x6A ∷ []) (0x0B ∷ []) refl (ends (sum + 1)) in
+    let adds = token_then sum (token.Plain (Numeric (Binary I32 Add))) last (0x6A ∷ []) (0x0B ∷ []) refl (ends (sum + 1)) in
     let number = token_then constant (token.Plain (Const I32 (pos i))) adding (0x41 ∷ signed i) (0x6A ∷ 0x0B ∷ [])
     (record { front = 0x41 ∷ []; back = signed i; parts = refl; first = refl; second = signed_spells i small }) adds in
     let gets = token_then (first + 1) (token.Plain (LocalGet 0)) all (0x20 ∷ 0x00 ∷ []) (0x41 ∷ (signed i ++ 0x6A ∷ 0x0B ∷ []))

@@ -22,7 +22,7 @@ use Rattle.wasm_defs.specs.Places.{greatest, places_of}
 use Rattle.wasm_defs.specs.Trees.{Seq, Tree}
 use Rattle.wasm_defs.specs.Typing.{Context, IsBody, function_type}
 use Rattle.wasm_laws.specs.Behind.{UsesKeep}
-use Rattle.frame_layout.specs.Templates.{Around}
+use Rattle.frame_layout.specs.Templates.{EmitContext}
 use Rattle.body_laws.specs.Spelled.{AreSpelled, IsSpelled, IsSpelledModule}
 use Rattle.body_laws.proofs.SpeltCodes.{spelled_is_read}
 use Rattle.body_laws.proofs.SpelledModules.{spelled_is_module}
@@ -144,7 +144,7 @@ module _ (n : ℕ) (most : n ≤ 50000) (items : List Item) (says : context_of i
   one_result : (j : ℕ) (t : FuncType) (b : Body) → function_type (drill_context n) j ≡ Some t → length (reverse t.results) ≡ 1 → length (context_at items j b).results ≡ 1
   one_result j t b typed one = ap (λ (f : FuncType). length (reverse f.results)) (type_is j t typed) ∙ one
 
-  few_words : (around : ℕ → Body → Seq → Around) (at first count k : ℕ) → k ≡ first → first + count ≡ n → words_of around items k (bodies_from at first count n) (trees_from first count n) ≤ 62 * count + (14 * n + 46)
+  few_words : (around : ℕ → Body → Seq → EmitContext) (at first count k : ℕ) → k ≡ first → first + count ≡ n → words_of around items k (bodies_from at first count n) (trees_from first count n) ≤ 62 * count + (14 * n + 46)
   few_words around at first zero k same all =
       let b = body_at at (runner_content n) in
       let typed : function_type (drill_context n) k ≡ Some runner_type = let last : k ≡ n = omega (arith, same, all) in ap (function_type (drill_context n)) last ∙ runner_has_type n in

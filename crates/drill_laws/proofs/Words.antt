@@ -7,13 +7,13 @@ use Rattle.wasm_defs.specs.declared.types.ValType.TheVariants.{I32}
 use Rattle.wasm_defs.specs.declared.operation.BinaryOp.TheVariants.{Add}
 use Rattle.wasm_defs.specs.declared.operation.Operation.TheVariants.{Binary}
 use Rattle.wasm_defs.specs.declared.token.Plain.{Plain}
-use Rattle.wasm_defs.specs.declared.token.Plain.TheVariants.{Call, Const, LocalGet, Operate}
+use Rattle.wasm_defs.specs.declared.token.Plain.TheVariants.{Call, Const, LocalGet, Numeric}
 use Rattle.wasm_defs.specs.Places.{Place, after_rule}
 use Rattle.wasm_defs.specs.Trees.{Nothing, Seq, Simple}
 use Rattle.wasm_defs.specs.Typing.{Context, inside, rule_of}
 use Rattle.frame_layout.specs.declared.layout.Layout.{Layout}
 use Rattle.frame_layout.specs.Functions.{body_code, code, function_code}
-use Rattle.frame_layout.specs.Templates.{Around, Label, epilogue, prologue, result_words, words, zero_locals}
+use Rattle.frame_layout.specs.Templates.{EmitContext, Label, epilogue, prologue, result_words, words, zero_locals}
 use Rattle.drill_laws.specs.Functions.{adder_tree, calls_from, runner_tree}
 
 -- ---- around a body
@@ -37,7 +37,7 @@ epilogue_short l results =
 
 -- ---- a body: so many instruction words wherever it is
 
-module _ (w : Around) (c : Context) (labels : List Label) where
+module _ (w : EmitContext) (c : Context) (labels : List Label) where
   AreFew : ℕ → Seq → Type 0
   AreFew most tree = (place : Place) (here : ℕ) → length (code w c labels place here tree) ≤ most
 
@@ -58,9 +58,9 @@ module _ (w : Around) (c : Context) (labels : List Label) where
 
   adder_few : (i : ℕ) → AreFew (6 + (8 + (10 + 0))) (adder_tree i)
   adder_few i =
-      then_few (LocalGet 0) (Simple (Const I32 (pos i)) (Simple (Operate (Binary I32 Add)) Nothing)) 6 (8 + (10 + 0)) (λ h here. omega arith)
-      (then_few (Const I32 (pos i)) (Simple (Operate (Binary I32 Add)) Nothing) 8 (10 + 0) (λ h here. omega arith)
-      (then_few (Operate (Binary I32 Add)) Nothing 10 0 (λ h here. omega arith) nothing_few))
+      then_few (LocalGet 0) (Simple (Const I32 (pos i)) (Simple (Numeric (Binary I32 Add)) Nothing)) 6 (8 + (10 + 0)) (λ h here. omega arith)
+      (then_few (Const I32 (pos i)) (Simple (Numeric (Binary I32 Add)) Nothing) 8 (10 + 0) (λ h here. omega arith)
+      (then_few (Numeric (Binary I32 Add)) Nothing 10 0 (λ h here. omega arith) nothing_few))
 
   calls_few : (first count : ℕ) → AreFew (14 * count) (calls_from first count)
   calls_few first zero = nothing_few
@@ -73,7 +73,7 @@ module _ (w : Around) (c : Context) (labels : List Label) where
 
 -- ---- a function
 
-function_few : (w : Around) (c : Context) (tree : Seq) (few : ℕ) → ((labels : List Label) → AreFew w (inside c c.results) labels few tree) → length (function_code w c tree) ≤ 32 + 6 * length c.results + few
+function_few : (w : EmitContext) (c : Context) (tree : Seq) (few : ℕ) → ((labels : List Label) → AreFew w (inside c c.results) labels few tree) → length (function_code w c tree) ≤ 32 + 6 * length c.results + few
 unfolding AreFew
 function_few w c tree few body =
     let all = length-append (prologue w.layout) (body_code w c tree ++ epilogue w.layout (length c.results)) in
@@ -83,8 +83,8 @@ function_few w c tree few body =
     let inner : length (body_code w c tree) ≤ few = body _ (Some 0) _ in
     omega (arith, all, last, front, back, inner)
 
-pub adder_words : (w : Around) (c : Context) (i : ℕ) → length c.results ≡ 1 → length (function_code w c (adder_tree i)) ≤ 62
+pub adder_words : (w : EmitContext) (c : Context) (i : ℕ) → length c.results ≡ 1 → length (function_code w c (adder_tree i)) ≤ 62
 adder_words w c i one = let few = function_few w c (adder_tree i) 24 (λ labels. adder_few w (inside c c.results) labels i) in omega (arith, few, one)
 
-pub runner_words : (w : Around) (c : Context) (n : ℕ) → length c.results ≡ 1 → length (function_code w c (runner_tree n)) ≤ 14 * n + 46
+pub runner_words : (w : EmitContext) (c : Context) (n : ℕ) → length c.results ≡ 1 → length (function_code w c (runner_tree n)) ≤ 14 * n + 46
 runner_words w c n one = let few = function_few w c (runner_tree n) (8 + 14 * n) (λ labels. runner_few w (inside c c.results) labels n) in omega (arith, few, one)

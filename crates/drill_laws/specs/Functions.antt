@@ -5,7 +5,7 @@ use Rattle.wasm_defs.specs.declared.types.FuncType.{FuncType}
 use Rattle.wasm_defs.specs.declared.types.ValType.TheVariants.{I32}
 use Rattle.wasm_defs.specs.declared.operation.BinaryOp.TheVariants.{Add}
 use Rattle.wasm_defs.specs.declared.operation.Operation.TheVariants.{Binary}
-use Rattle.wasm_defs.specs.declared.token.Plain.TheVariants.{Call, Const, LocalGet, Operate}
+use Rattle.wasm_defs.specs.declared.token.Plain.TheVariants.{Call, Const, LocalGet, Numeric}
 use Rattle.wasm_defs.specs.Trees.{Seq, Nothing, Simple}
 use Rattle.wasm_defs.specs.Effects.{value}
 use Rattle.wasm_defs.specs.Configurations.{Declared, Func, Instance, Outside, Returned, Store}
@@ -19,7 +19,7 @@ runner_type = record { params = []; results = I32 ∷ [] }
 
 -- its argument and i
 abbrev pub adder_tree : ℕ → Seq
-adder_tree i = Simple (LocalGet 0) (Simple (Const I32 (pos i)) (Simple (Operate (Binary I32 Add)) Nothing))
+adder_tree i = Simple (LocalGet 0) (Simple (Const I32 (pos i)) (Simple (Numeric (Binary I32 Add)) Nothing))
 
 -- so many calls, of one function after the other, of which the first has that index
 abbrev pub calls_from : (first count : ℕ) → Seq

@@ -10,13 +10,13 @@ use Rattle.wasm_defs.specs.declared.operation.BinaryOp.{BinaryOp}
 use Rattle.wasm_defs.specs.declared.operation.BinaryOp.TheVariants as binary
 use Rattle.wasm_defs.specs.declared.token.BulkOp.TheVariants.{Fill, Copy, Init}
 use Rattle.wasm_defs.specs.declared.token.Plain.{Plain}
-use Rattle.wasm_defs.specs.declared.token.Plain.TheVariants.{Unreachable, CallIndirect, Load, Store, Bulk, Operate}
+use Rattle.wasm_defs.specs.declared.token.Plain.TheVariants.{Unreachable, CallIndirect, Load, Store, Bulk, Numeric}
 use Rattle.wasm_defs.specs.Configurations.{Origin}
 use Rattle.wasm_defs.specs.Trees.{Seq, Nothing, Simple, Block, Loop, If, IfElse, tokens_in}
 use Rattle.wasm_defs.specs.Typing.{Context, inside, rule_of}
 use Rattle.wasm_defs.specs.Places.{Place, after_rule, shape, after_block, after_if, end_of}
 use Rattle.frame_layout.specs.declared.layout.Layout.{Layout}
-use Rattle.frame_layout.specs.Templates.{Label, Around, operate_words, words, zero_locals, prologue, epilogue}
+use Rattle.frame_layout.specs.Templates.{Label, EmitContext, operate_words, words, zero_locals, prologue, epilogue}
 use Rattle.frame_layout.specs.Functions.{label, over, size, Trap, trap_at, traps_of, site_of, traps, body_place, body_size, body_traps, sites_of, function_size}
 use Rattle.frame_layout.specs.Traps.{trap_places, operation_places, division_places, AreSpaced}
 use Rattle.frame_layout.specs.Laws.{SpacedLaw}
@@ -43,7 +43,7 @@ spaced-on : (here left from to : ℕ) (ps : List ℕ) → AreSpaced from ps to �
 spaced-on here left from to [] h = omega (arith, h)
 spaced-on here left from to (p ∷ ps) h = (omega (arith, h.0), spaced-less (here + p + 1) (here + (p + 1)) (here + to) (places_of (map (trap_at here left) ps)) (omega arith) (spaced-on here left (p + 1) to ps h.1))
 
-module _ (w : Around) where
+module _ (w : EmitContext) where
   -- ---- instructions
 
   abbrev Spaced : Context → List Label → (h here : ℕ) → Plain → Type 0
@@ -72,7 +72,7 @@ module _ (w : Around) where
   plain_spaced c labels h here (Bulk Fill) = (omega arith, omega arith)
   plain_spaced c labels h here (Bulk Copy) = (omega arith, (omega arith, omega arith))
   plain_spaced c labels h here (Bulk (Init x)) = (omega arith, (omega arith, omega arith))
-  plain_spaced c labels h here (Operate op) = operation_spaced h op
+  plain_spaced c labels h here (Numeric op) = operation_spaced h op
   plain_spaced c labels h here p = omega arith
 
   -- ---- sequences

@@ -7,11 +7,11 @@ use Rattle.wasm_defs.specs.declared.types.ValType.TheVariants.{I32, I64}
 use Rattle.wasm_defs.specs.declared.operation.Operation.{Operation}
 use Rattle.wasm_defs.specs.declared.token.BulkOp.TheVariants.{Fill, Copy, Init}
 use Rattle.wasm_defs.specs.declared.token.Plain.{Plain}
-use Rattle.wasm_defs.specs.declared.token.Plain.TheVariants.{Unreachable, Br, BrIf, BrTable, Return, Bulk, Const, Operate}
+use Rattle.wasm_defs.specs.declared.token.Plain.TheVariants.{Unreachable, Br, BrIf, BrTable, Return, Bulk, Const, Numeric}
 use Rattle.wasm_defs.specs.Typing.{Context}
 use Rattle.wasm_defs.specs.Values.{unsigned}
 use Rattle.frame_layout.specs.Macros.{t0, distance, far}
-use Rattle.frame_layout.specs.Templates.{Label, Around, load_operand, move_words, jump_words, unless_words, jump_if_words, jumps, table_front, jump_table_words, label_at, last_label, operate_words, const_words, words}
+use Rattle.frame_layout.specs.Templates.{Label, EmitContext, load_operand, move_words, jump_words, unless_words, jump_if_words, jumps, table_front, jump_table_words, label_at, last_label, operate_words, const_words, words}
 use Rattle.frame_layout.specs.Traps.{is_number, is_call, found, traps_in, trap_places, operation_places}
 use Rattle.frame_layout.specs.Laws.{TrapsLaw}
 use Rattle.wasm_defs.proofs.EachOperation.{each_same}
@@ -39,7 +39,7 @@ found-none : (asks : Bool) (here : ℕ) (ops : List Op) → calls_none ops ≡ t
 found-none asks here [] h = refl
 found-none asks here (op ∷ ops) h = first_none asks (is_call op) here (found (is_number op) (here + 1) ops) ops (λ none. found-none (is_number op) (here + 1) ops none) h
 
-module _ (w : Around) where
+module _ (w : EmitContext) where
   moves_none : (takes j base : ℕ) → calls_none (move_words w takes j base) ≡ true
   moves_none zero j base = refl
   moves_none (suc n) j base = moves_none n (j + 1) (base + 1)
@@ -95,7 +95,7 @@ module _ (w : Around) where
   plain_found c labels h here (BrTable ls l) = found-none false 0 (words w c labels h here (BrTable ls l)) (jump_table_none h here (map (label_at w labels) ls) (label_at w labels l))
   plain_found c labels h here Return = found-none false 0 (words w c labels h here Return) (jump_none h here (last_label w labels))
   plain_found c labels h here (Const t n) = found-none false 0 (words w c labels h here (Const t n)) (const_none h t (unsigned t n))
-  plain_found c labels h here (Operate op) = operation_found h op
+  plain_found c labels h here (Numeric op) = operation_found h op
   plain_found c labels h here (Bulk Fill) = refl
   plain_found c labels h here (Bulk Copy) = refl
   plain_found c labels h here (Bulk (Init x)) = refl

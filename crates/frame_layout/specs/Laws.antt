@@ -19,7 +19,7 @@ use Rattle.wasm_defs.specs.Configurations.{Origin, max_slots}
 use Rattle.frame_layout.specs.declared.layout.Layout.{Layout}
 use Rattle.frame_layout.specs.Slots.{link, operand, need}
 use Rattle.frame_layout.specs.Macros.{ra, t0, t1, t2, t3, s0, s5, a0, a7}
-use Rattle.frame_layout.specs.Templates.{Label, Around, const_words, local_get_words, operate_words, words, prologue, epilogue, import_stub, exit_stub}
+use Rattle.frame_layout.specs.Templates.{Label, EmitContext, const_words, local_get_words, operate_words, words, prologue, epilogue, import_stub, exit_stub}
 use Rattle.frame_layout.specs.Traps.{traps_in, trap_places, AreSpaced}
 use Rattle.frame_layout.specs.Functions.{sites_of, function_size}
 
@@ -75,31 +75,31 @@ pub record TrapsAt (code : List (Option Op)) (steps words kind : ℕ) (s : State
 
 -- the traps of an instruction are where the table says, wherever its words are, and no others are
 abbrev pub TrapsLaw : Type 0
-TrapsLaw = (w : Around) (c : Context) (labels : List Label) (h here : ℕ) (p : Plain) → traps_in (words w c labels h here p) ≡ trap_places p
+TrapsLaw = (w : EmitContext) (c : Context) (labels : List Label) (h here : ℕ) (p : Plain) → traps_in (words w c labels h here p) ≡ trap_places p
 
 -- the traps of a function are apart, inside it
 abbrev pub SpacedLaw : Type 0
-SpacedLaw = (w : Around) (o : Origin) (c : Context) (tree : Seq) → AreSpaced 0 (map (λ (t : TrapSite). t.place) (sites_of w o c tree)) (function_size w c tree)
+SpacedLaw = (w : EmitContext) (o : Origin) (c : Context) (tree : Seq) → AreSpaced 0 (map (λ (t : TrapSite). t.place) (sites_of w o c tree)) (function_size w c tree)
 
 -- ---- instructions
 
 -- a constant of a type, below its modulus
 abbrev pub ConstLaw : Type 0
 ConstLaw =
-    (w : Around) (code : List (Option Op)) (s : State) (i base h : ℕ) (t : ValType) (n : ℕ) → HasAt code i (const_words w h t n) → s.pc ≡ place i
+    (w : EmitContext) (code : List (Option Op)) (s : State) (i base h : ℕ) (t : ValType) (n : ℕ) → HasAt code i (const_words w h t n) → s.pc ≡ place i
     → IsFrame base s → n < modulus t → base + operand w.layout h < max_slots
     → Does code (length (const_words w h t n)) (length (const_words w h t n)) s (with_slot s.bytes (base + operand w.layout h) (word t n))
 
 abbrev pub LocalGetLaw : Type 0
 LocalGetLaw =
-    (w : Around) (code : List (Option Op)) (s : State) (i base h x : ℕ) → HasAt code i (local_get_words w h x) → s.pc ≡ place i
+    (w : EmitContext) (code : List (Option Op)) (s : State) (i base h x : ℕ) → HasAt code i (local_get_words w h x) → s.pc ≡ place i
     → IsFrame base s → base + x < max_slots → base + operand w.layout h < max_slots
     → Does code (length (local_get_words w h x)) (length (local_get_words w h x)) s (with_slot s.bytes (base + operand w.layout h) (slot_at s.bytes (base + x)))
 
 -- the sum of two i32, in place of the first one
 abbrev pub AddLaw : Type 0
 AddLaw =
-    (w : Around) (code : List (Option Op)) (s : State) (i base h a b : ℕ) → HasAt code i (operate_words w h (Binary I32 Add)) → s.pc ≡ place i
+    (w : EmitContext) (code : List (Option Op)) (s : State) (i base h a b : ℕ) → HasAt code i (operate_words w h (Binary I32 Add)) → s.pc ≡ place i
     → IsFrame base s → 2 ≤ h → base + operand w.layout (h - 1) < max_slots → a < 2 ^ 32 → b < 2 ^ 32
     → slot_at s.bytes (base + operand w.layout (h - 2)) ≡ word I32 a → slot_at s.bytes (base + operand w.layout (h - 1)) ≡ word I32 b
     → Does code (length (operate_words w h (Binary I32 Add))) (length (operate_words w h (Binary I32 Add))) s

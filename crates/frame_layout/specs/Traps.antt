@@ -14,7 +14,7 @@ use Rattle.wasm_defs.specs.declared.operation.BinaryOp.TheVariants.{DivS, DivU, 
 use Rattle.wasm_defs.specs.declared.token.BulkOp.{BulkOp}
 use Rattle.wasm_defs.specs.declared.token.BulkOp.TheVariants.{Fill, Copy, Init}
 use Rattle.wasm_defs.specs.declared.token.Plain.{Plain}
-use Rattle.wasm_defs.specs.declared.token.Plain.TheVariants.{Unreachable, CallIndirect, Load, Store, Bulk, Operate}
+use Rattle.wasm_defs.specs.declared.token.Plain.TheVariants.{Unreachable, CallIndirect, Load, Store, Bulk, Numeric}
 use Rattle.frame_layout.specs.Macros.{x0, a7}
 
 -- ---- among any operations
@@ -69,7 +69,7 @@ trap_places (CallIndirect i table) = 13 ∷ 20 ∷ 30 ∷ []
 trap_places (Load o m) = 15 ∷ []
 trap_places (Store o m) = 15 ∷ []
 trap_places (Bulk op) = bulk_places op
-trap_places (Operate op) = operation_places op
+trap_places (Numeric op) = operation_places op
 trap_places p = []
 
 -- and where the stack has no room, at the beginning of a function or of an import's stub

@@ -1,6 +1,7 @@
 //! Laws of the templates, for the proofs of other crates. Each function does nothing: its contract is the law, which
 //! `specs/Laws.antt` states.
-ghost use Rattle.frame_layout.specs.Laws.{ConstLaw, LocalGetLaw, AddLaw, PrologueLaw, ExhaustionLaw, EpilogueLaw, ExitLaw, ImportLaw, ImportExhaustionLaw, ImportReturnLaw, TrapsLaw, SpacedLaw};
+ghost use Rattle.frame_layout.specs.Laws.{ConstLaw, LocalGetLaw, AddLaw, PrologueLaw, ExhaustionLaw, EpilogueLaw, ExitLaw, ImportLaw, ImportExhaustionLaw};
+ghost use Rattle.frame_layout.specs.Laws.{ImportReturnLaw, TrapsLaw, SpacedLaw};
 
 /// A constant's instruction words put it into the operand above those on the stack.
 pub fn const_law()

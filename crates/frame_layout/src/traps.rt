@@ -83,7 +83,7 @@ pub fn note_traps(
             note(sites, here + 30, offset)
         }
         Plain::Bulk(op) => note_bulk(sites, words, offset, *op),
-        Plain::Operate(Operation::Binary(ty, op)) => note_division(sites, words, offset, *ty, *op),
+        Plain::Numeric(Operation::Binary(ty, op)) => note_division(sites, words, offset, *ty, *op),
         _ => Ok(()),
     }
 }

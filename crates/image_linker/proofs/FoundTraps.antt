@@ -9,7 +9,7 @@ use Rattle.wasm_defs.specs.declared.types.ValType.TheVariants.{I32, I64}
 use Rattle.wasm_defs.specs.declared.operation.Operation.{Operation}
 use Rattle.wasm_defs.specs.declared.token.BulkOp.TheVariants.{Fill, Copy, Init}
 use Rattle.wasm_defs.specs.declared.token.Plain.{Plain}
-use Rattle.wasm_defs.specs.declared.token.Plain.TheVariants.{Br, BrIf, BrTable, Return, Bulk, Const, Operate}
+use Rattle.wasm_defs.specs.declared.token.Plain.TheVariants.{Br, BrIf, BrTable, Return, Bulk, Const, Numeric}
 use Rattle.wasm_defs.specs.Configurations.{Origin}
 use Rattle.wasm_defs.specs.Trees.{Seq, Nothing, Simple, Block, Loop, If, IfElse, tokens_in}
 use Rattle.wasm_defs.specs.Typing.{Context, inside, rule_of}
@@ -17,7 +17,7 @@ use Rattle.wasm_defs.specs.Places.{Place, after_rule, shape, after_block, after_
 use Rattle.wasm_defs.proofs.EachOperation.{each_same}
 use Rattle.frame_layout.specs.declared.layout.Layout.{Layout}
 use Rattle.frame_layout.specs.Macros.{x0, ra, distance, far}
-use Rattle.frame_layout.specs.Templates.{Label, Around, label_at, last_label, move_words, jump_words, unless_words, jump_if_words, jumps, table_front, jump_table_words, operate_words, words, zero_locals, prologue, result_words, epilogue, import_stub, exit_stub}
+use Rattle.frame_layout.specs.Templates.{Label, EmitContext, label_at, last_label, move_words, jump_words, unless_words, jump_if_words, jumps, table_front, jump_table_words, operate_words, words, zero_locals, prologue, result_words, epilogue, import_stub, exit_stub}
 use Rattle.frame_layout.specs.Functions.{label, over, size, code, test_words, Trap, trap_at, traps_of, site_of, traps, body_place, body_size, body_code, function_code, body_traps, sites_of}
 use Rattle.frame_layout.specs.Traps.{is_number, is_call, found, trap_places, room_trap}
 use Rattle.frame_layout.proofs.TrapWords.{traps_are_found}
@@ -85,7 +85,7 @@ moved n ops ps f = record {
 ends_so : (asks : Bool) (xs ys : List Op) → ((b : Bool) → after b ys ≡ false) → after asks (xs ++ ys) ≡ false
 ends_so asks xs ys e = after_both asks xs ys ∙ e (after asks xs)
 
-module _ (w : Around) where
+module _ (w : EmitContext) where
   jump_ends : (height here : ℕ) (l : Label) (asks : Bool) → after asks (jump_words w height here l) ≡ false
   jump_ends height here l asks =
       let moves = move_words w l.takes (height - l.takes) l.base in
@@ -131,7 +131,7 @@ module _ (w : Around) where
   words_end c labels h here Return = jump_ends h here (last_label w labels) false
   words_end c labels h here (Const I32 n) = refl
   words_end c labels h here (Const I64 n) = refl
-  words_end c labels h here (Operate op) = operation_ends h op
+  words_end c labels h here (Numeric op) = operation_ends h op
   words_end c labels h here (Bulk Fill) = refl
   words_end c labels h here (Bulk Copy) = refl
   words_end c labels h here (Bulk (Init x)) = refl
@@ -168,8 +168,8 @@ both_traps : (here there : ℕ) (xs ys : List Op) (ts us : List Trap) → here +
 both_traps here there xs ys ts us e f g =
     found_places here (xs ++ ys) (places_of ts ++ places_of us) (places_of (ts ++ us)) (sym (map-append (λ (t : Trap). t.place) ts us)) (both_found here there xs ys (places_of ts) (places_of us) e f g)
 
-module _ (w : Around) (distance_to : ℕ → ℕ → ℕ) where
-  abbrev away : Around
+module _ (w : EmitContext) (distance_to : ℕ → ℕ → ℕ) where
+  abbrev away : EmitContext
   away = record w { distance_to = distance_to }
 
   tree_found : (c : Context) (labels others : List Label) → taken_by labels ≡ taken_by others → (tree : Seq) (place : Place) (here n behind : ℕ)
@@ -290,7 +290,7 @@ sites_places : (o : Origin) (ts : List Trap) → places_of ts ++ [] ≡ map (λ 
 sites_places o [] = refl
 sites_places o (t ∷ ts) = ap (λ (ps : List ℕ). t.place ∷ ps) (sites_places o ts)
 
-pub function_found : (w : Around) (distance_to : ℕ → ℕ → ℕ) (o : Origin) (c : Context) (tree : Seq)
+pub function_found : (w : EmitContext) (distance_to : ℕ → ℕ → ℕ) (o : Origin) (c : Context) (tree : Seq)
     → Finds 0 (function_code w c tree) (map (λ (t : TrapSite). t.place) (sites_of (away w distance_to) o c tree))
 function_found w distance_to o c tree =
     let begin = prologue w.layout in

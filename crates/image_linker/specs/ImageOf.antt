@@ -17,7 +17,7 @@ use Rattle.wasm_defs.specs.Places.{places_of, greatest}
 use Rattle.wasm_defs.specs.Instances.{rows_of, pages_of, cap_of, values_of, data_of, is_linkable, instance_of, store_of, start_of, exports_of, origin_of}
 use Rattle.frame_layout.specs.declared.layout.Layout.{Layout}
 use Rattle.frame_layout.specs.Macros.{distance}
-use Rattle.frame_layout.specs.Templates.{Around, import_stub, exit_stub}
+use Rattle.frame_layout.specs.Templates.{EmitContext, import_stub, exit_stub}
 use Rattle.frame_layout.specs.Traps.{room_trap, site_at}
 use Rattle.frame_layout.specs.Functions.{no_distance, function_code, sites_of}
 use Rattle.image_format.specs.declared.version.Version.{Version}
@@ -39,7 +39,7 @@ layout_of items k b tree = record {
 }
 
 -- what the words of the k-th declared function depend on; distances to other functions are given
-abbrev pub around : List Item → ℕ → Body → Seq → (ℕ → ℕ → ℕ) → Around
+abbrev pub around : List Item → ℕ → Body → Seq → (ℕ → ℕ → ℕ) → EmitContext
 around items k b tree distance_to = record {
   layout = layout_of items k b tree;
   rows = rows_of items;

@@ -42,7 +42,12 @@ impl<'a> Model for Instance<'a> {
 
     ghost Value = { Contents };
 
-    ghost view = { λ s. record { image = s.image.now; memory = take (page * s.pages) s.machine.bytes.memory; has_run = s.has_run; results = results_at s.machine.bytes.stack 0 (types_left (option_copied s.returned)) } };
+    ghost view = { λ s. record {
+      image = s.image.now;
+      memory = take (page * s.pages) s.machine.bytes.memory;
+      has_run = s.has_run;
+      results = results_at s.machine.bytes.stack 0 (types_left (option_copied s.returned));
+    } };
 
     ghost invariant = { λ s. IsInstance s.image.now s.machine s.pages s.room.items s.has_run (types_left (option_copied s.returned)) };
 }

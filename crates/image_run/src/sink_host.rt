@@ -70,7 +70,8 @@ fn print_number<O: Sink>(out: &mut O, number: i64) -> bool
 /// Writes what a call of a function prints, and says whether the sink took it.
 pub fn print<O: Sink>(out: &mut O, function: Option<HostFunction>, arguments: &[Value]) -> bool
     requires { O.is_open out.old ≡ true }
-    ensures text { WritesText result (text_of function (map value_of arguments.now)) (O.written out.old) (O.written out.new) (O.faults out.old) (O.faults out.new) }
+    ensures text { WritesText result (text_of function (map value_of arguments.now)) (O.written out.old) (O.written out.new) (O.faults out.old)
+        (O.faults out.new) }
     ensures on { result ≡ true → O.is_open out.new ≡ true }
 {
     match (function, arguments) {

@@ -157,7 +157,8 @@ fn add_import(
     name: &Name,
     type_index: (u64, u32),
 ) -> Result<(), AddStop>
-    ensures ok { OnOk result (context.new ≡ with_import context.old (record { offset = «module».now.0; «module» = «module».now.1; name = name.now; type_index = type_index.1 })) }
+    ensures ok { OnOk result (context.new ≡ with_import context.old
+        (record { offset = «module».now.0; «module» = «module».now.1; name = name.now; type_index = type_index.1 })) }
     ensures uses { OnOk result (may_import (context_in context.old) type_index.1 ≡ true) }
     ensures refused { (r : Refused) → result ≡ Err (AddStop.Refused r) → IsUseFault (context_in context.old) (Some (Imports type_index.0 type_index.1)) r }
     ensures err { OnErr result (context.new ≡ context.old) }

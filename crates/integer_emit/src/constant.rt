@@ -5,7 +5,7 @@ ghost use Rattle.rv_isa.specs.Words.{word_of};
 ghost use Rattle.wasm_defs.specs.declared.types.ValType.TheVariants.{I32};
 ghost use Rattle.wasm_defs.specs.Values.{word, unsigned, value_of};
 ghost use Rattle.frame_layout.specs.Slots.{operand};
-ghost use Rattle.frame_layout.specs.Templates.{Around, const_words};
+ghost use Rattle.frame_layout.specs.Templates.{EmitContext, const_words};
 
 use frame_layout::Layout;
 use frame_layout::words::{const_32, const_64, slot_store};
@@ -34,7 +34,8 @@ pub fn emit_const(
     value: Value,
 ) -> Result<(), AllocError>
     requires { operand layout.now height < 2 ^ 32 }
-    ensures ok { (w : Around) → w.layout ≡ layout.now → OnOk result (buffer.new ≡ buffer.old ++ map word_of (const_words w height (value_of value).ty (value_of value).number)) }
+    ensures ok { (w : EmitContext) → w.layout ≡ layout.now → OnOk result
+        (buffer.new ≡ buffer.old ++ map word_of (const_words w height (value_of value).ty (value_of value).number)) }
     ensures err { OnErr result (buffer.new ≡ buffer.old) }
 {
     let [x, y, z] = slot_store(Register::T0, layout.operand(height));

@@ -3,7 +3,7 @@
 ghost use Rattle.std.specs.Prelude.{◌≡◌, ◌<◌, ◌≤◌, ◌-◌, ◌^◌, ◌++◌, map, OnOk, OnErr};
 ghost use Rattle.rv_isa.specs.Words.{word_of};
 ghost use Rattle.frame_layout.specs.Slots.{operand};
-ghost use Rattle.frame_layout.specs.Templates.{Around, convert_words};
+ghost use Rattle.frame_layout.specs.Templates.{EmitContext, convert_words};
 ghost use Rattle.integer_emit.specs.Sorts.{IsConversion, operation_words};
 
 use crate::frames::on_one;
@@ -23,7 +23,7 @@ fn convert(
 ) -> Result<(), AllocError>
     requires operand { 1 ≤ height }
     requires fits { operand layout.now (height - 1) < 2 ^ 32 }
-    ensures ok { (w : Around) → w.layout ≡ layout.now → OnOk result (buffer.new ≡ buffer.old ++ map word_of (convert_words w height op)) }
+    ensures ok { (w : EmitContext) → w.layout ≡ layout.now → OnOk result (buffer.new ≡ buffer.old ++ map word_of (convert_words w height op)) }
     ensures err { OnErr result (buffer.new ≡ buffer.old) }
 {
     let low = Op::Addiw {
@@ -49,11 +49,11 @@ pub fn emit_convert(
     requires sort { IsConversion token.now }
     requires operand { 1 ≤ height }
     requires fits { operand layout.now (height - 1) < 2 ^ 32 }
-    ensures ok { (w : Around) → w.layout ≡ layout.now → OnOk result (buffer.new ≡ buffer.old ++ map word_of (operation_words w height token.now)) }
+    ensures ok { (w : EmitContext) → w.layout ≡ layout.now → OnOk result (buffer.new ≡ buffer.old ++ map word_of (operation_words w height token.now)) }
     ensures err { OnErr result (buffer.new ≡ buffer.old) }
 {
     match token {
-        Token::Plain(Plain::Operate(Operation::Convert(op))) => {
+        Token::Plain(Plain::Numeric(Operation::Convert(op))) => {
             convert(buffer, layout, height, *op)
         }
         _ => unreachable!(),

@@ -7,7 +7,7 @@ ghost use Rattle.rv_isa.specs.declared.operations.Op.TheVariants.{Shift};
 ghost use Rattle.rv_isa.specs.declared.operations.ShiftOp.TheVariants.{Slli, Srai};
 ghost use Rattle.frame_layout.specs.Macros.{t0};
 ghost use Rattle.frame_layout.specs.Bodies.{extend_body};
-ghost use Rattle.frame_layout.specs.Templates.{Around, on_one};
+ghost use Rattle.frame_layout.specs.Templates.{EmitContext, on_one};
 
 use crate::frames::on_one;
 use frame_layout::Layout;
@@ -41,7 +41,7 @@ pub fn extend(
 ) -> Result<(), AllocError>
     requires operand { 1 ≤ height }
     requires fits { operand layout.now (height - 1) < 2 ^ 32 }
-    ensures ok { (w : Around) → w.layout ≡ layout.now → OnOk result (buffer.new ≡ buffer.old ++ map word_of (on_one w height (extend_body op))) }
+    ensures ok { (w : EmitContext) → w.layout ≡ layout.now → OnOk result (buffer.new ≡ buffer.old ++ map word_of (on_one w height (extend_body op))) }
     ensures err { OnErr result (buffer.new ≡ buffer.old) }
 {
     let low = Op::Addiw {

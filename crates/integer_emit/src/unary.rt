@@ -10,7 +10,7 @@ ghost use Rattle.wasm_defs.specs.declared.types.ValType.TheVariants.{I32};
 ghost use Rattle.frame_layout.specs.Slots.{operand};
 ghost use Rattle.frame_layout.specs.Macros.{x0, t0, t1, t2, minus_one};
 ghost use Rattle.frame_layout.specs.Bodies.{population, cut, smear, last_smear, unary_body};
-ghost use Rattle.frame_layout.specs.Templates.{Around, load_operand, store_operand, on_one};
+ghost use Rattle.frame_layout.specs.Templates.{EmitContext, load_operand, store_operand, on_one};
 ghost use Rattle.integer_emit.specs.Sorts.{IsUnary, operation_words};
 
 use crate::extension::extend;
@@ -126,7 +126,9 @@ fn count_ones(
 ) -> Result<(), AllocError>
     requires operand { 1 ≤ height }
     requires fits { operand layout.now (height - 1) < 2 ^ 32 }
-    ensures ok { (w : Around) → w.layout ≡ layout.now → OnOk result (buffer.new ≡ buffer.old ++ map word_of (load_operand w t0 (height - 1) ++ (before.now ++ (population ++ (after.now ++ store_operand w t0 (height - 1)))))) }
+    ensures ok { (w : EmitContext) → w.layout ≡ layout.now → OnOk result
+        (buffer.new ≡ buffer.old ++ map word_of (load_operand w t0 (height - 1) ++
+        (before.now ++ (population ++ (after.now ++ store_operand w t0 (height - 1)))))) }
     ensures err { OnErr result (buffer.new ≡ buffer.old) }
 {
     let slot = layout.operand(height - 1);
@@ -163,7 +165,7 @@ fn count(
 ) -> Result<(), AllocError>
     requires operand { 1 ≤ height }
     requires fits { operand layout.now (height - 1) < 2 ^ 32 }
-    ensures ok { (w : Around) → w.layout ≡ layout.now → OnOk result (buffer.new ≡ buffer.old ++ map word_of (on_one w height (unary_body op ty))) }
+    ensures ok { (w : EmitContext) → w.layout ≡ layout.now → OnOk result (buffer.new ≡ buffer.old ++ map word_of (on_one w height (unary_body op ty))) }
     ensures err { OnErr result (buffer.new ≡ buffer.old) }
 {
     match (op, ty) {
@@ -192,14 +194,14 @@ pub fn emit_unary(
     requires sort { IsUnary token.now }
     requires operand { 1 ≤ height }
     requires fits { operand layout.now (height - 1) < 2 ^ 32 }
-    ensures ok { (w : Around) → w.layout ≡ layout.now → OnOk result (buffer.new ≡ buffer.old ++ map word_of (operation_words w height token.now)) }
+    ensures ok { (w : EmitContext) → w.layout ≡ layout.now → OnOk result (buffer.new ≡ buffer.old ++ map word_of (operation_words w height token.now)) }
     ensures err { OnErr result (buffer.new ≡ buffer.old) }
 {
     match token {
-        Token::Plain(Plain::Operate(Operation::Unary(ty, op))) => {
+        Token::Plain(Plain::Numeric(Operation::Unary(ty, op))) => {
             count(buffer, layout, height, *op, *ty)
         }
-        Token::Plain(Plain::Operate(Operation::Extend(op))) => {
+        Token::Plain(Plain::Numeric(Operation::Extend(op))) => {
             extend(buffer, layout, height, *op)
         }
         _ => unreachable!(),

@@ -4,7 +4,8 @@
 
 ghost use Rattle.std.specs.Prelude.{◌≡◌, ◌≤◌, ◌<◌, ◌+◌, ◌-◌, ◌*◌, ◌^◌, ◌≤ℤ◌, ◌<ℤ◌, neg_ℤ, pos, ℕ, length, false, true, IfOk, List, drop, take, OnErr};
 ghost use Rattle.wasm_defs.specs.Numbers.{Spells};
-ghost use Rattle.wasm_defs.specs.Fields.{Cursor, window, past, cut, room_of, byte, number, u32, count, run, room, here, stop, counted_bytes, text_after, least, length_owed, name, fixed};
+ghost use Rattle.wasm_defs.specs.Fields.{Cursor, window, past, cut, room_of, byte, number, u32, count, run, room, here, stop, counted_bytes, text_after, least};
+ghost use Rattle.wasm_defs.specs.Fields.{length_owed, name, fixed};
 ghost use Rattle.wasm_defs.specs.Fields.{agree};
 ghost use Rattle.wasm_defs.specs.Entries.{value_type};
 ghost use Rattle.wasm_defs.specs.Outside.{inside, no_end};
@@ -36,7 +37,8 @@ impl<'a> Model for Fields<'a> {
 
     ghost view = { λ f. record { at = f.base + f.place; rest = drop f.place f.bytes.now; end = f.end } };
 
-    ghost invariant = { λ f. (f.place ≤ length f.bytes.now) × (f.base + length f.bytes.now < 2 ^ 64) × (f.base + f.place ≤ f.end) × (f.limit ≡ length (take (f.end - f.base) f.bytes.now)) };
+    ghost invariant = { λ f. (f.place ≤ length f.bytes.now) × (f.base + length f.bytes.now < 2 ^ 64) × (f.base + f.place ≤ f.end)
+        × (f.limit ≡ length (take (f.end - f.base) f.bytes.now)) };
 }
 
 impl<'a> Fields<'a> {

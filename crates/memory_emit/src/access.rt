@@ -4,7 +4,7 @@ ghost use Rattle.std.specs.Prelude.{◌≡◌, ◌<◌, ◌≤◌, ◌-◌, ◌^
 ghost use Rattle.rv_isa.specs.Words.{word_of};
 ghost use Rattle.wasm_defs.specs.Memory.{load_count, store_count};
 ghost use Rattle.frame_layout.specs.Slots.{operand};
-ghost use Rattle.frame_layout.specs.Templates.{Around, address, machine_load, machine_store, load_words, store_words};
+ghost use Rattle.frame_layout.specs.Templates.{EmitContext, address, machine_load, machine_store, load_words, store_words};
 ghost use Rattle.memory_emit.specs.Sorts.{IsLoad, IsStore, access_words};
 
 use frame_layout::Layout;
@@ -22,7 +22,7 @@ use wasm_defs::{LoadOp, Plain, StoreOp, Token, TrapKind};
 fn address(layout: &Layout, height: u32, offset: u32, bytes: u16) -> [u32; 17]
     requires fits { operand layout.now height < 2 ^ 32 }
     requires few { bytes ≤ 8 }
-    ensures { (w : Around) → w.layout ≡ layout.now → result ≡ map word_of (address w height offset bytes) }
+    ensures { (w : EmitContext) → w.layout ≡ layout.now → result ≡ map word_of (address w height offset bytes) }
 {
     let [a, b, c] = slot_load(Register::T0, layout.operand(height));
     let [d, e] = zero_extend(Register::T0);
@@ -39,7 +39,7 @@ fn address(layout: &Layout, height: u32, offset: u32, bytes: u16) -> [u32; 17]
 
 /// The machine's operation of a load, and how many bytes it reads.
 fn load_row(op: LoadOp) -> (MachineLoad, u16)
-    ensures operation { (w : Around) → result.0 ≡ machine_load w op }
+    ensures operation { (w : EmitContext) → result.0 ≡ machine_load w op }
     ensures bytes { result.1 ≡ load_count op }
     ensures few { result.1 ≤ 8 }
 {
@@ -57,7 +57,7 @@ fn load_row(op: LoadOp) -> (MachineLoad, u16)
 
 /// The machine's operation of a store, and how many bytes it writes.
 fn store_row(op: StoreOp) -> (MachineStore, u16)
-    ensures operation { (w : Around) → result.0 ≡ machine_store w op }
+    ensures operation { (w : EmitContext) → result.0 ≡ machine_store w op }
     ensures bytes { result.1 ≡ store_count op }
     ensures few { result.1 ≤ 8 }
 {
@@ -79,7 +79,7 @@ fn load(
 ) -> Result<(), AllocError>
     requires operand { 1 ≤ height }
     requires fits { operand layout.now (height - 1) < 2 ^ 32 }
-    ensures ok { (w : Around) → w.layout ≡ layout.now → OnOk result (buffer.new ≡ buffer.old ++ map word_of (load_words w height op offset)) }
+    ensures ok { (w : EmitContext) → w.layout ≡ layout.now → OnOk result (buffer.new ≡ buffer.old ++ map word_of (load_words w height op offset)) }
     ensures err { OnErr result (buffer.new ≡ buffer.old) }
 {
     let (op, bytes) = load_row(op);
@@ -106,7 +106,7 @@ fn store(
 ) -> Result<(), AllocError>
     requires operands { 2 ≤ height }
     requires fits { operand layout.now (height - 1) < 2 ^ 32 }
-    ensures ok { (w : Around) → w.layout ≡ layout.now → OnOk result (buffer.new ≡ buffer.old ++ map word_of (store_words w height op offset)) }
+    ensures ok { (w : EmitContext) → w.layout ≡ layout.now → OnOk result (buffer.new ≡ buffer.old ++ map word_of (store_words w height op offset)) }
     ensures err { OnErr result (buffer.new ≡ buffer.old) }
 {
     let (op, bytes) = store_row(op);
@@ -133,7 +133,7 @@ pub fn emit_load(
     requires sort { IsLoad token.now }
     requires operand { 1 ≤ height }
     requires fits { operand layout.now (height - 1) < 2 ^ 32 }
-    ensures ok { (w : Around) → w.layout ≡ layout.now → OnOk result (buffer.new ≡ buffer.old ++ map word_of (access_words w height token.now)) }
+    ensures ok { (w : EmitContext) → w.layout ≡ layout.now → OnOk result (buffer.new ≡ buffer.old ++ map word_of (access_words w height token.now)) }
     ensures err { OnErr result (buffer.new ≡ buffer.old) }
 {
     let Token::Plain(plain) = token else {
@@ -156,7 +156,7 @@ pub fn emit_store(
     requires sort { IsStore token.now }
     requires operands { 2 ≤ height }
     requires fits { operand layout.now (height - 1) < 2 ^ 32 }
-    ensures ok { (w : Around) → w.layout ≡ layout.now → OnOk result (buffer.new ≡ buffer.old ++ map word_of (access_words w height token.now)) }
+    ensures ok { (w : EmitContext) → w.layout ≡ layout.now → OnOk result (buffer.new ≡ buffer.old ++ map word_of (access_words w height token.now)) }
     ensures err { OnErr result (buffer.new ≡ buffer.old) }
 {
     let Token::Plain(plain) = token else {

@@ -3,7 +3,7 @@
 ghost use Rattle.std.specs.Prelude.{◌≡◌, ◌<◌, ◌≤◌, ◌-◌, ◌^◌, ◌++◌, map, OnOk, OnErr};
 ghost use Rattle.rv_isa.specs.Words.{word_of};
 ghost use Rattle.frame_layout.specs.Slots.{operand};
-ghost use Rattle.frame_layout.specs.Templates.{Around, global_get_words, global_set_words};
+ghost use Rattle.frame_layout.specs.Templates.{EmitContext, global_get_words, global_set_words};
 
 use frame_layout::Layout;
 use frame_layout::registers::globals;
@@ -20,7 +20,7 @@ pub fn emit_global_get(
     index: u32,
 ) -> Result<(), AllocError>
     requires { operand layout.now height < 2 ^ 32 }
-    ensures ok { (w : Around) → w.layout ≡ layout.now → OnOk result (buffer.new ≡ buffer.old ++ map word_of (global_get_words w height index)) }
+    ensures ok { (w : EmitContext) → w.layout ≡ layout.now → OnOk result (buffer.new ≡ buffer.old ++ map word_of (global_get_words w height index)) }
     ensures err { OnErr result (buffer.new ≡ buffer.old) }
 {
     let [a, b, c] = load_behind(Register::T0, globals(), 8 * u64::from(index));
@@ -38,7 +38,7 @@ pub fn emit_global_set(
 ) -> Result<(), AllocError>
     requires operand { 1 ≤ height }
     requires fits { operand layout.now (height - 1) < 2 ^ 32 }
-    ensures ok { (w : Around) → w.layout ≡ layout.now → OnOk result (buffer.new ≡ buffer.old ++ map word_of (global_set_words w height index)) }
+    ensures ok { (w : EmitContext) → w.layout ≡ layout.now → OnOk result (buffer.new ≡ buffer.old ++ map word_of (global_set_words w height index)) }
     ensures err { OnErr result (buffer.new ≡ buffer.old) }
 {
     let [a, b, c] = slot_load(Register::T0, layout.operand(height - 1));

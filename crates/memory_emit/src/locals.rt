@@ -3,7 +3,7 @@
 ghost use Rattle.std.specs.Prelude.{◌≡◌, ◌<◌, ◌≤◌, ◌-◌, ◌^◌, ◌++◌, map, OnOk, OnErr};
 ghost use Rattle.rv_isa.specs.Words.{word_of};
 ghost use Rattle.frame_layout.specs.Slots.{operand};
-ghost use Rattle.frame_layout.specs.Templates.{Around, local_get_words, local_set_words};
+ghost use Rattle.frame_layout.specs.Templates.{EmitContext, local_get_words, local_set_words};
 
 use frame_layout::Layout;
 use frame_layout::words::{slot_load, slot_store};
@@ -18,7 +18,7 @@ pub fn emit_local_get(
     index: u32,
 ) -> Result<(), AllocError>
     requires { operand layout.now height < 2 ^ 32 }
-    ensures ok { (w : Around) → w.layout ≡ layout.now → OnOk result (buffer.new ≡ buffer.old ++ map word_of (local_get_words w height index)) }
+    ensures ok { (w : EmitContext) → w.layout ≡ layout.now → OnOk result (buffer.new ≡ buffer.old ++ map word_of (local_get_words w height index)) }
     ensures err { OnErr result (buffer.new ≡ buffer.old) }
 {
     let [a, b, c] = slot_load(Register::T0, layout.local(index));
@@ -35,7 +35,7 @@ pub fn emit_local_set(
 ) -> Result<(), AllocError>
     requires operand { 1 ≤ height }
     requires fits { operand layout.now (height - 1) < 2 ^ 32 }
-    ensures ok { (w : Around) → w.layout ≡ layout.now → OnOk result (buffer.new ≡ buffer.old ++ map word_of (local_set_words w height index)) }
+    ensures ok { (w : EmitContext) → w.layout ≡ layout.now → OnOk result (buffer.new ≡ buffer.old ++ map word_of (local_set_words w height index)) }
     ensures err { OnErr result (buffer.new ≡ buffer.old) }
 {
     let [a, b, c] = slot_load(Register::T0, layout.operand(height - 1));
@@ -53,7 +53,7 @@ pub fn emit_local_tee(
 ) -> Result<(), AllocError>
     requires operand { 1 ≤ height }
     requires fits { operand layout.now (height - 1) < 2 ^ 32 }
-    ensures ok { (w : Around) → w.layout ≡ layout.now → OnOk result (buffer.new ≡ buffer.old ++ map word_of (local_set_words w height index)) }
+    ensures ok { (w : EmitContext) → w.layout ≡ layout.now → OnOk result (buffer.new ≡ buffer.old ++ map word_of (local_set_words w height index)) }
     ensures err { OnErr result (buffer.new ≡ buffer.old) }
 {
     emit_local_set(buffer, layout, height, index)

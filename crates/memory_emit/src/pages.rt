@@ -3,7 +3,7 @@
 ghost use Rattle.std.specs.Prelude.{◌≡◌, ◌<◌, ◌≤◌, ◌-◌, ◌^◌, ◌++◌, map, OnOk, OnErr};
 ghost use Rattle.rv_isa.specs.Words.{word_of};
 ghost use Rattle.frame_layout.specs.Slots.{operand};
-ghost use Rattle.frame_layout.specs.Templates.{Around, size_words, grow_words};
+ghost use Rattle.frame_layout.specs.Templates.{EmitContext, size_words, grow_words};
 
 use frame_layout::Layout;
 use frame_layout::registers::memory_size;
@@ -17,7 +17,7 @@ use std::alloc::AllocError;
 /// bytes are counted.
 pub fn emit_size(buffer: &mut WordBuffer, layout: &Layout, height: u32) -> Result<(), AllocError>
     requires { operand layout.now height < 2 ^ 32 }
-    ensures ok { (w : Around) → w.layout ≡ layout.now → OnOk result (buffer.new ≡ buffer.old ++ map word_of (size_words w height)) }
+    ensures ok { (w : EmitContext) → w.layout ≡ layout.now → OnOk result (buffer.new ≡ buffer.old ++ map word_of (size_words w height)) }
     ensures err { OnErr result (buffer.new ≡ buffer.old) }
 {
     let pages = encode_shift(ShiftOp::Srli, Register::T0, memory_size(), Shamt6::new(16));
@@ -30,7 +30,7 @@ pub fn emit_size(buffer: &mut WordBuffer, layout: &Layout, height: u32) -> Resul
 pub fn emit_grow(buffer: &mut WordBuffer, layout: &Layout, height: u32) -> Result<(), AllocError>
     requires operand { 1 ≤ height }
     requires fits { operand layout.now (height - 1) < 2 ^ 32 }
-    ensures ok { (w : Around) → w.layout ≡ layout.now → OnOk result (buffer.new ≡ buffer.old ++ map word_of (grow_words w height)) }
+    ensures ok { (w : EmitContext) → w.layout ≡ layout.now → OnOk result (buffer.new ≡ buffer.old ++ map word_of (grow_words w height)) }
     ensures err { OnErr result (buffer.new ≡ buffer.old) }
 {
     let slot = layout.operand(height - 1);

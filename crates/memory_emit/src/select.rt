@@ -3,7 +3,7 @@
 ghost use Rattle.std.specs.Prelude.{◌≡◌, ◌<◌, ◌≤◌, ◌-◌, ◌^◌, ◌++◌, map, OnOk, OnErr};
 ghost use Rattle.rv_isa.specs.Words.{word_of};
 ghost use Rattle.frame_layout.specs.Slots.{operand};
-ghost use Rattle.frame_layout.specs.Templates.{Around, select_words};
+ghost use Rattle.frame_layout.specs.Templates.{EmitContext, select_words};
 
 use frame_layout::Layout;
 use frame_layout::words::{slot_load, slot_store};
@@ -15,7 +15,7 @@ use std::alloc::AllocError;
 pub fn emit_select(buffer: &mut WordBuffer, layout: &Layout, height: u32) -> Result<(), AllocError>
     requires operands { 3 ≤ height }
     requires fits { operand layout.now (height - 1) < 2 ^ 32 }
-    ensures ok { (w : Around) → w.layout ≡ layout.now → OnOk result (buffer.new ≡ buffer.old ++ map word_of (select_words w height)) }
+    ensures ok { (w : EmitContext) → w.layout ≡ layout.now → OnOk result (buffer.new ≡ buffer.old ++ map word_of (select_words w height)) }
     ensures err { OnErr result (buffer.new ≡ buffer.old) }
 {
     let [a, b, c] = slot_load(Register::T0, layout.operand(height - 1));

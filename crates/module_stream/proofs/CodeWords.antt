@@ -12,7 +12,7 @@ use Rattle.wasm_defs.specs.Context.{context_of, import_count, tables_of, body_co
 use Rattle.wasm_defs.specs.Places.{places_of, greatest}
 use Rattle.wasm_defs.specs.Configurations.{Origin}
 use Rattle.wasm_defs.specs.Instances.{first_minimum, origin_of}
-use Rattle.frame_layout.specs.Templates.{Around}
+use Rattle.frame_layout.specs.Templates.{EmitContext}
 use Rattle.frame_layout.specs.Functions.{no_distance, function_code, calls_of, sites_of}
 use Rattle.rv_isa.specs.Words.{word_of}
 use Rattle.rv_isa.specs.declared.operations.Op.{Op}
@@ -69,7 +69,7 @@ module _ (all first : List Item) (same : SayTheSame all first) (k : ℕ) (b : Bo
   abbrev context_by : Context → ℕ → Context
   context_by c n = body_context c (type_of_function c (n + k)) (read_of b).groups
 
-  abbrev around_by : Context → ℕ → List Limits → Around
+  abbrev around_by : Context → ℕ → List Limits → EmitContext
   around_by c n t = record {
     layout = record {
       params = length (type_of_function c (n + k)).params;

@@ -16,7 +16,7 @@ use Rattle.section_reader.specs.declared.stage.Stage.TheVariants.{Preamble, Betw
 use Rattle.section_reader.specs.Stages.{proceed, unfinished, between, is_at_bodies}
 use Rattle.section_reader.specs.FrontLeft.{from_there, cursor_of, total}
 use Rattle.section_reader.specs.FrontLeft as outline
-use Rattle.section_reader.specs.FrontOnward.{onward_left, Told, EndsOnward}
+use Rattle.section_reader.specs.FrontOnward.{remaining_parts, Told, EndsOnward}
 use Rattle.section_reader.specs.Onward.{onward, after_parts, AreSections}
 use Rattle.section_reader.proofs.OnwardSilence.{kept_ends, silent_ends}
 use Rattle.section_reader.proofs.Silence.{silent_is}
@@ -75,13 +75,13 @@ module _ (f : Front) (waits : f.waiting ≡ None) (none : f.refusal ≡ None) (a
   outline_there : f.kept.items ≡ [] → outline.left f [] ≡ proceed f.steps.stage f.steps.seen (record { at = f.at; rest = []; end = f.end })
   outline_there kept = rw (waits, none) (ap (λ (l : List ℕ). proceed f.steps.stage f.steps.seen (record { at = f.at; rest = l; end = f.end })) (append-nil f.kept.items ∙ kept))
 
-  answered : {answer : _} (k : EndsOnward f answer) (r : Refusal) → (onward_left f []).ending ≡ Refused r → answer ≡ Some r
+  answered : {answer : _} (k : EndsOnward f answer) (r : Refusal) → (remaining_parts f []).ending ≡ Refused r → answer ≡ Some r
   answered k r e = sym k.fault ∙ ap (ending_fault (total f)) (sym (ap (λ (run : Run). run.ending) k.run ∙ ending_after k.told (ends k.ending)) ∙ e)
 
-  pub front_is_none : HasNoError (onward_left f [])
+  pub front_is_none : HasNoError (remaining_parts f [])
   front_is_none = of f.kept.items refl
     where
-      of : (l : List ℕ) → f.kept.items ≡ l → HasNoError (onward_left f [])
+      of : (l : List ℕ) → f.kept.items ≡ l → HasNoError (remaining_parts f [])
       of [] kept r kind e =
           unfinished_fault f.steps.stage f.steps.seen (cursor_of f) f.at r kind
           (ap (λ (run : Run). ending_fault f.at run.ending) (sym stuck ∙ outline_there kept)
@@ -100,7 +100,7 @@ pub none_is_read : (f g : Front) (taken : ℕ) (x : Item) → f.waiting ≡ None
 none_is_read f g taken x waits apart t some =
     let e = front_ends f waits apart in
     let run = from_there g.refusal (onward g.steps.stage g.steps.seen (with_more (cursor_of g) (drop taken [] ++ []))) in
-    let item : onward_left g (drop taken [] ++ []) ≡ after_part (Listed x) run = rw some refl in
+    let item : remaining_parts g (drop taken [] ++ []) ≡ after_part (Listed x) run = rw some refl in
     let same : e.1.told ≡ t.told ++ Listed x ∷ run.parts =
     sym (append-nil e.1.told)
     ∙ sym (parts_after e.1.told (ends e.1.ending))
@@ -128,5 +128,5 @@ cut_is_none seen c free r kind e = of (left c []).ending refl (sym (ending_after
     of BytesOwed is t = absurd cc
 
 -- after the section
-pub behind_is_none : (f : Front) (seen : Seen) (at : ℕ) → onward_left f [] ≡ sections seen (record { at = at; rest = []; end = no_end }) → HasNoError (onward_left f [])
+pub behind_is_none : (f : Front) (seen : Seen) (at : ℕ) → remaining_parts f [] ≡ sections seen (record { at = at; rest = []; end = no_end }) → HasNoError (remaining_parts f [])
 behind_is_none f seen at run r kind e = section_is_none seen at [] refl r kind (ap (λ (k : Run). k.ending) (sym run) ∙ e)

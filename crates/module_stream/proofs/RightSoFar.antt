@@ -24,7 +24,7 @@ use Rattle.body_cutter.specs.Cuttings.{Cutting, left}
 use Rattle.module_stream.specs.declared.compilation.Compilation.{Compilation}
 use Rattle.module_stream.specs.CutBodies.{counts_data, coded_all, behind, sections_behind}
 use Rattle.module_stream.specs.Progress.{IsJudged}
-use Rattle.module_stream.specs.RightSoFar.{IsRightSoFar}
+use Rattle.module_stream.specs.RightSoFar.{PrefixIsValid}
 use Rattle.module_stream.specs.Streaming.{left_of, IsGoing, IsPlaced, HasNoError, IsErrorFree}
 use Rattle.module_stream.proofs.Judging.{all_told}
 use Rattle.module_stream.proofs.Stopped.{not_ended}
@@ -99,7 +99,7 @@ refused_lasts came r e = not_ended r.kind (subst EndingLasts e (module_lasts cam
 no_error_read : (came : List ℕ) (run : Run) {spaces : _} {bodies : ℕ} → IsJudged came run spaces bodies → HasNoError run → (r : Refusal) → (module_read came).ending ≡ Refused r → ⊥
 no_error_read came run j free r e = free r (refused_lasts came r e) (sym j.ending ∙ e)
 
-right : (came : List ℕ) (f : Front) (cutter : Option Cutting) {spaces : _} {bodies : ℕ} → IsPlaced f cutter (length came) [] → IsJudged came (left_of f cutter []) spaces bodies → HasNoError (left_of f cutter []) → IsRightSoFar came
+right : (came : List ℕ) (f : Front) (cutter : Option Cutting) {spaces : _} {bodies : ℕ} → IsPlaced f cutter (length came) [] → IsJudged came (left_of f cutter []) spaces bodies → HasNoError (left_of f cutter []) → PrefixIsValid came
 right came f None p j free =
     let t = front_ends f p.idle p.outside in
     let told = t.1.told in
@@ -123,5 +123,5 @@ right came f (Some c) p j free = record {
   no_error = no_error_read came (left_of f (Some c) []) j free;
 }
 
-pub right_so_far : (came : List ℕ) (s : Compilation) → IsGoing came s [] → IsErrorFree s → IsRightSoFar came
+pub right_so_far : (came : List ℕ) (s : Compilation) → IsGoing came s [] → IsErrorFree s → PrefixIsValid came
 right_so_far came s g free = right came s.front s.cutter g.place g.judging.judged free

@@ -14,7 +14,7 @@ use Rattle.section_reader.specs.declared.stage.Stage.TheVariants as stage
 use Rattle.section_reader.specs.Stages.{is_at_bodies, prepend}
 use Rattle.section_reader.specs.Onward.{after_parts}
 use Rattle.section_reader.specs.FrontLeft.{total, can_skip}
-use Rattle.section_reader.specs.FrontOnward.{onward_left, Told, FedOnward, ToldRefused, FeedsOnward, Follows, BodiesCome, EndsOnward}
+use Rattle.section_reader.specs.FrontOnward.{remaining_parts, Told, FedOnward, ToldRefused, FeedsOnward, Follows, BodiesCome, EndsOnward}
 use Rattle.wasm_defs.specs.Entries.{Seen}
 use Rattle.body_cutter.specs.Sections.{bodies_from}
 use Rattle.body_cutter.specs.Sections as cut
@@ -42,7 +42,7 @@ use Rattle.wasm_laws.proofs.Described.{whole_ending}
 
 pub record IsReading (bytes : List ℕ) (f : Front) (spaces : Spaces) (codes : Coding) (more : List ℕ) : Type 0 where
   pub few : length bytes ≤ 67108869
-  pub judging : IsJudging bytes (onward_left f more) spaces codes
+  pub judging : IsJudging bytes (remaining_parts f more) spaces codes
   pub place : IsOutside f (length bytes) more
 
 pub record IsCutting (bytes : List ℕ) (f : Front) (c : Cutting) (spaces : Spaces) (codes : Coding) (more : List ℕ) : Type 0 where
@@ -86,11 +86,11 @@ module _ (bytes : List ℕ) (s : Compilation) (more : List ℕ) where
 
 -- ---- before the first byte
 
-pub reading_begins : (bytes : List ℕ) (f : Front) (spaces : Spaces) (codes : Coding) → length bytes ≤ 67108869 → onward_left f bytes ≡ module_read bytes → total f ≡ 0 → is_at_bodies f.steps.stage ≡ false → f.waiting ≡ None → spaces ≡ spaces_of [] → AreAll codes []
+pub reading_begins : (bytes : List ℕ) (f : Front) (spaces : Spaces) (codes : Coding) → length bytes ≤ 67108869 → remaining_parts f bytes ≡ module_read bytes → total f ≡ 0 → is_at_bodies f.steps.stage ≡ false → f.waiting ≡ None → spaces ≡ spaces_of [] → AreAll codes []
     → IsReading bytes f spaces codes bytes
 reading_begins bytes f spaces codes few is none apart idle empty uncoded = record {
   few = few;
-  judging = begins bytes (onward_left f bytes) spaces codes is empty uncoded;
+  judging = begins bytes (remaining_parts f bytes) spaces codes is empty uncoded;
   place = record { idle = idle; outside = apart; count = omega (arith, none) };
 }
 
@@ -100,22 +100,22 @@ length_left : (n : ℕ) (xs : List ℕ) → n ≤ length xs → n + length (drop
 length_left n xs h = omega (arith, length-drop n xs)
 
 module _ (bytes : List ℕ) (f g h : Front) (spaces : Spaces) (codes : Coding) (piece more : List ℕ) (taken : ℕ) (few : taken ≤ length piece) (fed : FedOnward f piece taken g) (item : Option Item)
-    (same : (later : List ℕ) → onward_left g later ≡ prepend item (onward_left h later)) (count : total h ≡ total g) where
+    (same : (later : List ℕ) → remaining_parts g later ≡ prepend item (remaining_parts h later)) (count : total h ≡ total g) where
   abbrev pub later : List ℕ
   later = drop taken piece ++ more
 
-  pub judging_fed : IsReading bytes f spaces codes (piece ++ more) → IsJudging bytes (prepend item (onward_left h later)) spaces codes
+  pub judging_fed : IsReading bytes f spaces codes (piece ++ more) → IsJudging bytes (prepend item (remaining_parts h later)) spaces codes
   judging_fed r =
       let t : Told f piece taken g = fed.told r.place.outside in
-      sections_taken bytes spaces codes t.told (prepend item (onward_left h later)) t.sections
-      (judging_on bytes (onward_left f (piece ++ more)) (after_parts t.told (prepend item (onward_left h later))) spaces codes (t.run more ∙ ap (after_parts t.told) (same later)) r.judging)
+      sections_taken bytes spaces codes t.told (prepend item (remaining_parts h later)) t.sections
+      (judging_on bytes (remaining_parts f (piece ++ more)) (after_parts t.told (prepend item (remaining_parts h later))) spaces codes (t.run more ∙ ap (after_parts t.told) (same later)) r.judging)
 
   pub count_later : IsReading bytes f spaces codes (piece ++ more) → total h + length later ≡ length bytes
   count_later r = omega (arith, r.place.count, count, fed.count, few, length-append piece more, length-append (drop taken piece) more, length_left taken piece few)
 
 -- no item is whole
 pub reading_on : (bytes : List ℕ) (f g h : Front) (spaces : Spaces) (codes : Coding) (piece more : List ℕ) (taken : ℕ) → taken ≤ length piece → FedOnward f piece taken g
-    → ((later : List ℕ) → onward_left g later ≡ onward_left h later) → h.steps ≡ g.steps → total h ≡ total g → g.waiting ≡ None → h.waiting ≡ None
+    → ((later : List ℕ) → remaining_parts g later ≡ remaining_parts h later) → h.steps ≡ g.steps → total h ≡ total g → g.waiting ≡ None → h.waiting ≡ None
     → IsReading bytes f spaces codes (piece ++ more) → IsReading bytes h spaces codes (drop taken piece ++ more)
 reading_on bytes f g h spaces codes piece more taken few fed same steps count none idle r = record {
   few = r.few;
@@ -136,13 +136,13 @@ refused_at bytes spaces codes ending r is j = is_refused bytes (ends ending) spa
 pub refused_reading : (bytes : List ℕ) (f g : Front) (spaces : Spaces) (codes : Coding) (piece more : List ℕ) (r : Refusal) → ToldRefused f piece r g → IsReading bytes f spaces codes (piece ++ more) → IsVerdictOf bytes (Rejected r)
 refused_reading bytes f g spaces codes piece more r t p =
     refused_at bytes spaces codes (Refused r) r refl
-    (sections_taken bytes spaces codes t.told (ends (Refused r)) t.sections (judging_on bytes (onward_left f (piece ++ more)) (after_parts t.told (ends (Refused r))) spaces codes (t.run more) p.judging))
+    (sections_taken bytes spaces codes t.told (ends (Refused r)) t.sections (judging_on bytes (remaining_parts f (piece ++ more)) (after_parts t.told (ends (Refused r))) spaces codes (t.run more) p.judging))
 
 -- ---- the bytes end outside the bodies
 
 module _ (bytes : List ℕ) (f : Front) (spaces : Spaces) (codes : Coding) (fault : Option Refusal) (t : EndsOnward f fault) (p : IsReading bytes f spaces codes []) where
   judging_end : IsJudging bytes (ends t.ending) spaces codes
-  judging_end = sections_taken bytes spaces codes t.told (ends t.ending) t.sections (judging_on bytes (onward_left f []) (after_parts t.told (ends t.ending)) spaces codes t.run p.judging)
+  judging_end = sections_taken bytes spaces codes t.told (ends t.ending) t.sections (judging_on bytes (remaining_parts f []) (after_parts t.told (ends t.ending)) spaces codes t.run p.judging)
 
   all_read : total f ≡ length bytes
   all_read = omega (arith, p.place.count)
@@ -163,10 +163,10 @@ module _ (bytes : List ℕ) (f : Front) (spaces : Spaces) (codes : Coding) (faul
 module _ (bytes : List ℕ) (s : Compilation) (x : Item) (more : List ℕ) (t : IsTaking bytes s x more) where
   -- the start function is wrong
   pub item_refused : (r : Refusal) → IsUseFault (context_in s.spaces) (use_of x) r → IsVerdictOf bytes (Rejected r)
-  item_refused r f = start_refused bytes (onward_left s.front more) s.spaces s.codes x r t.judging f
+  item_refused r f = start_refused bytes (remaining_parts s.front more) s.spaces s.codes x r t.judging f
 
-  pub item_judged : (later : Spaces) → UsesRight (context_in s.spaces) (use_of x) → later ≡ with_item s.spaces x → IsJudging bytes (onward_left s.front more) later s.codes
-  item_judged later starts is = after_item bytes (onward_left s.front more) s.codes s.spaces later x t.judging starts is
+  pub item_judged : (later : Spaces) → UsesRight (context_in s.spaces) (use_of x) → later ≡ with_item s.spaces x → IsJudging bytes (remaining_parts s.front more) later s.codes
+  item_judged later starts is = after_item bytes (remaining_parts s.front more) s.codes s.spaces later x t.judging starts is
 
   -- no bodies come
   pub item_reading : (later : Spaces) → UsesRight (context_in s.spaces) (use_of x) → later ≡ with_item s.spaces x → is_at_bodies s.front.steps.stage ≡ false → IsReading bytes s.front later s.codes more
@@ -178,11 +178,11 @@ module _ (bytes : List ℕ) (s : Compilation) (x : Item) (more : List ℕ) (t : 
 
   -- the bodies come
   pub item_cutting : (later : Spaces) (c : Cutting) (count end : ℕ) → UsesRight (context_in s.spaces) (use_of x) → later ≡ with_item s.spaces x → BodiesCome count end s.front
-      → ((rest : List ℕ) → onward_left s.front rest ≡ cut_run (counts_data s.front.steps.seen) (left c rest) (sections_behind s.front.steps.seen c.place.at c.place.end rest)) → c.place.at ≡ total s.front → c.place.end ≡ end
+      → ((rest : List ℕ) → remaining_parts s.front rest ≡ cut_run (counts_data s.front.steps.seen) (left c rest) (sections_behind s.front.steps.seen c.place.at c.place.end rest)) → c.place.at ≡ total s.front → c.place.end ≡ end
       → IsCutting bytes s.front c later s.codes more
   item_cutting later c count end starts is come run at ends = record {
     few = t.few;
-    judging = judging_on bytes (onward_left s.front more) (cut_run (counts_data s.front.steps.seen) (left c more) (sections_behind s.front.steps.seen c.place.at c.place.end more)) later s.codes (run more) (item_judged later starts is);
+    judging = judging_on bytes (remaining_parts s.front more) (cut_run (counts_data s.front.steps.seen) (left c more) (sections_behind s.front.steps.seen c.place.at c.place.end more)) later s.codes (run more) (item_judged later starts is);
     skips = subst (λ (n : ℕ). can_skip s.front n ≡ true) (sym ends) come.skip;
     count = omega (arith, at, t.count);
   }
@@ -190,7 +190,7 @@ module _ (bytes : List ℕ) (s : Compilation) (x : Item) (more : List ℕ) (t : 
 -- the bodies, by the cutter
 pub bodies_cut : (f : Front) (c : Cutting) (index count end least : ℕ) → BodiesCome count end f
     → ((rest : List ℕ) → left c rest ≡ handed (no_batch least) (bodies_from index count (record { at = total f; rest = rest; end = end }))) → c.place.at ≡ total f → c.place.end ≡ end
-    → (rest : List ℕ) → onward_left f rest ≡ cut_run (counts_data f.steps.seen) (left c rest) (sections_behind f.steps.seen c.place.at c.place.end rest)
+    → (rest : List ℕ) → remaining_parts f rest ≡ cut_run (counts_data f.steps.seen) (left c rest) (sections_behind f.steps.seen c.place.at c.place.end rest)
 bodies_cut f c index count end least come is at ends rest =
     let g = bodies_from index count (record { at = total f; rest = rest; end = end }) in
     come.run rest
@@ -220,7 +220,7 @@ not_bodies (item.Segment form memory place bytes) f none h = h
 pub may_begin : (bytes : List ℕ) (s : Compilation) (count : ℕ × ℕ) (end : ℕ) (more : List ℕ) (t : IsTaking bytes s (item.Code count end) more) (later : Spaces) → UsesRight (context_in s.spaces) (use_of (item.Code count end)) → later ≡ with_item s.spaces (item.Code count end)
     → (length later.functions < 2 ^ 32) × (later.imported + count.1 < 2 ^ 32) × (total s.front ≤ end) × (end < 2 ^ 60)
 may_begin bytes s count end more t later starts is =
-    let run = onward_left s.front more in
+    let run = remaining_parts s.front more in
     let j = item_judged bytes s (item.Code count end) more t later starts is in
     let functions = few_functions bytes run later s.codes.count j.judged in
     let imports = few_imports bytes run later s.codes.count j.judged in
@@ -237,34 +237,34 @@ parts_told [] r = omega arith
 parts_told (x ∷ told) r = omega (arith, parts_told told r)
 
 module _ (f g h : Front) (piece : List ℕ) (taken : ℕ) (few : taken ≤ length piece) (t : Told f piece taken g) (item : Option Item)
-    (same : (later : List ℕ) → onward_left g later ≡ prepend item (onward_left h later)) where
-  run_is : onward_left f piece ≡ after_parts t.told (prepend item (onward_left h (drop taken piece)))
+    (same : (later : List ℕ) → remaining_parts g later ≡ prepend item (remaining_parts h later)) where
+  run_is : remaining_parts f piece ≡ after_parts t.told (prepend item (remaining_parts h (drop taken piece)))
   run_is =
-      ap (onward_left f) (sym (append-nil piece))
+      ap (remaining_parts f) (sym (append-nil piece))
       ∙ t.run []
-      ∙ ap (λ (l : List ℕ). after_parts t.told (onward_left g l)) (append-nil (drop taken piece))
+      ∙ ap (λ (l : List ℕ). after_parts t.told (remaining_parts g l)) (append-nil (drop taken piece))
       ∙ ap (after_parts t.told) (same (drop taken piece))
 
-  pub parts_are : length (onward_left f piece).parts ≡ length t.told + length (prepend item (onward_left h (drop taken piece))).parts
-  parts_are = ap (λ (r : Run). length r.parts) run_is ∙ parts_told t.told (prepend item (onward_left h (drop taken piece)))
+  pub parts_are : length (remaining_parts f piece).parts ≡ length t.told + length (prepend item (remaining_parts h (drop taken piece))).parts
+  parts_are = ap (λ (r : Run). length r.parts) run_is ∙ parts_told t.told (prepend item (remaining_parts h (drop taken piece)))
 
 mode_is_small : (o : Option Cutting) → mode_weight o ≤ 1
 mode_is_small None = omega arith
 mode_is_small (Some c) = omega arith
 
-pub less_item : (old new : Compilation) (g h : Front) (x : Item) (piece : List ℕ) (taken : ℕ) → old.cutter ≡ None → taken ≤ length piece → Told old.front piece taken g → ((later : List ℕ) → onward_left g later ≡ prepend (Some x) (onward_left h later))
-    → ((later : List ℕ) → onward_left h later ≡ left_of new.front new.cutter later) → work_left new (drop taken piece) < work_left old piece
+pub less_item : (old new : Compilation) (g h : Front) (x : Item) (piece : List ℕ) (taken : ℕ) → old.cutter ≡ None → taken ≤ length piece → Told old.front piece taken g → ((later : List ℕ) → remaining_parts g later ≡ prepend (Some x) (remaining_parts h later))
+    → ((later : List ℕ) → remaining_parts h later ≡ left_of new.front new.cutter later) → work_left new (drop taken piece) < work_left old piece
 less_item old new g h x piece taken none few t same took =
-    let there : length (left_of old.front old.cutter piece).parts ≡ length (onward_left old.front piece).parts = ap (λ (o : Option Cutting). length (left_of old.front o piece).parts) none in
-    let here : length (left_of new.front new.cutter (drop taken piece)).parts ≡ length (onward_left h (drop taken piece)).parts = sym (ap (λ (r : Run). length r.parts) (took (drop taken piece))) in
+    let there : length (left_of old.front old.cutter piece).parts ≡ length (remaining_parts old.front piece).parts = ap (λ (o : Option Cutting). length (left_of old.front o piece).parts) none in
+    let here : length (left_of new.front new.cutter (drop taken piece)).parts ≡ length (remaining_parts h (drop taken piece)).parts = sym (ap (λ (r : Run). length r.parts) (took (drop taken piece))) in
     omega (arith, there, here, parts_are old.front g h piece taken few t (Some x) same, mode_is_small new.cutter, shorter taken piece few)
 
 pub less_none : (old new : Compilation) (g h : Front) (piece : List ℕ) (taken : ℕ) → old.cutter ≡ None → new.cutter ≡ None → new.front ≡ h → taken ≡ length piece → 0 < length piece → Told old.front piece taken g
-    → ((later : List ℕ) → onward_left g later ≡ onward_left h later) → work_left new (drop taken piece) < work_left old piece
+    → ((later : List ℕ) → remaining_parts g later ≡ remaining_parts h later) → work_left new (drop taken piece) < work_left old piece
 less_none old new g h piece taken none still front all some t same =
     let few : taken ≤ length piece = omega arith in
-    let there : length (left_of old.front old.cutter piece).parts ≡ length (onward_left old.front piece).parts = ap (λ (o : Option Cutting). length (left_of old.front o piece).parts) none in
-    let here : length (left_of new.front new.cutter (drop taken piece)).parts ≡ length (onward_left h (drop taken piece)).parts = ap (λ (o : Option Cutting). length (left_of new.front o (drop taken piece)).parts) still ∙ ap (λ (k : Front). length (onward_left k (drop taken piece)).parts) front in
+    let there : length (left_of old.front old.cutter piece).parts ≡ length (remaining_parts old.front piece).parts = ap (λ (o : Option Cutting). length (left_of old.front o piece).parts) none in
+    let here : length (left_of new.front new.cutter (drop taken piece)).parts ≡ length (remaining_parts h (drop taken piece)).parts = ap (λ (o : Option Cutting). length (left_of new.front o (drop taken piece)).parts) still ∙ ap (λ (k : Front). length (remaining_parts k (drop taken piece)).parts) front in
     let mode : mode_weight new.cutter ≡ 0 = ap mode_weight still in
     omega (arith, there, here, mode, parts_are old.front g h piece taken few t None same, length-drop taken piece)
 
@@ -324,15 +324,15 @@ module _ (bytes : List ℕ) (f : Front) (old mid new : Cutting) (spaces : Spaces
       ∙ parts_told (coded_all (counts_data f.steps.seen) mid.queue.closed) (rest_run f.steps.seen mid (drop taken piece))
 
   -- the section is whole
-  module _ (g : Front) (whole : is_whole new ≡ true) (is : (later : List ℕ) → left new later ≡ record { queue = new.queue; ending = cut.Whole }) (skipped : (later : List ℕ) → onward_left g later ≡ sections f.steps.seen (record { at = new.place.end; rest = later; end = no_end })) where
-    skipped_run : (later : List ℕ) → rest_run f.steps.seen mid later ≡ onward_left g later
+  module _ (g : Front) (whole : is_whole new ≡ true) (is : (later : List ℕ) → left new later ≡ record { queue = new.queue; ending = cut.Whole }) (skipped : (later : List ℕ) → remaining_parts g later ≡ sections f.steps.seen (record { at = new.place.end; rest = later; end = no_end })) where
+    skipped_run : (later : List ℕ) → rest_run f.steps.seen mid later ≡ remaining_parts g later
     skipped_run later = judged_run later ∙ whole_run f.steps.seen new later whole (is later) closed ∙ sym (skipped later)
 
     pub reading_behind : length bytes ≤ 67108869 → old.place.at + length (piece ++ more) ≡ length bytes → IsJudging bytes (rest_run f.steps.seen mid behind_piece) spaces codes
         → g.steps.stage ≡ stage.Between → total g ≡ new.place.end → g.waiting ≡ None → IsReading bytes g spaces codes behind_piece
     reading_behind few count j between all idle = record {
       few = few;
-      judging = judging_on bytes (rest_run f.steps.seen mid behind_piece) (onward_left g behind_piece) spaces codes (skipped_run behind_piece) j;
+      judging = judging_on bytes (rest_run f.steps.seen mid behind_piece) (remaining_parts g behind_piece) spaces codes (skipped_run behind_piece) j;
       place = record {
         idle = idle;
         outside = ap is_at_bodies between;
@@ -340,7 +340,7 @@ module _ (bytes : List ℕ) (f : Front) (old mid new : Cutting) (spaces : Spaces
       };
     }
 
-    pub less_whole : length (onward_left g (drop taken piece)).parts ≤ length (cut_run (counts_data f.steps.seen) (left old piece) (sections_behind f.steps.seen old.place.at old.place.end piece)).parts
+    pub less_whole : length (remaining_parts g (drop taken piece)).parts ≤ length (cut_run (counts_data f.steps.seen) (left old piece) (sections_behind f.steps.seen old.place.at old.place.end piece)).parts
     less_whole = omega (arith, ap (λ (r : Run). length r.parts) (skipped_run (drop taken piece)), cut_parts)
 
   pub less_cut : length (cut_run (counts_data f.steps.seen) (left new (drop taken piece)) (sections_behind f.steps.seen new.place.at new.place.end (drop taken piece))).parts ≤ length (cut_run (counts_data f.steps.seen) (left old piece) (sections_behind f.steps.seen old.place.at old.place.end piece)).parts
@@ -393,7 +393,7 @@ taken_out bytes s t c more e front spaces codes g =
 -- ---- an item that was read
 
 pub item_read : (bytes : List ℕ) (s t : Compilation) (g : Front) (x : Item) (piece more : List ℕ) (taken : ℕ) → taken ≤ length piece → FedOnward s.front piece taken g
-    → ((later : List ℕ) → onward_left g later ≡ prepend (Some x) (onward_left t.front later)) → total t.front ≡ total g → t.front.waiting ≡ None → Follows x t.front
+    → ((later : List ℕ) → remaining_parts g later ≡ prepend (Some x) (remaining_parts t.front later)) → total t.front ≡ total g → t.front.waiting ≡ None → Follows x t.front
     → t.cutter ≡ None → t.spaces ≡ s.spaces → t.codes ≡ s.codes
     → IsReading bytes s.front s.spaces s.codes (piece ++ more) → IsTaking bytes t x (drop taken piece ++ more)
 item_read bytes s t g x piece more taken few fed same count idle follows none spaces codes r =

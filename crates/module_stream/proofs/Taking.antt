@@ -16,7 +16,7 @@ use Rattle.wasm_defs.specs.Context.{context_of, types_of}
 use Rattle.wasm_defs.specs.Outside.{Body, Run, Part, after_part}
 use Rattle.wasm_defs.specs.Outside as outside
 use Rattle.wasm_defs.specs.Faults.{IsValidCode, read_of, context_at, items_of, bodies_of}
-use Rattle.frame_layout.specs.Templates.{Around}
+use Rattle.frame_layout.specs.Templates.{EmitContext}
 use Rattle.frame_layout.specs.Functions.{no_distance, function_code}
 use Rattle.index_spaces.specs.ItemLimits.{HasSmallType}
 use Rattle.index_spaces.specs.Spaces.{Spaces, spaces_of, context_in}
@@ -54,7 +54,7 @@ moved_body spaces context bodies imported first bytes r same count h =
 
 -- the code is that of the body after these items and so many bodies
 code_of_body : (items : List Item) (k : ℕ) (b : Body) (tree : Seq) (code : Code)
-    → ((w : Around) → w.layout ≡ (around items k b tree no_distance).layout → IsUnlinked (rows_of items) (context_of items).types w → IsFunctionCode w (origin_of items k b) (context_at items k b) tree code) → IsCodeOf items k b tree code
+    → ((w : EmitContext) → w.layout ≡ (around items k b tree no_distance).layout → IsUnlinked (rows_of items) (context_of items).types w → IsFunctionCode w (origin_of items k b) (context_at items k b) tree code) → IsCodeOf items k b tree code
 code_of_body items k b tree code is =
     let here = is (around items k b tree no_distance) refl (record { near = refl; rows_are = refl; likes_are = refl }) in
     record {

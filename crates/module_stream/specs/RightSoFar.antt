@@ -10,7 +10,7 @@ use Rattle.module_stream.specs.CutBodies.{coded_all}
 
 -- their parts are such that are right, all bodies valid; after these are at most bodies that aren't validated so
 -- far: those whose batches haven't closed, and those that are read in parallel with workers
-pub record IsRightSoFar (came : List ℕ) : Type 0 where
+pub record PrefixIsValid (came : List ℕ) : Type 0 where
   pub front : List Part
   pub bodies : List Body
   pub parts : (module_read came).parts ≡ front ++ coded_all (is_some (data_count_of (items_of front))) bodies

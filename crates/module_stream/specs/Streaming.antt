@@ -11,7 +11,7 @@ use Rattle.wasm_defs.specs.Outside as outside
 use Rattle.section_reader.specs.declared.front.Front.{Front}
 use Rattle.section_reader.specs.Stages.{is_at_bodies}
 use Rattle.section_reader.specs.FrontLeft.{total, can_skip}
-use Rattle.section_reader.specs.FrontOnward.{onward_left, Follows}
+use Rattle.section_reader.specs.FrontOnward.{remaining_parts, Follows}
 use Rattle.body_cutter.specs.Queues.{bodies_in}
 use Rattle.body_cutter.specs.Cuttings.{Cutting, left, is_whole}
 use Rattle.image_linker.specs.Judging.{IsVerdictOf}
@@ -23,7 +23,7 @@ use Rattle.module_stream.specs.Progress.{IsJudging}
 -- ---- what is left where these bytes come next
 
 abbrev pub left_of : Front → Option Cutting → List ℕ → Run
-left_of f None more = onward_left f more
+left_of f None more = remaining_parts f more
 left_of f (Some c) more = cut_run (counts_data f.steps.seen) (left c more) (sections_behind f.steps.seen c.place.at c.place.end more)
 
 -- outside the bodies
@@ -84,7 +84,7 @@ IsErrorFree s = HasNoError (left_of s.front s.cutter [])
 -- an item was read and isn't taken yet; what came before it is right
 pub record IsTaking (bytes : List ℕ) (s : Compilation) (x : Item) (more : List ℕ) : Type 0 where
   pub few : length bytes ≤ 67108869
-  pub judging : IsJudging bytes (after_part (Listed x) (onward_left s.front more)) s.spaces s.codes
+  pub judging : IsJudging bytes (after_part (Listed x) (remaining_parts s.front more)) s.spaces s.codes
   pub outside : s.cutter ≡ None
   pub idle : s.front.waiting ≡ None
   pub follows : Follows x s.front
@@ -103,7 +103,7 @@ pub record MayBegin (s : Compilation) (count end : ℕ) : Type 0 where
 -- the item was taken, and what is left is what was left after it; or the module's error is found
 pub record TookItem (bytes : List ℕ) (old new : Compilation) (more : List ℕ) : Type 0 where
   pub going : IsGoing bytes new more
-  pub same : (later : List ℕ) → onward_left old.front later ≡ left_of new.front new.cutter later
+  pub same : (later : List ℕ) → remaining_parts old.front later ≡ left_of new.front new.cutter later
 
 abbrev pub TakesItem : List ℕ → Compilation → Result (Unit {0}) FrontStop → Compilation → List ℕ → Type 0
 TakesItem bytes old (Ok done) new more = TookItem bytes old new more

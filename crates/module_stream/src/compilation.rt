@@ -31,7 +31,8 @@ ghost use Rattle.module_stream.specs.Kept.{kept_bodies};
 ghost use Rattle.module_stream.specs.Progress.{IsJudging, CanTakeAll, TakesPart};
 ghost use Rattle.module_stream.specs.Done.{IsDone, Decides, IsBuilt};
 ghost use Rattle.module_stream.specs.Done.{checked_of};
-ghost use Rattle.module_stream.specs.Streaming.{IsGoing, IsErrorFree, IsUnread, MayGo, MayEnd, GoesOn, Advances, Lessens, IsWaiting, AllWait, WaitsAfter, with_cutter, KeepsRest, IsTaking, MayTake, MayBegin, TakesItem};
+ghost use Rattle.module_stream.specs.Streaming.{IsGoing, IsErrorFree, IsUnread, MayGo, MayEnd, GoesOn, Advances, Lessens, IsWaiting, AllWait, WaitsAfter};
+ghost use Rattle.module_stream.specs.Streaming.{with_cutter, KeepsRest, IsTaking, MayTake, MayBegin, TakesItem};
 
 use crate::bodies::take_batches;
 use crate::built::{Built, Checked};
@@ -278,7 +279,8 @@ impl Compilation {
     /// The cutter of so many bodies, which come next, in a section that ends there.
     fn begun_bodies(&self, count: u32, end: u64) -> Cutter
         requires { MayBegin self.now count end }
-        ensures left { (more : List ℕ) → left result more ≡ handed (no_batch self.now.batch) (bodies_from self.now.spaces.imported count (record { at = total self.now.front; rest = more; end = end })) }
+        ensures left { (more : List ℕ) → left result more ≡ handed (no_batch self.now.batch)
+            (bodies_from self.now.spaces.imported count (record { at = total self.now.front; rest = more; end = end })) }
         ensures at { result.place.at ≡ total self.now.front }
         ensures end { result.place.end ≡ end }
     {

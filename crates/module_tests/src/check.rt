@@ -160,8 +160,8 @@ fn plain(alloc: Global, name: &str, number: u32) -> Result<Plain, AllocError> {
         "memory.grow" => Plain::MemoryGrow,
         "i32.const" => Plain::Const(ValType::I32, 0),
         "i64.const" => Plain::Const(ValType::I64, 0),
-        "i64.eqz" => Plain::Operate(Operation::Test(ValType::I64)),
-        _ => Plain::Operate(Operation::Binary(ValType::I32, BinaryOp::Add)),
+        "i64.eqz" => Plain::Numeric(Operation::Test(ValType::I64)),
+        _ => Plain::Numeric(Operation::Binary(ValType::I32, BinaryOp::Add)),
     })
 }
 

@@ -1,6 +1,8 @@
 //! Laws of the step table, for the proofs of other crates. Each function does nothing: its contract is the law, which
 //! `specs/Laws.antt` states.
-ghost use Rattle.rv_isa.specs.Laws.{RunsGoOn, CallsStay, FaultsStay, StepsKeepSizes, RunsKeepSizes, StepsStaySound, RunsStaySound, WordsStand, BlocksRun, BlocksKeep, LoadsAreExact, StoresAreExact, WrittenIsRead, AboveStays, BelowStays, WrittenRegisterIsRead, OtherRegistersStay, PartsMeet, PartsMeetDown, LoadsBehind, StoresBehind};
+ghost use Rattle.rv_isa.specs.Laws.{RunsGoOn, CallsStay, FaultsStay, StepsKeepSizes, RunsKeepSizes, StepsStaySound, RunsStaySound, WordsStand, BlocksRun};
+ghost use Rattle.rv_isa.specs.Laws.{BlocksKeep, LoadsAreExact, StoresAreExact, WrittenIsRead, AboveStays, BelowStays, WrittenRegisterIsRead};
+ghost use Rattle.rv_isa.specs.Laws.{OtherRegistersStay, PartsMeet, PartsMeetDown, LoadsBehind, StoresBehind};
 
 /// Runs compose, and one that is over stays over.
 pub fn run_law()

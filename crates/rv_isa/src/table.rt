@@ -1,7 +1,8 @@
 //! The instruction table (chapter 24): each code of an instruction is here in one row, which `encode` and `decode`
 //! read. funct7 and funct3 are read as one number of ten bits.
 ghost use Rattle.std.specs.Prelude.{◌≡◌, ◌^◌, ◌<◌};
-ghost use Rattle.rv_isa.specs.Words.{opcode_bits, opcode_with, funct, branch_funct3, branch_op, load_funct3, load_op, store_funct3, store_op, imm_funct3, imm_op, shift_funct, shift_op, shift_w_funct, shift_w_op, reg_funct, reg_op, reg_w_funct, reg_w_op};
+ghost use Rattle.rv_isa.specs.Words.{opcode_bits, opcode_with, funct, branch_funct3, branch_op, load_funct3, load_op, store_funct3, store_op, imm_funct3};
+ghost use Rattle.rv_isa.specs.Words.{imm_op, shift_funct, shift_op, shift_w_funct, shift_w_op, reg_funct, reg_op, reg_w_funct, reg_w_op};
 
 use crate::operations::{BranchOp, ImmOp, LoadOp, RegOp, RegOpW, ShiftOp, ShiftOpW, StoreOp};
 

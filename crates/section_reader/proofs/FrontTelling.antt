@@ -17,7 +17,7 @@ use Rattle.section_reader.specs.Onward.{onward, after_parts, begun_section, next
 use Rattle.section_reader.specs.Stepped.{Reached, RefusedOnward}
 use Rattle.section_reader.specs.FrontLeft.{from_there, cursor_of}
 use Rattle.section_reader.specs.Waits.{Passes, is_wanting}
-use Rattle.section_reader.specs.FrontOnward.{onward_left, FedOnward, ToldRefused}
+use Rattle.section_reader.specs.FrontOnward.{remaining_parts, FedOnward, ToldRefused}
 use Rattle.section_reader.proofs.Runs.{sections_are}
 use Rattle.section_reader.proofs.Telling.{front_halts, entry_halts}
 use Rattle.section_reader.proofs.Reaching.{end_is, owed_there}
@@ -79,7 +79,7 @@ module _ (old : Front) (bytes all : List ℕ) (waiting : old.waiting ≡ None) (
   abbrev there : Cursor
   there = record { at = old.at; rest = all; end = old.end }
 
-  onward_joined : (more : List ℕ) → onward_left old (bytes ++ more) ≡ onward old.steps.stage old.steps.seen (with_more there more)
+  onward_joined : (more : List ℕ) → remaining_parts old (bytes ++ more) ≡ onward old.steps.stage old.steps.seen (with_more there more)
   onward_joined more =
       ap (λ (x : Option Item). prepend x (from_there old.refusal (onward old.steps.stage old.steps.seen (with_more (cursor_of old) (bytes ++ more))))) waiting
       ∙ ap (λ (x : Option Refusal). from_there x (onward old.steps.stage old.steps.seen (with_more (cursor_of old) (bytes ++ more)))) refusal
@@ -106,7 +106,7 @@ module _ (old : Front) (bytes all : List ℕ) (waiting : old.waiting ≡ None) (
     apart = λ apart h. absurd (let e = sym waits ∙ h in cc);
   })
     where
-      onward_new : (more : List ℕ) → onward_left new (drop (length bytes - length d.rest) bytes ++ more) ≡ prepend (Some x) (onward new.steps.stage new.steps.seen (record { at = d.at; rest = drop (length bytes - length d.rest) bytes ++ more; end = d.end }))
+      onward_new : (more : List ℕ) → remaining_parts new (drop (length bytes - length d.rest) bytes ++ more) ≡ prepend (Some x) (onward new.steps.stage new.steps.seen (record { at = d.at; rest = drop (length bytes - length d.rest) bytes ++ more; end = d.end }))
       onward_new more = rw (waits, none, kept, same_at, same_end) refl
 
   pub refused_told : (new : Front) (r : Refusal) → is_at_bodies old.steps.stage ≡ false → (IsOrdered old.steps.stage old.steps.seen → is_at_bodies old.steps.stage ≡ false → RefusedOnward old.steps there r)

@@ -14,7 +14,7 @@ use Rattle.section_reader.specs.Outline.{outline_row}
 use Rattle.section_reader.specs.Stages.{proceed, is_owing, IsOwed, is_at_bodies}
 use Rattle.section_reader.specs.Onward.{onward}
 use Rattle.section_reader.specs.FrontLeft.{left, cursor_of, Fed}
-use Rattle.section_reader.specs.FrontOnward.{onward_left, FedOnward}
+use Rattle.section_reader.specs.FrontOnward.{remaining_parts, FedOnward}
 use Rattle.section_reader.specs.Waits.{Passes, wants_more, is_wanting}
 use Rattle.section_reader.proofs.Leading.{runs_owed, entries_are}
 use Rattle.section_reader.proofs.Reaching.{owed_there}
@@ -84,13 +84,13 @@ kept_told old new bytes waiting refusal same_steps same_at same_end kept waits n
         onward_old more
         ∙ ap (λ (l : List ℕ). onward old.steps.stage old.steps.seen (record { at = old.at; rest = l; end = old.end })) (sym (append_assoc old.kept.items bytes more))
         ∙ sym (onward_new more)
-        ∙ ap (λ (l : List ℕ). onward_left new (l ++ more)) (sym (drop-length bytes));
+        ∙ ap (λ (l : List ℕ). remaining_parts new (l ++ more)) (sym (drop-length bytes));
   };
   apart = λ apart _. ap (λ (s : Steps). is_at_bodies s.stage) same_steps ∙ apart;
 }
   where
-    onward_old : (more : List ℕ) → onward_left old (bytes ++ more) ≡ onward old.steps.stage old.steps.seen (record { at = old.at; rest = old.kept.items ++ (bytes ++ more); end = old.end })
+    onward_old : (more : List ℕ) → remaining_parts old (bytes ++ more) ≡ onward old.steps.stage old.steps.seen (record { at = old.at; rest = old.kept.items ++ (bytes ++ more); end = old.end })
     onward_old more = rw (waiting, refusal) refl
 
-    onward_new : (more : List ℕ) → onward_left new more ≡ onward old.steps.stage old.steps.seen (record { at = old.at; rest = (old.kept.items ++ bytes) ++ more; end = old.end })
+    onward_new : (more : List ℕ) → remaining_parts new more ≡ onward old.steps.stage old.steps.seen (record { at = old.at; rest = (old.kept.items ++ bytes) ++ more; end = old.end })
     onward_new more = rw (waits, none, same_steps, same_at, same_end, kept) refl

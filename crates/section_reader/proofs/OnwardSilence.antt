@@ -15,7 +15,7 @@ use Rattle.section_reader.specs.Outline.{outline_row, or_outline, outline_sectio
 use Rattle.section_reader.specs.Stages.{proceed, passes, silent, is_at_bodies}
 use Rattle.section_reader.specs.Onward.{onward, begun_section, IsOrdered}
 use Rattle.section_reader.specs.FrontLeft.{cursor_of, total}
-use Rattle.section_reader.specs.FrontOnward.{onward_left, EndsOnward}
+use Rattle.section_reader.specs.FrontOnward.{remaining_parts, EndsOnward}
 use Rattle.section_reader.proofs.Runs.{sections_are}
 use Rattle.section_reader.proofs.OutlineRuns.{outline_is}
 use Rattle.section_reader.proofs.Leading as leading
@@ -132,7 +132,7 @@ pub refused_ends : (f : Front) (r : Refusal) → f.waiting ≡ None → f.refusa
 refused_ends f r waits some = record { told = []; sections = tt; ending = Refused r; run = rw (waits, some) refl; fault = refl }
 
 module _ (f : Front) (waits : f.waiting ≡ None) (none : f.refusal ≡ None) (apart : is_at_bodies f.steps.stage ≡ false) where
-  left_is : onward_left f [] ≡ onward f.steps.stage f.steps.seen (cursor_of f)
+  left_is : remaining_parts f [] ≡ onward f.steps.stage f.steps.seen (cursor_of f)
   left_is = rw (waits, none) (ap (λ (l : List ℕ). onward f.steps.stage f.steps.seen (at_bytes f.at f.end l)) (append-nil f.kept.items))
 
   pub kept_ends : 0 < length f.kept.items → EndsOnward f (Some (record { offset = total f; kind = Ended }))

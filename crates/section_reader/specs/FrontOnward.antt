@@ -15,8 +15,8 @@ use Rattle.section_reader.specs.Onward.{onward, after_parts, AreSections}
 use Rattle.section_reader.specs.FrontLeft.{from_there, cursor_of, total, can_skip}
 
 -- what is left of the module, where these bytes come next: its sections and bodies too
-abbrev pub onward_left : Front → List ℕ → Run
-onward_left f more = prepend f.waiting (from_there f.refusal (onward f.steps.stage f.steps.seen (with_more (cursor_of f) more)))
+abbrev pub remaining_parts : Front → List ℕ → Run
+remaining_parts f more = prepend f.waiting (from_there f.refusal (onward f.steps.stage f.steps.seen (with_more (cursor_of f) more)))
 
 -- ---- what was fed
 
@@ -24,7 +24,7 @@ onward_left f more = prepend f.waiting (from_there f.refusal (onward f.steps.sta
 pub record Told (old : Front) (bytes : List ℕ) (taken : ℕ) (new : Front) : Type 0 where
   pub told : List Part
   pub sections : AreSections told
-  pub run : (more : List ℕ) → onward_left old (bytes ++ more) ≡ after_parts told (onward_left new (drop taken bytes ++ more))
+  pub run : (more : List ℕ) → remaining_parts old (bytes ++ more) ≡ after_parts told (remaining_parts new (drop taken bytes ++ more))
 
 -- so many bytes were taken; the bodies don't come next, unless an item waits that says so
 pub record FedOnward (old : Front) (bytes : List ℕ) (taken : ℕ) (new : Front) : Type 0 where
@@ -37,12 +37,12 @@ pub record FedOnward (old : Front) (bytes : List ℕ) (taken : ℕ) (new : Front
 pub record ToldRefused (old : Front) (bytes : List ℕ) (r : Refusal) (new : Front) : Type 0 where
   pub told : List Part
   pub sections : AreSections told
-  pub run : (more : List ℕ) → onward_left old (bytes ++ more) ≡ after_parts told (ends (Refused r))
-  pub stays : (more : List ℕ) → onward_left new more ≡ ends (Refused r)
+  pub run : (more : List ℕ) → remaining_parts old (bytes ++ more) ≡ after_parts told (ends (Refused r))
+  pub stays : (more : List ℕ) → remaining_parts new more ≡ ends (Refused r)
 
 -- what is left is as it was
 pub record IsAsItWas (old new : Front) : Type 0 where
-  pub run : (more : List ℕ) → onward_left new more ≡ onward_left old more
+  pub run : (more : List ℕ) → remaining_parts new more ≡ remaining_parts old more
   pub steps : new.steps ≡ old.steps
   pub total : total new ≡ total old
   pub waiting : new.waiting ≡ old.waiting
@@ -60,7 +60,7 @@ pub record BodiesCome (count end : ℕ) (f : Front) : Type 0 where
   pub ahead : total f ≤ end
   pub few : count ≤ total f
   pub counted : f.steps.seen.counted ≡ true
-  pub run : (more : List ℕ) → onward_left f more ≡ entries count (row 11) sections f.steps.seen (record { at = total f; rest = more; end = end })
+  pub run : (more : List ℕ) → remaining_parts f more ≡ entries count (row 11) sections f.steps.seen (record { at = total f; rest = more; end = end })
 
 -- after the code section's count the bodies come next, and after no other item
 abbrev pub Follows : Item → Front → Type 0
@@ -74,5 +74,5 @@ pub record EndsOnward (f : Front) (answer : Option Refusal) : Type 0 where
   pub told : List Part
   pub sections : AreSections told
   pub ending : Ending
-  pub run : onward_left f [] ≡ after_parts told (ends ending)
+  pub run : remaining_parts f [] ≡ after_parts told (ends ending)
   pub fault : ending_fault (total f) ending ≡ answer

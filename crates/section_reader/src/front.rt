@@ -40,7 +40,7 @@ const LAST: u64 = 0x7FFF_FFFF_FFFF_FFFF;
 /// Reads a module outside its function bodies, however its bytes are cut into pieces.
 ///
 /// Contracts see of it what is left to report, for any bytes that come next: the items to come, and how the module ends
-/// (`left`); and the same of the whole module, with its sections and its bodies (`onward_left`).
+/// (`left`); and the same of the whole module, with its sections and its bodies (`remaining_parts`).
 #[derive(Drop)]
 pub struct Front {
     alloc: Global,
@@ -69,14 +69,14 @@ pub struct Front {
 
 impl Front {
     ghost use Rattle.section_reader.specs.FrontLeft.{left, total, refusal_of, can_skip, Feeds};
-    ghost use Rattle.section_reader.specs.FrontOnward.{onward_left, Follows, FeedsOnward, EndsOnward};
+    ghost use Rattle.section_reader.specs.FrontOnward.{remaining_parts, Follows, FeedsOnward, EndsOnward};
     ghost use Rattle.section_reader.specs.Keeps.{Keeps};
 
     /// Reads from a module's first byte on. Memory is taken from `alloc`.
     pub fn new(alloc: Global) -> Front
         ensures left { (more : List ℕ) → left result more ≡ outline more }
         ensures idle { result.waiting ≡ None }
-        ensures onward { (more : List ℕ) → onward_left result more ≡ module_read more }
+        ensures onward { (more : List ℕ) → remaining_parts result more ≡ module_read more }
         ensures total { total result ≡ 0 }
         ensures apart { is_at_bodies result.steps.stage ≡ false }
     {
@@ -105,7 +105,7 @@ impl Front {
     /// The item that is whole, if one is.
     pub fn take_item(&mut self) -> Option<Item>
         ensures same { (more : List ℕ) → left self.old more ≡ prepend result (left self.new more) }
-        ensures onward { (more : List ℕ) → onward_left self.old more ≡ prepend result (onward_left self.new more) }
+        ensures onward { (more : List ℕ) → remaining_parts self.old more ≡ prepend result (remaining_parts self.new more) }
         ensures item { result ≡ self.old.waiting }
         ensures taken { self.new.waiting ≡ None }
         ensures follows { IfSome result (λ x. self.old.refusal ≡ None → Follows x self.new) }
@@ -241,7 +241,7 @@ impl Front {
     pub fn skip_to(&mut self, end: u64)
         requires { can_skip self.old end ≡ true }
         ensures same { (bytes more : List ℕ) → total self.old + length bytes ≡ end → left self.old (bytes ++ more) ≡ left self.new more }
-        ensures onward { (more : List ℕ) → onward_left self.new more ≡ sections self.old.steps.seen (record { at = end; rest = more; end = no_end }) }
+        ensures onward { (more : List ℕ) → remaining_parts self.new more ≡ sections self.old.steps.seen (record { at = end; rest = more; end = no_end }) }
         ensures stage { self.new.steps.stage ≡ Stage.Between }
         ensures total { total self.new ≡ end }
         ensures idle { self.new.waiting ≡ None }

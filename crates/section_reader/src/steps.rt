@@ -161,7 +161,8 @@ impl Steps {
         requires stage { self.old.stage ≡ Stage.Preamble }
         ensures stepped { Stepped self.old fields.old result self.new fields.new }
         ensures none { IfOk result (λ x. x ≡ None) }
-        ensures on { (most : ℕ) → IsNear most self.old.stage self.old.seen fields.old → IfOk result (λ x. IfNone x (IsNear most self.new.stage self.new.seen fields.new)) }
+        ensures on { (most : ℕ) → IsNear most self.old.stage self.old.seen fields.old
+            → IfOk result (λ x. IfNone x (IsNear most self.new.stage self.new.seen fields.new)) }
         ensures free { NeedsNoMemory result }
     {
         let mut next = fields.fork();
@@ -177,7 +178,8 @@ impl Steps {
         requires stage { self.old.stage ≡ Stage.Between }
         ensures stepped { Stepped self.old fields.old result self.new fields.new }
         ensures none { IfOk result (λ x. x ≡ None) }
-        ensures on { (most : ℕ) → IsNear most self.old.stage self.old.seen fields.old → IfOk result (λ x. IfNone x (IsNear most self.new.stage self.new.seen fields.new)) }
+        ensures on { (most : ℕ) → IsNear most self.old.stage self.old.seen fields.old
+            → IfOk result (λ x. IfNone x (IsNear most self.new.stage self.new.seen fields.new)) }
         ensures free { NeedsNoMemory result }
     {
         if fields.rest().is_empty() {
@@ -203,7 +205,8 @@ impl Steps {
         requires stage { self.old.stage ≡ Stage.Contents id }
         ensures stepped { Stepped self.old fields.old result self.new fields.new }
         ensures none { IfOk result (λ x. x ≡ None) }
-        ensures on { (most : ℕ) → IsNear most self.old.stage self.old.seen fields.old → IfOk result (λ x. IfNone x (IsNear most self.new.stage self.new.seen fields.new)) }
+        ensures on { (most : ℕ) → IsNear most self.old.stage self.old.seen fields.old
+            → IfOk result (λ x. IfNone x (IsNear most self.new.stage self.new.seen fields.new)) }
     {
         let mut next = fields.fork();
         let n = entry_count(&mut next, alloc, id, &self.seen)?;
@@ -244,7 +247,8 @@ impl Steps {
         requires listing { passes id ≡ false }
         ensures stepped { Stepped self.old fields.old result self.new fields.new }
         ensures none { IfOk result (λ x. x ≡ None) }
-        ensures on { (most : ℕ) → IsNear most self.old.stage self.old.seen fields.old → IfOk result (λ x. IfNone x (IsNear most self.new.stage self.new.seen fields.new)) }
+        ensures on { (most : ℕ) → IsNear most self.old.stage self.old.seen fields.old
+            → IfOk result (λ x. IfNone x (IsNear most self.new.stage self.new.seen fields.new)) }
         ensures free { NeedsNoMemory result }
     {
         let mut next = fields.fork();
@@ -261,7 +265,8 @@ impl Steps {
         requires passing { passes id ≡ true }
         ensures stepped { Stepped self.old fields.old result self.new fields.new }
         ensures none { IfOk result (λ x. x ≡ None) }
-        ensures on { (most : ℕ) → IsNear most self.old.stage self.old.seen fields.old → IfOk result (λ x. IfNone x (IsNear most self.new.stage self.new.seen fields.new)) }
+        ensures on { (most : ℕ) → IsNear most self.old.stage self.old.seen fields.old
+            → IfOk result (λ x. IfNone x (IsNear most self.new.stage self.new.seen fields.new)) }
         ensures free { NeedsNoMemory result }
     {
         let there = fields.rest().len() as u64;

@@ -20,7 +20,7 @@ use Rattle.wasm_defs.specs.Configurations.{Store}
 use Rattle.wasm_defs.specs.Effects.{Gives, effect, grew, value, bytes_written}
 use Rattle.frame_layout.specs.Slots.{operand}
 use Rattle.frame_layout.specs.Macros.{s0, s5}
-use Rattle.frame_layout.specs.Templates.{Label, Around, global_set_words, store_words, grow_words, words}
+use Rattle.frame_layout.specs.Templates.{Label, EmitContext, global_set_words, store_words, grow_words, words}
 use Rattle.frame_layout.specs.Laws.{slot_at, with_slot}
 use Rattle.image_format.specs.Contents.{Image}
 use Rattle.image_format.specs.Environment.{code_of_image}
@@ -41,7 +41,7 @@ use Rattle.simulation.proofs.Straight.Operations.{typed_word, typed_range}
 use Rattle.simulation.proofs.Straight.Stores.{ChangesStore}
 
 -- so many steps lead to where the frame holds other operands, and the regions another store
-pub record Passes (image : Image) (c : Context) (labels : List Label) (w : Around) (base there : ℕ) (store : Store) (locals operands : List Value) (p : Plain) (mid : Types) (here : ℕ) (r : Running) : Type 0 where
+pub record Passes (image : Image) (c : Context) (labels : List Label) (w : EmitContext) (base there : ℕ) (store : Store) (locals operands : List Value) (p : Plain) (mid : Types) (here : ℕ) (r : Running) : Type 0 where
   pub store_after : Store
   pub after : List Value
   pub gives : effect store locals image.cap p operands ≡ Gives store_after locals after
@@ -66,7 +66,7 @@ pub record Passes (image : Image) (c : Context) (labels : List Label) (w : Aroun
   pub results : last.results ≡ r.results
   pub later : last.later ≡ r.later
 
-module _ (image : Image) (near : length (code_of_image image) ≤ 2 ^ 26) (few : page * image.cap ≤ 2 ^ 28) (c : Context) (labels : List Label) (w : Around) (base there : ℕ) (store : Store) (locals : List Value) (here : ℕ) (r : Running)
+module _ (image : Image) (near : length (code_of_image image) ≤ 2 ^ 26) (few : page * image.cap ≤ 2 ^ 28) (c : Context) (labels : List Label) (w : EmitContext) (base there : ℕ) (store : Store) (locals : List Value) (here : ℕ) (r : Running)
     (i : ℕ) (at : r.machine.pc ≡ place i) (holds : StoreStands store r.pages image.cap r.machine) (fits_store : StoreFits c store) where
   abbrev code : List (Option Op)
   code = code_of_image image

@@ -15,7 +15,7 @@ use Rattle.wasm_defs.specs.Memory.{page, pages_of, grown}
 use Rattle.wasm_defs.specs.Configurations.{Store, max_slots}
 use Rattle.frame_layout.specs.Slots.{operand}
 use Rattle.frame_layout.specs.Macros.{x0, s0, s1, s2, s3, s4, s5, a0, a7}
-use Rattle.frame_layout.specs.Templates.{Around, load_operand, store_operand, grow_words}
+use Rattle.frame_layout.specs.Templates.{EmitContext, load_operand, store_operand, grow_words}
 use Rattle.frame_layout.specs.Laws.{slot_at, with_slot, IsFrame, is_scratch, is_passed, Asks}
 use Rattle.frame_layout.proofs.Standing.{has_first, has_rest}
 use Rattle.frame_layout.proofs.SlotLaws.{load_slot_leaves, store_slot_leaves}
@@ -41,7 +41,7 @@ asking_in_range : AllInRange (Imm Addi a7 x0 2 ∷ Ecall ∷ [])
 unfolding IsInRange
 asking_in_range = ((omega arith, omega arith, omega arith), (tt, tt))
 
-pub grow_in_range : (w : Around) (h : ℕ) → AllInRange (grow_words w h)
+pub grow_in_range : (w : EmitContext) (h : ℕ) → AllInRange (grow_words w h)
 grow_in_range w h =
     let asking : List Op = Imm Addi a7 x0 2 ∷ Ecall ∷ [] in
     both_in_range (load_operand w a0 (h - 1)) (asking ++ store_operand w a0 (h - 1)) (load_in_range a0 (operand w.layout (h - 1)) (omega arith)) (
@@ -126,7 +126,7 @@ module _ (image : Image) where
   GrownBy r slot more store None = Grown r slot (2 ^ 32 - 1) r.pages store
   GrownBy r slot more store (Some memory) = Grown r slot (pages_of store.memory) (r.pages + more) (record store { memory = memory })
 
-  module _ (w : Around) (r : Running) (store : Store) (i base h more : ℕ) (has : HasAt (code_of_image image) i (grow_words w h)) (at : r.machine.pc ≡ place i) (frame : IsFrame base r.machine)
+  module _ (w : EmitContext) (r : Running) (store : Store) (i base h more : ℕ) (has : HasAt (code_of_image image) i (grow_words w h)) (at : r.machine.pc ≡ place i) (frame : IsFrame base r.machine)
       (inside : base + operand w.layout (h - 1) < max_slots) (is : slot_at r.machine.bytes (base + operand w.layout (h - 1)) ≡ word I32 more) (small : more < 2 ^ 32) (holds : StoreStands store r.pages image.cap r.machine) (few : page * image.cap ≤ 2 ^ 28) where
     abbrev slot : ℕ
     slot = base + operand w.layout (h - 1)

@@ -17,7 +17,7 @@ use Rattle.wasm_defs.specs.declared.operation.StoreOp.TheVariants.{I32Store}
 use Rattle.wasm_defs.specs.Memory.{load_count, store_count}
 use Rattle.frame_layout.specs.Slots.{operand}
 use Rattle.frame_layout.specs.Macros.{t0, t1, t2, t3, s1, s2, s3, forward, trap, zero_extend, const_32}
-use Rattle.frame_layout.specs.Templates.{Around, load_operand, store_operand, address, machine_load, machine_store, load_words, store_words, size_words, global_get_words, global_set_words}
+use Rattle.frame_layout.specs.Templates.{EmitContext, load_operand, store_operand, address, machine_load, machine_store, load_words, store_words, size_words, global_get_words, global_set_words}
 use Rattle.simulation.proofs.MacroRanges.{both_in_range, load_in_range, store_in_range, const_in_range, behind_in_range, stored_in_range, extended_in_range}
 
 -- ---- globals
@@ -56,7 +56,7 @@ shifted_in_range : AllInRange (Shift Srli t0 s2 16 ∷ [])
 unfolding IsInRange
 shifted_in_range = ((omega arith, omega arith, omega arith), tt)
 
-module _ (w : Around) where
+module _ (w : EmitContext) where
   pub global_get_in_range : (h x : ℕ) → AllInRange (global_get_words w h x)
   global_get_in_range h x =
       both_in_range (load_behind t0 s3 (8 * x)) (store_operand w t0 h) (behind_in_range t0 s3 (8 * x) (omega arith) (omega arith)) (store_in_range t0 (operand w.layout h) (omega arith))

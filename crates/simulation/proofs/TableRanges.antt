@@ -10,7 +10,7 @@ use Rattle.rv_isa.specs.Words.{IsInRange}
 use Rattle.rv_isa.specs.Runs.{AllInRange}
 use Rattle.frame_layout.specs.Slots.{operand}
 use Rattle.frame_layout.specs.Macros.{x0, ra, t0, t1, t2, s0, s4, forward, trap, zero_extend, const_32, shift, back}
-use Rattle.frame_layout.specs.Templates.{Around, load_operand, indirect_words}
+use Rattle.frame_layout.specs.Templates.{EmitContext, load_operand, indirect_words}
 use Rattle.simulation.proofs.MacroRanges.{both_in_range, load_in_range, const_in_range, extended_in_range, trap_in_range}
 
 within_in_range : AllInRange (Branch Bltu t0 t1 (forward 16) ∷ [])
@@ -41,7 +41,7 @@ jump_in_range : AllInRange (Jalr ra t1 0 ∷ [])
 unfolding IsInRange
 jump_in_range = ((omega arith, omega arith, omega arith), tt)
 
-module _ (w : Around) where
+module _ (w : EmitContext) where
   pub indirect_in_range : (h type arguments : ℕ) → AllInRange (indirect_words w h type arguments)
   indirect_in_range h type arguments =
       let slots = operand w.layout (h - 1 - arguments) in

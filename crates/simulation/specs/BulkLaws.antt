@@ -8,7 +8,7 @@ use Rattle.wasm_defs.specs.declared.types.ValType.TheVariants.{I32}
 use Rattle.wasm_defs.specs.Values.{word}
 use Rattle.wasm_defs.specs.Configurations.{max_slots}
 use Rattle.frame_layout.specs.Slots.{operand}
-use Rattle.frame_layout.specs.Templates.{Around}
+use Rattle.frame_layout.specs.Templates.{EmitContext}
 use Rattle.frame_layout.specs.Laws.{slot_at, IsFrame, Does, TrapsAt}
 use Rattle.simulation.specs.Regions.{with_global, memory_now, with_memory, HasRegions, SegmentStands}
 use Rattle.frame_layout.specs.BulkWords.{fill_words, copy_words, init_words, drop_words}
@@ -37,7 +37,7 @@ Filled code n s (Some memory) = Writes code (18 + 4 * n) 24 s memory
 
 abbrev pub FillLaw : Type 0
 FillLaw =
-    (w : Around) (code : List (Option Op)) (s : State) (i base h d v n pages : ℕ) → HasAt code i (fill_words w.layout h) → s.pc ≡ place i
+    (w : EmitContext) (code : List (Option Op)) (s : State) (i base h d v n pages : ℕ) → HasAt code i (fill_words w.layout h) → s.pc ≡ place i
     → IsFrame base s → HasRegions pages s → 3 ≤ h → base + operand w.layout (h - 1) < max_slots
     → slot_at s.bytes (base + operand w.layout (h - 3)) ≡ word I32 d → slot_at s.bytes (base + operand w.layout (h - 2)) ≡ word I32 v
     → slot_at s.bytes (base + operand w.layout (h - 1)) ≡ word I32 n → d < 2 ^ 32 → v < 2 ^ 32 → n < 2 ^ 32 → length code ≤ 2 ^ 26
@@ -51,7 +51,7 @@ Copied code n s (Some memory) = Writes code (25 + 7 * n) 44 s memory
 
 abbrev pub CopyLaw : Type 0
 CopyLaw =
-    (w : Around) (code : List (Option Op)) (s : State) (i base h d from n pages : ℕ) → HasAt code i (copy_words w.layout h) → s.pc ≡ place i
+    (w : EmitContext) (code : List (Option Op)) (s : State) (i base h d from n pages : ℕ) → HasAt code i (copy_words w.layout h) → s.pc ≡ place i
     → IsFrame base s → HasRegions pages s → AreBytes s.bytes.memory → 3 ≤ h → base + operand w.layout (h - 1) < max_slots
     → slot_at s.bytes (base + operand w.layout (h - 3)) ≡ word I32 d → slot_at s.bytes (base + operand w.layout (h - 2)) ≡ word I32 from
     → slot_at s.bytes (base + operand w.layout (h - 1)) ≡ word I32 n → d < 2 ^ 32 → from < 2 ^ 32 → n < 2 ^ 32 → length code ≤ 2 ^ 26
@@ -65,7 +65,7 @@ Inited code n s (Some memory) = Writes code (29 + 6 * n) 40 s memory
 
 abbrev pub InitLaw : Type 0
 InitLaw =
-    (w : Around) (code : List (Option Op)) (s : State) (i base h d from n pages x : ℕ) (bytes : List ℕ) → HasAt code i (init_words w.layout h (8 * x)) → s.pc ≡ place i
+    (w : EmitContext) (code : List (Option Op)) (s : State) (i base h d from n pages x : ℕ) (bytes : List ℕ) → HasAt code i (init_words w.layout h (8 * x)) → s.pc ≡ place i
     → IsFrame base s → HasRegions pages s → AreBytes s.bytes.passive → SegmentStands s.bytes x bytes → 3 ≤ h → base + operand w.layout (h - 1) < max_slots
     → slot_at s.bytes (base + operand w.layout (h - 3)) ≡ word I32 d → slot_at s.bytes (base + operand w.layout (h - 2)) ≡ word I32 from
     → slot_at s.bytes (base + operand w.layout (h - 1)) ≡ word I32 n → d < 2 ^ 32 → from < 2 ^ 32 → n < 2 ^ 32 → length code ≤ 2 ^ 26

@@ -12,7 +12,7 @@ use Rattle.wasm_defs.specs.Context.{like}
 use Rattle.wasm_defs.specs.Configurations.{Store, Origin, Func, Function, Imported, Declared, type_of, Instance, place_left, place_of_body, place_of_import}
 use Rattle.frame_layout.specs.Macros.{distance}
 use Rattle.frame_layout.specs.Slots.{need}
-use Rattle.frame_layout.specs.Templates.{Around, import_stub}
+use Rattle.frame_layout.specs.Templates.{EmitContext, import_stub}
 use Rattle.frame_layout.specs.Traps.{room_trap}
 use Rattle.frame_layout.specs.Functions.{Trap, function_code, body_traps}
 use Rattle.simulation.specs.Covered.{IsCovered}
@@ -41,7 +41,7 @@ module _ (text : List (Option Op)) (inst : Instance) (places : TextPlaces) where
   -- a function's words are in the text. An index inside it counts words from its first one.
   pub record Compiled (f : Func) : Type 0 where
     pub begin : ℕ
-    pub around : Around
+    pub around : EmitContext
     pub context : Context
     pub covered : IsCovered f.body
     pub typed : IsBody context f.body

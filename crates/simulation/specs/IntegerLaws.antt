@@ -19,7 +19,7 @@ use Rattle.wasm_defs.specs.Values.{modulus, word}
 use Rattle.wasm_defs.specs.Integers.{Computed, Number, DividesByZero, Overflows, binary, unary, compare, ieqz, converted, converted_type, sign_extended}
 use Rattle.wasm_defs.specs.Configurations.{max_slots}
 use Rattle.frame_layout.specs.Slots.{operand}
-use Rattle.frame_layout.specs.Templates.{Around, operate_words}
+use Rattle.frame_layout.specs.Templates.{EmitContext, operate_words}
 use Rattle.frame_layout.specs.Laws.{slot_at, with_slot, IsFrame, Does, TrapsAt}
 
 -- ---- operations on two operands
@@ -38,7 +38,7 @@ Comes code words s slot t Overflows = (steps : ℕ) × (steps ≤ words) × Trap
 -- the words of divisions branch, so the text has to end below 2 ^ 64
 abbrev pub BinaryLaw : Type 0
 BinaryLaw =
-    (w : Around) (code : List (Option Op)) (s : State) (i base h : ℕ) (t : ValType) (op : BinaryOp) (a b : ℕ)
+    (w : EmitContext) (code : List (Option Op)) (s : State) (i base h : ℕ) (t : ValType) (op : BinaryOp) (a b : ℕ)
     → HasAt code i (operate_words w h (Binary t op)) → s.pc ≡ place i → IsFrame base s → 2 ≤ h → base + operand w.layout (h - 1) < max_slots
     → a < modulus t → b < modulus t → slot_at s.bytes (base + operand w.layout (h - 2)) ≡ word t a → slot_at s.bytes (base + operand w.layout (h - 1)) ≡ word t b
     → length code ≤ 2 ^ 26 → Comes code (length (operate_words w h (Binary t op))) s (base + operand w.layout (h - 2)) t (binary op t a b)
@@ -46,7 +46,7 @@ BinaryLaw =
 -- a comparison gives an i32
 abbrev pub CompareLaw : Type 0
 CompareLaw =
-    (w : Around) (code : List (Option Op)) (s : State) (i base h : ℕ) (t : ValType) (op : CompareOp) (a b : ℕ)
+    (w : EmitContext) (code : List (Option Op)) (s : State) (i base h : ℕ) (t : ValType) (op : CompareOp) (a b : ℕ)
     → HasAt code i (operate_words w h (Compare t op)) → s.pc ≡ place i → IsFrame base s → 2 ≤ h → base + operand w.layout (h - 1) < max_slots
     → a < modulus t → b < modulus t → slot_at s.bytes (base + operand w.layout (h - 2)) ≡ word t a → slot_at s.bytes (base + operand w.layout (h - 1)) ≡ word t b
     → Does code (length (operate_words w h (Compare t op))) (length (operate_words w h (Compare t op))) s
@@ -56,7 +56,7 @@ CompareLaw =
 
 abbrev pub UnaryLaw : Type 0
 UnaryLaw =
-    (w : Around) (code : List (Option Op)) (s : State) (i base h : ℕ) (t : ValType) (op : UnaryOp) (a : ℕ)
+    (w : EmitContext) (code : List (Option Op)) (s : State) (i base h : ℕ) (t : ValType) (op : UnaryOp) (a : ℕ)
     → HasAt code i (operate_words w h (Unary t op)) → s.pc ≡ place i → IsFrame base s → 1 ≤ h → base + operand w.layout (h - 1) < max_slots
     → a < modulus t → slot_at s.bytes (base + operand w.layout (h - 1)) ≡ word t a
     → Does code (length (operate_words w h (Unary t op))) (length (operate_words w h (Unary t op))) s
@@ -65,7 +65,7 @@ UnaryLaw =
 -- eqz gives an i32
 abbrev pub TestLaw : Type 0
 TestLaw =
-    (w : Around) (code : List (Option Op)) (s : State) (i base h : ℕ) (t : ValType) (a : ℕ)
+    (w : EmitContext) (code : List (Option Op)) (s : State) (i base h : ℕ) (t : ValType) (a : ℕ)
     → HasAt code i (operate_words w h (Test t)) → s.pc ≡ place i → IsFrame base s → 1 ≤ h → base + operand w.layout (h - 1) < max_slots
     → a < modulus t → slot_at s.bytes (base + operand w.layout (h - 1)) ≡ word t a
     → Does code (length (operate_words w h (Test t))) (length (operate_words w h (Test t))) s
@@ -82,7 +82,7 @@ converted_from ExtendU = I32
 -- a conversion that has words
 abbrev pub Converts : ConvertOp → Type 0
 Converts op =
-    (w : Around) (code : List (Option Op)) (s : State) (i base h a : ℕ)
+    (w : EmitContext) (code : List (Option Op)) (s : State) (i base h a : ℕ)
     → HasAt code i (operate_words w h (Convert op)) → s.pc ≡ place i → IsFrame base s → 1 ≤ h → base + operand w.layout (h - 1) < max_slots
     → a < modulus (converted_from op) → slot_at s.bytes (base + operand w.layout (h - 1)) ≡ word (converted_from op) a
     → Does code (length (operate_words w h (Convert op))) (length (operate_words w h (Convert op))) s
@@ -96,7 +96,7 @@ ConvertLaw = Converts Wrap × Converts ExtendU × ((a : ℕ) → a < 2 ^ 32 → 
 
 abbrev pub ExtendLaw : Type 0
 ExtendLaw =
-    (w : Around) (code : List (Option Op)) (s : State) (i base h : ℕ) (op : ExtendOp) (a : ℕ)
+    (w : EmitContext) (code : List (Option Op)) (s : State) (i base h : ℕ) (op : ExtendOp) (a : ℕ)
     → HasAt code i (operate_words w h (Extend op)) → s.pc ≡ place i → IsFrame base s → 1 ≤ h → base + operand w.layout (h - 1) < max_slots
     → a < modulus (extend_type op) → slot_at s.bytes (base + operand w.layout (h - 1)) ≡ word (extend_type op) a
     → Does code (length (operate_words w h (Extend op))) (length (operate_words w h (Extend op))) s
@@ -126,4 +126,4 @@ ExtendRangeLaw = (op : ExtendOp) (a : ℕ) → sign_extended op a < modulus (ext
 
 -- the longest are the words of clz
 abbrev pub LengthLaw : Type 0
-LengthLaw = (w : Around) (h : ℕ) (op : Operation) → length (operate_words w h op) ≤ 76
+LengthLaw = (w : EmitContext) (h : ℕ) (op : Operation) → length (operate_words w h op) ≤ 76

@@ -14,7 +14,7 @@ use Rattle.wasm_defs.specs.Memory.{page, pages_of, number_of, bytes_of, bytes_at
 use Rattle.wasm_defs.specs.Configurations.{max_slots}
 use Rattle.frame_layout.specs.Macros.{t0, a0}
 use Rattle.frame_layout.specs.Slots.{operand}
-use Rattle.frame_layout.specs.Templates.{Around, address, load_words, store_words, size_words, grow_words}
+use Rattle.frame_layout.specs.Templates.{EmitContext, address, load_words, store_words, size_words, grow_words}
 use Rattle.frame_layout.specs.Laws.{slot_at, with_slot, IsFrame, Does, Asks, TrapsAt}
 use Rattle.simulation.specs.Regions.{memory_now, with_memory, HasRegions}
 
@@ -33,7 +33,7 @@ Addresses code at s false = TrapsAt code 16 16 4 s
 -- of so many bytes, at the number in operand j and an offset. The words branch, so the text has to end below 2 ^ 64.
 abbrev pub AddressLaw : Type 0
 AddressLaw =
-    (w : Around) (code : List (Option Op)) (s : State) (i base j offset count a pages : ℕ) → HasAt code i (address w j offset count) → s.pc ≡ place i
+    (w : EmitContext) (code : List (Option Op)) (s : State) (i base j offset count a pages : ℕ) → HasAt code i (address w j offset count) → s.pc ≡ place i
     → IsFrame base s → HasRegions pages s → base + operand w.layout j < max_slots → slot_at s.bytes (base + operand w.layout j) ≡ word I32 a
     → a < 2 ^ 32 → offset < 2 ^ 32 → count < 2 ^ 11 → length code ≤ 2 ^ 26
     → Addresses code (a + offset) s (nat_le (a + offset + count) (page * pages))
@@ -47,7 +47,7 @@ Loaded code s slot op (Some bytes) = Does code 18 21 s (with_slot s.bytes slot (
 
 abbrev pub LoadLaw : Type 0
 LoadLaw =
-    (w : Around) (code : List (Option Op)) (s : State) (i base h a offset pages : ℕ) (op : LoadOp) → HasAt code i (load_words w h op offset) → s.pc ≡ place i
+    (w : EmitContext) (code : List (Option Op)) (s : State) (i base h a offset pages : ℕ) (op : LoadOp) → HasAt code i (load_words w h op offset) → s.pc ≡ place i
     → IsFrame base s → HasRegions pages s → AreBytes s.bytes.memory → base + operand w.layout (h - 1) < max_slots
     → slot_at s.bytes (base + operand w.layout (h - 1)) ≡ word I32 a → a < 2 ^ 32 → offset < 2 ^ 32 → length code ≤ 2 ^ 26
     → Loaded code s (base + operand w.layout (h - 1)) op (bytes_at (memory_now pages s.bytes) (a + offset) (load_count op))
@@ -67,7 +67,7 @@ Stored code s (Some memory) = Does code 18 21 s (with_memory s.bytes memory)
 
 abbrev pub StoreLaw : Type 0
 StoreLaw =
-    (w : Around) (code : List (Option Op)) (s : State) (i base h a b offset pages : ℕ) (op : StoreOp) → HasAt code i (store_words w h op offset) → s.pc ≡ place i
+    (w : EmitContext) (code : List (Option Op)) (s : State) (i base h a b offset pages : ℕ) (op : StoreOp) → HasAt code i (store_words w h op offset) → s.pc ≡ place i
     → IsFrame base s → HasRegions pages s → 2 ≤ h → base + operand w.layout (h - 1) < max_slots
     → slot_at s.bytes (base + operand w.layout (h - 2)) ≡ word I32 a → slot_at s.bytes (base + operand w.layout (h - 1)) ≡ word (store_type op) b
     → a < 2 ^ 32 → b < modulus (store_type op) → offset < 2 ^ 32 → length code ≤ 2 ^ 26
@@ -77,7 +77,7 @@ StoreLaw =
 
 abbrev pub SizeLaw : Type 0
 SizeLaw =
-    (w : Around) (code : List (Option Op)) (s : State) (i base h pages : ℕ) → HasAt code i (size_words w h) → s.pc ≡ place i
+    (w : EmitContext) (code : List (Option Op)) (s : State) (i base h pages : ℕ) → HasAt code i (size_words w h) → s.pc ≡ place i
     → IsFrame base s → HasRegions pages s → base + operand w.layout h < max_slots
     → Does code (length (size_words w h)) (length (size_words w h)) s
     (with_slot s.bytes (base + operand w.layout h) (word I32 (pages_of (memory_now pages s.bytes))))
@@ -91,14 +91,14 @@ pub record AsksForPages (code : List (Option Op)) (a : ℕ) (s : State) : Type 0
 
 abbrev pub GrowLaw : Type 0
 GrowLaw =
-    (w : Around) (code : List (Option Op)) (s : State) (i base h a : ℕ) → HasAt code i (grow_words w h) → s.pc ≡ place i
+    (w : EmitContext) (code : List (Option Op)) (s : State) (i base h a : ℕ) → HasAt code i (grow_words w h) → s.pc ≡ place i
     → IsFrame base s → base + operand w.layout (h - 1) < max_slots
     → slot_at s.bytes (base + operand w.layout (h - 1)) ≡ word I32 a → a < 2 ^ 32 → AsksForPages code a s
 
 -- after the call its answer goes from a0 to the operand
 abbrev pub GrownLaw : Type 0
 GrownLaw =
-    (w : Around) (code : List (Option Op)) (s : State) (i base h v : ℕ) → HasAt code i (grow_words w h) → s.pc ≡ place (i + 5)
+    (w : EmitContext) (code : List (Option Op)) (s : State) (i base h v : ℕ) → HasAt code i (grow_words w h) → s.pc ≡ place (i + 5)
     → IsFrame base s → base + operand w.layout (h - 1) < max_slots → reg s.registers a0 ≡ v
     → Does code 3 3 s (with_slot s.bytes (base + operand w.layout (h - 1)) v)
 

@@ -9,7 +9,7 @@ use Rattle.wasm_defs.specs.Values.{word}
 use Rattle.wasm_defs.specs.Configurations.{max_slots}
 use Rattle.frame_layout.specs.Slots.{operand}
 use Rattle.frame_layout.specs.Macros.{ra, s0}
-use Rattle.frame_layout.specs.Templates.{Around, indirect_words}
+use Rattle.frame_layout.specs.Templates.{EmitContext, indirect_words}
 use Rattle.frame_layout.specs.Laws.{slot_at, IsFrame, is_scratch, TrapsAt}
 use Rattle.simulation.specs.Regions.{row_code, row_like, HasRegions}
 
@@ -44,7 +44,7 @@ BeginsRow code slots like places like_of s (Some (Some f)) = BeginsTyped code sl
 -- the functions are in the text, which ends below 2 ^ 64
 abbrev pub IndirectLaw : Type 0
 IndirectLaw =
-    (w : Around) (code : List (Option Op)) (s : State) (i base h type arguments a pages : ℕ) (rows : List (Option ℕ)) (places like_of : ℕ → ℕ)
+    (w : EmitContext) (code : List (Option Op)) (s : State) (i base h type arguments a pages : ℕ) (rows : List (Option ℕ)) (places like_of : ℕ → ℕ)
     → HasAt code i (indirect_words w h type arguments) → s.pc ≡ place i → IsFrame base s → HasRegions pages s → TableStands rows places like_of s.bytes
     → w.rows ≡ length rows → w.like type < 2 ^ 32 → base + operand w.layout (h - 1) < max_slots
     → slot_at s.bytes (base + operand w.layout (h - 1)) ≡ word I32 a → a < 2 ^ 32 → length code ≤ 2 ^ 26

@@ -1,6 +1,7 @@
 //! Laws of numeric instructions, for the proofs of other crates. Each function does nothing: its contract is the law, which
 //! `specs/Laws.antt` states.
-ghost use Rattle.simulation.specs.IntegerLaws.{BinaryLaw, CompareLaw, UnaryLaw, TestLaw, ConvertLaw, BinaryRangeLaw, CompareRangeLaw, UnaryRangeLaw, TestRangeLaw, ConvertRangeLaw, ExtendLaw, ExtendRangeLaw, LengthLaw};
+ghost use Rattle.simulation.specs.IntegerLaws.{BinaryLaw, CompareLaw, UnaryLaw, TestLaw, ConvertLaw, BinaryRangeLaw, CompareRangeLaw, UnaryRangeLaw};
+ghost use Rattle.simulation.specs.IntegerLaws.{TestRangeLaw, ConvertRangeLaw, ExtendLaw, ExtendRangeLaw, LengthLaw};
 
 /// The instruction words of an operation on two operands put the number that it gives into the slot of the lower one, or trap
 /// where it isn't defined.

@@ -12,7 +12,7 @@ use Rattle.command_words.specs.declared.command.Command.TheVariants.{Check, Comp
 use Rattle.command_words.specs.declared.command.Options.{Options}
 use Rattle.command_words.specs.declared.command.Run.{Run as Running}
 use Rattle.command_words.specs.declared.command.Call.{Call}
-use Rattle.stream_compile.specs.declared.foreign.Foreign.TheVariants as foreign
+use Rattle.stream_compile.specs.declared.foreign.LoadedImage.TheVariants as foreign
 use Rattle.image_format.specs.declared.limits.TheConstants.{IMAGE_BYTES}
 use Rattle.image_format.specs.Contents.{Image}
 use Rattle.image_format.specs.ImageBytes.{spelling}
@@ -23,7 +23,7 @@ use Rattle.stream_compile.specs.declared.answer.CheckAnswer.{CheckAnswer}
 use Rattle.stream_compile.specs.declared.answer.CheckAnswer.TheVariants as check
 use Rattle.module_stream.specs.declared.compilation.Compilation.{Compilation}
 use Rattle.stream_compile.specs.declared.output.Output.{Output}
-use Rattle.stream_compile.specs.Came.{Came}
+use Rattle.stream_compile.specs.ReadStatus.{ReadStatus}
 use Rattle.module_stream.specs.Done.{IsModuleOfSize, IsDone}
 use Rattle.stream_compile.specs.Running.{RunsAs, IsForeign}
 use Rattle.stream_compile.specs.Compiling.{IsRefused, CompilesSource, ChecksSource}
@@ -36,7 +36,7 @@ use Rattle.stream_compile.proofs.Calls.{run_done}
 
 -- ---- what bytes come to that were read to their source's end
 
-refused_by : (failed b : Bool) (left rest : Option (List ℕ)) (bytes : List ℕ) (r : Refusal) → failed ≡ b → Came left rest b bytes → IsRefused b bytes r → ChecksSource failed left rest (check.Refused r)
+refused_by : (failed b : Bool) (left rest : Option (List ℕ)) (bytes : List ℕ) (r : Refusal) → failed ≡ b → ReadStatus left rest b bytes → IsRefused b bytes r → ChecksSource failed left rest (check.Refused r)
 refused_by failed b left rest bytes r e came is = rw e (bytes, came, is)
 
 -- with more bytes after the module there is none that was read
@@ -48,18 +48,18 @@ pub source_judged : (failed : Bool) (left rest : Option (List ℕ)) (before now 
 source_judged failed left rest before now (Ok done) s calm (read, t, d) = (
   sym t.failed_is ∙ calm,
   t.bytes,
-  subst (λ (b : Bool). Came left rest b t.bytes) calm t.came,
+  subst (λ (b : Bool). ReadStatus left rest b t.bytes) calm t.came,
   t.ended calm d.«module» d.is.is,
   same_bytes read t.bytes s (t.whole d.«module» d.is.is) d,
   refl,
 )
 source_judged failed left rest before now (Err (stop.Refused r)) s calm (read, t, v) =
-    refused_by (nat_lt before now) false left rest t.bytes r (sym t.failed_is ∙ calm) (subst (λ (b : Bool). Came left rest b t.bytes) calm t.came) (t.verdict (Rejected r) v)
+    refused_by (nat_lt before now) false left rest t.bytes r (sym t.failed_is ∙ calm) (subst (λ (b : Bool). ReadStatus left rest b t.bytes) calm t.came) (t.verdict (Rejected r) v)
 source_judged failed left rest before now (Err stop.NoMemory) s calm t = tt
 
 -- ---- after which the source failed
 
-stopped_by : (failed : Bool) (left rest : Option (List ℕ)) (bytes : List ℕ) (o : Option Refusal) (s : Compilation) → failed ≡ true → Came left rest true bytes → IsStoppedAt bytes o → Judged failed left rest (of_lasting o) s
+stopped_by : (failed : Bool) (left rest : Option (List ℕ)) (bytes : List ℕ) (o : Option Refusal) (s : Compilation) → failed ≡ true → ReadStatus left rest true bytes → IsStoppedAt bytes o → Judged failed left rest (of_lasting o) s
 stopped_by failed left rest bytes None s e came is = rw e (refl, bytes, came, is)
 stopped_by failed left rest bytes (Some r) s e came is = rw e (bytes, came, is)
 
@@ -67,10 +67,10 @@ pub source_stopped : (failed : Bool) (left rest : Option (List ℕ)) (before now
     → Judged (nat_lt before now) left rest (stopped_answer judged) s
 source_stopped failed left rest before now (Ok done) s fails (read, t, d) =
     let decided = stopped_of_verdict t.bytes (Accepted d.«module») (t.verdict (Accepted d.«module») d.is.is) in
-    stopped_by (nat_lt before now) left rest t.bytes None s (sym t.failed_is ∙ fails) (subst (λ (b : Bool). Came left rest b t.bytes) fails t.came) decided
+    stopped_by (nat_lt before now) left rest t.bytes None s (sym t.failed_is ∙ fails) (subst (λ (b : Bool). ReadStatus left rest b t.bytes) fails t.came) decided
 source_stopped failed left rest before now (Err (stop.Refused r)) s fails (read, t, v) =
     let decided = stopped_of_verdict t.bytes (Rejected r) (t.verdict (Rejected r) v) in
-    stopped_by (nat_lt before now) left rest t.bytes (lasting r.kind r) s (sym t.failed_is ∙ fails) (subst (λ (b : Bool). Came left rest b t.bytes) fails t.came) decided
+    stopped_by (nat_lt before now) left rest t.bytes (lasting r.kind r) s (sym t.failed_is ∙ fails) (subst (λ (b : Bool). ReadStatus left rest b t.bytes) fails t.came) decided
 source_stopped failed left rest before now (Err stop.NoMemory) s fails t = tt
 
 -- ---- what the calls answer

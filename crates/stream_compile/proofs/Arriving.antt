@@ -5,11 +5,11 @@ use Rattle.std.proofs.lemmas.List.{append-nil, length-take, take-take}
 use Rattle.std.proofs.lemmas.List.Elements.{All-append, All-take}
 use Rattle.wasm_defs.specs.declared.front_stop.FrontStop.{FrontStop}
 use Rattle.io_edges.specs.Causes.{Rose}
-use Rattle.stream_compile.specs.declared.chunk.Came.{Came}
-use Rattle.stream_compile.specs.declared.chunk.Came.TheVariants.{Bytes, Full, End, Failed}
+use Rattle.stream_compile.specs.declared.chunk.ReadStatus.{ReadStatus}
+use Rattle.stream_compile.specs.declared.chunk.ReadStatus.TheVariants.{Bytes, Full, End, Failed}
 use Rattle.module_stream.specs.declared.compilation.Compilation.{Compilation}
 use Rattle.stream_compile.specs.Arriving.{StandsAt, IsArriving, has_failed}
-use Rattle.stream_compile.specs.Came.{IsRead}
+use Rattle.stream_compile.specs.ReadStatus.{IsRead}
 use Rattle.stream_compile.specs.Chunks.{Chunked}
 use Rattle.module_stream.specs.Done.{Decides}
 use Rattle.stream_compile.specs.Reading.{Settled}
@@ -72,7 +72,7 @@ module _ (first : Option (List ℕ)) (before : ℕ) where
       few = let few = a.few in omega arith;
       bytes = a.bytes;
       taken = a.taken;
-      stands = subst (λ (z : Came × ℕ). StandsAt z.0 left before now z.1 may_read) (λ i. (sym same i, sym count i)) a.stands;
+      stands = subst (λ (z : ReadStatus × ℕ). StandsAt z.0 left before now z.1 may_read) (λ i. (sym same i, sym count i)) a.stands;
       short = a.short;
       right = a.right;
       going = λ more few. goes (all ++ more) more (a.going more few);
@@ -87,7 +87,7 @@ module _ (first : Option (List ℕ)) (before : ℕ) where
     pub stops_there : (stop : FrontStop) (t : Compilation) → ((more : List ℕ) → length (all ++ more) ≤ 67108869 → GoesOn (all ++ more) (Err stop) t more) → before < 2 ^ 64 - 1 → Settled (has_failed c.came) (Err stop) t first left before now
     stops_there stop t goes low = of c.came a.stands
       where
-        of : (x : Came) → StandsAt x left before now c.count may_read → Settled (has_failed x) (Err stop) t first left before now
+        of : (x : ReadStatus) → StandsAt x left before now c.count may_read → Settled (has_failed x) (Err stop) t first left before now
         of Bytes h = early all first left before now is_read stop t h.0 goes
         of Full h = early all first left before now is_read stop t h.0 goes
         of End h = early all first left before now is_read stop t h.0 goes
@@ -98,14 +98,14 @@ module _ (first : Option (List ℕ)) (before : ℕ) where
     pub ends_there : (r : Result (Unit {0}) FrontStop) (t : Compilation) → (c.came ≡ Bytes → ⊥) → Decides all r t → before < 2 ^ 64 - 1 → Settled (has_failed c.came) r t first left before now
     ends_there r t over d low = of c.came refl a.stands
       where
-        of : (x : Came) → c.came ≡ x → StandsAt x left before now c.count may_read → Settled (has_failed x) r t first left before now
+        of : (x : ReadStatus) → c.came ≡ x → StandsAt x left before now c.count may_read → Settled (has_failed x) r t first left before now
         of Bytes e h = absurd (over e)
         of Full e h = at_limit all first left before now is_read r t (let n = a.count in let m = h.1 in omega arith) h.0 d
         of End e h = at_end all first left before now is_read r t h.1 h.0 d
         of Failed e h = at_fault all first left before now is_read r t low h d
 
     -- the source is otherwise
-    pub stands_so : (left' : Option (List ℕ)) (now' : ℕ) (may_read' : Bool) (x : Came) (d : Chunked) → d ≡ record c { came = x } → left' ≡ left → StandsAt x left' before now' c.count may_read' → IsArriving first before left' now' may_read' s d
+    pub stands_so : (left' : Option (List ℕ)) (now' : ℕ) (may_read' : Bool) (x : ReadStatus) (d : Chunked) → d ≡ record c { came = x } → left' ≡ left → StandsAt x left' before now' c.count may_read' → IsArriving first before left' now' may_read' s d
     stands_so left' now' may_read' x d is same stands = subst (λ (y : Chunked). IsArriving first before left' now' may_read' s y) (sym is) (record {
       came = a.came;
       piece = a.piece;
@@ -120,7 +120,7 @@ module _ (first : Option (List ℕ)) (before : ℕ) where
     })
 
     at_bytes : c.came ≡ Bytes → (now ≡ before) × (may_read ≡ true)
-    at_bytes is = subst (λ (x : Came). StandsAt x left before now c.count may_read) is a.stands
+    at_bytes is = subst (λ (x : ReadStatus). StandsAt x left before now c.count may_read) is a.stands
 
     pub may_be_read : c.came ≡ Bytes → may_read ≡ true
     may_be_read is = (at_bytes is).1

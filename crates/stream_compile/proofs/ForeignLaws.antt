@@ -9,8 +9,8 @@ use Rattle.io_edges.specs.declared.reading.Stop.{Stop}
 use Rattle.io_edges.specs.declared.reading.Stop.TheVariants.{End, Failed, Full}
 use Rattle.image_format.specs.Contents.{Image}
 use Rattle.image_format.specs.Reading.{image_or_offset}
-use Rattle.stream_compile.specs.declared.foreign.Foreign.TheVariants as foreign
-use Rattle.stream_compile.specs.Came.{CameUpTo, image_input}
+use Rattle.stream_compile.specs.declared.foreign.LoadedImage.TheVariants as foreign
+use Rattle.stream_compile.specs.ReadStatus.{CameUpTo, image_input}
 use Rattle.stream_compile.specs.Running.{IsForeign}
 
 rose_lt : (before now : ℕ) → before < 2 ^ 64 - 1 → Rose before now → before < now

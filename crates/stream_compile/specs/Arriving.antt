@@ -3,18 +3,18 @@ use Rattle.std.specs.Prelude.{◌≡◌, ◌≤◌, ◌<◌, ◌^◌, ◌-◌, �
 use Rattle.std.specs.Io.KnownBytes.{prepend_known, IsAtEnd}
 use Rattle.io_edges.specs.Causes.{Rose}
 use Rattle.wasm_defs.specs.declared.front_stop.FrontStop.{FrontStop}
-use Rattle.stream_compile.specs.declared.chunk.Came.{Came}
-use Rattle.stream_compile.specs.declared.chunk.Came.TheVariants as came
+use Rattle.stream_compile.specs.declared.chunk.ReadStatus.{ReadStatus}
+use Rattle.stream_compile.specs.declared.chunk.ReadStatus.TheVariants as came
 use Rattle.module_stream.specs.declared.compilation.Compilation.{Compilation}
 use Rattle.stream_compile.specs.declared.reading.Ending.{Ending}
 use Rattle.stream_compile.specs.Chunks.{Chunked}
-use Rattle.module_stream.specs.RightSoFar.{IsRightSoFar}
+use Rattle.module_stream.specs.RightSoFar.{PrefixIsValid}
 use Rattle.stream_compile.specs.Reading.{Settled}
 use Rattle.module_stream.specs.Streaming.{IsGoing}
 
 -- how a source is by what its last read came to: by what is left in it, its counts of errors at first and now, how many bytes were
 -- read, and whether it may be read
-abbrev pub StandsAt : Came → (left : Option (List ℕ)) → (before now count : ℕ) → (may_read : Bool) → Type 0
+abbrev pub StandsAt : ReadStatus → (left : Option (List ℕ)) → (before now count : ℕ) → (may_read : Bool) → Type 0
 StandsAt came.Bytes left before now count may_read = (now ≡ before) × (may_read ≡ true)
 StandsAt came.Full left before now count may_read = (now ≡ before) × (67108869 ≤ count)
 StandsAt came.End left before now count may_read = (now ≡ before) × IsAtEnd left
@@ -31,10 +31,10 @@ pub record IsArriving (first : Option (List ℕ)) (before : ℕ) (left : Option 
   pub taken : first ≡ prepend_known (came ++ piece) left
   pub stands : StandsAt c.came left before now c.count may_read
   pub short : length piece ≤ 65536
-  pub right : IsRightSoFar came
+  pub right : PrefixIsValid came
   pub going : (more : List ℕ) → length ((came ++ piece) ++ more) ≤ 67108869 → IsGoing ((came ++ piece) ++ more) s (c.pending ++ more)
 
-abbrev pub has_failed : Came → Bool
+abbrev pub has_failed : ReadStatus → Bool
 has_failed came.Bytes = false
 has_failed came.Full = false
 has_failed came.End = false

@@ -13,7 +13,7 @@ use Rattle.module_stream.specs.declared.compilation.Compilation.{Compilation}
 use Rattle.stream_compile.specs.declared.output.Output.{Output}
 use Rattle.stream_compile.specs.declared.output.Text.{Text}
 use Rattle.stream_compile.specs.declared.output.Text.TheVariants.{Line, Image}
-use Rattle.stream_compile.specs.Came.{Came}
+use Rattle.stream_compile.specs.ReadStatus.{ReadStatus}
 use Rattle.stream_compile.specs.Compiling.{ChecksSource}
 use Rattle.module_stream.specs.Done.{IsDone, checked_of}
 use Rattle.stream_compile.specs.Texts.{Outcome}
@@ -22,7 +22,7 @@ use Rattle.stream_compile.specs.Texts.{Outcome}
 pub record Settles (read : List ℕ) (failed : Bool) (left rest : Option (List ℕ)) (before now : ℕ) : Type 0 where
   pub failed_is : failed ≡ nat_lt before now
   pub bytes : List ℕ
-  pub came : Came left rest failed bytes
+  pub came : ReadStatus left rest failed bytes
   pub verdict : (v : Verdict) → IsVerdictOf read v → IsVerdictOf bytes v
   -- and a module was read to its end
   pub whole : (m : Module) → IsVerdictOf read (Accepted m) → bytes ≡ read
@@ -53,7 +53,7 @@ stopped_answer (Err stop.NoMemory) = check.NoMemory
 
 -- what validating a source answers, and that the compilation of a module is done
 abbrev pub Judged : Bool → (left rest : Option (List ℕ)) → CheckAnswer → Compilation → Type 0
-Judged failed left rest (check.Valid checked) s = (failed ≡ false) × (bytes : List ℕ) × Came left rest false bytes × IsAtEnd rest × IsDone bytes s × (checked ≡ checked_of s)
+Judged failed left rest (check.Valid checked) s = (failed ≡ false) × (bytes : List ℕ) × ReadStatus left rest false bytes × IsAtEnd rest × IsDone bytes s × (checked ≡ checked_of s)
 Judged failed left rest (check.Refused r) s = ChecksSource failed left rest (check.Refused r)
 Judged failed left rest check.ReadFault s = ChecksSource failed left rest check.ReadFault
 Judged failed left rest check.NoMemory s = ChecksSource failed left rest check.NoMemory

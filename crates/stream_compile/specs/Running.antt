@@ -8,9 +8,9 @@ use Rattle.image_format.specs.Reading.{image_or_offset}
 use Rattle.wasm_defs.specs.Values.{Value}
 use Rattle.wasi_host.specs.declared.run_end.RunEnd.{RunEnd}
 use Rattle.wasi_host.specs.declared.run_end.RunEnd.TheVariants as run_end
-use Rattle.stream_compile.specs.declared.foreign.Foreign.{Foreign}
-use Rattle.stream_compile.specs.declared.foreign.Foreign.TheVariants as foreign
-use Rattle.stream_compile.specs.Came.{CameUpTo, image_input}
+use Rattle.stream_compile.specs.declared.foreign.LoadedImage.{LoadedImage}
+use Rattle.stream_compile.specs.declared.foreign.LoadedImage.TheVariants as foreign
+use Rattle.stream_compile.specs.ReadStatus.{CameUpTo, image_input}
 use Rattle.stream_compile.specs.Texts.{Outcome, Told, arguments_of, exited, machine_fault, returned_by, showing, steps_spent, trapped, TellsImageCall}
 
 -- the lines of an end of a run, with its results
@@ -42,7 +42,7 @@ abbrev pub RunsAs : (drill : Option ℕ) → Image → Call → Outcome → Type
 RunsAs drill i c o = (all_in_range (arguments_of c.arguments) ≡ true) × TellsImageCall drill c i o
 
 -- what was read of a source is that image, or has its first error there; or the source failed
-abbrev pub IsForeign : Bool → (left rest : Option (List ℕ)) → Foreign → Type 0
+abbrev pub IsForeign : Bool → (left rest : Option (List ℕ)) → LoadedImage → Type 0
 IsForeign failed left rest (foreign.Image i) = (failed ≡ false) × (bytes : List ℕ) × CameUpTo image_input left rest false bytes × (image_or_offset bytes ≡ Ok i)
 IsForeign failed left rest (foreign.Bad offset) = (failed ≡ false) × (bytes : List ℕ) × CameUpTo image_input left rest false bytes × (image_or_offset bytes ≡ Err offset)
 IsForeign failed left rest foreign.Failed = (failed ≡ true) × (bytes : List ℕ) × CameUpTo image_input left rest true bytes

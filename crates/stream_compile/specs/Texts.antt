@@ -53,7 +53,7 @@ use Rattle.many_streams.specs.declared.member.EachChecked.{EachChecked}
 use Rattle.many_streams.specs.declared.member.EachChecked.TheVariants as each
 use Rattle.many_streams.specs.Frames.{Frames, IsBadFrame, IsCutOff}
 use Rattle.many_streams.specs.Many.{IsFront}
-use Rattle.stream_compile.specs.Came.{Came, CameUpTo, image_input}
+use Rattle.stream_compile.specs.ReadStatus.{ReadStatus, CameUpTo, image_input}
 
 -- a status, and what is written
 pub record Outcome : Type 0 where
@@ -333,7 +333,7 @@ OfImage c false bytes o = OfReading c (image_or_offset bytes) o
 
 -- by what was left in the source before and after
 abbrev pub ComesOfModule : ((bytes : ℕ) → Module → Outcome → Type 0) → Bool → (left rest : Option (List ℕ)) → Outcome → Type 0
-ComesOfModule Tells failed left rest o = (bytes : List ℕ) × Came left rest failed bytes × OfModule Tells failed bytes o
+ComesOfModule Tells failed left rest o = (bytes : List ℕ) × ReadStatus left rest failed bytes × OfModule Tells failed bytes o
 
 -- of each module is reported what `check` reports of its bytes alone
 abbrev pub AreChecked : List (List ℕ) → List Outcome → Type 0

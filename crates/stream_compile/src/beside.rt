@@ -50,11 +50,13 @@ impl<'a, S: Source> BodyReader<'a, S> {
 }
 
 impl<'a, S: Source> Reading for BodyReader<'a, S> {
-    ghost can_read = { λ r. (first : Option (List ℕ)) × (before : ℕ) × (s : Given) × IsArriving first before (S.left r.source.now) (S.faults r.source.now) (S.is_open r.source.now) (keeping s r.intake) r.intake.chunk };
+    ghost can_read = { λ r. (first : Option (List ℕ)) × (before : ℕ) × (s : Given)
+        × IsArriving first before (S.left r.source.now) (S.faults r.source.now) (S.is_open r.source.now) (keeping s r.intake) r.intake.chunk };
 
     ghost reads = { λ r t. (t.source.ghost_name ≡ r.source.ghost_name)
         × TookFront (S.left r.source.now) (S.faults r.source.now) (S.left t.source.now) (S.faults t.source.now)
-        × ((first : Option (List ℕ)) (before : ℕ) (s : Given) → IsArriving first before (S.left r.source.now) (S.faults r.source.now) (S.is_open r.source.now) (keeping s r.intake) r.intake.chunk
+        × ((first : Option (List ℕ)) (before : ℕ) (s : Given)
+        → IsArriving first before (S.left r.source.now) (S.faults r.source.now) (S.is_open r.source.now) (keeping s r.intake) r.intake.chunk
         → Keeps t.read first before (S.left t.source.now) (S.faults t.source.now) (S.is_open t.source.now) s t.intake) };
 
     fn read(&mut self, board: &Board, context: &Context, desk: &mut Desk) {
@@ -113,9 +115,11 @@ fn read_in_scope<R: Threads + Wait + Sync, S: Source, G: Gate>(
     requires table { seat.table ≡ board.now.table }
     requires first { (seat.view.feeder ≡ true) × (seat.view.running ≡ []) × (seat.view.published ≡ []) }
     requires parts { length hands.items < seat.view.parts }
-    requires arrives { (first : Option (List ℕ)) × (before : ℕ) × (s : Given) × IsArriving first before (S.left source.old) (S.faults source.old) (S.is_open source.old) (keeping s intake) intake.chunk }
+    requires arrives { (first : Option (List ℕ)) × (before : ℕ) × (s : Given)
+        × IsArriving first before (S.left source.old) (S.faults source.old) (S.is_open source.old) (keeping s intake) intake.chunk }
     ensures read { IfSome result (λ j. HasRead context.now cells.now board.now seat.view j.seat j.tickets.items j.rows.items) }
-    ensures keeps { IfSome result (λ j. (first : Option (List ℕ)) (before : ℕ) (s : Given) → IsArriving first before (S.left source.old) (S.faults source.old) (S.is_open source.old) (keeping s intake) intake.chunk
+    ensures keeps { IfSome result (λ j. (first : Option (List ℕ)) (before : ℕ) (s : Given)
+        → IsArriving first before (S.left source.old) (S.faults source.old) (S.is_open source.old) (keeping s intake) intake.chunk
         → Keeps j.read first before (S.left source.new) (S.faults source.new) (S.is_open source.new) s j.intake) }
     ensures front { TookFront (S.left source.old) (S.faults source.old) (S.left source.new) (S.faults source.new) }
 {
@@ -159,9 +163,11 @@ fn read_with_workers<R: Threads + Wait + Sync, S: Source, G: Gate>(
     compilation: &Compilation,
     intake: Intake,
 ) -> Result<Met, AllocError>
-    requires arrives { (first : Option (List ℕ)) × (before : ℕ) × (s : Given) × IsArriving first before (S.left source.old) (S.faults source.old) (S.is_open source.old) (keeping s intake) intake.chunk }
+    requires arrives { (first : Option (List ℕ)) × (before : ℕ) × (s : Given)
+        × IsArriving first before (S.left source.old) (S.faults source.old) (S.is_open source.old) (keeping s intake) intake.chunk }
     ensures met { IfOk result (IsMet compilation.now.spaces) }
-    ensures keeps { IfOk result (λ m. (first : Option (List ℕ)) (before : ℕ) (s : Given) → IsArriving first before (S.left source.old) (S.faults source.old) (S.is_open source.old) (keeping s intake) intake.chunk
+    ensures keeps { IfOk result (λ m. (first : Option (List ℕ)) (before : ℕ) (s : Given)
+        → IsArriving first before (S.left source.old) (S.faults source.old) (S.is_open source.old) (keeping s intake) intake.chunk
         → Keeps m.read first before (S.left source.new) (S.faults source.new) (S.is_open source.new) s m.intake) }
     ensures front { TookFront (S.left source.old) (S.faults source.old) (S.left source.new) (S.faults source.new) }
 {
@@ -213,8 +219,10 @@ pub fn read_beside<R: Threads + Wait + Sync, S: Source, G: Gate>(
     chunk: Chunk,
     compilation: &mut Compilation,
 ) -> Result<Chunk, Ending>
-    requires arrives { (first : Option (List ℕ)) × (before : ℕ) × IsArriving first before (S.left source.old) (S.faults source.old) (S.is_open source.old) compilation.old chunk }
-    ensures resumes { (first : Option (List ℕ)) (before : ℕ) → IsArriving first before (S.left source.old) (S.faults source.old) (S.is_open source.old) compilation.old chunk
+    requires arrives { (first : Option (List ℕ)) × (before : ℕ)
+        × IsArriving first before (S.left source.old) (S.faults source.old) (S.is_open source.old) compilation.old chunk }
+    ensures resumes { (first : Option (List ℕ)) (before : ℕ)
+        → IsArriving first before (S.left source.old) (S.faults source.old) (S.is_open source.old) compilation.old chunk
         → Resumes result first before (S.left source.new) (S.faults source.new) (S.is_open source.new) compilation.new }
     ensures kept { KeepsAlike compilation.old.codes compilation.new.codes }
     ensures front { TookFront (S.left source.old) (S.faults source.old) (S.left source.new) (S.faults source.new) }
@@ -235,8 +243,10 @@ pub fn read_beside<R: Threads + Wait + Sync, S: Source, G: Gate>(
 /// Validates what was read in parallel with workers.
 fn judge_met(compilation: &mut Compilation, met: Met) -> Result<Chunk, Ending>
     requires met { IsMet compilation.old.spaces met }
-    requires keeps { (first : Option (List ℕ)) × (before : ℕ) × (left : Option (List ℕ)) × (now : ℕ) × (may_read : Bool) × Keeps met.read first before left now may_read compilation.old met.intake }
-    ensures resumes { (first : Option (List ℕ)) (before : ℕ) (left : Option (List ℕ)) (now : ℕ) (may_read : Bool) → Keeps met.read first before left now may_read compilation.old met.intake
+    requires keeps { (first : Option (List ℕ)) × (before : ℕ) × (left : Option (List ℕ)) × (now : ℕ) × (may_read : Bool)
+        × Keeps met.read first before left now may_read compilation.old met.intake }
+    ensures resumes { (first : Option (List ℕ)) (before : ℕ) (left : Option (List ℕ)) (now : ℕ) (may_read : Bool)
+        → Keeps met.read first before left now may_read compilation.old met.intake
         → Resumes result first before left now may_read compilation.new }
     ensures kept { KeepsAlike compilation.old.codes compilation.new.codes }
 {

@@ -19,7 +19,7 @@ const CHUNK: usize = 65_536;
 
 /// What the last read of a source came to.
 #[derive(Clone, Copy, Debug, PartialEq, Eq)]
-pub enum Came {
+pub enum ReadStatus {
     /// Bytes came, or nothing was read so far.
     Bytes,
     /// As many bytes came as are read at most.
@@ -38,7 +38,7 @@ pub struct Chunk {
     from: usize,
     len: usize,
     count: usize,
-    came: Came,
+    came: ReadStatus,
 }
 
 impl Model for Chunk {
@@ -77,14 +77,14 @@ fn fill<S: Source>(source: &mut S, bytes: &mut [u8], most: usize) -> Got
 impl Chunk {
     /// Before the first read.
     pub fn new(alloc: Global) -> Result<Chunk, AllocError>
-        ensures { IfOk result (λ c. c ≡ record { pending = []; count = 0; came = Came.Bytes }) }
+        ensures { IfOk result (λ c. c ≡ record { pending = []; count = 0; came = ReadStatus.Bytes }) }
     {
         Ok(Chunk {
             bytes: zeros(alloc, CHUNK)?,
             from: 0,
             len: 0,
             count: 0,
-            came: Came::Bytes,
+            came: ReadStatus::Bytes,
         })
     }
 
@@ -100,7 +100,7 @@ impl Chunk {
     pub fn has_failed(&self) -> bool
         ensures { result ≡ has_failed self.now.came }
     {
-        self.came == Came::Failed
+        self.came == ReadStatus::Failed
     }
 
     /// So many of the bytes were taken.
@@ -116,24 +116,25 @@ impl Chunk {
     /// Reads the next bytes. After the end of the source, its failure and the most bytes that are read, nothing more is asked of
     /// it.
     #[tactic(auto, using(crate::proofs::Fronts::took_nothing))]
-    pub fn read<S: Source>(&mut self, source: &mut S) -> Came
+    pub fn read<S: Source>(&mut self, source: &mut S) -> ReadStatus
         requires none { self.old.pending ≡ [] }
         requires few { self.old.count ≤ 67108869 }
-        requires on { self.old.came ≡ Came.Bytes → S.is_open source.old ≡ true }
+        requires on { self.old.came ≡ ReadStatus.Bytes → S.is_open source.old ≡ true }
         ensures came { result ≡ self.new.came }
-        ensures more { result ≡ Came.Bytes → self.old.count < self.new.count }
-        ensures rest { result ≢ Came.Bytes → self.new.pending ≡ [] }
+        ensures more { result ≡ ReadStatus.Bytes → self.old.count < self.new.count }
+        ensures rest { result ≢ ReadStatus.Bytes → self.new.pending ≡ [] }
         ensures few { self.new.count ≤ 67108869 }
-        ensures arrives { (first : Option (List ℕ)) (before : ℕ) (s : Compilation) → IsErrorFree s → IsArriving first before (S.left source.old) (S.faults source.old) (S.is_open source.old) s self.old
+        ensures arrives { (first : Option (List ℕ)) (before : ℕ) (s : Compilation) → IsErrorFree s
+            → IsArriving first before (S.left source.old) (S.faults source.old) (S.is_open source.old) s self.old
             → IsArriving first before (S.left source.new) (S.faults source.new) (S.is_open source.new) s self.new }
         ensures front { TookFront (S.left source.old) (S.faults source.old) (S.left source.new) (S.faults source.new) }
     {
-        if self.came != Came::Bytes {
+        if self.came != ReadStatus::Bytes {
             return self.came;
         }
         if MOST_READ <= self.count {
-            self.came = Came::Full;
-            return Came::Full;
+            self.came = ReadStatus::Full;
+            return ReadStatus::Full;
         }
         self.from = 0;
         self.len = 0;
@@ -142,15 +143,15 @@ impl Chunk {
             Got::Bytes(n) => {
                 self.len = n;
                 self.count += n;
-                Came::Bytes
+                ReadStatus::Bytes
             }
             Got::End => {
-                self.came = Came::End;
-                Came::End
+                self.came = ReadStatus::End;
+                ReadStatus::End
             }
             Got::Failed => {
-                self.came = Came::Failed;
-                Came::Failed
+                self.came = ReadStatus::Failed;
+                ReadStatus::Failed
             }
         }
     }

@@ -11,7 +11,7 @@ ghost use Rattle.stream_compile.specs.Texts.{command_said, ComesTo, AnswersAndWr
 use crate::answer::{Answer, CheckAnswer};
 use crate::compiling::{stream_check, stream_compile};
 use crate::drill::drill;
-use crate::foreign::{Foreign, read_foreign};
+use crate::foreign::{LoadedImage, read_foreign};
 use crate::output::{Output, accepted, bad_image, compiled, read_fault, rejected, usage};
 use crate::running::run_image;
 use crate::several::{bad_frame, told_many};
@@ -55,7 +55,8 @@ fn check<R: Threads + Wait + Sync, S: Source, G: Gate>(
 ) -> Result<Output, AllocError>
     requires faults { S.faults source.old < 2 ^ 64 - 1 }
     requires open { S.is_open source.old ≡ true }
-    ensures answer { IfOk result (λ o. ComesTo (Some (Check options.now)) (nat_lt (S.faults source.old) (S.faults source.new)) (S.left source.old) (S.left source.new) (view o)) }
+    ensures answer { IfOk result (λ o. ComesTo (Some (Check options.now)) (nat_lt (S.faults source.old) (S.faults source.new)) (S.left source.old)
+        (S.left source.new) (view o)) }
     ensures front { TookFront (S.left source.old) (S.faults source.old) (S.left source.new) (S.faults source.new) }
 {
     match stream_check(rt, alloc, source, gate, settings_of(options)) {
@@ -76,7 +77,8 @@ fn compile<R: Threads + Wait + Sync, S: Source, G: Gate>(
 ) -> Result<Output, AllocError>
     requires faults { S.faults source.old < 2 ^ 64 - 1 }
     requires open { S.is_open source.old ≡ true }
-    ensures answer { IfOk result (λ o. ComesTo (Some (Compile options.now)) (nat_lt (S.faults source.old) (S.faults source.new)) (S.left source.old) (S.left source.new) (view o)) }
+    ensures answer { IfOk result (λ o. ComesTo (Some (Compile options.now)) (nat_lt (S.faults source.old) (S.faults source.new)) (S.left source.old)
+        (S.left source.new) (view o)) }
     ensures front { TookFront (S.left source.old) (S.faults source.old) (S.left source.new) (S.faults source.new) }
 {
     match stream_compile(rt, alloc, source, gate, settings_of(options)) {
@@ -97,7 +99,8 @@ fn many<R: Threads + Wait + Sync, S: Source, G: Gate>(
 ) -> Result<Output, AllocError>
     requires faults { S.faults source.old < 2 ^ 64 - 1 }
     requires open { S.is_open source.old ≡ true }
-    ensures answer { IfOk result (λ o. ComesTo (Some (Many options.now)) (nat_lt (S.faults source.old) (S.faults source.new)) (S.left source.old) (S.left source.new) (view o)) }
+    ensures answer { IfOk result (λ o. ComesTo (Some (Many options.now)) (nat_lt (S.faults source.old) (S.faults source.new)) (S.left source.old)
+        (S.left source.new) (view o)) }
     ensures front { TookFront (S.left source.old) (S.faults source.old) (S.left source.new) (S.faults source.new) }
 {
     match check_many(rt, alloc, source, gate, settings_of(options)) {
@@ -121,7 +124,8 @@ fn run<R: Threads + Wait + Sync, S: Source, O: Sink, G: Gate>(
     requires open { S.is_open source.old ≡ true }
     requires sink_count { O.faults out.old < 2 ^ 64 - 1 }
     requires sink_open { O.is_open out.old ≡ true }
-    ensures told { IfOk result (λ status. IsTold (ComesTo (Some (RunCommand call.now)) (nat_lt (S.faults source.old) (S.faults source.new)) (S.left source.old) (S.left source.new)) status (nat_lt (O.faults out.old) (O.faults out.new)) (O.written out.old) (O.written out.new)) }
+    ensures told { IfOk result (λ status. IsTold (ComesTo (Some (RunCommand call.now)) (nat_lt (S.faults source.old) (S.faults source.new)) (S.left source.old)
+        (S.left source.new)) status (nat_lt (O.faults out.old) (O.faults out.new)) (O.written out.old) (O.written out.new)) }
     ensures kept { OnErr result (out.new ≡ out.old) }
     ensures front { TookFront (S.left source.old) (S.faults source.old) (S.left source.new) (S.faults source.new) }
 {
@@ -144,15 +148,16 @@ fn exec<S: Source, O: Sink>(
     requires open { S.is_open source.old ≡ true }
     requires sink_count { O.faults out.old < 2 ^ 64 - 1 }
     requires sink_open { O.is_open out.old ≡ true }
-    ensures told { IfOk result (λ status. IsTold (ComesTo (Some (Exec call.now)) (nat_lt (S.faults source.old) (S.faults source.new)) (S.left source.old) (S.left source.new)) status (nat_lt (O.faults out.old) (O.faults out.new)) (O.written out.old) (O.written out.new)) }
+    ensures told { IfOk result (λ status. IsTold (ComesTo (Some (Exec call.now)) (nat_lt (S.faults source.old) (S.faults source.new)) (S.left source.old)
+        (S.left source.new)) status (nat_lt (O.faults out.old) (O.faults out.new)) (O.written out.old) (O.written out.new)) }
     ensures kept { OnErr result (out.new ≡ out.old) }
     ensures front { TookFront (S.left source.old) (S.faults source.old) (S.left source.new) (S.faults source.new) }
 {
     let given = read_foreign(alloc, source)?;
     match given {
-        Foreign::Image(image) => run_image(alloc, &image, call, None, out),
-        Foreign::Bad(offset) => Ok(write(out, &bad_image(alloc, offset)?)),
-        Foreign::Failed => Ok(write(out, &read_fault(alloc)?)),
+        LoadedImage::Image(image) => run_image(alloc, &image, call, None, out),
+        LoadedImage::Bad(offset) => Ok(write(out, &bad_image(alloc, offset)?)),
+        LoadedImage::Failed => Ok(write(out, &read_fault(alloc)?)),
     }
 }
 
@@ -172,7 +177,8 @@ fn answer_to<R: Threads + Wait + Sync, S: Source, O: Sink, G: Gate>(
     requires ranges { IfSome command.now IsInRange }
     requires sink_count { O.faults out.old < 2 ^ 64 - 1 }
     requires sink_open { O.is_open out.old ≡ true }
-    ensures answer { IfOk result (λ status. IsTold (ComesTo command.now (nat_lt (S.faults source.old) (S.faults source.new)) (S.left source.old) (S.left source.new)) status (nat_lt (O.faults out.old) (O.faults out.new)) (O.written out.old) (O.written out.new)) }
+    ensures answer { IfOk result (λ status. IsTold (ComesTo command.now (nat_lt (S.faults source.old) (S.faults source.new)) (S.left source.old)
+        (S.left source.new)) status (nat_lt (O.faults out.old) (O.faults out.new)) (O.written out.old) (O.written out.new)) }
     ensures kept { OnErr result (out.new ≡ out.old) }
     ensures untouched { ReadsNothing command.now → source.new ≡ source.old }
     ensures front { TookFront (S.left source.old) (S.faults source.old) (S.left source.new) (S.faults source.new) }
@@ -214,7 +220,8 @@ pub fn top<R: Threads + Wait + Sync, S: Source, O: Sink, G: Gate>(
     requires source_open { S.is_open source.old ≡ true }
     requires sink_count { O.faults out.old < 2 ^ 64 - 1 }
     requires sink_open { O.is_open out.old ≡ true }
-    ensures answer { AnswersAndWrites (out.new ≡ out.old) (command_said words.now.items) (nat_lt (S.faults source.old) (S.faults source.new)) (S.left source.old) (S.left source.new) result
+    ensures answer { AnswersAndWrites (out.new ≡ out.old) (command_said words.now.items) (nat_lt (S.faults source.old) (S.faults source.new))
+        (S.left source.old) (S.left source.new) result
         (nat_lt (O.faults out.old) (O.faults out.new)) (O.written out.old) (O.written out.new) }
     ensures untouched { ReadsNothing (command_said words.now.items) → source.new ≡ source.old }
     ensures front { TookFront (S.left source.old) (S.faults source.old) (S.left source.new) (S.faults source.new) }

@@ -42,7 +42,8 @@ pub fn drill<R: Threads + Wait + Sync, O: Sink, G: Gate>(
     requires most { drill.now.count ≤ 50000 }
     requires sink_count { O.faults out.old < 2 ^ 64 - 1 }
     requires sink_open { O.is_open out.old ≡ true }
-    ensures told { IfOk result (λ status. IsTold (OfDrill drill.now) status (nat_lt (O.faults out.old) (O.faults out.new)) (O.written out.old) (O.written out.new)) }
+    ensures told { IfOk result (λ status. IsTold (OfDrill drill.now) status (nat_lt (O.faults out.old) (O.faults out.new)) (O.written out.old)
+        (O.written out.new)) }
     ensures kept { OnErr result (out.new ≡ out.old) }
 {
     let bytes = drill_module(alloc, drill.count as u32)?;

@@ -13,7 +13,7 @@ const IMAGE_INPUT: usize = 1_073_741_825;
 
 /// What a source gives, as an image.
 #[derive(Drop)]
-pub enum Foreign {
+pub enum LoadedImage {
     /// The bytes are this image's.
     Image(Image),
     /// They are none: the offset of their first error.
@@ -23,7 +23,7 @@ pub enum Foreign {
 }
 
 /// Reads an image: to the source's end, to its error, or until the bytes are more than an image has.
-pub fn read_foreign<S: Source>(alloc: Global, source: &mut S) -> Result<Foreign, AllocError>
+pub fn read_foreign<S: Source>(alloc: Global, source: &mut S) -> Result<LoadedImage, AllocError>
     requires faults { S.faults source.old < 2 ^ 64 - 1 }
     requires open { S.is_open source.old ≡ true }
     ensures answer { IfOk result (IsForeign (nat_lt (S.faults source.old) (S.faults source.new)) (S.left source.old) (S.left source.new)) }
@@ -31,10 +31,10 @@ pub fn read_foreign<S: Source>(alloc: Global, source: &mut S) -> Result<Foreign,
 {
     let input = read_all(alloc, source, IMAGE_INPUT)?;
     match input.stop {
-        Stop::Failed => Ok(Foreign::Failed),
+        Stop::Failed => Ok(LoadedImage::Failed),
         Stop::End | Stop::Full => match read_image(alloc, input.bytes.as_slice()) {
-            Ok(image) => Ok(Foreign::Image(image)),
-            Err(ImageStop::Bad(offset)) => Ok(Foreign::Bad(offset)),
+            Ok(image) => Ok(LoadedImage::Image(image)),
+            Err(ImageStop::Bad(offset)) => Ok(LoadedImage::Bad(offset)),
             Err(ImageStop::NoMemory) => Err(AllocError),
         },
     }

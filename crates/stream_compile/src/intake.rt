@@ -9,7 +9,7 @@ ghost use Rattle.module_stream.specs.Kept.{kept_bodies};
 ghost use Rattle.module_stream.specs.Streaming.{IsErrorFree};
 ghost use Rattle.stream_compile.specs.Keeping.{keeping, Keeps};
 
-use crate::chunk::{Came, Chunk};
+use crate::chunk::{Chunk, ReadStatus};
 use batch_pool::Desk;
 use body_cutter::{Batch, Cutter};
 use cancel_drain::Board;
@@ -119,11 +119,13 @@ pub fn read_bodies<S: Source>(
     intake: &mut Intake,
 ) -> Result<(), FrontStop>
     requires desk { IsDesk context.now board.now desk.old }
-    requires arrives { (first : Option (List ℕ)) × (before : ℕ) × (s : Compilation) × IsArriving first before (S.left source.old) (S.faults source.old) (S.is_open source.old) (keeping s intake.old) intake.old.chunk }
+    requires arrives { (first : Option (List ℕ)) × (before : ℕ) × (s : Compilation)
+        × IsArriving first before (S.left source.old) (S.faults source.old) (S.is_open source.old) (keeping s intake.old) intake.old.chunk }
     ensures desk { IsDesk context.now board.now desk.new }
     ensures parts { desk.new.seat.view.parts ≡ desk.old.seat.view.parts }
     ensures idle { IsIdle desk.old desk.new }
-    ensures keeps { (first : Option (List ℕ)) (before : ℕ) (s : Compilation) → IsArriving first before (S.left source.old) (S.faults source.old) (S.is_open source.old) (keeping s intake.old) intake.old.chunk
+    ensures keeps { (first : Option (List ℕ)) (before : ℕ) (s : Compilation)
+        → IsArriving first before (S.left source.old) (S.faults source.old) (S.is_open source.old) (keeping s intake.old) intake.old.chunk
         → Keeps result first before (S.left source.new) (S.faults source.new) (S.is_open source.new) s intake.new }
     ensures front { TookFront (S.left source.old) (S.faults source.old) (S.left source.new) (S.faults source.new) }
 {
@@ -140,7 +142,7 @@ pub fn read_bodies<S: Source>(
             return Ok(());
         }
         let came = intake.chunk.read(source);
-        if came != Came::Bytes {
+        if came != ReadStatus::Bytes {
             return Ok(());
         }
     }

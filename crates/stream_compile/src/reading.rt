@@ -9,7 +9,7 @@ ghost use Rattle.module_stream.specs.Streaming.{IsErrorFree, IsUnread};
 
 use crate::answer::CheckAnswer;
 use crate::beside::read_beside;
-use crate::chunk::{Came, Chunk};
+use crate::chunk::{Chunk, ReadStatus};
 use io_edges::{Gate, Source};
 use module_stream::{Checked, Compilation};
 use std::alloc::Global;
@@ -32,8 +32,10 @@ fn take_pending(
     chunk: &mut Chunk,
     up_to_bodies: bool,
 ) -> Result<(), FrontStop>
-    requires { (first : Option (List ℕ)) × (before : ℕ) × (left : Option (List ℕ)) × (now : ℕ) × (may_read : Bool) × IsArriving first before left now may_read compilation.old chunk.old }
-    ensures arrives { (first : Option (List ℕ)) (before : ℕ) (left : Option (List ℕ)) (now : ℕ) (may_read : Bool) → IsArriving first before left now may_read compilation.old chunk.old
+    requires { (first : Option (List ℕ)) × (before : ℕ) × (left : Option (List ℕ)) × (now : ℕ) × (may_read : Bool)
+        × IsArriving first before left now may_read compilation.old chunk.old }
+    ensures arrives { (first : Option (List ℕ)) (before : ℕ) (left : Option (List ℕ)) (now : ℕ) (may_read : Bool)
+        → IsArriving first before left now may_read compilation.old chunk.old
         → Arrives result first before left now may_read compilation.new chunk.new }
     ensures all { OnOk result ((up_to_bodies ≡ false → chunk.new.pending ≡ []) × (compilation.new.cutter ≡ None → chunk.new.pending ≡ [])) }
     ensures no_error { OnOk result ((up_to_bodies ≡ false → IsErrorFree compilation.new) × (compilation.new.cutter ≡ None → IsErrorFree compilation.new)) }
@@ -59,8 +61,10 @@ fn read_on<S: Source>(
     compilation: &mut Compilation,
     up_to_bodies: bool,
 ) -> Option<Ending>
-    requires { (first : Option (List ℕ)) × (before : ℕ) × IsArriving first before (S.left source.old) (S.faults source.old) (S.is_open source.old) compilation.old chunk.old }
-    ensures reads { (first : Option (List ℕ)) (before : ℕ) → IsArriving first before (S.left source.old) (S.faults source.old) (S.is_open source.old) compilation.old chunk.old
+    requires { (first : Option (List ℕ)) × (before : ℕ) × IsArriving first before (S.left source.old) (S.faults source.old)
+        (S.is_open source.old) compilation.old chunk.old }
+    ensures reads { (first : Option (List ℕ)) (before : ℕ) → IsArriving first before (S.left source.old) (S.faults source.old)
+        (S.is_open source.old) compilation.old chunk.old
         → ReadsOn result first before (S.left source.new) (S.faults source.new) (S.is_open source.new) compilation.new chunk.new }
     ensures some { up_to_bodies ≡ false → IsSome result }
     ensures kept { KeepsAlike compilation.old.codes compilation.new.codes }
@@ -81,7 +85,7 @@ fn read_on<S: Source>(
             return None;
         }
         let came = chunk.read(source);
-        if came != Came::Bytes {
+        if came != ReadStatus::Bytes {
             return Some(Ending {
                 judged: compilation.finish(),
                 failed: chunk.has_failed(),
@@ -125,8 +129,10 @@ fn read_source<R: Threads + Wait + Sync, S: Source, G: Gate>(
 
 /// Validates and compiles the bytes of a source as they come, up to their end or to the first error.
 fn read_to_end<S: Source>(source: &mut S, mut chunk: Chunk, compilation: &mut Compilation) -> Ending
-    requires { (first : Option (List ℕ)) × (before : ℕ) × IsArriving first before (S.left source.old) (S.faults source.old) (S.is_open source.old) compilation.old chunk }
-    ensures settled { (first : Option (List ℕ)) (before : ℕ) → before < 2 ^ 64 - 1 → IsArriving first before (S.left source.old) (S.faults source.old) (S.is_open source.old) compilation.old chunk
+    requires { (first : Option (List ℕ)) × (before : ℕ) × IsArriving first before (S.left source.old) (S.faults source.old)
+        (S.is_open source.old) compilation.old chunk }
+    ensures settled { (first : Option (List ℕ)) (before : ℕ) → before < 2 ^ 64 - 1
+        → IsArriving first before (S.left source.old) (S.faults source.old) (S.is_open source.old) compilation.old chunk
         → Settled result.failed result.judged compilation.new first (S.left source.new) before (S.faults source.new) }
     ensures kept { KeepsAlike compilation.old.codes compilation.new.codes }
     ensures front { TookFront (S.left source.old) (S.faults source.old) (S.left source.new) (S.faults source.new) }

@@ -50,7 +50,8 @@ pub fn run_image<O: Sink>(
 ) -> Result<u8, AllocError>
     requires count { O.faults out.old < 2 ^ 64 - 1 }
     requires open { O.is_open out.old ≡ true }
-    ensures told { IfOk result (λ status. IsTold (RunsAs drill image.now call.now) status (nat_lt (O.faults out.old) (O.faults out.new)) (O.written out.old) (O.written out.new)) }
+    ensures told { IfOk result (λ status. IsTold (RunsAs drill image.now call.now) status (nat_lt (O.faults out.old) (O.faults out.new)) (O.written out.old)
+        (O.written out.new)) }
     ensures kept { OnErr result (out.new ≡ out.old) }
 {
     let values = values_of(alloc, call.arguments.as_slice())?;

@@ -55,7 +55,8 @@ fn write_hex_line<O: Sink>(out: &mut O, bytes: &[u8]) -> bool
 /// Writes the line that shows these bytes.
 fn write_bytes<O: Sink>(out: &mut O, bytes: &[u8]) -> bool
     requires { O.is_open out.old ≡ true }
-    ensures { WritesText result (codes "peek " ++ (hex_of bytes.now ++ codes "\n")) (O.written out.old) (O.written out.new) (O.faults out.old) (O.faults out.new) }
+    ensures { WritesText result (codes "peek " ++ (hex_of bytes.now ++ codes "\n")) (O.written out.old) (O.written out.new) (O.faults out.old)
+        (O.faults out.new) }
 {
     if write_all(out, b"peek ") {
         write_hex_line(out, bytes)

@@ -9,7 +9,8 @@ ghost use Rattle.image_run.specs.Ends.{TellsCount};
 ghost use Rattle.stream_compile.specs.Reading.{view};
 ghost use Rattle.wasi_host.specs.Hosted.{outcome_of};
 ghost use Rattle.stream_compile.specs.Running.{line_of, lines_of, shown_after};
-ghost use Rattle.stream_compile.specs.Texts.{drill_line, drilled, exited, fault_name, machine_fault, peeked, returned, returned_by, Told, trap_place, trapped, value_line};
+ghost use Rattle.stream_compile.specs.Texts.{drill_line, drilled, exited, fault_name, machine_fault, peeked, returned, returned_by, Told, trap_place, trapped};
+ghost use Rattle.stream_compile.specs.Texts.{value_line};
 
 use crate::output::Output;
 use crate::shown::write_shown;
@@ -123,7 +124,8 @@ fn write_drill_line<O: Sink>(out: &mut O, functions: u64, value: i64) -> bool
 /// Writes the line of a drill with so many functions, whose last returned a value.
 fn write_drilled_value<O: Sink>(out: &mut O, functions: u64, value: Value) -> bool
     requires { O.is_open out.old ≡ true }
-    ensures text { WritesText result (drilled functions (value_of value ∷ [])).text (O.written out.old) (O.written out.new) (O.faults out.old) (O.faults out.new) }
+    ensures text { WritesText result (drilled functions (value_of value ∷ [])).text (O.written out.old) (O.written out.new) (O.faults out.old)
+        (O.faults out.new) }
     ensures open { result ≡ true → O.is_open out.new ≡ true }
 {
     match value {
@@ -136,7 +138,8 @@ fn write_drilled_value<O: Sink>(out: &mut O, functions: u64, value: Value) -> bo
 fn write_drilled<O: Sink>(out: &mut O, functions: u64, instance: &Instance<'_>, count: u32) -> bool
     requires count { count ≡ length instance.now.results }
     requires open { O.is_open out.old ≡ true }
-    ensures text { WritesText result (drilled functions instance.now.results).text (O.written out.old) (O.written out.new) (O.faults out.old) (O.faults out.new) }
+    ensures text { WritesText result (drilled functions instance.now.results).text (O.written out.old) (O.written out.new) (O.faults out.old)
+        (O.faults out.new) }
     ensures open { result ≡ true → O.is_open out.new ≡ true }
 {
     if count == 0 {
@@ -155,7 +158,8 @@ fn write_returned_by<O: Sink>(
 ) -> bool
     requires count { count ≡ length instance.now.results }
     requires open { O.is_open out.old ≡ true }
-    ensures text { WritesText result (returned_by drill instance.now.results).text (O.written out.old) (O.written out.new) (O.faults out.old) (O.faults out.new) }
+    ensures text { WritesText result (returned_by drill instance.now.results).text (O.written out.old) (O.written out.new) (O.faults out.old)
+        (O.faults out.new) }
     ensures open { result ≡ true → O.is_open out.new ≡ true }
 {
     match drill {
@@ -181,7 +185,8 @@ fn fault_name(kind: FaultKind) -> &'static str
 /// Writes a name and an address.
 fn write_place<O: Sink>(out: &mut O, name: &[u8], pc: u64) -> bool
     requires { O.is_open out.old ≡ true }
-    ensures text { WritesText result (name.now ++ codes " at " ++ decimal pc ++ codes "\n") (O.written out.old) (O.written out.new) (O.faults out.old) (O.faults out.new) }
+    ensures text { WritesText result (name.now ++ codes " at " ++ decimal pc ++ codes "\n") (O.written out.old) (O.written out.new) (O.faults out.old)
+        (O.faults out.new) }
     ensures open { result ≡ true → O.is_open out.new ≡ true }
 {
     let mut buffer = Buffer::new();
@@ -208,7 +213,8 @@ fn write_fault<O: Sink>(out: &mut O, kind: FaultKind, pc: u64) -> bool
 /// Writes in which function a run trapped, and at which offset of the module.
 fn write_told<O: Sink>(out: &mut O, function: u32, offset: u64) -> bool
     requires { O.is_open out.old ≡ true }
-    ensures text { WritesText result (codes " in function " ++ (decimal function ++ codes " at " ++ decimal offset ++ codes "\n")) (O.written out.old) (O.written out.new) (O.faults out.old) (O.faults out.new) }
+    ensures text { WritesText result (codes " in function " ++ (decimal function ++ codes " at " ++ decimal offset ++ codes "\n")) (O.written out.old)
+        (O.written out.new) (O.faults out.old) (O.faults out.new) }
     ensures open { result ≡ true → O.is_open out.new ≡ true }
 {
     let mut number = Buffer::new();
@@ -276,7 +282,8 @@ fn write_line<O: Sink>(
 ) -> bool
     requires count { TellsCount (outcome_of end) instance.now.results }
     requires open { O.is_open out.old ≡ true }
-    ensures text { WritesText result (line_of drill end instance.now.results).text (O.written out.old) (O.written out.new) (O.faults out.old) (O.faults out.new) }
+    ensures text { WritesText result (line_of drill end instance.now.results).text (O.written out.old) (O.written out.new) (O.faults out.old)
+        (O.faults out.new) }
     ensures open { result ≡ true → O.is_open out.new ≡ true }
 {
     match end {
@@ -298,7 +305,8 @@ fn write_line_and_bytes<O: Sink>(
 ) -> bool
     requires count { TellsCount (outcome_of end) instance.now.results }
     requires open { O.is_open out.old ≡ true }
-    ensures { WritesText result ((line_of drill end instance.now.results).text ++ peeked shown instance.now.memory) (O.written out.old) (O.written out.new) (O.faults out.old) (O.faults out.new) }
+    ensures { WritesText result ((line_of drill end instance.now.results).text ++ peeked shown instance.now.memory) (O.written out.old) (O.written out.new)
+        (O.faults out.old) (O.faults out.new) }
 {
     if write_line(out, drill, end, instance) {
         write_shown(out, shown, instance.memory())
@@ -327,7 +335,8 @@ fn write_lines<O: Sink>(
 ) -> bool
     requires count { TellsCount (outcome_of end) instance.now.results }
     requires open { O.is_open out.old ≡ true }
-    ensures { WritesText result (lines_of drill peek end instance.now.memory instance.now.results).text (O.written out.old) (O.written out.new) (O.faults out.old) (O.faults out.new) }
+    ensures { WritesText result (lines_of drill peek end instance.now.memory instance.now.results).text (O.written out.old) (O.written out.new)
+        (O.faults out.old) (O.faults out.new) }
 {
     match shown_after(end, peek) {
         None => write_line(out, drill, end, instance),
@@ -361,7 +370,8 @@ pub fn write_end<O: Sink>(
     requires results { TellsCount (outcome_of end) instance.now.results }
     requires count { O.faults out.old < 2 ^ 64 - 1 }
     requires open { O.is_open out.old ≡ true }
-    ensures { Told result (lines_of drill peek end instance.now.memory instance.now.results) (nat_lt (O.faults out.old) (O.faults out.new)) (O.written out.old) (O.written out.new) }
+    ensures { Told result (lines_of drill peek end instance.now.memory instance.now.results) (nat_lt (O.faults out.old) (O.faults out.new)) (O.written out.old)
+        (O.written out.new) }
 {
     if write_lines(out, drill, peek, end, instance) {
         status_of(end)

@@ -3,7 +3,7 @@
 ghost use Rattle.std.specs.Prelude.{◌≡◌, ◌+◌, ◌-◌, ◌<◌, ◌≤◌, ◌^◌, ◌++◌, map, length, IfOk, OnErr};
 ghost use Rattle.rv_isa.specs.Words.{word_of};
 ghost use Rattle.frame_layout.specs.Slots.{operand};
-ghost use Rattle.frame_layout.specs.Templates.{Around, call_words};
+ghost use Rattle.frame_layout.specs.Templates.{EmitContext, call_words};
 ghost use Rattle.frame_layout.specs.Functions.{no_distance};
 
 use crate::frames::{back, shift};
@@ -27,7 +27,8 @@ pub fn emit_call(
 ) -> Result<Relocation, AllocError>
     requires operands { arguments ≤ height }
     requires fits { operand layout.now (height - arguments) < 2 ^ 32 }
-    ensures words { (w : Around) → w.layout ≡ layout.now → w.distance_to ≡ no_distance → IfOk result (λ r. buffer.new ≡ buffer.old ++ map word_of (call_words w height (length buffer.old) function arguments)) }
+    ensures words { (w : EmitContext) → w.layout ≡ layout.now → w.distance_to ≡ no_distance
+        → IfOk result (λ r. buffer.new ≡ buffer.old ++ map word_of (call_words w height (length buffer.old) function arguments)) }
     ensures relocation { IfOk result (λ r. r ≡ record { place = length buffer.old + 6; function = function }) }
     ensures err { OnErr result (buffer.new ≡ buffer.old) }
 {

@@ -6,7 +6,7 @@ ghost use Rattle.frame_layout.specs.Slots.{operand};
 ghost use Rattle.rv_isa.specs.declared.operations.LoadOp.TheVariants.{Ld as LdGiven};
 ghost use Rattle.rv_isa.specs.declared.operations.Op.TheVariants.{Load as LoadGiven};
 ghost use Rattle.frame_layout.specs.Macros.{t0, s4};
-ghost use Rattle.frame_layout.specs.Templates.{Around, indirect_words};
+ghost use Rattle.frame_layout.specs.Templates.{EmitContext, indirect_words};
 ghost use Rattle.table_calls.specs.IndirectParts.{index_words, row_words, going_words};
 
 use crate::frames::{back, shift};
@@ -102,7 +102,8 @@ pub fn emit_indirect(
 ) -> Result<(), AllocError>
     requires operands { arguments + 1 ≤ height }
     requires fits { operand layout.now (height - 1) < 2 ^ 32 }
-    ensures ok { (w : Around) (type : ℕ) → w.layout ≡ layout.now → w.rows ≡ table_minimum → w.like type ≡ like → OnOk result (buffer.new ≡ buffer.old ++ map word_of (indirect_words w height type arguments)) }
+    ensures ok { (w : EmitContext) (type : ℕ) → w.layout ≡ layout.now → w.rows ≡ table_minimum → w.like type ≡ like
+        → OnOk result (buffer.new ≡ buffer.old ++ map word_of (indirect_words w height type arguments)) }
     ensures err { OnErr result (buffer.new ≡ buffer.old) }
 {
     let index = index_within(layout.operand(height - 1), table_minimum);

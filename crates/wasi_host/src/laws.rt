@@ -21,18 +21,21 @@ pub fn replies_are_taken()
 
 /// Each run of a function that an image exports has replies that are the host's own.
 pub fn runs_have_own_replies()
-    ensures { (i : Image) (e : Export) (arguments : List Value) (n : ℕ) → (rs : List Reply) × AreOwn i.imports (λ r. (run_of_export i e arguments r n).calls) rs }
+    ensures { (i : Image) (e : Export) (arguments : List Value) (n : ℕ) → (rs : List Reply)
+        × AreOwn i.imports (λ r. (run_of_export i e arguments r n).calls) rs }
 {}
 
 /// They are the only ones.
 pub fn own_replies_are_one()
-    ensures { (i : Image) (e : Export) (arguments : List Value) (n : ℕ) (rs ss : List Reply) → AreOwn i.imports (λ r. (run_of_export i e arguments r n).calls) rs
+    ensures { (i : Image) (e : Export) (arguments : List Value) (n : ℕ) (rs ss : List Reply)
+        → AreOwn i.imports (λ r. (run_of_export i e arguments r n).calls) rs
         → AreOwn i.imports (λ r. (run_of_export i e arguments r n).calls) ss → rs ≡ ss }
 {}
 
 /// A run of a function that an image exports, whose imports are all known, with the host's own replies, is stopped by `proc_exit`
 /// alone, and by each call of it.
 pub fn runs_stop_by_exits()
-    ensures { (i : Image) (e : Export) (arguments : List Value) (n : ℕ) (rs : List Reply) → has_unknown_import i.imports ≡ false → AreOwn i.imports (λ r. (run_of_export i e arguments r n).calls) rs
+    ensures { (i : Image) (e : Export) (arguments : List Value) (n : ℕ) (rs : List Reply) → has_unknown_import i.imports ≡ false
+        → AreOwn i.imports (λ r. (run_of_export i e arguments r n).calls) rs
         → StopsByExit i.imports (run_of_export i e arguments rs n) }
 {}

@@ -66,7 +66,8 @@ pub(crate) fn write_vectors<O: Sink>(out: &mut O, memory: &[u8], iovs: u32, iovs
     requires open { O.is_open out.old ≡ true }
     requires few { iovs_len ≤ 1024 }
     requires inside { IsSome (gathered memory.now iovs iovs_len) }
-    ensures bytes { (bytes : List ℕ) × (gathered memory.now iovs iovs_len ≡ Some bytes) × WritesText result bytes (O.written out.old) (O.written out.new) (O.faults out.old) (O.faults out.new) }
+    ensures bytes { (bytes : List ℕ) × (gathered memory.now iovs iovs_len ≡ Some bytes)
+        × WritesText result bytes (O.written out.old) (O.written out.new) (O.faults out.old) (O.faults out.new) }
     ensures on { result ≡ true → O.is_open out.new ≡ true }
 {
     let mut address = u64::from(iovs);

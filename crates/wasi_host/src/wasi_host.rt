@@ -47,7 +47,8 @@ fn check(call: WriteCall, memory: &[u8]) -> Result<u32, i32>
 /// Writes the bytes of a call of `fd_write`, and gives the reply to it; or none, where the sink failed.
 fn fd_write<O: Sink>(out: &mut O, call: WriteCall, memory: &[u8]) -> Option<Reply>
     requires { O.is_open out.old ≡ true }
-    ensures bytes { Gives result (answered_by call.nwritten (bytes_or_errno call memory.now)) (O.written out.old) (O.written out.new) (O.faults out.old) (O.faults out.new) }
+    ensures bytes { Gives result (answered_by call.nwritten (bytes_or_errno call memory.now)) (O.written out.old) (O.written out.new) (O.faults out.old)
+        (O.faults out.new) }
     ensures on { IfSome result (λ _. O.is_open out.new ≡ true) }
 {
     match check(call, memory) {
@@ -75,7 +76,8 @@ fn answer<O: Sink>(
     memory: &[u8],
 ) -> Option<Reply>
     requires { O.is_open out.old ≡ true }
-    ensures bytes { Gives result (answer_of image.now.imports (call_of number arguments.now memory.now)) (O.written out.old) (O.written out.new) (O.faults out.old) (O.faults out.new) }
+    ensures bytes { Gives result (answer_of image.now.imports (call_of number arguments.now memory.now)) (O.written out.old) (O.written out.new)
+        (O.faults out.old) (O.faults out.new) }
     ensures on { IfSome result (λ _. O.is_open out.new ≡ true) }
 {
     let nothing = Reply::Value(None, None);

@@ -12,7 +12,7 @@ use Rattle.wasm_defs.specs.declared.token.BlockType.TheVariants.{Empty, Value, I
 use Rattle.wasm_defs.specs.declared.token.MemArg.{MemArg}
 use Rattle.wasm_defs.specs.declared.token.BulkOp.TheVariants.{Fill, Copy, Init}
 use Rattle.wasm_defs.specs.declared.token.Plain.{Plain}
-use Rattle.wasm_defs.specs.declared.token.Plain.TheVariants.{Unreachable, Nop, Br, BrIf, BrTable, Return, Call, CallIndirect, Discard, Select, LocalGet, LocalSet, LocalTee, GlobalGet, GlobalSet, Load, Store, MemorySize, MemoryGrow, Bulk, DataDrop, Const, Operate}
+use Rattle.wasm_defs.specs.declared.token.Plain.TheVariants.{Unreachable, Nop, Br, BrIf, BrTable, Return, Call, CallIndirect, Drop, Select, LocalGet, LocalSet, LocalTee, GlobalGet, GlobalSet, Load, Store, MemorySize, MemoryGrow, Bulk, DataDrop, Const, Numeric}
 use Rattle.wasm_defs.specs.declared.token.Token.{Token}
 use Rattle.wasm_defs.specs.declared.token.Token.TheVariants as token
 use Rattle.wasm_defs.specs.Limits.{max_locals}
@@ -154,7 +154,7 @@ control at b =
     else if b == 0x0F then plain Return
     else if b == 0x10 then with_index Call
     else if b == 0x11 then indirect
-    else if b == 0x1A then plain Discard
+    else if b == 0x1A then plain Drop
     else if b == 0x1B then plain Select
     else refused Malformed at
 
@@ -220,7 +220,7 @@ past_table counted at b = if b == 0xFC then prefixed counted at else refused Mal
 abbrev pub operated_at : Bool → ℕ → ℕ → Option (Option Operation) → Reader Token
 operated_at counted at b None = past_table counted at b
 operated_at counted at b (Some None) = refused Unsupported at
-operated_at counted at b (Some (Some op)) = plain (Operate op)
+operated_at counted at b (Some (Some op)) = plain (Numeric op)
 
 -- numeric instructions (5.4.5)
 unfoldable pub numeric : Bool → ℕ → ℕ → Reader Token

@@ -7,7 +7,7 @@ use Rattle.wasm_defs.specs.declared.token.BlockType.TheVariants.{Empty, Value, I
 use Rattle.wasm_defs.specs.declared.token.MemArg.{MemArg}
 use Rattle.wasm_defs.specs.declared.token.BulkOp.TheVariants.{Fill, Copy, Init}
 use Rattle.wasm_defs.specs.declared.token.Plain.{Plain}
-use Rattle.wasm_defs.specs.declared.token.Plain.TheVariants.{Unreachable, Nop, Br, BrIf, BrTable, Return, Call, CallIndirect, Discard, Select, LocalGet, LocalSet, LocalTee, GlobalGet, GlobalSet, Load, Store, MemorySize, MemoryGrow, Bulk, DataDrop, Const, Operate}
+use Rattle.wasm_defs.specs.declared.token.Plain.TheVariants.{Unreachable, Nop, Br, BrIf, BrTable, Return, Call, CallIndirect, Drop, Select, LocalGet, LocalSet, LocalTee, GlobalGet, GlobalSet, Load, Store, MemorySize, MemoryGrow, Bulk, DataDrop, Const, Numeric}
 use Rattle.wasm_defs.specs.declared.token.Token.{Token}
 use Rattle.wasm_defs.specs.declared.token.Token.TheVariants as token
 use Rattle.wasm_defs.specs.Numbers.{Spells}
@@ -52,7 +52,7 @@ plain_is counted (BrTable labels last) = exactly (0x0E ∷ []) then listed_vecto
 plain_is counted Return = exactly (0x0F ∷ [])
 plain_is counted (Call x) = exactly (0x10 ∷ []) then listed_index_is x
 plain_is counted (CallIndirect ty table) = exactly (0x11 ∷ []) then listed_index_is ty then listed_index_is table
-plain_is counted Discard = exactly (0x1A ∷ [])
+plain_is counted Drop = exactly (0x1A ∷ [])
 plain_is counted Select = exactly (0x1B ∷ [])
 plain_is counted (LocalGet x) = exactly (0x20 ∷ []) then listed_index_is x
 plain_is counted (LocalSet x) = exactly (0x21 ∷ []) then listed_index_is x
@@ -68,7 +68,7 @@ plain_is counted (Bulk Copy) = exactly (0xFC ∷ []) then listed_index_is 10 the
 plain_is counted (Bulk (Init x)) = if_counted counted (exactly (0xFC ∷ []) then listed_index_is 8 then listed_index_is x then exactly (0x00 ∷ []))
 plain_is counted (DataDrop x) = if_counted counted (exactly (0xFC ∷ []) then listed_index_is 9 then listed_index_is x)
 plain_is counted (Const ty n) = exactly (const_opcode ty ∷ []) then signed_is ty n
-plain_is counted (Operate op) = exactly (operation_code op ∷ [])
+plain_is counted (Numeric op) = exactly (operation_code op ∷ [])
 
 -- with those that open a block, `else` and `end` (5.4.1)
 abbrev pub instruction_is : Bool → Token → Spelling

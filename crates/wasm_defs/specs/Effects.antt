@@ -9,7 +9,7 @@ use Rattle.wasm_defs.specs.declared.operation.Operation.TheVariants.{Unary, Test
 use Rattle.wasm_defs.specs.declared.operation.LoadOp.{LoadOp}
 use Rattle.wasm_defs.specs.declared.token.BulkOp.TheVariants.{Fill, Copy, Init}
 use Rattle.wasm_defs.specs.declared.token.Plain.{Plain}
-use Rattle.wasm_defs.specs.declared.token.Plain.TheVariants.{Nop, Discard, Select, LocalGet, LocalSet, LocalTee, GlobalGet, GlobalSet, Load, Store, MemorySize, MemoryGrow, Bulk, DataDrop, Const, Operate}
+use Rattle.wasm_defs.specs.declared.token.Plain.TheVariants.{Nop, Drop, Select, LocalGet, LocalSet, LocalTee, GlobalGet, GlobalSet, Load, Store, MemorySize, MemoryGrow, Bulk, DataDrop, Const, Numeric}
 use Rattle.wasm_defs.specs.Typing.{load_type, extend_type}
 use Rattle.wasm_defs.specs.Values.{Value, unsigned}
 use Rattle.wasm_defs.specs.Integers.{Computed, Number, DividesByZero, Overflows, binary, unary, ieqz, compare, converted, converted_type, sign_extended}
@@ -82,7 +82,7 @@ module _ (store : run.Store) (locals : List Value) where
 
   abbrev pub effect : (cap : ℕ) → Plain → List Value → Effect
   effect cap Nop operands = Gives store locals operands
-  effect cap Discard (x ∷ below) = Gives store locals below
+  effect cap Drop (x ∷ below) = Gives store locals below
   effect cap Select (c ∷ y ∷ x ∷ below) = Gives store locals ((if c.number == 0 then y else x) ∷ below)
   effect cap (LocalGet x) operands = pushed operands (slice_get locals x)
   effect cap (LocalSet x) (v ∷ below) = local_set x v below
@@ -98,7 +98,7 @@ module _ (store : run.Store) (locals : List Value) where
   effect cap (Bulk (Init x)) (n ∷ s ∷ d ∷ below) = copied below d.number s.number n.number (slice_get store.segments x)
   effect cap (DataDrop x) operands = data_drop x operands
   effect cap (Const t n) operands = Gives store locals (value t (unsigned t n) ∷ operands)
-  effect cap (Operate op) operands = operated op operands
+  effect cap (Numeric op) operands = operated op operands
   effect cap p operands = Fails
 
 -- what an instruction weighs above 1: one for each byte that it writes

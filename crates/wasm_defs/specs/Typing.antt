@@ -19,7 +19,7 @@ use Rattle.wasm_defs.specs.declared.operation.StoreOp.TheVariants.{I32Store, I64
 use Rattle.wasm_defs.specs.declared.token.BulkOp.{BulkOp}
 use Rattle.wasm_defs.specs.declared.token.BulkOp.TheVariants.{Fill, Copy, Init}
 use Rattle.wasm_defs.specs.declared.token.Plain.{Plain}
-use Rattle.wasm_defs.specs.declared.token.Plain.TheVariants.{Unreachable, Nop, Br, BrIf, BrTable, Return, Call, CallIndirect, Discard, Select, LocalGet, LocalSet, LocalTee, GlobalGet, GlobalSet, Load, Store, MemorySize, MemoryGrow, Bulk, DataDrop, Const, Operate}
+use Rattle.wasm_defs.specs.declared.token.Plain.TheVariants.{Unreachable, Nop, Br, BrIf, BrTable, Return, Call, CallIndirect, Drop, Select, LocalGet, LocalSet, LocalTee, GlobalGet, GlobalSet, Load, Store, MemorySize, MemoryGrow, Bulk, DataDrop, Const, Numeric}
 use Rattle.wasm_defs.specs.Trees.{Seq, Nothing, Simple, Block, Loop, If, IfElse}
 
 abbrev pub Types : Type 0
@@ -206,7 +206,7 @@ rule_of c (BrTable ls l) =
 rule_of c Return = Stops c.results
 rule_of c (Call f) = with_type (function_type c f) (called [])
 rule_of c (CallIndirect i table) = only_if (nat_lt table c.tables) (with_type (slice_get c.types i) (called (I32 ∷ [])))
-rule_of c Discard = Discards
+rule_of c Drop = Discards
 rule_of c Select = Selects
 rule_of c (LocalGet x) = with_type (slice_get c.locals x) (λ t. Fixed [] (t ∷ []))
 rule_of c (LocalSet x) = with_type (slice_get c.locals x) (λ t. Fixed (t ∷ []) [])
@@ -220,7 +220,7 @@ rule_of c MemoryGrow = only_if (nat_lt 0 c.memories) (Fixed (I32 ∷ []) (I32 �
 rule_of c (Bulk op) = only_if (nat_lt 0 c.memories && reads_segment c op) (Fixed (I32 ∷ I32 ∷ I32 ∷ []) [])
 rule_of c (DataDrop x) = only_if (nat_lt x c.segments) (Fixed [] [])
 rule_of c (Const t n) = Fixed [] (t ∷ [])
-rule_of c (Operate op) = Fixed (operated op).params (operated op).results
+rule_of c (Numeric op) = Fixed (operated op).params (operated op).results
 
 -- the instances of a rule
 abbrev pub Allows : Rule → Types → Types → Type 0

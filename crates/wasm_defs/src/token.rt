@@ -46,7 +46,7 @@ pub enum Plain {
     /// A type's index, and a table's.
     CallIndirect(u32, u32),
     /// `drop`
-    Discard,
+    Drop,
     Select,
     LocalGet(u32),
     LocalSet(u32),
@@ -62,7 +62,7 @@ pub enum Plain {
     DataDrop(u32),
     /// The number as a signed one.
     Const(ValType, i64),
-    Operate(Operation),
+    Numeric(Operation),
 }
 
 /// What a body is encoded from.

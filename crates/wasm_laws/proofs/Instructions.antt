@@ -4,7 +4,7 @@ use Rattle.std.specs.Prelude.{slice_get, if◌then◌else◌}
 use Rattle.std.proofs.lemmas.Bool.{cases_Bool}
 use Rattle.wasm_defs.specs.declared.fault.Kind.TheVariants.{Unsupported}
 use Rattle.wasm_defs.specs.declared.operation.Operation.{Operation}
-use Rattle.wasm_defs.specs.declared.token.Plain.TheVariants.{LocalGet, LocalSet, LocalTee, Operate, Unreachable, Nop, Br, BrIf, Return, Call, Discard, Select, GlobalGet, GlobalSet}
+use Rattle.wasm_defs.specs.declared.token.Plain.TheVariants.{LocalGet, LocalSet, LocalTee, Numeric, Unreachable, Nop, Br, BrIf, Return, Call, Drop, Select, GlobalGet, GlobalSet}
 use Rattle.wasm_defs.specs.declared.token.Token.{Token}
 use Rattle.wasm_defs.specs.declared.token.Token.TheVariants as token
 use Rattle.wasm_defs.specs.declared.types.ValType.TheVariants.{I32, I64}
@@ -32,7 +32,7 @@ pub record Spells (counted : Bool) (P : Token → Cursor → Type 0) (d : Cursor
   pub returns : P (token.Plain Return) d
   pub calls : IfGot P (with_index Call d)
   pub indirects : IfGot P (indirect d)
-  pub drops : P (token.Plain Discard) d
+  pub drops : P (token.Plain Drop) d
   pub selects : P (token.Plain Select) d
   pub gets : IfGot P (with_index LocalGet d)
   pub sets : IfGot P (with_index LocalSet d)
@@ -43,7 +43,7 @@ pub record Spells (counted : Bool) (P : Token → Cursor → Type 0) (d : Cursor
   pub prefixes : (at : ℕ) → IfGot P (prefixed counted at d)
   pub narrow : IfGot P (constant I32 d)
   pub wide : IfGot P (constant I64 d)
-  pub computes : (op : Operation) → P (token.Plain (Operate op)) d
+  pub computes : (op : Operation) → P (token.Plain (Numeric op)) d
 
 -- so it holds of each instruction
 module _ (counted : Bool) (P : Token → Cursor → Type 0) (at b : ℕ) (d : Cursor) (s : Spells counted P d) where

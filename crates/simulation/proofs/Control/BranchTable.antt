@@ -17,7 +17,7 @@ use Rattle.wasm_defs.specs.Reductions.{simple, branch, branch_table}
 use Rattle.wasm_defs.proofs.TypeLaws.{same_types-equal}
 use Rattle.frame_layout.specs.Macros.{s0, s5}
 use Rattle.frame_layout.specs.Slots.{operand}
-use Rattle.frame_layout.specs.Templates.{Label, Around, label_at, jump_words, jumps, table_front, exit_stub}
+use Rattle.frame_layout.specs.Templates.{Label, EmitContext, label_at, jump_words, jumps, table_front, exit_stub}
 use Rattle.frame_layout.proofs.Standing.{has_first, has_rest}
 use Rattle.simulation.specs.Functions.{TextPlaces}
 use Rattle.simulation.proofs.Frames.Frames.{Open, labels_of, Compiled, FramesStay}
@@ -57,7 +57,7 @@ picked_is labels ts [] l n all is = is
 picked_is labels ts (k ∷ ls) l zero all is = these_are ts (slice_get labels k) (and_parts (are_these ts (slice_get labels k)) (are_labels labels ts ls) all).0
 picked_is labels ts (k ∷ ls) l (suc n) all is = picked_is labels ts ls l n (and_parts (are_these ts (slice_get labels k)) (are_labels labels ts ls) all).1 is
 
-label_takes : (w : Around) (os : List Open) (k : ℕ) (ts : Types) → slice_get (map (λ (o : Open). o.takes) os) k ≡ Some ts → (label_at w (labels_of os) k).takes ≡ length ts
+label_takes : (w : EmitContext) (os : List Open) (k : ℕ) (ts : Types) → slice_get (map (λ (o : Open). o.takes) os) k ≡ Some ts → (label_at w (labels_of os) k).takes ≡ length ts
 label_takes w [] k ts e = absurd cc
 label_takes w (o ∷ os) zero ts e = let same : o.takes ≡ ts = cc in ap length same
 label_takes w (o ∷ os) (suc k) ts e = label_takes w os k ts e
@@ -66,7 +66,7 @@ AllTake : ℕ → List Label → Type 0
 AllTake n [] = Unit {0}
 AllTake n (l ∷ ls) = (l.takes ≡ n) × AllTake n ls
 
-all_take : (w : Around) (os : List Open) (ts : Types) (ls : List ℕ) (l : ℕ) → are_labels (map (λ (o : Open). o.takes) os) ts ls ≡ true → slice_get (map (λ (o : Open). o.takes) os) l ≡ Some ts
+all_take : (w : EmitContext) (os : List Open) (ts : Types) (ls : List ℕ) (l : ℕ) → are_labels (map (λ (o : Open). o.takes) os) ts ls ≡ true → slice_get (map (λ (o : Open). o.takes) os) l ≡ Some ts
     → AllTake (length ts) (map (label_at w (labels_of os)) ls ++ label_at w (labels_of os) l ∷ [])
 unfolding AllTake
 all_take w os ts [] l all is = (label_takes w os l ts is, tt)
@@ -87,7 +87,7 @@ picks f (k ∷ ls) l zero = ap (slice_get (f k ∷ (map f ls ++ f l ∷ []))) (c
 picks f (k ∷ ls) l (suc n) = ap (slice_get (f k ∷ (map f ls ++ f l ∷ []))) (chosen_next n (length (map f ls))) ∙ picks f ls l n
 
 -- jumps of one size: where each of them is
-module _ (text : List (Option Op)) (w : Around) (begin j n : ℕ) where
+module _ (text : List (Option Op)) (w : EmitContext) (begin j n : ℕ) where
   jumps_at : (ls : List Label) (here i : ℕ) (l : Label) → AllTake n ls → slice_get ls i ≡ Some l → HasAt text (begin + here) (jumps w j here ls)
       → HasAt text (begin + (here + i * jump_count n)) (jump_words w j (here + i * jump_count n) l) × (i * jump_count n + length (jump_words w j (here + i * jump_count n) l) ≤ length (jumps w j here ls))
   unfolding AllTake

@@ -18,7 +18,7 @@ use Rattle.wasm_defs.specs.Configurations as config
 use Rattle.wasm_defs.specs.Reductions.{simple, branch, returns}
 use Rattle.frame_layout.specs.Slots.{operand}
 use Rattle.frame_layout.specs.Traps.{trap_places}
-use Rattle.frame_layout.specs.Templates.{Label, Around, last_label, jump_words, words, exit_stub}
+use Rattle.frame_layout.specs.Templates.{Label, EmitContext, last_label, jump_words, words, exit_stub}
 use Rattle.frame_layout.specs.Functions.{code}
 use Rattle.frame_layout.proofs.Jumps.{trap_traps}
 use Rattle.simulation.specs.Functions.{TextPlaces}
@@ -64,7 +64,7 @@ if_label labels l from mid None e m = absurd m.allowed
 if_label labels l from mid (Some ts) e m = record { takes = ts; is = e; moves = moves_fixed (I32 ∷ ts) ts from mid m; height = λ n. rule_height (Fixed (I32 ∷ ts) ts) from mid n tt m }
 
 -- the function's label is the last one
-last_is : (os : List Open) (o : Open) (w : Around) → last_label w (labels_of (os ++ o ∷ [])) ≡ label_of o
+last_is : (os : List Open) (o : Open) (w : EmitContext) → last_label w (labels_of (os ++ o ∷ [])) ≡ label_of o
 last_is [] o w = refl
 last_is (x ∷ []) o w = refl
 last_is (x ∷ y ∷ os) o w = last_is (y ∷ os) o w

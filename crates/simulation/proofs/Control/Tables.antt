@@ -19,7 +19,7 @@ use Rattle.wasm_defs.specs.declared.types.ValType.TheVariants.{I32}
 use Rattle.wasm_defs.specs.Values.{Value, modulus, word}
 use Rattle.wasm_defs.specs.declared.types.ValType.{ValType}
 use Rattle.frame_layout.specs.Macros.{x0, t0, t1, forward, const_32, zero_extend, t2}
-use Rattle.frame_layout.specs.Templates.{Around, load_operand, scale_words, table_front}
+use Rattle.frame_layout.specs.Templates.{EmitContext, load_operand, scale_words, table_front}
 use Rattle.frame_layout.specs.Laws.{is_scratch}
 use Rattle.frame_layout.proofs.Standing.{has_first, has_rest}
 use Rattle.frame_layout.proofs.Constants.{block_leaves, const_32_leaves}
@@ -137,7 +137,7 @@ module _ (code : List (Option Op)) (near : length code ≤ 2 ^ 26) (s : State) (
         (cases_lt n count)
 
 -- the index times the bytes of a jump
-module _ (code : List (Option Op)) (near : length code ≤ 2 ^ 26) (w : Around) (s : State) (i index : ℕ) (x : Held code 12 s (i + 12) t0 index) where
+module _ (code : List (Option Op)) (near : length code ≤ 2 ^ 26) (w : EmitContext) (s : State) (i index : ℕ) (x : Held code 12 s (i + 12) t0 index) where
   times : (index m : ℕ) → index * (4 * m) ≡ 4 * (index * m)
   times index m = sym (mul_assoc index 4 m) ∙ ap (λ (n : ℕ). n * m) (mul_comm index 4) ∙ mul_assoc 4 index m
 
@@ -229,7 +229,7 @@ module _ (code : List (Option Op)) (near : length code ≤ 2 ^ 26) (s : State) (
 
 -- ---- the first part
 
-module _ (code : List (Option Op)) (near : length code ≤ 2 ^ 26) (w : Around) (base there : ℕ) (locals : List Value) (s : State) (begin here h : ℕ) (at : s.pc ≡ place (begin + here)) (v : Value) (rest : List Value)
+module _ (code : List (Option Op)) (near : length code ≤ 2 ^ 26) (w : EmitContext) (base there : ℕ) (locals : List Value) (s : State) (begin here h : ℕ) (at : s.pc ≡ place (begin + here)) (v : Value) (rest : List Value)
     (m : Matches w.layout base there s.bytes locals (v ∷ rest) s) (ty : v.ty ≡ I32) (h_is : h ≡ suc (length rest)) (high : h ≤ w.layout.greatest) (count : ℕ) (few : count < 2 ^ 26) where
   pub front_lands : (takes : ℕ) → takes < 2 ^ 24 → chosen v.number count * jump_count takes < 2 ^ 30
       → HasAt code (begin + here) (table_front w h count takes) → (k : ℕ) × (0 < k) × (k ≤ 21) × Lands code k s s.bytes (place (begin + (here + (front_count takes + chosen v.number count * jump_count takes))))

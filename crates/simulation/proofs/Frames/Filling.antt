@@ -10,13 +10,13 @@ use Rattle.rv_isa.specs.Words.{word_of}
 use Rattle.wasm_defs.specs.declared.operation.Operation.{Operation}
 use Rattle.wasm_defs.specs.declared.operation.Operation.TheVariants.{Unary}
 use Rattle.wasm_defs.specs.declared.token.Plain.{Plain}
-use Rattle.wasm_defs.specs.declared.token.Plain.TheVariants.{Br, BrIf, BrTable, Return, Call, Operate}
+use Rattle.wasm_defs.specs.declared.token.Plain.TheVariants.{Br, BrIf, BrTable, Return, Call, Numeric}
 use Rattle.wasm_defs.specs.Trees.{Seq, Nothing, Simple, Block, Loop, If, IfElse}
 use Rattle.wasm_defs.specs.Typing.{Context, rule_of, inside}
 use Rattle.wasm_defs.specs.Context.{type_of_function}
 use Rattle.wasm_defs.specs.Places.{Place, after_rule, shape, after_block, after_if, end_of}
 use Rattle.frame_layout.specs.Macros.{ra, t0, distance, far}
-use Rattle.frame_layout.specs.Templates.{Label, Around, load_operand, operate_words, prologue, epilogue, move_words, jump_words, unless_words, jumps, table_front, label_at, last_label, call_words, words}
+use Rattle.frame_layout.specs.Templates.{Label, EmitContext, load_operand, operate_words, prologue, epilogue, move_words, jump_words, unless_words, jumps, table_front, label_at, last_label, call_words, words}
 use Rattle.frame_layout.specs.Functions.{label, over, test_words, size, code, no_distance, near, with_distance, with_distances, call_of, calls, body_place, body_size, body_code, calls_of, function_code}
 use Rattle.frame_layout.proofs.Sizes.{taken_by, words_size, over_size, code_size}
 
@@ -73,7 +73,7 @@ at_two F m n a b k l h e f g i = at_one (F a b) n k l (at_one (λ x y. F x y n n
 
 -- ---- instructions
 
-module _ (w : Around) where
+module _ (w : EmitContext) where
   moves_near : (takes j base : ℕ) → move_words (near w) takes j base ≡ move_words w takes j base
   moves_near zero j base = refl
   moves_near (suc n) j base = rw (moves_near n (j + 1) (base + 1)) refl
@@ -113,7 +113,7 @@ module _ (w : Around) where
       fills_none w.distance_to here _ _ (ap (λ (more : List Op). front ++ more) (jumps_near (h - 1) (here + length front) (all ++ last ∷ [])))
   plain_fills c labels h here Return =
       fills_none w.distance_to here _ _ (jump_near h here (last_label (near w) labels) ∙ ap (jump_words w h here) (last_near labels))
-  plain_fills c labels h here (Operate op) = fills_none w.distance_to here _ _ (operate_near h op)
+  plain_fills c labels h here (Numeric op) = fills_none w.distance_to here _ _ (operate_near h op)
   plain_fills c labels h here p = fills_none w.distance_to here (words (near w) c labels h here p) (words w c labels h here p) refl
 
   words_near : (c : Context) (labels others : List Label) → taken_by labels ≡ taken_by others → (h here : ℕ) (p : Plain) → length (words w c labels h here p) ≡ length (words (near w) c others h 0 p)

@@ -8,7 +8,7 @@ use Rattle.wasm_defs.specs.declared.types.ValType.TheVariants.{I32}
 use Rattle.wasm_defs.specs.declared.context.GlobalType.{GlobalType}
 use Rattle.wasm_defs.specs.declared.token.BlockType.{BlockType}
 use Rattle.wasm_defs.specs.declared.token.Plain.{Plain}
-use Rattle.wasm_defs.specs.declared.token.Plain.TheVariants.{Unreachable, Br, BrIf, BrTable, Return, Call, CallIndirect, Nop, Discard, Select, LocalGet, LocalSet, LocalTee, GlobalGet, GlobalSet, Const, Operate}
+use Rattle.wasm_defs.specs.declared.token.Plain.TheVariants.{Unreachable, Br, BrIf, BrTable, Return, Call, CallIndirect, Nop, Drop, Select, LocalGet, LocalSet, LocalTee, GlobalGet, GlobalSet, Const, Numeric}
 use Rattle.wasm_defs.specs.Trees.{Seq, Nothing, Simple, Block, Loop, If, IfElse, spelled}
 use Rattle.wasm_defs.specs.declared.token.Token.{Token}
 use Rattle.wasm_defs.specs.declared.token.Token.TheVariants as token
@@ -118,7 +118,7 @@ step_leaves c Return few h = tt
 step_leaves c (Call f) few h = call_leaves [] (function_type c f) (λ t e. few.functions f t e)
 step_leaves c (CallIndirect i table) few h = only_leaves (nat_lt table c.tables) _ (call_leaves (I32 ∷ []) (slice_get c.types i) (λ t e. few.types i t e))
 step_leaves c Nop few h = omega arith
-step_leaves c Discard few h = tt
+step_leaves c Drop few h = tt
 step_leaves c Select few h = tt
 step_leaves c (LocalGet x) few h = local_leaves (slice_get c.locals x) (λ t. []) (λ t. t ∷ []) (λ t. omega arith)
 step_leaves c (LocalSet x) few h = local_leaves (slice_get c.locals x) (λ t. t ∷ []) (λ t. []) (λ t. omega arith)
@@ -126,7 +126,7 @@ step_leaves c (LocalTee x) few h = local_leaves (slice_get c.locals x) (λ t. t 
 step_leaves c (GlobalGet x) few h = with_leaves (slice_get c.globals x) _ (λ (g : GlobalType). omega arith)
 step_leaves c (GlobalSet x) few h = with_leaves (slice_get c.globals x) _ (λ (g : GlobalType). only_leaves g.mutable (Fixed (g.ty ∷ []) []) (omega arith))
 step_leaves c (Const t n) few h = omega arith
-step_leaves c (Operate op) few h = omega (arith, leaves_one op)
+step_leaves c (Numeric op) few h = omega (arith, leaves_one op)
 step_leaves c p few h = search (only_leaves, arith)
 
 -- ---- a whole sequence

@@ -7,7 +7,7 @@ use Rattle.wasm_defs.specs.declared.types.ValType.{ValType}
 use Rattle.wasm_defs.specs.declared.types.ValType.TheVariants.{I32}
 use Rattle.wasm_defs.specs.declared.context.GlobalType.{GlobalType}
 use Rattle.wasm_defs.specs.declared.token.Plain.{Plain}
-use Rattle.wasm_defs.specs.declared.token.Plain.TheVariants.{Unreachable, Br, BrIf, BrTable, Return, Call, CallIndirect, Nop, Discard, Select, LocalGet, LocalSet, LocalTee, GlobalGet, GlobalSet, Const, Operate}
+use Rattle.wasm_defs.specs.declared.token.Plain.TheVariants.{Unreachable, Br, BrIf, BrTable, Return, Call, CallIndirect, Nop, Drop, Select, LocalGet, LocalSet, LocalTee, GlobalGet, GlobalSet, Const, Numeric}
 use Rattle.wasm_defs.specs.Typing.{Types, Context, Rule, Untyped, Fixed, Stops, Discards, Selects, Moves, with_type, only_if, rule_of}
 use Rattle.wasm_defs.specs.Places.{after_rule}
 use Rattle.wasm_defs.specs.Values.{Value, types_of_values}
@@ -61,7 +61,7 @@ only_goes_on false rule h = tt
 
 step_goes_on : (c : Context) (p : Plain) → IsStraightStep p → GoesOn (rule_of c p)
 step_goes_on c Nop h = tt
-step_goes_on c Discard h = tt
+step_goes_on c Drop h = tt
 step_goes_on c Select h = tt
 step_goes_on c (LocalGet x) h = local_goes_on (slice_get c.locals x) (λ t. []) (λ t. t ∷ [])
 step_goes_on c (LocalSet x) h = local_goes_on (slice_get c.locals x) (λ t. t ∷ []) (λ t. [])
@@ -69,7 +69,7 @@ step_goes_on c (LocalTee x) h = local_goes_on (slice_get c.locals x) (λ t. t �
 step_goes_on c (GlobalGet x) h = with_goes_on (slice_get c.globals x) _ (λ (g : GlobalType). tt)
 step_goes_on c (GlobalSet x) h = with_goes_on (slice_get c.globals x) _ (λ (g : GlobalType). only_goes_on g.mutable (Fixed (g.ty ∷ []) []) tt)
 step_goes_on c (Const t n) h = tt
-step_goes_on c (Operate op) h = tt
+step_goes_on c (Numeric op) h = tt
 step_goes_on c Unreachable h = absurd h
 step_goes_on c (Br l) h = absurd h
 step_goes_on c (BrIf l) h = absurd h

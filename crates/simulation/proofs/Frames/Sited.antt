@@ -6,7 +6,7 @@ use Rattle.wasm_defs.specs.Trees.{Seq, Nothing, Simple, Block, Loop, If, IfElse,
 use Rattle.wasm_defs.specs.Typing.{Context, rule_of, inside}
 use Rattle.wasm_defs.specs.Places.{Place, after_rule, shape, after_block, after_if, end_of}
 use Rattle.wasm_defs.specs.Configurations.{Origin, place_left}
-use Rattle.frame_layout.specs.Templates.{Label, Around, words}
+use Rattle.frame_layout.specs.Templates.{Label, EmitContext, words}
 use Rattle.frame_layout.specs.Traps.{trap_places}
 use Rattle.frame_layout.specs.Functions.{label, over, size, Trap, trap_at, traps_of, traps, body_traps, body_place}
 use Rattle.simulation.specs.Functions.{AreSited}
@@ -44,8 +44,8 @@ module _ (trap : ℕ → Option told.Place) (begin : ℕ) (o : Origin) where
 joined : (ts us vs ws : List Trap) → ts ≡ us → vs ≡ ws → ts ++ vs ≡ us ++ ws
 joined ts us vs ws e f = ap (λ (xs : List Trap). xs ++ vs) e ∙ ap (λ (xs : List Trap). us ++ xs) f
 
-module _ (w : Around) (distance_to : ℕ → ℕ → ℕ) where
-  abbrev away : Around
+module _ (w : EmitContext) (distance_to : ℕ → ℕ → ℕ) where
+  abbrev away : EmitContext
   away = record w { distance_to = distance_to }
 
   size_alike : (c : Context) (labels others : List Label) → taken_by labels ≡ taken_by others → (tree : Seq) (place : Place) → size w c labels place tree ≡ size away c others place tree

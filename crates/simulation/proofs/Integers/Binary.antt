@@ -17,7 +17,7 @@ use Rattle.wasm_defs.specs.Integers.{Number, irotl, irotr}
 use Rattle.wasm_defs.specs.Configurations.{max_slots}
 use Rattle.frame_layout.specs.Slots.{operand}
 use Rattle.frame_layout.specs.Macros.{t0, t1}
-use Rattle.frame_layout.specs.Templates.{Around, on_two}
+use Rattle.frame_layout.specs.Templates.{EmitContext, on_two}
 use Rattle.frame_layout.specs.Bodies.{both, binary_body}
 use Rattle.frame_layout.specs.Laws.{slot_at, IsFrame, is_scratch}
 use Rattle.simulation.specs.IntegerLaws.{Comes, BinaryLaw}
@@ -44,7 +44,7 @@ unfolding computed
 xor_is I32 a b ha hb = xor_word a b ha hb
 xor_is I64 a b ha hb = refl
 
-module _ (w : Around) (code : List (Option Op)) (s : State) (i base h : ℕ) (t : ValType) (a b : ℕ) (at : s.pc ≡ place i) (frame : IsFrame base s) (inside : base + operand w.layout (h - 1) < max_slots) (two : 2 ≤ h) (ha : a < modulus t) (hb : b < modulus t) (a_is : slot_at s.bytes (base + operand w.layout (h - 2)) ≡ word t a) (b_is : slot_at s.bytes (base + operand w.layout (h - 1)) ≡ word t b) where
+module _ (w : EmitContext) (code : List (Option Op)) (s : State) (i base h : ℕ) (t : ValType) (a b : ℕ) (at : s.pc ≡ place i) (frame : IsFrame base s) (inside : base + operand w.layout (h - 1) < max_slots) (two : 2 ≤ h) (ha : a < modulus t) (hb : b < modulus t) (a_is : slot_at s.bytes (base + operand w.layout (h - 2)) ≡ word t a) (b_is : slot_at s.bytes (base + operand w.layout (h - 1)) ≡ word t b) where
   -- a body that only computes
   straight_comes : (body : List Op) (n : ℕ) → HasAt code i (on_two w h body) → all_compute is_scratch body ≡ true → ((r : Registers) → reg r t0 ≡ word t a → reg r t1 ≡ word t b → reg (after_all body r) t0 ≡ word t n) → Comes code (length (on_two w h body)) s (base + operand w.layout (h - 2)) t (Number n)
   straight_comes body n has alone is = (length (on_two w h body), omega arith, two_does w code s i base h body at frame inside has two (word t a) (word t b) (word t n) a_is b_is alone is)

@@ -19,7 +19,7 @@ use Rattle.wasm_defs.specs.Integers.{Computed, Number, DividesByZero, Overflows,
 use Rattle.wasm_defs.specs.Configurations.{max_slots}
 use Rattle.frame_layout.specs.Slots.{operand}
 use Rattle.frame_layout.specs.Macros.{t0, t1}
-use Rattle.frame_layout.specs.Templates.{Around, on_two}
+use Rattle.frame_layout.specs.Templates.{EmitContext, on_two}
 use Rattle.frame_layout.specs.Bodies.{both, guard, overflow_guard, binary_body}
 use Rattle.frame_layout.specs.Laws.{slot_at, IsFrame, TrapsAt}
 use Rattle.frame_layout.proofs.Jumps.{traps_after}
@@ -52,11 +52,11 @@ least_test I64 a h = refl
 
 -- ---- lengths
 
-guarded_length : (w : Around) (h : ℕ) (t : ValType) (o : RegOpW) (wide : RegOp) → length (on_two w h (guard ++ both t o wide)) ≡ 14
+guarded_length : (w : EmitContext) (h : ℕ) (t : ValType) (o : RegOpW) (wide : RegOp) → length (on_two w h (guard ++ both t o wide)) ≡ 14
 guarded_length w h I32 o wide = refl
 guarded_length w h I64 o wide = refl
 
-signed_length : (w : Around) (h : ℕ) (t : ValType) → 21 ≤ length (on_two w h (binary_body DivS t))
+signed_length : (w : EmitContext) (h : ℕ) (t : ValType) → 21 ≤ length (on_two w h (binary_body DivS t))
 signed_length w h I32 = lit≤ tt
 signed_length w h I64 = lit≤ tt
 
@@ -64,7 +64,7 @@ signed_length w h I64 = lit≤ tt
 gives_as : {code : List (Option Op)} {steps words v : ℕ} {s : State} (v' : ℕ) → v ≡ v' → Gives code steps words s v → Gives code steps words s v'
 gives_as {code} {steps} {words} {v} {s} v' is gives = subst (λ (x : ℕ). Gives code steps words s x) is gives
 
-module _ (w : Around) (code : List (Option Op)) (s : State) (i base h : ℕ) (t : ValType) (a b : ℕ) (at : s.pc ≡ place i) (frame : IsFrame base s) (inside : base + operand w.layout (h - 1) < max_slots) (two : 2 ≤ h) (ha : a < modulus t) (hb : b < modulus t) (a_is : slot_at s.bytes (base + operand w.layout (h - 2)) ≡ word t a) (b_is : slot_at s.bytes (base + operand w.layout (h - 1)) ≡ word t b) (short : length code ≤ 2 ^ 26) where
+module _ (w : EmitContext) (code : List (Option Op)) (s : State) (i base h : ℕ) (t : ValType) (a b : ℕ) (at : s.pc ≡ place i) (frame : IsFrame base s) (inside : base + operand w.layout (h - 1) < max_slots) (two : 2 ≤ h) (ha : a < modulus t) (hb : b < modulus t) (a_is : slot_at s.bytes (base + operand w.layout (h - 2)) ≡ word t a) (b_is : slot_at s.bytes (base + operand w.layout (h - 1)) ≡ word t b) (short : length code ≤ 2 ^ 26) where
   abbrev slot : ℕ
   slot = base + operand w.layout (h - 2)
 

@@ -8,7 +8,7 @@ use Rattle.rv_isa.proofs.RunLaws.{blocks_run, blocks_keep}
 use Rattle.wasm_defs.specs.Configurations.{max_slots}
 use Rattle.frame_layout.specs.Slots.{operand}
 use Rattle.frame_layout.specs.Macros.{t0, t1}
-use Rattle.frame_layout.specs.Templates.{Around, load_operand, store_operand, on_one, on_two}
+use Rattle.frame_layout.specs.Templates.{EmitContext, load_operand, store_operand, on_one, on_two}
 use Rattle.frame_layout.specs.Laws.{slot_at, with_slot, IsFrame, is_scratch, Does}
 use Rattle.frame_layout.proofs.Standing.{has_first, has_rest}
 use Rattle.frame_layout.proofs.SlotLaws.{load_slot_leaves}
@@ -34,7 +34,7 @@ block_gives code ops i s v alone has at is =
       value = is;
     }
 
-module _ (w : Around) (code : List (Option Op)) (s : State) (i base h : ℕ) (body : List Op) (at : s.pc ≡ place i) (frame : IsFrame base s) (inside : base + operand w.layout (h - 1) < max_slots) where
+module _ (w : EmitContext) (code : List (Option Op)) (s : State) (i base h : ℕ) (body : List Op) (at : s.pc ≡ place i) (frame : IsFrame base s) (inside : base + operand w.layout (h - 1) < max_slots) where
   -- ---- two operands
 
   module _ (has : HasAt code i (on_two w h body)) (two : 2 ≤ h) where

@@ -16,7 +16,7 @@ use Rattle.wasm_defs.specs.Integers.{extend_8, extend_16, extend_32}
 use Rattle.wasm_defs.specs.Configurations.{max_slots}
 use Rattle.frame_layout.specs.Slots.{operand}
 use Rattle.frame_layout.specs.Bodies.{shifts, extend_body}
-use Rattle.frame_layout.specs.Templates.{Around, on_one}
+use Rattle.frame_layout.specs.Templates.{EmitContext, on_one}
 use Rattle.frame_layout.specs.Laws.{slot_at, with_slot, IsFrame, Does}
 use Rattle.frame_layout.proofs.WordLaws.{low_word, word_small, word_large}
 use Rattle.simulation.specs.IntegerLaws.{ExtendLaw, ExtendRangeLaw}
@@ -80,7 +80,7 @@ low_16 I64 a h = refl
 -- a body on one operand gives a function of its number
 abbrev Extends : ValType → List Op → (ℕ → ℕ) → Type 0
 Extends t body result =
-    (w : Around) (code : List (Option Op)) (s : State) (i base h a : ℕ) → HasAt code i (on_one w h body) → s.pc ≡ place i
+    (w : EmitContext) (code : List (Option Op)) (s : State) (i base h a : ℕ) → HasAt code i (on_one w h body) → s.pc ≡ place i
     → IsFrame base s → 1 ≤ h → base + operand w.layout (h - 1) < max_slots → a < modulus t → slot_at s.bytes (base + operand w.layout (h - 1)) ≡ word t a
     → Does code (length (on_one w h body)) (length (on_one w h body)) s (with_slot s.bytes (base + operand w.layout (h - 1)) (word t (result a)))
 

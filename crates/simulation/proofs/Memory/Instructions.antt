@@ -14,7 +14,7 @@ use Rattle.wasm_defs.specs.Configurations.{max_slots}
 use Rattle.wasm_defs.specs.Values.{word}
 use Rattle.frame_layout.specs.Slots.{operand}
 use Rattle.frame_layout.specs.Macros.{x0, t0, forward}
-use Rattle.frame_layout.specs.Templates.{Around, load_operand, store_operand, select_words}
+use Rattle.frame_layout.specs.Templates.{EmitContext, load_operand, store_operand, select_words}
 use Rattle.frame_layout.specs.Laws.{slot_at, with_slot, IsFrame, Does}
 use Rattle.frame_layout.proofs.Standing.{has_first, has_rest}
 use Rattle.frame_layout.proofs.SlotLaws.{load_slot_leaves}
@@ -30,7 +30,7 @@ local_set_does w code s i base h x has at frame near inside =
 
 -- ---- select
 
-module _ (w : Around) (code : List (Option Op)) (s : State) (i base h : ℕ) (has : HasAt code i (select_words w h)) (at : s.pc ≡ place i) (short : length code ≤ 2 ^ 26) (frame : IsFrame base s)
+module _ (w : EmitContext) (code : List (Option Op)) (s : State) (i base h : ℕ) (has : HasAt code i (select_words w h)) (at : s.pc ≡ place i) (short : length code ≤ 2 ^ 26) (frame : IsFrame base s)
     (three : 3 ≤ h) (inside : base + operand w.layout (h - 1) < max_slots) where
   abbrev test : List Op
   test = Branch Bne t0 x0 (forward 28) ∷ []

@@ -16,7 +16,7 @@ use Rattle.wasm_defs.specs.Memory.{page, number_of, load_count, extended}
 use Rattle.wasm_defs.specs.Configurations.{max_slots}
 use Rattle.frame_layout.specs.Slots.{operand}
 use Rattle.frame_layout.specs.Macros.{t0}
-use Rattle.frame_layout.specs.Templates.{Around, address, machine_load, store_operand}
+use Rattle.frame_layout.specs.Templates.{EmitContext, address, machine_load, store_operand}
 use Rattle.frame_layout.specs.Laws.{IsFrame}
 use Rattle.frame_layout.proofs.Standing.{has_first, has_rest}
 use Rattle.frame_layout.proofs.Steps.{does_leave, does_then, does_with, frame_stays}
@@ -28,7 +28,7 @@ use Rattle.simulation.proofs.Memory.Addresses.{address_does}
 use Rattle.simulation.proofs.Memory.Parts.{number_is, part_is, load_width_is, load_count_few, loaded_word}
 
 -- the machine's value is the word of the language's
-value_of_part : (w : Around) (op : LoadOp) (place size : ℕ) (memory : List ℕ) → AreBytes memory → size ≤ length memory → place + load_count op ≤ size → load_value (machine_load w op) (value_at (load_width (machine_load w op)) place memory) ≡ word (load_type op) (extended op (number_of (take (load_count op) (drop place (take size memory)))))
+value_of_part : (w : EmitContext) (op : LoadOp) (place size : ℕ) (memory : List ℕ) → AreBytes memory → size ≤ length memory → place + load_count op ≤ size → load_value (machine_load w op) (value_at (load_width (machine_load w op)) place memory) ≡ word (load_type op) (extended op (number_of (take (load_count op) (drop place (take size memory)))))
 value_of_part w op place size memory sound whole inside =
     let part = take (load_count op) (drop place (take size memory)) in
     let number : value_at (load_count op) place memory ≡ number_of part = ap le_value (sym (part_is place (load_count op) size memory inside)) ∙ sym (number_is part) in
@@ -37,7 +37,7 @@ value_of_part w op place size memory sound whole inside =
     ∙ ap (load_value (machine_load w op)) number
     ∙ loaded_word w op (number_of part) small
 
-module _ (w : Around) (code : List (Option Op)) (s : State) (i base h at_place pages : ℕ) (o : LoadOp) (has : HasAt code i (op.Load (machine_load w o) t0 t0 0 ∷ store_operand w t0 (h - 1)))
+module _ (w : EmitContext) (code : List (Option Op)) (s : State) (i base h at_place pages : ℕ) (o : LoadOp) (has : HasAt code i (op.Load (machine_load w o) t0 t0 0 ∷ store_operand w t0 (h - 1)))
     (frame : IsFrame base s) (regions : HasRegions pages s) (sound : AreBytes s.bytes.memory) (inside : base + operand w.layout (h - 1) < max_slots) where
   abbrev part : List ℕ
   part = take (load_count o) (drop at_place (memory_now pages s.bytes))

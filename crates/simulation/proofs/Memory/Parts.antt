@@ -17,7 +17,7 @@ use Rattle.wasm_defs.specs.declared.operation.StoreOp.TheVariants.{I32Store}
 use Rattle.wasm_defs.specs.Typing.{load_type}
 use Rattle.wasm_defs.specs.Values.{modulus, unsigned, word}
 use Rattle.wasm_defs.specs.Memory.{number_of, bytes_of, load_count, store_count, extended}
-use Rattle.frame_layout.specs.Templates.{Around, machine_load, machine_store}
+use Rattle.frame_layout.specs.Templates.{EmitContext, machine_load, machine_store}
 use Rattle.simulation.specs.MemoryLaws.{LoadRangeLaw}
 use Rattle.simulation.proofs.Integers.SignExtensions.{below_8, below_16, below_32}
 
@@ -43,7 +43,7 @@ part_is place count size l inside =
 
 -- ---- how many bytes
 
-pub load_width_is : (w : Around) (op : LoadOp) → load_width (machine_load w op) ≡ load_count op
+pub load_width_is : (w : EmitContext) (op : LoadOp) → load_width (machine_load w op) ≡ load_count op
 load_width_is w I32Load = refl
 load_width_is w p = refl
 
@@ -51,7 +51,7 @@ pub load_count_few : (op : LoadOp) → load_count op ≤ 8
 load_count_few I32Load = omega arith
 load_count_few p = omega arith
 
-pub store_width_is : (w : Around) (op : StoreOp) → store_width (machine_store w op) ≡ store_count op
+pub store_width_is : (w : EmitContext) (op : StoreOp) → store_width (machine_store w op) ≡ store_count op
 store_width_is w I32Store = refl
 store_width_is w p = refl
 
@@ -94,7 +94,7 @@ extended_32 n small =
       | inr h ↦ rw (le-ltb n (2 ^ 31) h) (omega arith)
     ]
 
-pub loaded_word : (w : Around) (op : LoadOp) (n : ℕ) → n < 256 ^ load_count op → load_value (machine_load w op) n ≡ word (load_type op) (extended op n)
+pub loaded_word : (w : EmitContext) (op : LoadOp) (n : ℕ) → n < 256 ^ load_count op → load_value (machine_load w op) n ≡ word (load_type op) (extended op n)
 loaded_word w I32Load n small = refl
 loaded_word w I64Load n small = refl
 loaded_word w I32Load8S n small = extended_8 I32 n small

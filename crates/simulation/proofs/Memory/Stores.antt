@@ -15,7 +15,7 @@ use Rattle.wasm_defs.specs.Memory.{page, bytes_of, store_count}
 use Rattle.wasm_defs.specs.Configurations.{max_slots}
 use Rattle.frame_layout.specs.Slots.{operand}
 use Rattle.frame_layout.specs.Macros.{t0, t2}
-use Rattle.frame_layout.specs.Templates.{Around, address, machine_store, load_operand}
+use Rattle.frame_layout.specs.Templates.{EmitContext, address, machine_store, load_operand}
 use Rattle.frame_layout.specs.Laws.{slot_at, IsFrame, Does}
 use Rattle.frame_layout.proofs.Standing.{has_first, has_rest}
 use Rattle.frame_layout.proofs.SlotLaws.{load_slot_leaves}
@@ -28,7 +28,7 @@ use Rattle.simulation.proofs.Memory.Parts.{store_width_is, store_count_few}
 use Rattle.simulation.proofs.Memory.Written.{stored_bytes, length-bytes_of, over_part, over_part_size, over_part_is}
 
 -- the machine's memory after a store
-memory_is : (w : Around) (o : StoreOp) (at_place pages b : ℕ) (bytes : Bytes) → b < modulus (store_type o) → page * pages ≤ length bytes.memory → at_place + store_count o ≤ page * pages
+memory_is : (w : EmitContext) (o : StoreOp) (at_place pages b : ℕ) (bytes : Bytes) → b < modulus (store_type o) → page * pages ≤ length bytes.memory → at_place + store_count o ≤ page * pages
     → record bytes { memory = put (store_width (machine_store w o)) at_place bytes.memory (le_bytes (store_width (machine_store w o)) (word (store_type o) b)) } ≡ with_memory bytes (over_part at_place (page * pages) (bytes_of (store_count o) b) bytes.memory)
 memory_is w o at_place pages b bytes small whole inside =
     let new = bytes_of (store_count o) b in
@@ -42,7 +42,7 @@ memory_is w o at_place pages b bytes small whole inside =
     over_part_is at_place (page * pages) new bytes.memory fits whole ∙ ap (λ (n : ℕ). written ++ drop n bytes.memory) (sym (over_part_size at_place (page * pages) new bytes.memory fits whole)) in
     ap (λ (l : List ℕ). record bytes { memory = l }) (put_is ∙ whole_is)
 
-module _ (w : Around) (code : List (Option Op)) (s : State) (i base h at_place pages b : ℕ) (o : StoreOp) (has : HasAt code i (load_operand w t2 (h - 1) ++ op.Store (machine_store w o) t0 t2 0 ∷ []))
+module _ (w : EmitContext) (code : List (Option Op)) (s : State) (i base h at_place pages b : ℕ) (o : StoreOp) (has : HasAt code i (load_operand w t2 (h - 1) ++ op.Store (machine_store w o) t0 t2 0 ∷ []))
     (frame : IsFrame base s) (regions : HasRegions pages s) (inside : base + operand w.layout (h - 1) < max_slots) (b_is : slot_at s.bytes (base + operand w.layout (h - 1)) ≡ word (store_type o) b) (small : b < modulus (store_type o)) where
   stores : (found : Finds code at_place s) → found.does.end.pc ≡ place i → at_place + store_count o ≤ page * pages → Does code 18 21 s (with_memory s.bytes (over_part at_place (page * pages) (bytes_of (store_count o) b) s.bytes.memory))
   stores found at there =

@@ -21,7 +21,7 @@ use Rattle.wasm_defs.specs.Values.{word}
 use Rattle.wasm_defs.specs.Configurations.{max_slots}
 use Rattle.frame_layout.specs.Slots.{operand}
 use Rattle.frame_layout.specs.Macros.{x0, ra, t0, t1, t2, s0, s4, forward, const_32, trap, zero_extend, shift, back}
-use Rattle.frame_layout.specs.Templates.{Around, load_operand, indirect_words}
+use Rattle.frame_layout.specs.Templates.{EmitContext, load_operand, indirect_words}
 use Rattle.frame_layout.specs.Laws.{slot_at, IsFrame, is_scratch, Does, TrapsAt}
 use Rattle.frame_layout.proofs.Standing.{has_first, has_rest}
 use Rattle.frame_layout.proofs.Constants.{block_leaves, const_32_leaves}
@@ -154,7 +154,7 @@ none_within (r ∷ rows) (suc a) less e = none_within rows a (omega arith) e
 
 -- ---- all of it
 
-module _ (w : Around) (code : List (Option Op)) (s : State) (i base h type arguments a pages : ℕ) (rows : List (Option ℕ)) (places like_of : ℕ → ℕ)
+module _ (w : EmitContext) (code : List (Option Op)) (s : State) (i base h type arguments a pages : ℕ) (rows : List (Option ℕ)) (places like_of : ℕ → ℕ)
     (has : HasAt code i (indirect_words w h type arguments)) (at : s.pc ≡ place i) (frame : IsFrame base s) (regions : HasRegions pages s) (table : TableStands rows places like_of s.bytes)
     (rows_are : w.rows ≡ length rows) (like_small : w.like type < 2 ^ 32) (inside : base + operand w.layout (h - 1) < max_slots)
     (a_is : slot_at s.bytes (base + operand w.layout (h - 1)) ≡ word I32 a) (small : a < 2 ^ 32) (short : length code ≤ 2 ^ 26) where

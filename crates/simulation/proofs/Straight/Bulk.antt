@@ -22,7 +22,7 @@ use Rattle.wasm_defs.specs.Memory.{page, written_at, filled_at, copied_at}
 use Rattle.wasm_defs.specs.Effects.{Gives, Traps, effect, stored, copied}
 use Rattle.frame_layout.specs.Slots.{operand}
 use Rattle.frame_layout.specs.BulkWords.{fill_words, copy_words, init_words, drop_words}
-use Rattle.frame_layout.specs.Templates.{Label, Around, words}
+use Rattle.frame_layout.specs.Templates.{Label, EmitContext, words}
 use Rattle.frame_layout.specs.Traps.{bulk_places}
 use Rattle.frame_layout.specs.Laws.{slot_at, TrapsAt}
 use Rattle.simulation.specs.Regions.{with_global, with_memory, SegmentStands}
@@ -78,7 +78,7 @@ globals_fit b globals small fit Table = fit Table
 globals_fit b globals small fit Memory = fit Memory
 globals_fit b globals small fit Passive = fit Passive
 
-module _ (code : List (Option Op)) (short : length code ≤ 2 ^ 26) (c : Context) (labels : List Label) (w : Around) (base there : ℕ) (b : Bytes) (store : Store)
+module _ (code : List (Option Op)) (short : length code ≤ 2 ^ 26) (c : Context) (labels : List Label) (w : EmitContext) (base there : ℕ) (b : Bytes) (store : Store)
     (cap : ℕ) (locals : List Value) (here : ℕ) (s : State) (i : ℕ) (at : s.pc ≡ place i) (pages : ℕ) (holds : StoreStands store pages cap s) (fits : StoreFits c store) where
   module _ (n v d : Value) (below : List Value) (n_ty : n.ty ≡ I32) (v_ty : v.ty ≡ I32) (d_ty : d.ty ≡ I32) (high : suc (suc (suc (length below))) ≤ w.layout.greatest) (m : Matches w.layout base there b locals (n ∷ v ∷ d ∷ below) s) where
     abbrev height : ℕ

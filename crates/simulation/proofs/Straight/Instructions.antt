@@ -12,7 +12,7 @@ use Rattle.wasm_defs.specs.Values.{Value, InRange, word_of, types_of_values, tra
 use Rattle.wasm_defs.specs.Effects.{Gives, Traps, effect}
 use Rattle.frame_layout.specs.Slots.{operand}
 use Rattle.frame_layout.specs.Traps.{trap_places}
-use Rattle.frame_layout.specs.Templates.{Label, Around, words}
+use Rattle.frame_layout.specs.Templates.{Label, EmitContext, words}
 use Rattle.frame_layout.specs.Laws.{with_slot, is_scratch, Does, TrapsAt}
 use Rattle.simulation.proofs.Frames.Values.{Operands, Matches}
 use Rattle.simulation.proofs.Frames.Puts.{put_matches}
@@ -23,7 +23,7 @@ use Rattle.simulation.proofs.Frames.Stores.{kept_matches}
 abbrev pub most_steps : ℕ
 most_steps = 128
 
-pub record Follows (code : List (Option Op)) (c : Context) (labels : List Label) (w : Around) (base there : ℕ) (b : Bytes) (store : Store) (cap : ℕ) (locals operands : List Value) (p : Plain)
+pub record Follows (code : List (Option Op)) (c : Context) (labels : List Label) (w : EmitContext) (base there : ℕ) (b : Bytes) (store : Store) (cap : ℕ) (locals operands : List Value) (p : Plain)
     (mid : Types) (here : ℕ) (s : State) : Type 0 where
   pub locals_after : List Value
   pub after : List Value
@@ -50,7 +50,7 @@ pub record Halts (code : List (Option Op)) (store : Store) (cap : ℕ) (locals o
   pub ends : word + 1 ≡ behind
   pub among : IsIn word (trap_places p)
 
-module _ (code : List (Option Op)) (c : Context) (labels : List Label) (w : Around) (base there : ℕ) (b : Bytes) (store : Store) (cap : ℕ) (locals : List Value) (here : ℕ) (s : State) where
+module _ (code : List (Option Op)) (c : Context) (labels : List Label) (w : EmitContext) (base there : ℕ) (b : Bytes) (store : Store) (cap : ℕ) (locals : List Value) (here : ℕ) (s : State) where
   -- what an instruction comes to
   abbrev pub Outcome : List Value → Plain → Types → Type 0
   Outcome operands p mid = Follows code c labels w base there b store cap locals operands p mid here s ⊎ Halts code store cap locals operands p s

@@ -25,7 +25,7 @@ use Rattle.wasm_defs.specs.Effects.{Gives, effect, loaded, stored, pushed, value
 use Rattle.frame_layout.specs.Slots.{link, operand}
 use Rattle.frame_layout.specs.declared.layout.Layout.{Layout}
 use Rattle.frame_layout.specs.Macros.{s0, s5}
-use Rattle.frame_layout.specs.Templates.{Label, Around, global_get_words, global_set_words, load_words, store_words, size_words, words}
+use Rattle.frame_layout.specs.Templates.{Label, EmitContext, global_get_words, global_set_words, load_words, store_words, size_words, words}
 use Rattle.frame_layout.specs.Laws.{slot_at, with_slot, is_scratch, Does}
 use Rattle.frame_layout.proofs.Steps.{does_with}
 use Rattle.simulation.specs.Regions.{with_global, with_memory}
@@ -43,7 +43,7 @@ use Rattle.simulation.proofs.Frames.Values.{Agree, Locals, Operands, Matches, lo
 use Rattle.simulation.proofs.Straight.Instructions.{most_steps, Follows, Halts, Outcome, put_follows}
 use Rattle.simulation.proofs.Straight.Operations.{typed_word, typed_range}
 
-module _ (code : List (Option Op)) (c : Context) (labels : List Label) (w : Around) (base there : ℕ) (b : Bytes) (store : Store)
+module _ (code : List (Option Op)) (c : Context) (labels : List Label) (w : EmitContext) (base there : ℕ) (b : Bytes) (store : Store)
     (cap : ℕ) (locals : List Value) (here : ℕ) (s : State) (i : ℕ) (at : s.pc ≡ place i) (pages : ℕ) (holds : StoreStands store pages cap s) where
   abbrev Holding : List Value → Type 0
   Holding operands = Matches w.layout base there b locals operands s
@@ -125,7 +125,7 @@ module _ {code : List (Option Op)} {l : Layout} {base there : ℕ} {b : Bytes} {
         low = record { by = λ k less. ap (λ (c : Bytes). slot_at c k) is ∙ slot_kept s.bytes bytes same k ∙ m.low.by k less };
       }
 
-pub record Changes (code : List (Option Op)) (c : Context) (labels : List Label) (w : Around) (base there : ℕ) (b : Bytes) (store : Store) (cap pages : ℕ) (locals operands : List Value) (p : Plain)
+pub record Changes (code : List (Option Op)) (c : Context) (labels : List Label) (w : EmitContext) (base there : ℕ) (b : Bytes) (store : Store) (cap pages : ℕ) (locals operands : List Value) (p : Plain)
     (mid : Types) (here : ℕ) (s : State) : Type 0 where
   pub store_after : Store
   pub after : List Value
@@ -146,7 +146,7 @@ pub record Changes (code : List (Option Op)) (c : Context) (labels : List Label)
   pub table_stays : end.bytes.table ≡ s.bytes.table
   pub stands : StoreStands store_after pages cap end
 
-module _ (code : List (Option Op)) (c : Context) (labels : List Label) (w : Around) (base there : ℕ) (b : Bytes) (store : Store)
+module _ (code : List (Option Op)) (c : Context) (labels : List Label) (w : EmitContext) (base there : ℕ) (b : Bytes) (store : Store)
     (cap : ℕ) (locals : List Value) (here : ℕ) (s : State) (i : ℕ) (at : s.pc ≡ place i) (pages : ℕ) (holds : StoreStands store pages cap s) where
   -- a global of the value's type
   pub global_set_changes : (v u : Value) (below : List Value) (mid : Types) (x : ℕ) → slice_get store.globals x ≡ Some u → v.ty ≡ u.ty → types_of_values below ≡ mid → suc (length below) ≤ w.layout.greatest

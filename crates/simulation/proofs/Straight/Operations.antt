@@ -16,7 +16,7 @@ use Rattle.wasm_defs.specs.declared.operation.CompareOp.{CompareOp}
 use Rattle.wasm_defs.specs.declared.operation.ConvertOp.{ConvertOp}
 use Rattle.wasm_defs.specs.declared.operation.ConvertOp.TheVariants.{Wrap, ExtendS, ExtendU}
 use Rattle.wasm_defs.specs.declared.operation.ExtendOp.{ExtendOp}
-use Rattle.wasm_defs.specs.declared.token.Plain.TheVariants.{Operate}
+use Rattle.wasm_defs.specs.declared.token.Plain.TheVariants.{Numeric}
 use Rattle.wasm_defs.specs.Typing.{Types, Context, operated, extend_type}
 use Rattle.wasm_defs.specs.Configurations.{Store, max_slots}
 use Rattle.wasm_defs.specs.Values.{Value, modulus, word, signed, unsigned, types_of_values}
@@ -24,7 +24,7 @@ use Rattle.wasm_defs.specs.Integers.{Computed, Number, DividesByZero, Overflows,
 use Rattle.wasm_defs.specs.Effects.{Gives, computed, effect, value}
 use Rattle.frame_layout.specs.Slots.{operand}
 use Rattle.frame_layout.specs.Traps.{trap_places, overflow_place}
-use Rattle.frame_layout.specs.Templates.{Label, Around, operate_words}
+use Rattle.frame_layout.specs.Templates.{Label, EmitContext, operate_words}
 use Rattle.frame_layout.specs.Laws.{slot_at, with_slot, Does}
 use Rattle.frame_layout.proofs.Steps.{does_nothing}
 use Rattle.simulation.specs.IntegerLaws.{overflow_words, Comes, converted_from}
@@ -50,7 +50,7 @@ typed_range x v t e h = subst (λ (u : ValType). v.number < modulus u) e h.range
 
 -- ---- the traps of divisions are among their trap sites
 
-zero_among : (op : BinaryOp) (t : ValType) (a b : ℕ) → binary op t a b ≡ DividesByZero → IsIn 9 (trap_places (Operate (Binary t op)))
+zero_among : (op : BinaryOp) (t : ValType) (a b : ℕ) → binary op t a b ≡ DividesByZero → IsIn 9 (trap_places (Numeric (Binary t op)))
 zero_among DivS t a b e = inl refl
 zero_among DivU t a b e = inl refl
 zero_among RemS t a b e = inl refl
@@ -63,7 +63,7 @@ never_overflows : (b : Bool) (n : ℕ) → (if b then DividesByZero else Number 
 never_overflows true n e = absurd cc
 never_overflows false n e = absurd cc
 
-overflow_among : (op : BinaryOp) (t : ValType) (a b : ℕ) → binary op t a b ≡ Overflows → IsIn (overflow_place t) (trap_places (Operate (Binary t op)))
+overflow_among : (op : BinaryOp) (t : ValType) (a b : ℕ) → binary op t a b ≡ Overflows → IsIn (overflow_place t) (trap_places (Numeric (Binary t op)))
 overflow_among DivS t a b e = inr (inl refl)
 overflow_among DivU t a b e = absurd (never_overflows (b == 0) (a / b) e)
 overflow_among RemS t a b e = absurd (never_overflows (b == 0) (unsigned t (int_rem (signed t a) (signed t b))) e)
@@ -75,13 +75,13 @@ overflow_ends : (t : ValType) → overflow_place t + 1 ≡ overflow_words t
 overflow_ends I32 = refl
 overflow_ends I64 = refl
 
-module _ (code : List (Option Op)) (c : Context) (labels : List Label) (w : Around) (base there : ℕ) (b : Bytes) (store : Store)
+module _ (code : List (Option Op)) (c : Context) (labels : List Label) (w : EmitContext) (base there : ℕ) (b : Bytes) (store : Store)
     (cap : ℕ) (locals : List Value) (here : ℕ) (s : State) (i : ℕ) (at : s.pc ≡ place i) where
   abbrev Goes : List Value → Operation → Types → Type 0
-  Goes operands op mid = Follows code c labels w base there b store cap locals operands (Operate op) mid here s
+  Goes operands op mid = Follows code c labels w base there b store cap locals operands (Numeric op) mid here s
 
   abbrev ComesTo : List Value → Operation → Types → Type 0
-  ComesTo operands op mid = Outcome code c labels w base there b store cap locals here s operands (Operate op) mid
+  ComesTo operands op mid = Outcome code c labels w base there b store cap locals here s operands (Numeric op) mid
 
   abbrev Holding : List Value → Type 0
   Holding operands = Matches w.layout base there b locals operands s
@@ -121,7 +121,7 @@ module _ (code : List (Option Op)) (c : Context) (labels : List Label) (w : Arou
         → Comes code (length (operate_words w (suc (suc (length below))) (Binary t op))) s (base + operand w.layout (length below)) t r → ComesTo (y ∷ x ∷ below) (Binary t op) mid
     computed_outcome op mid (Number n) is e comes =
         let size = short two (Binary t op) in
-        inl (put_follows code c labels w base there b store cap locals here s (Operate (Binary t op)) (y ∷ x ∷ below) below mid (value t n) comes.0 (ap (computed store locals t below) e) is
+        inl (put_follows code c labels w base there b store cap locals here s (Numeric (Binary t op)) (y ∷ x ∷ below) below mid (value t n) comes.0 (ap (computed store locals t below) e) is
         (omega (arith, comes.1)) comes.2 (binary_is_below t op x.number y.number n x_small y_small e) (omega arith) m m.live.1.1)
     computed_outcome op mid DividesByZero is e comes =
         let size = short two (Binary t op) in
@@ -142,7 +142,7 @@ module _ (code : List (Option Op)) (c : Context) (labels : List Label) (w : Arou
         let n = compare op t x.number y.number in
         let k = length (operate_words w two (Compare t op)) in
         let d = compare_does w code s i base two t op x.number y.number has at m.frame (omega arith) near_two x_small y_small x_word y_word in
-        put_follows code c labels w base there b store cap locals here s (Operate (Compare t op)) (y ∷ x ∷ below) below mid (value I32 n) k refl is (short two (Compare t op))
+        put_follows code c labels w base there b store cap locals here s (Numeric (Compare t op)) (y ∷ x ∷ below) below mid (value I32 n) k refl is (short two (Compare t op))
         (subst (λ (j : ℕ). Does code k k s (with_slot s.bytes (base + operand w.layout j) (word I32 n))) low d) (compare_is_below t op x.number y.number) (omega arith) m m.live.1.1
 
   -- ---- on one operand of a type
@@ -163,12 +163,12 @@ module _ (code : List (Option Op)) (c : Context) (labels : List Label) (w : Arou
     top_small = typed_range (slot_at s.bytes (base + operand w.layout 0 + length below)) x t x_ty m.live.0
 
     -- the result of a type
-    result_goes : (op : Operation) (mid : Types) (u : ValType) (n : ℕ) → effect store locals cap (Operate op) (x ∷ below) ≡ Gives store locals (value u n ∷ below) → u ∷ types_of_values below ≡ mid → n < modulus u
+    result_goes : (op : Operation) (mid : Types) (u : ValType) (n : ℕ) → effect store locals cap (Numeric op) (x ∷ below) ≡ Gives store locals (value u n ∷ below) → u ∷ types_of_values below ≡ mid → n < modulus u
         → Does code (length (operate_words w (suc (length below)) op)) (length (operate_words w (suc (length below)) op)) s (with_slot s.bytes (base + operand w.layout (suc (length below) - 1)) (word u n))
         → Goes (x ∷ below) op mid
     result_goes op mid u n gives is small d =
         let k = length (operate_words w (suc (length below)) op) in
-        put_follows code c labels w base there b store cap locals here s (Operate op) (x ∷ below) below mid (value u n) k gives is (short (suc (length below)) op)
+        put_follows code c labels w base there b store cap locals here s (Numeric op) (x ∷ below) below mid (value u n) k gives is (short (suc (length below)) op)
         (subst (λ (j : ℕ). Does code k k s (with_slot s.bytes (base + operand w.layout j) (word u n))) top d) small (omega arith) m m.live.1
 
     unary_goes : (op : UnaryOp) (mid : Types) → t ∷ types_of_values below ≡ mid → HasAt code i (operate_words w (suc (length below)) (Unary t op)) → Goes (x ∷ below) (Unary t op) mid
@@ -196,7 +196,7 @@ module _ (code : List (Option Op)) (c : Context) (labels : List Label) (w : Arou
       let n = converted ExtendS x.number in
       let slot = slot_at s.bytes (base + operand w.layout 0 + length below) in
       let hold : Holds slot (value I64 n) = record { is = typed_word slot x I32 x_ty m.live.0 ∙ sym (convert_does.2 x.number small); range = convert_is_below ExtendS x.number small } in
-      kept_follows code c labels w base there b store cap locals here s (Operate (Convert ExtendS)) (x ∷ below) (value I64 n ∷ below) mid 0 refl is (omega arith) (does_nothing code s)
+      kept_follows code c labels w base there b store cap locals here s (Numeric (Convert ExtendS)) (x ∷ below) (value I64 n ∷ below) mid 0 refl is (omega arith) (does_nothing code s)
       (other_operands code w.layout base there b locals (x ∷ below) s 0 0 m (value I64 n ∷ below) (hold, m.live.1))
 
   extend_goes : (op : ExtendOp) (x : Value) (below : List Value) (mid : Types) → x.ty ≡ extend_type op → suc (length below) ≤ w.layout.greatest → extend_type op ∷ types_of_values below ≡ mid

@@ -7,13 +7,13 @@ use Rattle.rv_isa.specs.Runs.{place, HasAt}
 use Rattle.wasm_defs.specs.declared.types.ValType.{ValType}
 use Rattle.wasm_defs.specs.declared.types.ValType.TheVariants.{I32, I64}
 use Rattle.wasm_defs.specs.declared.token.Plain.{Plain}
-use Rattle.wasm_defs.specs.declared.token.Plain.TheVariants.{Unreachable, Br, BrIf, BrTable, Return, Call, CallIndirect, Nop, Discard, Select, LocalGet, LocalSet, LocalTee, GlobalGet, Load, MemorySize, Const, Operate}
+use Rattle.wasm_defs.specs.declared.token.Plain.TheVariants.{Unreachable, Br, BrIf, BrTable, Return, Call, CallIndirect, Nop, Drop, Select, LocalGet, LocalSet, LocalTee, GlobalGet, Load, MemorySize, Const, Numeric}
 use Rattle.wasm_defs.specs.declared.operation.LoadOp.{LoadOp}
 use Rattle.wasm_defs.specs.declared.token.MemArg.{MemArg}
 use Rattle.wasm_defs.specs.Typing.{Types, Context, Moves, Fixed, operated, load_type, load_alignment, accesses, rule_of}
 use Rattle.wasm_defs.specs.Configurations.{Store}
 use Rattle.wasm_defs.specs.Values.{Value, types_of_values}
-use Rattle.frame_layout.specs.Templates.{Label, Around, const_words, load_words, words}
+use Rattle.frame_layout.specs.Templates.{Label, EmitContext, const_words, load_words, words}
 use Rattle.simulation.specs.Covered.{IsStraightStep}
 use Rattle.simulation.proofs.Frames.Rules.{types_length, MovesFixed, moves_fixed, discards, selects, on_local, on_global, moves_only}
 use Rattle.simulation.proofs.Frames.Values.{Matches}
@@ -25,11 +25,11 @@ use Rattle.simulation.proofs.Straight.Memories.{global_get_follows, size_follows
 use Rattle.simulation.specs.StoreStands.{StoreStands}
 use Rattle.simulation.specs.Functions.{global_types}
 
-const_short : (w : Around) (h : ℕ) (t : ValType) (n : ℕ) → length (const_words w h t n) ≤ most_steps
+const_short : (w : EmitContext) (h : ℕ) (t : ValType) (n : ℕ) → length (const_words w h t n) ≤ most_steps
 const_short w h I32 n = omega arith
 const_short w h I64 n = omega arith
 
-module _ (code : List (Option Op)) (near : length code ≤ 2 ^ 26) (c : Context) (labels : List Label) (w : Around) (base there : ℕ) (b : Bytes) (store : Store)
+module _ (code : List (Option Op)) (near : length code ≤ 2 ^ 26) (c : Context) (labels : List Label) (w : EmitContext) (base there : ℕ) (b : Bytes) (store : Store)
     (cap : ℕ) (locals : List Value) (are : c.locals ≡ types_of_values locals) (here : ℕ) (s : State) (i : ℕ) (at : s.pc ≡ place i) (pages : ℕ) (holds : StoreStands store pages cap s)
     (globals_are : global_types c.globals ≡ types_of_values store.globals) where
   -- one more operand than before
@@ -50,7 +50,7 @@ module _ (code : List (Option Op)) (near : length code ≤ 2 ^ 26) (c : Context)
       → HasAt code i (words w c labels (length operands) here p) → Matches w.layout base there b locals operands s → Outcome code c labels w base there b store cap locals here s operands p mid
   outcome Nop operands mid h keeps moves low high has m =
       inl (nop_follows code c labels w base there b store cap locals here s i at operands mid (moves_fixed [] [] (types_of_values operands) mid moves) m)
-  outcome Discard operands mid h keeps moves low high has m =
+  outcome Drop operands mid h keeps moves low high has m =
       let d = discards (types_of_values operands) mid moves in
       inl (discard_follows code c labels w base there b store cap locals here s i at operands mid d.ty d.moves m)
   outcome Select operands mid h keeps moves low high has m =
@@ -82,7 +82,7 @@ module _ (code : List (Option Op)) (near : length code ≤ 2 ^ 26) (c : Context)
       let f = moves_fixed [] (t ∷ []) (types_of_values operands) mid moves in
       let is : t ∷ types_of_values operands ≡ mid = ap (λ (ts : Types). t ∷ ts) f.before ∙ sym f.after in
       inl (const_follows code c labels w base there b store cap locals here s i at operands mid t n f h (fits_one_more operands t mid is high) has m (const_short w (length operands) t _))
-  outcome (Operate op) operands mid h keeps moves low high has m =
+  outcome (Numeric op) operands mid h keeps moves low high has m =
       operates code c labels w base there b store cap locals here s i at op operands mid (moves_fixed (operated op).params (operated op).results (types_of_values operands) mid moves) low near has m
   outcome Unreachable operands mid h keeps moves low high has m = absurd h
   outcome (Br l) operands mid h keeps moves low high has m = absurd h

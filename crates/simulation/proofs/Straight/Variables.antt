@@ -9,13 +9,13 @@ use Rattle.rv_isa.specs.Runs.{place, HasAt}
 use Rattle.wasm_defs.specs.declared.types.ValType.{ValType}
 use Rattle.wasm_defs.specs.declared.types.ValType.TheVariants.{I32}
 use Rattle.wasm_defs.specs.declared.token.Plain.{Plain}
-use Rattle.wasm_defs.specs.declared.token.Plain.TheVariants.{Nop, Discard, Select, LocalGet, LocalSet, LocalTee, Const}
+use Rattle.wasm_defs.specs.declared.token.Plain.TheVariants.{Nop, Drop, Select, LocalGet, LocalSet, LocalTee, Const}
 use Rattle.wasm_defs.specs.Typing.{Types, Context}
 use Rattle.wasm_defs.specs.Configurations.{Store}
 use Rattle.wasm_defs.specs.Values.{Value, modulus, word, word_of, types_of_values, unsigned}
 use Rattle.wasm_defs.specs.Effects.{Gives, Fails, pushed, local_set, effect, value}
 use Rattle.frame_layout.specs.Slots.{operand}
-use Rattle.frame_layout.specs.Templates.{Label, Around, const_words, local_get_words, local_set_words, select_words, words}
+use Rattle.frame_layout.specs.Templates.{Label, EmitContext, const_words, local_get_words, local_set_words, select_words, words}
 use Rattle.frame_layout.specs.Laws.{slot_at, with_slot}
 use Rattle.frame_layout.proofs.Instructions.{const_does, local_get_does}
 use Rattle.frame_layout.proofs.Steps.{does_with, does_count, does_nothing}
@@ -27,7 +27,7 @@ use Rattle.simulation.proofs.Frames.Sets.{set_types}
 use Rattle.simulation.proofs.Frames.Stores.{other_operands, set_matches}
 use Rattle.simulation.proofs.Straight.Instructions.{most_steps, Follows, kept_follows, put_follows}
 
-module _ (code : List (Option Op)) (c : Context) (labels : List Label) (w : Around) (base there : ℕ) (b : Bytes) (store : Store)
+module _ (code : List (Option Op)) (c : Context) (labels : List Label) (w : EmitContext) (base there : ℕ) (b : Bytes) (store : Store)
     (cap : ℕ) (locals : List Value) (here : ℕ) (s : State) (i : ℕ) (at : s.pc ≡ place i) where
   abbrev Goes : List Value → Plain → Types → Type 0
   Goes operands p mid = Follows code c labels w base there b store cap locals operands p mid here s
@@ -41,12 +41,12 @@ module _ (code : List (Option Op)) (c : Context) (labels : List Label) (w : Arou
   nop_follows operands mid f m =
       kept_follows code c labels w base there b store cap locals here s Nop operands operands mid 0 refl (f.before ∙ sym f.after) (omega arith) (does_nothing code s) m
 
-  pub discard_follows : (operands : List Value) (mid : Types) (t : ValType) → MovesFixed (t ∷ []) [] (types_of_values operands) mid → Holding operands → Goes operands Discard mid
+  pub discard_follows : (operands : List Value) (mid : Types) (t : ValType) → MovesFixed (t ∷ []) [] (types_of_values operands) mid → Holding operands → Goes operands Drop mid
   discard_follows [] mid t f m = let e = f.before in absurd cc
   discard_follows (x ∷ below) mid t f m =
       let e = f.before in
       let rest : types_of_values below ≡ f.below = cc in
-      kept_follows code c labels w base there b store cap locals here s Discard (x ∷ below) below mid 0 refl (rest ∙ sym f.after) (omega arith) (does_nothing code s)
+      kept_follows code c labels w base there b store cap locals here s Drop (x ∷ below) below mid 0 refl (rest ∙ sym f.after) (omega arith) (does_nothing code s)
       (other_operands code w.layout base there b locals (x ∷ below) s 0 0 m below m.live.1)
 
   -- ---- constants

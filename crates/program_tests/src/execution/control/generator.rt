@@ -88,7 +88,7 @@ impl Maker {
     /// Brings the height above `below` to this many operands.
     fn settle(&mut self, height: usize) -> Result<(), AllocError> {
         for _ in height..self.height {
-            self.push(Token::Discard)?;
+            self.push(Token::Drop)?;
         }
         for _ in self.height..height {
             self.push_value()?;
@@ -180,7 +180,7 @@ impl Maker {
         }
         if self.random.below(2) == 0 {
             self.push(Token::Add)?;
-            self.push(Token::Discard)?;
+            self.push(Token::Drop)?;
         }
         self.height = below;
         if self.open.is_empty() {

@@ -188,7 +188,7 @@ impl Machine<'_> {
                 let at = self.next.saturating_sub(1);
                 return Ok(Some(Step::Ends(End::Trapped(at))));
             }
-            Token::Discard => self.pop().map(|_| ()),
+            Token::Drop => self.pop().map(|_| ()),
             Token::Set(local) => match self.pop() {
                 Some(value) => {
                     self.set(local, value);

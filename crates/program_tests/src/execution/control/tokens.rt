@@ -13,7 +13,7 @@ pub enum Token {
     Add,
     Sub,
     Eqz,
-    Discard,
+    Drop,
     Unreachable,
     /// A block, and whether it has a result; so the next two.
     Block(bool),
@@ -58,7 +58,7 @@ pub fn push_token(bytes: &mut Vec<u8>, token: Token) -> Result<(), AllocError> {
         Token::Add => push_all(bytes, &[0x6A]),
         Token::Sub => push_all(bytes, &[0x6B]),
         Token::Eqz => push_all(bytes, &[0x45]),
-        Token::Discard => push_all(bytes, &[0x1A]),
+        Token::Drop => push_all(bytes, &[0x1A]),
         Token::Unreachable => push_all(bytes, &[0x00]),
         Token::Block(has_result) => push_all(bytes, &[0x02, block_type(has_result)]),
         Token::Loop(has_result) => push_all(bytes, &[0x03, block_type(has_result)]),

@@ -16,7 +16,7 @@ use Rattle.rv_isa.specs.Steps.{reg, Bytes, State, put}
 use Rattle.rv_isa.specs.Runs.{place, HasAt, AreBytes}
 use Rattle.wasm_defs.specs.Memory.{page, copied_at}
 use Rattle.frame_layout.specs.Macros.{x0, t0, t1, t2, t3, s1, forward, minus_one}
-use Rattle.frame_layout.specs.Templates.{Around}
+use Rattle.frame_layout.specs.Templates.{EmitContext}
 use Rattle.frame_layout.specs.Laws.{IsFrame, Does, TrapsAt}
 use Rattle.frame_layout.proofs.Standing.{has_first}
 use Rattle.frame_layout.proofs.Steps.{does_then, does_with, frame_stays}
@@ -150,7 +150,7 @@ module _ (code : List (Option Op)) (s : State) (i base d from n pages : ℕ) (ha
 
 -- ---- the whole
 
-module _ (w : Around) (code : List (Option Op)) (s : State) (i base h d from n pages : ℕ) (has : HasAt code i (copy_words w.layout h)) (at : s.pc ≡ place i) (frame : IsFrame base s) (regions : HasRegions pages s) (sound : AreBytes s.bytes.memory) (short : length code ≤ 2 ^ 26)
+module _ (w : EmitContext) (code : List (Option Op)) (s : State) (i base h d from n pages : ℕ) (has : HasAt code i (copy_words w.layout h)) (at : s.pc ≡ place i) (frame : IsFrame base s) (regions : HasRegions pages s) (sound : AreBytes s.bytes.memory) (short : length code ≤ 2 ^ 26)
     (small_d : d < 2 ^ 32) (small_from : from < 2 ^ 32) (small_n : n < 2 ^ 32) (given : Three code 15 15 s d from n) where
   abbrev last : List Op
   last = copy_places ++ (copy_up ++ copy_down)

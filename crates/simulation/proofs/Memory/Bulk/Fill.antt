@@ -16,7 +16,7 @@ use Rattle.wasm_defs.specs.Memory.{page, filled_at}
 use Rattle.wasm_defs.specs.Configurations.{max_slots}
 use Rattle.frame_layout.specs.Slots.{operand}
 use Rattle.frame_layout.specs.Macros.{t0, t1, t2, s1, s2, forward, trap}
-use Rattle.frame_layout.specs.Templates.{Around}
+use Rattle.frame_layout.specs.Templates.{EmitContext}
 use Rattle.frame_layout.specs.Laws.{slot_at, IsFrame, Does, TrapsAt}
 use Rattle.frame_layout.proofs.Standing.{has_first, has_rest}
 use Rattle.frame_layout.proofs.SlotLaws.{load_slot_leaves}
@@ -35,7 +35,7 @@ use Rattle.simulation.proofs.Memory.Bulk.Three.{Three, begin, number_into, sum_i
 byte_place : (code : List (Option Op)) (s : State) (i k : ℕ) (d : Does code k 17 s s.bytes) → s.pc ≡ place i → d.end.pc ≡ place (suc (suc (i + 15)))
 byte_place code s i k d at = omega (arith, d.pc_is)
 
-module _ (w : Around) (code : List (Option Op)) (s : State) (i base h d v n pages : ℕ) (has : HasAt code i (fill_words w.layout h)) (at : s.pc ≡ place i) (frame : IsFrame base s) (regions : HasRegions pages s) (high : 3 ≤ h) (inside : base + operand w.layout (h - 1) < max_slots)
+module _ (w : EmitContext) (code : List (Option Op)) (s : State) (i base h d v n pages : ℕ) (has : HasAt code i (fill_words w.layout h)) (at : s.pc ≡ place i) (frame : IsFrame base s) (regions : HasRegions pages s) (high : 3 ≤ h) (inside : base + operand w.layout (h - 1) < max_slots)
     (d_is : slot_at s.bytes (base + operand w.layout (h - 3)) ≡ word I32 d) (v_is : slot_at s.bytes (base + operand w.layout (h - 2)) ≡ word I32 v) (n_is : slot_at s.bytes (base + operand w.layout (h - 1)) ≡ word I32 n)
     (small_d : d < 2 ^ 32) (small_v : v < 2 ^ 32) (small_n : n < 2 ^ 32) (short : length code ≤ 2 ^ 26) where
   abbrev first : List Op

@@ -14,7 +14,7 @@ use Rattle.rv_isa.specs.Runs.{place, HasAt, AreBytes, FitWindows, LiesIn, Leaves
 use Rattle.rv_isa.proofs.OffsetLaws.{loads_behind, stores_behind}
 use Rattle.wasm_defs.specs.Memory.{page, copied_at}
 use Rattle.frame_layout.specs.Macros.{x0, t0, t1, t2, t3, s1, s3, a0, forward, trap}
-use Rattle.frame_layout.specs.Templates.{Around}
+use Rattle.frame_layout.specs.Templates.{EmitContext}
 use Rattle.frame_layout.specs.Laws.{IsFrame, TrapsAt}
 use Rattle.frame_layout.proofs.Standing.{has_first}
 use Rattle.frame_layout.proofs.Steps.{does_leave, does_then, does_with, frame_stays}
@@ -142,7 +142,7 @@ module _ (code : List (Option Op)) (s : State) (i base d from n pages x : ℕ) (
 
 -- ---- the whole
 
-module _ (w : Around) (code : List (Option Op)) (s : State) (i base h d from n pages x : ℕ) (bytes : List ℕ) (has : HasAt code i (init_words w.layout h (8 * x))) (at : s.pc ≡ place i) (frame : IsFrame base s) (regions : HasRegions pages s) (sound : AreBytes s.bytes.passive) (stands : SegmentStands s.bytes x bytes)
+module _ (w : EmitContext) (code : List (Option Op)) (s : State) (i base h d from n pages x : ℕ) (bytes : List ℕ) (has : HasAt code i (init_words w.layout h (8 * x))) (at : s.pc ≡ place i) (frame : IsFrame base s) (regions : HasRegions pages s) (sound : AreBytes s.bytes.passive) (stands : SegmentStands s.bytes x bytes)
     (short : length code ≤ 2 ^ 26) (small_d : d < 2 ^ 32) (small_from : from < 2 ^ 32) (small_n : n < 2 ^ 32) (given : Three code 15 15 s d from n) where
   abbrev rest : List Op
   rest = init_places (8 * x) ++ up_loop 24

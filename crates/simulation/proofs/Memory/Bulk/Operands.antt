@@ -10,7 +10,7 @@ use Rattle.wasm_defs.specs.Values.{word}
 use Rattle.wasm_defs.specs.Configurations.{max_slots}
 use Rattle.frame_layout.specs.Slots.{operand}
 use Rattle.frame_layout.specs.Macros.{t0, t1, t2, s2}
-use Rattle.frame_layout.specs.Templates.{Around}
+use Rattle.frame_layout.specs.Templates.{EmitContext}
 use Rattle.frame_layout.specs.Laws.{slot_at, IsFrame, is_scratch, Does, TrapsAt}
 use Rattle.frame_layout.proofs.Standing.{has_first, has_rest}
 use Rattle.frame_layout.proofs.Steps.{frame_stays}
@@ -26,7 +26,7 @@ has_from code i j xs ys there has = subst (λ (k : ℕ). HasAt code k ys) there 
 
 -- ---- the three operands
 
-module _ (w : Around) (code : List (Option Op)) (s : State) (i base h d from n : ℕ) (has : HasAt code i (load_three w.layout h)) (at : s.pc ≡ place i) (frame : IsFrame base s) (high : 3 ≤ h) (inside : base + operand w.layout (h - 1) < max_slots)
+module _ (w : EmitContext) (code : List (Option Op)) (s : State) (i base h d from n : ℕ) (has : HasAt code i (load_three w.layout h)) (at : s.pc ≡ place i) (frame : IsFrame base s) (high : 3 ≤ h) (inside : base + operand w.layout (h - 1) < max_slots)
     (d_is : slot_at s.bytes (base + operand w.layout (h - 3)) ≡ word I32 d) (from_is : slot_at s.bytes (base + operand w.layout (h - 2)) ≡ word I32 from) (n_is : slot_at s.bytes (base + operand w.layout (h - 1)) ≡ word I32 n)
     (small_d : d < 2 ^ 32) (small_from : from < 2 ^ 32) (small_n : n < 2 ^ 32) where
   near_d : base + operand w.layout (h - 3) < max_slots

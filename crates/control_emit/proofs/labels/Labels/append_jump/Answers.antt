@@ -1,7 +1,7 @@
 use Rattle.std.proofs.Common.{◌≡◌, ◌-◌, ◌++◌, ℕ, Option, List, map, length, refl, ap, ◌∙◌, sym, subst}
 use Rattle.rv_isa.specs.Words.{word_of}
 use Rattle.frame_layout.specs.Macros.{distance, far}
-use Rattle.frame_layout.specs.Templates.{Around, move_words}
+use Rattle.frame_layout.specs.Templates.{EmitContext, move_words}
 use Rattle.control_emit.specs.Pending.{Pending, Shape, Within, place_or, end_at, unjumped}
 use Rattle.control_emit.specs.Emits.{draft, Emits}
 use Rattle.control_emit.specs.Walks.{end_shape}
@@ -11,7 +11,7 @@ use Rattle.control_emit.proofs.Undoing.{unjumps, unjumped-none}
 use Rattle.control_emit.proofs.labels.Labels.append_jump.Goals as goal
 
 -- the values are moved
-moves : (w : Around) (labels : List Pending) (old new : List ℕ) (h from takes base : ℕ) → Within (length old) labels → from ≡ h - takes → new ≡ old ++ map word_of (move_words w takes from base)
+moves : (w : EmitContext) (labels : List Pending) (old new : List ℕ) (h from takes base : ℕ) → Within (length old) labels → from ≡ h - takes → new ≡ old ++ map word_of (move_words w takes from base)
     → Emits (draft labels old) (draft labels new) (λ es. move_words w takes (h - takes) base)
 moves w labels old new h from takes base held e is =
     emits-plain labels old new (move_words w takes (h - takes) base) held (is ∙ ap (λ (j : ℕ). old ++ map word_of (move_words w takes j base)) e)

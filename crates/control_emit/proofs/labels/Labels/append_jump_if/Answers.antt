@@ -1,7 +1,7 @@
 use Rattle.std.proofs.Common.{◌≡◌, ◌+◌, ◌-◌, ◌++◌, ℕ, List, map, length, refl, ap, ◌∙◌, subst, arith, length-append}
 use Rattle.rv_isa.specs.Words.{word_of}
 use Rattle.frame_layout.specs.Macros.{t0}
-use Rattle.frame_layout.specs.Templates.{Around, label_at, load_operand, unless_words, jump_words}
+use Rattle.frame_layout.specs.Templates.{EmitContext, label_at, load_operand, unless_words, jump_words}
 use Rattle.control_emit.specs.Pending.{Shape, shapes, named}
 use Rattle.control_emit.specs.Emits.{draft, Emits}
 use Rattle.control_emit.specs.Walks.{end_shape}
@@ -11,7 +11,7 @@ use Rattle.control_emit.proofs.Moves.{appended}
 use Rattle.control_emit.proofs.labels.Labels.append_jump_if.Goals as goal
 
 -- the words before the jump
-front : (w : Around) (h takes : ℕ) (old mid new : List ℕ) → mid ≡ old ++ map word_of (load_operand w t0 (h - 1)) → new ≡ mid ++ map word_of (unless_words w (length mid) takes)
+front : (w : EmitContext) (h takes : ℕ) (old mid new : List ℕ) → mid ≡ old ++ map word_of (load_operand w t0 (h - 1)) → new ≡ mid ++ map word_of (unless_words w (length mid) takes)
     → new ≡ old ++ map word_of (load_operand w t0 (h - 1) ++ unless_words w (length old + 3) takes)
 front w h takes old mid new first second =
     let load = load_operand w t0 (h - 1) in

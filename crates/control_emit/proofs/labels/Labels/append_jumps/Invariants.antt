@@ -1,5 +1,5 @@
 use Rattle.std.proofs.Common.{◌≡◌, length, take, drop}
-use Rattle.frame_layout.specs.Templates.{Around, jumps}
+use Rattle.frame_layout.specs.Templates.{EmitContext, jumps}
 use Rattle.control_emit.specs.Pending.{AreBelow, all_unjumped}
 use Rattle.control_emit.specs.Emits.{draft, IsFront, IsHeld, Emits}
 use Rattle.control_emit.proofs.Calls.{named_all}
@@ -12,5 +12,5 @@ invariant-loop-count l = record {
   below : AreBelow (length l.initial.self) (drop l.count l.labels);
   noted : all_unjumped (take l.count l.labels) l.self ≡ l.initial.self;
   front : IsFront l.initial.buffer l.buffer;
-  emits : (w : Around) → w.layout ≡ l.layout → Emits (draft l.initial.self l.initial.buffer) (draft l.self l.buffer) (λ ends. jumps w l.height (length l.initial.buffer) (named_all w (draft l.initial.self l.initial.buffer) (take l.count l.labels) ends));
+  emits : (w : EmitContext) → w.layout ≡ l.layout → Emits (draft l.initial.self l.initial.buffer) (draft l.self l.buffer) (λ ends. jumps w l.height (length l.initial.buffer) (named_all w (draft l.initial.self l.initial.buffer) (take l.count l.labels) ends));
 }

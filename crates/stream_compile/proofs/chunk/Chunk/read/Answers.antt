@@ -1,6 +1,6 @@
 use Rattle.std.proofs.lemmas.List.{with_items_is, places}
 use Rattle.std.proofs.Common.{◌≡◌, ◌+◌, take, ap, ◌∙◌, rules, arith}
-use Rattle.stream_compile.specs.declared.chunk.Came.TheVariants.{Bytes}
+use Rattle.stream_compile.specs.declared.chunk.ReadStatus.TheVariants.{Bytes}
 use Rattle.stream_compile.specs.Chunks.{Chunked}
 use Rattle.stream_compile.proofs.Arriving.{read_full, read_end, read_failed, read_bytes}
 use Rattle.stream_compile.proofs.chunk.Chunk.read.Goals as goal

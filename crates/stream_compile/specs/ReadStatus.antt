@@ -2,7 +2,7 @@
 use Rattle.std.specs.Prelude.{◌≡◌, ◌≤◌, ◌⊎◌, ℕ, Bool, true, false, List, ◌++◌, length, Option, IfSome}
 use Rattle.std.specs.Io.KnownBytes.{prepend_known, IsAtEnd}
 use Rattle.wasm_laws.specs.Runs.{deciding_length}
-use Rattle.module_stream.specs.RightSoFar.{IsRightSoFar}
+use Rattle.module_stream.specs.RightSoFar.{PrefixIsValid}
 
 -- These bytes were read of a source that had the first left before and has the second left after: a prefix of what was left. They
 -- are no more than those that decide about any module, and up to the last piece of them, of 65,536 bytes at most, nothing was found
@@ -14,12 +14,12 @@ pub record IsRead (left rest : Option (List ℕ)) (read : List ℕ) : Type 0 whe
   pub piece : List ℕ
   pub pieces : read ≡ before ++ piece
   pub short : length piece ≤ 65536
-  pub right : IsRightSoFar before
+  pub right : PrefixIsValid before
 
 -- These bytes came: all that were left, of which a prefix was read; or, where the source failed, those that were read.
-abbrev pub Came : (left rest : Option (List ℕ)) → (failed : Bool) → List ℕ → Type 0
-Came left rest false bytes = (read more : List ℕ) × IsRead left rest read × IfSome rest (λ l. more ≡ l) × (bytes ≡ read ++ more)
-Came left rest true bytes = IsRead left rest bytes
+abbrev pub ReadStatus : (left rest : Option (List ℕ)) → (failed : Bool) → List ℕ → Type 0
+ReadStatus left rest false bytes = (read more : List ℕ) × IsRead left rest read × IfSome rest (λ l. more ≡ l) × (bytes ≡ read ++ more)
+ReadStatus left rest true bytes = IsRead left rest bytes
 
 -- more bytes than an image may have: so many decide about any
 abbrev pub image_input : ℕ
