@@ -11,6 +11,7 @@ use Rattle.wasm_defs.specs.Codes.{Code, instruction_is, token_is}
 use Rattle.wasm_defs.specs.Faults.{tokens_of}
 use Rattle.wasm_defs.specs.Items.{each_is}
 use Rattle.wasm_defs.specs.Trees.{Tree, spelled}
+use Rattle.wasm_defs.specs.Opcodes.{operation_code}
 use Rattle.module_gen.specs.Drill.{below, call}
 use Rattle.module_gen.specs.Numbers.{signed, unsigned}
 use Rattle.drill_laws.specs.Functions.{adder_tree, calls_from, runner_tree}
@@ -49,6 +50,7 @@ adder_tokens first i =
     (first + 1, token.Plain (LocalGet 0)) ∷ (constant, token.Plain (Const I32 (pos i))) ∷ (sum, token.Plain (Numeric (Binary I32 Add))) ∷ (sum + 1, token.End) ∷ []
 
 pub adder_spelled : (first i : ℕ) → i < 2 ^ 31 → Spell (adder_tokens first i) first (adder_content i)
+unfolding operation_code
 adder_spelled first i small =
     let constant = first + 1 + 2 in
     let sum = constant + length (0x41 ∷ signed i) in

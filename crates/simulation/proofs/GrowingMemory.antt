@@ -29,7 +29,7 @@ use Rattle.simulation.specs.MemoryLaws.{AsksForPages, GrowLaw, GrownLaw}
 use Rattle.simulation.specs.StoreLaws.{GlobalsStand, SegmentsStand, HasRoom, Answered, Grows}
 use Rattle.simulation.specs.StoreStands.{StoreStands}
 use Rattle.simulation.proofs.Memory.Answering.{grows_does}
-use Rattle.simulation.proofs.Memory.Written.{low_word}
+use Rattle.frame_layout.proofs.WordLaws.{low_word}
 use Rattle.simulation.proofs.Memory.StoreStanding.{store_kept, store_grown}
 use Rattle.simulation.proofs.MacroRanges.{both_in_range, load_in_range, store_in_range}
 use Rattle.simulation.proofs.Goings.{Goes, goes_by, goes_by_call, goes_then}
