@@ -44,8 +44,7 @@ a load that is cut off; size 1 31; 00 28 = Malformed at byte 32
 a call that lacks its argument; size 1 31; 00 10 00 0B = Invalid at byte 32
 a call of no function; size 1 31; 00 10 01 0B = Invalid at byte 32
 two calls, return, a call that is unreachable; calls 1 34; 00 20 00 10 00 10 00 0F 10 00 0B = 25: 00000097 000080E7 to 0; 39: 00000097 000080E7 to 0;
-div_s, div_u, return, a trap that is unreachable; traps 1 34; 00 20 00 20 00 6D 1A 20 00 20 00 6E 0F 00 0B = 9: 00000073 of 34; 34: 00000073 of 39;
-    41: 00000073 of 39; 67: 00000073 of 45;";
+div_s, div_u, return, a trap that is unreachable; traps 1 34; 00 20 00 20 00 6D 1A 20 00 20 00 6E 0F 00 0B = 9: 00000073 of 34; 34: 00000073 of 39; 41: 00000073 of 39; 67: 00000073 of 45;";
 
 /// The words of `local.get 0; local.get 1; i32.add; end` in a function with two parameters.
 const SUM: [&str; 6] = [
