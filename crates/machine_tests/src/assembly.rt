@@ -70,6 +70,8 @@ pub(crate) const S1: u32 = 9;
 
 pub(crate) const A0: u32 = 10;
 
+pub(crate) const A6: u32 = 16;
+
 pub(crate) const A7: u32 = 17;
 
 pub(crate) const S2: u32 = 18;
@@ -81,6 +83,10 @@ pub(crate) const S4: u32 = 20;
 pub(crate) const S5: u32 = 21;
 
 pub(crate) const T3: u32 = 28;
+
+pub(crate) const T4: u32 = 29;
+
+pub(crate) const T5: u32 = 30;
 
 impl Text {
     /// A text of which no word is written.

@@ -1,7 +1,7 @@
 //! Random texts of templates, from random states: what `run` does at once is what `step` does one by one.
 ghost use Rattle.std.specs.Prelude.{◌*◌, ◌^◌, ◌≤◌, length};
 
-use crate::assembly::LENGTH;
+use crate::assembly::{A6, ADD, ADDI, ECALL, LD, LENGTH, LUI, S0, SD, T4, T5, Text, X0};
 use crate::random::{below, next};
 use crate::templates::random_text;
 use rv64im_machine::{LinearMemory, Machine, Ran, Region, Regions, Stepped};
@@ -168,5 +168,33 @@ fn words_that_share_an_entry_are_told_apart(rt: HostRuntime) -> Result<(), Fail>
         let alike = end_alike(&mut fused, &mut single, next(&mut seed), word, 200);
         assert!(rt; alike);
     }
+    Ok(())
+}
+
+/// Adds the numbers from 100 down to 1 in a slot, by words that no template has: other registers, and operands in the other order.
+fn other_words() -> Text {
+    let mut text = Text::new();
+    text.imm(ADDI, A6, X0, 100);
+    text.upper(LUI, T5, 8);
+    text.reg(ADD, T5, S0, T5);
+    text.imm(LD, T4, T5, 8);
+    text.reg(ADD, T4, A6, T4);
+    text.reg(ADD, T5, X0, T5);
+    text.store(SD, T5, T4, 8);
+    text.imm(ADDI, A6, A6, 0xFFF);
+    // a branch by seven words back, unless a6 is zero
+    text.push(0xFE08_12E3);
+    text.push(ECALL);
+    text
+}
+
+#[test]
+fn words_of_no_template_run_right(rt: HostRuntime) -> Result<(), Fail> {
+    let text = other_words();
+    let mut machine = machine_of(rt.alloc(), &text.words)?;
+    machine.set_register(8, STACK);
+    // one step, eight for each number, and the call of the environment
+    assert!(rt; machine.run(1_000) == Ran::Call(802));
+    assert!(rt; machine.register(29) == 5_050);
     Ok(())
 }

@@ -2,8 +2,8 @@
 ghost use Rattle.std.specs.Prelude.{◌<◌};
 
 use crate::assembly::{
-    A7, ADD, ADDI, ADDIW, AUIPC, BEQ, BGEU, BLTU, BNE, JALR, LD, OR, ORI, RA, S0, S1, S2, S3, S4,
-    S5, SD, SLLI, SLTIU, SLTU, SRLI, SUB, T0, T1, T2, T3, Text, X0, XORI,
+    A7, ADD, ADDI, ADDIW, AUIPC, BEQ, BGEU, BLTU, BNE, JALR, LD, LENGTH, OR, ORI, RA, S0, S1, S2,
+    S3, S4, S5, SD, SLLI, SLTIU, SLTU, SRLI, SUB, T0, T1, T2, T3, Text, X0, XORI,
 };
 use crate::random::{below, next};
 
@@ -57,7 +57,7 @@ const LOADS: [(u32, u64); 7] = [
 const STORES: [(u32, u64); 4] = [(0x23, 1), (0x1023, 2), (0x2023, 4), (0x3023, 8)];
 
 /// How many kinds of templates there are.
-const KINDS: u64 = 35;
+const KINDS: u64 = 36;
 
 /// LBU and SB.
 const LBU: u32 = 0x4003;
@@ -139,8 +139,9 @@ fn body(text: &mut Text, seed: &mut u64) {
 }
 
 /// Two slots in a row make the first, past a trap where the second is zero if that is wanted.
-fn binary(text: &mut Text, seed: &mut u64, guarded: bool) {
-    let at = slot(seed);
+fn binary(text: &mut Text, seed: &mut u64, at: u64, guarded: bool)
+    requires { at < 5000 }
+{
     text.load_slot(T0, S0, at);
     text.load_slot(T1, S0, at + 8);
     if guarded {
@@ -311,6 +312,23 @@ fn test(text: &mut Text, seed: &mut u64, op: u32, at: u64, skip: u64) {
     text.branch(op, T0, X0, skip);
 }
 
+/// Two operands come into slots in a row, which become one. In half of the cases its value then comes into another slot.
+fn operands(text: &mut Text, seed: &mut u64) {
+    let at = slot(seed);
+    text.load_slot(T0, S0, slot(seed));
+    text.store_slot(T0, S0, at);
+    match below(seed, 2) {
+        0 => text.load_slot(T0, S0, slot(seed)),
+        _ => text.number(T0, number(seed)),
+    }
+    text.store_slot(T0, S0, at + 8);
+    binary(text, seed, at, false);
+    if below(seed, 2) == 0 {
+        text.load_slot(T0, S0, at);
+        text.store_slot(T0, S0, slot(seed));
+    }
+}
+
 /// A template that computes.
 fn value_template(text: &mut Text, seed: &mut u64, kind: u64) {
     match kind {
@@ -319,8 +337,14 @@ fn value_template(text: &mut Text, seed: &mut u64, kind: u64) {
             text.number(T0, number(seed));
             text.store_slot(T0, S0, slot(seed));
         }
-        3..=5 => binary(text, seed, false),
-        6 => binary(text, seed, true),
+        3..=5 => {
+            let at = slot(seed);
+            binary(text, seed, at, false);
+        }
+        6 => {
+            let at = slot(seed);
+            binary(text, seed, at, true);
+        }
         7 => unary(text, seed),
         8 => load(text, seed),
         9 => store(text, seed),
@@ -344,6 +368,7 @@ fn value_template(text: &mut Text, seed: &mut u64, kind: u64) {
         }
         16 => text.load_slot(A7, S0, slot(seed)),
         17 => text.store_slot(T1, S0, slot(seed)),
+        18 => operands(text, seed),
         _ => text.number(T2, number(seed)),
     }
 }
@@ -405,19 +430,24 @@ fn call_template(text: &mut Text, seed: &mut u64, kind: u64) {
 fn template(text: &mut Text, seed: &mut u64) {
     let kind = below(seed, KINDS);
     match kind {
-        0..=18 => value_template(text, seed, kind),
-        19..=24 => branch_template(text, seed, kind - 19),
-        25..=31 => call_template(text, seed, kind - 25),
-        _ => loop_template(text, seed, kind - 32),
+        0..=19 => value_template(text, seed, kind),
+        20..=25 => branch_template(text, seed, kind - 20),
+        26..=32 => call_template(text, seed, kind - 26),
+        _ => loop_template(text, seed, kind - 33),
     }
 }
 
-/// A text of random templates. In `changed` of 64 words a bit is another one: so there are other registers, other orders of
-/// words, and words of no template.
+/// A text of random templates. So many of 64 words stand after the next one in place of before it, and in as many a bit is
+/// another one: so there are other orders, other registers, and words of no template.
 pub(crate) fn random_text(seed: &mut u64, changed: u64) -> Text {
     let mut text = Text::new();
     for _ in 0..64 {
         template(&mut text, seed);
+    }
+    for i in 1..LENGTH {
+        if below(seed, 64) < changed {
+            text.words.swap(i - 1, i);
+        }
     }
     for word in &mut text.words {
         if below(seed, 64) < changed {

@@ -6,6 +6,7 @@ pub mod Lending
 pub use Rattle.linear_memory.specs.Linear
 pub use Rattle.linear_memory.specs.LinearLending
 pub mod Sequences
+pub mod Operands
 pub use Rattle.decode_cache.specs.FusedWords
 pub use Rattle.decode_cache.specs.Caching
 pub mod Machines

@@ -13,6 +13,7 @@ mod dispatch;
 mod execution;
 mod loops;
 mod machine;
+mod operands;
 mod outcome;
 mod pairs;
 mod pieces;
