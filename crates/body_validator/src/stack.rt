@@ -125,7 +125,8 @@ impl<'a> Model for Stack<'a> {
 
     ghost view = { λ s. frames_of (reverse s.frames.items) (flat s.operands) };
 
-    ghost invariant = { λ s. IsLaid (reverse s.frames.items) (flat s.operands) × IsSeenFrom (reverse s.frames.items) s.operands × (s.live ≡ is_live_at (reverse s.frames.items)) };
+    ghost invariant = { λ s. IsLaid (reverse s.frames.items) (flat s.operands) × IsSeenFrom (reverse s.frames.items) s.operands
+        × (s.live ≡ is_live_at (reverse s.frames.items)) };
 }
 
 impl<'a> Stack<'a> {
