@@ -22,9 +22,23 @@ use body_validator::Check;
 use frame_layout::Layout;
 use index_spaces::Context;
 use leb_feed::Fields;
-use rv_isa::Code;
+use rv_isa::{Code, TrapSite};
 use std::alloc::Global;
 use wasm_defs::FuncType;
+
+/// Most bodies have no more traps than so many.
+const FIRST_SITES: usize = 32;
+
+/// No traps of a code, with room for those of most bodies.
+fn no_sites(alloc: Global) -> Vec<TrapSite>
+    ensures { result.items ≡ [] }
+{
+    // without that room they find it one after the other, or are out of memory
+    match Vec::with_capacity(alloc, FIRST_SITES) {
+        Ok(sites) => sites,
+        Err(_) => Vec::new(alloc),
+    }
+}
 
 /// Compiles the code of a body whose first byte has the offset `first` and whose last one `last`, of a function of that type with so many
 /// declared locals, in a module whose table has so many rows at first and which counts its data segments or doesn't.
@@ -61,7 +75,7 @@ fn compile_code(
     let Ok(mut draft) = begin(alloc, layout, rows, results, bytes) else {
         return Err(BodyStop::NoMemory);
     };
-    let mut sites = Vec::new(alloc);
+    let mut sites = no_sites(alloc);
     match judge_code(
         alloc, fields, &mut check, &mut draft, &mut sites, counted, last,
     ) {
@@ -69,7 +83,7 @@ fn compile_code(
         Err(stop) => return Err(stop),
     }
     let greatest = check.end().greatest;
-    match finish(draft, sites, first, greatest as u32, results) {
+    match finish(alloc, draft, sites, first, greatest as u32, results) {
         Ok(code) => Ok(code),
         Err(_) => Err(BodyStop::NoMemory),
     }

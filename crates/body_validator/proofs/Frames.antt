@@ -7,8 +7,8 @@ use Rattle.wasm_defs.specs.declared.types.ValType.TheVariants.{I32}
 use Rattle.body_validator.specs.declared.stack.Opening.{Opening}
 use Rattle.body_validator.specs.declared.stack.Opening.TheVariants.{Else as Elses}
 use Rattle.wasm_defs.specs.Typing.{Types, Signature, Discards, Selects}
-use Rattle.body_validator.specs.Checking.{Operand, Operands, Frames, ◌>>=◌, guarded, known, take_all as taken_all, is_of, Taken, take_any, joined, any_at, selected_of, label_of, labels, put, apply, applied, enter, turned, ended, fresh, height, none_left, closes, may_end, takes_else, starts_live, receive}
-use Rattle.body_validator.specs.Stacks.{own_of, signature, frame_of, frames_of, IsLaid, HasLast, is_live_in}
+use Rattle.body_validator.specs.Checking.{Operand, Operands, Frames, ◌>>=◌, guarded, known, take_all as taken_all, is_of, Taken, take_any, joined, any_at, selected_of, label_of, labels, put, apply, applied, enter, turned, ended, fresh, height, none_left, closes, may_end, takes_else, starts_live, receive, is_live}
+use Rattle.body_validator.specs.Stacks.{own_of, signature, frame_of, frames_of, IsLaid, HasLast, is_live_in, is_live_at}
 use Rattle.body_validator.proofs.Options.{and_true}
 use Rattle.body_validator.proofs.Flat.{take_all-drop, known-reverse, put_own, some_or_none}
 
@@ -20,6 +20,10 @@ height-frames_of (f ∷ fs) items h =
     let b = length-drop f.base items in
     let d = length-take-le f.base items h.0 in
     omega arith
+
+pub live_frames : (fs : List Flat) (items : List Operand) → is_live_at fs ≡ is_live (frames_of fs items)
+live_frames [] items = refl
+live_frames (f ∷ fs) items = refl
 
 -- the innermost frame's operands change, and nothing below them
 pub reverse-set_last : {A : Type 0} (xs : List A) (n : ℕ) (x : A) → n ≡ length xs → 0 < n → reverse (set xs (n - 1) x) ≡ x ∷ reverse (take (length xs - 1) xs)

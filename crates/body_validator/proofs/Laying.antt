@@ -5,13 +5,13 @@ use Rattle.std.proofs.lemmas.List.{append-nil, length-append, length-map, map-ap
 use Rattle.wasm_defs.specs.declared.types.ValType.{ValType}
 use Rattle.wasm_defs.specs.Typing.{Types}
 use Rattle.body_validator.specs.declared.kept.Operands.{Operands}
-use Rattle.body_validator.specs.declared.kept.Spread.{Spread}
+use Rattle.body_validator.specs.declared.lists.Spread.{Spread}
 use Rattle.body_validator.specs.declared.operands.Stop.{Stop}
 use Rattle.body_validator.specs.declared.operands.Stop.TheVariants.{Refused, NoMemory}
 use Rattle.body_validator.specs.Checking.{Operand, ◌>>=◌, guarded, known, is_of, take_all, none_left, selected_of}
 use Rattle.body_validator.specs.Stacks.{own_of}
 use Rattle.body_validator.specs.Exchange.{exchanged, Exchanges}
-use Rattle.body_validator.specs.Kept.{laid_out, flat, total, floor_of, AreStacked, IsKept, IsAll, IsPart, IsSeen, AreShown, AreSame, IsTried, IsShort}
+use Rattle.body_validator.specs.Kept.{spreads, laid_out, flat, total, floor_of, AreStacked, IsKept, IsAll, IsPart, IsSeen, AreShown, AreSame, IsTried, IsShort, Topmost}
 use Rattle.body_validator.proofs.Options.{through, some_inside}
 use Rattle.body_validator.proofs.Flat.{too_many, reverse_more}
 use Rattle.body_validator.proofs.Frames.{reverse-set_last}
@@ -155,26 +155,26 @@ dropped_there un unknown v h count (inr e) = sym (drop-append-le count v h e.1)
 
 -- those above the base that are not seen
 abbrev pub hidden : ℕ → Operands → List Operand
-hidden base o = own_of (laid_out (reverse o.lists.items) (take o.start o.singles.items)) base
+hidden base o = own_of (laid_out (reverse (spreads o.lists)) (take o.start o.singles.items)) base
 
-pub base_most : (base : ℕ) (unknown : Bool) (o : Operands) → IsSeen base unknown o → base ≤ o.start + total (reverse o.lists.items)
+pub base_most : (base : ℕ) (unknown : Bool) (o : Operands) → IsSeen base unknown o → base ≤ o.start + total (reverse (spreads o.lists))
 base_most base unknown o s = by_case s.case
   where
-    by_case : IsAll base unknown o ⊎ IsPart base o → base ≤ o.start + total (reverse o.lists.items)
+    by_case : IsAll base unknown o ⊎ IsPart base o → base ≤ o.start + total (reverse (spreads o.lists))
     by_case (inl e) = omega (arith, e.0, s.kept.listed)
     by_case (inr e) = omega (arith, e.0, s.kept.listed)
 
 pub own_seen : (base : ℕ) (unknown : Bool) (o : Operands) → IsSeen base unknown o → own_of (flat o) base ≡ own_of o.singles.items o.start ++ hidden base o
-own_seen base unknown o s = own_split (reverse o.lists.items) o.singles.items o.start base s.above s.within (base_most base unknown o s)
+own_seen base unknown o s = own_split (reverse (spreads o.lists)) o.singles.items o.start base s.above s.within (base_most base unknown o s)
 
 pub base_seen : (base : ℕ) (unknown : Bool) (o : Operands) → IsSeen base unknown o → base ≤ length (flat o)
 base_seen base unknown o s =
-    omega (arith, base_most base unknown o s, length-laid (reverse o.lists.items) o.singles.items, s.within)
+    omega (arith, base_most base unknown o s, length-laid (reverse (spreads o.lists)) o.singles.items, s.within)
 
 pub nothing_hidden : (base : ℕ) (unknown : Bool) (o : Operands) → IsSeen base unknown o → base ≡ o.start + o.listed → hidden base o ≡ []
 nothing_hidden base unknown o s e =
-    let under = laid_out (reverse o.lists.items) (take o.start o.singles.items) in
-    ap reverse (drop_all base under (omega (arith, length-under (reverse o.lists.items) o.singles.items o.start s.within, s.kept.listed)))
+    let under = laid_out (reverse (spreads o.lists)) (take o.start o.singles.items) in
+    ap reverse (drop_all base under (omega (arith, length-under (reverse (spreads o.lists)) o.singles.items o.start s.within, s.kept.listed)))
 
 pub is_below : (base : ℕ) (unknown : Bool) (o : Operands) → IsSeen base unknown o → IsBelow o.unknown (hidden base o) unknown
 is_below base unknown o s = by_case s.case
@@ -197,7 +197,7 @@ are_there base count unknown o s shown = by_case s.case shown
 -- ---- the single ones above the start change
 
 pub record IsOver (o n : Operands) : Type 0 where
-  pub lists : n.lists.items ≡ o.lists.items
+  pub lists : spreads n.lists ≡ spreads o.lists
   pub listed : n.listed ≡ o.listed
   pub start : n.start ≡ o.start
   pub unknown : n.unknown ≡ o.unknown
@@ -212,7 +212,7 @@ pub seen_over : (base : ℕ) (unknown : Bool) (o n : Operands) → IsSeen base u
 seen_over base unknown o n s w = record {
   kept = record {
     stacked = subst (λ (x : List Spread). AreStacked (reverse x) (length n.singles.items)) (sym w.lists)
-        (stacked_at (reverse o.lists.items) (length o.singles.items) (length n.singles.items) s.kept.stacked (omega (arith, s.above, w.above)));
+        (stacked_at (reverse (spreads o.lists)) (length o.singles.items) (length n.singles.items) s.kept.stacked (omega (arith, s.above, w.above)));
     listed = w.listed ∙ s.kept.listed ∙ ap (λ (x : List Spread). total (reverse x)) (sym w.lists);
     few = omega (arith, s.kept.few, w.listed);
   };
@@ -228,17 +228,17 @@ seen_over base unknown o n s w = record {
 pub hidden_over : (base : ℕ) (o n : Operands) → IsOver o n → hidden base n ≡ hidden base o
 hidden_over base o n w =
     ap (λ (x : List Spread). own_of (laid_out (reverse x) (take n.start n.singles.items)) base) w.lists
-    ∙ ap (λ (k : ℕ). own_of (laid_out (reverse o.lists.items) (take k n.singles.items)) base) w.start
-    ∙ ap (λ (x : List Operand). own_of (laid_out (reverse o.lists.items) x) base) w.under
+    ∙ ap (λ (k : ℕ). own_of (laid_out (reverse (spreads o.lists)) (take k n.singles.items)) base) w.start
+    ∙ ap (λ (x : List Operand). own_of (laid_out (reverse (spreads o.lists)) x) base) w.under
 
 pub below_over : (base : ℕ) (unknown : Bool) (o n : Operands) → IsSeen base unknown o → IsOver o n → take base (flat n) ≡ take base (flat o)
 below_over base unknown o n s w =
     let t = seen_over base unknown o n s w in
-    below_split (reverse n.lists.items) n.singles.items n.start base t.above t.within (base_most base unknown n t)
+    below_split (reverse (spreads n.lists)) n.singles.items n.start base t.above t.within (base_most base unknown n t)
     ∙ ap (λ (x : List Spread). take base (laid_out (reverse x) (take n.start n.singles.items))) w.lists
-    ∙ ap (λ (k : ℕ). take base (laid_out (reverse o.lists.items) (take k n.singles.items))) w.start
-    ∙ ap (λ (x : List Operand). take base (laid_out (reverse o.lists.items) x)) w.under
-    ∙ sym (below_split (reverse o.lists.items) o.singles.items o.start base s.above s.within (base_most base unknown o s))
+    ∙ ap (λ (k : ℕ). take base (laid_out (reverse (spreads o.lists)) (take k n.singles.items))) w.start
+    ∙ ap (λ (x : List Operand). take base (laid_out (reverse (spreads o.lists)) x)) w.under
+    ∙ sym (below_split (reverse (spreads o.lists)) o.singles.items o.start base s.above s.within (base_most base unknown o s))
 
 -- the own ones of the new operands
 pub own_over : (base : ℕ) (unknown : Bool) (o n : Operands) → IsSeen base unknown o → IsOver o n → own_of (flat n) base ≡ own_of n.singles.items o.start ++ hidden base o
@@ -287,17 +287,17 @@ dropped_over base count unknown o n s shown w e =
 -- ---- a list is made shorter
 
 pub kept_length : (base : ℕ) (unknown : Bool) (o : Operands) → IsSeen base unknown o → length (flat o) ≡ o.listed + length o.singles.items
-kept_length base unknown o s = omega (arith, length-laid (reverse o.lists.items) o.singles.items, s.kept.listed)
+kept_length base unknown o s = omega (arith, length-laid (reverse (spreads o.lists)) o.singles.items, s.kept.listed)
 
 pub flat_length : (o : Operands) → IsKept o → length (flat o) ≡ o.listed + length o.singles.items
-flat_length o k = omega (arith, length-laid (reverse o.lists.items) o.singles.items, k.listed)
+flat_length o k = omega (arith, length-laid (reverse (spreads o.lists)) o.singles.items, k.listed)
 
 floor_below : (lists : List Spread) (n : ℕ) → AreStacked lists n → floor_of lists ≤ n
 floor_below [] n h = omega arith
 floor_below (s ∷ lists) n h = h.0
 
-pub floor_within : (o : Operands) → IsKept o → floor_of (reverse o.lists.items) ≤ length o.singles.items
-floor_within o k = floor_below (reverse o.lists.items) (length o.singles.items) k.stacked
+pub floor_within : (o : Operands) → IsKept o → floor_of (reverse (spreads o.lists)) ≤ length o.singles.items
+floor_within o k = floor_below (reverse (spreads o.lists)) (length o.singles.items) k.stacked
 
 -- the last types of the topmost list are single operands above it
 lowered : (s : Spread) (rest new : List Spread) (singles after : List Operand) (left : ℕ) → AreStacked (s ∷ rest) (length singles)
@@ -419,12 +419,12 @@ seen_same base unknown o n s e =
     })
 
 pub flat_same : (o n : Operands) → AreSame o n → flat n ≡ flat o
-flat_same o n e = ap (λ (x : List Spread). laid_out (reverse x) n.singles.items) e.1 ∙ ap (laid_out (reverse o.lists.items)) e.0
+flat_same o n e = ap (λ (x : List Spread). laid_out (reverse x) n.singles.items) e.1 ∙ ap (laid_out (reverse (spreads o.lists))) e.0
 
 pub kept_same : (o n : Operands) → IsKept o → AreSame o n → IsKept n
 kept_same o n k e = record {
   stacked = subst (λ (x : List Spread). AreStacked (reverse x) (length n.singles.items)) (sym e.1)
-      (subst (λ (x : List Operand). AreStacked (reverse o.lists.items) (length x)) (sym e.0) k.stacked);
+      (subst (λ (x : List Operand). AreStacked (reverse (spreads o.lists)) (length x)) (sym e.0) k.stacked);
   listed = e.2 ∙ k.listed ∙ ap (λ (x : List Spread). total (reverse x)) (sym e.1);
   few = omega (arith, k.few, e.2);
 }
@@ -436,7 +436,7 @@ shown_same base count o n (inr h) e = inr (omega (arith, h, e.3, ap length e.0))
 -- ---- steps of a method, from those of its single operands
 
 pub flat_again : (o n : Operands) → IsOver o n → n.singles.items ≡ o.singles.items → flat n ≡ flat o
-flat_again o n w e = ap (λ (x : List Spread). laid_out (reverse x) n.singles.items) w.lists ∙ ap (laid_out (reverse o.lists.items)) e
+flat_again o n w e = ap (λ (x : List Spread). laid_out (reverse x) n.singles.items) w.lists ∙ ap (laid_out (reverse (spreads o.lists))) e
 
 pub tried_over : (base : ℕ) (unknown : Bool) (p g : Types) (o n : Operands) (result : Result (Unit {0}) Stop) → IsSeen base unknown o → IsOver o n
     → Exchanges o.unknown o.start p g result o.singles.items n.singles.items → IsTried base unknown p g result o n
@@ -501,13 +501,6 @@ short_at left all new rest s e w = subst (λ (x : List Spread). IsShort left x n
 stacked_in : (all rest : List Spread) (s : Spread) (n : ℕ) → all ≡ s ∷ rest → AreStacked all n → AreStacked (s ∷ rest) n
 stacked_in all rest s n e h = subst (λ (x : List Spread). AreStacked x n) e h
 
-pub record Topmost (all : List Spread) (s : Spread) : Type 0 where
-  pub rest : List Spread
-  pub is : all ≡ s ∷ rest
-
-pub topmost : (lists : List Spread) (n : ℕ) (s : Spread) → n ≡ length lists → 0 < n → s ≡ get_or lists (n - 1) s → Topmost (reverse lists) s
-topmost lists n s e h f = record { rest = reverse (take (n - 1) lists); is = last_first lists n s e h f }
-
 total_short : (s : Spread) (rest new : List Spread) (left : ℕ) → left ≤ length s.types.now → IsShort left (s ∷ rest) new → total new ≡ total rest + left
 total_short s rest new left few w = by_case w.now
   where
@@ -566,3 +559,11 @@ stacked_after all new s left m n t h g w = stacked_short s t.rest new left m n (
 pub some_lists : (lists : List Spread) (n height : ℕ) → n ≡ total (reverse lists) → height < floor_of (reverse lists) + n → 0 < length lists
 some_lists [] n height e h = absurd (omega (arith, e, h))
 some_lists (s ∷ lists) n height e h = omega arith
+
+-- what is above the base isn't all single
+pub some_seen : (base : ℕ) (unknown : Bool) (o : Operands) → IsSeen base unknown o → base < o.start + o.listed → 0 < length (spreads o.lists)
+some_seen base unknown o s h = by_case s.case
+  where
+    by_case : IsAll base unknown o ⊎ IsPart base o → 0 < length (spreads o.lists)
+    by_case (inl e) = absurd (omega (arith, e.0, h))
+    by_case (inr e) = some_lists (spreads o.lists) o.listed base s.kept.listed (omega (arith, e.2, h))

@@ -8,6 +8,7 @@ pub mod Exact
 pub mod Heights
 pub mod Flat
 pub mod Laying
+pub mod Paired
 pub mod Frames
 pub mod Seen
 pub mod Taking

@@ -1,5 +1,5 @@
 -- Frames as a flat stack of operands keeps them.
-use Rattle.std.specs.Prelude.{◌≡◌, ℕ, ◌-◌, ◌≤◌, Bool, true, List, [], ◌∷◌, length, take, drop, reverse}
+use Rattle.std.specs.Prelude.{◌≡◌, ℕ, ◌-◌, ◌≤◌, Bool, true, false, List, [], ◌∷◌, length, take, drop, reverse}
 use Rattle.body_validator.specs.declared.stack.Frame.{Frame as Flat}
 use Rattle.wasm_defs.specs.Typing.{Types, Signature}
 use Rattle.body_validator.specs.Checking.{Operand, Frame, Frames}
@@ -36,3 +36,8 @@ HasLast fs f = reverse fs ≡ f ∷ reverse (take (length fs - 1) fs)
 abbrev pub is_live_in : List Flat → Bool
 is_live_in [] = true
 is_live_in (f ∷ fs) = f.live
+
+-- the point inside the first of these is reachable
+abbrev pub is_live_at : List Flat → Bool
+is_live_at [] = false
+is_live_at (f ∷ fs) = f.live

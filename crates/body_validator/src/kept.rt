@@ -10,13 +10,14 @@
 //!
 //! An instruction that takes five lacks three: the list's last 16 become single ones between c and d, and it takes five of them all.
 
-ghost use Rattle.std.specs.Prelude.{◌≡◌, ℕ, ◌+◌, ◌<◌, ◌≤◌, Bool, false, [], ◌++◌, length, map, reverse, take, drop, is_some, Some, vec_len, vec_capacity, IfOk};
+ghost use Rattle.std.specs.Prelude.{◌≡◌, ℕ, ◌+◌, ◌<◌, ◌≤◌, Bool, false, [], ◌++◌, length, map, reverse, take, drop, is_some, Some, vec_len, IfOk};
 ghost use Rattle.std.specs.Prelude.{OnOk, OnErr};
 ghost use Rattle.body_validator.specs.Checking.{take_all, none_left, selected_of};
 ghost use Rattle.body_validator.specs.Stacks.{own_of};
 ghost use Rattle.body_validator.specs.Exchange.{taken_types, Exchanges, TakesOne, TakesThree};
-ghost use Rattle.body_validator.specs.Kept.{flat, floor_of, IsKept, IsSeen, AreShown, AreSame, HasRoom, KeepsRoom, IsTakenFrom, IsTried, IsShort};
+ghost use Rattle.body_validator.specs.Kept.{flat, floor_of, spreads, IsKept, IsSeen, AreShown, AreSame, HasRoom, KeepsRoom, IsTakenFrom, IsTried};
 
+use crate::lists::Lists;
 use crate::operands::{
     Operand, Stop, Taken, are_just, count_of, exchange, finds, put, put_all, remove, selected,
 };
@@ -30,19 +31,14 @@ pub const LONG: usize = 16;
 /// The most operands in lists, so that all of them fit a usize.
 const MOST_LISTED: usize = 1 << 62;
 
-/// Operands of these types, which were put at once.
-#[derive(Clone, Copy)]
-pub struct Spread<'a> {
-    pub types: &'a [ValType],
-    /// How many single operands are below them.
-    pub below: usize,
-}
+/// The most single operands below a list, whose number has 32 bits: more take 8 GiB, which counts as out of memory.
+const MOST_BELOW: usize = 0xFFFF_FFFF;
 
 /// The operands of all frames, seen from the base of the innermost one.
 #[derive(Drop)]
 pub struct Operands<'a> {
     pub singles: Vec<Operand>,
-    pub lists: Vec<Spread<'a>>,
+    pub lists: Lists<'a>,
     /// How many operands are in the lists.
     pub listed: usize,
     /// The single ones from here on are the topmost of the innermost frame: they begin at its base, or above a list of its own.
@@ -51,13 +47,6 @@ pub struct Operands<'a> {
     pub unknown: bool,
     /// Room for operands that are moved up.
     pub moved: Vec<Operand>,
-}
-
-fn floor(lists: &[Spread<'_>]) -> usize
-    ensures { result ≡ floor_of (reverse lists.now) }
-{
-    let n = lists.len();
-    if n == 0 { 0 } else { lists[n - 1].below }
 }
 
 /// Puts operands of the types below those from this place on.
@@ -83,30 +72,6 @@ fn insert_all(
     }
 }
 
-/// Leaves so many types of the topmost list.
-fn shorten<'a>(lists: &mut Vec<Spread<'a>>, left: usize)
-    requires { 0 < vec_len lists.old }
-    ensures short { IsShort left (reverse lists.old.items) (reverse lists.new.items) }
-    ensures fewer { vec_len lists.new ≤ vec_len lists.old }
-    ensures room { vec_capacity lists.new ≡ vec_capacity lists.old }
-{
-    let n = lists.len() - 1;
-    let list = lists[n];
-    if left == 0 {
-        lists.truncate(n);
-        return;
-    }
-    let left = if left < list.types.len() {
-        left
-    } else {
-        list.types.len()
-    };
-    lists[n] = Spread {
-        types: &list.types[..left],
-        below: list.below,
-    };
-}
-
 impl<'a> Operands<'a> {
     pub fn new(alloc: Global) -> Self
         ensures empty { flat result ≡ [] }
@@ -114,7 +79,7 @@ impl<'a> Operands<'a> {
     {
         Operands {
             singles: Vec::new(alloc),
-            lists: Vec::new(alloc),
+            lists: Lists::new(alloc),
             listed: 0,
             start: 0,
             unknown: false,
@@ -133,14 +98,14 @@ impl<'a> Operands<'a> {
     /// Makes up to so many of the topmost list's last operands single ones.
     fn lower(&mut self, most: usize) -> Result<(), AllocError>
         requires kept { IsKept self.old }
-        requires some { 0 < vec_len self.old.lists }
+        requires some { 0 < length (spreads self.old.lists) }
         requires more { 0 < most }
         ensures same { flat self.new ≡ flat self.old }
         ensures kept { IsKept self.new }
-        ensures fewer { OnOk result (self.new.listed + vec_len self.new.lists < self.old.listed + vec_len self.old.lists) }
+        ensures fewer { OnOk result (self.new.listed + length (spreads self.new.lists) < self.old.listed + length (spreads self.old.lists)) }
         ensures err { OnErr result (AreSame self.old self.new) }
     {
-        let list = self.lists[self.lists.len() - 1];
+        let list = self.lists.topmost();
         let count = list.types.len();
         let left = if most < count { count - most } else { 0 };
         insert_all(
@@ -149,7 +114,7 @@ impl<'a> Operands<'a> {
             list.below,
             &list.types[left..],
         )?;
-        shorten(&mut self.lists, left);
+        self.lists.shorten(left);
         self.listed -= count - left;
         Ok(())
     }
@@ -162,8 +127,9 @@ impl<'a> Operands<'a> {
         ensures seen { IsSeen base unknown self.new }
         ensures room { KeepsRoom self.old self.new }
         ensures listed { self.new.listed ≡ self.old.listed }
+        ensures lists { length (spreads self.new.lists) ≡ length (spreads self.old.lists) }
     {
-        let floor = floor(&self.lists);
+        let floor = self.lists.floor();
         if floor + self.listed <= base {
             self.start = base - self.listed;
             self.unknown = unknown;
@@ -211,19 +177,19 @@ impl<'a> Operands<'a> {
     #[inline(never)]
     fn cut_list(&mut self, height: usize)
         requires kept { IsKept self.old }
-        requires above { height < floor_of (reverse self.old.lists.items) + self.old.listed }
+        requires above { height < floor_of (reverse (spreads self.old.lists)) + self.old.listed }
         ensures same { take height (flat self.new) ≡ take height (flat self.old) }
         ensures within { height ≤ length (flat self.new) }
         ensures kept { IsKept self.new }
-        ensures fewer { self.new.listed + vec_len self.new.lists < self.old.listed + vec_len self.old.lists }
+        ensures fewer { self.new.listed + length (spreads self.new.lists) < self.old.listed + length (spreads self.old.lists) }
         ensures room { KeepsRoom self.old self.new }
     {
-        let list = self.lists[self.lists.len() - 1];
+        let list = self.lists.topmost();
         let count = list.types.len();
         let lowest = list.below + (self.listed - count);
         let left = if lowest < height { height - lowest } else { 0 };
         self.singles.truncate(list.below);
-        shorten(&mut self.lists, left);
+        self.lists.shorten(left);
         self.listed -= count - left;
     }
 
@@ -235,7 +201,7 @@ impl<'a> Operands<'a> {
         ensures kept { IsKept self.new }
         ensures room { KeepsRoom self.old self.new }
     {
-        while height < floor(&self.lists) + self.listed {
+        while height < self.lists.floor() + self.listed {
             self.cut_list(height);
         }
         self.singles.truncate(height - self.listed);
@@ -250,10 +216,10 @@ impl<'a> Operands<'a> {
         if types < LONG {
             return self.singles.reserve(types);
         }
-        if MOST_LISTED - self.listed < types {
+        if MOST_LISTED - self.listed < types || MOST_BELOW < self.singles.len() {
             return Err(AllocError);
         }
-        self.lists.reserve(1)
+        self.lists.reserve()
     }
 
     /// Puts operands of the types on top, for which there is room.
@@ -267,11 +233,7 @@ impl<'a> Operands<'a> {
             put_all(&mut self.singles, types);
             return;
         }
-        let list = Spread {
-            types,
-            below: self.singles.len(),
-        };
-        self.lists.push_reserved(list);
+        self.lists.push(types, self.singles.len());
         self.listed += types.len();
         self.start = self.singles.len();
         self.unknown = false;

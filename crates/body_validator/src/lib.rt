@@ -6,6 +6,7 @@ mod check;
 mod instruction_types;
 mod kept;
 mod laws;
+mod lists;
 mod locals;
 mod operands;
 mod scope;

@@ -86,6 +86,7 @@ pub fn remove(operands: &mut Vec<Operand>, base: usize, count: usize)
     ensures above { base ≤ vec_len operands.new }
     ensures room { vec_capacity operands.new ≡ vec_capacity operands.old }
     ensures fewer { vec_len operands.new ≤ vec_len operands.old }
+    ensures taken { base + count ≤ vec_len operands.old → vec_len operands.new + count ≡ vec_len operands.old }
 {
     let height = operands.len();
     if height - base < count {
@@ -160,6 +161,7 @@ impl From<AllocError> for Stop {
 #[inline(always)]
 fn make_room(operands: &mut Vec<Operand>, more: usize) -> Result<(), AllocError>
     ensures items { operands.new.items ≡ operands.old.items }
+    ensures len { vec_len operands.new ≡ vec_len operands.old }
     ensures room { OnOk result (vec_len operands.new + more ≤ vec_capacity operands.new) }
 {
     if more <= operands.capacity() - operands.len() {
@@ -168,7 +170,24 @@ fn make_room(operands: &mut Vec<Operand>, more: usize) -> Result<(), AllocError>
     operands.reserve(more)
 }
 
-/// Takes operands from those above the base, and puts others in their place.
+/// Makes room for so many operands in place of those that are taken. Where no more are given than taken there is some.
+#[inline(always)]
+fn make_room_after(
+    operands: &mut Vec<Operand>,
+    taken: usize,
+    given: usize,
+) -> Result<(), AllocError>
+    ensures items { operands.new.items ≡ operands.old.items }
+    ensures len { vec_len operands.new ≡ vec_len operands.old }
+    ensures room { OnOk result (vec_len operands.new + given ≤ vec_capacity operands.new + taken) }
+{
+    if given <= taken {
+        return Ok(());
+    }
+    make_room(operands, given)
+}
+
+/// Takes operands from those above the base, which has as many above it, and puts others in their place.
 #[inline(always)]
 pub fn exchange(
     operands: &mut Vec<Operand>,
@@ -177,7 +196,7 @@ pub fn exchange(
     taken: Taken<'_>,
     given: &[ValType],
 ) -> Result<(), Stop>
-    requires { base ≤ vec_len operands.old }
+    requires { base + length (taken_types taken) ≤ vec_len operands.old }
     ensures own { Exchanges unknown base (taken_types taken.entry) (reverse given.now) result
         operands.old.items operands.new.items }
     ensures below { take base operands.new.items ≡ take base operands.old.items }
@@ -186,10 +205,11 @@ pub fn exchange(
     if !finds(&operands[base..], unknown, taken) {
         return Err(Stop::Refused);
     }
-    if make_room(operands, given.len()).is_err() {
+    let count = count_of(taken.types, taken.condition);
+    if make_room_after(operands, count, given.len()).is_err() {
         return Err(Stop::NoMemory);
     }
-    remove(operands, base, count_of(taken.types, taken.condition));
+    remove(operands, base, count);
     put_all(operands, given);
     Ok(())
 }

@@ -109,6 +109,8 @@ fn taken_by_label<'a>(frame: Frame<'a>) -> &'a [ValType]
 pub struct Stack<'a> {
     frames: Vec<Frame<'a>>,
     operands: Operands<'a>,
+    /// Whether this point is reachable, as the innermost frame has it.
+    live: bool,
 }
 
 impl<'a> Model for Stack<'a> {
@@ -117,12 +119,14 @@ impl<'a> Model for Stack<'a> {
 
     ghost Value = { Frames };
 
-    ghost use Rattle.body_validator.specs.Stacks.{frames_of, IsLaid};
+    ghost use Rattle.std.specs.Prelude.{◌≡◌};
+    ghost use Rattle.body_validator.specs.Stacks.{frames_of, is_live_at, IsLaid};
     ghost use Rattle.body_validator.specs.Kept.{flat, IsSeenFrom};
 
     ghost view = { λ s. frames_of (reverse s.frames.items) (flat s.operands) };
 
-    ghost invariant = { λ s. IsLaid (reverse s.frames.items) (flat s.operands) × IsSeenFrom (reverse s.frames.items) s.operands };
+    ghost invariant = { λ s. IsLaid (reverse s.frames.items) (flat s.operands) × IsSeenFrom (reverse s.frames.items) s.operands
+        × (s.live ≡ is_live_at (reverse s.frames.items)) };
 }
 
 impl<'a> Stack<'a> {
@@ -148,6 +152,7 @@ impl<'a> Stack<'a> {
         Ok(Stack {
             frames,
             operands: Operands::new(alloc),
+            live: true,
         })
     }
 
@@ -173,10 +178,7 @@ impl<'a> Stack<'a> {
     pub fn is_live(&self) -> bool
         ensures { result ≡ is_live self.now }
     {
-        match innermost(&self.frames) {
-            Some(frame) => frame.live,
-            None => false,
-        }
+        self.live
     }
 
     /// Whether an `else` closes the innermost frame.
@@ -245,6 +247,7 @@ impl<'a> Stack<'a> {
             ..frame
         };
         replace_innermost(&mut self.frames, stopped);
+        self.live = false;
         Ok(())
     }
 
@@ -334,6 +337,7 @@ impl<'a> Stack<'a> {
             ..frame
         };
         replace_innermost(&mut self.frames, other);
+        self.live = live;
         Ok(())
     }
 
@@ -357,9 +361,11 @@ impl<'a> Stack<'a> {
         let outer = self.frames.len() - 1;
         self.frames.truncate(outer);
         self.operands.cut(frame.base);
+        self.live = false;
         if let Some(around) = innermost(&self.frames) {
             self.operands.look(around.base, around.unknown);
             self.operands.put(frame.results);
+            self.live = around.live;
         }
         Ok(())
     }

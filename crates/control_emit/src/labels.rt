@@ -23,6 +23,9 @@ use std::alloc::{AllocError, Global};
 use std::marker::Model;
 use wasm_defs::Token;
 
+/// Most bodies have no more jumps to blocks' ends than so many.
+const FIRST_JUMPS: usize = 32;
+
 /// A label that is open. Indices count instruction words from the function's first one.
 #[derive(Clone, Copy)]
 pub struct Open {
@@ -138,6 +141,16 @@ fn jump_before(jumps: &[Jump], start: Option<u32>, last: Option<u32>) -> Option<
         Some(number) => jumps[number as usize].before,
         None => None,
     }
+}
+
+/// Makes room for a jump. Where there is none yet it is for those of most bodies, so that they don't move.
+fn make_room(jumps: &mut Vec<Jump>) -> Result<(), AllocError>
+    ensures { jumps.new.items ≡ jumps.old.items }
+{
+    if jumps.is_empty() {
+        return jumps.reserve(FIRST_JUMPS);
+    }
+    Ok(())
 }
 
 /// So many jumps, or all up to the one that is named, if those are more.
@@ -361,6 +374,7 @@ impl Labels {
         let number = short(self.jumps.len())?;
         let index = self.labels.len() - 1 - label as usize;
         let open = self.labels[index];
+        make_room(&mut self.jumps)?;
         self.jumps.push(Jump {
             place,
             before: open.last_jump,

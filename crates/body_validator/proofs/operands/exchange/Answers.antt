@@ -17,8 +17,8 @@ returns-clause-own c =
     let found : is_some (take_all c.args.unknown params own) ≡ true =
     ap (λ (x : List Operand). is_some (take_all c.args.unknown params (reverse x))) part ∙ sym c.finds.ensures ∙ c.if-not-finds.false in
     let left : own_of c.remove.new.operands.items base ≡ drop (length params) own =
-    c.remove.ensures.own ∙ ap (λ (n : ℕ). drop n (own_of c.make_room.new.operands.items base)) c.count_of.ensures
-    ∙ ap (λ (x : List Operand). drop (length params) (own_of x base)) c.make_room.ensures.items in
+    c.remove.ensures.own ∙ ap (λ (n : ℕ). drop n (own_of c.make_room_after.new.operands.items base)) c.count_of-count.ensures
+    ∙ ap (λ (x : List Operand). drop (length params) (own_of x base)) c.make_room_after.ensures.items in
     let laid = ap (λ (x : List Operand). own_of x base) c.put_all.ensures
     ∙ put_own c.remove.new.operands.items c.args.given.now base (omega (arith, c.remove.new.operands.ok.0))
     ∙ ap (λ (x : List Operand). known given ++ x) left in

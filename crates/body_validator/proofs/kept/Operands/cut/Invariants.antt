@@ -1,5 +1,5 @@
-use Rattle.std.proofs.Common.{◌≡◌, ◌+◌, ◌≤◌, length, take, vec_len}
-use Rattle.body_validator.specs.Kept.{flat, IsKept, KeepsRoom}
+use Rattle.std.proofs.Common.{◌≡◌, ◌+◌, ◌≤◌, length, take}
+use Rattle.body_validator.specs.Kept.{spreads, flat, IsKept, KeepsRoom}
 use Rattle.body_validator.proofs.kept.Operands.cut.Given as goal
 
 abbrev pub invariant-loop-self : goal.invariant-loop-self
@@ -11,4 +11,4 @@ invariant-loop-self l = record {
 }
 
 abbrev pub decreases-loop-self : goal.decreases-loop-self
-decreases-loop-self l = l.self.listed + vec_len l.self.lists
+decreases-loop-self l = l.self.listed + length (spreads l.self.lists)

@@ -1,5 +1,5 @@
-use Rattle.std.proofs.Common.{◌≡◌, ◌+◌, vec_len}
-use Rattle.body_validator.specs.Kept.{flat, IsSeen}
+use Rattle.std.proofs.Common.{◌≡◌, ◌+◌, length}
+use Rattle.body_validator.specs.Kept.{spreads, flat, IsSeen}
 use Rattle.body_validator.proofs.kept.Operands.show_lists.Given as goal
 
 abbrev pub invariant-loop-self : goal.invariant-loop-self
@@ -9,4 +9,4 @@ invariant-loop-self l = record {
 }
 
 abbrev pub decreases-loop-self : goal.decreases-loop-self
-decreases-loop-self l = l.self.listed + vec_len l.self.lists
+decreases-loop-self l = l.self.listed + length (spreads l.self.lists)

@@ -35,4 +35,5 @@ invariant_of-self c =
     let is = last_in c.deref.result.now frames frame c.deref.ensures.value c.in-Some.ensures in (
       laid_again (reverse frames) frame rest (flat s.operands) (flat c.discard.new.self) is c.self.invariant.0 c.discard.ensures.below (base_seen frame.base frame.unknown c.discard.new.self c.discard.ensures.seen),
       seen_from (reverse frames) frame rest c.discard.new.self is c.discard.ensures.seen,
+      c.self.invariant.2,
     )

@@ -2,7 +2,7 @@ use Rattle.std.proofs.Common.{◌≡◌, ◌-◌, ◌++◌, List, ◌∷◌, len
 use Rattle.std.proofs.lemmas.List.{take_at}
 use Rattle.body_validator.specs.declared.stack.Frame.{Frame}
 use Rattle.body_validator.specs.Checking.{Operand, enter, take_all}
-use Rattle.body_validator.specs.Stacks.{signature, own_of}
+use Rattle.body_validator.specs.Stacks.{signature, own_of, is_live_at}
 use Rattle.body_validator.specs.Exchange.{taken_types}
 use Rattle.body_validator.specs.Kept.{flat, AreShown}
 use Rattle.body_validator.proofs.Frames.{last_in, enter_steps, pushed_first}
@@ -78,4 +78,5 @@ invariant_of-self-2 c =
           (taken.1 ∙ ap (take frame.base) same) (base_seen frame.base frame.unknown c.remove.new.self taken.2) front
           (omega (arith, c.height-base.ensures, ap length laid, length-append left params)),
       seen_from (reverse c.push_frame.new.frames.items) g (frame ∷ rest) c.put.new.self later (c.put.ensures.seen g.base false c.look.ensures.seen),
+      c.self.invariant.2 ∙ ap is_live_at is ∙ sym (ap is_live_at later),
     )

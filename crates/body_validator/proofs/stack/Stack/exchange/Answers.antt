@@ -37,4 +37,5 @@ invariant_of-self c =
     let is = last_in c.deref.result.now frames frame c.deref.ensures.value c.in-Some.ensures in (
       laid_again (reverse frames) frame rest (flat s.operands) (flat c.exchange.new.self) is c.self.invariant.0 c.exchange.ensures.below (base_seen frame.base frame.unknown c.exchange.new.self c.exchange.ensures.seen),
       seen_from (reverse frames) frame rest c.exchange.new.self is c.exchange.ensures.seen,
+      c.self.invariant.2,
     )

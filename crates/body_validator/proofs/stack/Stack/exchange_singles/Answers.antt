@@ -15,7 +15,11 @@ invariant_of-self c =
     let p = taken_types c.args.taken in
     let g = reverse c.args.given.now in
     let some : 0 < length frames = omega (arith, c.len.ensures, c.if-len-eq0.false, s.frames.ok.0, length-reverse s.frames.items) in
-    tried_laid frames p g s.operands c.exchange_singles.new.self c.exchange_singles.result some c.self.invariant.0 c.self.invariant.1 c.exchange_singles.ensures
+    let laid = tried_laid frames p g s.operands c.exchange_singles.new.self c.exchange_singles.result some c.self.invariant.0 c.self.invariant.1 c.exchange_singles.ensures in (
+      laid.0,
+      laid.1,
+      c.self.invariant.2,
+    )
 
 pub returns : goal.returns
 returns c =

@@ -1,7 +1,7 @@
 use Rattle.std.proofs.Common.{◌≡◌, [], length, reverse, take, true, ap, subst, ◌∙◌, sym, ◌-◌, List, ◌++◌, map, Some, arith}
 use Rattle.body_validator.specs.Checking.{Operand, ended, closes}
 use Rattle.body_validator.specs.declared.stack.Frame.{Frame}
-use Rattle.body_validator.specs.Stacks.{frame_of, frames_of, IsLaid}
+use Rattle.body_validator.specs.Stacks.{frame_of, frames_of, is_live_at, IsLaid}
 use Rattle.body_validator.specs.Kept.{flat}
 use Rattle.body_validator.proofs.Frames.{last_in, leave_steps, laid_more, laid_below}
 use Rattle.body_validator.proofs.Laying.{flat_same}
@@ -50,4 +50,5 @@ invariant_of-self-in-Some-innermost c =
     let more = laid_more rest (take frame.base items) (map Some frame.results.now) some (laid_below (reverse frames) frame rest items is c.self.invariant.0) in (
       subst (λ (x : List Frame). IsLaid x new) (sym left) (subst (λ (x : List Operand). IsLaid rest x) (sym laid) more),
       seen_from (reverse outer) around (reverse (take (length outer - 1) outer)) c.put.new.self next (c.put.ensures.seen around.base around.unknown c.look.ensures.seen),
+      sym (ap is_live_at next),
     )

@@ -35,4 +35,5 @@ invariant_of-self c =
     let is = last_in c.deref.result.now frames frame c.deref.ensures.value c.in-Some.ensures in (
       laid_again (reverse frames) frame rest (flat s.operands) (flat c.select.new.self) is c.self.invariant.0 c.select.ensures.below (base_seen frame.base frame.unknown c.select.new.self c.select.ensures.seen),
       seen_from (reverse frames) frame rest c.select.new.self is c.select.ensures.seen,
+      c.self.invariant.2,
     )

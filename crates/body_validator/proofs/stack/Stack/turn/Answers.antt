@@ -1,6 +1,6 @@
 use Rattle.std.proofs.Common.{◌≡◌, length, reverse, take, true, false, refl, ap, ◌∙◌, sym, ◌-◌, List, ◌++◌, map, Some, arith}
 use Rattle.body_validator.specs.Checking.{Operand, turned, closes}
-use Rattle.body_validator.specs.Stacks.{is_live_in, frame_of}
+use Rattle.body_validator.specs.Stacks.{is_live_in, is_live_at, frame_of}
 use Rattle.body_validator.specs.Kept.{flat}
 use Rattle.body_validator.specs.declared.stack.Frame.{Frame}
 use Rattle.body_validator.specs.declared.stack.Opening.TheVariants.{Else}
@@ -44,4 +44,5 @@ invariant_of-self-2 c =
     let below = put_below items (map Some frame.params.now) (flat c.put.new.self) frame.base within laid in (
       laid_with (reverse frames) after frame g rest items (flat c.put.new.self) is c.replace_innermost.ensures refl c.self.invariant.0 below.0 below.1,
       seen_from after g rest c.put.new.self c.replace_innermost.ensures (c.put.ensures.seen frame.base false c.look.ensures.seen),
+      sym (ap is_live_at c.replace_innermost.ensures),
     )

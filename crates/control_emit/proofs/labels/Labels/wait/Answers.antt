@@ -23,7 +23,7 @@ invariant_of-self-2 c =
     let new : Open = record l { last_jump = Some c.in_ok-number.number } in
     let all : AreKept (length (js ++ j ∷ [])) (set items i new) =
     kept-set (length (js ++ j ∷ [])) items i new (kept-later (length js) (length (js ++ j ∷ [])) items (omega arith) c.self.invariant.0) (kept.0, omega arith) in
-    rw c.in_ok-push.ensures.items (all, linked-push js j c.self.invariant.1 kept.1)
+    rw (c.in_ok-push.ensures.items, c.make_room.ensures) (all, linked-push js j c.self.invariant.1 kept.1)
 
 pub returns-clause-ok : goal.returns-clause-ok
 returns-clause-ok c =
@@ -36,7 +36,7 @@ returns-clause-ok c =
     let at : i + c.args.label + 1 ≡ length items = omega (arith, c.requires) in
     let own : c.in_ok-number.number ≡ length js = omega (arith, c.in_ok-number.ensures, c.len.ensures, c.self.inside.jumps.ok.0) in
     let n = c.in_ok-place.place in
-    ap (λ (x : List Jump). pending_in x (set items i (record l { last_jump = Some c.in_ok-number.number }))) c.in_ok-push.ensures.items
+    ap (λ (x : List Jump). pending_in x (set items i (record l { last_jump = Some c.in_ok-number.number }))) (c.in_ok-push.ensures.items ∙ ap (λ (x : List Jump). x ++ record { place = n; before = l.last_jump } ∷ []) c.make_room.ensures)
     ∙ ap (λ (k : ℕ). pending_in (js ++ record { place = n; before = l.last_jump } ∷ []) (set items i (record l { last_jump = Some k }))) own
     ∙ waiting js items i c.args.label n l at c.index-open.ensures c.self.invariant.0
     ∙ ap (jumping n c.args.label) c.self.view_is
