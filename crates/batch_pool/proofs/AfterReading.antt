@@ -4,6 +4,7 @@ use mathlib.Core.List.{map-append}
 use Rattle.batch_pool.proofs.Served.{keys-append}
 use Rattle.std.proofs.lemmas.List.Elements.{All-append}
 use Rattle.index_spaces.specs.Spaces.{Spaces}
+use Rattle.result_cells.specs.Rooms.{Store}
 use Rattle.cancel_drain.specs.declared.view.View.{View}
 use Rattle.cancel_drain.specs.Handles.{Site, Sitter}
 use Rattle.body_compiler.specs.declared.batch.row.Row.{Row}
@@ -14,7 +15,7 @@ use Rattle.batch_pool.specs.Desks.{IsDesk, IsIdle, HasRead}
 use Rattle.batch_pool.specs.Gathering.{Gathers}
 use Rattle.batch_pool.specs.Settling.{AreKept}
 
-module _ (c : Spaces) (cells : List ℕ) where
+module _ (c : Spaces) (cells : Store) where
   -- the rows of the workers that couldn't be started, and of the others
   rows_right : (v w x y : View) (rows more : List Row) → Gathers c cells v w [] rows → Gathers c cells x y rows more → All (IsRowOf c cells) more
   rows_right v w x y rows more a b =

@@ -11,6 +11,7 @@ use Rattle.body_compiler.specs.BatchRows.{IsRowOf}
 use Rattle.batch_pool.specs.Working.{IsWorked, place_of, keys_of}
 use Rattle.batch_pool.proofs.Served.{adds_same, adds_trans}
 use Rattle.index_spaces.specs.Spaces.{Spaces}
+use Rattle.result_cells.specs.Rooms.{Store}
 use Rattle.batch_pool.specs.declared.scope.labour.Labour.{Labour}
 use Rattle.batch_pool.specs.Gathering.{IsFresh, Gathers, AreOf}
 
@@ -18,7 +19,7 @@ or_false : (b : Bool) → (b || false) ≡ b
 or_false true = refl
 or_false false = refl
 
-module _ (c : Spaces) (cells : List ℕ) where
+module _ (c : Spaces) (cells : Store) where
   pub gathers_same : (v : View) (rows : List Row) → Gathers c cells v v rows rows
   gathers_same v rows = record { adds = adds_same c cells v rows; running = refl }
 
@@ -65,6 +66,6 @@ module _ (c : Spaces) (cells : List ℕ) where
       omega arith
 
 -- the promise of a seat that was split off
-pub are_of : (spaces : Spaces) (cells : List ℕ) (table : TableId) (p q : Labour) (s : Sitter) (seen : ℕ) → p ≡ q → q.context.now ≡ spaces → q.cells.now ≡ cells → q.seat.value ≡ s
+pub are_of : (spaces : Spaces) (cells : Store) (table : TableId) (p q : Labour) (s : Sitter) (seen : ℕ) → p ≡ q → q.context.now ≡ spaces → q.cells.now ≡ cells → q.seat.value ≡ s
     → s.table ≡ table → s.view ≡ record spent_view { parts = 1; seen = seen } → AreOf spaces cells table p
 are_of spaces cells table p q s seen same a b e t v = subst (AreOf spaces cells table) (sym same) (a, b, (ap (λ (x : Sitter). x.table) e ∙ t, (seen, ap (λ (x : Sitter). x.view) e ∙ v)))

@@ -4,6 +4,7 @@ use mathlib.Core.Logic.{dite}
 use Rattle.std.proofs.lemmas.List.Elements.{Contains-append_right}
 use native.Mathlib.Decide.{ℕ_discrete}
 use Rattle.index_spaces.specs.Spaces.{Spaces}
+use Rattle.result_cells.specs.Rooms.{Store}
 use Rattle.cancel_drain.specs.declared.view.View.{View}
 use Rattle.cancel_drain.specs.Closing.{IsTried}
 use Rattle.cancel_drain.specs.Views.{times}
@@ -16,7 +17,7 @@ use Rattle.batch_pool.specs.Settling.{IsKept, AreKept}
 pub length_step : {X : Type 0} (xs ys : List X) (x : X) (m n : ℕ) → xs ≡ x ∷ ys → n + 1 ≡ m → length xs ≡ m → length ys ≡ n
 length_step xs ys x m n e f g = let l : length xs ≡ suc (length ys) = ap length e in omega arith
 
-module _ (c : Spaces) (cells : List ℕ) (functions : ℕ) where
+module _ (c : Spaces) (cells : Store) (functions : ℕ) where
   -- a batch was served
   pub record IsDoneWith (published : List ℕ) (v0 v : View) (b : ℕ) : Type 0 where
     pub ticket : Ticket

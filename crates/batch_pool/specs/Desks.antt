@@ -2,6 +2,7 @@
 use Rattle.std.specs.Prelude.{◌≡◌, ◌⊎◌, ℕ, ◌-◌, ◌<◌, ◌≤◌, true, List, [], ◌∷◌, ◌++◌, length, map, slice_index, All}
 use Rattle.std.specs.Arc.{arc_value}
 use Rattle.index_spaces.specs.Spaces.{Spaces}
+use Rattle.result_cells.specs.Rooms.{Store}
 use Rattle.body_cutter.specs.declared.batch.Batch.{Batch}
 use Rattle.body_compiler.specs.declared.batch.row.Row.{Row}
 use Rattle.batch_pool.specs.declared.ticket.Ticket.{Ticket}
@@ -60,7 +61,7 @@ pub record IsAsBefore (d d' : Desk) : Type 0 where
 
 -- The last seat has what all others knew and as many parts as at first, the tickets are those of the batches that were published, and the
 -- rows are right: they are those of the batches that were done since then, each once, and the errors that were reported are theirs
-pub record HasRead (c : Spaces) (cells : List ℕ) (board : Site) (first : View) (seat : Sitter) (kept : List Ticket) (rows : List Row) : Type 0 where
+pub record HasRead (c : Spaces) (cells : Store) (board : Site) (first : View) (seat : Sitter) (kept : List Ticket) (rows : List Row) : Type 0 where
   pub table : seat.table ≡ board.table
   pub feeder : seat.view.feeder ≡ true
   pub running : seat.view.running ≡ []

@@ -2,6 +2,7 @@
 use Rattle.std.specs.Prelude.{◌≡◌, ◌⊎◌, ℕ, ◌<◌, ◌≤◌, List, [], length, map, slice_index, All, Contains, Option, None, MatchOption}
 use Rattle.wasm_defs.specs.declared.fault.Refusal.{Refusal}
 use Rattle.index_spaces.specs.Spaces.{Spaces}
+use Rattle.result_cells.specs.Rooms.{Store}
 use Rattle.cancel_drain.specs.declared.view.View.{View}
 use Rattle.cancel_drain.specs.Handles.{Site, Sitter}
 use Rattle.cancel_drain.specs.Keys.{key_of}
@@ -24,7 +25,7 @@ HasRow last least rows b =
     (rows_at b s rows ≡ 1) ⊎ ((rows_at b s rows ≡ 0) × (times b s last.drained ≡ 1) × IsFaultBefore least s)
 
 -- all rows of the batches that were published
-pub record AreComplete (c : Spaces) (cells : List ℕ) (last : View) (least : Option Refusal) (rows : List Row) : Type 0 where
+pub record AreComplete (c : Spaces) (cells : Store) (last : View) (least : Option Refusal) (rows : List Row) : Type 0 where
   pub right : All (IsRowOf c cells) rows
   pub each : (b : ℕ) → b < length last.published → HasRow last least rows b
   -- where no error was reported, no row is missing
@@ -38,7 +39,7 @@ pub record AreComplete (c : Spaces) (cells : List ℕ) (last : View) (least : Op
 -- first clause and `settle` the others
 abbrev pub RowsAreComplete : Type 0
 RowsAreComplete =
-    (c : Spaces) (cells : List ℕ) (board : Site) (first last : View) (seat : Sitter) (kept : List Ticket) (made rows : List Row) (least : Option Refusal) (states : List ℕ)
+    (c : Spaces) (cells : Store) (board : Site) (first last : View) (seat : Sitter) (kept : List Ticket) (made rows : List Row) (least : Option Refusal) (states : List ℕ)
     → (first.done ≡ []) × (first.reported ≡ [])
     → HasRead c cells board first seat kept made
     → Grows c cells seat.view last made rows

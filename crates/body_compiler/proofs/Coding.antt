@@ -7,6 +7,7 @@ use Rattle.wasm_defs.specs.declared.fault.Refusal.{Refusal}
 use Rattle.wasm_defs.specs.Bodies.{body_read}
 use Rattle.wasm_defs.specs.Instances.{first_minimum}
 use Rattle.index_spaces.specs.Spaces.{Spaces, context_in}
+use Rattle.result_cells.specs.Rooms.{Store}
 use Rattle.wasm_laws.proofs.Verdicts.{code_fault_inside}
 use Rattle.body_cutter.specs.declared.body.Body.{Body}
 use Rattle.body_compiler.specs.declared.code.BodyStop.TheVariants.{Refused}
@@ -22,7 +23,7 @@ pub fault_inside : (c : Spaces) (b : Body) (r : Refusal) → IsLowBody b → Com
 fault_inside c b r low fault = let some = low.some in
     (code_fault_inside (context_of_body (context_in c) b.index (body_read (is_some c.data_count) b.first b.bytes)) (record { counted = is_some c.data_count; size = b.size; first = b.first; bytes = b.bytes }) r (omega arith) fault).1
 
-module _ (c : Spaces) (cells : List ℕ) where
+module _ (c : Spaces) (cells : Store) where
   pub codes_push : (bs : List Body) (ks : List RowCode) (b : Body) (k : RowCode) → AreCodesFor c cells bs ks → IsCodeFor c cells b k → AreCodesFor c cells (bs ++ b ∷ []) (ks ++ k ∷ [])
   codes_push [] [] b k are is = (is, tt)
   codes_push [] (x ∷ ks) b k are is = absurd are

@@ -14,6 +14,7 @@ use Rattle.wasm_defs.specs.Limits.{max_text}
 use Rattle.wasm_defs.specs.Instances.{first_minimum}
 use Rattle.rv_isa.specs.declared.compiled.Code.{Code}
 use Rattle.index_spaces.specs.Spaces.{Spaces, context_in}
+use Rattle.result_cells.specs.Rooms.{Store}
 use Rattle.body_cutter.specs.declared.batch.Batch.{Batch}
 use Rattle.body_cutter.specs.declared.body.Body.{Body}
 use Rattle.body_cutter.specs.Cuttings.{Cutting, Takes}
@@ -28,7 +29,7 @@ use Rattle.module_stream.specs.Progress.{TakesBody, TakesCode, KeepsLimit}
 use Rattle.module_stream.proofs.Cutting.{closed_taken}
 
 -- the codes of a row are those of its first bodies
-module _ (c : Spaces) (cells : List ℕ) where
+module _ (c : Spaces) (cells : Store) where
   codes_front : (bodies more : List Body) (codes : List RowCode) → AreCodesFor c cells bodies codes → AreFront c cells (bodies ++ more) codes
   codes_front [] more [] are = tt
   codes_front [] more (k ∷ codes) are = absurd are
@@ -50,7 +51,7 @@ module _ (c : Spaces) (cells : List ℕ) where
   same_front bodies others codes fault e is = subst (λ (l : List Body). AreFront c cells l codes) e (row_front others codes fault is)
 
 -- the code of the body that comes next
-module _ (c : Spaces) (cells : List ℕ) (bodies rest : List Body) (b : Body) (step : bodies ≡ b ∷ rest) where
+module _ (c : Spaces) (cells : Store) (bodies rest : List Body) (b : Body) (step : bodies ≡ b ∷ rest) where
   pub next_made : (r : Option RowCode) (made left : List RowCode) → made ≡ left ++ option_to_list r → (r ≡ None → left ≡ []) → AreFront c cells bodies (reverse made) → IfSome r (IsCodeFor c cells b)
   next_made None made left popped none are = tt
   next_made (Some k) made left popped none are = (split k made left popped are).0
@@ -64,7 +65,7 @@ module _ (c : Spaces) (cells : List ℕ) (bodies rest : List Body) (b : Body) (s
       (subst (λ (z : List Body × List RowCode). AreFront c cells z.0 z.1) (λ i. (step i, (ap reverse popped ∙ reverse-append left (k ∷ [])) i)) are).1
 
 -- a code that was made of it
-pub made_for : (spaces : Spaces) (cells : List ℕ) (n index : ℕ) (body : Body) (k : RowCode) → index ≡ spaces.imported + n → body.index ≡ index → IsCodeFor spaces cells body k
+pub made_for : (spaces : Spaces) (cells : Store) (n index : ℕ) (body : Body) (k : RowCode) → index ≡ spaces.imported + n → body.index ≡ index → IsCodeFor spaces cells body k
     → (code : Code) × Stores cells index k.stored code × TakesBody spaces n body (Ok code)
 made_for spaces cells n index body k is same made = (
   made.code,
@@ -113,7 +114,7 @@ kept_all kept closed all none e = sym (append-nil kept) ∙ ap (λ (l : List Bod
 
 -- ---- what a row has
 
-module _ (c : Spaces) (cells : List ℕ) where
+module _ (c : Spaces) (cells : Store) where
   pub reversed_front : (bodies others : List Body) (codes made : List RowCode) (fault : Option Refusal) → others ≡ bodies → made ≡ reverse codes → IsRow c cells others codes fault → AreFront c cells bodies (reverse made)
   reversed_front bodies others codes made fault e turned is =
       subst (λ (l : List RowCode). AreFront c cells bodies l) (sym (ap reverse turned ∙ reverse-reverse codes)) (same_front c cells bodies others codes fault e is)

@@ -4,6 +4,7 @@ use Rattle.std.specs.Arc.{arc_value}
 use Rattle.std.specs.declared.alloc.Global.{Global}
 use Rattle.std.specs.declared.sync.Arc.{Arc}
 use Rattle.index_spaces.specs.Spaces.{Spaces}
+use Rattle.result_cells.specs.Rooms.{Store}
 use Rattle.body_cutter.specs.declared.batch.Batch.{Batch}
 use Rattle.body_cutter.specs.declared.body.Body.{Body}
 use Rattle.body_compiler.specs.declared.batch.row.RowCode.{RowCode}
@@ -15,7 +16,7 @@ kept_bodies [] = []
 kept_bodies (b ∷ kept) = (arc_value b).bodies ++ kept_bodies kept
 
 -- the first bodies have these codes
-abbrev pub AreFront : Spaces → List ℕ → List Body → List RowCode → Type 0
+abbrev pub AreFront : Spaces → Store → List Body → List RowCode → Type 0
 AreFront c cells bodies [] = Unit {0}
 AreFront c cells [] (k ∷ codes) = ⊥
 AreFront c cells (b ∷ bodies) (k ∷ codes) = IsCodeFor c cells b k × AreFront c cells bodies codes

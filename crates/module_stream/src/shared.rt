@@ -87,9 +87,9 @@ fn take_stored(
 {
     match stored {
         Stored::Judged(words) => take_counted(alloc, spaces, codes, body, words),
-        Stored::NoRoom(words) => take_counted(alloc, spaces, codes, body, words),
-        Stored::Apart(_, code) => share_code(spaces, codes, body, code),
-        Stored::Cell(mut note) => match cells.get(index, &mut note) {
+        Stored::NoRoom(words, _) => take_counted(alloc, spaces, codes, body, words),
+        Stored::Apart(_, _, code) => share_code(spaces, codes, body, code),
+        Stored::Cell(mut note, _) => match cells.get(index, &mut note) {
             Some(code) => match Arc::try_clone(code) {
                 Ok(code) => share_code(spaces, codes, body, code),
                 Err(_) => Err(FrontStop::NoMemory),

@@ -49,7 +49,7 @@ fn first_code_stays(rt: HostRuntime) -> Result<(), Fail> {
 
 // Whether this thread's code is the one that is held.
 fn offer(cells: &Cells, mine: Arc<Code, Global>) -> Result<bool, AllocError>
-    requires { 0 < length cells.now }
+    requires { 0 < length cells.now.names }
 {
     let mut note = cells.note(0);
     let put = cells.put(0, &mut note, &mine)?;
@@ -66,10 +66,10 @@ fn one_of_two_is_held(rt: HostRuntime) -> Result<(), Fail> {
     let (first, second) = thread::join(
         &rt,
         move ||
-            requires { 0 < length shared.now }
+            requires { 0 < length shared.now.names }
         { offer(shared, one) },
         move ||
-            requires { 0 < length shared.now }
+            requires { 0 < length shared.now.names }
         { offer(shared, two) },
     );
     assert!(rt; first? != second?);
@@ -80,9 +80,9 @@ fn one_of_two_is_held(rt: HostRuntime) -> Result<(), Fail> {
 fn room_is_taken_while_as_much_is_left(rt: HostRuntime) -> Result<(), Fail> {
     let alloc: Global = rt.alloc();
     let cells = Cells::new(alloc, 2, 3)?;
-    assert!(rt; cells.take_room(2));
-    assert!(rt; !cells.take_room(2));
-    assert!(rt; cells.take_room(1));
-    assert!(rt; !cells.take_room(u64::MAX));
+    assert!(rt; cells.take_room(2).is_ok());
+    assert!(rt; cells.take_room(2).is_err());
+    assert!(rt; cells.take_room(1).is_ok());
+    assert!(rt; cells.take_room(u64::MAX).is_err());
     Ok(())
 }

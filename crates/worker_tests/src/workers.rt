@@ -112,10 +112,10 @@ fn push_row(alloc: Global, text: &mut String, row: &Row) -> Result<(), Fail> {
     text.push_str(told.as_str())?;
     for code in row.codes.as_slice() {
         let told = match code.stored {
-            Stored::Cell(_) => format!(in alloc; ", in its cell")?,
-            Stored::Apart(_, _) => format!(in alloc; ", apart")?,
+            Stored::Cell(_, _) => format!(in alloc; ", in its cell")?,
+            Stored::Apart(_, _, _) => format!(in alloc; ", apart")?,
             Stored::Judged(words) => format!(in alloc; ", {words} words judged")?,
-            Stored::NoRoom(words) => format!(in alloc; ", {words} words without room")?,
+            Stored::NoRoom(words, _) => format!(in alloc; ", {words} words without room")?,
             Stored::TooLong => format!(in alloc; ", too long")?,
         };
         text.push_str(told.as_str())?;

@@ -2,7 +2,7 @@
 ghost use Rattle.std.specs.Prelude.{◌≡◌, ◌+◌, ◌<◌, ◌^◌, All, IfOk, IsSome, length};
 ghost use Rattle.std.specs.Arc.{arc_value};
 ghost use Rattle.body_compiler.specs.LowBatches.{IsLow, IsLowBody};
-ghost use Rattle.body_compiler.specs.BatchRows.{IsMade, IsRow, IsRowOf, FitsBody, Stores};
+ghost use Rattle.body_compiler.specs.BatchRows.{IsMade, IsRow, IsRowOf, IsRoomFor, FitsBody, Stores};
 
 use crate::batch::row::{Row, RowCode, RowCodes, Stored};
 use crate::code::BodyStop;
@@ -10,7 +10,7 @@ use crate::compiling::compile;
 use crate::fitting::fitted;
 use body_cutter::{Batch, Body};
 use index_spaces::Context;
-use result_cells::{Cells, Put};
+use result_cells::{Cells, Put, Reservation};
 use rv_isa::Code;
 use std::alloc::{AllocError, Global};
 use std::collections::LinkedList;
@@ -24,8 +24,28 @@ pub enum Made {
     Faulty(Refusal),
 }
 
-/// Puts a code into the cell of its function, or keeps it apart where that cell holds another one. Where the function has no cell,
-/// or the cells have no room left for the code, its instruction words are counted.
+/// Puts a code into the cell of its function, or keeps it apart where that cell holds another one. Room for its words was taken.
+fn keep(
+    alloc: Global,
+    cells: &Cells,
+    index: u32,
+    code: Code,
+    taken: Reservation,
+) -> Result<Stored, AllocError>
+    requires index { index < length cells.now.names }
+    requires room { IsRoomFor cells.now taken code }
+    ensures { IfOk result (λ s. Stores cells.now index s code) }
+{
+    let code = Arc::new(alloc, fitted(code))?;
+    let mut note = cells.note(index);
+    Ok(match cells.put(index, &mut note, &code)? {
+        Put::Placed => Stored::Cell(note, taken),
+        Put::Clash(_) => Stored::Apart(note, taken, code),
+    })
+}
+
+/// Keeps a code where the cells have room for its instruction words. Where they have not, or its function has no cell, the words are
+/// counted.
 fn store(alloc: Global, cells: &Cells, index: u32, code: Code) -> Result<Stored, AllocError>
     ensures { IfOk result (λ s. Stores cells.now index s code) }
 {
@@ -33,15 +53,10 @@ fn store(alloc: Global, cells: &Cells, index: u32, code: Code) -> Result<Stored,
     if index >= cells.count() {
         return Ok(Stored::Judged(words));
     }
-    if !cells.take_room(words) {
-        return Ok(Stored::NoRoom(words));
+    match cells.take_room(words) {
+        Ok(taken) => keep(alloc, cells, index, code, taken),
+        Err(short) => Ok(Stored::NoRoom(words, short)),
     }
-    let code = Arc::new(alloc, fitted(code))?;
-    let mut note = cells.note(index);
-    Ok(match cells.put(index, &mut note, &code)? {
-        Put::Placed => Stored::Cell(note),
-        Put::Clash(_) => Stored::Apart(note, code),
-    })
 }
 
 /// Compiles a body, and stores its code unless that is too long for any text.

@@ -1,6 +1,6 @@
 //! What comes of a batch.
 use body_cutter::Batch;
-use result_cells::CellNote;
+use result_cells::{CellNote, Reservation, Shortage};
 use rv_isa::Code;
 use std::alloc::Global;
 use std::sync::Arc;
@@ -9,14 +9,14 @@ use wasm_defs::{Refusal, Sequence};
 /// What a row keeps of a body's code.
 #[derive(Drop)]
 pub enum Stored {
-    /// The code is in the cell of the body's function, and the note knows it.
-    Cell(CellNote),
-    /// The code, and a note of that cell, which knows that it holds another one.
-    Apart(CellNote, Arc<Code, Global>),
+    /// The code is in the cell of the body's function, and the note knows it. Room for its words was taken.
+    Cell(CellNote, Reservation),
+    /// The code, and a note of that cell, which knows that it holds another one. Room for its words was taken.
+    Apart(CellNote, Reservation, Arc<Code, Global>),
     /// How many instruction words the code has: the function has no cell, so the body was only validated.
     Judged(u64),
-    /// How many instruction words the code has: the codes that are kept left no room for this one, so the body was only validated.
-    NoRoom(u64),
+    /// How many instruction words the code has: the codes that are kept left fewer, so the body was only validated.
+    NoRoom(u64, Shortage),
     /// The instruction words of the code are more than a text may have: it isn't kept.
     TooLong,
 }

@@ -1,0 +1,29 @@
+use Rattle.std.proofs.Common.{◌≡◌, ◌-◌, rules, arith, refl, ap, ◌∙◌}
+use Rattle.result_cells.specs.Views.{seen_view}
+use Rattle.result_cells.proofs.Kept.{looks_kept, tries_kept, missed, lowered, granted}
+use Rattle.result_cells.proofs.room.Room.take.Goals as goal
+
+pub load_new_seat-left-requires : goal.load_new_seat-left-requires
+load_new_seat-left-requires c = (search rules, looks_kept _ _ (seen_view 0))
+
+pub compare_exchange-found-requires : goal.compare_exchange-found-requires
+compare_exchange-found-requires c = (search rules, search rules, tries_kept _ _ _ _ _ _ (omega arith))
+
+pub loop-left-preserved : goal.loop-left-preserved
+loop-left-preserved c = (
+  c.compare_exchange-found.ensures.0 ∙ c.loop-left.invariant.0,
+  missed c.loop-left.place.me c.compare_exchange-found.new.seat.me c.loop-left.left (c.loop-left.left - c.args.words) c.compare_exchange-found.result c.loop-left.invariant.1 c.compare_exchange-found.ensures.2 c.if-found-left.false,
+)
+
+pub loop-left-smaller : goal.loop-left-smaller
+loop-left-smaller c =
+    lowered c.loop-left.place.me c.compare_exchange-found.new.seat.me c.loop-left.left (c.loop-left.left - c.args.words) c.compare_exchange-found.result c.loop-left.invariant.1 c.compare_exchange-found.ensures.2 c.if-found-left.false
+
+pub returns-then-found-left-clause-taken : goal.returns-then-found-left-clause-taken
+returns-then-found-left-clause-taken c = (
+  search rules,
+  granted c.loop-left.place.me c.compare_exchange-found.new.seat.me c.loop-left.left (c.loop-left.left - c.args.words) c.compare_exchange-found.result c.loop-left.invariant.1 c.compare_exchange-found.ensures.2 c.args.words (omega arith) refl c.if-found-left.true,
+)
+
+pub returns-clause-short : goal.returns-clause-short
+returns-clause-short c = let seen : c.loop-left.place.me.0.seen ≡ c.loop-left.left = ap (λ m. m.0.seen) c.loop-left.invariant.1 in (search rules, omega arith)
