@@ -1,5 +1,5 @@
 -- What the compiling of bytes in memory comes to.
-use Rattle.std.proofs.Common.{◌≡◌, ℕ, false, List, ◌++◌, Some, sym, ap, subst, ◌∙◌}
+use Rattle.std.proofs.Common.{◌≡◌, ℕ, false, List, ◌++◌, Option, Some, sym, ap, subst, ◌∙◌}
 use Rattle.wasm_defs.specs.declared.fault.Refusal.{Refusal}
 use Rattle.wasm_defs.specs.Faults.{Rejected}
 use Rattle.image_linker.specs.Judging.{IsVerdictOf}
@@ -10,11 +10,11 @@ use Rattle.embedding.specs.declared.compiling.Compiled.TheVariants as compiled
 use Rattle.embedding.specs.Modules.{IsCompiled}
 
 -- all bytes came
-all_came : (bytes rest came : List ℕ) → ReadStatus (Some bytes) (Some rest) false came → came ≡ bytes
-all_came bytes rest came (read, more, is_read, more_is, both) =
+all_came : (closing : Option ℕ) (bytes rest came : List ℕ) → ReadStatus closing (Some bytes) (Some rest) false came → came ≡ bytes
+all_came closing bytes rest came (read, more, is_read, more_is, both) =
     let taken : Some bytes ≡ Some (read ++ rest) = is_read.taken in
     let same : bytes ≡ read ++ rest = cc in
     both ∙ ap (λ (l : List ℕ). read ++ l) more_is ∙ sym same
 
-pub refused_done : (bytes rest : List ℕ) (r : Refusal) → CompilesSource false (Some bytes) (Some rest) (answer.Refused r) → IsCompiled bytes (compiled.Refused r)
-refused_done bytes rest r (came, is_came, refused) = subst (λ (l : List ℕ). IsVerdictOf l (Rejected r)) (all_came bytes rest came is_came) refused
+pub refused_done : (closing : Option ℕ) (bytes rest : List ℕ) (r : Refusal) → CompilesSource closing false (Some bytes) (Some rest) (answer.Refused r) → IsCompiled bytes (compiled.Refused r)
+refused_done closing bytes rest r (came, is_came, refused) = subst (λ (l : List ℕ). IsVerdictOf l (Rejected r)) (all_came closing bytes rest came is_came) refused

@@ -50,7 +50,7 @@ finished_begun q Whole h = refl
 finished_begun q (Faulty r) h = refl
 finished_begun q Owed h = absurd (h refl)
 
-left_begun : (c : Cutting) (more : List ℕ) → ((left c more).ending ≡ Owed → ⊥) → (left c more).queue.begun ≡ []
+pub left_begun : (c : Cutting) (more : List ℕ) → ((left c more).ending ≡ Owed → ⊥) → (left c more).queue.begun ≡ []
 unfolding left
 left_begun c more h = finished_begun (with_bodies c.queue (still c.place more).bodies) (still c.place more).ending h
 
@@ -145,24 +145,40 @@ refused_run counted old mid piece more r next refused =
 
 -- ---- the bytes end
 
-pub ended_run : (counted : Bool) (old new : Cutting) (next : Run) → bodies_in (left old []).queue ≡ bodies_in old.queue → (left old []).ending ≡ Owed → new.queue ≡ all_closed old.queue
+pub ended_run : (counted : Bool) (old new : Cutting) (next : Run) → (left old []).queue ≡ old.queue → (left old []).ending ≡ Owed → new.queue ≡ all_closed old.queue
     → cut_run counted (left old []) next ≡ after_parts (coded_all counted new.queue.closed) (ends outside.Owed)
 ended_run counted old new next prompt owed closed =
-    ap (λ (l : List Body). after_parts (coded_all counted l) (behind (left old []).ending next)) prompt
+    ap (λ (q : Queue). after_parts (coded_all counted (bodies_in q)) (behind (left old []).ending next)) prompt
     ∙ ap (λ (e : End). after_parts (coded_all counted (bodies_in old.queue)) (behind e next)) owed
     ∙ ap (λ (q : Queue). after_parts (coded_all counted q.closed) (ends outside.Owed)) (sym closed)
 
--- ---- what came completes no further body
+-- ---- what came completes no further body, and closes no batch
 
 no_bodies : (xs ys : List Body) → xs ++ ys ≡ xs → ys ≡ []
 no_bodies xs [] e = refl
 no_bodies xs (y ∷ ys) e = absurd (let t = ap length e in omega (arith, t, length-append xs (y ∷ ys)))
 
-pub prompt_on : (mid new : Cutting) → (left mid []).queue ≡ mid.queue → new.place ≡ mid.place → bodies_in (left new []).queue ≡ bodies_in new.queue
-prompt_on mid new is place =
+-- where no body is to come
+closed_there : (q : Queue) → q.begun ≡ [] → all_closed q ≡ q
+closed_there q h = λ i. record { least = q.least; number = q.number; closed = (ap (λ (l : List Body). q.closed ++ l) h ∙ append-nil q.closed) i; begun = sym h i }
+
+finished_there : (e : End) (q : Queue) → ((e ≡ Owed → ⊥) → q.begun ≡ []) → finished e q ≡ q
+finished_there Whole q none = closed_there q (none (λ f. cc))
+finished_there (Faulty r) q none = closed_there q (none (λ f. cc))
+finished_there Owed q none = refl
+
+left_there : (c : Cutting) → (still c.place []).bodies ≡ [] → (left c []).queue ≡ finished (still c.place []).ending c.queue
+unfolding left
+left_there c none = ap (λ (l : List Body). finished (still c.place []).ending (with_bodies c.queue l)) none
+
+pub prompt_on : (mid new : Cutting) → (left mid []).queue ≡ mid.queue → new.place ≡ mid.place → new.queue.begun ≡ mid.queue.begun → (left new []).queue ≡ new.queue
+prompt_on mid new is place begun =
     let all : (mid.queue.closed ++ mid.queue.begun) ++ (still mid.place []).bodies ≡ mid.queue.closed ++ mid.queue.begun = append_assoc mid.queue.closed mid.queue.begun (still mid.place []).bodies ∙ sym (left_bodies mid []) ∙ ap bodies_in is in
     let none : (still new.place []).bodies ≡ [] = ap (λ (p : Place). (still p []).bodies) place ∙ no_bodies (bodies_in mid.queue) (still mid.place []).bodies all in
-    left_bodies new [] ∙ ap (λ (l : List Body). new.queue.closed ++ (new.queue.begun ++ l)) none ∙ ap (λ (l : List Body). new.queue.closed ++ l) (append-nil new.queue.begun)
+    let ending : (left mid []).ending ≡ (still new.place []).ending = left_ending mid [] ∙ sym (ap (λ (p : Place). (still p []).ending) place) in
+    left_there new none
+    ∙ finished_there (still new.place []).ending new.queue
+    (λ over. begun ∙ sym (ap (λ (q : Queue). q.begun) is) ∙ left_begun mid [] (λ owed. over (sym ending ∙ owed)))
 
 -- ---- batches that are taken
 

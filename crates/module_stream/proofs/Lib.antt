@@ -4,6 +4,7 @@ pub mod CodeWords
 pub mod Compiled
 pub mod Taking
 pub mod CutRuns
+pub mod OpenBatches
 pub mod Cutting
 pub mod CodeEnds
 pub mod Streaming

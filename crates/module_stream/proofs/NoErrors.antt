@@ -1,5 +1,5 @@
 -- Where nothing is refused, what came has no error outside the bytes of bodies.
-use Rattle.std.proofs.Common.{◌≡◌, ℕ, ◌<◌, ◌-◌, Bool, true, false, List, [], ◌∷◌, ◌++◌, length, drop, Some, None, refl, sym, ap, subst, ◌∙◌, arith}
+use Rattle.std.proofs.Common.{◌≡◌, ℕ, ◌<◌, ◌-◌, Bool, true, false, List, [], ◌∷◌, ◌++◌, length, drop, Option, Some, None, refl, sym, ap, subst, ◌∙◌, arith}
 use Rattle.std.specs.Prelude.{◌≢◌, if◌then◌else◌}
 use Rattle.std.proofs.lemmas.List.{append-nil}
 use Rattle.wasm_defs.specs.declared.fault.Kind.TheVariants.{Ended}
@@ -24,24 +24,27 @@ use Rattle.body_cutter.specs.Sections.{End, Whole as AllCut, Faulty, Owed as Byt
 use Rattle.body_cutter.specs.Places.{Place, still}
 use Rattle.body_cutter.specs.Queues.{bodies_in}
 use Rattle.body_cutter.specs.Cuttings.{Cutting, left, IsFed}
-use Rattle.module_stream.specs.declared.compilation.Compilation.{Compilation}
 use Rattle.module_stream.specs.CutBodies.{counts_data, coded_all, behind, cut_run, sections_behind}
-use Rattle.module_stream.specs.Streaming.{HasNoError, IsErrorFree, IsUnread}
+use Rattle.module_stream.specs.RightSoFar.{PrefixIsValid}
+use Rattle.module_stream.specs.Streaming.{HasNoError}
 use Rattle.module_stream.proofs.Cutting.{left_ending}
-use Rattle.module_stream.proofs.RightSoFar.{parts_after, front_ends, none_dropped}
-
-ending_after : (told : List Part) (run : Run) → (after_parts told run).ending ≡ run.ending
-ending_after [] run = refl
-ending_after (x ∷ told) run = ending_after told run
+use Rattle.module_stream.proofs.RightSoFar.{parts_after, ending_after, front_ends, none_dropped, none_waits}
 
 -- ---- before the first byte
 
-nothing_is_none : HasNoError (module_read [])
+-- nothing was read
+pub none_read : (closing : Option ℕ) → PrefixIsValid closing []
 unfolding fixed preamble
-nothing_is_none r kind e = absurd cc
-
-pub unread_is_none : (s : Compilation) → IsUnread s → IsErrorFree s
-unread_is_none s unread r kind e = let j = (unread [] (omega arith)).judging.judged in nothing_is_none r kind (j.ending ∙ e)
+none_read closing = record {
+  front = [];
+  bodies = [];
+  parts = refl;
+  trees = [];
+  valid = tt;
+  text = λ r f. f;
+  no_error = λ r e. absurd cc;
+  waiting = none_waits closing (module_read []).ending;
+}
 
 -- ---- outside the bodies
 

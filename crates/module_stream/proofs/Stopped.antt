@@ -110,7 +110,7 @@ inside_stays items k (Listed x ∷ front) back r (inr f) = inr (inside_stays (it
 inside_stays items k (Coded b ∷ front) back r (inl f) = inl f
 inside_stays items k (Coded b ∷ front) back r (inr f) = inr (inside_stays items (suc k) front back r f)
 
-text_stays : (items : List Item) (k words : ℕ) (front back : List Part) (r : Refusal) → IsTextFault items k words front r → IsTextFault items k words (front ++ back) r
+pub text_stays : (items : List Item) (k words : ℕ) (front back : List Part) (r : Refusal) → IsTextFault items k words front r → IsTextFault items k words (front ++ back) r
 text_stays items k words [] back r f = absurd f
 text_stays items k words (Section at position ∷ front) back r f = text_stays items k words front back r f
 text_stays items k words (Listed x ∷ front) back r f = text_stays (items ++ x ∷ []) k words front back r f
@@ -127,7 +127,7 @@ inside_splits items k (Listed x ∷ front) back r (inr f) = elim (inside_splits 
 inside_splits items k (Coded b ∷ front) back r (inl f) = inl (inl f)
 inside_splits items k (Coded b ∷ front) back r (inr f) = elim (inside_splits items (suc k) front back r f) [ inl g ↦ inl (inr g) | inr g ↦ inr g ]
 
-text_splits : (items : List Item) (k words : ℕ) (front back : List Part) (r : Refusal) → IsTextFault items k words (front ++ back) r → IsTextFault items k words front r ⊎ ((xs : List Item) × (n m : ℕ) × IsTextFault xs n m back r)
+pub text_splits : (items : List Item) (k words : ℕ) (front back : List Part) (r : Refusal) → IsTextFault items k words (front ++ back) r → IsTextFault items k words front r ⊎ ((xs : List Item) × (n m : ℕ) × IsTextFault xs n m back r)
 text_splits items k words [] back r f = inr (items, k, words, f)
 text_splits items k words (Section at position ∷ front) back r f = text_splits items k words front back r f
 text_splits items k words (Listed x ∷ front) back r f = text_splits (items ++ x ∷ []) k words front back r f

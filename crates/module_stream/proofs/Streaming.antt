@@ -29,7 +29,7 @@ use Rattle.wasm_defs.specs.declared.front_stop.FrontStop.TheVariants as stop
 use Rattle.module_stream.specs.Codes.{Coding, AreAll}
 use Rattle.module_stream.specs.Progress.{IsJudging, TakesPart}
 use Rattle.module_stream.specs.Done.{Decides}
-use Rattle.module_stream.specs.Streaming.{mode_weight, work_left, left_of, IsOutside, IsInside, IsPlaced, IsGoing, IsTaking, IsWaiting, TakesItem, Advances, GoesOn, with_cutter}
+use Rattle.module_stream.specs.Streaming.{mode_weight, work_left, left_of, AreOpen, IsOutside, IsInside, IsPlaced, IsGoing, IsTaking, IsWaiting, TakesItem, Advances, GoesOn, with_cutter}
 use Rattle.module_stream.proofs.CutRuns.{entries_cut, handed_run}
 use Rattle.module_stream.proofs.Cutting.{run_fed, count_fed, whole_run, whole_at, refused_run, ended_run, prompt_on, rest_run, split_rest, rest_is}
 use Rattle.module_stream.proofs.Compiled.{begins, after_item, sections_taken, start_refused, is_refused}
@@ -56,32 +56,36 @@ module _ (bytes : List ℕ) (s : Compilation) (more : List ℕ) where
   reading_of e g = record {
     few = g.few;
     judging = subst (λ (o : Option Cutting). IsJudging bytes (left_of s.front o more) s.spaces s.codes) e g.judging;
-    place = subst (λ (o : Option Cutting). IsPlaced s.front o (length bytes) more) e g.place;
+    place = subst (λ (o : Option Cutting). IsPlaced s.batch s.front o (length bytes) more) e g.place;
   }
 
   pub going_reading : s.cutter ≡ None → IsReading bytes s.front s.spaces s.codes more → IsGoing bytes s more
   going_reading e r = record {
     few = r.few;
     judging = subst (λ (o : Option Cutting). IsJudging bytes (left_of s.front o more) s.spaces s.codes) (sym e) r.judging;
-    place = subst (λ (o : Option Cutting). IsPlaced s.front o (length bytes) more) (sym e) r.place;
+    place = subst (λ (o : Option Cutting). IsPlaced s.batch s.front o (length bytes) more) (sym e) r.place;
   }
 
   module _ (c : Cutting) (e : s.cutter ≡ Some c) where
-    pub cutting_of : IsGoing bytes s more → IsCutting bytes s.front c s.spaces s.codes more
-    cutting_of g =
-        let place : IsInside s.front c (length bytes) more = subst (λ (o : Option Cutting). IsPlaced s.front o (length bytes) more) e g.place in
-        record {
-          few = g.few;
-          judging = subst (λ (o : Option Cutting). IsJudging bytes (left_of s.front o more) s.spaces s.codes) e g.judging;
-          skips = place.skips;
-          count = place.count;
-        }
+    inside_of : IsGoing bytes s more → IsInside s.batch s.front c (length bytes) more
+    inside_of g = subst (λ (o : Option Cutting). IsPlaced s.batch s.front o (length bytes) more) e g.place
 
-    pub going_cutting : IsCutting bytes s.front c s.spaces s.codes more → IsGoing bytes s more
-    going_cutting k = record {
+    pub cutting_of : IsGoing bytes s more → IsCutting bytes s.front c s.spaces s.codes more
+    cutting_of g = record {
+      few = g.few;
+      judging = subst (λ (o : Option Cutting). IsJudging bytes (left_of s.front o more) s.spaces s.codes) e g.judging;
+      skips = (inside_of g).skips;
+      count = (inside_of g).count;
+    }
+
+    pub begun_of : IsGoing bytes s more → AreOpen s.batch (left c more).queue.begun
+    begun_of g = (inside_of g).begun
+
+    pub going_cutting : IsCutting bytes s.front c s.spaces s.codes more → AreOpen s.batch (left c more).queue.begun → IsGoing bytes s more
+    going_cutting k begun = record {
       few = k.few;
       judging = subst (λ (o : Option Cutting). IsJudging bytes (left_of s.front o more) s.spaces s.codes) (sym e) k.judging;
-      place = subst (λ (o : Option Cutting). IsPlaced s.front o (length bytes) more) (sym e) (record { skips = k.skips; count = k.count });
+      place = subst (λ (o : Option Cutting). IsPlaced s.batch s.front o (length bytes) more) (sym e) (record { skips = k.skips; count = k.count; begun = begun });
     }
 
 -- ---- before the first byte
@@ -312,7 +316,7 @@ module _ (bytes : List ℕ) (f : Front) (old mid new : Cutting) (spaces : Spaces
     going = ap (λ (p : Place). p.stop) place ∙ fed.going;
     owed = owed;
     taken = closed;
-    prompt = prompt_on mid new fed.prompt.queue place;
+    prompt = prompt_on mid new fed.prompt.queue place begun_same;
   }
 
   cut_parts : length (cut_run (counts_data f.steps.seen) (left old piece) (sections_behind f.steps.seen old.place.at old.place.end piece)).parts ≡ length (coded_all (counts_data f.steps.seen) mid.queue.closed) + length (rest_run f.steps.seen mid (drop taken piece)).parts
@@ -385,10 +389,11 @@ ended_judging bytes f old new spaces codes (stop.Refused r) k w (inr e) =
 ended_judging bytes f old new spaces codes stop.NoMemory k w e = absurd e
 
 -- with the cutter taken out and put back
-pub taken_out : (bytes : List ℕ) (s t : Compilation) (c : Cutting) (more : List ℕ) → s.cutter ≡ Some c → t.front ≡ s.front → t.spaces ≡ s.spaces → t.codes ≡ s.codes → IsGoing bytes s more → IsGoing bytes (with_cutter t c) more
-taken_out bytes s t c more e front spaces codes g =
+pub taken_out : (bytes : List ℕ) (s t : Compilation) (c : Cutting) (more : List ℕ) → s.cutter ≡ Some c → t.batch ≡ s.batch → t.front ≡ s.front → t.spaces ≡ s.spaces → t.codes ≡ s.codes → IsGoing bytes s more
+    → IsGoing bytes (with_cutter t c) more
+taken_out bytes s t c more e batch front spaces codes g =
     let k = cutting_of bytes s more c e g in
-    going_cutting bytes (with_cutter t c) more c refl (rw (front, spaces, codes) k)
+    going_cutting bytes (with_cutter t c) more c refl (rw (front, spaces, codes) k) (subst (λ (n : ℕ). AreOpen n (left c more).queue.begun) (sym batch) (begun_of bytes s more c e g))
 
 -- ---- an item that was read
 

@@ -1,5 +1,5 @@
 -- What is left of a module while its bytes come.
-use Rattle.std.specs.Prelude.{All, ◌≡◌, ◌≢◌, ◌≤◌, ◌<◌, ℕ, ◌+◌, ◌*◌, ◌^◌, List, [], ◌++◌, length, drop, true, false, Option, None, Some, Result, Ok, Err}
+use Rattle.std.specs.Prelude.{All, ◌≡◌, ◌≢◌, ◌≤◌, ◌<◌, ◌⊎◌, ℕ, ◌+◌, ◌*◌, ◌^◌, List, [], ◌++◌, length, drop, true, false, Option, None, Some, IfSome, Result, Ok, Err}
 use Rattle.wasm_defs.specs.declared.front_stop.FrontStop.{FrontStop}
 use Rattle.wasm_defs.specs.declared.front_stop.FrontStop.TheVariants.{Refused, NoMemory}
 use Rattle.wasm_defs.specs.Faults.{Rejected}
@@ -12,7 +12,8 @@ use Rattle.section_reader.specs.declared.front.Front.{Front}
 use Rattle.section_reader.specs.Stages.{is_at_bodies}
 use Rattle.section_reader.specs.FrontLeft.{total, can_skip}
 use Rattle.section_reader.specs.FrontOnward.{remaining_parts, Follows}
-use Rattle.body_cutter.specs.Queues.{bodies_in}
+use Rattle.body_cutter.specs.declared.body.Body.{Body}
+use Rattle.body_cutter.specs.Queues.{bytes_of}
 use Rattle.body_cutter.specs.Cuttings.{Cutting, left, is_whole}
 use Rattle.image_linker.specs.Judging.{IsVerdictOf}
 use Rattle.module_stream.specs.declared.compilation.Compilation.{Compilation}
@@ -32,20 +33,25 @@ pub record IsOutside (f : Front) (len : ℕ) (more : List ℕ) : Type 0 where
   pub outside : is_at_bodies f.steps.stage ≡ false
   pub count : total f + length more ≡ len
 
--- among the bodies
-pub record IsInside (f : Front) (c : Cutting) (len : ℕ) (more : List ℕ) : Type 0 where
+-- the bodies of a batch that hasn't closed: none, or they have fewer bytes than close one
+abbrev pub AreOpen : (least : ℕ) → List Body → Type 0
+AreOpen least bodies = (bodies ≡ []) ⊎ (bytes_of bodies < least)
+
+-- among the bodies, of which so many bytes close a batch
+pub record IsInside (least : ℕ) (f : Front) (c : Cutting) (len : ℕ) (more : List ℕ) : Type 0 where
   pub skips : can_skip f c.place.end ≡ true
   pub count : c.place.at + length more ≡ len
+  pub begun : AreOpen least (left c more).queue.begun
 
-abbrev pub IsPlaced : Front → Option Cutting → (len : ℕ) → List ℕ → Type 0
-IsPlaced f None len more = IsOutside f len more
-IsPlaced f (Some c) len more = IsInside f c len more
+abbrev pub IsPlaced : (least : ℕ) → Front → Option Cutting → (len : ℕ) → List ℕ → Type 0
+IsPlaced least f None len more = IsOutside f len more
+IsPlaced least f (Some c) len more = IsInside least f c len more
 
 -- of these bytes those are still to come: what came is right so far, and its bodies are compiled
 pub record IsGoing (bytes : List ℕ) (s : Compilation) (more : List ℕ) : Type 0 where
   pub few : length bytes ≤ 67108869
   pub judging : IsJudging bytes (left_of s.front s.cutter more) s.spaces s.codes
-  pub place : IsPlaced s.front s.cutter (length bytes) more
+  pub place : IsPlaced s.batch s.front s.cutter (length bytes) more
 
 -- nothing was read yet
 abbrev pub IsUnread : Compilation → Type 0
@@ -112,16 +118,21 @@ TakesItem bytes old (Err NoMemory) new more = Unit {0}
 
 -- ---- bodies
 
--- a cutter that gave all its closed batches, whose section isn't whole yet and has no error; what came completes no further body
+-- a cutter that gave all its closed batches, whose section isn't whole yet and has no error; what came completes no further body, and closes
+-- no batch
 pub record IsWaiting (c : Cutting) : Type 0 where
   pub going : c.place.stop ≡ None
   pub owed : is_whole c ≡ false
   pub taken : c.queue.closed ≡ []
-  pub prompt : bodies_in (left c []).queue ≡ bodies_in c.queue
+  pub prompt : (left c []).queue ≡ c.queue
 
 abbrev pub AllWait : Option Cutting → Type 0
 AllWait None = Unit {0}
 AllWait (Some c) = IsWaiting c
+
+-- where all closed batches are to be validated before more bytes are read, whose bodies have so many bytes, they are
+abbrev pub ClosedAreValid : (closing : Option ℕ) → Compilation → Type 0
+ClosedAreValid closing s = IfSome closing (λ least. (s.batch ≡ least) × AllWait s.cutter)
 
 abbrev pub WaitsAfter : Result ℕ FrontStop → Option Cutting → Type 0
 WaitsAfter (Ok taken) cutter = AllWait cutter

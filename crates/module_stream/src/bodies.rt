@@ -198,7 +198,8 @@ pub fn take_batches(
 ) -> Result<(), FrontStop>
     requires { CanTakeAll spaces.now codes.old cutter.old.queue.closed }
     ensures place { cutter.new.place ≡ cutter.old.place }
-    ensures queue { OnOk result ((cutter.new.queue.closed ≡ []) × (cutter.new.queue.begun ≡ cutter.old.queue.begun)) }
+    ensures queue { OnOk result ((cutter.new.queue.closed ≡ []) × (cutter.new.queue.begun ≡ cutter.old.queue.begun)
+        × (cutter.new.queue.least ≡ cutter.old.queue.least)) }
     ensures takes { (bytes : List ℕ) (left : RunGiven) (counted : Bool) → length bytes ≤ 67108869
         → IsJudging bytes (after_parts (coded_all counted cutter.old.queue.closed) left) spaces.now codes.old
         → TakesPart bytes result left spaces.now codes.new }

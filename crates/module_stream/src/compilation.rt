@@ -90,6 +90,8 @@ impl Compilation {
         ensures few { IfOk result (λ taken. taken ≤ length piece.now) }
         ensures all { IfOk result (λ taken. (up_to_bodies ≡ false → taken ≡ length piece.now) × (self.new.cutter ≡ None → taken ≡ length piece.now)) }
         ensures no_error { IfOk result (λ taken. (up_to_bodies ≡ false → IsErrorFree self.new) × (self.new.cutter ≡ None → IsErrorFree self.new)) }
+        ensures waits { IfOk result (λ taken. up_to_bodies ≡ false → AllWait self.new.cutter) }
+        ensures batch { self.new.batch ≡ self.old.batch }
         ensures kept { KeepsAlike self.old.codes self.new.codes }
     {
         let mut taken = 0;
@@ -121,9 +123,11 @@ impl Compilation {
         requires { MayGo self.old [] }
         ensures goes { (bytes more : List ℕ) → IsGoing bytes self.old more → GoesOn bytes result self.new more }
         ensures no_error { OnOk result (IsErrorFree self.new) }
+        ensures waits { OnOk result (AllWait self.new.cutter) }
+        ensures batch { self.new.batch ≡ self.old.batch }
         ensures kept { KeepsAlike self.old.codes self.new.codes }
     {
-        // Why: docs/DECISIONS.md, "A fault of a push reader"
+        // Why: docs/DECISIONS.md, "An error of a push reader"
         match self.advance(&[]) {
             Ok(_) => Ok(()),
             Err(stop) => Err(stop),
@@ -136,6 +140,8 @@ impl Compilation {
         ensures goes { (bytes more : List ℕ) → IsGoing bytes self.old (piece.now ++ more) → Advances bytes piece.now result self.new more }
         ensures less { Lessens self.old piece.now result self.new }
         ensures no_error { piece.now ≡ [] → OnOk result (IsErrorFree self.new) }
+        ensures waits { piece.now ≡ [] → OnOk result (AllWait self.new.cutter) }
+        ensures batch { self.new.batch ≡ self.old.batch }
         ensures kept { KeepsAlike self.old.codes self.new.codes }
     {
         match self.cutter.take() {
@@ -151,6 +157,7 @@ impl Compilation {
         ensures less { Lessens (with_cutter self.old cutter) piece.now result self.new }
         ensures waits { WaitsAfter result self.new.cutter }
         ensures no_error { OnOk result (IsErrorFree self.new) }
+        ensures batch { self.new.batch ≡ self.old.batch }
         ensures kept { KeepsAlike self.old.codes self.new.codes }
     {
         match cutter.feed(piece) {
@@ -179,7 +186,8 @@ impl Compilation {
         requires { CanTakeAll self.old.spaces self.old.codes cutter.old.queue.closed }
         ensures rest { KeepsRest self.old self.new }
         ensures place { cutter.new.place ≡ cutter.old.place }
-        ensures queue { OnOk result ((cutter.new.queue.closed ≡ []) × (cutter.new.queue.begun ≡ cutter.old.queue.begun)) }
+        ensures queue { OnOk result ((cutter.new.queue.closed ≡ []) × (cutter.new.queue.begun ≡ cutter.old.queue.begun)
+            × (cutter.new.queue.least ≡ cutter.old.queue.least)) }
         ensures takes { (bytes : List ℕ) (left : RunGiven) (counted : Bool) → length bytes ≤ 67108869
             → IsJudging bytes (after_parts (coded_all counted cutter.old.queue.closed) left) self.old.spaces self.old.codes
             → TakesPart bytes result left self.new.spaces self.new.codes }
@@ -241,6 +249,8 @@ impl Compilation {
         ensures goes { (bytes more : List ℕ) → IsGoing bytes self.old (piece.now ++ more) → Advances bytes piece.now result self.new more }
         ensures less { Lessens self.old piece.now result self.new }
         ensures no_error { piece.now ≡ [] → OnOk result (IsErrorFree self.new) }
+        ensures waits { piece.now ≡ [] → OnOk result (AllWait self.new.cutter) }
+        ensures batch { self.new.batch ≡ self.old.batch }
         ensures kept { KeepsAlike self.old.codes self.new.codes }
     {
         match self.front.feed(piece) {
@@ -259,6 +269,7 @@ impl Compilation {
     fn take_item(&mut self, item: &Item) -> Result<(), FrontStop>
         requires { MayTake self.old item.now }
         ensures takes { (bytes more : List ℕ) → IsTaking bytes self.old item.now more → TakesItem bytes self.old result self.new more }
+        ensures batch { self.new.batch ≡ self.old.batch }
         ensures kept { self.new.codes ≡ self.old.codes }
     {
         match self.spaces.add(item) {

@@ -18,7 +18,9 @@ use Rattle.image_format.specs.Contents.{Image}
 use Rattle.image_format.specs.ImageBytes.{spelling}
 use Rattle.stream_compile.specs.declared.answer.Answer.TheVariants as answer
 use Rattle.module_stream.specs.declared.built.Built.{Built}
+use Rattle.module_stream.specs.declared.settings.Settings.{Settings}
 use Rattle.module_stream.specs.declared.built.Checked.{Checked}
+use Rattle.stream_compile.specs.declared.answer.Answer.{Answer}
 use Rattle.stream_compile.specs.declared.answer.CheckAnswer.{CheckAnswer}
 use Rattle.stream_compile.specs.declared.answer.CheckAnswer.TheVariants as check
 use Rattle.module_stream.specs.declared.compilation.Compilation.{Compilation}
@@ -28,93 +30,115 @@ use Rattle.module_stream.specs.Done.{IsModuleOfSize, IsDone}
 use Rattle.stream_compile.specs.Running.{RunsAs, IsForeign}
 use Rattle.stream_compile.specs.Compiling.{IsRefused, CompilesSource, ChecksSource}
 use Rattle.module_stream.specs.Done.{IsBuilt}
+use Rattle.module_stream.specs.RightSoFar.{closing_bytes}
 use Rattle.stream_compile.specs.Reading.{Settled, Judged, answer_of, of_lasting, stopped_answer, view}
 use Rattle.module_stream.specs.Done.{checked_of}
-use Rattle.stream_compile.specs.Texts.{Outcome, read_fault, accepted, compiled, rejected, TellsCheck, OfReading, OfModule, ComesOfModule, ComesTo}
+use Rattle.stream_compile.specs.Texts.{Outcome, settings_of, closing_of, read_fault, accepted, compiled, rejected, TellsCheck, OfReading, OfModule, ComesOfModule, ComesTo}
 use Rattle.module_stream.proofs.Stopped.{stopped_of_verdict}
 use Rattle.stream_compile.proofs.Calls.{run_done}
 
 -- ---- what bytes come to that were read to their source's end
 
-refused_by : (failed b : Bool) (left rest : Option (List ℕ)) (bytes : List ℕ) (r : Refusal) → failed ≡ b → ReadStatus left rest b bytes → IsRefused b bytes r → ChecksSource failed left rest (check.Refused r)
-refused_by failed b left rest bytes r e came is = rw e (bytes, came, is)
+refused_by : (closing : Option ℕ) (failed b : Bool) (left rest : Option (List ℕ)) (bytes : List ℕ) (r : Refusal) → failed ≡ b → ReadStatus closing left rest b bytes → IsRefused b bytes r → ChecksSource closing failed left rest (check.Refused r)
+refused_by closing failed b left rest bytes r e came is = rw e (bytes, came, is)
 
 -- with more bytes after the module there is none that was read
 same_bytes : (read bytes : List ℕ) (s : Compilation) → bytes ≡ read → IsDone read s → IsDone bytes s
 same_bytes read bytes s e d = subst (λ (l : List ℕ). IsDone l s) (sym e) d
 
-pub source_judged : (failed : Bool) (left rest : Option (List ℕ)) (before now : ℕ) (judged : Result (Unit {0}) FrontStop) (s : Compilation) → failed ≡ false → Settled failed judged s left rest before now
-    → Judged (nat_lt before now) left rest (answer_of judged (checked_of s)) s
-source_judged failed left rest before now (Ok done) s calm (read, t, d) = (
+pub source_judged : (closing : Option ℕ) (failed : Bool) (left rest : Option (List ℕ)) (before now : ℕ) (judged : Result (Unit {0}) FrontStop) (s : Compilation) → failed ≡ false → Settled closing failed judged s left rest before now
+    → Judged closing (nat_lt before now) left rest (answer_of judged (checked_of s)) s
+source_judged closing failed left rest before now (Ok done) s calm (read, t, d) = (
   sym t.failed_is ∙ calm,
   t.bytes,
-  subst (λ (b : Bool). ReadStatus left rest b t.bytes) calm t.came,
+  subst (λ (b : Bool). ReadStatus closing left rest b t.bytes) calm t.came,
   t.ended calm d.«module» d.is.is,
   same_bytes read t.bytes s (t.whole d.«module» d.is.is) d,
   refl,
 )
-source_judged failed left rest before now (Err (stop.Refused r)) s calm (read, t, v) =
-    refused_by (nat_lt before now) false left rest t.bytes r (sym t.failed_is ∙ calm) (subst (λ (b : Bool). ReadStatus left rest b t.bytes) calm t.came) (t.verdict (Rejected r) v)
-source_judged failed left rest before now (Err stop.NoMemory) s calm t = tt
+source_judged closing failed left rest before now (Err (stop.Refused r)) s calm (read, t, v) =
+    refused_by closing (nat_lt before now) false left rest t.bytes r (sym t.failed_is ∙ calm) (subst (λ (b : Bool). ReadStatus closing left rest b t.bytes) calm t.came) (t.verdict (Rejected r) v)
+source_judged closing failed left rest before now (Err stop.NoMemory) s calm t = tt
 
 -- ---- after which the source failed
 
-stopped_by : (failed : Bool) (left rest : Option (List ℕ)) (bytes : List ℕ) (o : Option Refusal) (s : Compilation) → failed ≡ true → ReadStatus left rest true bytes → IsStoppedAt bytes o → Judged failed left rest (of_lasting o) s
-stopped_by failed left rest bytes None s e came is = rw e (refl, bytes, came, is)
-stopped_by failed left rest bytes (Some r) s e came is = rw e (bytes, came, is)
+stopped_by : (closing : Option ℕ) (failed : Bool) (left rest : Option (List ℕ)) (bytes : List ℕ) (o : Option Refusal) (s : Compilation) → failed ≡ true → ReadStatus closing left rest true bytes → IsStoppedAt bytes o → Judged closing failed left rest (of_lasting o) s
+stopped_by closing failed left rest bytes None s e came is = rw e (refl, bytes, came, is)
+stopped_by closing failed left rest bytes (Some r) s e came is = rw e (bytes, came, is)
 
-pub source_stopped : (failed : Bool) (left rest : Option (List ℕ)) (before now : ℕ) (judged : Result (Unit {0}) FrontStop) (s : Compilation) → failed ≡ true → Settled failed judged s left rest before now
-    → Judged (nat_lt before now) left rest (stopped_answer judged) s
-source_stopped failed left rest before now (Ok done) s fails (read, t, d) =
+pub source_stopped : (closing : Option ℕ) (failed : Bool) (left rest : Option (List ℕ)) (before now : ℕ) (judged : Result (Unit {0}) FrontStop) (s : Compilation) → failed ≡ true → Settled closing failed judged s left rest before now
+    → Judged closing (nat_lt before now) left rest (stopped_answer judged) s
+source_stopped closing failed left rest before now (Ok done) s fails (read, t, d) =
     let decided = stopped_of_verdict t.bytes (Accepted d.«module») (t.verdict (Accepted d.«module») d.is.is) in
-    stopped_by (nat_lt before now) left rest t.bytes None s (sym t.failed_is ∙ fails) (subst (λ (b : Bool). ReadStatus left rest b t.bytes) fails t.came) decided
-source_stopped failed left rest before now (Err (stop.Refused r)) s fails (read, t, v) =
+    stopped_by closing (nat_lt before now) left rest t.bytes None s (sym t.failed_is ∙ fails) (subst (λ (b : Bool). ReadStatus closing left rest b t.bytes) fails t.came) decided
+source_stopped closing failed left rest before now (Err (stop.Refused r)) s fails (read, t, v) =
     let decided = stopped_of_verdict t.bytes (Rejected r) (t.verdict (Rejected r) v) in
-    stopped_by (nat_lt before now) left rest t.bytes (lasting r.kind r) s (sym t.failed_is ∙ fails) (subst (λ (b : Bool). ReadStatus left rest b t.bytes) fails t.came) decided
-source_stopped failed left rest before now (Err stop.NoMemory) s fails t = tt
+    stopped_by closing (nat_lt before now) left rest t.bytes (lasting r.kind r) s (sym t.failed_is ∙ fails) (subst (λ (b : Bool). ReadStatus closing left rest b t.bytes) fails t.came) decided
+source_stopped closing failed left rest before now (Err stop.NoMemory) s fails t = tt
 
 -- ---- what the calls answer
 
 valid_of : (bytes : List ℕ) (checked : Checked) (s : Compilation) (d : IsDone bytes s) → checked ≡ checked_of s → IsModuleOfSize bytes d.«module» checked.functions checked.bytes
 valid_of bytes checked s d e = rw e d.is
 
+-- a batch closes where so many bytes are asked for
+pub judged_at : (workers batch n : ℕ) (failed : Bool) (left rest : Option (List ℕ)) (r : CheckAnswer) (s : Compilation) → n ≡ batch → Judged (closing_bytes workers n) failed left rest r s → Judged (closing_bytes workers batch) failed left rest r s
+judged_at workers batch n failed left rest r s is h = subst (λ (k : ℕ). Judged (closing_bytes workers k) failed left rest r s) is h
+
+pub refused_compiles : (workers batch n : ℕ) (failed : Bool) (left rest : Option (List ℕ)) (r : Refusal) (s : Compilation) → n ≡ batch → Judged (closing_bytes workers n) failed left rest (check.Refused r) s
+    → CompilesSource (closing_bytes workers batch) failed left rest (answer.Refused r)
+refused_compiles workers batch n failed left rest r s is h = judged_at workers batch n failed left rest (check.Refused r) s is h
+
+pub fault_compiles : (workers batch n : ℕ) (failed : Bool) (left rest : Option (List ℕ)) (s : Compilation) → n ≡ batch → Judged (closing_bytes workers n) failed left rest check.ReadFault s
+    → CompilesSource (closing_bytes workers batch) failed left rest answer.ReadFault
+fault_compiles workers batch n failed left rest s is h = judged_at workers batch n failed left rest check.ReadFault s is h
+
 -- without the codes
-pub judged_checked : (failed : Bool) (left rest : Option (List ℕ)) (r : CheckAnswer) (s : Compilation) → Judged failed left rest r s → ChecksSource failed left rest r
-judged_checked failed left rest (check.Valid checked) s (calm, bytes, came, end, d, e) = (calm, bytes, came, end, (d.«module», valid_of bytes checked s d e))
-judged_checked failed left rest (check.Refused r) s h = h
-judged_checked failed left rest check.ReadFault s h = h
-judged_checked failed left rest check.NoMemory s h = h
+pub judged_checked : (closing : Option ℕ) (failed : Bool) (left rest : Option (List ℕ)) (r : CheckAnswer) (s : Compilation) → Judged closing failed left rest r s → ChecksSource closing failed left rest r
+judged_checked closing failed left rest (check.Valid checked) s (calm, bytes, came, end, d, e) = (calm, bytes, came, end, (d.«module», valid_of bytes checked s d e))
+judged_checked closing failed left rest (check.Refused r) s h = h
+judged_checked closing failed left rest check.ReadFault s h = h
+judged_checked closing failed left rest check.NoMemory s h = h
 
-pub judged_done : (failed : Bool) (left rest : Option (List ℕ)) (checked : Checked) (s : Compilation) → Judged failed left rest (check.Valid checked) s → (bytes : List ℕ) × IsDone bytes s
-judged_done failed left rest checked s (calm, bytes, came, end, d, e) = (bytes, d)
+pub judged_done : (closing : Option ℕ) (failed : Bool) (left rest : Option (List ℕ)) (checked : Checked) (s : Compilation) → Judged closing failed left rest (check.Valid checked) s → (bytes : List ℕ) × IsDone bytes s
+judged_done closing failed left rest checked s (calm, bytes, came, end, d, e) = (bytes, d)
 
-pub judged_built : (failed : Bool) (left rest : Option (List ℕ)) (checked : Checked) (s : Compilation) (built : Built) → Judged failed left rest (check.Valid checked) s → ((bytes : List ℕ) → IsDone bytes s → IsBuilt bytes built) → CompilesSource failed left rest (answer.Image built)
-judged_built failed left rest checked s built (calm, bytes, came, end, d, e) is = (calm, bytes, came, end, is bytes d)
+pub judged_built : (closing : Option ℕ) (failed : Bool) (left rest : Option (List ℕ)) (checked : Checked) (s : Compilation) (built : Built) → Judged closing failed left rest (check.Valid checked) s → ((bytes : List ℕ) → IsDone bytes s → IsBuilt bytes built) → CompilesSource closing failed left rest (answer.Image built)
+judged_built closing failed left rest checked s built (calm, bytes, came, end, d, e) is = (calm, bytes, came, end, is bytes d)
 
 -- ---- what the program says
+
+-- with the settings that the options ask for
+pub checks_with : (options : Options) (x : Settings) (failed : Bool) (left rest : Option (List ℕ)) (r : CheckAnswer) → x ≡ settings_of options → ChecksSource (closing_bytes x.workers x.batch) failed left rest r
+    → ChecksSource (closing_of options) failed left rest r
+checks_with options x failed left rest r is h = subst (λ (y : Settings). ChecksSource (closing_bytes y.workers y.batch) failed left rest r) is h
+
+pub compiles_with : (options : Options) (x : Settings) (failed : Bool) (left rest : Option (List ℕ)) (r : Answer) → x ≡ settings_of options → CompilesSource (closing_bytes x.workers x.batch) failed left rest r
+    → CompilesSource (closing_of options) failed left rest r
+compiles_with options x failed left rest r is h = subst (λ (y : Settings). CompilesSource (closing_bytes y.workers y.batch) failed left rest r) is h
 
 pub valid_outcome : (bytes : List ℕ) (checked : Checked) (o : Outcome) → ((m : _) × IsModuleOfSize bytes m checked.functions checked.bytes) → o ≡ accepted checked.functions checked.bytes → OfModule TellsCheck false bytes o
 valid_outcome bytes checked o (m, is) e =
     (Accepted m, is.is, (is.same, e ∙ ap (λ (n : ℕ). accepted n checked.bytes) is.functions_are ∙ ap (λ (n : ℕ). accepted (declared_count m.items) n) is.size_is))
 
-pub valid_comes : (r : Result Output AllocError) (options : Options) (failed : Bool) (left rest : Option (List ℕ)) (checked : Checked) → ChecksSource failed left rest (check.Valid checked)
+pub valid_comes : (r : Result Output AllocError) (options : Options) (failed : Bool) (left rest : Option (List ℕ)) (checked : Checked) → ChecksSource (closing_of options) failed left rest (check.Valid checked)
     → IfOk r (λ o. view o ≡ accepted checked.functions checked.bytes) → IfOk r (λ o. ComesTo (Some (Check options)) failed left rest (view o))
 valid_comes (Ok a) options failed left rest checked (calm, bytes, came, end, is) e = rw calm (bytes, came, valid_outcome bytes checked (view a) is e)
 valid_comes (Err x) options failed left rest checked h e = tt
 
 -- the image that is written is that of the module
-pub written_comes : (r : Result Output AllocError) (options : Options) (failed : Bool) (left rest : Option (List ℕ)) (built : Built) → CompilesSource failed left rest (answer.Image built)
+pub written_comes : (r : Result Output AllocError) (options : Options) (failed : Bool) (left rest : Option (List ℕ)) (built : Built) → CompilesSource (closing_of options) failed left rest (answer.Image built)
     → IfOk r (λ o. view o ≡ compiled (spelling built.image)) → IfOk r (λ o. ComesTo (Some (Compile options)) failed left rest (view o))
 written_comes (Ok a) options failed left rest built (calm, bytes, came, end, is) e =
     let m = is.«module» in
     rw calm (bytes, came, (Accepted m, is.is.is, (is.is.same, e ∙ ap (λ (i : Image). compiled (spelling i)) is.image_is)))
 written_comes (Err x) options failed left rest built h e = tt
 
-pub is_short : (failed : Bool) (left rest : Option (List ℕ)) (built : Built) → CompilesSource failed left rest (answer.Image built) → length (spelling built.image) ≤ IMAGE_BYTES
-is_short failed left rest built (calm, bytes, came, end, is) = subst (λ (i : Image). length (spelling i) ≤ IMAGE_BYTES) (sym is.image_is) is.is.short
+pub is_short : (closing : Option ℕ) (failed : Bool) (left rest : Option (List ℕ)) (built : Built) → CompilesSource closing failed left rest (answer.Image built) → length (spelling built.image) ≤ IMAGE_BYTES
+is_short closing failed left rest built (calm, bytes, came, end, is) = subst (λ (i : Image). length (spelling i) ≤ IMAGE_BYTES) (sym is.image_is) is.is.short
 
 -- what a call of an image's function comes to is what that of the module's does
-pub image_comes : (run : Running) (failed : Bool) (left rest : Option (List ℕ)) (built : Built) → CompilesSource failed left rest (answer.Image built)
+pub image_comes : (run : Running) (failed : Bool) (left rest : Option (List ℕ)) (built : Built) → CompilesSource (closing_of run.options) failed left rest (answer.Image built)
     → (o : Outcome) → RunsAs None built.image run.call o → ComesTo (Some (Run run)) failed left rest o
 image_comes run failed left rest built (calm, bytes, came, end, is) o e =
     let m = is.«module» in
@@ -127,17 +151,17 @@ called_comes call failed left rest i (calm, bytes, came, is) o runs = rw calm (b
 
 -- ---- and of every command on a module
 
-module _ (Tells : (bytes : ℕ) → Module → Outcome → Type 0) where
+module _ (closing : Option ℕ) (Tells : (bytes : ℕ) → Module → Outcome → Type 0) where
   refused_outcome : (failed : Bool) (bytes : List ℕ) (r : Refusal) (o : Outcome) → IsRefused failed bytes r → o ≡ rejected r → OfModule Tells failed bytes o
   refused_outcome false bytes r o is e = (Rejected r, is, e)
   refused_outcome true bytes r o is e = (Some r, is, e)
 
-  pub rejected_comes : (r : Result Output AllocError) (failed : Bool) (left rest : Option (List ℕ)) (refusal : Refusal) → ChecksSource failed left rest (check.Refused refusal)
-      → IfOk r (λ a. view a ≡ rejected refusal) → IfOk r (λ o. ComesOfModule Tells failed left rest (view o))
+  pub rejected_comes : (r : Result Output AllocError) (failed : Bool) (left rest : Option (List ℕ)) (refusal : Refusal) → ChecksSource closing failed left rest (check.Refused refusal)
+      → IfOk r (λ a. view a ≡ rejected refusal) → IfOk r (λ o. ComesOfModule closing Tells failed left rest (view o))
   rejected_comes (Ok a) failed left rest refusal (bytes, came, is) e = (bytes, came, refused_outcome failed bytes refusal (view a) is e)
   rejected_comes (Err x) failed left rest refusal h e = tt
 
-  pub read_fault_comes : (r : Result Output AllocError) (failed : Bool) (left rest : Option (List ℕ)) → ChecksSource failed left rest check.ReadFault
-      → IfOk r (λ a. view a ≡ read_fault) → IfOk r (λ o. ComesOfModule Tells failed left rest (view o))
+  pub read_fault_comes : (r : Result Output AllocError) (failed : Bool) (left rest : Option (List ℕ)) → ChecksSource closing failed left rest check.ReadFault
+      → IfOk r (λ a. view a ≡ read_fault) → IfOk r (λ o. ComesOfModule closing Tells failed left rest (view o))
   read_fault_comes (Ok a) failed left rest (fails, bytes, came, is) e = rw fails (bytes, came, (None, is, e))
   read_fault_comes (Err x) failed left rest h e = tt

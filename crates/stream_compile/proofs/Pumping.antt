@@ -30,21 +30,21 @@ module _ (s : Compilation) (came piece : List ℕ) (going : (more : List ℕ) �
 
 -- ---- what is settled
 
-module _ (came : List ℕ) (old new : Option (List ℕ)) (before now : ℕ) (is : IsRead old new came) where
-  pub early : (s : FrontStop) (state : Compilation) → now ≡ before → ((more : List ℕ) → length (came ++ more) ≤ 67108869 → GoesOn (came ++ more) (Err s) state more) → Settled false (Err s) state old new before now
-  early (Refused r) state same v = settled_early came r old new before now is same v
+module _ (closing : Option ℕ) (came : List ℕ) (old new : Option (List ℕ)) (before now : ℕ) (is : IsRead closing old new came) where
+  pub early : (s : FrontStop) (state : Compilation) → now ≡ before → ((more : List ℕ) → length (came ++ more) ≤ 67108869 → GoesOn (came ++ more) (Err s) state more) → Settled closing false (Err s) state old new before now
+  early (Refused r) state same v = settled_early closing came r old new before now is same v
   early NoMemory state same v = tt
 
-  whole : (failed : Bool) (r : Result (Unit {0}) FrontStop) (state : Compilation) → Settles came failed old new before now → Decides came r state → Settled failed r state old new before now
+  whole : (failed : Bool) (r : Result (Unit {0}) FrontStop) (state : Compilation) → Settles closing came failed old new before now → Decides came r state → Settled closing failed r state old new before now
   whole failed (Ok done) state s d = (came, s, d)
   whole failed (Err (Refused r)) state s d = (came, s, d)
   whole failed (Err NoMemory) state s d = tt
 
-  pub at_end : (r : Result (Unit {0}) FrontStop) (state : Compilation) → IsAtEnd new → now ≡ before → Decides came r state → Settled false r state old new before now
-  at_end r state end same d = whole false r state (settled_end came old new before now is end same) d
+  pub at_end : (r : Result (Unit {0}) FrontStop) (state : Compilation) → IsAtEnd new → now ≡ before → Decides came r state → Settled closing false r state old new before now
+  at_end r state end same d = whole false r state (settled_end closing came old new before now is end same) d
 
-  pub at_fault : (r : Result (Unit {0}) FrontStop) (state : Compilation) → before < 2 ^ 64 - 1 → Rose before now → Decides came r state → Settled true r state old new before now
-  at_fault r state few rose d = whole true r state (settled_fault came old new before now few is rose) d
+  pub at_fault : (r : Result (Unit {0}) FrontStop) (state : Compilation) → before < 2 ^ 64 - 1 → Rose before now → Decides came r state → Settled closing true r state old new before now
+  at_fault r state few rose d = whole true r state (settled_fault closing came old new before now few is rose) d
 
-  pub at_limit : (r : Result (Unit {0}) FrontStop) (state : Compilation) → 67108869 ≤ length came → now ≡ before → Decides came r state → Settled false r state old new before now
-  at_limit r state le same d = whole false r state (settled_full came old new before now is le same) d
+  pub at_limit : (r : Result (Unit {0}) FrontStop) (state : Compilation) → 67108869 ≤ length came → now ≡ before → Decides came r state → Settled closing false r state old new before now
+  at_limit r state le same d = whole false r state (settled_full closing came old new before now is le same) d

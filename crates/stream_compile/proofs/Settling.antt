@@ -19,25 +19,25 @@ none_left : (rest : Option (List ℕ)) → IsAtEnd rest → IfSome rest (λ l. [
 none_left None end = tt
 none_left (Some l) end = sym end
 
-at_end : (read : List ℕ) (old new : Option (List ℕ)) → IsRead old new read → IsAtEnd new → ReadStatus old new false read
-at_end read old new is end = (read, [], is, none_left new end, sym (append-nil read))
+at_end : (closing : Option ℕ) (read : List ℕ) (old new : Option (List ℕ)) → IsRead closing old new read → IsAtEnd new → ReadStatus closing old new false read
+at_end closing read old new is end = (read, [], is, none_left new end, sym (append-nil read))
 
-when_full : (read : List ℕ) (old new : Option (List ℕ)) → IsRead old new read → 67108869 ≤ length read → (bytes : List ℕ) × ReadStatus old new false bytes × ((v : Verdict) → IsVerdictOf read v → IsVerdictOf bytes v)
-when_full read old None is le = (read, (read, [], is, tt, sym (append-nil read)), λ v p. p)
-when_full read old (Some r) is le = (read ++ r, (read, r, is, refl, refl), λ v p. verdict_stays read r le v p)
+when_full : (closing : Option ℕ) (read : List ℕ) (old new : Option (List ℕ)) → IsRead closing old new read → 67108869 ≤ length read → (bytes : List ℕ) × ReadStatus closing old new false bytes × ((v : Verdict) → IsVerdictOf read v → IsVerdictOf bytes v)
+when_full closing read old None is le = (read, (read, [], is, tt, sym (append-nil read)), λ v p. p)
+when_full closing read old (Some r) is le = (read ++ r, (read, r, is, refl, refl), λ v p. verdict_stays read r le v p)
 
-pub settled_end : (read : List ℕ) (old new : Option (List ℕ)) (before now : ℕ) → IsRead old new read → IsAtEnd new → now ≡ before → Settles read false old new before now
-settled_end read old new before now is end same = record {
+pub settled_end : (closing : Option ℕ) (read : List ℕ) (old new : Option (List ℕ)) (before now : ℕ) → IsRead closing old new read → IsAtEnd new → now ≡ before → Settles closing read false old new before now
+settled_end closing read old new before now is end same = record {
   failed_is = sym (le-ltb before now (omega (arith, same)));
   bytes = read;
-  came = at_end read old new is end;
+  came = at_end closing read old new is end;
   verdict = λ v p. p;
   whole = λ m p. refl;
   ended = λ f m p. end;
 }
 
-pub settled_fault : (read : List ℕ) (old new : Option (List ℕ)) (before now : ℕ) → before < 2 ^ 64 - 1 → IsRead old new read → Rose before now → Settles read true old new before now
-settled_fault read old new before now few is rose = record {
+pub settled_fault : (closing : Option ℕ) (read : List ℕ) (old new : Option (List ℕ)) (before now : ℕ) → before < 2 ^ 64 - 1 → IsRead closing old new read → Rose before now → Settles closing read true old new before now
+settled_fault closing read old new before now few is rose = record {
   failed_is = sym (lt-ltb before now (omega arith));
   bytes = read;
   came = is;
@@ -46,9 +46,9 @@ settled_fault read old new before now few is rose = record {
   ended = λ f m p. absurd cc;
 }
 
-pub settled_full : (read : List ℕ) (old new : Option (List ℕ)) (before now : ℕ) → IsRead old new read → 67108869 ≤ length read → now ≡ before → Settles read false old new before now
-settled_full read old new before now is le same =
-    let f = when_full read old new is le in
+pub settled_full : (closing : Option ℕ) (read : List ℕ) (old new : Option (List ℕ)) (before now : ℕ) → IsRead closing old new read → 67108869 ≤ length read → now ≡ before → Settles closing read false old new before now
+settled_full closing read old new before now is le same =
+    let f = when_full closing read old new is le in
     record {
       failed_is = sym (le-ltb before now (omega (arith, same)));
       bytes = f.0;
@@ -60,9 +60,9 @@ settled_full read old new before now is le same =
 
 -- the bytes that came have an error, whatever follows, as far as bytes are read: reading goes no
 -- further
-pub settled_early : (came : List ℕ) (r : Refusal) (old new : Option (List ℕ)) (before now : ℕ) → IsRead old new came → now ≡ before
-    → ((more : List ℕ) → length (came ++ more) ≤ 67108869 → IsVerdictOf (came ++ more) (Rejected r)) → (read : List ℕ) × Settles read false old new before now × IsVerdictOf read (Rejected r)
-settled_early came r old None before now is same v =
+pub settled_early : (closing : Option ℕ) (came : List ℕ) (r : Refusal) (old new : Option (List ℕ)) (before now : ℕ) → IsRead closing old new came → now ≡ before
+    → ((more : List ℕ) → length (came ++ more) ≤ 67108869 → IsVerdictOf (came ++ more) (Rejected r)) → (read : List ℕ) × Settles closing read false old new before now × IsVerdictOf read (Rejected r)
+settled_early closing came r old None before now is same v =
     let here = subst (λ (l : List ℕ). IsVerdictOf l (Rejected r)) (append-nil came) (v [] (omega (arith, is.few, ap length (append-nil came)))) in (
       came,
       record {
@@ -75,7 +75,7 @@ settled_early came r old None before now is same v =
       },
       here,
     )
-settled_early came r old (Some rest) before now is same v =
+settled_early closing came r old (Some rest) before now is same v =
     let n = 67108869 - length came in
     let read = came ++ take n rest in
     elim (cases_lt n (length rest)) [

@@ -1,5 +1,5 @@
 -- A module whose bytes arrive, chunk by chunk.
-use Rattle.std.specs.Prelude.{◌≡◌, ◌≤◌, ◌<◌, ◌^◌, ◌-◌, ℕ, Bool, true, false, List, ◌++◌, length, All, Option, Some, None, Result, Ok, Err}
+use Rattle.std.specs.Prelude.{◌≡◌, ◌≤◌, ◌<◌, ◌^◌, ◌-◌, ℕ, Bool, true, false, List, ◌++◌, length, All, Option, Some, None, IfSome, Result, Ok, Err}
 use Rattle.std.specs.Io.KnownBytes.{prepend_known, IsAtEnd}
 use Rattle.io_edges.specs.Causes.{Rose}
 use Rattle.wasm_defs.specs.declared.front_stop.FrontStop.{FrontStop}
@@ -21,8 +21,9 @@ StandsAt came.End left before now count may_read = (now ≡ before) × IsAtEnd l
 StandsAt came.Failed left before now count may_read = Rose before now
 
 -- A source had this left at first, and is so now. The bytes that came between are those that were taken, and those that are pending in
--- the chunk. Nothing was found wrong, and before the last piece nothing can be.
-pub record IsArriving (first : Option (List ℕ)) (before : ℕ) (left : Option (List ℕ)) (now : ℕ) (may_read : Bool) (s : Compilation) (c : Chunked) : Type 0 where
+-- the chunk. Nothing was found wrong, and before the last piece nothing can be; where a number of bytes is given which closes a batch of
+-- bodies, no closed batch waits there.
+pub record IsArriving (closing : Option ℕ) (first : Option (List ℕ)) (before : ℕ) (left : Option (List ℕ)) (now : ℕ) (may_read : Bool) (s : Compilation) (c : Chunked) : Type 0 where
   pub came : List ℕ
   pub piece : List ℕ
   pub count : length (came ++ piece) ≡ c.count
@@ -31,7 +32,8 @@ pub record IsArriving (first : Option (List ℕ)) (before : ℕ) (left : Option 
   pub taken : first ≡ prepend_known (came ++ piece) left
   pub stands : StandsAt c.came left before now c.count may_read
   pub short : length piece ≤ 65536
-  pub right : PrefixIsValid came
+  pub right : PrefixIsValid closing came
+  pub batch : IfSome closing (λ least. s.batch ≡ least)
   pub going : (more : List ℕ) → length ((came ++ piece) ++ more) ≤ 67108869 → IsGoing ((came ++ piece) ++ more) s (c.pending ++ more)
 
 abbrev pub has_failed : ReadStatus → Bool
@@ -41,11 +43,11 @@ has_failed came.End = false
 has_failed came.Failed = true
 
 -- pending bytes were taken; or this is what the bytes come to
-abbrev pub Arrives : Result (Unit {0}) FrontStop → (first : Option (List ℕ)) → (before : ℕ) → (left : Option (List ℕ)) → (now : ℕ) → (may_read : Bool) → Compilation → Chunked → Type 0
-Arrives (Ok done) first before left now may_read s c = IsArriving first before left now may_read s c
-Arrives (Err stop) first before left now may_read s c = before < 2 ^ 64 - 1 → Settled (has_failed c.came) (Err stop) s first left before now
+abbrev pub Arrives : (closing : Option ℕ) → Result (Unit {0}) FrontStop → (first : Option (List ℕ)) → (before : ℕ) → (left : Option (List ℕ)) → (now : ℕ) → (may_read : Bool) → Compilation → Chunked → Type 0
+Arrives closing (Ok done) first before left now may_read s c = IsArriving closing first before left now may_read s c
+Arrives closing (Err stop) first before left now may_read s c = before < 2 ^ 64 - 1 → Settled closing (has_failed c.came) (Err stop) s first left before now
 
 -- it was read to the end, or up to the bodies
-abbrev pub ReadsOn : Option Ending → (first : Option (List ℕ)) → (before : ℕ) → (left : Option (List ℕ)) → (now : ℕ) → (may_read : Bool) → Compilation → Chunked → Type 0
-ReadsOn None first before left now may_read s c = IsArriving first before left now may_read s c
-ReadsOn (Some e) first before left now may_read s c = before < 2 ^ 64 - 1 → Settled e.failed e.judged s first left before now
+abbrev pub ReadsOn : (closing : Option ℕ) → Option Ending → (first : Option (List ℕ)) → (before : ℕ) → (left : Option (List ℕ)) → (now : ℕ) → (may_read : Bool) → Compilation → Chunked → Type 0
+ReadsOn closing None first before left now may_read s c = IsArriving closing first before left now may_read s c
+ReadsOn closing (Some e) first before left now may_read s c = before < 2 ^ 64 - 1 → Settled closing e.failed e.judged s first left before now

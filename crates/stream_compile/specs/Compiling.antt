@@ -16,16 +16,17 @@ abbrev pub IsRefused : Bool → List ℕ → Refusal → Type 0
 IsRefused false bytes r = IsVerdictOf bytes (Rejected r)
 IsRefused true bytes r = IsStoppedAt bytes (Some r)
 
--- by whether the source failed, and what was left in it before and after; a good answer comes at its end
-abbrev pub CompilesSource : Bool → (left rest : Option (List ℕ)) → Answer → Type 0
-CompilesSource failed left rest (answer.Image built) = (failed ≡ false) × (bytes : List ℕ) × ReadStatus left rest false bytes × IsAtEnd rest × IsBuilt bytes built
-CompilesSource failed left rest (answer.Refused r) = (bytes : List ℕ) × ReadStatus left rest failed bytes × IsRefused failed bytes r
-CompilesSource failed left rest answer.ReadFault = (failed ≡ true) × (bytes : List ℕ) × ReadStatus left rest true bytes × IsStoppedAt bytes None
-CompilesSource failed left rest answer.NoMemory = Unit {0}
+-- by how many bytes close a batch of bodies, where closed batches are validated before more bytes are read (`closing_bytes`), whether the
+-- source failed, and what was left in it before and after; a good answer comes at its end
+abbrev pub CompilesSource : (closing : Option ℕ) → Bool → (left rest : Option (List ℕ)) → Answer → Type 0
+CompilesSource closing failed left rest (answer.Image built) = (failed ≡ false) × (bytes : List ℕ) × ReadStatus closing left rest false bytes × IsAtEnd rest × IsBuilt bytes built
+CompilesSource closing failed left rest (answer.Refused r) = (bytes : List ℕ) × ReadStatus closing left rest failed bytes × IsRefused failed bytes r
+CompilesSource closing failed left rest answer.ReadFault = (failed ≡ true) × (bytes : List ℕ) × ReadStatus closing left rest true bytes × IsStoppedAt bytes None
+CompilesSource closing failed left rest answer.NoMemory = Unit {0}
 
 -- the same of an answer that gives no image
-abbrev pub ChecksSource : Bool → (left rest : Option (List ℕ)) → CheckAnswer → Type 0
-ChecksSource failed left rest (check.Valid checked) = (failed ≡ false) × (bytes : List ℕ) × ReadStatus left rest false bytes × IsAtEnd rest × IsValid bytes checked
-ChecksSource failed left rest (check.Refused r) = (bytes : List ℕ) × ReadStatus left rest failed bytes × IsRefused failed bytes r
-ChecksSource failed left rest check.ReadFault = (failed ≡ true) × (bytes : List ℕ) × ReadStatus left rest true bytes × IsStoppedAt bytes None
-ChecksSource failed left rest check.NoMemory = Unit {0}
+abbrev pub ChecksSource : (closing : Option ℕ) → Bool → (left rest : Option (List ℕ)) → CheckAnswer → Type 0
+ChecksSource closing failed left rest (check.Valid checked) = (failed ≡ false) × (bytes : List ℕ) × ReadStatus closing left rest false bytes × IsAtEnd rest × IsValid bytes checked
+ChecksSource closing failed left rest (check.Refused r) = (bytes : List ℕ) × ReadStatus closing left rest failed bytes × IsRefused failed bytes r
+ChecksSource closing failed left rest check.ReadFault = (failed ≡ true) × (bytes : List ℕ) × ReadStatus closing left rest true bytes × IsStoppedAt bytes None
+ChecksSource closing failed left rest check.NoMemory = Unit {0}

@@ -1,5 +1,5 @@
 -- Bodies that are read and kept while workers compile them.
-use Rattle.std.specs.Prelude.{◌≡◌, ◌≤◌, ◌<◌, ◌-◌, ◌^◌, ℕ, Bool, List, ◌++◌, length, All, Option, Result, Ok, Err}
+use Rattle.std.specs.Prelude.{◌≡◌, ◌≤◌, ◌<◌, ◌-◌, ◌^◌, ℕ, Bool, List, ◌++◌, length, All, Option, None, Result, Ok, Err}
 use Rattle.wasm_defs.specs.Outside.{ends}
 use Rattle.wasm_defs.specs.Outside as outside
 use Rattle.wasm_defs.specs.declared.front_stop.FrontStop.{FrontStop}
@@ -34,20 +34,20 @@ keeping s i = with_cutter s (with_kept (kept_bodies i.kept.items) i.cutter)
 pub record IsFaulty (first : Option (List ℕ)) (before : ℕ) (left : Option (List ℕ)) (now : ℕ) (may_read : Bool) (s : Compilation) (i : Intake) (r : Refusal) : Type 0 where
   pub was : Compilation
   pub chunk : Chunked
-  pub arrived : IsArriving first before left now may_read was chunk
+  pub arrived : IsArriving None first before left now may_read was chunk
   pub same : chunk.came ≡ i.chunk.came
   pub judging : (more : List ℕ) → length ((arrived.came ++ arrived.piece) ++ more) ≤ 67108869 → IsJudging ((arrived.came ++ arrived.piece) ++ more) (after_parts (coded_all (counts_data s.front.steps.seen) (kept_bodies i.kept.items)) (ends (outside.Refused r))) s.spaces s.codes
 
 -- bodies were read and kept, and none is validated; or the error of their section is found
 abbrev pub Keeps : Result (Unit {0}) FrontStop → (first : Option (List ℕ)) → (before : ℕ) → (left : Option (List ℕ)) → (now : ℕ) → (may_read : Bool) → Compilation → Intake → Type 0
-Keeps (Ok done) first before left now may_read s i = IsArriving first before left now may_read (keeping s i) i.chunk
+Keeps (Ok done) first before left now may_read s i = IsArriving None first before left now may_read (keeping s i) i.chunk
 Keeps (Err (Refused r)) first before left now may_read s i = IsFaulty first before left now may_read s i r
 Keeps (Err NoMemory) first before left now may_read s i = Unit {0}
 
 -- bodies were read in parallel with workers, and validated; or this is what the bytes come to
 abbrev pub Resumes : Result Chunked Ending → (first : Option (List ℕ)) → (before : ℕ) → (left : Option (List ℕ)) → (now : ℕ) → (may_read : Bool) → Compilation → Type 0
-Resumes (Ok chunk) first before left now may_read s = IsArriving first before left now may_read s chunk
-Resumes (Err e) first before left now may_read s = before < 2 ^ 64 - 1 → Settled e.failed e.judged s first left before now
+Resumes (Ok chunk) first before left now may_read s = IsArriving None first before left now may_read s chunk
+Resumes (Err e) first before left now may_read s = before < 2 ^ 64 - 1 → Settled None e.failed e.judged s first left before now
 
 -- the rows that are at hand are right
 abbrev pub IsMet : Spaces → Met → Type 0

@@ -6,20 +6,20 @@ use Rattle.module_stream.specs.RightSoFar.{PrefixIsValid}
 
 -- These bytes were read of a source that had the first left before and has the second left after: a prefix of what was left. They
 -- are no more than those that decide about any module, and up to the last piece of them, of 65,536 bytes at most, nothing was found
--- wrong.
-pub record IsRead (left rest : Option (List ℕ)) (read : List ℕ) : Type 0 where
+-- wrong. Where a number of bytes is given which closes a batch of bodies, no closed batch has an error there.
+pub record IsRead (closing : Option ℕ) (left rest : Option (List ℕ)) (read : List ℕ) : Type 0 where
   pub taken : left ≡ prepend_known read rest
   pub few : length read ≤ deciding_length
   pub before : List ℕ
   pub piece : List ℕ
   pub pieces : read ≡ before ++ piece
   pub short : length piece ≤ 65536
-  pub right : PrefixIsValid before
+  pub right : PrefixIsValid closing before
 
 -- These bytes came: all that were left, of which a prefix was read; or, where the source failed, those that were read.
-abbrev pub ReadStatus : (left rest : Option (List ℕ)) → (failed : Bool) → List ℕ → Type 0
-ReadStatus left rest false bytes = (read more : List ℕ) × IsRead left rest read × IfSome rest (λ l. more ≡ l) × (bytes ≡ read ++ more)
-ReadStatus left rest true bytes = IsRead left rest bytes
+abbrev pub ReadStatus : (closing : Option ℕ) → (left rest : Option (List ℕ)) → (failed : Bool) → List ℕ → Type 0
+ReadStatus closing left rest false bytes = (read more : List ℕ) × IsRead closing left rest read × IfSome rest (λ l. more ≡ l) × (bytes ≡ read ++ more)
+ReadStatus closing left rest true bytes = IsRead closing left rest bytes
 
 -- more bytes than an image may have: so many decide about any
 abbrev pub image_input : ℕ

@@ -19,20 +19,20 @@ use Rattle.module_stream.specs.Done.{IsDone, checked_of}
 use Rattle.stream_compile.specs.Texts.{Outcome}
 
 -- reading failed exactly where the count rose; where it didn't, all bytes that came have the verdict of those that were read
-pub record Settles (read : List ℕ) (failed : Bool) (left rest : Option (List ℕ)) (before now : ℕ) : Type 0 where
+pub record Settles (closing : Option ℕ) (read : List ℕ) (failed : Bool) (left rest : Option (List ℕ)) (before now : ℕ) : Type 0 where
   pub failed_is : failed ≡ nat_lt before now
   pub bytes : List ℕ
-  pub came : ReadStatus left rest failed bytes
+  pub came : ReadStatus closing left rest failed bytes
   pub verdict : (v : Verdict) → IsVerdictOf read v → IsVerdictOf bytes v
   -- and a module was read to its end
   pub whole : (m : Module) → IsVerdictOf read (Accepted m) → bytes ≡ read
   pub ended : failed ≡ false → (m : Module) → IsVerdictOf read (Accepted m) → IsAtEnd rest
 
 -- what the bytes that were read come to, unless memory ran out
-abbrev pub Settled : Bool → Result (Unit {0}) FrontStop → Compilation → (left rest : Option (List ℕ)) → (before now : ℕ) → Type 0
-Settled failed (Ok done) s left rest before now = (read : List ℕ) × Settles read failed left rest before now × IsDone read s
-Settled failed (Err (stop.Refused r)) s left rest before now = (read : List ℕ) × Settles read failed left rest before now × IsVerdictOf read (Rejected r)
-Settled failed (Err stop.NoMemory) s left rest before now = Unit {0}
+abbrev pub Settled : (closing : Option ℕ) → Bool → Result (Unit {0}) FrontStop → Compilation → (left rest : Option (List ℕ)) → (before now : ℕ) → Type 0
+Settled closing failed (Ok done) s left rest before now = (read : List ℕ) × Settles closing read failed left rest before now × IsDone read s
+Settled closing failed (Err (stop.Refused r)) s left rest before now = (read : List ℕ) × Settles closing read failed left rest before now × IsVerdictOf read (Rejected r)
+Settled closing failed (Err stop.NoMemory) s left rest before now = Unit {0}
 
 -- ---- what is answered
 
@@ -52,11 +52,11 @@ stopped_answer (Err (stop.Refused r)) = of_lasting (lasting r.kind r)
 stopped_answer (Err stop.NoMemory) = check.NoMemory
 
 -- what validating a source answers, and that the compilation of a module is done
-abbrev pub Judged : Bool → (left rest : Option (List ℕ)) → CheckAnswer → Compilation → Type 0
-Judged failed left rest (check.Valid checked) s = (failed ≡ false) × (bytes : List ℕ) × ReadStatus left rest false bytes × IsAtEnd rest × IsDone bytes s × (checked ≡ checked_of s)
-Judged failed left rest (check.Refused r) s = ChecksSource failed left rest (check.Refused r)
-Judged failed left rest check.ReadFault s = ChecksSource failed left rest check.ReadFault
-Judged failed left rest check.NoMemory s = ChecksSource failed left rest check.NoMemory
+abbrev pub Judged : (closing : Option ℕ) → Bool → (left rest : Option (List ℕ)) → CheckAnswer → Compilation → Type 0
+Judged closing failed left rest (check.Valid checked) s = (failed ≡ false) × (bytes : List ℕ) × ReadStatus closing left rest false bytes × IsAtEnd rest × IsDone bytes s × (checked ≡ checked_of s)
+Judged closing failed left rest (check.Refused r) s = ChecksSource closing failed left rest (check.Refused r)
+Judged closing failed left rest check.ReadFault s = ChecksSource closing failed left rest check.ReadFault
+Judged closing failed left rest check.NoMemory s = ChecksSource closing failed left rest check.NoMemory
 
 -- a status and a text in memory as an outcome
 abbrev pub bytes_of : Text → List ℕ

@@ -1,5 +1,5 @@
 -- What the program answers and writes.
-use Rattle.std.specs.Prelude.{◌≡◌, ◌<◌, ◌≤◌, ◌⊎◌, ◌+◌, ◌*◌, ◌/◌, ◌%◌, ◌==◌, ℕ, ℤ, pos, Bool, true, false, if◌then◌else◌, nat_lt, nat_le, List, [], ◌∷◌, ◌++◌, length, take, drop, Option, None, Some, codes, String, string_bytes, map, Result, Ok, Err}
+use Rattle.std.specs.Prelude.{◌≡◌, ◌<◌, ◌≤◌, ◌⊎◌, ◌+◌, ◌*◌, ◌/◌, ◌%◌, ◌==◌, ℕ, ℤ, pos, Bool, true, false, if◌then◌else◌, nat_lt, nat_le, List, [], ◌∷◌, ◌++◌, length, take, drop, Option, None, Some, codes, String, string_bytes, map, min, Result, Ok, Err}
 use Rattle.std.specs.Fmt.{decimal, signed_decimal}
 use Rattle.std.specs.List.{flat_map}
 use Rattle.std.specs.Global.{Global}
@@ -9,6 +9,7 @@ use Rattle.command_words.specs.declared.argument.Argument.TheVariants as argumen
 use Rattle.command_words.specs.declared.command.Command.{Command}
 use Rattle.command_words.specs.declared.command.Command.TheVariants.{Check, Compile, Many, Run, Exec, Drill}
 use Rattle.command_words.specs.declared.command.Call.{Call as Given}
+use Rattle.command_words.specs.declared.command.Options.{Options}
 use Rattle.command_words.specs.declared.peek.Peek.{Peek}
 use Rattle.command_words.specs.declared.command.Drill.{Drill as Drilled}
 use Rattle.command_words.specs.Grammar.{command_in}
@@ -53,6 +54,8 @@ use Rattle.many_streams.specs.declared.member.EachChecked.{EachChecked}
 use Rattle.many_streams.specs.declared.member.EachChecked.TheVariants as each
 use Rattle.many_streams.specs.Frames.{Frames, IsBadFrame, IsCutOff}
 use Rattle.many_streams.specs.Many.{IsFront}
+use Rattle.module_stream.specs.declared.settings.Settings.{Settings}
+use Rattle.module_stream.specs.RightSoFar.{closing_bytes}
 use Rattle.stream_compile.specs.ReadStatus.{ReadStatus, CameUpTo, image_input}
 
 -- a status, and what is written
@@ -331,9 +334,17 @@ abbrev pub OfImage : Given → Bool → List ℕ → Outcome → Type 0
 OfImage c true bytes o = o ≡ read_fault
 OfImage c false bytes o = OfReading c (image_or_offset bytes) o
 
+-- how modules are compiled: neither setting has a part in the answer
+abbrev pub settings_of : Options → Settings
+settings_of o = record { workers = min o.workers 64; batch = min o.batch 1048576 }
+
+-- how many bytes close a batch of bodies, where closed batches are validated before more bytes are read: where no workers are asked for
+abbrev pub closing_of : Options → Option ℕ
+closing_of o = closing_bytes (settings_of o).workers (settings_of o).batch
+
 -- by what was left in the source before and after
-abbrev pub ComesOfModule : ((bytes : ℕ) → Module → Outcome → Type 0) → Bool → (left rest : Option (List ℕ)) → Outcome → Type 0
-ComesOfModule Tells failed left rest o = (bytes : List ℕ) × ReadStatus left rest failed bytes × OfModule Tells failed bytes o
+abbrev pub ComesOfModule : (closing : Option ℕ) → ((bytes : ℕ) → Module → Outcome → Type 0) → Bool → (left rest : Option (List ℕ)) → Outcome → Type 0
+ComesOfModule closing Tells failed left rest o = (bytes : List ℕ) × ReadStatus closing left rest failed bytes × OfModule Tells failed bytes o
 
 -- of each module is reported what `check` reports of its bytes alone
 abbrev pub AreChecked : List (List ℕ) → List Outcome → Type 0
@@ -358,10 +369,10 @@ ComesOfMany false left rest o =
 -- what the words, the source's failing and what it gave come to
 abbrev pub ComesTo : Option Command → Bool → (left rest : Option (List ℕ)) → Outcome → Type 0
 ComesTo None failed left rest o = o ≡ usage
-ComesTo (Some (Check options)) failed left rest o = ComesOfModule TellsCheck failed left rest o
-ComesTo (Some (Compile options)) failed left rest o = ComesOfModule (λ bytes m. TellsImage m) failed left rest o
+ComesTo (Some (Check options)) failed left rest o = ComesOfModule (closing_of options) TellsCheck failed left rest o
+ComesTo (Some (Compile options)) failed left rest o = ComesOfModule (closing_of options) (λ bytes m. TellsImage m) failed left rest o
 ComesTo (Some (Many options)) failed left rest o = ComesOfMany failed left rest o
-ComesTo (Some (Run r)) failed left rest o = ComesOfModule (λ bytes m. TellsCall None r.call m) failed left rest o
+ComesTo (Some (Run r)) failed left rest o = ComesOfModule (closing_of r.options) (λ bytes m. TellsCall None r.call m) failed left rest o
 ComesTo (Some (Exec c)) failed left rest o = (bytes : List ℕ) × CameUpTo image_input left rest failed bytes × OfImage c failed bytes o
 ComesTo (Some (Drill d)) failed left rest o = OfDrill d o
 

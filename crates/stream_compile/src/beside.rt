@@ -1,6 +1,6 @@
 //! Reads bodies while workers compile them.
 
-ghost use Rattle.std.specs.Prelude.{◌≡◌, ◌<◌, ◌^◌, ℕ, Bool, true, [], List, Option, IfSome, IfOk, length};
+ghost use Rattle.std.specs.Prelude.{◌≡◌, ◌<◌, ◌^◌, ℕ, Bool, true, [], List, Option, None, IfSome, IfOk, length};
 ghost use Rattle.io_edges.specs.Streams.{TookFront};
 ghost use Rattle.batch_pool.specs.Desks.{HasRead};
 ghost use Rattle.module_stream.specs.declared.compilation.Compilation.{Compilation as Given};
@@ -51,12 +51,12 @@ impl<'a, S: Source> BodyReader<'a, S> {
 
 impl<'a, S: Source> Reading for BodyReader<'a, S> {
     ghost can_read = { λ r. (first : Option (List ℕ)) × (before : ℕ) × (s : Given)
-        × IsArriving first before (S.left r.source.now) (S.faults r.source.now) (S.is_open r.source.now) (keeping s r.intake) r.intake.chunk };
+        × IsArriving None first before (S.left r.source.now) (S.faults r.source.now) (S.is_open r.source.now) (keeping s r.intake) r.intake.chunk };
 
     ghost reads = { λ r t. (t.source.ghost_name ≡ r.source.ghost_name)
         × TookFront (S.left r.source.now) (S.faults r.source.now) (S.left t.source.now) (S.faults t.source.now)
         × ((first : Option (List ℕ)) (before : ℕ) (s : Given)
-        → IsArriving first before (S.left r.source.now) (S.faults r.source.now) (S.is_open r.source.now) (keeping s r.intake) r.intake.chunk
+        → IsArriving None first before (S.left r.source.now) (S.faults r.source.now) (S.is_open r.source.now) (keeping s r.intake) r.intake.chunk
         → Keeps t.read first before (S.left t.source.now) (S.faults t.source.now) (S.is_open t.source.now) s t.intake) };
 
     fn read(&mut self, board: &Board, context: &Context, desk: &mut Desk) {
@@ -116,10 +116,10 @@ fn read_in_scope<R: Threads + Wait + Sync, S: Source, G: Gate>(
     requires first { (seat.view.feeder ≡ true) × (seat.view.running ≡ []) × (seat.view.published ≡ []) }
     requires parts { length hands.items < seat.view.parts }
     requires arrives { (first : Option (List ℕ)) × (before : ℕ) × (s : Given)
-        × IsArriving first before (S.left source.old) (S.faults source.old) (S.is_open source.old) (keeping s intake) intake.chunk }
+        × IsArriving None first before (S.left source.old) (S.faults source.old) (S.is_open source.old) (keeping s intake) intake.chunk }
     ensures read { IfSome result (λ j. HasRead context.now cells.now board.now seat.view j.seat j.tickets.items j.rows.items) }
     ensures keeps { IfSome result (λ j. (first : Option (List ℕ)) (before : ℕ) (s : Given)
-        → IsArriving first before (S.left source.old) (S.faults source.old) (S.is_open source.old) (keeping s intake) intake.chunk
+        → IsArriving None first before (S.left source.old) (S.faults source.old) (S.is_open source.old) (keeping s intake) intake.chunk
         → Keeps j.read first before (S.left source.new) (S.faults source.new) (S.is_open source.new) s j.intake) }
     ensures front { TookFront (S.left source.old) (S.faults source.old) (S.left source.new) (S.faults source.new) }
 {
@@ -164,10 +164,10 @@ fn read_with_workers<R: Threads + Wait + Sync, S: Source, G: Gate>(
     intake: Intake,
 ) -> Result<Met, AllocError>
     requires arrives { (first : Option (List ℕ)) × (before : ℕ) × (s : Given)
-        × IsArriving first before (S.left source.old) (S.faults source.old) (S.is_open source.old) (keeping s intake) intake.chunk }
+        × IsArriving None first before (S.left source.old) (S.faults source.old) (S.is_open source.old) (keeping s intake) intake.chunk }
     ensures met { IfOk result (IsMet compilation.now.spaces) }
     ensures keeps { IfOk result (λ m. (first : Option (List ℕ)) (before : ℕ) (s : Given)
-        → IsArriving first before (S.left source.old) (S.faults source.old) (S.is_open source.old) (keeping s intake) intake.chunk
+        → IsArriving None first before (S.left source.old) (S.faults source.old) (S.is_open source.old) (keeping s intake) intake.chunk
         → Keeps m.read first before (S.left source.new) (S.faults source.new) (S.is_open source.new) s m.intake) }
     ensures front { TookFront (S.left source.old) (S.faults source.old) (S.left source.new) (S.faults source.new) }
 {
@@ -220,9 +220,9 @@ pub fn read_beside<R: Threads + Wait + Sync, S: Source, G: Gate>(
     compilation: &mut Compilation,
 ) -> Result<Chunk, Ending>
     requires arrives { (first : Option (List ℕ)) × (before : ℕ)
-        × IsArriving first before (S.left source.old) (S.faults source.old) (S.is_open source.old) compilation.old chunk }
+        × IsArriving None first before (S.left source.old) (S.faults source.old) (S.is_open source.old) compilation.old chunk }
     ensures resumes { (first : Option (List ℕ)) (before : ℕ)
-        → IsArriving first before (S.left source.old) (S.faults source.old) (S.is_open source.old) compilation.old chunk
+        → IsArriving None first before (S.left source.old) (S.faults source.old) (S.is_open source.old) compilation.old chunk
         → Resumes result first before (S.left source.new) (S.faults source.new) (S.is_open source.new) compilation.new }
     ensures kept { KeepsAlike compilation.old.codes compilation.new.codes }
     ensures front { TookFront (S.left source.old) (S.faults source.old) (S.left source.new) (S.faults source.new) }

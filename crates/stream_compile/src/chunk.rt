@@ -3,7 +3,7 @@
 ghost use Rattle.std.specs.Prelude.{◌≡◌, ◌≢◌, ◌<◌, ◌≤◌, ℕ, true, [], List, Option, All, IfOk, length, take, drop};
 ghost use Rattle.io_edges.specs.Streams.{Reads, ReadCounts, ReadsOn, TookFront};
 ghost use Rattle.module_stream.specs.declared.compilation.Compilation.{Compilation};
-ghost use Rattle.module_stream.specs.Streaming.{IsErrorFree};
+ghost use Rattle.module_stream.specs.Streaming.{IsErrorFree, ClosedAreValid};
 ghost use Rattle.stream_compile.specs.Arriving.{IsArriving, has_failed};
 
 use io_edges::{Got, Source};
@@ -124,9 +124,9 @@ impl Chunk {
         ensures more { result ≡ ReadStatus.Bytes → self.old.count < self.new.count }
         ensures rest { result ≢ ReadStatus.Bytes → self.new.pending ≡ [] }
         ensures few { self.new.count ≤ 67108869 }
-        ensures arrives { (first : Option (List ℕ)) (before : ℕ) (s : Compilation) → IsErrorFree s
-            → IsArriving first before (S.left source.old) (S.faults source.old) (S.is_open source.old) s self.old
-            → IsArriving first before (S.left source.new) (S.faults source.new) (S.is_open source.new) s self.new }
+        ensures arrives { (closing : Option ℕ) (first : Option (List ℕ)) (before : ℕ) (s : Compilation) → IsErrorFree s → ClosedAreValid closing s
+            → IsArriving closing first before (S.left source.old) (S.faults source.old) (S.is_open source.old) s self.old
+            → IsArriving closing first before (S.left source.new) (S.faults source.new) (S.is_open source.new) s self.new }
         ensures front { TookFront (S.left source.old) (S.faults source.old) (S.left source.new) (S.faults source.new) }
     {
         if self.came != ReadStatus::Bytes {

@@ -1,12 +1,12 @@
 //! The commands of the program.
 
-ghost use Rattle.std.specs.Prelude.{◌≡◌, ◌<◌, ◌^◌, ◌-◌, true, None, Some, min, nat_lt, IfOk, IfSome, OnErr};
+ghost use Rattle.std.specs.Prelude.{◌≡◌, ◌<◌, ◌^◌, ◌-◌, true, None, Some, nat_lt, IfOk, IfSome, OnErr};
 ghost use Rattle.io_edges.specs.Streams.{TookFront};
 ghost use Rattle.command_words.specs.Grammar.{IsInRange};
 ghost use Rattle.command_words.specs.declared.command.Command.TheVariants.{Check, Compile, Exec, Many, Run as RunCommand};
 ghost use Rattle.stream_compile.specs.Reading.{view};
 ghost use Rattle.stream_compile.specs.Running.{IsTold};
-ghost use Rattle.stream_compile.specs.Texts.{command_said, ComesTo, AnswersAndWrites, ReadsNothing};
+ghost use Rattle.stream_compile.specs.Texts.{command_said, settings_of, ComesTo, AnswersAndWrites, ReadsNothing};
 
 use crate::answer::{Answer, CheckAnswer};
 use crate::compiling::{stream_check, stream_compile};
@@ -25,7 +25,7 @@ use std::sync::Wait;
 use std::thread::Threads;
 
 fn settings_of(options: &Options) -> Settings
-    ensures { result ≡ record { workers = min options.now.workers 64; batch = min options.now.batch 1048576 } }
+    ensures { result ≡ settings_of options.now }
 {
     Settings {
         workers: options.workers.min(64) as u32,

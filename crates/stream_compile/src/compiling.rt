@@ -2,6 +2,7 @@
 
 ghost use Rattle.std.specs.Prelude.{◌≡◌, ◌<◌, ◌^◌, ◌-◌, true, nat_lt};
 ghost use Rattle.io_edges.specs.Streams.{TookFront};
+ghost use Rattle.module_stream.specs.RightSoFar.{closing_bytes};
 ghost use Rattle.stream_compile.specs.Compiling.{CompilesSource, ChecksSource};
 
 use crate::answer::{Answer, CheckAnswer};
@@ -15,7 +16,8 @@ use std::thread::Threads;
 /// Compiles the module whose bytes the source gives (WebAssembly Web API 1.0, streaming compilation): its one image, or its error
 /// of least offset. The image behaves as the module does.
 ///
-/// Bytes are read as they come, up to the first error, and no input is kept. The answer is the same for all settings, and however
+/// Bytes are read as they come, up to the first error, and no input is kept. With no workers a batch of bodies is validated as soon as it is
+/// closed, before more bytes are asked for. The answer is the same for all settings, and however
 /// the source cuts the bytes. Where the source failed, an error of the bytes that came decides, if there is one that more bytes
 /// don't mend, and else the answer is `ReadFault`.
 pub fn stream_compile<R: Threads + Wait + Sync, S: Source, G: Gate>(
@@ -27,7 +29,8 @@ pub fn stream_compile<R: Threads + Wait + Sync, S: Source, G: Gate>(
 ) -> Answer
     requires faults { S.faults source.old < 2 ^ 64 - 1 }
     requires open { S.is_open source.old ≡ true }
-    ensures answer { CompilesSource (nat_lt (S.faults source.old) (S.faults source.new)) (S.left source.old) (S.left source.new) result }
+    ensures answer { CompilesSource (closing_bytes settings.workers settings.batch) (nat_lt (S.faults source.old) (S.faults source.new)) (S.left source.old)
+        (S.left source.new) result }
     ensures front { TookFront (S.left source.old) (S.faults source.old) (S.left source.new) (S.faults source.new) }
 {
     let mut compilation = Compilation::new(alloc, settings.batch, Codes::kept(alloc));
@@ -57,10 +60,11 @@ pub fn stream_check<R: Threads + Wait + Sync, S: Source, G: Gate>(
 ) -> CheckAnswer
     requires faults { S.faults source.old < 2 ^ 64 - 1 }
     requires open { S.is_open source.old ≡ true }
-    ensures answer { ChecksSource (nat_lt (S.faults source.old) (S.faults source.new)) (S.left source.old) (S.left source.new) result }
+    ensures answer { ChecksSource (closing_bytes settings.workers settings.batch) (nat_lt (S.faults source.old) (S.faults source.new)) (S.left source.old)
+        (S.left source.new) result }
     ensures front { TookFront (S.left source.old) (S.faults source.old) (S.left source.new) (S.faults source.new) }
 {
-    // Why: docs/DECISIONS.md, "`check` judges by the compiler itself"
+    // Why: docs/DECISIONS.md, "`check` validates by the compiler itself"
     let mut compilation = Compilation::new(alloc, settings.batch, Codes::counted());
     judge_source(rt, alloc, source, gate, settings.workers, &mut compilation)
 }

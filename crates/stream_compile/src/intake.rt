@@ -61,6 +61,7 @@ fn hand_over(
     ensures place { intake.new.cutter.place ≡ intake.old.cutter.place }
     ensures closed { OnOk result (intake.new.cutter.queue.closed ≡ []) }
     ensures begun { OnOk result (intake.new.cutter.queue.begun ≡ intake.old.cutter.queue.begun) }
+    ensures least { OnOk result (intake.new.cutter.queue.least ≡ intake.old.cutter.queue.least) }
     ensures kept { OnOk result (kept_bodies intake.new.kept.items ≡ kept_bodies intake.old.kept.items ++ intake.old.cutter.queue.closed) }
 {
     while let Some(batch) = intake.cutter.take_batch() {
@@ -88,7 +89,7 @@ fn take_piece(
     ensures no_error { OnOk result ((s : Compilation) → IsErrorFree (keeping s intake.new)) }
     ensures chunk { (intake.new.chunk.count ≡ intake.old.chunk.count) × (intake.new.chunk.came ≡ intake.old.chunk.came) }
     ensures keeps { (first : Option (List ℕ)) (before : ℕ) (left : Option (List ℕ)) (now : ℕ) (may_read : Bool) (s : Compilation)
-        → IsArriving first before left now may_read (keeping s intake.old) intake.old.chunk → Keeps result first before left now may_read s intake.new }
+        → IsArriving None first before left now may_read (keeping s intake.old) intake.old.chunk → Keeps result first before left now may_read s intake.new }
 {
     match intake.cutter.feed(intake.chunk.pending()) {
         Ok(taken) => {
@@ -120,12 +121,12 @@ pub fn read_bodies<S: Source>(
 ) -> Result<(), FrontStop>
     requires desk { IsDesk context.now board.now desk.old }
     requires arrives { (first : Option (List ℕ)) × (before : ℕ) × (s : Compilation)
-        × IsArriving first before (S.left source.old) (S.faults source.old) (S.is_open source.old) (keeping s intake.old) intake.old.chunk }
+        × IsArriving None first before (S.left source.old) (S.faults source.old) (S.is_open source.old) (keeping s intake.old) intake.old.chunk }
     ensures desk { IsDesk context.now board.now desk.new }
     ensures parts { desk.new.seat.view.parts ≡ desk.old.seat.view.parts }
     ensures idle { IsIdle desk.old desk.new }
     ensures keeps { (first : Option (List ℕ)) (before : ℕ) (s : Compilation)
-        → IsArriving first before (S.left source.old) (S.faults source.old) (S.is_open source.old) (keeping s intake.old) intake.old.chunk
+        → IsArriving None first before (S.left source.old) (S.faults source.old) (S.is_open source.old) (keeping s intake.old) intake.old.chunk
         → Keeps result first before (S.left source.new) (S.faults source.new) (S.is_open source.new) s intake.new }
     ensures front { TookFront (S.left source.old) (S.faults source.old) (S.left source.new) (S.faults source.new) }
 {
@@ -137,7 +138,7 @@ pub fn read_bodies<S: Source>(
         if intake.cutter.is_whole() {
             return Ok(());
         }
-        // Why: docs/DECISIONS.md, "The reader looks for a reported fault after each piece that it read"
+        // Why: docs/DECISIONS.md, "The reader looks for a reported error after each piece that it read"
         if desk.sees_fault(board, context) {
             return Ok(());
         }

@@ -1,11 +1,12 @@
 //! Reads a source, and validates and compiles the module that it gives while its bytes come.
 
 ghost use Rattle.std.specs.Prelude.{◌≡◌, ◌<◌, ◌^◌, ◌-◌, ℕ, Bool, true, false, List, [], Option, None, IsSome, OnOk, nat_lt};
+ghost use Rattle.module_stream.specs.RightSoFar.{closing_bytes};
 ghost use Rattle.io_edges.specs.Streams.{TookFront};
 ghost use Rattle.stream_compile.specs.Arriving.{IsArriving, Arrives, ReadsOn};
 ghost use Rattle.module_stream.specs.Codes.{KeepsAlike};
 ghost use Rattle.stream_compile.specs.Reading.{Settled, Judged, answer_of, stopped_answer};
-ghost use Rattle.module_stream.specs.Streaming.{IsErrorFree, IsUnread};
+ghost use Rattle.module_stream.specs.Streaming.{IsErrorFree, IsUnread, AllWait};
 
 use crate::answer::CheckAnswer;
 use crate::beside::read_beside;
@@ -32,13 +33,15 @@ fn take_pending(
     chunk: &mut Chunk,
     up_to_bodies: bool,
 ) -> Result<(), FrontStop>
-    requires { (first : Option (List ℕ)) × (before : ℕ) × (left : Option (List ℕ)) × (now : ℕ) × (may_read : Bool)
-        × IsArriving first before left now may_read compilation.old chunk.old }
-    ensures arrives { (first : Option (List ℕ)) (before : ℕ) (left : Option (List ℕ)) (now : ℕ) (may_read : Bool)
-        → IsArriving first before left now may_read compilation.old chunk.old
-        → Arrives result first before left now may_read compilation.new chunk.new }
+    requires { (closing : Option ℕ) × (first : Option (List ℕ)) × (before : ℕ) × (left : Option (List ℕ)) × (now : ℕ) × (may_read : Bool)
+        × IsArriving closing first before left now may_read compilation.old chunk.old }
+    ensures arrives { (closing : Option ℕ) (first : Option (List ℕ)) (before : ℕ) (left : Option (List ℕ)) (now : ℕ) (may_read : Bool)
+        → IsArriving closing first before left now may_read compilation.old chunk.old
+        → Arrives closing result first before left now may_read compilation.new chunk.new }
     ensures all { OnOk result ((up_to_bodies ≡ false → chunk.new.pending ≡ []) × (compilation.new.cutter ≡ None → chunk.new.pending ≡ [])) }
     ensures no_error { OnOk result ((up_to_bodies ≡ false → IsErrorFree compilation.new) × (compilation.new.cutter ≡ None → IsErrorFree compilation.new)) }
+    ensures waits { OnOk result (up_to_bodies ≡ false → AllWait compilation.new.cutter) }
+    ensures batch { compilation.new.batch ≡ compilation.old.batch }
     ensures chunk { (chunk.new.count ≡ chunk.old.count) × (chunk.new.came ≡ chunk.old.came) }
     ensures kept { KeepsAlike compilation.old.codes compilation.new.codes }
 {
@@ -61,11 +64,11 @@ fn read_on<S: Source>(
     compilation: &mut Compilation,
     up_to_bodies: bool,
 ) -> Option<Ending>
-    requires { (first : Option (List ℕ)) × (before : ℕ) × IsArriving first before (S.left source.old) (S.faults source.old)
-        (S.is_open source.old) compilation.old chunk.old }
-    ensures reads { (first : Option (List ℕ)) (before : ℕ) → IsArriving first before (S.left source.old) (S.faults source.old)
-        (S.is_open source.old) compilation.old chunk.old
-        → ReadsOn result first before (S.left source.new) (S.faults source.new) (S.is_open source.new) compilation.new chunk.new }
+    requires { (closing : Option ℕ) × (first : Option (List ℕ)) × (before : ℕ) × (IsSome closing → up_to_bodies ≡ false)
+        × IsArriving closing first before (S.left source.old) (S.faults source.old) (S.is_open source.old) compilation.old chunk.old }
+    ensures reads { (closing : Option ℕ) (first : Option (List ℕ)) (before : ℕ) → (IsSome closing → up_to_bodies ≡ false)
+        → IsArriving closing first before (S.left source.old) (S.faults source.old) (S.is_open source.old) compilation.old chunk.old
+        → ReadsOn closing result first before (S.left source.new) (S.faults source.new) (S.is_open source.new) compilation.new chunk.new }
     ensures some { up_to_bodies ≡ false → IsSome result }
     ensures kept { KeepsAlike compilation.old.codes compilation.new.codes }
     ensures front { TookFront (S.left source.old) (S.faults source.old) (S.left source.new) (S.faults source.new) }
@@ -73,7 +76,7 @@ fn read_on<S: Source>(
     loop {
         match take_pending(compilation, chunk, up_to_bodies) {
             Ok(()) => {}
-            // Why: docs/DECISIONS.md, "Reading ends at the first fault that is found"
+            // Why: docs/DECISIONS.md, "Reading ends at the first error that is found"
             Err(stop) => {
                 return Some(Ending {
                     judged: Err(stop),
@@ -108,7 +111,8 @@ fn read_source<R: Threads + Wait + Sync, S: Source, G: Gate>(
     requires faults { S.faults source.old < 2 ^ 64 - 1 }
     requires open { S.is_open source.old ≡ true }
     requires unread { IsUnread compilation.old }
-    ensures settled { Settled result.failed result.judged compilation.new (S.left source.old) (S.left source.new) (S.faults source.old) (S.faults source.new) }
+    ensures settled { Settled (closing_bytes workers compilation.old.batch) result.failed result.judged compilation.new (S.left source.old) (S.left source.new)
+        (S.faults source.old) (S.faults source.new) }
     ensures kept { KeepsAlike compilation.old.codes compilation.new.codes }
     ensures front { TookFront (S.left source.old) (S.faults source.old) (S.left source.new) (S.faults source.new) }
 {
@@ -129,11 +133,11 @@ fn read_source<R: Threads + Wait + Sync, S: Source, G: Gate>(
 
 /// Validates and compiles the bytes of a source as they come, up to their end or to the first error.
 fn read_to_end<S: Source>(source: &mut S, mut chunk: Chunk, compilation: &mut Compilation) -> Ending
-    requires { (first : Option (List ℕ)) × (before : ℕ) × IsArriving first before (S.left source.old) (S.faults source.old)
-        (S.is_open source.old) compilation.old chunk }
+    requires { (first : Option (List ℕ)) × (before : ℕ)
+        × IsArriving None first before (S.left source.old) (S.faults source.old) (S.is_open source.old) compilation.old chunk }
     ensures settled { (first : Option (List ℕ)) (before : ℕ) → before < 2 ^ 64 - 1
-        → IsArriving first before (S.left source.old) (S.faults source.old) (S.is_open source.old) compilation.old chunk
-        → Settled result.failed result.judged compilation.new first (S.left source.new) before (S.faults source.new) }
+        → IsArriving None first before (S.left source.old) (S.faults source.old) (S.is_open source.old) compilation.old chunk
+        → Settled None result.failed result.judged compilation.new first (S.left source.new) before (S.faults source.new) }
     ensures kept { KeepsAlike compilation.old.codes compilation.new.codes }
     ensures front { TookFront (S.left source.old) (S.faults source.old) (S.left source.new) (S.faults source.new) }
 {
@@ -164,7 +168,7 @@ fn stopped(judged: Result<(), FrontStop>) -> CheckAnswer
             Kind::Malformed | Kind::Unsupported | Kind::Limit | Kind::Invalid => {
                 CheckAnswer::Refused(refusal)
             }
-            // Why: docs/DECISIONS.md, "Where the source failed, a fault of what came decides"
+            // Why: docs/DECISIONS.md, "Where the source failed, an error of what came decides"
             Kind::Ended => CheckAnswer::ReadFault,
         },
         Err(FrontStop::NoMemory) => CheckAnswer::NoMemory,
@@ -184,7 +188,8 @@ pub fn judge_source<R: Threads + Wait + Sync, S: Source, G: Gate>(
     requires faults { S.faults source.old < 2 ^ 64 - 1 }
     requires open { S.is_open source.old ≡ true }
     requires unread { IsUnread compilation.old }
-    ensures judged { Judged (nat_lt (S.faults source.old) (S.faults source.new)) (S.left source.old) (S.left source.new) result compilation.new }
+    ensures judged { Judged (closing_bytes workers compilation.old.batch) (nat_lt (S.faults source.old) (S.faults source.new)) (S.left source.old)
+        (S.left source.new) result compilation.new }
     ensures kept { KeepsAlike compilation.old.codes compilation.new.codes }
     ensures front { TookFront (S.left source.old) (S.faults source.old) (S.left source.new) (S.faults source.new) }
 {

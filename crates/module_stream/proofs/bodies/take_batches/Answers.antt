@@ -33,6 +33,7 @@ loop-batch-preserved c =
     record {
       place = ap (λ (k : Cutting). k.place) is ∙ l.invariant.place;
       begun = ap (λ (k : Cutting). k.queue.begun) is ∙ l.invariant.begun;
+      least = ap (λ (k : Cutting). k.queue.least) is ∙ l.invariant.least;
       kept = c.in-Ok.ensures.kept ∙ l.invariant.kept;
       judging = λ bytes left counted few j.
           c.in-Ok.ensures.takes bytes (after_parts (coded_all counted new.queue.closed) left) counted few

@@ -10,6 +10,7 @@ abbrev pub invariant-loop-batch : goal.invariant-loop-batch
 invariant-loop-batch l = record {
   place : l.cutter.place ≡ l.initial.cutter.place;
   begun : l.cutter.queue.begun ≡ l.initial.cutter.queue.begun;
+  least : l.cutter.queue.least ≡ l.initial.cutter.queue.least;
   kept : KeepsAlike l.initial.codes l.codes;
   judging : (bytes : List ℕ) (left : Run) (counted : Bool) → length bytes ≤ 67108869
       → IsJudging bytes (after_parts (coded_all counted l.initial.cutter.queue.closed) left) l.spaces l.initial.codes

@@ -1,4 +1,4 @@
-use Rattle.std.proofs.Common.{Some, sym, ap, subst, ◌∙◌, rules}
+use Rattle.std.proofs.Common.{None, Some, sym, ap, subst, ◌∙◌, rules}
 use Rattle.std.specs.Prelude.{is_some}
 use Rattle.body_cutter.specs.Cuttings.{Cutting}
 use Rattle.module_stream.specs.declared.compilation.Compilation.{Compilation}
@@ -21,7 +21,7 @@ read_with_workers-requires-clause-arrives g c κs within =
       r.1,
       c.take_cutter.new.self,
       keeping_begins r.0 r.1 (g.S.Source.left old) (g.S.Source.faults old) (g.S.Source.is_open old) c.args.compilation.now c.take_cutter.new.self i some c.take_cutter.ensures.rest c.new-intake.ensures.kept
-          (subst (λ (k : Chunked). IsArriving r.0 r.1 (g.S.Source.left old) (g.S.Source.faults old) (g.S.Source.is_open old) c.args.compilation.now k) (sym c.new-intake.ensures.chunk) r.2),
+          (subst (λ (k : Chunked). IsArriving None r.0 r.1 (g.S.Source.left old) (g.S.Source.faults old) (g.S.Source.is_open old) c.args.compilation.now k) (sym c.new-intake.ensures.chunk) r.2),
     )
 
 pub judge_met-requires-clause-met : goal.judge_met-requires-clause-met
@@ -40,7 +40,7 @@ judge_met-requires-clause-keeps g c =
       g.S.Source.faults new,
       g.S.Source.is_open new,
       c.in-Ok.ensures.keeps r.0 r.1 c.take_cutter.new.self (keeping_begins r.0 r.1 (g.S.Source.left old) (g.S.Source.faults old) (g.S.Source.is_open old) c.args.compilation.now c.take_cutter.new.self i some c.take_cutter.ensures.rest c.new-intake.ensures.kept
-          (subst (λ (k : Chunked). IsArriving r.0 r.1 (g.S.Source.left old) (g.S.Source.faults old) (g.S.Source.is_open old) c.args.compilation.now k) (sym c.new-intake.ensures.chunk) r.2)),
+          (subst (λ (k : Chunked). IsArriving None r.0 r.1 (g.S.Source.left old) (g.S.Source.faults old) (g.S.Source.is_open old) c.args.compilation.now k) (sym c.new-intake.ensures.chunk) r.2)),
     )
 
 pub returns-clause-resumes : goal.returns-clause-resumes
@@ -50,7 +50,7 @@ returns-clause-resumes g c = λ first before a.
     let i = c.new-intake.result in
     let some = sym c.take_cutter.ensures.cutter ∙ c.in-Some.is ∙ ap (λ (k : Cutting). Some k) (sym c.new-intake.ensures.cutter) in
     c.judge_met.ensures.resumes first before (g.S.Source.left new) (g.S.Source.faults new) (g.S.Source.is_open new) (c.in-Ok.ensures.keeps first before c.take_cutter.new.self (keeping_begins first before (g.S.Source.left old) (g.S.Source.faults old) (g.S.Source.is_open old) c.args.compilation.now c.take_cutter.new.self i some c.take_cutter.ensures.rest c.new-intake.ensures.kept
-    (subst (λ (k : Chunked). IsArriving first before (g.S.Source.left old) (g.S.Source.faults old) (g.S.Source.is_open old) c.args.compilation.now k) (sym c.new-intake.ensures.chunk) a)))
+    (subst (λ (k : Chunked). IsArriving None first before (g.S.Source.left old) (g.S.Source.faults old) (g.S.Source.is_open old) c.args.compilation.now k) (sym c.new-intake.ensures.chunk) a)))
 
 pub returns-clause-kept : goal.returns-clause-kept
 returns-clause-kept g c = c.judge_met.ensures.kept ∙ ap (λ (s : Compilation). is_some s.codes.kept) c.take_cutter.ensures.rest

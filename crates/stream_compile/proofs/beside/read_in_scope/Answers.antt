@@ -1,4 +1,4 @@
-use Rattle.std.proofs.Common.{◌≡◌, inl, inr, sym, ◌∙◌, subst}
+use Rattle.std.proofs.Common.{None, ◌≡◌, inl, inr, sym, ◌∙◌, subst}
 use Rattle.stream_compile.proofs.Fronts.{took_nothing}
 use Rattle.stream_compile.specs.declared.intake.Intake.{Intake}
 use Rattle.stream_compile.specs.Arriving.{IsArriving}
@@ -12,8 +12,8 @@ run_beside-requires-clause-can g c κs within =
       r.0,
       r.1,
       r.2,
-      subst (λ (i : Intake). IsArriving r.0 r.1 (g.S.Source.left new) (g.S.Source.faults new) (g.S.Source.is_open new) (keeping r.2 i) i.chunk) (sym c.new-reader.ensures.intake)
-          (subst (λ (s : g.row.S.Denot). IsArriving r.0 r.1 (g.S.Source.left s) (g.S.Source.faults s) (g.S.Source.is_open s) (keeping r.2 c.args.intake) c.args.intake.chunk) (sym c.new-reader.ensures.source) r.3),
+      subst (λ (i : Intake). IsArriving None r.0 r.1 (g.S.Source.left new) (g.S.Source.faults new) (g.S.Source.is_open new) (keeping r.2 i) i.chunk) (sym c.new-reader.ensures.intake)
+          (subst (λ (s : g.row.S.Denot). IsArriving None r.0 r.1 (g.S.Source.left s) (g.S.Source.faults s) (g.S.Source.is_open s) (keeping r.2 c.args.intake) c.args.intake.chunk) (sym c.new-reader.ensures.source) r.3),
     )
 
 pub returns-in-Err-clause-front : goal.returns-in-Err-clause-front

@@ -15,6 +15,7 @@ loop-batch-preserved c =
       chunk = l.invariant.chunk;
       place = ap (λ (k : Cutting). k.place) is ∙ l.invariant.place;
       begun = ap (λ (k : Cutting). k.queue.begun) is ∙ l.invariant.begun;
+      least = ap (λ (k : Cutting). k.queue.least) is ∙ l.invariant.least;
       kept = kept_more l.intake.kept.items c.push.new.self.items c.in_ok-batch.batch c.in-Some.batch l.intake.cutter c.take_batch.new.self _ c.in_ok-push.ensures.items c.in_ok-batch.ensures.ok c.in-Some.ensures l.invariant.kept;
     }
 

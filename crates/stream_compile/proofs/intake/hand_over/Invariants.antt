@@ -11,6 +11,7 @@ invariant-loop-batch l = record {
   chunk : l.intake.chunk ≡ l.initial.intake.chunk;
   place : l.intake.cutter.place ≡ l.initial.intake.cutter.place;
   begun : l.intake.cutter.queue.begun ≡ l.initial.intake.cutter.queue.begun;
+  least : l.intake.cutter.queue.least ≡ l.initial.intake.cutter.queue.least;
   kept : kept_bodies l.intake.kept.items ++ l.intake.cutter.queue.closed ≡ kept_bodies l.initial.intake.kept.items ++ l.initial.intake.cutter.queue.closed;
 }
 

@@ -1,4 +1,4 @@
-use Rattle.std.proofs.Common.{◌∙◌}
+use Rattle.std.proofs.Common.{None, ◌∙◌}
 use Rattle.stream_compile.specs.Keeping.{keeping}
 use Rattle.stream_compile.proofs.Arriving.{may_be_read}
 use Rattle.stream_compile.proofs.Fronts.{took_more}
@@ -27,13 +27,13 @@ read-came-requires-clause-on g c = λ is.
     let l = c.loop-stop in
     let r = c.requires.arrives in
     let i = c.take_piece.new.intake in
-    may_be_read r.0 r.1 (g.S.Source.left l.source) (g.S.Source.faults l.source) (g.S.Source.is_open l.source) (keeping r.2 i) i.chunk
+    may_be_read None r.0 r.1 (g.S.Source.left l.source) (g.S.Source.faults l.source) (g.S.Source.is_open l.source) (keeping r.2 i) i.chunk
     (c.in-Ok.ensures.keeps r.0 r.1 (g.S.Source.left l.source) (g.S.Source.faults l.source) (g.S.Source.is_open l.source) r.2 (l.invariant.arrives r.0 r.1 r.2 r.3)) is
 
 pub returns-then-ne-clause-keeps : goal.returns-then-ne-clause-keeps
 returns-then-ne-clause-keeps g c = λ first before s a.
     let l = c.loop-stop in
-    c.read-came.ensures.arrives first before (keeping s c.take_piece.new.intake) (c.in-Ok.ensures.no_error s)
+    c.read-came.ensures.arrives None first before (keeping s c.take_piece.new.intake) (c.in-Ok.ensures.no_error s) tt
     (c.in-Ok.ensures.keeps first before (g.S.Source.left l.source) (g.S.Source.faults l.source) (g.S.Source.is_open l.source) s (l.invariant.arrives first before s a))
 
 pub loop-stop-preserved : goal.loop-stop-preserved
@@ -49,7 +49,7 @@ loop-stop-preserved g c =
       front = took_more (g.S.Source.left c.args.source.now) (g.S.Source.left l.source) (g.S.Source.left c.read-came.new.source) (g.S.Source.faults c.args.source.now) (g.S.Source.faults l.source) (g.S.Source.faults c.read-came.new.source) l.invariant.front c.read-came.ensures.front;
       few = c.read-came.ensures.few;
       arrives = λ first before s a.
-          c.read-came.ensures.arrives first before (keeping s c.take_piece.new.intake) (c.in-Ok.ensures.no_error s)
+          c.read-came.ensures.arrives None first before (keeping s c.take_piece.new.intake) (c.in-Ok.ensures.no_error s) tt
           (c.in-Ok.ensures.keeps first before (g.S.Source.left l.source) (g.S.Source.faults l.source) (g.S.Source.is_open l.source) s (l.invariant.arrives first before s a));
     }
 

@@ -1,4 +1,4 @@
-use Rattle.std.proofs.Common.{◌≡◌, ◌≤◌, ◌-◌, ℕ, List, Option}
+use Rattle.std.proofs.Common.{◌≡◌, ◌≤◌, ◌-◌, ℕ, List, Option, None}
 use Rattle.io_edges.specs.Streams.{TookFront}
 use Rattle.batch_pool.specs.Desks.{IsDesk, IsIdle}
 use Rattle.module_stream.specs.declared.compilation.Compilation.{Compilation}
@@ -13,8 +13,8 @@ invariant-loop-stop g l = record {
   idle : IsIdle l.initial.desk l.desk;
   front : TookFront (g.S.Source.left l.initial.source) (g.S.Source.faults l.initial.source) (g.S.Source.left l.source) (g.S.Source.faults l.source);
   few : l.intake.chunk.count ≤ 67108869;
-  arrives : (first : Option (List ℕ)) (before : ℕ) (s : Compilation) → IsArriving first before (g.S.Source.left l.initial.source) (g.S.Source.faults l.initial.source) (g.S.Source.is_open l.initial.source) (keeping s l.initial.intake) l.initial.intake.chunk
-      → IsArriving first before (g.S.Source.left l.source) (g.S.Source.faults l.source) (g.S.Source.is_open l.source) (keeping s l.intake) l.intake.chunk;
+  arrives : (first : Option (List ℕ)) (before : ℕ) (s : Compilation) → IsArriving None first before (g.S.Source.left l.initial.source) (g.S.Source.faults l.initial.source) (g.S.Source.is_open l.initial.source) (keeping s l.initial.intake) l.initial.intake.chunk
+      → IsArriving None first before (g.S.Source.left l.source) (g.S.Source.faults l.source) (g.S.Source.is_open l.source) (keeping s l.intake) l.intake.chunk;
 }
 
 abbrev pub decreases-loop-stop : goal.decreases-loop-stop

@@ -40,7 +40,7 @@ returns-in-Ok-hand_over-clause-keeps c = λ first before left now may_read s a.
     let mid = c.feed.new.self in
     let e = c.in-Ok-hand_over.ensures in
     let fed = subst (λ (l : List ℕ). IsFed i.cutter l c.in-Ok.taken mid) c.pending.ensures c.in-Ok.ensures in
-    piece_taken first before left now may_read s i c.hand_over.new.intake mid e.kept a c.in-Ok.taken fed e.place e.closed e.begun (e.chunk ∙ c.skip.ensures)
+    piece_taken first before left now may_read s i c.hand_over.new.intake mid e.kept a c.in-Ok.taken fed e.place e.closed e.begun e.least (e.chunk ∙ c.skip.ensures)
 
 pub returns-in-Ok-hand_over-2-clause-keeps : goal.returns-in-Ok-hand_over-2-clause-keeps
 returns-in-Ok-hand_over-2-clause-keeps c = λ first before left now may_read s a.

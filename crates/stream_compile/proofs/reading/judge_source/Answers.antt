@@ -1,3 +1,4 @@
+use Rattle.module_stream.specs.RightSoFar.{closing_bytes}
 use Rattle.stream_compile.proofs.Answering.{source_judged, source_stopped}
 use Rattle.stream_compile.proofs.reading.judge_source.Goals as goal
 
@@ -7,7 +8,7 @@ returns-then-ending-clause-judged g c =
     let before = g.S.Source.faults c.args.source.now in
     let e = c.read_source-ending in
     let rest = g.S.Source.left e.new.source in
-    rw c.stopped.ensures (source_stopped e.result.failed left rest before (g.S.Source.faults e.new.source) e.result.judged e.new.compilation c.if-ending.true e.ensures.settled)
+    rw c.stopped.ensures (source_stopped (closing_bytes c.args.workers c.args.compilation.now.batch) e.result.failed left rest before (g.S.Source.faults e.new.source) e.result.judged e.new.compilation c.if-ending.true e.ensures.settled)
 
 pub returns-else-ending-clause-judged : goal.returns-else-ending-clause-judged
 returns-else-ending-clause-judged g c =
@@ -15,4 +16,4 @@ returns-else-ending-clause-judged g c =
     let before = g.S.Source.faults c.args.source.now in
     let e = c.read_source-ending in
     let rest = g.S.Source.left e.new.source in
-    rw (c.answer_of.ensures, c.checked.ensures) (source_judged e.result.failed left rest before (g.S.Source.faults e.new.source) e.result.judged e.new.compilation c.if-ending.false e.ensures.settled)
+    rw (c.answer_of.ensures, c.checked.ensures) (source_judged (closing_bytes c.args.workers c.args.compilation.now.batch) e.result.failed left rest before (g.S.Source.faults e.new.source) e.result.judged e.new.compilation c.if-ending.false e.ensures.settled)

@@ -9,17 +9,17 @@ use Rattle.stream_compile.proofs.reading.take_pending.Goals as goal
 pub feed-requires : goal.feed-requires
 feed-requires c =
     let r = c.requires in
-    subst (λ (l : List ℕ). MayGo c.args.compilation.now l) (sym c.pending.ensures) (may_go r.0 r.1 r.2 r.3 r.4 c.args.compilation.now c.args.chunk.now r.5)
+    subst (λ (l : List ℕ). MayGo c.args.compilation.now l) (sym c.pending.ensures) (may_go r.0 r.1 r.2 r.3 r.4 r.5 c.args.compilation.now c.args.chunk.now r.6)
 
 pub returns-in-Ok-clause-arrives : goal.returns-in-Ok-clause-arrives
-returns-in-Ok-clause-arrives c = λ first before left now may_read a.
-    pending_taken first before left now may_read c.args.compilation.now c.args.chunk.now a c.feed.new.self c.skip.new.self c.in-Ok.taken c.skip.ensures
+returns-in-Ok-clause-arrives c = λ closing first before left now may_read a.
+    pending_taken closing first before left now may_read c.args.compilation.now c.args.chunk.now a c.feed.new.self c.skip.new.self c.in-Ok.taken c.in-Ok.ensures.batch c.skip.ensures
     (λ bytes more g. subst (λ (l : List ℕ). IsGoing bytes c.feed.new.self (drop c.in-Ok.taken l ++ more)) c.pending.ensures
     (c.in-Ok.ensures.goes bytes more (subst (λ (l : List ℕ). IsGoing bytes c.args.compilation.now (l ++ more)) (sym c.pending.ensures) g)))
 
 pub returns-in-Err-clause-arrives : goal.returns-in-Err-clause-arrives
-returns-in-Err-clause-arrives c = λ first before left now may_read a low.
-    stops_there first before left now may_read c.args.compilation.now c.args.chunk.now a c.in-Err.stop c.feed.new.self
+returns-in-Err-clause-arrives c = λ closing first before left now may_read a low.
+    stops_there closing first before left now may_read c.args.compilation.now c.args.chunk.now a c.in-Err.stop c.feed.new.self
     (λ more few. advances_goes ((a.came ++ a.piece) ++ more) c.pending.result.now c.in-Err.stop c.feed.new.self c.feed.new.self more more
     (c.in-Err.ensures.goes ((a.came ++ a.piece) ++ more) more (subst (λ (l : List ℕ). IsGoing ((a.came ++ a.piece) ++ more) c.args.compilation.now (l ++ more)) (sym c.pending.ensures) (a.going more few)))) low
 

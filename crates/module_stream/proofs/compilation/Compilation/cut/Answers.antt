@@ -3,12 +3,13 @@ use Rattle.wasm_defs.specs.Outside.{Refused, ends, sections, no_end}
 use Rattle.section_reader.specs.declared.front.Front.{Front}
 use Rattle.body_cutter.specs.Places.{Place}
 use Rattle.wasm_defs.specs.declared.front_stop.FrontStop.{FrontStop}
-use Rattle.body_cutter.specs.Cuttings.{left, Feeds}
+use Rattle.body_cutter.specs.Cuttings.{Handed, left, Feeds}
 use Rattle.module_stream.specs.CutBodies.{counts_data, cut_run, sections_behind}
-use Rattle.module_stream.specs.Streaming.{with_cutter}
+use Rattle.module_stream.specs.Streaming.{AreOpen, with_cutter}
 use Rattle.module_stream.proofs.Cutting.{rest_run, few_taken, all_taken}
+use Rattle.module_stream.proofs.OpenBatches.{left_open}
 use Rattle.module_stream.proofs.NoErrors.{place_is_none, cut_is_none, behind_is_none}
-use Rattle.module_stream.proofs.Streaming.{IsCutting, cutting_of, going_reading, going_cutting, fed_judging, refused_judging, refused_at, cutting_on, waiting_on, reading_behind, less_whole, less_cut, shorter, fault_advances}
+use Rattle.module_stream.proofs.Streaming.{IsCutting, cutting_of, begun_of, going_reading, going_cutting, fed_judging, refused_judging, refused_at, cutting_on, waiting_on, reading_behind, less_whole, less_cut, shorter, fault_advances}
 use Rattle.module_stream.proofs.compilation.Compilation.cut.Goals as goal
 
 pub judge-requires : goal.judge-requires
@@ -69,8 +70,10 @@ returns-else-is_whole-clause-goes c = λ bytes more g.
     let k = cutting_of bytes (with_cutter s old) (piece ++ more) old refl g in
     let kt = subst (λ (f : Front). IsCutting bytes f old s.spaces s.codes (piece ++ more)) (sym e.rest.front) k in
     let j = e.takes bytes (rest_run t.front.steps.seen mid (drop taken piece ++ more)) (counts_data t.front.steps.seen) k.few (fed_judging bytes t.front old mid s.spaces s.codes piece more kt taken c.in-Ok.ensures) in
+    let begun = subst (λ (h : Handed). AreOpen s.batch h.queue.begun) ((c.in-Ok.ensures).same more) (begun_of bytes (with_cutter s old) (piece ++ more) old refl g) in
     going_cutting bytes _ (drop taken piece ++ more) new refl
     (cutting_on bytes t.front old mid new t.spaces t.codes piece more taken c.in-Ok.ensures e.place e.queue.0 e.queue.1 kt.skips kt.few kt.count j)
+    (subst (λ (n : ℕ). AreOpen n (left new (drop taken piece ++ more)).queue.begun) (sym e.rest.batch) (left_open s.batch mid new (drop taken piece ++ more) e.place e.queue.2 e.queue.1 begun))
 
 pub returns-else-is_whole-clause-less : goal.returns-else-is_whole-clause-less
 returns-else-is_whole-clause-less c =

@@ -34,6 +34,7 @@ loop-taken-preserved c =
       going = λ bytes more g.
           subst (λ (p : List ℕ). IsGoing bytes c.advance.new.self (p ++ more)) (ap (drop c.in-Ok.more) same ∙ drop-drop c.in-Ok.more l.taken piece)
           (c.in-Ok.ensures.goes bytes more (subst (λ (p : List ℕ). IsGoing bytes l.self (p ++ more)) (sym same) (l.invariant.going bytes more g)));
+      batch = c.in-Ok.ensures.batch ∙ l.invariant.batch;
       kept = c.in-Ok.ensures.kept ∙ l.invariant.kept;
     }
 
@@ -76,6 +77,12 @@ returns-then-stops-clause-no_error c =
     let l = c.loop-taken in
     let is = sym c.stops.ensures ∙ c.if-stops.true in
     (λ up. absurd (not_up c.args.up_to_bodies l.self.cutter is up), λ none. absurd (not_outside c.args.up_to_bodies l.self.cutter is none))
+
+pub returns-then-stops-clause-waits : goal.returns-then-stops-clause-waits
+returns-then-stops-clause-waits c = λ up. absurd (not_up c.args.up_to_bodies c.loop-taken.self.cutter (sym c.stops.ensures ∙ c.if-stops.true) up)
+
+pub returns-in-Ok-tell-clause-waits : goal.returns-in-Ok-tell-clause-waits
+returns-in-Ok-tell-clause-waits c = λ up. c.in-Ok-tell.ensures.waits
 
 pub returns-in-Ok-tell-clause-no_error : goal.returns-in-Ok-tell-clause-no_error
 returns-in-Ok-tell-clause-no_error c = (λ up. c.in-Ok-tell.ensures.no_error, λ outside. c.in-Ok-tell.ensures.no_error)
