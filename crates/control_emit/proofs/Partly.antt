@@ -9,19 +9,19 @@ use Rattle.wasm_defs.specs.declared.token.Token.TheVariants as token
 use Rattle.wasm_defs.specs.Places.{Place, shape, after_rule, after_block, after_if, end_of, places, places_of}
 use Rattle.wasm_defs.specs.Trees.{Seq, Nothing, Simple, Block, Loop, If, IfElse, Tree, spelled}
 use Rattle.wasm_defs.specs.Typing.{Types, Signature, Context, inside, rule_of}
-use Rattle.frame_layout.specs.Templates.{EmitContext, words}
+use Rattle.frame_layout.specs.Templates.{EmitContext, declarations, words}
 use Rattle.frame_layout.specs.Functions.{label, over, test_words, size, body_place, body_size, body_code}
 use Rattle.control_emit.specs.Pending.{Pending, Shape, shape_of, shapes, Ends, named}
 use Rattle.control_emit.specs.Emits.{FunctionBuilder, Emits, Opens, Turns, Closes}
 use Rattle.control_emit.specs.Walks.{end_shape, start_shape, OpensDead, Step, Walk, begun, count_of, NextLaw}
 use Rattle.control_emit.proofs.Composing.{longer, longer-opens, longer-turns, ends_there}
 use Rattle.control_emit.proofs.Sizes.{AreAlike, words_size, over_size, size_dead, size_is}
-use Rattle.control_emit.proofs.Trees.{labelled, words_labelled, shape_labelled, after_dead, end_dead, counted, ends_of, counted_alike, length-ends, ends_count}
+use Rattle.control_emit.proofs.Trees.{labelled, shape_labelled, after_dead, end_dead, counted, ends_of, counted_alike, length-ends, ends_count}
 
 -- a token's own words, where only lengths are counted
 abbrev own_words : EmitContext → Context → Token → Place → List Pending → ℕ
 own_words w c (token.Plain p) None ls = 0
-own_words w c (token.Plain p) (Some h) ls = length (words w c (counted (shapes ls)) h 0 p)
+own_words w c (token.Plain p) (Some h) ls = length (words w (declarations c) (counted (shapes ls)) h 0 p)
 own_words w c (token.Block t) q ls = 0
 own_words w c (token.Loop t) q ls = 0
 own_words w c (token.If t) q ls = 0
@@ -54,7 +54,7 @@ partly-none w c (suc k) old new x = absurd x
 -- a token's own words fit
 abbrev Fits : EmitContext → Context → Token → Place → FunctionBuilder → (most : ℕ) → Type 0
 Fits w c (token.Plain p) None d most = length d.words ≤ most
-Fits w c (token.Plain p) (Some h) d most = length d.words + length (words w c (counted (shapes d.labels)) h 0 p) ≤ most
+Fits w c (token.Plain p) (Some h) d most = length d.words + length (words w (declarations c) (counted (shapes d.labels)) h 0 p) ≤ most
 Fits w c (token.Block t) q d most = length d.words ≤ most
 Fits w c (token.Loop t) q d most = length d.words ≤ most
 Fits w c (token.If t) q d most = length d.words ≤ most
@@ -99,20 +99,19 @@ turns-size old new ops s ss e x =
     longer-turns old new ops x 0 (ends_of ss) count
 
 -- where only lengths are counted, a plain token has as many words under these labels
-plain-own : (w : EmitContext) (c : Context) (ls : List Types) (h : ℕ) (p : Plain) (ss : List Shape) (d : FunctionBuilder) → shapes d.labels ≡ ss
-    → length (words w c (counted (shapes d.labels)) h 0 p) ≡ length (words w (labelled c ls) (counted ss) h 0 p)
-plain-own w c ls h p ss d e =
-    ap (λ (l : List Shape). length (words w c (counted l) h 0 p)) e ∙ ap (λ (ops : List Op). length ops) (words_labelled w c ls (counted ss) h 0 p)
+plain-own : (w : EmitContext) (c : Context) (h : ℕ) (p : Plain) (ss : List Shape) (d : FunctionBuilder) → shapes d.labels ≡ ss
+    → length (words w (declarations c) (counted (shapes d.labels)) h 0 p) ≡ length (words w (declarations c) (counted ss) h 0 p)
+plain-own w c h p ss d e = ap (λ (l : List Shape). length (words w (declarations c) (counted l) h 0 p)) e
 
-plain-size : (w : EmitContext) (c : Context) (ls : List Types) (h : ℕ) (p : Plain) (ss : List Shape) (old new : FunctionBuilder) → shapes old.labels ≡ ss → Emits old new (λ ends. words w c (named (shapes old.labels) ends) h (length old.words) p)
-    → length new.words ≡ length old.words + length (words w (labelled c ls) (counted ss) h 0 p)
-plain-size w c ls h p ss old new e x =
+plain-size : (w : EmitContext) (c : Context) (h : ℕ) (p : Plain) (ss : List Shape) (old new : FunctionBuilder) → shapes old.labels ≡ ss → Emits old new (λ ends. words w (declarations c) (named (shapes old.labels) ends) h (length old.words) p)
+    → length new.words ≡ length old.words + length (words w (declarations c) (counted ss) h 0 p)
+plain-size w c h p ss old new e x =
     let here = length old.words in
     let own = shapes old.labels in
     let es = ends_of own in
-    let n : length new.words ≡ here + length (words w c (named own es) h here p) = longer old new (λ ends. words w c (named (shapes old.labels) ends) h (length old.words) p) x es (ends_count old.labels) in
-    let same : length (words w c (counted own) h 0 p) ≡ length (words w c (named own es) h here p) = words_size w c (counted own) (named own es) h 0 here p (counted_alike own) in
-    let given : length (words w c (counted own) h 0 p) ≡ length (words w (labelled c ls) (counted ss) h 0 p) = plain-own w c ls h p ss old e in
+    let n : length new.words ≡ here + length (words w (declarations c) (named own es) h here p) = longer old new (λ ends. words w (declarations c) (named (shapes old.labels) ends) h (length old.words) p) x es (ends_count old.labels) in
+    let same : length (words w (declarations c) (counted own) h 0 p) ≡ length (words w (declarations c) (named own es) h here p) = words_size w (declarations c) (counted own) (named own es) h 0 here p (counted_alike own) in
+    let given : length (words w (declarations c) (counted own) h 0 p) ≡ length (words w (declarations c) (counted ss) h 0 p) = plain-own w c h p ss old e in
     omega arith
 
 -- wherever the open blocks end
@@ -124,7 +123,7 @@ alike-named (s ∷ ss) (x ∷ es) e = (refl, alike-named ss es (omega arith))
 own-count : (w : EmitContext) (c : Context) (t : Token) (q : Place) (d : FunctionBuilder) (ends : List Ends) → length ends ≡ length d.labels → own_words w c t q d.labels ≡ count_of w c t q d ends
 own-count w c (token.Plain p) None d ends e = refl
 own-count w c (token.Plain p) (Some h) d ends e =
-    words_size w c (counted (shapes d.labels)) (named (shapes d.labels) ends) h 0 (length d.words) p (alike-named (shapes d.labels) ends (e ∙ sym (length-map d.labels shape_of)))
+    words_size w (declarations c) (counted (shapes d.labels)) (named (shapes d.labels) ends) h 0 (length d.words) p (alike-named (shapes d.labels) ends (e ∙ sym (length-map d.labels shape_of)))
 own-count w c (token.Block t) q d ends e = refl
 own-count w c p q d ends e = refl
 
@@ -278,15 +277,15 @@ live w c ls (Simple p rest) (Some h) ss = λ k more after old new most e le go x
     let d = labelled c ls in
     let next = after_rule (rule_of d p) (Some h) in
     let here = length old.words in
-    let own = length (words w d (counted ss) h 0 p) in
+    let own = length (words w (declarations c) (counted ss) h 0 p) in
     let behind = size w d (counted ss) next rest in
     let room : here + (own + behind) ≤ most = le in
-    let counts : length (words w c (counted (shapes old.labels)) h 0 p) ≡ own = plain-own w c ls h p ss old e in
-    let before : here + length (words w c (counted (shapes old.labels)) h 0 p) ≤ most = omega arith in
+    let counts : length (words w (declarations c) (counted (shapes old.labels)) h 0 p) ≡ own = plain-own w c h p ss old e in
+    let before : here + length (words w (declarations c) (counted (shapes old.labels)) h 0 p) ≤ most = omega arith in
     onward w c k (token.Plain p) (spelled rest more) (Some h) (places d rest next after) old new most before
     (λ a i step y.
-    let emits : Emits old a (λ ends. words w c (named (shapes old.labels) ends) h (length old.words) p) = step in
-    let n : length a.words ≡ here + own = plain-size w c ls h p ss old a e emits in
+    let emits : Emits old a (λ ends. words w (declarations c) (named (shapes old.labels) ends) h (length old.words) p) = step in
+    let n : length a.words ≡ here + own = plain-size w c h p ss old a e emits in
     let fits : length a.words + behind ≤ most = omega arith in
     live w c ls rest next ss i more after a new most (emits.shapes_are ∙ e) fits
     (λ b j bs bn. go b j bs (let all : length b.words ≡ here + (own + behind) = omega arith in all))

@@ -4,7 +4,7 @@ use Rattle.wasm_defs.specs.declared.token.Plain.{Plain}
 use Rattle.wasm_defs.specs.Places.{Place}
 use Rattle.wasm_defs.specs.Trees.{Seq, Nothing}
 use Rattle.wasm_defs.specs.Typing.{Context}
-use Rattle.frame_layout.specs.Templates.{Label, EmitContext, words}
+use Rattle.frame_layout.specs.Templates.{Declarations, Label, EmitContext, words}
 use Rattle.frame_layout.specs.Functions.{over, size, code}
 use Rattle.frame_layout.proofs.Sizes.{taken_by}
 use Rattle.frame_layout.proofs.Sizes as sizes
@@ -26,8 +26,8 @@ takes_alike (l ∷ ls) [] h = absurd h
 takes_alike (l ∷ ls) (m ∷ ms) h = ap₂ (λ (n : ℕ) (ns : List ℕ). n ∷ ns) h.0 (takes_alike ls ms h.1)
 
 module _ (w : EmitContext) where
-  pub words_size : (c : Context) (ls ms : List Label) (h here there : ℕ) (p : Plain) → AreAlike ls ms → length (words w c ls h here p) ≡ length (words w c ms h there p)
-  words_size c ls ms h here there p a = sizes.words_size w w.distance_to c ls ms (takes_alike ls ms a) h here p ∙ sym (sizes.words_size w w.distance_to c ms ms refl h there p)
+  pub words_size : (d : Declarations) (ls ms : List Label) (h here there : ℕ) (p : Plain) → AreAlike ls ms → length (words w d ls h here p) ≡ length (words w d ms h there p)
+  words_size d ls ms h here there p a = sizes.words_size w w.distance_to d ls ms (takes_alike ls ms a) h here p ∙ sym (sizes.words_size w w.distance_to d ms ms refl h there p)
 
   pub over_size : (q : Place) (i j k l : ℕ) → length (over q i j) ≡ length (over q k l)
   over_size q i j k l = sizes.over_size w w.distance_to q i j ∙ sym (sizes.over_size w w.distance_to q k l)

@@ -5,7 +5,6 @@ use Rattle.rv_isa.specs.declared.compiled.Relocation.{Relocation}
 use Rattle.rv_isa.specs.declared.operations.Op.{Op}
 use Rattle.rv_isa.specs.Words.{word_of}
 use Rattle.wasm_defs.specs.declared.token.Plain.{Plain}
-use Rattle.wasm_defs.specs.declared.token.Plain.TheVariants.{Unreachable}
 use Rattle.wasm_defs.specs.declared.token.Token.{Token}
 use Rattle.wasm_defs.specs.declared.token.Token.TheVariants as token
 use Rattle.wasm_defs.specs.declared.token.BlockType.{BlockType}
@@ -13,7 +12,7 @@ use Rattle.wasm_defs.specs.declared.token.BlockType.TheVariants.{Empty, Value, I
 use Rattle.wasm_defs.specs.Places.{Place, moved, shape, after_rule, after_block, after_if, end_of, places, places_of}
 use Rattle.wasm_defs.specs.Trees.{Seq, Nothing, Simple, Block, Loop, If, IfElse, Tree, spelled, tokens_in}
 use Rattle.wasm_defs.specs.Typing.{Types, Signature, Context, Rule, Untyped, inside, rule_of}
-use Rattle.frame_layout.specs.Templates.{Label, EmitContext, words}
+use Rattle.frame_layout.specs.Templates.{Label, EmitContext, declarations, words}
 use Rattle.frame_layout.specs.Functions.{label, over, test_words, size, code, call_of, calls, Trap, traps_of, traps, body_place, body_size, body_traps}
 use Rattle.control_emit.specs.Pending.{Pending, Shape, shape_of, shapes, Ends, named, meaning}
 use Rattle.control_emit.specs.Emits.{FunctionBuilder, IsHeld, Emits, Opens, Turns, Closes}
@@ -24,10 +23,6 @@ use Rattle.control_emit.proofs.Sizes.{AreAlike, alike-same, words_size, size_is,
 -- labels of other types are named in blocks
 abbrev pub labelled : Context → List Types → Context
 labelled c ls = record c { labels = ls }
-
-pub words_labelled : (w : EmitContext) (c : Context) (ls : List Types) (labels : List Label) (h here : ℕ) (p : Plain) → words w c labels h here p ≡ words w (labelled c ls) labels h here p
-words_labelled w c ls labels h here Unreachable = refl
-words_labelled w c ls labels h here p = refl
 
 pub shape_labelled : (c : Context) (ls : List Types) (t : BlockType) → shape (labelled c ls) t ≡ shape c t
 shape_labelled c ls Empty = refl
@@ -231,22 +226,19 @@ live w c ls (Simple p rest) (Some h) more after old new held x =
     let r = live w c ls rest next more after x.0 new x.1.held x.2 in
     record {
       mid = r.mid;
-      emits = behind old x.0 r.mid (λ es. words w c (named (shapes old.labels) es) h (length old.words) p) (λ es. []) _ (λ labels here. code w d labels next here rest) x.1 r.emits
+      emits = behind old x.0 r.mid (λ es. words w (declarations c) (named (shapes old.labels) es) h (length old.words) p) (λ es. []) _ (λ labels here. code w d labels next here rest) x.1 r.emits
           (λ es is.
           let labels = named (shapes old.labels) es in
-          let first = words_labelled w c ls labels h (length old.words) p in
-          let n = longer old x.0 (λ es. words w c (named (shapes old.labels) es) h (length old.words) p) x.1 es is in
-          ap (λ (k : ℕ). words w c labels h (length old.words) p ++ code w d labels next k rest) n
-          ∙ ap (λ (ops : List Op). ops ++ code w d labels next (length old.words + length ops) rest) first);
+          let n = longer old x.0 (λ es. words w (declarations c) (named (shapes old.labels) es) h (length old.words) p) x.1 es is in
+          ap (λ (k : ℕ). words w (declarations c) labels h (length old.words) p ++ code w d labels next k rest) n);
       walk = r.walk;
       noted =
           let here = length old.words in
           let labels = counted (shapes old.labels) in
           let es = ends_of (shapes old.labels) in
-          let n = longer old x.0 (λ es. words w c (named (shapes old.labels) es) h (length old.words) p) x.1 es (ends_count old.labels) in
-          let same = words_size w c labels (named (shapes old.labels) es) h 0 here p (counted_alike (shapes old.labels)) in
-          let first = ap (λ (ops : List Op). length ops) (words_labelled w c ls labels h 0 p) in
-          let out : length x.0.words ≡ here + length (words w d labels h 0 p) = omega arith in
+          let n = longer old x.0 (λ es. words w (declarations c) (named (shapes old.labels) es) h (length old.words) p) x.1 es (ends_count old.labels) in
+          let same = words_size w (declarations c) labels (named (shapes old.labels) es) h 0 here p (counted_alike (shapes old.labels)) in
+          let out : length x.0.words ≡ here + length (words w (declarations c) labels h 0 p) = omega arith in
           let left = ap (λ (m : ℕ). traps_of here m p) (spelled_length (Simple p rest) more) in (
             both_lists _ (call_of w here p) _ _ _ (call_of w here p) _ refl refl r.noted.0 (calls_at w d next rest _ _ _ _ (ap counted x.1.shapes_are) out),
             both_lists _ (traps_of here (length (token.Plain p ∷ spelled rest more)) p) _ _ _ (traps_of here (tokens_in (Simple p rest) + length more) p) _ refl left r.noted.1

@@ -9,7 +9,7 @@ use Rattle.wasm_defs.specs.Configurations.{Origin}
 use Rattle.wasm_defs.specs.Places.{Place, shape, places_of}
 use Rattle.wasm_defs.specs.Trees.{Seq, Tree}
 use Rattle.wasm_defs.specs.Typing.{Context, Signature}
-use Rattle.frame_layout.specs.Templates.{EmitContext, words}
+use Rattle.frame_layout.specs.Templates.{EmitContext, declarations, words}
 use Rattle.frame_layout.specs.Traps.{trap_places, site_at}
 use Rattle.frame_layout.specs.Functions.{over, test_words, call_of, Trap, traps_of, site_of, body_place, body_code, calls_of, body_traps}
 use Rattle.control_emit.specs.Pending.{Pending, Shape, shapes, Ends, named}
@@ -37,7 +37,7 @@ Tests w h s old new = Opens old new (end_shape (h - 1 - length s.params) (length
 
 abbrev pub Step : EmitContext → Context → Token → Place → FunctionBuilder → FunctionBuilder → Type 0
 Step w c (token.Plain p) None old new = new ≡ old
-Step w c (token.Plain p) (Some h) old new = Emits old new (λ ends. words w c (named (shapes old.labels) ends) h (length old.words) p)
+Step w c (token.Plain p) (Some h) old new = Emits old new (λ ends. words w (declarations c) (named (shapes old.labels) ends) h (length old.words) p)
 Step w c (token.Block t) None old new = OpensDead old new
 Step w c (token.Block t) (Some h) old new = Blocks h (shape c t) old new
 Step w c (token.Loop t) None old new = OpensDead old new
@@ -140,7 +140,7 @@ SitesLaw =
 -- how many words a token has by itself, wherever the open blocks end; those of an `if` and an `else` aren't counted
 abbrev pub count_of : EmitContext → Context → Token → Place → FunctionBuilder → List Ends → ℕ
 count_of w c (token.Plain p) None d ends = 0
-count_of w c (token.Plain p) (Some h) d ends = length (words w c (named (shapes d.labels) ends) h (length d.words) p)
+count_of w c (token.Plain p) (Some h) d ends = length (words w (declarations c) (named (shapes d.labels) ends) h (length d.words) p)
 count_of w c (token.Block t) place d ends = 0
 count_of w c (token.Loop t) place d ends = 0
 count_of w c (token.If t) place d ends = 0

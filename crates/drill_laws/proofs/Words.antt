@@ -13,7 +13,7 @@ use Rattle.wasm_defs.specs.Trees.{Nothing, Seq, Simple}
 use Rattle.wasm_defs.specs.Typing.{Context, inside, rule_of}
 use Rattle.frame_layout.specs.declared.layout.Layout.{Layout}
 use Rattle.frame_layout.specs.Functions.{body_code, code, function_code}
-use Rattle.frame_layout.specs.Templates.{EmitContext, Label, epilogue, prologue, result_words, words, zero_locals}
+use Rattle.frame_layout.specs.Templates.{EmitContext, Label, epilogue, prologue, result_words, declarations, words, zero_locals}
 use Rattle.drill_laws.specs.Functions.{adder_tree, calls_from, runner_tree}
 
 -- ---- around a body
@@ -46,11 +46,11 @@ module _ (w : EmitContext) (c : Context) (labels : List Label) where
   nothing_few None here = omega arith
   nothing_few (Some h) here = omega arith
 
-  then_few : (p : Plain) (rest : Seq) (few more : ℕ) → ((h here : ℕ) → length (words w c labels h here p) ≤ few) → AreFew more rest → AreFew (few + more) (Simple p rest)
+  then_few : (p : Plain) (rest : Seq) (few more : ℕ) → ((h here : ℕ) → length (words w (declarations c) labels h here p) ≤ few) → AreFew more rest → AreFew (few + more) (Simple p rest)
   unfolding AreFew
   then_few p rest few more one others None here = omega arith
   then_few p rest few more one others (Some h) here =
-      let first = words w c labels h here p in
+      let first = words w (declarations c) labels h here p in
       let behind = others (after_rule (rule_of c p) (Some h)) (here + length first) in
       let parts = length-append first (code w c labels (after_rule (rule_of c p) (Some h)) (here + length first) rest) in
       let most = one h here in

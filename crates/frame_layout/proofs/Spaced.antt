@@ -16,7 +16,7 @@ use Rattle.wasm_defs.specs.Trees.{Seq, Nothing, Simple, Block, Loop, If, IfElse,
 use Rattle.wasm_defs.specs.Typing.{Context, inside, rule_of}
 use Rattle.wasm_defs.specs.Places.{Place, after_rule, shape, after_block, after_if, end_of}
 use Rattle.frame_layout.specs.declared.layout.Layout.{Layout}
-use Rattle.frame_layout.specs.Templates.{Label, EmitContext, operate_words, words, zero_locals, prologue, epilogue}
+use Rattle.frame_layout.specs.Templates.{Declarations, Label, EmitContext, operate_words, declarations, words, zero_locals, prologue, epilogue}
 use Rattle.frame_layout.specs.Functions.{label, over, size, Trap, trap_at, traps_of, site_of, traps, body_place, body_size, body_traps, sites_of, function_size}
 use Rattle.frame_layout.specs.Traps.{trap_places, operation_places, division_places, AreSpaced}
 use Rattle.frame_layout.specs.Laws.{SpacedLaw}
@@ -46,8 +46,8 @@ spaced-on here left from to (p ∷ ps) h = (omega (arith, h.0), spaced-less (her
 module _ (w : EmitContext) where
   -- ---- instructions
 
-  abbrev Spaced : Context → List Label → (h here : ℕ) → Plain → Type 0
-  Spaced c labels h here p = AreSpaced 0 (trap_places p) (length (words w c labels h here p))
+  abbrev Spaced : Declarations → List Label → (h here : ℕ) → Plain → Type 0
+  Spaced d labels h here p = AreSpaced 0 (trap_places p) (length (words w d labels h here p))
 
   division_spaced : (h : ℕ) (t : ValType) (op : BinaryOp) → AreSpaced 0 (division_places t op) (length (operate_words w h (Binary t op)))
   division_spaced h I32 binary.DivS = (omega arith, (omega arith, omega arith))
@@ -64,16 +64,16 @@ module _ (w : EmitContext) where
   operation_spaced h (Binary t op) = division_spaced h t op
   operation_spaced h op = omega arith
 
-  plain_spaced : (c : Context) (labels : List Label) (h here : ℕ) (p : Plain) → Spaced c labels h here p
-  plain_spaced c labels h here Unreachable = (omega arith, omega arith)
-  plain_spaced c labels h here (CallIndirect i table) = (omega arith, (omega arith, (omega arith, omega arith)))
-  plain_spaced c labels h here (Load o m) = (omega arith, omega arith)
-  plain_spaced c labels h here (Store o m) = (omega arith, omega arith)
-  plain_spaced c labels h here (Bulk Fill) = (omega arith, omega arith)
-  plain_spaced c labels h here (Bulk Copy) = (omega arith, (omega arith, omega arith))
-  plain_spaced c labels h here (Bulk (Init x)) = (omega arith, (omega arith, omega arith))
-  plain_spaced c labels h here (Numeric op) = operation_spaced h op
-  plain_spaced c labels h here p = omega arith
+  plain_spaced : (d : Declarations) (labels : List Label) (h here : ℕ) (p : Plain) → Spaced d labels h here p
+  plain_spaced d labels h here Unreachable = (omega arith, omega arith)
+  plain_spaced d labels h here (CallIndirect i table) = (omega arith, (omega arith, (omega arith, omega arith)))
+  plain_spaced d labels h here (Load o m) = (omega arith, omega arith)
+  plain_spaced d labels h here (Store o m) = (omega arith, omega arith)
+  plain_spaced d labels h here (Bulk Fill) = (omega arith, omega arith)
+  plain_spaced d labels h here (Bulk Copy) = (omega arith, (omega arith, omega arith))
+  plain_spaced d labels h here (Bulk (Init x)) = (omega arith, (omega arith, omega arith))
+  plain_spaced d labels h here (Numeric op) = operation_spaced h op
+  plain_spaced d labels h here p = omega arith
 
   -- ---- sequences
 
@@ -102,9 +102,9 @@ module _ (w : EmitContext) where
   tree_spaced c labels (Some h) here behind Nothing = omega arith
   tree_spaced c labels (Some h) here behind (Simple p rest) =
       let next = after_rule (rule_of c p) (Some h) in
-      let n = length (words w c labels h 0 p) in
+      let n = length (words w (declarations c) labels h 0 p) in
       let left = tokens_in (Simple p rest) + behind in
-      let own = subst (λ (from : ℕ). AreSpaced from (places_of (traps_of here left p)) (here + n)) (let e : here + 0 ≡ here = omega arith in e) (spaced-on here left 0 n (trap_places p) (plain_spaced c labels h 0 p)) in
+      let own = subst (λ (from : ℕ). AreSpaced from (places_of (traps_of here left p)) (here + n)) (let e : here + 0 ≡ here = omega arith in e) (spaced-on here left 0 n (trap_places p) (plain_spaced (declarations c) labels h 0 p)) in
       then_spaced here n (size w c labels next rest) (traps_of here left p) (traps w c labels next (here + n) behind rest) own (tree_spaced c labels next (here + n) behind rest)
   tree_spaced c labels (Some h) here behind (Block type body rest) =
       let s = shape c type in

@@ -8,10 +8,9 @@ use Rattle.wasm_defs.specs.declared.operation.Operation.{Operation}
 use Rattle.wasm_defs.specs.declared.token.BulkOp.TheVariants.{Fill, Copy, Init}
 use Rattle.wasm_defs.specs.declared.token.Plain.{Plain}
 use Rattle.wasm_defs.specs.declared.token.Plain.TheVariants.{Unreachable, Br, BrIf, BrTable, Return, Bulk, Const, Numeric}
-use Rattle.wasm_defs.specs.Typing.{Context}
 use Rattle.wasm_defs.specs.Values.{unsigned}
 use Rattle.frame_layout.specs.Macros.{t0, distance, far}
-use Rattle.frame_layout.specs.Templates.{Label, EmitContext, load_operand, move_words, jump_words, unless_words, jump_if_words, jumps, table_front, jump_table_words, label_at, last_label, operate_words, const_words, words}
+use Rattle.frame_layout.specs.Templates.{Declarations, Label, EmitContext, load_operand, move_words, jump_words, unless_words, jump_if_words, jumps, table_front, jump_table_words, label_at, last_label, operate_words, const_words, words}
 use Rattle.frame_layout.specs.Traps.{is_number, is_call, found, traps_in, trap_places, operation_places}
 use Rattle.frame_layout.specs.Laws.{TrapsLaw}
 use Rattle.wasm_defs.proofs.EachOperation.{each_same}
@@ -88,18 +87,18 @@ module _ (w : EmitContext) where
   operation_found : (h : ℕ) (op : Operation) → traps_in (operate_words w h op) ≡ operation_places op
   operation_found h op = each_same (λ (o : Operation). traps_in (operate_words w h o)) operation_places refl op
 
-  plain_found : (c : Context) (labels : List Label) (h here : ℕ) (p : Plain) → traps_in (words w c labels h here p) ≡ trap_places p
-  plain_found c labels h here Unreachable = refl
-  plain_found c labels h here (Br l) = found-none false 0 (words w c labels h here (Br l)) (jump_none h here (label_at w labels l))
-  plain_found c labels h here (BrIf l) = found-none false 0 (words w c labels h here (BrIf l)) (jump_if_none h here (label_at w labels l))
-  plain_found c labels h here (BrTable ls l) = found-none false 0 (words w c labels h here (BrTable ls l)) (jump_table_none h here (map (label_at w labels) ls) (label_at w labels l))
-  plain_found c labels h here Return = found-none false 0 (words w c labels h here Return) (jump_none h here (last_label w labels))
-  plain_found c labels h here (Const t n) = found-none false 0 (words w c labels h here (Const t n)) (const_none h t (unsigned t n))
-  plain_found c labels h here (Numeric op) = operation_found h op
-  plain_found c labels h here (Bulk Fill) = refl
-  plain_found c labels h here (Bulk Copy) = refl
-  plain_found c labels h here (Bulk (Init x)) = refl
-  plain_found c labels h here p = refl
+  plain_found : (d : Declarations) (labels : List Label) (h here : ℕ) (p : Plain) → traps_in (words w d labels h here p) ≡ trap_places p
+  plain_found d labels h here Unreachable = refl
+  plain_found d labels h here (Br l) = found-none false 0 (words w d labels h here (Br l)) (jump_none h here (label_at w labels l))
+  plain_found d labels h here (BrIf l) = found-none false 0 (words w d labels h here (BrIf l)) (jump_if_none h here (label_at w labels l))
+  plain_found d labels h here (BrTable ls l) = found-none false 0 (words w d labels h here (BrTable ls l)) (jump_table_none h here (map (label_at w labels) ls) (label_at w labels l))
+  plain_found d labels h here Return = found-none false 0 (words w d labels h here Return) (jump_none h here (last_label w labels))
+  plain_found d labels h here (Const t n) = found-none false 0 (words w d labels h here (Const t n)) (const_none h t (unsigned t n))
+  plain_found d labels h here (Numeric op) = operation_found h op
+  plain_found d labels h here (Bulk Fill) = refl
+  plain_found d labels h here (Bulk Copy) = refl
+  plain_found d labels h here (Bulk (Init x)) = refl
+  plain_found d labels h here p = refl
 
 pub traps_are_found : TrapsLaw
-traps_are_found w c labels h here p = plain_found w c labels h here p
+traps_are_found w d labels h here p = plain_found w d labels h here p

@@ -19,7 +19,7 @@ use Rattle.wasm_defs.specs.Configurations.{Origin, max_slots}
 use Rattle.frame_layout.specs.declared.layout.Layout.{Layout}
 use Rattle.frame_layout.specs.Slots.{link, operand, need}
 use Rattle.frame_layout.specs.Macros.{ra, t0, t1, t2, t3, s0, s5, a0, a7}
-use Rattle.frame_layout.specs.Templates.{Label, EmitContext, const_words, local_get_words, operate_words, words, prologue, epilogue, import_stub, exit_stub}
+use Rattle.frame_layout.specs.Templates.{Declarations, Label, EmitContext, const_words, local_get_words, operate_words, words, prologue, epilogue, import_stub, exit_stub}
 use Rattle.frame_layout.specs.Traps.{traps_in, trap_places, AreSpaced}
 use Rattle.frame_layout.specs.Functions.{sites_of, function_size}
 
@@ -75,7 +75,7 @@ pub record TrapsAt (code : List (Option Op)) (steps words kind : ℕ) (s : State
 
 -- the traps of an instruction are where the table says, wherever its words are, and no others are
 abbrev pub TrapsLaw : Type 0
-TrapsLaw = (w : EmitContext) (c : Context) (labels : List Label) (h here : ℕ) (p : Plain) → traps_in (words w c labels h here p) ≡ trap_places p
+TrapsLaw = (w : EmitContext) (d : Declarations) (labels : List Label) (h here : ℕ) (p : Plain) → traps_in (words w d labels h here p) ≡ trap_places p
 
 -- the traps of a function are apart, inside it
 abbrev pub SpacedLaw : Type 0

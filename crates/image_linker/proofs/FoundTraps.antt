@@ -17,7 +17,7 @@ use Rattle.wasm_defs.specs.Places.{Place, after_rule, shape, after_block, after_
 use Rattle.wasm_defs.proofs.EachOperation.{each_same}
 use Rattle.frame_layout.specs.declared.layout.Layout.{Layout}
 use Rattle.frame_layout.specs.Macros.{x0, ra, distance, far}
-use Rattle.frame_layout.specs.Templates.{Label, EmitContext, label_at, last_label, move_words, jump_words, unless_words, jump_if_words, jumps, table_front, jump_table_words, operate_words, words, zero_locals, prologue, result_words, epilogue, import_stub, exit_stub}
+use Rattle.frame_layout.specs.Templates.{Declarations, Label, EmitContext, label_at, last_label, move_words, jump_words, unless_words, jump_if_words, jumps, table_front, jump_table_words, operate_words, declarations, words, zero_locals, prologue, result_words, epilogue, import_stub, exit_stub}
 use Rattle.frame_layout.specs.Functions.{label, over, size, code, test_words, Trap, trap_at, traps_of, site_of, traps, body_place, body_size, body_code, function_code, body_traps, sites_of}
 use Rattle.frame_layout.specs.Traps.{is_number, is_call, found, trap_places, room_trap}
 use Rattle.frame_layout.proofs.TrapWords.{traps_are_found}
@@ -124,21 +124,21 @@ module _ (w : EmitContext) where
   unfolding number
   operation_ends h op = is_none (after false (operate_words w h op)) (each_same (λ (o : Operation). number (after false (operate_words w h o))) (λ o. []) refl op)
 
-  words_end : (c : Context) (labels : List Label) (h here : ℕ) (p : Plain) → after false (words w c labels h here p) ≡ false
-  words_end c labels h here (Br l) = jump_ends h here (label_at w labels l) false
-  words_end c labels h here (BrIf l) = jump_if_ends h here (label_at w labels l)
-  words_end c labels h here (BrTable ls l) = jump_table_ends h here (map (label_at w labels) ls) (label_at w labels l)
-  words_end c labels h here Return = jump_ends h here (last_label w labels) false
-  words_end c labels h here (Const I32 n) = refl
-  words_end c labels h here (Const I64 n) = refl
-  words_end c labels h here (Numeric op) = operation_ends h op
-  words_end c labels h here (Bulk Fill) = refl
-  words_end c labels h here (Bulk Copy) = refl
-  words_end c labels h here (Bulk (Init x)) = refl
-  words_end c labels h here p = refl
+  words_end : (d : Declarations) (labels : List Label) (h here : ℕ) (p : Plain) → after false (words w d labels h here p) ≡ false
+  words_end d labels h here (Br l) = jump_ends h here (label_at w labels l) false
+  words_end d labels h here (BrIf l) = jump_if_ends h here (label_at w labels l)
+  words_end d labels h here (BrTable ls l) = jump_table_ends h here (map (label_at w labels) ls) (label_at w labels l)
+  words_end d labels h here Return = jump_ends h here (last_label w labels) false
+  words_end d labels h here (Const I32 n) = refl
+  words_end d labels h here (Const I64 n) = refl
+  words_end d labels h here (Numeric op) = operation_ends h op
+  words_end d labels h here (Bulk Fill) = refl
+  words_end d labels h here (Bulk Copy) = refl
+  words_end d labels h here (Bulk (Init x)) = refl
+  words_end d labels h here p = refl
 
-  words_found : (c : Context) (labels : List Label) (h here n : ℕ) (p : Plain) → Finds n (words w c labels h here p) (map (λ k. n + k) (trap_places p))
-  words_found c labels h here n p = moved n (words w c labels h here p) (trap_places p) (record { found_is = traps_are_found w c labels h here p; ends = words_end c labels h here p })
+  words_found : (d : Declarations) (labels : List Label) (h here n : ℕ) (p : Plain) → Finds n (words w d labels h here p) (map (λ k. n + k) (trap_places p))
+  words_found d labels h here n p = moved n (words w d labels h here p) (trap_places p) (record { found_is = traps_are_found w d labels h here p; ends = words_end d labels h here p })
 
   -- what has no trap, in a sequence
   abbrev Silent : List Op → Type 0
@@ -177,13 +177,13 @@ module _ (w : EmitContext) (distance_to : ℕ → ℕ → ℕ) where
   tree_found c labels others same tree None here n behind = record { found_is = refl; ends = refl }
   tree_found c labels others same Nothing (Some h) here n behind = record { found_is = refl; ends = refl }
   tree_found c labels others same (Simple p rest) (Some h) here n behind =
-      let first = words w c labels h here p in
+      let first = words w (declarations c) labels h here p in
       let next = after_rule (rule_of c p) (Some h) in
       let left = tokens_in (Simple p rest) + behind in
       let there = n + length (words away c others h 0 p) in
-      let own = found_places n first (map (λ k. n + k) (trap_places p)) (places_of (traps_of n left p)) (places_moved n left (trap_places p)) (words_found w c labels h here n p) in
+      let own = found_places n first (map (λ k. n + k) (trap_places p)) (places_of (traps_of n left p)) (places_moved n left (trap_places p)) (words_found w (declarations c) labels h here n p) in
       both_traps n there first (code w c labels next (here + length first) rest) (traps_of n left p) (traps away c others next there behind rest)
-      (ap (λ (k : ℕ). n + k) (words_size w distance_to c labels others same h here p)) own (tree_found c labels others same rest next (here + length first) there behind)
+      (ap (λ (k : ℕ). n + k) (words_size w distance_to (declarations c) labels others same h here p)) own (tree_found c labels others same rest next (here + length first) there behind)
   tree_found c labels others same (Block type body rest) (Some h) here n behind =
       let s = shape c type in
       let within = inside c s.results in

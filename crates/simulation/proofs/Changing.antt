@@ -20,7 +20,7 @@ use Rattle.wasm_defs.specs.Configurations.{Store}
 use Rattle.wasm_defs.specs.Effects.{Gives, effect, grew, value, bytes_written}
 use Rattle.frame_layout.specs.Slots.{operand}
 use Rattle.frame_layout.specs.Macros.{s0, s5}
-use Rattle.frame_layout.specs.Templates.{Label, EmitContext, global_set_words, store_words, grow_words, words}
+use Rattle.frame_layout.specs.Templates.{Label, EmitContext, global_set_words, store_words, grow_words, declarations, words}
 use Rattle.frame_layout.specs.Laws.{slot_at, with_slot}
 use Rattle.image_format.specs.Contents.{Image}
 use Rattle.image_format.specs.Environment.{code_of_image}
@@ -55,7 +55,7 @@ pub record Passes (image : Image) (c : Context) (labels : List Label) (w : EmitC
   pub short : steps ≤ most_steps + 128 * bytes_written p operands
   pub last : Running
   pub goes : Goes image steps r last
-  pub pc_is : last.machine.pc ≡ r.machine.pc + 4 * length (words w c labels (length operands) here p)
+  pub pc_is : last.machine.pc ≡ r.machine.pc + 4 * length (words w (declarations c) labels (length operands) here p)
   pub bytes : Bytes
   pub matches : Matches w.layout base there bytes locals after last.machine
   pub low : Agree base r.machine.bytes last.machine.bytes
@@ -143,7 +143,7 @@ module _ (image : Image) (near : length (code_of_image image) ≤ 2 ^ 26) (few :
   either_passes operands p mid (inr z) = inr z
 
   bulk_passes : (op : BulkOp) (operands : List Value) (mid : Types) → (nat_lt 0 c.memories && reads_segment c op) ≡ true → MovesFixed (I32 ∷ I32 ∷ I32 ∷ []) [] (types_of_values operands) mid → length operands ≤ w.layout.greatest
-      → HasAt (code_of_image image) i (words w c labels (length operands) here (Bulk op)) → Holding operands → Passing operands (Bulk op) mid ⊎ Halting operands (Bulk op)
+      → HasAt (code_of_image image) i (words w (declarations c) labels (length operands) here (Bulk op)) → Holding operands → Passing operands (Bulk op) mid ⊎ Halting operands (Bulk op)
   bulk_passes op [] mid there f low has m = let e = f.before in absurd cc
   bulk_passes op (n ∷ []) mid there f low has m = let e = f.before in absurd cc
   bulk_passes op (n ∷ v ∷ []) mid there f low has m = let e = f.before in absurd cc
@@ -229,7 +229,7 @@ module _ (image : Image) (near : length (code_of_image image) ≤ 2 ^ 26) (few :
   -- ---- by the instruction
 
   pub passes : (p : Plain) (operands : List Value) (mid : Types) → IsStraightStep p → ChangesStore p → Moves (rule_of c p) (types_of_values operands) mid → length operands ≤ w.layout.greatest
-      → HasAt (code_of_image image) i (words w c labels (length operands) here p) → Matches w.layout base there r.machine.bytes locals operands r.machine
+      → HasAt (code_of_image image) i (words w (declarations c) labels (length operands) here p) → Matches w.layout base there r.machine.bytes locals operands r.machine
       → Passes image c labels w base there store locals operands p mid here r ⊎ Halts (code_of_image image) store image.cap locals operands p r.machine
   passes (GlobalSet x) operands mid h changes moves low has m =
       let set = moves_set (slice_get c.globals x) (types_of_values operands) mid moves in

@@ -11,7 +11,7 @@ use Rattle.wasm_defs.specs.Configurations.{Instance, Store, Config, Step, Trappe
 use Rattle.wasm_defs.specs.Reductions.{applied, simple}
 use Rattle.wasm_defs.specs.Effects.{Effect, Gives, Traps, Fails, effect, bytes_written}
 use Rattle.frame_layout.specs.Laws.{TrapsAt}
-use Rattle.frame_layout.specs.Templates.{Label, words}
+use Rattle.frame_layout.specs.Templates.{Label, declarations, words}
 use Rattle.image_format.specs.Contents.{Image}
 use Rattle.image_format.specs.Environment.{code_of_image}
 use Rattle.image_format.specs.ImageRun.{Running}
@@ -89,7 +89,7 @@ module _ (im : Image) (near : length (code_of_image im) ≤ 2 ^ 26) (inst : Inst
         let pc_is = y.pc_is in
         let at_is = m.at in
         let count = size_now text near inst places outer c r.machine p rest step m in
-        let here = m.here + length (words k.around at labels (length (types_of_values c.frame.operands) + length lower) m.here p) in
+        let here = m.here + length (words k.around (declarations at) labels (length (types_of_values c.frame.operands) + length lower) m.here p) in
         let sits = behind text near inst places outer c r.machine p rest step m mid moves typed in
         record {
           steps = y.steps;

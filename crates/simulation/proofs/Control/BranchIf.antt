@@ -14,7 +14,7 @@ use Rattle.wasm_defs.specs.Configurations.{Instance, Config, Step, belows, used}
 use Rattle.wasm_defs.specs.Reductions.{simple, branch, branch_if, proceeds}
 use Rattle.frame_layout.specs.Macros.{s0, s5}
 use Rattle.frame_layout.specs.Slots.{operand}
-use Rattle.frame_layout.specs.Templates.{Label, label_at, jump_if_words, words, exit_stub, unless_words, jump_words}
+use Rattle.frame_layout.specs.Templates.{Label, label_at, jump_if_words, declarations, words, exit_stub, unless_words, jump_words}
 use Rattle.simulation.specs.Functions.{TextPlaces}
 use Rattle.simulation.proofs.Frames.Frames.{Open, labels_of, under, Compiled, SitsAt, FramesStay}
 use Rattle.simulation.proofs.Frames.Follows.{same_beside, registers_of, ahead, labels_ahead, Follows, owed_of}
@@ -81,7 +81,7 @@ module _ (text : List (Option Op)) (near : length text ≤ 2 ^ 26) (inst : Insta
       words_here : HasAt text (k.begin + m.here) (jump_if_words k.around (length ((v ∷ below) ++ belows start.frame.labels)) m.here (label_at k.around (labels_of os) l))
       words_here = has_here text near inst places outer stub c s (BrIf l) rest m
 
-      count_is : length (words m.running.compiled.around (under m.running.compiled.context m.running.os) (labels_of m.running.os) (length ((v ∷ below) ++ belows start.frame.labels)) m.here (BrIf l))
+      count_is : length (words m.running.compiled.around (declarations (under m.running.compiled.context m.running.os)) (labels_of m.running.os) (length ((v ∷ below) ++ belows start.frame.labels)) m.here (BrIf l))
           ≡ 3 + unless_count (label_at m.running.compiled.around (labels_of m.running.os) l).takes + jump_count (label_at m.running.compiled.around (labels_of m.running.os) l).takes
       count_is =
           let skip = unless_words k.around (m.here + 3) label.takes in
@@ -95,7 +95,7 @@ module _ (text : List (Option Op)) (near : length text ≤ 2 ^ 26) (inst : Insta
       by_number zero e =
           let mid = m.running.sits.typed.0 in
           let n = length (belows start.frame.labels) in
-          let first = words k.around (under k.context os) (labels_of os) (length ((v ∷ below) ++ belows start.frame.labels)) m.here (BrIf l) in
+          let first = words k.around (declarations (under k.context os)) (labels_of os) (length ((v ∷ below) ++ belows start.frame.labels)) m.here (BrIf l) in
           let y = branch_fails text near k.around (used start.callers) m.address start.frame.locals s k.begin m.here (length ((v ∷ below) ++ belows start.frame.labels)) m.at v (below ++ belows start.frame.labels)
           (held_here text near inst places outer stub c s (BrIf l) rest m).matches ty refl (high_here text near inst places outer stub c s (BrIf l) rest m) label words_here inside_words e in
           let z = y.3 in

@@ -18,7 +18,7 @@ use Rattle.wasm_defs.specs.Configurations as config
 use Rattle.wasm_defs.specs.Reductions.{simple, branch, returns}
 use Rattle.frame_layout.specs.Slots.{operand}
 use Rattle.frame_layout.specs.Traps.{trap_places}
-use Rattle.frame_layout.specs.Templates.{Label, EmitContext, last_label, jump_words, words, exit_stub}
+use Rattle.frame_layout.specs.Templates.{Label, EmitContext, last_label, jump_words, declarations, words, exit_stub}
 use Rattle.frame_layout.specs.Functions.{code}
 use Rattle.frame_layout.proofs.Jumps.{trap_traps}
 use Rattle.simulation.specs.Functions.{TextPlaces}
@@ -104,17 +104,17 @@ module _ (text : List (Option Op)) (near : length text ≤ 2 ^ 26) (inst : Insta
           let x = held_now text inst places outer (record c.frame { code = Simple p rest }) c.callers s m in
           record { matches = x.matches; are = x.are; stay = x.stay }
 
-      pub has_here : HasAt text (m.running.compiled.begin + m.here) (words m.running.compiled.around (under m.running.compiled.context m.running.os) (labels_of m.running.os) (length (c.frame.operands ++ belows c.frame.labels)) m.here p)
+      pub has_here : HasAt text (m.running.compiled.begin + m.here) (words m.running.compiled.around (declarations (under m.running.compiled.context m.running.os)) (labels_of m.running.os) (length (c.frame.operands ++ belows c.frame.labels)) m.here p)
       has_here = has_words text inst places k os p rest h m.here (types_of_values c.frame.operands) m.running.to m.running.there (sits_whole text near inst places outer stub c s (Simple p rest) m)
 
       pub told_here : (word : ℕ) → IsIn word (trap_places p) → places.trap (m.running.compiled.begin + (m.here + word)) ≡ Some (place_of c.frame (Simple p rest))
       told_here word among =
           trap_told text inst places k os p rest h m.here (types_of_values c.frame.operands) m.running.to m.running.there (sits_whole text near inst places outer stub c s (Simple p rest) m) c.frame.labels m.running.fit word among
 
-      pub inside_here : m.running.compiled.begin + (m.here + length (words m.running.compiled.around (under m.running.compiled.context m.running.os) (labels_of m.running.os) (length (c.frame.operands ++ belows c.frame.labels)) m.here p)) ≤ length text
+      pub inside_here : m.running.compiled.begin + (m.here + length (words m.running.compiled.around (declarations (under m.running.compiled.context m.running.os)) (labels_of m.running.os) (length (c.frame.operands ++ belows c.frame.labels)) m.here p)) ≤ length text
       inside_here =
           let x = sits_whole text near inst places outer stub c s (Simple p rest) m in
-          let first = words k.around (under k.context os) (labels_of os) h m.here p in
+          let first = words k.around (declarations (under k.context os)) (labels_of os) h m.here p in
           let behind = code k.around (under k.context os) (labels_of os) (after_rule (rule_of (under k.context os) p) (Some h)) (m.here + length first) rest in
           omega (arith, x.inside, length-append first behind)
 
@@ -129,10 +129,10 @@ module _ (text : List (Option Op)) (near : length text ≤ 2 ^ 26) (inst : Insta
       -- what follows an instruction that goes on
       pub rest_sits : (mid : Types) → Typed (under m.running.compiled.context m.running.os) rest mid m.running.to
           → after_rule (rule_of (under m.running.compiled.context m.running.os) p) (Some (length (types_of_values c.frame.operands) + length (belows c.frame.labels))) ≡ Some (length mid + length (belows c.frame.labels))
-          → SitsAt text inst places m.running.compiled m.running.os (Some (length mid + length (belows c.frame.labels))) mid (m.here + length (words m.running.compiled.around (under m.running.compiled.context m.running.os) (labels_of m.running.os) (length (c.frame.operands ++ belows c.frame.labels)) m.here p)) rest m.running.to m.running.there
+          → SitsAt text inst places m.running.compiled m.running.os (Some (length mid + length (belows c.frame.labels))) mid (m.here + length (words m.running.compiled.around (declarations (under m.running.compiled.context m.running.os)) (labels_of m.running.os) (length (c.frame.operands ++ belows c.frame.labels)) m.here p)) rest m.running.to m.running.there
       rest_sits mid typed e =
           let height : length (c.frame.operands ++ belows c.frame.labels) ≡ length (types_of_values c.frame.operands) + length (belows c.frame.labels) = omega (arith, types_length c.frame.operands, length-append c.frame.operands (belows c.frame.labels)) in
-          subst (λ (q : Place). SitsAt text inst places k os q mid (m.here + length (words k.around (under k.context os) (labels_of os) h m.here p)) rest m.running.to m.running.there)
+          subst (λ (q : Place). SitsAt text inst places k os q mid (m.here + length (words k.around (declarations (under k.context os)) (labels_of os) h m.here p)) rest m.running.to m.running.there)
           (ap (λ (x : ℕ). after_rule (rule_of (under k.context os) p) (Some x)) height ∙ e)
           (sits_rest text inst places k os p rest h m.here (types_of_values c.frame.operands) m.running.to m.running.there (sits_whole text near inst places outer stub c s (Simple p rest) m) mid typed)
 

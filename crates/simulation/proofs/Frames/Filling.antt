@@ -13,10 +13,9 @@ use Rattle.wasm_defs.specs.declared.token.Plain.{Plain}
 use Rattle.wasm_defs.specs.declared.token.Plain.TheVariants.{Br, BrIf, BrTable, Return, Call, Numeric}
 use Rattle.wasm_defs.specs.Trees.{Seq, Nothing, Simple, Block, Loop, If, IfElse}
 use Rattle.wasm_defs.specs.Typing.{Context, rule_of, inside}
-use Rattle.wasm_defs.specs.Context.{type_of_function}
 use Rattle.wasm_defs.specs.Places.{Place, after_rule, shape, after_block, after_if, end_of}
 use Rattle.frame_layout.specs.Macros.{ra, t0, distance, far}
-use Rattle.frame_layout.specs.Templates.{Label, EmitContext, load_operand, operate_words, prologue, epilogue, move_words, jump_words, unless_words, jumps, table_front, label_at, last_label, call_words, words}
+use Rattle.frame_layout.specs.Templates.{Declarations, Label, EmitContext, load_operand, operate_words, prologue, epilogue, move_words, jump_words, unless_words, jumps, table_front, label_at, last_label, call_words, declarations, words}
 use Rattle.frame_layout.specs.Functions.{label, over, test_words, size, code, no_distance, near, with_distance, with_distances, call_of, calls, body_place, body_size, body_code, calls_of, function_code}
 use Rattle.frame_layout.proofs.Sizes.{taken_by, words_size, over_size, code_size}
 
@@ -100,24 +99,24 @@ module _ (w : EmitContext) where
   call_fills : (h here function arguments : ℕ) → Fills w.distance_to here (record { place = here + 6; function = function } ∷ []) (call_words (near w) h here function arguments) (call_words w h here function arguments)
   call_fills h here function arguments front behind len = filled_at (w.distance_to (here + 6) function) here front _ _ _ _ _ _ _ _ _ len
 
-  plain_fills : (c : Context) (labels : List Label) (h here : ℕ) (p : Plain) → Fills w.distance_to here (call_of (near w) here p) (words (near w) c labels h here p) (words w c labels h here p)
-  plain_fills c labels h here (Call f) = call_fills h here f (length (type_of_function c f).params)
-  plain_fills c labels h here (Br l) = fills_none w.distance_to here _ _ (jump_near h here (label_at w labels l))
-  plain_fills c labels h here (BrIf l) =
+  plain_fills : (d : Declarations) (labels : List Label) (h here : ℕ) (p : Plain) → Fills w.distance_to here (call_of (near w) here p) (words (near w) d labels h here p) (words w d labels h here p)
+  plain_fills d labels h here (Call f) = call_fills h here f (length (d.function f).params)
+  plain_fills d labels h here (Br l) = fills_none w.distance_to here _ _ (jump_near h here (label_at w labels l))
+  plain_fills d labels h here (BrIf l) =
       let skip = unless_words w (here + 3) (label_at w labels l).takes in
       fills_none w.distance_to here _ _ (ap (λ (jump : List Op). load_operand w t0 (h - 1) ++ (skip ++ jump)) (jump_near (h - 1) (here + 3 + length skip) (label_at w labels l)))
-  plain_fills c labels h here (BrTable ls l) =
+  plain_fills d labels h here (BrTable ls l) =
       let last = label_at w labels l in
       let all = map (label_at w labels) ls in
       let front = table_front w h (length all) last.takes in
       fills_none w.distance_to here _ _ (ap (λ (more : List Op). front ++ more) (jumps_near (h - 1) (here + length front) (all ++ last ∷ [])))
-  plain_fills c labels h here Return =
+  plain_fills d labels h here Return =
       fills_none w.distance_to here _ _ (jump_near h here (last_label (near w) labels) ∙ ap (jump_words w h here) (last_near labels))
-  plain_fills c labels h here (Numeric op) = fills_none w.distance_to here _ _ (operate_near h op)
-  plain_fills c labels h here p = fills_none w.distance_to here (words (near w) c labels h here p) (words w c labels h here p) refl
+  plain_fills d labels h here (Numeric op) = fills_none w.distance_to here _ _ (operate_near h op)
+  plain_fills d labels h here p = fills_none w.distance_to here (words (near w) d labels h here p) (words w d labels h here p) refl
 
-  words_near : (c : Context) (labels others : List Label) → taken_by labels ≡ taken_by others → (h here : ℕ) (p : Plain) → length (words w c labels h here p) ≡ length (words (near w) c others h 0 p)
-  words_near c labels others same h here p = words_size w no_distance c labels others same h here p
+  words_near : (d : Declarations) (labels others : List Label) → taken_by labels ≡ taken_by others → (h here : ℕ) (p : Plain) → length (words w d labels h here p) ≡ length (words (near w) d others h 0 p)
+  words_near d labels others same h here p = words_size w no_distance d labels others same h here p
 
   size_near : (c : Context) (labels others : List Label) → taken_by labels ≡ taken_by others → (tree : Seq) (place : Place) → size w c labels place tree ≡ size (near w) c others place tree
   size_near c labels others same tree place = sym (code_size w w.distance_to c labels labels refl tree place 0) ∙ code_size w no_distance c labels others same tree place 0
@@ -129,17 +128,17 @@ module _ (w : EmitContext) where
   code_fills c labels counted same tree None here = fills_none w.distance_to here [] [] refl
   code_fills c labels counted same Nothing (Some h) here = fills_none w.distance_to here [] [] refl
   code_fills c labels counted same (Simple p rest) (Some h) here =
-      let old = words (near w) c labels h here p in
-      let new = words w c labels h here p in
+      let old = words (near w) (declarations c) labels h here p in
+      let new = words w (declarations c) labels h here p in
       let next = after_rule (rule_of c p) (Some h) in
-      let size_of_new : length new ≡ length (words (near w) c counted h 0 p) = words_near c labels counted same h here p in
-      let size_of_old : length new ≡ length old = words_near c labels labels refl h here p ∙ sym (words_size (near w) no_distance c labels labels refl h here p) in
+      let size_of_new : length new ≡ length (words (near w) (declarations c) counted h 0 p) = words_near (declarations c) labels counted same h here p in
+      let size_of_old : length new ≡ length old = words_near (declarations c) labels labels refl h here p ∙ sym (words_size (near w) no_distance (declarations c) labels labels refl h here p) in
       let there = here + length new in
       at_one
       (λ a b. Fills w.distance_to here (call_of (near w) here p ++ calls (near w) c counted next (here + a) rest) (old ++ code (near w) c labels next (here + b) rest) (new ++ code w c labels next there rest))
-      (length new) (length (words (near w) c counted h 0 p)) (length old)
+      (length new) (length (words (near w) (declarations c) counted h 0 p)) (length old)
       (fills_both w.distance_to here there (call_of (near w) here p) (calls (near w) c counted next there rest) old new (code (near w) c labels next there rest) (code w c labels next there rest)
-      refl (plain_fills c labels h here p) (code_fills c labels counted same rest next there))
+      refl (plain_fills (declarations c) labels h here p) (code_fills c labels counted same rest next there))
       size_of_new size_of_old
   code_fills c labels counted same (Block type body rest) (Some h) here =
       let s = shape c type in

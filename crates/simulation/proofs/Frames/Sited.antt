@@ -6,7 +6,7 @@ use Rattle.wasm_defs.specs.Trees.{Seq, Nothing, Simple, Block, Loop, If, IfElse,
 use Rattle.wasm_defs.specs.Typing.{Context, rule_of, inside}
 use Rattle.wasm_defs.specs.Places.{Place, after_rule, shape, after_block, after_if, end_of}
 use Rattle.wasm_defs.specs.Configurations.{Origin, place_left}
-use Rattle.frame_layout.specs.Templates.{Label, EmitContext, words}
+use Rattle.frame_layout.specs.Templates.{Label, EmitContext, declarations, words}
 use Rattle.frame_layout.specs.Traps.{trap_places}
 use Rattle.frame_layout.specs.Functions.{label, over, size, Trap, trap_at, traps_of, traps, body_traps, body_place}
 use Rattle.simulation.specs.Functions.{AreSited}
@@ -58,8 +58,8 @@ module _ (w : EmitContext) (distance_to : ℕ → ℕ → ℕ) where
   traps_alike c labels others same (Simple p rest) (Some h) here behind =
       let next = after_rule (rule_of c p) (Some h) in
       ap (λ (ts : List Trap). traps_of here (tokens_in (Simple p rest) + behind) p ++ ts)
-      (traps_alike c labels others same rest next (here + length (words w c labels h 0 p)) behind
-      ∙ ap (λ (n : ℕ). traps away c others next (here + n) behind rest) (words_size w distance_to c labels others same h 0 p))
+      (traps_alike c labels others same rest next (here + length (words w (declarations c) labels h 0 p)) behind
+      ∙ ap (λ (n : ℕ). traps away c others next (here + n) behind rest) (words_size w distance_to (declarations c) labels others same h 0 p))
   traps_alike c labels others same (Block type body rest) (Some h) here behind =
       let s = shape c type in
       let within = inside c s.results in

@@ -9,7 +9,7 @@ use Rattle.wasm_defs.specs.Typing.{Types, Context, rule_of, Typed}
 use Rattle.wasm_defs.specs.Places.{Place, after_rule, end_of}
 use Rattle.wasm_defs.specs.Configurations.{Func, Instance, tokens_behind, place_left}
 use Rattle.wasm_defs.specs.Configurations as config
-use Rattle.frame_layout.specs.Templates.{Label, words}
+use Rattle.frame_layout.specs.Templates.{Label, declarations, words}
 use Rattle.frame_layout.specs.Traps.{trap_places}
 use Rattle.frame_layout.specs.Functions.{code, traps_of, traps}
 use Rattle.frame_layout.proofs.Standing.{has_first, has_rest}
@@ -34,7 +34,7 @@ module _ (text : List (Option Op)) (inst : Instance) (places : TextPlaces) {f : 
   -- what follows an instruction
   module _ (p : Plain) (rest : Seq) (h here : ℕ) (from to : Types) (there : ℕ) (x : SitsAt text inst places k os (Some h) from here (Simple p rest) to there) where
     abbrev first : List Op
-    first = words k.around at labels h here p
+    first = words k.around (declarations at) labels h here p
 
     abbrev next : Place
     next = after_rule (rule_of at p) (Some h)
@@ -42,7 +42,7 @@ module _ (text : List (Option Op)) (inst : Instance) (places : TextPlaces) {f : 
     abbrev behind : List Op
     behind = code k.around at labels next (here + length first) rest
 
-    pub has_words : HasAt text (k.begin + here) (words k.around (under k.context os) (labels_of os) h here p)
+    pub has_words : HasAt text (k.begin + here) (words k.around (declarations (under k.context os)) (labels_of os) h here p)
     has_words = has_first text (k.begin + here) first behind x.has
 
     -- the source location of a trap of the instruction is known, as the configuration's labels say
@@ -50,10 +50,10 @@ module _ (text : List (Option Op)) (inst : Instance) (places : TextPlaces) {f : 
     trap_told ls fit word among =
         let left = tokens_in (Simple p rest) + behind_of os in
         told_of places.trap k.begin f.origin here left word p among
-        (sited_first places.trap k.begin f.origin (traps_of here left p) (traps k.around at labels next (here + length (words k.around at labels h 0 p)) (behind_of os) rest) x.sited)
+        (sited_first places.trap k.begin f.origin (traps_of here left p) (traps k.around at labels next (here + length (words k.around (declarations at) labels h 0 p)) (behind_of os) rest) x.sited)
         ∙ ap (λ (n : ℕ). Some (place_left f.origin (tokens_in (Simple p rest) + n))) (behind_now text inst places k ls os to there fit)
 
-    pub sits_rest : (mid : Types) → Typed (under k.context os) rest mid to → SitsAt text inst places k os (after_rule (rule_of (under k.context os) p) (Some h)) mid (here + length (words k.around (under k.context os) (labels_of os) h here p)) rest to there
+    pub sits_rest : (mid : Types) → Typed (under k.context os) rest mid to → SitsAt text inst places k os (after_rule (rule_of (under k.context os) p) (Some h)) mid (here + length (words k.around (declarations (under k.context os)) (labels_of os) h here p)) rest to there
     sits_rest mid typed =
         let split = length-append first behind in
         let left = tokens_in (Simple p rest) + behind_of os in
@@ -65,6 +65,6 @@ module _ (text : List (Option Op)) (inst : Instance) (places : TextPlaces) {f : 
           inside = omega (arith, x.inside, split);
           ending = ending_at (end_of at rest next) (here + length (first ++ behind)) (here + length first + length behind) there (omega (arith, split)) x.ending;
           sited = subst (λ (n : ℕ). AreSited places.trap k.begin f.origin (traps k.around at labels next (here + n) (behind_of os) rest))
-              (sym (words_size k.around k.around.distance_to at labels labels refl h here p))
-              (sited_rest places.trap k.begin f.origin (traps_of here left p) (traps k.around at labels next (here + length (words k.around at labels h 0 p)) (behind_of os) rest) x.sited);
+              (sym (words_size k.around k.around.distance_to (declarations at) labels labels refl h here p))
+              (sited_rest places.trap k.begin f.origin (traps_of here left p) (traps k.around at labels next (here + length (words k.around (declarations at) labels h 0 p)) (behind_of os) rest) x.sited);
         }

@@ -22,7 +22,7 @@ use Rattle.wasm_defs.specs.Memory.{page, written_at, filled_at, copied_at}
 use Rattle.wasm_defs.specs.Effects.{Gives, Traps, effect, stored, copied}
 use Rattle.frame_layout.specs.Slots.{operand}
 use Rattle.frame_layout.specs.BulkWords.{fill_words, copy_words, init_words, drop_words}
-use Rattle.frame_layout.specs.Templates.{Label, EmitContext, words}
+use Rattle.frame_layout.specs.Templates.{Label, EmitContext, declarations, words}
 use Rattle.frame_layout.specs.Traps.{bulk_places}
 use Rattle.frame_layout.specs.Laws.{slot_at, TrapsAt}
 use Rattle.simulation.specs.Regions.{with_global, with_memory, SegmentStands}
@@ -120,7 +120,7 @@ module _ (code : List (Option Op)) (short : length code ≤ 2 ^ 26) (c : Context
 
     -- bytes that were written
     writes_comes : (op : BulkOp) (mid : Types) (memory : List ℕ) (most : ℕ) → effect store locals cap (Bulk op) (n ∷ v ∷ d ∷ below) ≡ Gives (record store { memory = memory }) locals below → types_of_values below ≡ mid → WrittenOver store.memory memory
-        → most ≤ most_steps + 128 * n.number → Writes code most (length (words w c labels (suc (suc (suc (length below)))) here (Bulk op))) s memory → Comes op mid
+        → most ≤ most_steps + 128 * n.number → Writes code most (length (words w (declarations c) labels (suc (suc (suc (length below)))) here (Bulk op))) s memory → Comes op mid
     writes_comes op mid memory most gives types over le x =
         let d' = x.does in
         let there' = ap (λ (l : List ℕ). written_at l over.place over.bytes) holds.memory ∙ over.is in
@@ -143,7 +143,7 @@ module _ (code : List (Option Op)) (short : length code ≤ 2 ^ 26) (c : Context
           others = d'.others;
           matches = beside_matches (with_memory s.bytes memory) refl (memory_fits s.bytes memory (subst (λ (k : ℕ). k ≤ window) (sym now.size) (m.frame.windows Memory)) m.frame.windows) m below m.live.1.1.1 d';
           table_stays = ap (λ (y : Bytes). y.table) d'.bytes_are;
-          stands = store_stored code store pages cap x.steps (length (words w c labels (suc (suc (suc (length below)))) here (Bulk op))) memory s holds over d';
+          stands = store_stored code store pages cap x.steps (length (words w (declarations c) labels (suc (suc (suc (length below)))) here (Bulk op))) memory s holds over d';
         })
 
     -- or a trap
@@ -209,7 +209,7 @@ module _ (code : List (Option Op)) (short : length code ≤ 2 ^ 26) (c : Context
           let law = init_law_does w code s i base height d.number v.number n.number pages (length store.globals + 2 * x) bytes has' at m.frame holds.regions holds.passive stands (omega arith) inside d_word v_word n_word d_small v_small n_small short in
           inited_comes mid (copied_at bytes store.memory d.number v.number n.number) types refl (subst (λ (l : List ℕ). Inited code n.number s (copied_at bytes l d.number v.number n.number)) holds.memory law)
 
-    pub bulk_comes : (op : BulkOp) (mid : Types) → types_of_values below ≡ mid → (nat_lt 0 c.memories && reads_segment c op) ≡ true → HasAt code i (words w c labels (suc (suc (suc (length below)))) here (Bulk op))
+    pub bulk_comes : (op : BulkOp) (mid : Types) → types_of_values below ≡ mid → (nat_lt 0 c.memories && reads_segment c op) ≡ true → HasAt code i (words w (declarations c) labels (suc (suc (suc (length below)))) here (Bulk op))
         → Changes code c labels w base there b store cap pages locals (n ∷ v ∷ d ∷ below) (Bulk op) mid here s ⊎ Halts code store cap locals (n ∷ v ∷ d ∷ below) (Bulk op) s
     bulk_comes Fill mid types reads has = fill_comes mid types has
     bulk_comes Copy mid types reads has = copy_comes mid types has

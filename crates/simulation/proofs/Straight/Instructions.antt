@@ -12,7 +12,7 @@ use Rattle.wasm_defs.specs.Values.{Value, InRange, word_of, types_of_values, tra
 use Rattle.wasm_defs.specs.Effects.{Gives, Traps, effect}
 use Rattle.frame_layout.specs.Slots.{operand}
 use Rattle.frame_layout.specs.Traps.{trap_places}
-use Rattle.frame_layout.specs.Templates.{Label, EmitContext, words}
+use Rattle.frame_layout.specs.Templates.{Label, EmitContext, declarations, words}
 use Rattle.frame_layout.specs.Laws.{with_slot, is_scratch, Does, TrapsAt}
 use Rattle.simulation.proofs.Frames.Values.{Operands, Matches}
 use Rattle.simulation.proofs.Frames.Puts.{put_matches}
@@ -34,7 +34,7 @@ pub record Follows (code : List (Option Op)) (c : Context) (labels : List Label)
   pub short : steps ≤ most_steps
   pub end : State
   pub reaches : Reaches code steps s end
-  pub pc_is : end.pc ≡ s.pc + 4 * length (words w c labels (length operands) here p)
+  pub pc_is : end.pc ≡ s.pc + 4 * length (words w (declarations c) labels (length operands) here p)
   pub others : (r : ℕ) → is_scratch r ≡ false → reg end.registers r ≡ reg s.registers r
   pub matches : Matches w.layout base there b locals_after after end
 
@@ -57,7 +57,7 @@ module _ (code : List (Option Op)) (c : Context) (labels : List Label) (w : Emit
 
   -- its words change no byte, and leave some of the operands
   pub kept_follows : (p : Plain) (operands others : List Value) (mid : Types) (steps : ℕ) → effect store locals cap p operands ≡ Gives store locals others → types_of_values others ≡ mid → steps ≤ most_steps
-      → Does code steps (length (words w c labels (length operands) here p)) s s.bytes → Matches w.layout base there b locals others s → Follows code c labels w base there b store cap locals operands p mid here s
+      → Does code steps (length (words w (declarations c) labels (length operands) here p)) s s.bytes → Matches w.layout base there b locals others s → Follows code c labels w base there b store cap locals operands p mid here s
   kept_follows p operands others mid steps gives is short d m = record {
     locals_after = locals;
     after = others;
@@ -70,12 +70,12 @@ module _ (code : List (Option Op)) (c : Context) (labels : List Label) (w : Emit
     reaches = d.reaches;
     pc_is = d.pc_is;
     others = d.others;
-    matches = kept_matches code w.layout base there b locals others s steps (length (words w c labels (length operands) here p)) m d;
+    matches = kept_matches code w.layout base there b locals others s steps (length (words w (declarations c) labels (length operands) here p)) m d;
   }
 
   -- its words put one value above some of the operands
   pub put_follows : (p : Plain) (operands below : List Value) (mid : Types) (v : Value) (steps : ℕ) → effect store locals cap p operands ≡ Gives store locals (v ∷ below) → v.ty ∷ types_of_values below ≡ mid
-      → steps ≤ most_steps → Does code steps (length (words w c labels (length operands) here p)) s (with_slot s.bytes (base + operand w.layout (length below)) (word_of v)) → InRange v
+      → steps ≤ most_steps → Does code steps (length (words w (declarations c) labels (length operands) here p)) s (with_slot s.bytes (base + operand w.layout (length below)) (word_of v)) → InRange v
       → length below < w.layout.greatest → Matches w.layout base there b locals operands s → Operands s.bytes (base + operand w.layout 0) below
       → Follows code c labels w base there b store cap locals operands p mid here s
   put_follows p operands below mid v steps gives is short d range high m live = record {
@@ -91,5 +91,5 @@ module _ (code : List (Option Op)) (c : Context) (labels : List Label) (w : Emit
     pc_is = d.pc_is;
     others = d.others;
     matches =
-        put_matches code w.layout base there b locals operands below s steps (length (words w c labels (length operands) here p)) (word_of v) v d (record { is = refl; range = range }) high m live;
+        put_matches code w.layout base there b locals operands below s steps (length (words w (declarations c) labels (length operands) here p)) (word_of v) v d (record { is = refl; range = range }) high m live;
   }

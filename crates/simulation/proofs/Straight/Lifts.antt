@@ -16,7 +16,7 @@ use Rattle.wasm_defs.specs.Configurations.{Instance, Config, Step, place_of, bel
 use Rattle.wasm_defs.specs.Reductions.{applied, simple}
 use Rattle.wasm_defs.specs.Effects.{Effect, Gives, Traps, Fails, effect, bytes_written}
 use Rattle.frame_layout.specs.Traps.{trap_places}
-use Rattle.frame_layout.specs.Templates.{Label, words}
+use Rattle.frame_layout.specs.Templates.{Label, declarations, words}
 use Rattle.simulation.specs.Covered.{IsStraightStep}
 use Rattle.simulation.proofs.Frames.Frames.{labels_of, under, Compiled, SitsAt, FramesStay}
 use Rattle.simulation.proofs.Frames.Follows.{registers_of, matches_now, proceeds, leads_less, ahead, labels_ahead, halts_at, Follows}
@@ -71,9 +71,9 @@ module _ (text : List (Option Op)) (near : length text ≤ 2 ^ 26) (inst : Insta
 
     pub behind : Typed (under m.running.compiled.context m.running.os) rest mid m.running.to
         → SitsAt text inst places m.running.compiled m.running.os (Some (length mid + length (belows c.frame.labels))) mid
-        (m.here + length (words m.running.compiled.around (under m.running.compiled.context m.running.os) (labels_of m.running.os) (length (types_of_values c.frame.operands) + length (belows c.frame.labels)) m.here p)) rest m.running.to m.running.there
+        (m.here + length (words m.running.compiled.around (declarations (under m.running.compiled.context m.running.os)) (labels_of m.running.os) (length (types_of_values c.frame.operands) + length (belows c.frame.labels)) m.here p)) rest m.running.to m.running.there
     behind typed =
-        subst (λ (q : Place). SitsAt text inst places k m.running.os q mid (m.here + length (words k.around at labels (length types + n) m.here p)) rest m.running.to m.running.there) place_is
+        subst (λ (q : Place). SitsAt text inst places k m.running.os q mid (m.here + length (words k.around (declarations at) labels (length types + n) m.here p)) rest m.running.to m.running.there) place_is
         (sits_rest text inst places k m.running.os p rest (length types + n) m.here types m.running.to m.running.there m.running.sits mid typed)
 
     -- what the words need where they begin
@@ -94,9 +94,9 @@ module _ (text : List (Option Op)) (near : length text ≤ 2 ^ 26) (inst : Insta
       let first = peak_here at (Simple p rest) (length types + n) in
       omega (arith, height)
 
-  pub has_now : HasAt text (m.running.compiled.begin + m.here) (words m.running.compiled.around (under m.running.compiled.context m.running.os) (labels_of m.running.os) (length (c.frame.operands ++ belows c.frame.labels)) m.here p)
+  pub has_now : HasAt text (m.running.compiled.begin + m.here) (words m.running.compiled.around (declarations (under m.running.compiled.context m.running.os)) (labels_of m.running.os) (length (c.frame.operands ++ belows c.frame.labels)) m.here p)
   has_now =
-      subst (λ (h : ℕ). HasAt text (k.begin + m.here) (words k.around at labels h m.here p)) height
+      subst (λ (h : ℕ). HasAt text (k.begin + m.here) (words k.around (declarations at) labels h m.here p)) height
       (has_words text inst places k m.running.os p rest (length types + n) m.here types m.running.to m.running.there m.running.sits)
 
   -- a trap of the instruction comes from its source location
@@ -104,9 +104,9 @@ module _ (text : List (Option Op)) (near : length text ≤ 2 ^ 26) (inst : Insta
   told_now word among =
       trap_told text inst places k m.running.os p rest (length types + n) m.here types m.running.to m.running.there m.running.sits c.frame.labels m.running.fit word among
 
-  pub size_now : length (words m.running.compiled.around (under m.running.compiled.context m.running.os) (labels_of m.running.os) (length (c.frame.operands ++ belows c.frame.labels)) m.here p)
-      ≡ length (words m.running.compiled.around (under m.running.compiled.context m.running.os) (labels_of m.running.os) (length (types_of_values c.frame.operands) + length (belows c.frame.labels)) m.here p)
-  size_now = ap (λ (h : ℕ). length (words k.around at labels h m.here p)) (sym height)
+  pub size_now : length (words m.running.compiled.around (declarations (under m.running.compiled.context m.running.os)) (labels_of m.running.os) (length (c.frame.operands ++ belows c.frame.labels)) m.here p)
+      ≡ length (words m.running.compiled.around (declarations (under m.running.compiled.context m.running.os)) (labels_of m.running.os) (length (types_of_values c.frame.operands) + length (belows c.frame.labels)) m.here p)
+  size_now = ap (λ (h : ℕ). length (words k.around (declarations at) labels h m.here p)) (sym height)
 
   module _ (pages : ℕ) (holds : StoreStands c.store pages inst.cap s) (globals_are : global_types inst.context.globals ≡ types_of_values c.store.globals) where
     abbrev Whole : Effect → Type 0
@@ -144,12 +144,12 @@ module _ (text : List (Option Op)) (near : length text ≤ 2 ^ 26) (inst : Insta
             same_store = store_is;
             same_later = refl;
             leads = leads_less text inst places outer (128 + 128 * 0) (omega arith)
-                (proceeds text inst places outer (record c.frame { code = Simple p rest }) c.callers s m 128 x.steps (m.here + length (words k.around at labels (length types + n) m.here p)) m.running.there x.end locals operands rest c.frame.labels m.running.os m.running.to
+                (proceeds text inst places outer (record c.frame { code = Simple p rest }) c.callers s m 128 x.steps (m.here + length (words k.around (declarations at) labels (length types + n) m.here p)) m.running.there x.end locals operands rest c.frame.labels m.running.os m.running.to
                 x.short x.reaches (omega arith)
                 (subst (λ (vs : List Value). Matches k.around.layout (used c.callers) m.address s.bytes vs (operands ++ belows c.frame.labels) x.end) locals_are
                 (subst (λ (vs : List Value). Matches k.around.layout (used c.callers) m.address s.bytes x.locals_after vs x.end) after_is x.matches))
                 (ap types_of_values (sym locals_are) ∙ x.locals_are)
-                (subst (λ (ts : Types). SitsAt text inst places k m.running.os (Some (length ts + n)) ts (m.here + length (words k.around at labels (length types + n) m.here p)) rest m.running.to m.running.there) (sym types_are) (behind mid moves typed))
+                (subst (λ (ts : Types). SitsAt text inst places k m.running.os (Some (length ts + n)) ts (m.here + length (words k.around (declarations at) labels (length types + n) m.here p)) rest m.running.to m.running.there) (sym types_are) (behind mid moves typed))
                 m.running.fit (registers_of s x.end x.others));
             moves = inr (omega arith);
           }

@@ -25,7 +25,7 @@ use Rattle.wasm_defs.specs.Effects.{Gives, effect, loaded, stored, pushed, value
 use Rattle.frame_layout.specs.Slots.{link, operand}
 use Rattle.frame_layout.specs.declared.layout.Layout.{Layout}
 use Rattle.frame_layout.specs.Macros.{s0, s5}
-use Rattle.frame_layout.specs.Templates.{Label, EmitContext, global_get_words, global_set_words, load_words, store_words, size_words, words}
+use Rattle.frame_layout.specs.Templates.{Label, EmitContext, global_get_words, global_set_words, load_words, store_words, size_words, declarations, words}
 use Rattle.frame_layout.specs.Laws.{slot_at, with_slot, is_scratch, Does}
 use Rattle.frame_layout.proofs.Steps.{does_with}
 use Rattle.simulation.specs.Regions.{with_global, with_memory}
@@ -140,7 +140,7 @@ pub record Changes (code : List (Option Op)) (c : Context) (labels : List Label)
   pub short : steps ≤ most_steps + 128 * bytes_written p operands
   pub end : State
   pub reaches : Reaches code steps s end
-  pub pc_is : end.pc ≡ s.pc + 4 * length (words w c labels (length operands) here p)
+  pub pc_is : end.pc ≡ s.pc + 4 * length (words w (declarations c) labels (length operands) here p)
   pub others : (r : ℕ) → is_scratch r ≡ false → reg end.registers r ≡ reg s.registers r
   pub matches : Matches w.layout base there (record end.bytes { stack = b.stack }) locals after end
   pub table_stays : end.bytes.table ≡ s.bytes.table

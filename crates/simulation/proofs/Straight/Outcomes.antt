@@ -13,7 +13,7 @@ use Rattle.wasm_defs.specs.declared.token.MemArg.{MemArg}
 use Rattle.wasm_defs.specs.Typing.{Types, Context, Moves, Fixed, operated, load_type, load_alignment, accesses, rule_of}
 use Rattle.wasm_defs.specs.Configurations.{Store}
 use Rattle.wasm_defs.specs.Values.{Value, types_of_values}
-use Rattle.frame_layout.specs.Templates.{Label, EmitContext, const_words, load_words, words}
+use Rattle.frame_layout.specs.Templates.{Label, EmitContext, const_words, load_words, declarations, words}
 use Rattle.simulation.specs.Covered.{IsStraightStep}
 use Rattle.simulation.proofs.Frames.Rules.{types_length, MovesFixed, moves_fixed, discards, selects, on_local, on_global, moves_only}
 use Rattle.simulation.proofs.Frames.Values.{Matches}
@@ -47,7 +47,7 @@ module _ (code : List (Option Op)) (near : length code ≤ 2 ^ 26) (c : Context)
       load_outcome code c labels w base there b store cap locals here s i at pages holds x below o mem x_ty low m mid (ap (λ (ts : Types). load_type o ∷ ts) rest ∙ sym f.after) small has near
 
   pub outcome : (p : Plain) (operands : List Value) (mid : Types) → IsStraightStep p → KeepsStore p → Moves (rule_of c p) (types_of_values operands) mid → length operands ≤ w.layout.greatest → length mid ≤ w.layout.greatest
-      → HasAt code i (words w c labels (length operands) here p) → Matches w.layout base there b locals operands s → Outcome code c labels w base there b store cap locals here s operands p mid
+      → HasAt code i (words w (declarations c) labels (length operands) here p) → Matches w.layout base there b locals operands s → Outcome code c labels w base there b store cap locals here s operands p mid
   outcome Nop operands mid h keeps moves low high has m =
       inl (nop_follows code c labels w base there b store cap locals here s i at operands mid (moves_fixed [] [] (types_of_values operands) mid moves) m)
   outcome Drop operands mid h keeps moves low high has m =

@@ -15,7 +15,7 @@ use Rattle.wasm_defs.specs.Configurations.{Store}
 use Rattle.wasm_defs.specs.Values.{Value, modulus, word, word_of, types_of_values, unsigned}
 use Rattle.wasm_defs.specs.Effects.{Gives, Fails, pushed, local_set, effect, value}
 use Rattle.frame_layout.specs.Slots.{operand}
-use Rattle.frame_layout.specs.Templates.{Label, EmitContext, const_words, local_get_words, local_set_words, select_words, words}
+use Rattle.frame_layout.specs.Templates.{Label, EmitContext, const_words, local_get_words, local_set_words, select_words, declarations, words}
 use Rattle.frame_layout.specs.Laws.{slot_at, with_slot}
 use Rattle.frame_layout.proofs.Instructions.{const_does, local_get_does}
 use Rattle.frame_layout.proofs.Steps.{does_with, does_count, does_nothing}
@@ -76,7 +76,7 @@ module _ (code : List (Option Op)) (c : Context) (labels : List Label) (w : Emit
 
   -- the topmost operand goes to a local of its type
   stored_follows : (p : Plain) (x : ℕ) (v u : Value) (below others : List Value) (mid : Types) → slice_get locals x ≡ Some u → v.ty ≡ u.ty
-      → effect store locals cap p (v ∷ below) ≡ local_set store locals x v others → types_of_values others ≡ mid → 6 ≡ length (words w c labels (suc (length below)) here p)
+      → effect store locals cap p (v ∷ below) ≡ local_set store locals x v others → types_of_values others ≡ mid → 6 ≡ length (words w (declarations c) labels (suc (length below)) here p)
       → suc (length below) ≤ w.layout.greatest → HasAt code i (local_set_words w (suc (length below)) x) → Holding (v ∷ below) → Operands s.bytes (base + operand w.layout 0) others → Goes (v ∷ below) p mid
   stored_follows p x v u below others mid u_is same sets is size high has m live =
       let room = m.room in
@@ -85,7 +85,7 @@ module _ (code : List (Option Op)) (c : Context) (labels : List Label) (w : Emit
       let within : x < length locals = slice_get_within locals x u u_is in
       let top : base + operand w.layout (h - 1) ≡ base + operand w.layout 0 + length below = omega arith in
       let hold : Holds (slot_at s.bytes (base + operand w.layout (h - 1))) v = holds_as (slot_at s.bytes (base + operand w.layout (h - 1))) (ap (slot_at s.bytes) top) m.live.0 in
-      let d = does_count 6 (length (words w c labels (suc (length below)) here p)) refl size (local_set_does w code s i base h x has at m.frame (omega arith) (omega arith)) in
+      let d = does_count 6 (length (words w (declarations c) labels (suc (length below)) here p)) refl size (local_set_does w code s i base h x has at m.frame (omega arith) (omega arith)) in
       record {
         locals_after = slice_set locals x v;
         after = others;
@@ -99,7 +99,7 @@ module _ (code : List (Option Op)) (c : Context) (labels : List Label) (w : Emit
         pc_is = d.pc_is;
         others = d.others;
         matches =
-            set_matches code w.layout base there b locals (v ∷ below) s 6 (length (words w c labels (suc (length below)) here p)) m x (slot_at s.bytes (base + operand w.layout (h - 1))) v d hold within others live;
+            set_matches code w.layout base there b locals (v ∷ below) s 6 (length (words w (declarations c) labels (suc (length below)) here p)) m x (slot_at s.bytes (base + operand w.layout (h - 1))) v d hold within others live;
       }
 
   pub set_follows : (operands : List Value) (mid : Types) (x : ℕ) → OnLocal locals x (λ t. t ∷ []) (λ t. []) (types_of_values operands) mid → length operands ≤ w.layout.greatest
