@@ -6,7 +6,7 @@ use std::alloc::{AllocError, Global};
 use std::sync::Wait;
 use std::test::Fail;
 use std::thread::Threads;
-use wasm_defs::ValType;
+use wasm_defs::{OPERATION_NAMES, OPERATION_TYPES, Operands, ValType};
 
 /// What the run of an operation comes to.
 #[derive(Clone, Copy)]
@@ -17,109 +17,32 @@ enum Wanted {
     Overflows,
 }
 
-/// Operations: of each the name, the opcode, how many operands it takes, of which type, and the result's type.
-const OPERATIONS: &str = "i32.eqz 45 1 i32 i32
-i32.eq 46 2 i32 i32
-i32.ne 47 2 i32 i32
-i32.lt_s 48 2 i32 i32
-i32.lt_u 49 2 i32 i32
-i32.gt_s 4A 2 i32 i32
-i32.gt_u 4B 2 i32 i32
-i32.le_s 4C 2 i32 i32
-i32.le_u 4D 2 i32 i32
-i32.ge_s 4E 2 i32 i32
-i32.ge_u 4F 2 i32 i32
-i64.eqz 50 1 i64 i32
-i64.eq 51 2 i64 i32
-i64.ne 52 2 i64 i32
-i64.lt_s 53 2 i64 i32
-i64.lt_u 54 2 i64 i32
-i64.gt_s 55 2 i64 i32
-i64.gt_u 56 2 i64 i32
-i64.le_s 57 2 i64 i32
-i64.le_u 58 2 i64 i32
-i64.ge_s 59 2 i64 i32
-i64.ge_u 5A 2 i64 i32
-i32.clz 67 1 i32 i32
-i32.ctz 68 1 i32 i32
-i32.popcnt 69 1 i32 i32
-i32.add 6A 2 i32 i32
-i32.sub 6B 2 i32 i32
-i32.mul 6C 2 i32 i32
-i32.div_s 6D 2 i32 i32
-i32.div_u 6E 2 i32 i32
-i32.rem_s 6F 2 i32 i32
-i32.rem_u 70 2 i32 i32
-i32.and 71 2 i32 i32
-i32.or 72 2 i32 i32
-i32.xor 73 2 i32 i32
-i32.shl 74 2 i32 i32
-i32.shr_s 75 2 i32 i32
-i32.shr_u 76 2 i32 i32
-i32.rotl 77 2 i32 i32
-i32.rotr 78 2 i32 i32
-i64.clz 79 1 i64 i64
-i64.ctz 7A 1 i64 i64
-i64.popcnt 7B 1 i64 i64
-i64.add 7C 2 i64 i64
-i64.sub 7D 2 i64 i64
-i64.mul 7E 2 i64 i64
-i64.div_s 7F 2 i64 i64
-i64.div_u 80 2 i64 i64
-i64.rem_s 81 2 i64 i64
-i64.rem_u 82 2 i64 i64
-i64.and 83 2 i64 i64
-i64.or 84 2 i64 i64
-i64.xor 85 2 i64 i64
-i64.shl 86 2 i64 i64
-i64.shr_s 87 2 i64 i64
-i64.shr_u 88 2 i64 i64
-i64.rotl 89 2 i64 i64
-i64.rotr 8A 2 i64 i64
-i32.wrap_i64 A7 1 i64 i32
-i64.extend_i32_s AC 1 i32 i64
-i64.extend_i32_u AD 1 i32 i64
-i32.extend8_s C0 1 i32 i32
-i32.extend16_s C1 1 i32 i32
-i64.extend8_s C2 1 i64 i64
-i64.extend16_s C3 1 i64 i64
-i64.extend32_s C4 1 i64 i64";
-
-/// A line of these.
+/// A row of the table of opcodes.
 #[derive(Drop)]
-struct Operation<'a> {
-    name: &'a str,
+struct Operation {
+    name: &'static str,
     opcode: u8,
     takes_two: bool,
     operand: ValType,
     result: ValType,
 }
 
-/// The first word of a text, and the others.
-fn split(text: &str) -> (&str, &str) {
-    text.split_once(' ').unwrap_or((text, ""))
-}
-
-fn type_of(word: &str) -> ValType {
-    if word == "i32" {
-        ValType::I32
-    } else {
-        ValType::I64
-    }
-}
-
-fn operation_of(line: &str) -> Operation<'_> {
-    let (name, rest) = split(line);
-    let (opcode, rest) = split(rest);
-    let (count, rest) = split(rest);
-    let (operand, result) = split(rest);
-    Operation {
+/// The row of an opcode, if it has one whose instruction is not left out.
+fn row_of(opcode: u8) -> Option<Operation> {
+    let row = usize::from(opcode).checked_sub(0x45)?;
+    let name = OPERATION_NAMES.get(row).copied()?;
+    let ty = OPERATION_TYPES.get(row).copied().flatten()?;
+    let (takes_two, operand) = match ty.operands {
+        Operands::One(t) => (false, t),
+        Operands::Two(t, _) => (true, t),
+    };
+    Some(Operation {
         name,
-        opcode: u8::from_str_radix(opcode, 16).unwrap_or(0),
-        takes_two: count == "2",
-        operand: type_of(operand),
-        result: type_of(result),
-    }
+        opcode,
+        takes_two,
+        operand,
+        result: ty.result,
+    })
 }
 
 /// Numbers at the edges of the type, around its width and with alternating bits.
@@ -428,9 +351,10 @@ fn difference<R: Threads + Wait + Sync>(
 /// The differences of all operations.
 fn differences<R: Threads + Wait + Sync>(rt: &R, alloc: Global) -> Result<String, Fail> {
     let mut told = String::new(alloc);
-    for line in OPERATIONS.split('\n') {
-        let operation = operation_of(line);
-        told.push_str(difference(rt, alloc, &operation)?.as_str())?;
+    for opcode in 0..=u8::MAX {
+        if let Some(operation) = row_of(opcode) {
+            told.push_str(difference(rt, alloc, &operation)?.as_str())?;
+        }
     }
     Ok(told)
 }
