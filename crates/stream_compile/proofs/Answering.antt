@@ -127,12 +127,11 @@ valid_comes (Ok a) options failed left rest checked (calm, bytes, came, end, is)
 valid_comes (Err x) options failed left rest checked h e = tt
 
 -- the image that is written is that of the module
-pub written_comes : (r : Result Output AllocError) (options : Options) (failed : Bool) (left rest : Option (List ℕ)) (built : Built) → CompilesSource (closing_of options) failed left rest (answer.Image built)
-    → IfOk r (λ o. view o ≡ compiled (spelling built.image)) → IfOk r (λ o. ComesTo (Some (Compile options)) failed left rest (view o))
-written_comes (Ok a) options failed left rest built (calm, bytes, came, end, is) e =
+pub written_comes : (options : Options) (failed : Bool) (left rest : Option (List ℕ)) (built : Built) → CompilesSource (closing_of options) failed left rest (answer.Image built)
+    → (o : Outcome) → o ≡ compiled (spelling built.image) → ComesTo (Some (Compile options)) failed left rest o
+written_comes options failed left rest built (calm, bytes, came, end, is) o e =
     let m = is.«module» in
     rw calm (bytes, came, (Accepted m, is.is.is, (is.is.same, e ∙ ap (λ (i : Image). compiled (spelling i)) is.image_is)))
-written_comes (Err x) options failed left rest built h e = tt
 
 pub is_short : (closing : Option ℕ) (failed : Bool) (left rest : Option (List ℕ)) (built : Built) → CompilesSource closing failed left rest (answer.Image built) → length (spelling built.image) ≤ IMAGE_BYTES
 is_short closing failed left rest built (calm, bytes, came, end, is) = subst (λ (i : Image). length (spelling i) ≤ IMAGE_BYTES) (sym is.image_is) is.is.short

@@ -11,8 +11,6 @@ use Rattle.stream_compile.specs.declared.answer.CheckAnswer.{CheckAnswer}
 use Rattle.stream_compile.specs.declared.answer.CheckAnswer.TheVariants as check
 use Rattle.module_stream.specs.declared.compilation.Compilation.{Compilation}
 use Rattle.stream_compile.specs.declared.output.Output.{Output}
-use Rattle.stream_compile.specs.declared.output.Text.{Text}
-use Rattle.stream_compile.specs.declared.output.Text.TheVariants.{Line, Image}
 use Rattle.stream_compile.specs.ReadStatus.{ReadStatus}
 use Rattle.stream_compile.specs.Compiling.{ChecksSource}
 use Rattle.module_stream.specs.Done.{IsDone, checked_of}
@@ -59,9 +57,5 @@ Judged closing failed left rest check.ReadFault s = ChecksSource closing failed 
 Judged closing failed left rest check.NoMemory s = ChecksSource closing failed left rest check.NoMemory
 
 -- a status and a text in memory as an outcome
-abbrev pub bytes_of : Text → List ℕ
-bytes_of (Line line) = string_bytes line
-bytes_of (Image bytes) = bytes.items
-
 abbrev pub view : Output → Outcome
-view a = record { status = a.status; text = bytes_of a.text }
+view a = record { status = a.status; text = string_bytes a.text }
