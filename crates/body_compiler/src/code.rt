@@ -63,7 +63,7 @@ pub(crate) fn stop_of(stop: Stop, last: u64) -> BodyStop
 {
     match stop {
         Stop::Refused(refusal) => BodyStop::Refused(refusal),
-        // Why: docs/DECISIONS.md, "Whole instructions are judged before a missing `end`"
+        // Why: docs/DECISIONS.md, "Whole instructions are validated before a missing `end`"
         Stop::Wants => BodyStop::Refused(malformed(last)),
         Stop::NoMemory => BodyStop::NoMemory,
     }

@@ -196,7 +196,7 @@ fn settled(
     ensures ok { OnOk outcome (buffer.new ≡ buffer.old) }
     ensures err { OnErr outcome (buffer.new ≡ take start buffer.old) }
 {
-    // Why: docs/DECISIONS.md, "After want of memory labels are as they were"
+    // Why: docs/DECISIONS.md, "Where memory runs out labels are as they were"
     if outcome.is_err() {
         buffer.truncate(start);
     }

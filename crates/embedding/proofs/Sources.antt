@@ -4,13 +4,13 @@ use Rattle.wasm_defs.specs.declared.fault.Refusal.{Refusal}
 use Rattle.wasm_defs.specs.Faults.{Rejected}
 use Rattle.image_linker.specs.Judging.{IsVerdictOf}
 use Rattle.stream_compile.specs.declared.answer.Answer.TheVariants as answer
-use Rattle.stream_compile.specs.ReadStatus.{ReadStatus}
+use Rattle.stream_compile.specs.Received.{AreReceived}
 use Rattle.stream_compile.specs.Compiling.{CompilesSource}
 use Rattle.embedding.specs.declared.compiling.Compiled.TheVariants as compiled
 use Rattle.embedding.specs.Modules.{IsCompiled}
 
 -- all bytes came
-all_came : (closing : Option ℕ) (bytes rest came : List ℕ) → ReadStatus closing (Some bytes) (Some rest) false came → came ≡ bytes
+all_came : (closing : Option ℕ) (bytes rest came : List ℕ) → AreReceived closing (Some bytes) (Some rest) false came → came ≡ bytes
 all_came closing bytes rest came (read, more, is_read, more_is, both) =
     let taken : Some bytes ≡ Some (read ++ rest) = is_read.taken in
     let same : bytes ≡ read ++ rest = cc in

@@ -71,7 +71,7 @@ fn lead(words: &mut [u32], call_to: &Relocation, starts: &[u32], here: usize)
     ensures { words.new ≡ with_distance (distances starts.now here call_to.now.place call_to.now.function) call_to.now.place words.old }
 {
     let place = call_to.place;
-    // Why: docs/DECISIONS.md, "`link` asks nothing of the calls of a code"
+    // Why: docs/DECISIONS.md, "Filling in calls asks nothing of a code"
     if words.len() <= place {
         return;
     }

@@ -25,7 +25,7 @@ use Rattle.stream_compile.specs.declared.answer.CheckAnswer.{CheckAnswer}
 use Rattle.stream_compile.specs.declared.answer.CheckAnswer.TheVariants as check
 use Rattle.module_stream.specs.declared.compilation.Compilation.{Compilation}
 use Rattle.stream_compile.specs.declared.output.Output.{Output}
-use Rattle.stream_compile.specs.ReadStatus.{ReadStatus}
+use Rattle.stream_compile.specs.Received.{AreReceived}
 use Rattle.module_stream.specs.Done.{IsModuleOfSize, IsDone}
 use Rattle.stream_compile.specs.Running.{RunsAs, IsForeign}
 use Rattle.stream_compile.specs.Compiling.{IsRefused, CompilesSource, ChecksSource}
@@ -39,7 +39,7 @@ use Rattle.stream_compile.proofs.Calls.{run_done}
 
 -- ---- what bytes come to that were read to their source's end
 
-refused_by : (closing : Option ℕ) (failed b : Bool) (left rest : Option (List ℕ)) (bytes : List ℕ) (r : Refusal) → failed ≡ b → ReadStatus closing left rest b bytes → IsRefused b bytes r → ChecksSource closing failed left rest (check.Refused r)
+refused_by : (closing : Option ℕ) (failed b : Bool) (left rest : Option (List ℕ)) (bytes : List ℕ) (r : Refusal) → failed ≡ b → AreReceived closing left rest b bytes → IsRefused b bytes r → ChecksSource closing failed left rest (check.Refused r)
 refused_by closing failed b left rest bytes r e came is = rw e (bytes, came, is)
 
 -- with more bytes after the module there is none that was read
@@ -51,18 +51,18 @@ pub source_judged : (closing : Option ℕ) (failed : Bool) (left rest : Option (
 source_judged closing failed left rest before now (Ok done) s calm (read, t, d) = (
   sym t.failed_is ∙ calm,
   t.bytes,
-  subst (λ (b : Bool). ReadStatus closing left rest b t.bytes) calm t.came,
+  subst (λ (b : Bool). AreReceived closing left rest b t.bytes) calm t.came,
   t.ended calm d.«module» d.is.is,
   same_bytes read t.bytes s (t.whole d.«module» d.is.is) d,
   refl,
 )
 source_judged closing failed left rest before now (Err (stop.Refused r)) s calm (read, t, v) =
-    refused_by closing (nat_lt before now) false left rest t.bytes r (sym t.failed_is ∙ calm) (subst (λ (b : Bool). ReadStatus closing left rest b t.bytes) calm t.came) (t.verdict (Rejected r) v)
+    refused_by closing (nat_lt before now) false left rest t.bytes r (sym t.failed_is ∙ calm) (subst (λ (b : Bool). AreReceived closing left rest b t.bytes) calm t.came) (t.verdict (Rejected r) v)
 source_judged closing failed left rest before now (Err stop.NoMemory) s calm t = tt
 
 -- ---- after which the source failed
 
-stopped_by : (closing : Option ℕ) (failed : Bool) (left rest : Option (List ℕ)) (bytes : List ℕ) (o : Option Refusal) (s : Compilation) → failed ≡ true → ReadStatus closing left rest true bytes → IsStoppedAt bytes o → Judged closing failed left rest (of_lasting o) s
+stopped_by : (closing : Option ℕ) (failed : Bool) (left rest : Option (List ℕ)) (bytes : List ℕ) (o : Option Refusal) (s : Compilation) → failed ≡ true → AreReceived closing left rest true bytes → IsStoppedAt bytes o → Judged closing failed left rest (of_lasting o) s
 stopped_by closing failed left rest bytes None s e came is = rw e (refl, bytes, came, is)
 stopped_by closing failed left rest bytes (Some r) s e came is = rw e (bytes, came, is)
 
@@ -70,10 +70,10 @@ pub source_stopped : (closing : Option ℕ) (failed : Bool) (left rest : Option 
     → Judged closing (nat_lt before now) left rest (stopped_answer judged) s
 source_stopped closing failed left rest before now (Ok done) s fails (read, t, d) =
     let decided = stopped_of_verdict t.bytes (Accepted d.«module») (t.verdict (Accepted d.«module») d.is.is) in
-    stopped_by closing (nat_lt before now) left rest t.bytes None s (sym t.failed_is ∙ fails) (subst (λ (b : Bool). ReadStatus closing left rest b t.bytes) fails t.came) decided
+    stopped_by closing (nat_lt before now) left rest t.bytes None s (sym t.failed_is ∙ fails) (subst (λ (b : Bool). AreReceived closing left rest b t.bytes) fails t.came) decided
 source_stopped closing failed left rest before now (Err (stop.Refused r)) s fails (read, t, v) =
     let decided = stopped_of_verdict t.bytes (Rejected r) (t.verdict (Rejected r) v) in
-    stopped_by closing (nat_lt before now) left rest t.bytes (lasting r.kind r) s (sym t.failed_is ∙ fails) (subst (λ (b : Bool). ReadStatus closing left rest b t.bytes) fails t.came) decided
+    stopped_by closing (nat_lt before now) left rest t.bytes (lasting r.kind r) s (sym t.failed_is ∙ fails) (subst (λ (b : Bool). AreReceived closing left rest b t.bytes) fails t.came) decided
 source_stopped closing failed left rest before now (Err stop.NoMemory) s fails t = tt
 
 -- ---- what the calls answer
@@ -127,12 +127,11 @@ valid_comes (Ok a) options failed left rest checked (calm, bytes, came, end, is)
 valid_comes (Err x) options failed left rest checked h e = tt
 
 -- the image that is written is that of the module
-pub written_comes : (r : Result Output AllocError) (options : Options) (failed : Bool) (left rest : Option (List ℕ)) (built : Built) → CompilesSource (closing_of options) failed left rest (answer.Image built)
-    → IfOk r (λ o. view o ≡ compiled (spelling built.image)) → IfOk r (λ o. ComesTo (Some (Compile options)) failed left rest (view o))
-written_comes (Ok a) options failed left rest built (calm, bytes, came, end, is) e =
+pub written_comes : (options : Options) (failed : Bool) (left rest : Option (List ℕ)) (built : Built) → CompilesSource (closing_of options) failed left rest (answer.Image built)
+    → (o : Outcome) → o ≡ compiled (spelling built.image) → ComesTo (Some (Compile options)) failed left rest o
+written_comes options failed left rest built (calm, bytes, came, end, is) o e =
     let m = is.«module» in
     rw calm (bytes, came, (Accepted m, is.is.is, (is.is.same, e ∙ ap (λ (i : Image). compiled (spelling i)) is.image_is)))
-written_comes (Err x) options failed left rest built h e = tt
 
 pub is_short : (closing : Option ℕ) (failed : Bool) (left rest : Option (List ℕ)) (built : Built) → CompilesSource closing failed left rest (answer.Image built) → length (spelling built.image) ≤ IMAGE_BYTES
 is_short closing failed left rest built (calm, bytes, came, end, is) = subst (λ (i : Image). length (spelling i) ≤ IMAGE_BYTES) (sym is.image_is) is.is.short

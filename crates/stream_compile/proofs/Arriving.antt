@@ -10,7 +10,7 @@ use Rattle.stream_compile.specs.declared.chunk.ReadStatus.{ReadStatus}
 use Rattle.stream_compile.specs.declared.chunk.ReadStatus.TheVariants.{Bytes, Full, End, Failed}
 use Rattle.module_stream.specs.declared.compilation.Compilation.{Compilation}
 use Rattle.stream_compile.specs.Arriving.{StandsAt, IsArriving, has_failed}
-use Rattle.stream_compile.specs.ReadStatus.{IsRead}
+use Rattle.stream_compile.specs.Received.{IsRead}
 use Rattle.stream_compile.specs.Chunks.{Chunked}
 use Rattle.module_stream.specs.RightSoFar.{closing_bytes}
 use Rattle.module_stream.specs.Done.{Decides}

@@ -10,7 +10,7 @@ use Rattle.command_words.specs.declared.command.Drill.{Drill}
 use Rattle.module_gen.specs.Drill.{drill_bytes}
 use Rattle.stream_compile.specs.declared.answer.Answer.TheVariants as answer
 use Rattle.module_stream.specs.declared.built.Built.{Built}
-use Rattle.stream_compile.specs.ReadStatus.{ReadStatus}
+use Rattle.stream_compile.specs.Received.{AreReceived}
 use Rattle.stream_compile.specs.Compiling.{CompilesSource}
 use Rattle.stream_compile.specs.Running.{RunsAs}
 use Rattle.stream_compile.specs.Texts.{Outcome, OfDrill, drill_call}
@@ -18,7 +18,7 @@ use Rattle.stream_compile.proofs.Calls.{run_done}
 use Rattle.stream_compile.proofs.DrillSums.{not_refused, sum_told}
 
 -- all that came of bytes in memory are these bytes
-pub flat_came : (closing : Option ℕ) (bytes rest came : List ℕ) → ReadStatus closing (Some bytes) (Some rest) false came → came ≡ bytes
+pub flat_came : (closing : Option ℕ) (bytes rest came : List ℕ) → AreReceived closing (Some bytes) (Some rest) false came → came ≡ bytes
 flat_came closing bytes rest came (read, more, is, same, joined) =
     let taken : bytes ≡ read ++ rest = ap (λ o. unwrap_or o bytes) is.taken in
     joined ∙ ap (λ l. read ++ l) same ∙ sym taken

@@ -10,7 +10,7 @@ use Rattle.io_edges.specs.declared.reading.Stop.TheVariants.{End, Failed, Full}
 use Rattle.image_format.specs.Contents.{Image}
 use Rattle.image_format.specs.Reading.{image_or_offset}
 use Rattle.stream_compile.specs.declared.foreign.LoadedImage.TheVariants as foreign
-use Rattle.stream_compile.specs.ReadStatus.{CameUpTo, image_input}
+use Rattle.stream_compile.specs.Received.{AreReceivedUpTo, image_input}
 use Rattle.stream_compile.specs.Running.{IsForeign}
 
 rose_lt : (before now : ℕ) → before < 2 ^ 64 - 1 → Rose before now → before < now
@@ -23,7 +23,7 @@ module _ (left rest : Option (List ℕ)) (before now : ℕ) (bytes : List ℕ) (
   calm : now ≡ before → failed ≡ false
   calm same = le-ltb before now (omega (arith, same))
 
-  came : now ≡ before → IsAtEnd rest ⊎ (length bytes ≡ 1073741825) → CameUpTo image_input left rest false bytes
+  came : now ≡ before → IsAtEnd rest ⊎ (length bytes ≡ 1073741825) → AreReceivedUpTo image_input left rest false bytes
   came same ends = record { taken = taken; few = few; all = λ e. ends }
 
   ended : (s : Stop) → StopsFor s rest before now (length bytes) 1073741825 → (s ≡ Failed → ⊥) → (now ≡ before) × (IsAtEnd rest ⊎ (length bytes ≡ 1073741825))

@@ -17,3 +17,4 @@ pub mod DrillSums
 pub mod Drills
 pub mod ShownBytes
 pub mod ValueLines
+pub mod Pieces

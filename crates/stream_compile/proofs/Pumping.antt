@@ -6,7 +6,7 @@ use Rattle.wasm_defs.specs.declared.front_stop.FrontStop.{FrontStop}
 use Rattle.wasm_defs.specs.declared.front_stop.FrontStop.TheVariants.{Refused, NoMemory}
 use Rattle.io_edges.specs.Causes.{Rose}
 use Rattle.module_stream.specs.declared.compilation.Compilation.{Compilation}
-use Rattle.stream_compile.specs.ReadStatus.{IsRead}
+use Rattle.stream_compile.specs.Received.{IsRead}
 use Rattle.module_stream.specs.Done.{Decides}
 use Rattle.stream_compile.specs.Reading.{Settles, Settled}
 use Rattle.module_stream.specs.Streaming.{IsGoing, GoesOn}

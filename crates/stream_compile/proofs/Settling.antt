@@ -9,7 +9,7 @@ use Rattle.wasm_defs.specs.Faults.{Verdict, Accepted, Rejected}
 use Rattle.image_linker.specs.Judging.{IsVerdictOf}
 use Rattle.io_edges.specs.Causes.{Rose}
 use Rattle.stream_compile.specs.Reading.{Settles}
-use Rattle.stream_compile.specs.ReadStatus.{IsRead, ReadStatus}
+use Rattle.stream_compile.specs.Received.{IsRead, AreReceived}
 use Rattle.module_stream.proofs.Once.{verdict_once}
 use Rattle.module_stream.proofs.Staying.{no_module, verdict_stays}
 
@@ -19,10 +19,10 @@ none_left : (rest : Option (List ℕ)) → IsAtEnd rest → IfSome rest (λ l. [
 none_left None end = tt
 none_left (Some l) end = sym end
 
-at_end : (closing : Option ℕ) (read : List ℕ) (old new : Option (List ℕ)) → IsRead closing old new read → IsAtEnd new → ReadStatus closing old new false read
+at_end : (closing : Option ℕ) (read : List ℕ) (old new : Option (List ℕ)) → IsRead closing old new read → IsAtEnd new → AreReceived closing old new false read
 at_end closing read old new is end = (read, [], is, none_left new end, sym (append-nil read))
 
-when_full : (closing : Option ℕ) (read : List ℕ) (old new : Option (List ℕ)) → IsRead closing old new read → 67108869 ≤ length read → (bytes : List ℕ) × ReadStatus closing old new false bytes × ((v : Verdict) → IsVerdictOf read v → IsVerdictOf bytes v)
+when_full : (closing : Option ℕ) (read : List ℕ) (old new : Option (List ℕ)) → IsRead closing old new read → 67108869 ≤ length read → (bytes : List ℕ) × AreReceived closing old new false bytes × ((v : Verdict) → IsVerdictOf read v → IsVerdictOf bytes v)
 when_full closing read old None is le = (read, (read, [], is, tt, sym (append-nil read)), λ v p. p)
 when_full closing read old (Some r) is le = (read ++ r, (read, r, is, refl, refl), λ v p. verdict_stays read r le v p)
 

@@ -1,5 +1,5 @@
 pub mod Running
-pub mod ReadStatus
+pub mod Received
 pub mod Texts
 pub mod Reading
 pub mod Compiling

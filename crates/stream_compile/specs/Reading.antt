@@ -11,9 +11,7 @@ use Rattle.stream_compile.specs.declared.answer.CheckAnswer.{CheckAnswer}
 use Rattle.stream_compile.specs.declared.answer.CheckAnswer.TheVariants as check
 use Rattle.module_stream.specs.declared.compilation.Compilation.{Compilation}
 use Rattle.stream_compile.specs.declared.output.Output.{Output}
-use Rattle.stream_compile.specs.declared.output.Text.{Text}
-use Rattle.stream_compile.specs.declared.output.Text.TheVariants.{Line, Image}
-use Rattle.stream_compile.specs.ReadStatus.{ReadStatus}
+use Rattle.stream_compile.specs.Received.{AreReceived}
 use Rattle.stream_compile.specs.Compiling.{ChecksSource}
 use Rattle.module_stream.specs.Done.{IsDone, checked_of}
 use Rattle.stream_compile.specs.Texts.{Outcome}
@@ -22,7 +20,7 @@ use Rattle.stream_compile.specs.Texts.{Outcome}
 pub record Settles (closing : Option ℕ) (read : List ℕ) (failed : Bool) (left rest : Option (List ℕ)) (before now : ℕ) : Type 0 where
   pub failed_is : failed ≡ nat_lt before now
   pub bytes : List ℕ
-  pub came : ReadStatus closing left rest failed bytes
+  pub came : AreReceived closing left rest failed bytes
   pub verdict : (v : Verdict) → IsVerdictOf read v → IsVerdictOf bytes v
   -- and a module was read to its end
   pub whole : (m : Module) → IsVerdictOf read (Accepted m) → bytes ≡ read
@@ -53,15 +51,11 @@ stopped_answer (Err stop.NoMemory) = check.NoMemory
 
 -- what validating a source answers, and that the compilation of a module is done
 abbrev pub Judged : (closing : Option ℕ) → Bool → (left rest : Option (List ℕ)) → CheckAnswer → Compilation → Type 0
-Judged closing failed left rest (check.Valid checked) s = (failed ≡ false) × (bytes : List ℕ) × ReadStatus closing left rest false bytes × IsAtEnd rest × IsDone bytes s × (checked ≡ checked_of s)
+Judged closing failed left rest (check.Valid checked) s = (failed ≡ false) × (bytes : List ℕ) × AreReceived closing left rest false bytes × IsAtEnd rest × IsDone bytes s × (checked ≡ checked_of s)
 Judged closing failed left rest (check.Refused r) s = ChecksSource closing failed left rest (check.Refused r)
 Judged closing failed left rest check.ReadFault s = ChecksSource closing failed left rest check.ReadFault
 Judged closing failed left rest check.NoMemory s = ChecksSource closing failed left rest check.NoMemory
 
 -- a status and a text in memory as an outcome
-abbrev pub bytes_of : Text → List ℕ
-bytes_of (Line line) = string_bytes line
-bytes_of (Image bytes) = bytes.items
-
 abbrev pub view : Output → Outcome
-view a = record { status = a.status; text = bytes_of a.text }
+view a = record { status = a.status; text = string_bytes a.text }

@@ -10,7 +10,7 @@ use Rattle.wasi_host.specs.declared.run_end.RunEnd.{RunEnd}
 use Rattle.wasi_host.specs.declared.run_end.RunEnd.TheVariants as run_end
 use Rattle.stream_compile.specs.declared.foreign.LoadedImage.{LoadedImage}
 use Rattle.stream_compile.specs.declared.foreign.LoadedImage.TheVariants as foreign
-use Rattle.stream_compile.specs.ReadStatus.{CameUpTo, image_input}
+use Rattle.stream_compile.specs.Received.{AreReceivedUpTo, image_input}
 use Rattle.stream_compile.specs.Texts.{Outcome, Told, arguments_of, exited, machine_fault, returned_by, showing, steps_spent, trapped, TellsImageCall}
 
 -- the lines of an end of a run, with its results
@@ -43,6 +43,6 @@ RunsAs drill i c o = (all_in_range (arguments_of c.arguments) ≡ true) × Tells
 
 -- what was read of a source is that image, or has its first error there; or the source failed
 abbrev pub IsForeign : Bool → (left rest : Option (List ℕ)) → LoadedImage → Type 0
-IsForeign failed left rest (foreign.Image i) = (failed ≡ false) × (bytes : List ℕ) × CameUpTo image_input left rest false bytes × (image_or_offset bytes ≡ Ok i)
-IsForeign failed left rest (foreign.Bad offset) = (failed ≡ false) × (bytes : List ℕ) × CameUpTo image_input left rest false bytes × (image_or_offset bytes ≡ Err offset)
-IsForeign failed left rest foreign.Failed = (failed ≡ true) × (bytes : List ℕ) × CameUpTo image_input left rest true bytes
+IsForeign failed left rest (foreign.Image i) = (failed ≡ false) × (bytes : List ℕ) × AreReceivedUpTo image_input left rest false bytes × (image_or_offset bytes ≡ Ok i)
+IsForeign failed left rest (foreign.Bad offset) = (failed ≡ false) × (bytes : List ℕ) × AreReceivedUpTo image_input left rest false bytes × (image_or_offset bytes ≡ Err offset)
+IsForeign failed left rest foreign.Failed = (failed ≡ true) × (bytes : List ℕ) × AreReceivedUpTo image_input left rest true bytes

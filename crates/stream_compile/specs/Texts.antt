@@ -56,7 +56,7 @@ use Rattle.many_streams.specs.Frames.{Frames, IsBadFrame, IsCutOff}
 use Rattle.many_streams.specs.Many.{IsFront}
 use Rattle.module_stream.specs.declared.settings.Settings.{Settings}
 use Rattle.module_stream.specs.RightSoFar.{closing_bytes}
-use Rattle.stream_compile.specs.ReadStatus.{ReadStatus, CameUpTo, image_input}
+use Rattle.stream_compile.specs.Received.{AreReceived, AreReceivedUpTo, image_input}
 
 -- a status, and what is written
 pub record Outcome : Type 0 where
@@ -344,7 +344,7 @@ closing_of o = closing_bytes (settings_of o).workers (settings_of o).batch
 
 -- by what was left in the source before and after
 abbrev pub ComesOfModule : (closing : Option ℕ) → ((bytes : ℕ) → Module → Outcome → Type 0) → Bool → (left rest : Option (List ℕ)) → Outcome → Type 0
-ComesOfModule closing Tells failed left rest o = (bytes : List ℕ) × ReadStatus closing left rest failed bytes × OfModule Tells failed bytes o
+ComesOfModule closing Tells failed left rest o = (bytes : List ℕ) × AreReceived closing left rest failed bytes × OfModule Tells failed bytes o
 
 -- of each module is reported what `check` reports of its bytes alone
 abbrev pub AreChecked : List (List ℕ) → List Outcome → Type 0
@@ -373,7 +373,7 @@ ComesTo (Some (Check options)) failed left rest o = ComesOfModule (closing_of op
 ComesTo (Some (Compile options)) failed left rest o = ComesOfModule (closing_of options) (λ bytes m. TellsImage m) failed left rest o
 ComesTo (Some (Many options)) failed left rest o = ComesOfMany failed left rest o
 ComesTo (Some (Run r)) failed left rest o = ComesOfModule (closing_of r.options) (λ bytes m. TellsCall None r.call m) failed left rest o
-ComesTo (Some (Exec c)) failed left rest o = (bytes : List ℕ) × CameUpTo image_input left rest failed bytes × OfImage c failed bytes o
+ComesTo (Some (Exec c)) failed left rest o = (bytes : List ℕ) × AreReceivedUpTo image_input left rest failed bytes × OfImage c failed bytes o
 ComesTo (Some (Drill d)) failed left rest o = OfDrill d o
 
 -- outside the command grammar, and for `drill`, nothing is read

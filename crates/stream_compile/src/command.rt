@@ -12,7 +12,8 @@ use crate::answer::{Answer, CheckAnswer};
 use crate::compiling::{stream_check, stream_compile};
 use crate::drill::drill;
 use crate::foreign::{LoadedImage, read_foreign};
-use crate::output::{Output, accepted, bad_image, compiled, read_fault, rejected, usage};
+use crate::image_pieces::write_compiled;
+use crate::output::{Output, accepted, bad_image, read_fault, rejected, usage};
 use crate::running::run_image;
 use crate::several::{bad_frame, told_many};
 use crate::writing::write;
@@ -67,24 +68,28 @@ fn check<R: Threads + Wait + Sync, S: Source, G: Gate>(
     }
 }
 
-/// Compiles what the source gives.
-fn compile<R: Threads + Wait + Sync, S: Source, G: Gate>(
+/// Compiles what the source gives, and writes its image. The result is the status.
+fn compile<R: Threads + Wait + Sync, S: Source, O: Sink, G: Gate>(
     rt: &R,
     alloc: Global,
     options: &Options,
     source: &mut S,
+    out: &mut O,
     gate: &G,
-) -> Result<Output, AllocError>
+) -> Result<u8, AllocError>
     requires faults { S.faults source.old < 2 ^ 64 - 1 }
     requires open { S.is_open source.old ≡ true }
-    ensures answer { IfOk result (λ o. ComesTo (Some (Compile options.now)) (nat_lt (S.faults source.old) (S.faults source.new)) (S.left source.old)
-        (S.left source.new) (view o)) }
+    requires sink_count { O.faults out.old < 2 ^ 64 - 1 }
+    requires sink_open { O.is_open out.old ≡ true }
+    ensures told { IfOk result (λ status. IsTold (ComesTo (Some (Compile options.now)) (nat_lt (S.faults source.old) (S.faults source.new)) (S.left source.old)
+        (S.left source.new)) status (nat_lt (O.faults out.old) (O.faults out.new)) (O.written out.old) (O.written out.new)) }
+    ensures kept { OnErr result (out.new ≡ out.old) }
     ensures front { TookFront (S.left source.old) (S.faults source.old) (S.left source.new) (S.faults source.new) }
 {
     match stream_compile(rt, alloc, source, gate, settings_of(options)) {
-        Answer::Image(built) => compiled(alloc, &built.image),
-        Answer::Refused(refusal) => rejected(alloc, refusal),
-        Answer::ReadFault => read_fault(alloc),
+        Answer::Image(built) => write_compiled(alloc, &built.image, out),
+        Answer::Refused(refusal) => Ok(write(out, &rejected(alloc, refusal)?)),
+        Answer::ReadFault => Ok(write(out, &read_fault(alloc)?)),
         Answer::NoMemory => Err(AllocError),
     }
 }
@@ -186,9 +191,7 @@ fn answer_to<R: Threads + Wait + Sync, S: Source, O: Sink, G: Gate>(
     match command {
         None => Ok(write(out, &usage(alloc)?)),
         Some(Command::Check(options)) => Ok(write(out, &check(rt, alloc, options, source, gate)?)),
-        Some(Command::Compile(options)) => {
-            Ok(write(out, &compile(rt, alloc, options, source, gate)?))
-        }
+        Some(Command::Compile(options)) => compile(rt, alloc, options, source, out, gate),
         Some(Command::Many(options)) => Ok(write(out, &many(rt, alloc, options, source, gate)?)),
         Some(Command::Run(call)) => run(rt, alloc, call, source, out, gate),
         Some(Command::Exec(call)) => exec(alloc, call, source, out),

@@ -8,6 +8,7 @@ mod command;
 mod compiling;
 mod drill;
 mod foreign;
+mod image_pieces;
 mod intake;
 mod laws;
 mod output;

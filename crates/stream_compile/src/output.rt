@@ -1,42 +1,18 @@
-//! What the program answers: a status, and bytes for standard output.
+//! What the program answers where it answers lines: a status, and the lines for standard output.
 
-ghost use Rattle.std.specs.Prelude.{◌≡◌, ◌≤◌, IfOk, length};
-ghost use Rattle.image_format.specs.declared.limits.TheConstants.{IMAGE_BYTES};
-ghost use Rattle.image_format.specs.ImageBytes.{spelling};
-ghost use Rattle.stream_compile.specs.Reading.{bytes_of, view};
-ghost use Rattle.stream_compile.specs.Texts.{usage, read_fault, accepted, compiled, kind_name, rejected, reason, unrunnable, bad_image};
+ghost use Rattle.std.specs.Prelude.{◌≡◌, IfOk};
+ghost use Rattle.stream_compile.specs.Reading.{view};
+ghost use Rattle.stream_compile.specs.Texts.{usage, read_fault, accepted, kind_name, rejected, reason, unrunnable, bad_image};
 
-use image_format::{Image, write_image};
 use image_run::NotRunnable;
 use std::alloc::{AllocError, Global};
 use wasm_defs::{Kind, Refusal};
 
-/// What is written.
-#[derive(Drop)]
-pub enum Text {
-    /// A line.
-    Line(String),
-    /// The bytes of an image.
-    Image(Vec<u8>),
-}
-
-impl Text {
-    /// The bytes of what is written.
-    pub fn as_bytes(&self) -> &[u8]
-        ensures { result.now ≡ bytes_of self.now }
-    {
-        match self {
-            Text::Line(line) => line.as_bytes(),
-            Text::Image(bytes) => bytes.as_slice(),
-        }
-    }
-}
-
-/// A status and what is written.
+/// A status and the lines that are written.
 #[derive(Drop)]
 pub struct Output {
     pub status: u8,
-    pub text: Text,
+    pub text: String,
 }
 
 /// The command line is outside the command grammar.
@@ -45,10 +21,10 @@ pub fn usage(alloc: Global) -> Result<Output, AllocError>
 {
     Ok(Output {
         status: 1,
-        text: Text::Line(String::from_str(
+        text: String::from_str(
             alloc,
             "usage: wstream check, compile, run EXPORT ARGS, exec EXPORT ARGS or drill N\n",
-        )?),
+        )?,
     })
 }
 
@@ -58,7 +34,7 @@ pub fn read_fault(alloc: Global) -> Result<Output, AllocError>
 {
     Ok(Output {
         status: 6,
-        text: Text::Line(String::from_str(alloc, "read fault\n")?),
+        text: String::from_str(alloc, "read fault\n")?,
     })
 }
 
@@ -68,22 +44,8 @@ pub fn accepted(alloc: Global, functions: u64, bytes: u64) -> Result<Output, All
 {
     Ok(Output {
         status: 0,
-        text: Text::Line(format!(in alloc; "ok {functions} functions {bytes} bytes\n")?),
+        text: format!(in alloc; "ok {functions} functions {bytes} bytes\n")?,
     })
-}
-
-/// The module was compiled to this image.
-pub fn compiled(alloc: Global, image: &Image) -> Result<Output, AllocError>
-    requires { length (spelling image.now) ≤ IMAGE_BYTES }
-    ensures { IfOk result (λ a. view a ≡ compiled (spelling image.now)) }
-{
-    match write_image(alloc, image) {
-        Ok(bytes) => Ok(Output {
-            status: 0,
-            text: Text::Image(bytes),
-        }),
-        Err(_) => Err(AllocError),
-    }
 }
 
 /// The name of a kind of error.
@@ -107,7 +69,7 @@ pub fn rejected(alloc: Global, refusal: Refusal) -> Result<Output, AllocError>
     let offset = refusal.offset;
     Ok(Output {
         status: 2,
-        text: Text::Line(format!(in alloc; "refused {kind} at {offset}\n")?),
+        text: format!(in alloc; "refused {kind} at {offset}\n")?,
     })
 }
 
@@ -129,7 +91,7 @@ pub fn unrunnable(alloc: Global, why: NotRunnable) -> Result<Output, AllocError>
     let why = reason(why);
     Ok(Output {
         status: 3,
-        text: Text::Line(format!(in alloc; "not runnable {why}\n")?),
+        text: format!(in alloc; "not runnable {why}\n")?,
     })
 }
 
@@ -139,6 +101,6 @@ pub fn bad_image(alloc: Global, offset: u64) -> Result<Output, AllocError>
 {
     Ok(Output {
         status: 10,
-        text: Text::Line(format!(in alloc; "bad image at {offset}\n")?),
+        text: format!(in alloc; "bad image at {offset}\n")?,
     })
 }

@@ -4,7 +4,7 @@ ghost use Rattle.std.specs.Prelude.{◌≡◌, IfOk, map, string_bytes};
 ghost use Rattle.stream_compile.specs.Reading.{view};
 ghost use Rattle.stream_compile.specs.Texts.{bad_frame, many_line, many_status, many_text, said, told_many};
 
-use crate::output::{Output, Text, kind_name};
+use crate::output::{Output, kind_name};
 use many_streams::EachChecked;
 use std::alloc::{AllocError, Global};
 
@@ -56,7 +56,7 @@ pub fn told_many(alloc: Global, each: &[EachChecked]) -> Result<Output, AllocErr
 {
     Ok(Output {
         status: status_of(each),
-        text: Text::Line(text_of(alloc, each)?),
+        text: text_of(alloc, each)?,
     })
 }
 
@@ -66,6 +66,6 @@ pub fn bad_frame(alloc: Global, offset: u64) -> Result<Output, AllocError>
 {
     Ok(Output {
         status: 12,
-        text: Text::Line(format!(in alloc; "bad frame at {offset}\n")?),
+        text: format!(in alloc; "bad frame at {offset}\n")?,
     })
 }

@@ -39,7 +39,7 @@ pub fn write<O: Sink>(out: &mut O, output: &Output) -> u8
 }
 
 /// Writes a text and another, and says whether the sink took them.
-fn write_both<O: Sink>(out: &mut O, first: &[u8], second: &[u8]) -> bool
+pub fn write_both<O: Sink>(out: &mut O, first: &[u8], second: &[u8]) -> bool
     requires { O.is_open out.old ≡ true }
     ensures text { WritesText result (first.now ++ second.now) (O.written out.old) (O.written out.new) (O.faults out.old) (O.faults out.new) }
     ensures open { result ≡ true → O.is_open out.new ≡ true }

@@ -1,4 +1,4 @@
--- What came from a source.
+-- The bytes that are received from a source.
 use Rattle.std.specs.Prelude.{◌≡◌, ◌≤◌, ◌⊎◌, ℕ, Bool, true, false, List, ◌++◌, length, Option, IfSome}
 use Rattle.std.specs.Io.KnownBytes.{prepend_known, IsAtEnd}
 use Rattle.wasm_laws.specs.Runs.{deciding_length}
@@ -16,18 +16,18 @@ pub record IsRead (closing : Option ℕ) (left rest : Option (List ℕ)) (read :
   pub short : length piece ≤ 65536
   pub right : PrefixIsValid closing before
 
--- These bytes came: all that were left, of which a prefix was read; or, where the source failed, those that were read.
-abbrev pub ReadStatus : (closing : Option ℕ) → (left rest : Option (List ℕ)) → (failed : Bool) → List ℕ → Type 0
-ReadStatus closing left rest false bytes = (read more : List ℕ) × IsRead closing left rest read × IfSome rest (λ l. more ≡ l) × (bytes ≡ read ++ more)
-ReadStatus closing left rest true bytes = IsRead closing left rest bytes
+-- These bytes were received: all that were left, of which a prefix was read; or, where the source failed, those that were read.
+abbrev pub AreReceived : (closing : Option ℕ) → (left rest : Option (List ℕ)) → (failed : Bool) → List ℕ → Type 0
+AreReceived closing left rest false bytes = (read more : List ℕ) × IsRead closing left rest read × IfSome rest (λ l. more ≡ l) × (bytes ≡ read ++ more)
+AreReceived closing left rest true bytes = IsRead closing left rest bytes
 
 -- more bytes than an image may have: so many decide about any
 abbrev pub image_input : ℕ
 image_input = 1073741825
 
--- These bytes came, as many as are read at most: a prefix of what was left, and all of it where they are fewer and the source
+-- These bytes were received, as many as are read at most: a prefix of what was left, and all of it where they are fewer and the source
 -- didn't fail.
-pub record CameUpTo (most : ℕ) (left rest : Option (List ℕ)) (failed : Bool) (bytes : List ℕ) : Type 0 where
+pub record AreReceivedUpTo (most : ℕ) (left rest : Option (List ℕ)) (failed : Bool) (bytes : List ℕ) : Type 0 where
   pub taken : left ≡ prepend_known bytes rest
   pub few : length bytes ≤ most
   pub all : failed ≡ false → IsAtEnd rest ⊎ (length bytes ≡ most)

@@ -1,0 +1,13 @@
+use Rattle.std.specs.Prelude.{◌++◌}
+use Rattle.std.specs.List.{flat_map}
+use Rattle.image_format.specs.ImageBytes.{place}
+use Rattle.image_run.proofs.PrintLaws.{writes_then, fails_first}
+use Rattle.stream_compile.proofs.image_pieces.write_rest.Goals as goal
+
+pub returns-then-write_traps : goal.returns-then-write_traps
+returns-then-write_traps g c =
+    writes_then c.write_both.result (c.args.front.now ++ flat_map place c.args.places.now) (c.args.count.now ++ c.args.passive.now) (g.O.Sink.written c.args.out.now) (g.O.Sink.written c.write_traps.new.out) (g.O.Sink.written c.write_both.new.out) (g.O.Sink.faults c.args.out.now) (g.O.Sink.faults c.write_traps.new.out) (g.O.Sink.faults c.write_both.new.out) c.if-write_traps.ensures.text c.write_both.ensures.text
+
+pub returns-else-write_traps : goal.returns-else-write_traps
+returns-else-write_traps g c =
+    fails_first (c.args.front.now ++ flat_map place c.args.places.now) (c.args.count.now ++ c.args.passive.now) (g.O.Sink.written c.args.out.now) (g.O.Sink.written c.write_traps.new.out) (g.O.Sink.faults c.args.out.now) (g.O.Sink.faults c.write_traps.new.out) c.if-write_traps.ensures.text
