@@ -8,7 +8,8 @@ use Rattle.index_spaces.specs.Spaces.{Spaces}
 use Rattle.image_linker.specs.declared.codes.BodyCode.{BodyCode}
 use Rattle.image_linker.specs.Bodies.{code_of, codes_of, bytes_up_to}
 use Rattle.image_linker.specs.Linking.{words_of}
-use Rattle.image_linker.proofs.Loops.{words_taken}
+use Rattle.image_linker.proofs.Loops.{words_taken, words_within}
+use Rattle.rv_isa.specs.declared.compiled.Code.{Code}
 
 -- each is at its index
 pub code_at : (bodies : List BodyCode) (i : ℕ) (b : BodyCode) → i < length bodies → b ≡ slice_index_or bodies i b → code_of b ≡ slice_index_or (codes_of bodies) i (code_of b)
@@ -31,6 +32,17 @@ pub words_more : (bodies : List BodyCode) (i : ℕ) (b : BodyCode) → i < lengt
     → length (words_of (take (i + 1) (codes_of bodies))) ≡ length (words_of (take i (codes_of bodies))) + length (code_of b).words
 words_more bodies i b lt e =
     ap length (words_taken (codes_of bodies) i (code_of b) (code_within bodies i lt) (code_at bodies i b lt e)) ∙ length-append (words_of (take i (codes_of bodies))) (code_of b).words
+
+-- a loop over bodies at one of so many words: they follow the words before it, and all these are no more than all words
+pub record WordsAt (bodies : List BodyCode) (i count : ℕ) : Type 0 where
+  pub next : length (words_of (take (i + 1) (codes_of bodies))) ≡ length (words_of (take i (codes_of bodies))) + count
+  pub within : length (words_of (take (i + 1) (codes_of bodies))) ≤ length (words_of (codes_of bodies))
+
+pub words_at : (bodies : List BodyCode) (i : ℕ) (b : BodyCode) (code : Code) (words : List ℕ) → i < length bodies → b ≡ slice_index_or bodies i b → code ≡ code_of b → words ≡ code.words → WordsAt bodies i (length words)
+words_at bodies i b code words lt e is are = record {
+  next = omega (arith, words_more bodies i b lt e, ap (λ (l : List ℕ). length l) are, ap (λ (k : Code). length k.words) is);
+  within = words_within (codes_of bodies) (i + 1);
+}
 
 -- what holds of so many codes, and of one more
 pub kept_more : (s : Spaces) (bodies : List BodyCode) (i : ℕ) → ((j : ℕ) → j < i → bytes_up_to s bodies (suc j) ≤ max_text) → bytes_up_to s bodies (suc i) ≤ max_text

@@ -51,7 +51,7 @@ all_fit_suc size (x ∷ rows) (suc i) r less e fit has =
 pub all_fit_more : (size : ℕ) (rows : List DataRow) (i : ℕ) (r : DataRow) → i < length rows → r ≡ slice_index_or rows i r → all_fit size (written_segments (take i rows)) ≡ true → HasRoom size r → all_fit size (written_segments (take (i + 1) rows)) ≡ true
 all_fit_more size rows i r less e fit has = let k : i + 1 ≡ suc i = omega arith in rw k (all_fit_suc size rows i r less e fit has)
 
-and_false : (a b : Bool) → b ≡ false → (a && b) ≡ false
+pub and_false : (a b : Bool) → b ≡ false → (a && b) ≡ false
 and_false true b e = e
 and_false false b e = refl
 

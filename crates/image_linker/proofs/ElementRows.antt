@@ -10,6 +10,7 @@ use Rattle.index_spaces.specs.Spaces.{Spaces}
 use Rattle.image_format.specs.declared.image.Row.{Row}
 use Rattle.image_linker.specs.Linking.{linked_row, linked_elements}
 use Rattle.image_linker.proofs.LoadedMemory.{over_length}
+use Rattle.image_linker.proofs.DataRows.{and_false}
 
 -- ---- room
 
@@ -43,16 +44,12 @@ false_first : (a b : Bool) → a ≡ false → (a && b) ≡ false
 false_first true b e = absurd cc
 false_first false b e = refl
 
-false_later : (a b : Bool) → b ≡ false → (a && b) ≡ false
-false_later true b e = e
-false_later false b e = refl
-
 -- where one has no room
 pub not_all_fit : (size : ℕ) (rows : List ElementRow) (i : ℕ) (r : ElementRow) → i < length rows → r ≡ slice_index_or rows i r → size < r.place + length r.functions → all_fit size (written_rows rows) ≡ false
 not_all_fit size [] i r less e over = absurd (omega arith)
 not_all_fit size (x ∷ rows) zero r less e over = false_first (nat_le (x.place + length (map Some x.functions)) size) (all_fit size (written_rows rows)) (failed size x r e over)
 not_all_fit size (x ∷ rows) (suc i) r less e over =
-    false_later (nat_le (x.place + length (map Some x.functions)) size) (all_fit size (written_rows rows)) (not_all_fit size rows i r (omega arith) e over)
+    and_false (nat_le (x.place + length (map Some x.functions)) size) (all_fit size (written_rows rows)) (not_all_fit size rows i r (omega arith) e over)
 
 -- the one of an index fits
 pub each_fits : (size : ℕ) (rows : List ElementRow) (i : ℕ) (r : ElementRow) → i < length rows → r ≡ slice_index_or rows i r → all_fit size (written_rows rows) ≡ true → r.place + length r.functions ≤ size

@@ -3,6 +3,7 @@
 ghost use Rattle.std.specs.Prelude.{◌≡◌};
 ghost use Rattle.image_linker.specs.Bodies.{code_of, IsTextLimit};
 
+use crate::imports::{EXIT_WORDS, STUB_WORDS};
 use index_spaces::Context;
 use rv_isa::Code;
 use std::alloc::Global;
@@ -35,7 +36,7 @@ pub fn text_limit(context: &Context, codes: &[BodyCode]) -> Option<Refusal>
     ensures { IsTextLimit context.now codes.now result }
 {
     // Why: docs/DECISIONS.md, "`text_limit` is for those who have all codes"
-    let mut words: u128 = 2 + 18 * context.imports().len() as u128;
+    let mut words = EXIT_WORDS as u128 + STUB_WORDS as u128 * context.imports().len() as u128;
     for body in codes {
         words += body.code().words.as_slice().len() as u128;
         if u128::from(MAX_TEXT) < 4 * words {

@@ -17,10 +17,10 @@ use std::alloc::{AllocError, Global};
 use table_calls::emit_import_stub;
 
 /// Instruction words of the exit stub.
-const EXIT_WORDS: u32 = 2;
+pub(crate) const EXIT_WORDS: u32 = 2;
 
 /// Instruction words of an import's stub.
-const STUB_WORDS: u32 = 18;
+pub(crate) const STUB_WORDS: u32 = 18;
 
 /// The exit stub: a7 becomes 0, and the environment is called.
 fn exit_stub() -> [u32; 2]

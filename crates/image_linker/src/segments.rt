@@ -9,13 +9,10 @@ ghost use Rattle.index_spaces.specs.Entries.{written_segments, bytes_at_first, s
 ghost use Rattle.image_linker.specs.ImageOf.{segment_words, joined};
 ghost use Rattle.image_linker.specs.Linking.{linked_segments, ArePlaced};
 
-use image_format::Segment;
+use image_format::{PAGE_BYTES, Segment};
 use index_spaces::DataRow;
 use std::alloc::{AllocError, Global};
 use wasm_defs::Bytes;
-
-/// Bytes of a page of the memory (Core 4.2.8).
-const PAGE: u64 = 65_536;
 
 /// The address of the first byte of passive segments.
 const PASSIVE_BASE: u64 = 0x7000_0000;
@@ -24,7 +21,7 @@ const PASSIVE_BASE: u64 = 0x7000_0000;
 fn has_room(pages: u32, row: &DataRow) -> bool
     ensures { IsTrue result ↔ IfSome row.now.place (λ place. place + length row.now.bytes ≤ page * pages) }
 {
-    let size = pages as u64 * PAGE;
+    let size = pages as u64 * PAGE_BYTES;
     match row.place {
         Some(place) => place <= size && row.bytes.as_slice().len() as u64 <= size - place,
         None => true,

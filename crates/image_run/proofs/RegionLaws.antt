@@ -14,7 +14,7 @@ use Rattle.std.specs.Prelude.{replicate}
 use Rattle.std.proofs.lemmas.List.{length-replicate}
 use Rattle.image_run.specs.States.{IsLoaded, first_memory, zeros}
 use Rattle.image_run.specs.Sizes.{region_bytes}
-use Rattle.image_run.proofs.WordLaws.{length-word_bytes, length-row_words}
+use Rattle.image_format.proofs.EnvironmentLaws.{length-word_bytes, length-row_words, globals_few}
 use Rattle.image_run.proofs.MemoryLaws.{length-all_over, all_fit-more}
 
 pub loaded_is : (i : Image) (size : ℕ) (b : Bytes) → size ≡ stack_size → b.stack ≡ zeros size → b.globals ≡ word_bytes i.globals → b.table ≡ word_bytes (row_words i.table)
@@ -31,11 +31,6 @@ loaded_is i size b is stack globals table memory passive =
 pub first_is : (i : Image) (b : Bytes) (pages : ℕ) → IsLoaded i b → pages ≡ i.pages → take (page * pages) b.memory ≡ first_memory i
 unfolding IsLoaded first_memory
 first_is i b pages is pages_are = ap (λ n. take (page * n) b.memory) pages_are ∙ ap (λ (x : Bytes). take (page * i.pages) x.memory) is
-
-pub globals_few : (v : Version) → most_globals v ≤ 300000
-globals_few One = omega arith
-globals_few Two = omega arith
-globals_few Three = omega arith
 
 pub globals_short : (v : Version) (globals bytes : List ℕ) → bytes ≡ word_bytes globals → length globals ≤ most_globals v → length bytes ≤ 2400000
 globals_short v globals bytes e few = omega (arith, ap length e, length-word_bytes globals, globals_few v)

@@ -18,8 +18,9 @@ use crate::answer::Answer;
 use crate::host::{Host, Patch, Reply};
 use crate::layout::{A0, PAGE, S0, STACK, STACK_SIZE};
 use crate::outcome::Outcome;
-use crate::words::{value_in, word_in, write_memory, write_value};
+use crate::words::{value_in, write_memory, write_value};
 use image_format::{Image, Import};
+use linear_memory::read_8;
 use rv64im_machine::{FaultKind, Machine, Region};
 use wasm_defs::{FuncType, ValType, Value};
 
@@ -47,7 +48,7 @@ fn read_arguments(stack: &[u8], at: usize, types: &[ValType], room: &mut [Value]
     ensures { map value_of (take (length types.now) room.new) ≡ values_at stack.now at types.now }
 {
     for (i, ty) in types.iter().enumerate() {
-        room[i] = value_in(*ty, word_in(stack, at + 8 * i));
+        room[i] = value_in(*ty, read_8(stack, at + 8 * i));
     }
 }
 

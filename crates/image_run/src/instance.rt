@@ -9,12 +9,14 @@ ghost use Rattle.image_run.specs.States.{first_memory};
 
 use crate::checks::find_export;
 use crate::host::Host;
+use crate::layout::PAGE;
 use crate::outcome::Outcome;
 use crate::regions::regions_of;
 use crate::run::{enter, run_function, run_start};
 use crate::sizes::bytes_wanted;
-use crate::words::{value_in, word_in};
+use crate::words::value_in;
 use image_format::{Export, Image, PARAMS};
+use linear_memory::read_8;
 use rv64im_machine::{Machine, Region};
 use std::alloc::{AllocError, Global};
 use std::marker::Model;
@@ -94,7 +96,7 @@ impl<'a> Instance<'a> {
     pub fn memory(&self) -> &[u8]
         ensures { result.now ≡ self.now.memory }
     {
-        let size = 65_536 * self.pages as usize;
+        let size = PAGE as usize * self.pages as usize;
         &self.machine.bytes(Region::Memory)[..size]
     }
 
@@ -108,7 +110,7 @@ impl<'a> Instance<'a> {
         };
         let at = index as usize;
         let ty = export.signature.results.as_slice()[at];
-        value_in(ty, word_in(self.machine.bytes(Region::Stack), 8 * at))
+        value_in(ty, read_8(self.machine.bytes(Region::Stack), 8 * at))
     }
 
     /// Runs the start function of the image, if it has one, and then the exported function of that name with these arguments, both

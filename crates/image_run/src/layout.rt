@@ -1,5 +1,7 @@
 //! Addresses and sizes of a run, and the registers that calls from outside and calls of the environment use.
 
+use image_format::PAGE_BYTES;
+
 /// Where the text begins.
 pub(crate) const TEXT: u64 = 0x1000_0000;
 
@@ -19,7 +21,7 @@ pub(crate) const MEMORY: u64 = 0x5000_0000;
 pub(crate) const STACK_SIZE: usize = 1_048_576;
 
 /// Bytes of a page of memory (WebAssembly Core 1.0, 4.2.8).
-pub(crate) const PAGE: u64 = 65_536;
+pub(crate) const PAGE: u64 = PAGE_BYTES;
 
 /// The address that a function returns to.
 pub(crate) const RA: u8 = 1;

@@ -3,7 +3,7 @@ ghost use Rattle.std.specs.Prelude.{◌≡◌, ◌+◌, ◌*◌, ◌^◌, ◌≤
 ghost use Rattle.rv64im_machine.specs.Contents.{bytes_of};
 ghost use Rattle.wasm_defs.specs.Instances.{all_fit, all_over, over};
 ghost use Rattle.wasm_defs.specs.Memory.{page};
-ghost use Rattle.image_format.specs.Environment.{row_words, segments_of, word_bytes};
+ghost use Rattle.image_format.specs.Environment.{row_words, segments_of, stack_size, word_bytes};
 ghost use Rattle.image_run.specs.States.{IsLoaded, zeros};
 
 use crate::layout::{PAGE, STACK_SIZE};
@@ -81,7 +81,7 @@ fn memory_of(
 /// The bytes that an image is loaded to. Room for the memory is taken up to its cap, and its first pages are stored.
 pub(crate) fn regions_of(alloc: Global, image: &Image) -> Result<Regions, AllocError>
     ensures loaded { IfOk result (λ r. IsLoaded image.now (bytes_of r)) }
-    ensures stack { IfOk result (λ r. length r.stack.items ≡ 1048576) }
+    ensures stack { IfOk result (λ r. length r.stack.items ≡ stack_size) }
     ensures globals { IfOk result (λ r. length r.globals.items ≤ 2400000) }
     ensures table { IfOk result (λ r. length r.table.items ≤ 1600000) }
     ensures memory { IfOk result (λ r. length r.memory.bytes ≡ page * image.now.cap) }

@@ -1,6 +1,6 @@
 //! Words of 64 bits: as values, and in bytes, the low byte first.
 ghost use Rattle.std.specs.Prelude.{◌≡◌, ◌+◌, ◌<◌, ◌≤◌, ◌++◌, All, IfOk, length};
-ghost use Rattle.rv_isa.specs.Steps.{le_bytes, value_at, put};
+ghost use Rattle.rv_isa.specs.Steps.{le_bytes, put};
 ghost use Rattle.rv_isa.specs.declared.stepping.Region.TheVariants.{Stack, Memory};
 ghost use Rattle.rv64im_machine.specs.Lending.{with_bytes};
 ghost use Rattle.wasm_defs.specs.Values.{value_of, word_of};
@@ -29,23 +29,6 @@ pub(crate) fn value_in(ty: ValType, word: u64) -> Value
         ValType::I32 => Value::I32(((word % 0x1_0000_0000) as u32).cast_signed()),
         ValType::I64 => Value::I64(word.cast_signed()),
     }
-}
-
-/// The word in the eight bytes from an index on.
-pub(crate) fn word_in(bytes: &[u8], at: usize) -> u64
-    requires { at + 8 ≤ length bytes.now }
-    ensures { result ≡ value_at 8 at bytes.now }
-{
-    u64::from_le_bytes([
-        bytes[at],
-        bytes[at + 1],
-        bytes[at + 2],
-        bytes[at + 3],
-        bytes[at + 4],
-        bytes[at + 5],
-        bytes[at + 6],
-        bytes[at + 7],
-    ])
 }
 
 /// Appends the eight bytes of a word.

@@ -1,4 +1,4 @@
-use Rattle.std.proofs.Common.{◌≡◌, ◌+◌, ◌^◌, ◌<◌, ◌++◌, ℕ, List, take, length, map, length-append, append_assoc, refl, sym, ap, ◌∙◌, subst, arith}
+use Rattle.std.proofs.Common.{◌+◌, ◌^◌, ◌<◌, ◌++◌, List, length, map, append_assoc, refl, sym, ap, ◌∙◌, subst, arith}
 use Rattle.std.specs.List.{All}
 use Rattle.rv_isa.specs.declared.compiled.Code.{Code}
 use Rattle.rv_isa.specs.declared.compiled.TrapSite.{TrapSite}
@@ -6,9 +6,8 @@ use Rattle.frame_layout.specs.Templates.{exit_stub}
 use Rattle.image_format.specs.declared.image.TrapPlace.{TrapPlace}
 use Rattle.image_linker.specs.Bodies.{code_of, codes_of}
 use Rattle.image_linker.specs.ImageOf.{front_of, place_at}
-use Rattle.image_linker.specs.Linking.{words_of, import_traps, code_traps, IsShort}
-use Rattle.image_linker.proofs.Coded.{code_at, code_within}
-use Rattle.image_linker.proofs.Loops.{words_taken, words_within}
+use Rattle.image_linker.specs.Linking.{import_traps, code_traps, IsShort}
+use Rattle.image_linker.proofs.Coded.{code_at, code_within, words_at}
 use Rattle.image_linker.proofs.TrapLoops.{all_left, all_right, code_short, codes_taken, same_function}
 use Rattle.image_linker.proofs.trap_places.places_of.Goals as goal
 
@@ -26,25 +25,13 @@ front_of-here-requires c = omega (arith, c.requires.words, ap (λ imports. lengt
 -- the words with one more code are no more than all
 pub overflow_add-here : goal.overflow_add-here
 overflow_add-here c =
-    let codes = codes_of c.args.codes.now in
-    let i = c.loop-body.body-index in
-    let code = code_of c.body-item.result in
-    let less = code_within c.args.codes.now i (omega (arith, c.loop-body-test.true)) in
-    let next = words_taken codes i code less (code_at c.args.codes.now i c.body-item.result (omega (arith, c.loop-body-test.true)) c.body-item.is) in
-    let more = length-append (words_of (take i codes)) code.words in
-    let words : length c.as_slice-in-loop-body.result.now ≡ length code.words = ap (λ (l : List ℕ). length l) c.as_slice-in-loop-body.ensures ∙ ap (λ (k : Code). length k.words) c.code-code.ensures in
-    omega (arith, c.requires.words, words_within codes (i + 1), ap (λ (l : List ℕ). length l) next, more, words, c.loop-body.invariant.0)
+    let at = words_at c.args.codes.now c.loop-body.body-index c.body-item.result _ _ (omega (arith, c.loop-body-test.true)) c.body-item.is c.code-code.ensures c.as_slice-in-loop-body.ensures in
+    omega (arith, c.requires.words, at.next, at.within, c.loop-body.invariant.0)
 
 pub overflow_cast-here : goal.overflow_cast-here
 overflow_cast-here c =
-    let codes = codes_of c.args.codes.now in
-    let i = c.loop-body.body-index in
-    let code = code_of c.body-item.result in
-    let less = code_within c.args.codes.now i (omega (arith, c.loop-body-test.true)) in
-    let next = words_taken codes i code less (code_at c.args.codes.now i c.body-item.result (omega (arith, c.loop-body-test.true)) c.body-item.is) in
-    let more = length-append (words_of (take i codes)) code.words in
-    let words : length c.as_slice-in-loop-body.result.now ≡ length code.words = ap (λ (l : List ℕ). length l) c.as_slice-in-loop-body.ensures ∙ ap (λ (k : Code). length k.words) c.code-code.ensures in
-    omega (arith, c.requires.words, words_within codes (i + 1), ap (λ (l : List ℕ). length l) next, more, words)
+    let at = words_at c.args.codes.now c.loop-body.body-index c.body-item.result _ _ (omega (arith, c.loop-body-test.true)) c.body-item.is c.code-code.ensures c.as_slice-in-loop-body.ensures in
+    omega (arith, c.requires.words, at.next, at.within)
 
 pub put_sites-requires : goal.put_sites-requires
 put_sites-requires c =
@@ -73,15 +60,13 @@ loop-body-preserved c =
     let function = c.loop-body.function in
     let less = code_within c.args.codes.now i (omega (arith, c.loop-body-test.true)) in
     let is = code_at c.args.codes.now i body (omega (arith, c.loop-body-test.true)) c.body-item.is in
-    let next = words_taken codes i code less is in
-    let more = length-append (words_of (take i codes)) code.words in
-    let words : length c.as_slice-in-loop-body.result.now ≡ length code.words = ap (λ (l : List ℕ). length l) c.as_slice-in-loop-body.ensures ∙ ap (λ (k : Code). length k.words) c.code-code.ensures in
+    let at = words_at c.args.codes.now i body _ _ (omega (arith, c.loop-body-test.true)) c.body-item.is c.code-code.ensures c.as_slice-in-loop-body.ensures in
     let sites = c.as_slice.ensures ∙ ap (λ (k : Code). k.traps) c.code-code.ensures in
     let front = import_traps (length exit_stub) 0 imports in
     let all = all_right front (code_traps (front_of (length imports)) (length imports) codes) c.requires.places in
     let short = code_short (front_of (length imports)) (length imports) codes i here (length imports + i) code c.loop-body.invariant.0 refl less is all in
     let same = same_function here function (length imports + i) code.traps c.loop-body.invariant.1 short in (
-      omega (arith, ap (λ (l : List ℕ). length l) next, more, words, c.loop-body.invariant.0),
+      omega (arith, at.next, c.loop-body.invariant.0),
       (λ (few : length imports + (i + 1) < 2 ^ 32). let before = c.loop-body.invariant.1 (omega (arith, few)) in omega (arith, before, few, c.saturating_add-function.ensures)),
       c.in_ok-put_sites.ensures
           ∙ ap (λ (ss : List TrapSite). c.loop-body.places.items ++ map (place_at here function) ss) sites

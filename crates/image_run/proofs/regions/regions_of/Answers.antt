@@ -5,8 +5,9 @@ use Rattle.image_format.specs.declared.image.Row.{Row}
 use Rattle.image_format.specs.declared.image.Segment.{Segment}
 use Rattle.image_format.specs.Environment.{row_words, word_bytes, segments_of}
 use Rattle.image_format.proofs.Placed.{segments_fit}
+use Rattle.image_format.proofs.EnvironmentLaws.{globals_few}
 use Rattle.image_run.specs.States.{zeros}
-use Rattle.image_run.proofs.RegionLaws.{loaded_is, globals_few, globals_short, table_short, passive_short}
+use Rattle.image_run.proofs.RegionLaws.{loaded_is, globals_short, table_short, passive_short}
 use Rattle.image_run.proofs.regions.regions_of.Goals as goal
 
 pub memory_of-requires-clause-fit : goal.memory_of-requires-clause-fit

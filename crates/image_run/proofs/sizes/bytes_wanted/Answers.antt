@@ -2,7 +2,8 @@ use Rattle.std.proofs.Common.{[], length, ap, ◌∙◌, subst, arith}
 use Rattle.image_format.specs.Contents.{Image, IsImage}
 use Rattle.image_format.proofs.Placed.{segments_fit, pages_are_few}
 use Rattle.image_run.specs.Sizes.{bytes_wanted}
-use Rattle.image_run.proofs.RegionLaws.{globals_few, region_bytes_are}
+use Rattle.image_format.proofs.EnvironmentLaws.{globals_few}
+use Rattle.image_run.proofs.RegionLaws.{region_bytes_are}
 use Rattle.image_run.proofs.sizes.bytes_wanted.Goals as goal
 
 pub overflow_mul-globals : goal.overflow_mul-globals

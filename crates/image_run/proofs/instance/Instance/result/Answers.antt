@@ -18,8 +18,8 @@ bounds-as_slice-at c =
     let types = c.as_slice.ensures ∙ ap (λ (f : FuncType). f.results) c.deref.ensures in
     omega (arith, c.requires, ap (λ (l : List Value). length l) are, results_counted stack 0 e.signature.results, ap (λ (l : List ValType). length l) types)
 
-pub word_in-requires : goal.word_in-requires
-word_in-requires c =
+pub read_8-requires : goal.read_8-requires
+read_8-requires c =
     let e = c.in-Some.export.now in
     let stack = c.self.inside.machine.bytes.stack in
     let is = ap option_copied c.in-Some.is in
@@ -33,4 +33,4 @@ returns c =
     let stack = c.self.inside.machine.bytes.stack in
     let are = results_are stack (option_copied c.self.inside.returned) e c.args.self.now.results (ap (λ (s : Contents). s.results) c.self.view_is) (ap option_copied c.in-Some.is) in
     let types = c.as_slice.ensures ∙ ap (λ (f : FuncType). f.results) c.deref.ensures in
-    result_read stack c.bytes.result.now e.signature.results c.as_slice.result.now c.args.index c.word_in.result I32 c.args.self.now.results (value_of c.value_in.result) are types c.bytes.ensures.value c.requires c.word_in.ensures c.value_in.ensures
+    result_read stack c.bytes.result.now e.signature.results c.as_slice.result.now c.args.index c.read_8.result I32 c.args.self.now.results (value_of c.value_in.result) are types c.bytes.ensures.value c.requires c.read_8.ensures c.value_in.ensures
