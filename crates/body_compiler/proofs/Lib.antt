@@ -15,6 +15,8 @@ pub mod Opening
 pub mod BlockTypes
 pub mod Growing
 pub mod Beginning
+pub mod Counting
+pub mod CountingOn
 pub mod Whole
 pub mod Rests
 mod Coding

@@ -74,10 +74,13 @@ step_names c (token.Plain p) (f ∷ fs) gs none e = subst (λ (n : ℕ). NamesPl
 step_names c (token.Block t) (f ∷ fs) gs none e = tt
 step_names c p (f ∷ fs) gs none e = tt
 
-pub names : (labels : List Pending) (check later : Checked) (t : Token) (left : ℕ) → AreTied labels check left → step_checker check.context t check.checker ≡ Some later.checker → NamesOpen (length labels) t
-names labels check later t left tied e =
+pub names_open : (n : ℕ) (check later : Checked) (t : Token) → n ≡ length check.checker.frames → check.context.labels ≡ [] → step_checker check.context t check.checker ≡ Some later.checker → NamesOpen n t
+names_open n check later t count unlabelled e =
     let x = through (step check.context t check.checker.frames) (λ fs. Some (measured check.checker.greatest fs)) later.checker e in
-    subst (λ (n : ℕ). NamesOpen n t) (sym tied.count) (step_names check.context t check.checker.frames x.value tied.unlabelled x.is)
+    subst (λ (n : ℕ). NamesOpen n t) (sym count) (step_names check.context t check.checker.frames x.value unlabelled x.is)
+
+pub names : (labels : List Pending) (check later : Checked) (t : Token) (left : ℕ) → AreTied labels check left → step_checker check.context t check.checker ≡ Some later.checker → NamesOpen (length labels) t
+names labels check later t left tied e = names_open (length labels) check later t tied.count tied.unlabelled e
 
 -- ---- the labels go as the frames do
 

@@ -47,7 +47,7 @@ pub enum BodyStop {
     NoMemory,
 }
 
-fn malformed(offset: u64) -> Refusal
+pub(crate) fn malformed(offset: u64) -> Refusal
     ensures { result ≡ record { offset = offset; kind = Kind.Malformed } }
 {
     Refusal {

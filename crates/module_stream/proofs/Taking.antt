@@ -11,7 +11,8 @@ use Rattle.wasm_laws.proofs.Exports.{types_are_small}
 use Rattle.wasm_laws.proofs.PartLists.{items_of-append}
 use Rattle.wasm_defs.specs.Limits.{max_text}
 use Rattle.wasm_defs.specs.Trees.{Seq}
-use Rattle.wasm_defs.specs.Bodies.{body_read}
+use Rattle.wasm_defs.specs.Typing.{Context}
+use Rattle.wasm_defs.specs.Bodies.{BodyRead, body_read}
 use Rattle.wasm_defs.specs.Context.{context_of, types_of}
 use Rattle.wasm_defs.specs.Outside.{Body, Run, Part, after_part}
 use Rattle.wasm_defs.specs.Outside as outside
@@ -44,13 +45,13 @@ abbrev pub given_body : (counted : Bool) → GivenBody → Body
 given_body counted b = record { counted = counted; size = b.size; first = b.first; bytes = b.bytes }
 
 -- by the index spaces that the code has
-pub moved_body : (spaces context : Spaces) (bodies imported first : ℕ) (bytes : List ℕ) (r : Result Code BodyStop) → context ≡ spaces → imported ≡ context.imported
-    → Compiles (first_minimum context.tables) first (context_in context) (imported + bodies) (body_read (is_some context.data_count) first bytes) r
-    → Compiles (first_minimum spaces.tables) first (context_in spaces) (spaces.imported + bodies) (body_read (is_some spaces.data_count) first bytes) r
-moved_body spaces context bodies imported first bytes r same count h =
+pub moved_body : (Of : (rows first : ℕ) → Context → (index : ℕ) → BodyRead → Type 0) (spaces context : Spaces) (bodies imported first : ℕ) (bytes : List ℕ) → context ≡ spaces → imported ≡ context.imported
+    → Of (first_minimum context.tables) first (context_in context) (imported + bodies) (body_read (is_some context.data_count) first bytes)
+    → Of (first_minimum spaces.tables) first (context_in spaces) (spaces.imported + bodies) (body_read (is_some spaces.data_count) first bytes)
+moved_body Of spaces context bodies imported first bytes same count h =
     let k : imported ≡ spaces.imported = count ∙ ap (λ (x : Spaces). x.imported) same in
-    let g = subst (λ (x : Spaces). Compiles (first_minimum x.tables) first (context_in x) (imported + bodies) (body_read (is_some x.data_count) first bytes) r) same h in
-    subst (λ (n : ℕ). Compiles (first_minimum spaces.tables) first (context_in spaces) (n + bodies) (body_read (is_some spaces.data_count) first bytes) r) k g
+    let g = subst (λ (x : Spaces). Of (first_minimum x.tables) first (context_in x) (imported + bodies) (body_read (is_some x.data_count) first bytes)) same h in
+    subst (λ (n : ℕ). Of (first_minimum spaces.tables) first (context_in spaces) (n + bodies) (body_read (is_some spaces.data_count) first bytes)) k g
 
 -- the code is that of the body after these items and so many bodies
 code_of_body : (items : List Item) (k : ℕ) (b : Body) (tree : Seq) (code : Code)

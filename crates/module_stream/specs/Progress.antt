@@ -19,6 +19,7 @@ use Rattle.body_compiler.specs.declared.code.BodyStop.{BodyStop}
 use Rattle.body_compiler.specs.declared.code.BodyStop.TheVariants as body
 use Rattle.wasm_defs.specs.Instances.{first_minimum}
 use Rattle.body_compiler.specs.Compiling.{Compiles}
+use Rattle.body_compiler.specs.Counting.{Measures}
 use Rattle.image_linker.specs.ImageOf.{front_of}
 use Rattle.image_linker.specs.Codes.{IsCodeOf}
 use Rattle.image_linker.specs.Judging.{text_bytes, limit_at, IsTextFault, IsVerdictOf}
@@ -88,6 +89,10 @@ TakesPart bytes (Err NoMemory) run spaces codes = Unit {0}
 -- the compiling of a body, before which so many bodies are, comes to this
 abbrev pub TakesBody : Spaces → ℕ → GivenBody → Result Code BodyStop → Type 0
 TakesBody spaces bodies b made = Compiles (first_minimum spaces.tables) b.first (context_in spaces) (spaces.imported + bodies) (body_read (is_some spaces.data_count) b.first b.bytes) made
+
+-- the counting of its code's words answers this
+abbrev pub CountsBody : Spaces → ℕ → GivenBody → Result ℕ BodyStop → Type 0
+CountsBody spaces bodies b made = Measures (first_minimum spaces.tables) b.first (context_in spaces) (spaces.imported + bodies) (body_read (is_some spaces.data_count) b.first b.bytes) made
 
 -- why nothing is taken after this body, which isn't compiled
 abbrev pub stop_at : GivenBody → BodyStop → FrontStop

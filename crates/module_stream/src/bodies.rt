@@ -10,10 +10,10 @@ ghost use Rattle.image_linker.specs.ImageOf.{front_of};
 ghost use Rattle.image_linker.specs.Judging.{limit_at};
 ghost use Rattle.module_stream.specs.Codes.{KeepsAlike};
 ghost use Rattle.module_stream.specs.CutBodies.{coded_all};
-ghost use Rattle.module_stream.specs.Progress.{IsJudging, CanTake, CanTakeNext, CanTakeAll, stop_at, TakesBody, TakesCode, TakesPart, KeepsLimit};
+ghost use Rattle.module_stream.specs.Progress.{IsJudging, CanTake, CanTakeNext, CanTakeAll, stop_at, TakesBody, CountsBody, TakesCode, TakesPart, KeepsLimit};
 
 use crate::codes::Codes;
-use body_compiler::{BodyStop, compile};
+use body_compiler::{BodyStop, compile, measure};
 use body_cutter::{Batch, Body, Cutter};
 use index_spaces::ContextBuilder;
 use rv_isa::Code;
@@ -55,6 +55,21 @@ fn take_body(
     let context = spaces.context();
     let index = context.imported() + bodies;
     compile(alloc, context, index, body.bytes.as_slice(), body.first)
+}
+
+/// Counts the instruction words of a body's code, before which so many bodies come.
+fn measure_body(
+    alloc: Global,
+    spaces: &ContextBuilder,
+    bodies: u32,
+    body: &Body,
+) -> Result<u64, BodyStop>
+    requires { CanTake spaces.now bodies body.now }
+    ensures { CountsBody spaces.now bodies body.now result }
+{
+    let context = spaces.context();
+    let index = context.imported() + bodies;
+    measure(alloc, context, index, body.bytes.as_slice(), body.first)
 }
 
 /// Whether a text with so many instruction words of functions passes the limit. Before them come the exit stub, of two words,
@@ -149,6 +164,24 @@ pub fn count_code(
     Ok(())
 }
 
+/// Takes the next body, and counts its code, where no code is kept.
+fn take_count(
+    alloc: Global,
+    spaces: &ContextBuilder,
+    codes: &mut Codes,
+    body: &Body,
+) -> Result<(), FrontStop>
+    requires can { CanTakeNext spaces.now codes.old body.now }
+    requires none { codes.old.kept ≡ None }
+    ensures takes { TakesCode spaces.now codes.old body.now result codes.new }
+    ensures kept { KeepsAlike codes.old codes.new }
+{
+    match measure_body(alloc, spaces, codes.count(), body) {
+        Ok(words) => count_code(spaces, codes, body, words),
+        Err(stop) => Err(stop_at(body, stop)),
+    }
+}
+
 /// Takes the next body, after those that have these codes.
 pub fn take_code(
     alloc: Global,
@@ -160,6 +193,9 @@ pub fn take_code(
     ensures takes { TakesCode spaces.now codes.old body.now result codes.new }
     ensures kept { KeepsAlike codes.old codes.new }
 {
+    if !codes.are_kept() {
+        return take_count(alloc, spaces, codes, body);
+    }
     match take_body(alloc, spaces, codes.count(), body) {
         Ok(code) => add_code(alloc, spaces, codes, body, code),
         Err(stop) => Err(stop_at(body, stop)),

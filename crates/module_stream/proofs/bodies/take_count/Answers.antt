@@ -1,0 +1,14 @@
+use Rattle.std.proofs.Common.{ℕ, Ok, Err, subst}
+use Rattle.module_stream.specs.Progress.{CountsBody, TakesBody}
+use Rattle.module_stream.proofs.Taking.{stop_taken}
+use Rattle.module_stream.proofs.bodies.take_count.Goals as goal
+
+pub count_code-requires-clause-code : goal.count_code-requires-clause-code
+count_code-requires-clause-code c =
+    let counted = subst (λ (n : ℕ). CountsBody c.args.spaces.now n c.args.body.now (Ok c.in-Ok.words)) c.count.ensures c.in-Ok.ensures in
+    (counted.0, counted.2, counted.1)
+
+pub returns-in-Err-clause-takes : goal.returns-in-Err-clause-takes
+returns-in-Err-clause-takes c =
+    rw c.stop_at.ensures (stop_taken c.args.spaces.now c.args.codes.now c.args.codes.now c.args.body.now c.in-Err.stop
+    (subst (λ (n : ℕ). CountsBody c.args.spaces.now n c.args.body.now (Err c.in-Err.stop)) c.count.ensures c.in-Err.ensures))
