@@ -9,10 +9,10 @@ use Rattle.wasm_defs.specs.declared.token.Token.TheVariants as token
 use Rattle.wasm_defs.specs.Places.{Place, moved, shape, after_rule, after_block, after_if, end_of, places, places_of}
 use Rattle.wasm_defs.specs.Trees.{Seq, Nothing, Simple, Block, Loop, If, IfElse, Tree, spelled}
 use Rattle.wasm_defs.specs.Typing.{Types, Context, inside, rule_of}
-use Rattle.frame_layout.specs.Templates.{Label, EmitContext, label_at, last_label, jump_words, unless_words, jump_if_words, jumps, table_front, jump_table_words, words}
+use Rattle.frame_layout.specs.Templates.{Label, EmitContext, declarations, label_at, last_label, jump_words, unless_words, jump_if_words, jumps, table_front, jump_table_words, words}
 use Rattle.frame_layout.specs.Functions.{label, over, size, body_size}
 use Rattle.frame_layout.proofs.Sizes.{taken_by, jump_count, unless_count, front_count, jump_length, unless_length, front_length, words_size}
-use Rattle.control_emit.proofs.Trees.{labelled, words_labelled, shape_labelled, after_dead, end_dead}
+use Rattle.control_emit.proofs.Trees.{labelled, shape_labelled, after_dead, end_dead}
 use Rattle.body_compiler.specs.Counting.{WordCount, labels_of, jump_sum, begun_count, opening, test_size, plain_size, after_token, after_tokens}
 
 abbrev with_words : WordCount → ℕ → WordCount
@@ -84,10 +84,9 @@ module _ (w : EmitContext) (c : Context) where
 
   -- ---- what is reachable
 
-  plain_is : (ls : List Types) (labels : List Label) (takes : List ℕ) (h : ℕ) (p : Plain) → taken_by labels ≡ takes → length (words w c (labels_of takes) h 0 p) ≡ length (words w (labelled c ls) labels h 0 p)
+  plain_is : (ls : List Types) (labels : List Label) (takes : List ℕ) (h : ℕ) (p : Plain) → taken_by labels ≡ takes → length (words w (declarations c) (labels_of takes) h 0 p) ≡ length (words w (declarations c) labels h 0 p)
   plain_is ls labels takes h p e =
-      ap (λ ops. length ops) (words_labelled w c ls (labels_of takes) h 0 p)
-      ∙ words_size w w.distance_to (labelled c ls) (labels_of takes) labels (taken_labels takes ∙ sym e) h 0 p
+      words_size w w.distance_to (declarations c) (labels_of takes) labels (taken_labels takes ∙ sym e) h 0 p
 
   inner_takes : (ls : List Types) (labels : List Label) (base wanted own : ℕ) (takes : List ℕ) → own ≡ wanted → taken_by labels ≡ takes → taken_by (label base own 0 ∷ labels) ≡ wanted ∷ takes
   inner_takes ls labels base wanted own takes e f = ap₂ (λ (n : ℕ) (ns : List ℕ). n ∷ ns) e f
@@ -103,7 +102,7 @@ module _ (w : EmitContext) (c : Context) where
       let one = after_token w c (token.Plain p) (Some h) n in
       let here = plain_is ls labels n.takes h p e in
       live ls rest next labels more behind one e
-      ∙ ap (after more behind) (let same : one.words + size w d labels next rest ≡ n.words + (length (words w d labels h 0 p) + size w d labels next rest) = omega (arith, here) in ap (with_words n) same)
+      ∙ ap (after more behind) (let same : one.words + size w d labels next rest ≡ n.words + (length (words w (declarations c) labels h 0 p) + size w d labels next rest) = omega (arith, here) in ap (with_words n) same)
   live ls (Block type body rest) (Some h) labels more behind n e =
       let d = labelled c ls in
       let s = shape d type in

@@ -13,7 +13,7 @@ use Rattle.wasm_defs.specs.Trees.{Seq}
 use Rattle.wasm_defs.specs.Typing.{Context}
 use Rattle.body_validator.specs.Checks.{Checked}
 use Rattle.frame_layout.specs.declared.layout.Layout.{Layout}
-use Rattle.frame_layout.specs.Templates.{Label, EmitContext, words}
+use Rattle.frame_layout.specs.Templates.{Label, EmitContext, declarations, words}
 use Rattle.frame_layout.specs.Functions.{label, over, body_size}
 use Rattle.body_compiler.specs.declared.code.BodyStop.{BodyStop}
 use Rattle.body_compiler.specs.declared.code.BodyStop.TheVariants.{Refused, TooLong, NoMemory}
@@ -56,7 +56,7 @@ module _ (w : EmitContext) (c : Context) where
   -- the words of an instruction don't depend on where its labels lead
   abbrev pub plain_size : Place → (takes : List ℕ) → Plain → ℕ
   plain_size None takes p = 0
-  plain_size (Some h) takes p = length (words w c (labels_of takes) h 0 p)
+  plain_size (Some h) takes p = length (words w (declarations c) (labels_of takes) h 0 p)
 
   abbrev pub after_token : Token → Place → WordCount → WordCount
   after_token (token.Plain p) q n = record { takes = n.takes; words = n.words + plain_size q n.takes p }

@@ -16,7 +16,7 @@ ghost use Rattle.wasm_defs.specs.declared.token.Token.TheVariants.{Else, Plain a
 ghost use Rattle.wasm_defs.specs.Typing.{Context as ContextGiven, function_type};
 ghost use Rattle.index_spaces.specs.Spaces.{context_in};
 ghost use Rattle.frame_layout.specs.Functions.{over};
-ghost use Rattle.frame_layout.specs.Templates.{EmitContext, words};
+ghost use Rattle.frame_layout.specs.Templates.{Declarations, EmitContext, words};
 ghost use Rattle.frame_layout.proofs.Sizes.{jump_count, front_count, unless_count};
 ghost use Rattle.control_emit.specs.Pending.{AreBelow};
 ghost use Rattle.body_validator.specs.Checking.{guarded, start_checker};
@@ -87,7 +87,7 @@ fn branch_words(takes: &[u32], plain: &Plain) -> u128
     requires branches { branches_plain plain.now ≡ true }
     requires some { 0 < length takes.now }
     requires names { NamesPlain (length takes.now) plain.now }
-    ensures { (w : EmitContext) (c : ContextGiven) (h : ℕ) → result ≡ length (words w c (labels_of (reverse takes.now)) h 0 plain.now) }
+    ensures { (w : EmitContext) (d : Declarations) (h : ℕ) → result ≡ length (words w d (labels_of (reverse takes.now)) h 0 plain.now) }
 {
     match plain {
         Plain::Br(label) => jump_words(takes_of(takes, *label)),
@@ -109,7 +109,7 @@ fn branch_words(takes: &[u32], plain: &Plain) -> u128
 fn instruction_words(takes: &[u32], plain: &Plain) -> u128
     requires some { 0 < length takes.now }
     requires names { NamesPlain (length takes.now) plain.now }
-    ensures { (w : EmitContext) (c : ContextGiven) (h : ℕ) → result ≡ length (words w c (labels_of (reverse takes.now)) h 0 plain.now) }
+    ensures { (w : EmitContext) (d : Declarations) (h : ℕ) → result ≡ length (words w d (labels_of (reverse takes.now)) h 0 plain.now) }
 {
     match plain {
         Plain::Br(_) | Plain::BrIf(_) | Plain::BrTable(_, _) | Plain::Return => {

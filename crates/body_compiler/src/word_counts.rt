@@ -1,11 +1,10 @@
 //! How many instruction words a token has, without making them.
 
 ghost use Rattle.std.specs.Prelude.{◌≡◌, ◌+◌, false, length, ℕ, List};
-ghost use Rattle.wasm_defs.specs.Typing.{Context as ContextGiven};
 ghost use Rattle.frame_layout.specs.declared.layout.Layout.{Layout as LayoutGiven};
 ghost use Rattle.frame_layout.specs.Bodies.{unary_body, binary_body, compare_body, convert_body, extend_body};
 ghost use Rattle.frame_layout.specs.BulkWords.{bulk_words};
-ghost use Rattle.frame_layout.specs.Templates.{EmitContext, Label, convert_words, operate_words, words, prologue, epilogue};
+ghost use Rattle.frame_layout.specs.Templates.{Declarations, EmitContext, Label, convert_words, operate_words, words, prologue, epilogue};
 ghost use Rattle.body_compiler.specs.Steps.{branches_plain};
 
 use wasm_defs::{
@@ -91,7 +90,7 @@ fn bulk_words(op: BulkOp) -> u32
 /// How many instruction words an instruction has at a reachable point that is no branch. It is the same wherever it stands.
 pub(crate) fn plain_words(plain: &Plain) -> u32
     requires { branches_plain plain.now ≡ false }
-    ensures { (w : EmitContext) (c : ContextGiven) (labels : List Label) (h : ℕ) → result ≡ length (words w c labels h 0 plain.now) }
+    ensures { (w : EmitContext) (d : Declarations) (labels : List Label) (h : ℕ) → result ≡ length (words w d labels h 0 plain.now) }
 {
     match plain {
         Plain::Unreachable => 3,
