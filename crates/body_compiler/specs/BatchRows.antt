@@ -11,13 +11,13 @@ use Rattle.rv_isa.specs.declared.compiled.Code.{Code}
 use Rattle.body_cutter.specs.declared.body.Body.{Body}
 use Rattle.body_compiler.specs.declared.code.BodyStop.{BodyStop}
 use Rattle.body_compiler.specs.declared.code.BodyStop.TheVariants.{Refused}
-use Rattle.result_cells.specs.Rooms.{Store, Reserved}
+use Rattle.result_cells.specs.Rooms.{Store, Reserved, Short}
 use Rattle.body_compiler.specs.declared.batch.row.Row.{Row}
 use Rattle.body_compiler.specs.declared.batch.row.RowCode.{RowCode}
 use Rattle.body_compiler.specs.declared.batch.row.Stored.{Stored}
 use Rattle.body_compiler.specs.declared.batch.row.Stored.TheVariants.{Cell, Apart, Judged, NoRoom, TooLong}
 use Rattle.body_compiler.specs.declared.batch.bodies.Made.{Made}
-use Rattle.body_compiler.specs.declared.batch.bodies.Made.TheVariants.{Coded, Faulty}
+use Rattle.body_compiler.specs.declared.batch.bodies.Made.TheVariants.{Coded, Faulty, Cut}
 use Rattle.body_compiler.specs.Compiling.{Compiles}
 
 -- the function of a body is in the context
@@ -60,19 +60,27 @@ AreCodesFor c cells [] (k ∷ ks) = ⊥
 AreCodesFor c cells (b ∷ bs) [] = ⊥
 AreCodesFor c cells (b ∷ bs) (k ∷ ks) = IsCodeFor c cells b k × AreCodesFor c cells bs ks
 
+-- no room was left for any code
+abbrev pub IsExhausted : Store → Short → Type 0
+IsExhausted cells short = (short.room ≡ cells.room.table) × (short.left ≡ 0)
+
 abbrev pub IsMade : Spaces → Store → Body → Made → Type 0
 IsMade c cells b (Coded k) = IsCodeFor c cells b k
 IsMade c cells b (Faulty r) = CompilesBody c b (Err (Refused r)) × (r.offset < b.first + length b.bytes)
+IsMade c cells b (Cut short) = IsExhausted cells short
 
--- all bodies have their codes; or those before the first with an error have theirs, and this is that error
-abbrev pub IsRow : Spaces → Store → List Body → List RowCode → Option Refusal → Type 0
-IsRow c cells bodies codes None = AreCodesFor c cells bodies codes
-IsRow c cells bodies codes (Some r) =
+-- All bodies have their codes. Or the first of them have theirs, and then no room was left for any code. Or those before the first with an
+-- error have theirs, and this is that error
+abbrev pub IsRow : Spaces → Store → List Body → List RowCode → Option Refusal → Option Short → Type 0
+IsRow c cells bodies codes None None = AreCodesFor c cells bodies codes
+IsRow c cells bodies codes None (Some short) =
+    (before : List Body) × (after : List Body) × (bodies ≡ before ++ after) × AreCodesFor c cells before codes × IsExhausted cells short
+IsRow c cells bodies codes (Some r) cut =
     (before : List Body) × (b : Body) × (after : List Body) × (bodies ≡ before ++ b ∷ after) × AreCodesFor c cells before codes
     × CompilesBody c b (Err (Refused r)) × (r.offset < b.first + length b.bytes)
 
 abbrev pub IsRowOf : Spaces → Store → Row → Type 0
-IsRowOf c cells row = IsRow c cells (arc_value row.batch).bodies row.codes row.fault
+IsRowOf c cells row = IsRow c cells (arc_value row.batch).bodies row.codes row.fault row.cut
 
 -- a row that is at hand is right
 abbrev pub IsRowIf : Spaces → Store → Option Row → Type 0
