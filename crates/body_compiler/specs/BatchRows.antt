@@ -32,9 +32,13 @@ CompilesBody c b made = Compiles (first_minimum c.tables) b.first (context_in c)
 abbrev pub IsRoomFor : Store → Reserved → Code → Type 0
 IsRoomFor cells taken code = (taken.room ≡ cells.room.table) × (taken.words ≡ length code.words)
 
+-- no room is left for any code
+abbrev pub IsExhausted : Store → Short → Type 0
+IsExhausted cells short = (short.room ≡ cells.room.table) × (short.left ≡ 0)
+
 -- This is kept of the code of the function with this index: a note of the function's cell, which knows the code; or the code, with such
 -- a note, which knows another one; and the room that was taken for it. Or how many words it has, where the function has no cell, or
--- fewer were left. Or that it has more words than a text
+-- fewer were left, which were taken. Or that it has more words than a text
 abbrev pub Stores : Store → ℕ → Stored → Code → Type 0
 Stores cells index (Cell note taken) code =
     (index < length cells.names) × (note.cell ≡ slice_index cells.names index) × (note.known ≡ Some code) × IsRoomFor cells taken code
@@ -43,7 +47,7 @@ Stores cells index (Apart note taken kept) code =
     × (arc_value kept ≡ code) × IsRoomFor cells taken code
 Stores cells index (Judged words) code = (length cells.names ≤ index) × (words ≡ length code.words)
 Stores cells index (NoRoom words short) code =
-    (index < length cells.names) × (words ≡ length code.words) × (short.room ≡ cells.room.table) × (short.left < length code.words)
+    (index < length cells.names) × (words ≡ length code.words) × IsExhausted cells short × (short.taken < length code.words)
 Stores cells index TooLong code = max_text < 4 * length code.words
 
 -- it is of the body's code
@@ -60,10 +64,6 @@ AreCodesFor c cells [] (k ∷ ks) = ⊥
 AreCodesFor c cells (b ∷ bs) [] = ⊥
 AreCodesFor c cells (b ∷ bs) (k ∷ ks) = IsCodeFor c cells b k × AreCodesFor c cells bs ks
 
--- no room was left for any code
-abbrev pub IsExhausted : Store → Short → Type 0
-IsExhausted cells short = (short.room ≡ cells.room.table) × (short.left ≡ 0)
-
 abbrev pub IsMade : Spaces → Store → Body → Made → Type 0
 IsMade c cells b (Coded k) = IsCodeFor c cells b k
 IsMade c cells b (Faulty r) = CompilesBody c b (Err (Refused r)) × (r.offset < b.first + length b.bytes)
@@ -75,7 +75,8 @@ abbrev pub IsRow : Spaces → Store → List Body → List RowCode → Option Re
 IsRow c cells bodies codes None None = AreCodesFor c cells bodies codes
 IsRow c cells bodies codes None (Some short) =
     (before : List Body) × (after : List Body) × (bodies ≡ before ++ after) × AreCodesFor c cells before codes × IsExhausted cells short
-IsRow c cells bodies codes (Some r) cut =
+IsRow c cells bodies codes (Some r) (Some short) = ⊥
+IsRow c cells bodies codes (Some r) None =
     (before : List Body) × (b : Body) × (after : List Body) × (bodies ≡ before ++ b ∷ after) × AreCodesFor c cells before codes
     × CompilesBody c b (Err (Refused r)) × (r.offset < b.first + length b.bytes)
 

@@ -45,7 +45,8 @@ module _ (c : Spaces) (cells : Store) where
   pub row_front : (bodies : List Body) (codes : List RowCode) (fault : Option Refusal) (cut : Option Short) → IsRow c cells bodies codes fault cut → AreFront c cells bodies codes
   row_front bodies codes None None is = all_front bodies codes is
   row_front bodies codes None (Some short) is = subst (λ (l : List Body). AreFront c cells l codes) (sym is.2) (codes_front is.0 is.1 codes is.3)
-  row_front bodies codes (Some r) cut is = subst (λ (l : List Body). AreFront c cells l codes) (sym is.3) (codes_front is.0 (is.1 ∷ is.2) codes is.4)
+  row_front bodies codes (Some r) (Some short) is = absurd is
+  row_front bodies codes (Some r) None is = subst (λ (l : List Body). AreFront c cells l codes) (sym is.3) (codes_front is.0 (is.1 ∷ is.2) codes is.4)
 
   -- and those of a list that is the same
   pub same_front : (bodies others : List Body) (codes : List RowCode) (fault : Option Refusal) (cut : Option Short) → others ≡ bodies → IsRow c cells others codes fault cut → AreFront c cells bodies codes

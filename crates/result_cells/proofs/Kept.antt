@@ -110,8 +110,9 @@ module _ (m n : M) (old left found : ℕ) (is : m ≡ (seen_view old, [])) (try 
       let none : m.0.taken ≡ 0 = ap (λ (x : M). x.0.taken) is in omega arith
 
 -- a seat that has seen fewer words left than are wanted found no more when it took them
-pub short_of : (m n : M) (found left words : ℕ) → m ≡ (seen_view left, []) → (n ≡ (empties m.0 found, m.1)) × (found ≤ m.0.seen) → left < words → n.0.seen < words
+pub short_of : (m n : M) (found left words : ℕ) → m ≡ (seen_view left, []) → (n ≡ (empties m.0 found, m.1)) × (found ≤ m.0.seen) → left < words → (n.0.seen ≡ 0) × (n.0.taken < words)
 short_of m n found left words is emptied few =
     let seen : m.0.seen ≡ left = ap (λ (x : M). x.0.seen) is in
-    let now : n.0.seen ≡ found = ap (λ (x : M). x.0.seen) emptied.0 in
-    let low = emptied.1 in omega arith
+    let none : m.0.taken ≡ 0 = ap (λ (x : M). x.0.taken) is in
+    let taken : n.0.taken ≡ m.0.taken + found = ap (λ (x : M). x.0.taken) emptied.0 in
+    let low = emptied.1 in (ap (λ (x : M). x.0.seen) emptied.0, omega arith)

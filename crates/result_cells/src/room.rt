@@ -41,7 +41,7 @@ impl Model for Reservation {
     ghost view = { λ r. record { room = r.place.table_id; words = r.place.me.0.taken } };
 }
 
-/// A want of room, with how many instruction words were left. It takes no bytes.
+/// A want of room, with how many instruction words are left, and how many were taken since they were too few. It takes no bytes.
 #[derive(Drop)]
 pub struct Shortage {
     place: Seat<(), View>,
@@ -52,7 +52,7 @@ impl Model for Shortage {
 
     ghost Value = { Short };
 
-    ghost view = { λ s. record { room = s.place.table_id; left = s.place.me.0.seen } };
+    ghost view = { λ s. record { room = s.place.table_id; left = s.place.me.0.seen; taken = s.place.me.0.taken } };
 }
 
 impl Room {
@@ -64,10 +64,10 @@ impl Room {
         Ok(Room { table })
     }
 
-    /// Takes room for so many instruction words where as many are left. Err where fewer were: then nothing is left.
+    /// Takes room for so many instruction words where as many are left. Err where fewer were: they are taken, and nothing is left.
     pub(crate) fn take(&self, words: u64) -> Result<Reservation, Shortage>
         ensures taken { IfOk result (λ r. (r.room ≡ self.now.table) × (r.words ≡ words)) }
-        ensures short { IfErr result (λ s. (s.room ≡ self.now.table) × (s.left < words)) }
+        ensures short { IfErr result (λ s. (s.room ≡ self.now.table) × (s.left ≡ 0) × (s.taken < words)) }
     {
         let shared = &self.table.shared;
         let (mut left, mut place) = shared.load_new_seat::<Looks>(0);

@@ -29,7 +29,9 @@ pub swap-requires : goal.swap-requires
 swap-requires c = (search rules, search rules, empties_kept _ _ _ _)
 
 pub returns-clause-short : goal.returns-clause-short
-returns-clause-short c = (
-  search rules,
-  short_of c.loop-left.place.me c.swap.new.seat.me c.swap.result c.loop-left.left c.args.words c.loop-left.invariant.1 c.swap.ensures.2 (omega arith),
-)
+returns-clause-short c =
+    let short = short_of c.loop-left.place.me c.swap.new.seat.me c.swap.result c.loop-left.left c.args.words c.loop-left.invariant.1 c.swap.ensures.2 (omega arith) in (
+      search rules,
+      short.0,
+      short.1,
+    )
