@@ -7,7 +7,7 @@ use Rattle.wasm_defs.specs.declared.fault.Refusal.{Refusal}
 use Rattle.wasm_defs.specs.Bodies.{body_read}
 use Rattle.wasm_defs.specs.Instances.{first_minimum}
 use Rattle.index_spaces.specs.Spaces.{Spaces, context_in}
-use Rattle.result_cells.specs.Rooms.{Store}
+use Rattle.result_cells.specs.Rooms.{Store, Short}
 use Rattle.wasm_laws.proofs.Verdicts.{code_fault_inside}
 use Rattle.body_cutter.specs.declared.body.Body.{Body}
 use Rattle.body_compiler.specs.declared.code.BodyStop.TheVariants.{Refused}
@@ -17,7 +17,7 @@ use Rattle.body_compiler.specs.LowBatches.{IsLowBody}
 use Rattle.body_compiler.specs.declared.code.BodyStop.{BodyStop}
 use Rattle.body_compiler.specs.Compiling.{Compiles}
 use Rattle.body_compiler.specs.declared.batch.bodies.Made.TheVariants.{Faulty}
-use Rattle.body_compiler.specs.BatchRows.{CompilesBody, IsCodeFor, AreCodesFor, IsRow, IsMade, FitsBody}
+use Rattle.body_compiler.specs.BatchRows.{CompilesBody, IsCodeFor, AreCodesFor, IsExhausted, IsRow, IsMade, FitsBody}
 
 pub fault_inside : (c : Spaces) (b : Body) (r : Refusal) → IsLowBody b → CompilesBody c b (Err (Refused r)) → r.offset < b.first + length b.bytes
 fault_inside c b r low fault = let some = low.some in
@@ -46,9 +46,13 @@ module _ (c : Spaces) (cells : Store) where
     subst (AreCodesFor c cells (i.0 ++ b ∷ [])) (sym more) (codes_push i.0 codes b k i.2 is),
   )
 
-  pub coding_faulty : (bodies rest rest' : List Body) (codes : List RowCode) (b : Body) (r : Refusal) → IsCoding bodies rest codes → rest ≡ b ∷ rest' → IsMade c cells b (Faulty r) → IsRow c cells bodies codes (Some r)
+  pub coding_faulty : (bodies rest rest' : List Body) (codes : List RowCode) (b : Body) (r : Refusal) → IsCoding bodies rest codes → rest ≡ b ∷ rest' → IsMade c cells b (Faulty r) → IsRow c cells bodies codes (Some r) None
   unfolding IsCoding
   coding_faulty bodies rest rest' codes b r i step is = (i.0, b, rest', i.1 ∙ ap (λ (l : List Body). i.0 ++ l) step, i.2, is.0, is.1)
+
+  pub coding_cut : (bodies rest : List Body) (codes : List RowCode) (short : Short) → IsCoding bodies rest codes → IsExhausted cells short → IsRow c cells bodies codes None (Some short)
+  unfolding IsCoding
+  coding_cut bodies rest codes short i full = (i.0, rest, i.1, i.2, full)
 
   pub coding_ends : (bodies rest : List Body) (codes : List RowCode) → IsCoding bodies rest codes → rest ≡ [] → AreCodesFor c cells bodies codes
   unfolding IsCoding

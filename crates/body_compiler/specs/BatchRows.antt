@@ -11,13 +11,13 @@ use Rattle.rv_isa.specs.declared.compiled.Code.{Code}
 use Rattle.body_cutter.specs.declared.body.Body.{Body}
 use Rattle.body_compiler.specs.declared.code.BodyStop.{BodyStop}
 use Rattle.body_compiler.specs.declared.code.BodyStop.TheVariants.{Refused}
-use Rattle.result_cells.specs.Rooms.{Store, Reserved}
+use Rattle.result_cells.specs.Rooms.{Store, Reserved, Short}
 use Rattle.body_compiler.specs.declared.batch.row.Row.{Row}
 use Rattle.body_compiler.specs.declared.batch.row.RowCode.{RowCode}
 use Rattle.body_compiler.specs.declared.batch.row.Stored.{Stored}
 use Rattle.body_compiler.specs.declared.batch.row.Stored.TheVariants.{Cell, Apart, Judged, NoRoom, TooLong}
 use Rattle.body_compiler.specs.declared.batch.bodies.Made.{Made}
-use Rattle.body_compiler.specs.declared.batch.bodies.Made.TheVariants.{Coded, Faulty}
+use Rattle.body_compiler.specs.declared.batch.bodies.Made.TheVariants.{Coded, Faulty, Cut}
 use Rattle.body_compiler.specs.Compiling.{Compiles}
 
 -- the function of a body is in the context
@@ -32,9 +32,13 @@ CompilesBody c b made = Compiles (first_minimum c.tables) b.first (context_in c)
 abbrev pub IsRoomFor : Store → Reserved → Code → Type 0
 IsRoomFor cells taken code = (taken.room ≡ cells.room.table) × (taken.words ≡ length code.words)
 
+-- no room is left for any code
+abbrev pub IsExhausted : Store → Short → Type 0
+IsExhausted cells short = (short.room ≡ cells.room.table) × (short.left ≡ 0)
+
 -- This is kept of the code of the function with this index: a note of the function's cell, which knows the code; or the code, with such
 -- a note, which knows another one; and the room that was taken for it. Or how many words it has, where the function has no cell, or
--- fewer were left. Or that it has more words than a text
+-- fewer were left, which were taken. Or that it has more words than a text
 abbrev pub Stores : Store → ℕ → Stored → Code → Type 0
 Stores cells index (Cell note taken) code =
     (index < length cells.names) × (note.cell ≡ slice_index cells.names index) × (note.known ≡ Some code) × IsRoomFor cells taken code
@@ -43,7 +47,7 @@ Stores cells index (Apart note taken kept) code =
     × (arc_value kept ≡ code) × IsRoomFor cells taken code
 Stores cells index (Judged words) code = (length cells.names ≤ index) × (words ≡ length code.words)
 Stores cells index (NoRoom words short) code =
-    (index < length cells.names) × (words ≡ length code.words) × (short.room ≡ cells.room.table) × (short.left < length code.words)
+    (index < length cells.names) × (words ≡ length code.words) × IsExhausted cells short × (short.taken < length code.words)
 Stores cells index TooLong code = max_text < 4 * length code.words
 
 -- it is of the body's code
@@ -63,16 +67,21 @@ AreCodesFor c cells (b ∷ bs) (k ∷ ks) = IsCodeFor c cells b k × AreCodesFor
 abbrev pub IsMade : Spaces → Store → Body → Made → Type 0
 IsMade c cells b (Coded k) = IsCodeFor c cells b k
 IsMade c cells b (Faulty r) = CompilesBody c b (Err (Refused r)) × (r.offset < b.first + length b.bytes)
+IsMade c cells b (Cut short) = IsExhausted cells short
 
--- all bodies have their codes; or those before the first with an error have theirs, and this is that error
-abbrev pub IsRow : Spaces → Store → List Body → List RowCode → Option Refusal → Type 0
-IsRow c cells bodies codes None = AreCodesFor c cells bodies codes
-IsRow c cells bodies codes (Some r) =
+-- All bodies have their codes. Or the first of them have theirs, and then no room was left for any code. Or those before the first with an
+-- error have theirs, and this is that error
+abbrev pub IsRow : Spaces → Store → List Body → List RowCode → Option Refusal → Option Short → Type 0
+IsRow c cells bodies codes None None = AreCodesFor c cells bodies codes
+IsRow c cells bodies codes None (Some short) =
+    (before : List Body) × (after : List Body) × (bodies ≡ before ++ after) × AreCodesFor c cells before codes × IsExhausted cells short
+IsRow c cells bodies codes (Some r) (Some short) = ⊥
+IsRow c cells bodies codes (Some r) None =
     (before : List Body) × (b : Body) × (after : List Body) × (bodies ≡ before ++ b ∷ after) × AreCodesFor c cells before codes
     × CompilesBody c b (Err (Refused r)) × (r.offset < b.first + length b.bytes)
 
 abbrev pub IsRowOf : Spaces → Store → Row → Type 0
-IsRowOf c cells row = IsRow c cells (arc_value row.batch).bodies row.codes row.fault
+IsRowOf c cells row = IsRow c cells (arc_value row.batch).bodies row.codes row.fault row.cut
 
 -- a row that is at hand is right
 abbrev pub IsRowIf : Spaces → Store → Option Row → Type 0

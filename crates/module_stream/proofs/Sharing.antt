@@ -14,7 +14,7 @@ use Rattle.wasm_defs.specs.Limits.{max_text}
 use Rattle.wasm_defs.specs.Instances.{first_minimum}
 use Rattle.rv_isa.specs.declared.compiled.Code.{Code}
 use Rattle.index_spaces.specs.Spaces.{Spaces, context_in}
-use Rattle.result_cells.specs.Rooms.{Store}
+use Rattle.result_cells.specs.Rooms.{Store, Short}
 use Rattle.body_cutter.specs.declared.batch.Batch.{Batch}
 use Rattle.body_cutter.specs.declared.body.Body.{Body}
 use Rattle.body_cutter.specs.Cuttings.{Cutting, Takes}
@@ -42,13 +42,15 @@ module _ (c : Spaces) (cells : Store) where
   all_front (b ∷ bodies) [] are = absurd are
   all_front (b ∷ bodies) (k ∷ codes) are = (are.0, all_front bodies codes are.1)
 
-  pub row_front : (bodies : List Body) (codes : List RowCode) (fault : Option Refusal) → IsRow c cells bodies codes fault → AreFront c cells bodies codes
-  row_front bodies codes None is = all_front bodies codes is
-  row_front bodies codes (Some r) is = subst (λ (l : List Body). AreFront c cells l codes) (sym is.3) (codes_front is.0 (is.1 ∷ is.2) codes is.4)
+  pub row_front : (bodies : List Body) (codes : List RowCode) (fault : Option Refusal) (cut : Option Short) → IsRow c cells bodies codes fault cut → AreFront c cells bodies codes
+  row_front bodies codes None None is = all_front bodies codes is
+  row_front bodies codes None (Some short) is = subst (λ (l : List Body). AreFront c cells l codes) (sym is.2) (codes_front is.0 is.1 codes is.3)
+  row_front bodies codes (Some r) (Some short) is = absurd is
+  row_front bodies codes (Some r) None is = subst (λ (l : List Body). AreFront c cells l codes) (sym is.3) (codes_front is.0 (is.1 ∷ is.2) codes is.4)
 
   -- and those of a list that is the same
-  pub same_front : (bodies others : List Body) (codes : List RowCode) (fault : Option Refusal) → others ≡ bodies → IsRow c cells others codes fault → AreFront c cells bodies codes
-  same_front bodies others codes fault e is = subst (λ (l : List Body). AreFront c cells l codes) e (row_front others codes fault is)
+  pub same_front : (bodies others : List Body) (codes : List RowCode) (fault : Option Refusal) (cut : Option Short) → others ≡ bodies → IsRow c cells others codes fault cut → AreFront c cells bodies codes
+  same_front bodies others codes fault cut e is = subst (λ (l : List Body). AreFront c cells l codes) e (row_front others codes fault cut is)
 
 -- the code of the body that comes next
 module _ (c : Spaces) (cells : Store) (bodies rest : List Body) (b : Body) (step : bodies ≡ b ∷ rest) where
@@ -115,9 +117,9 @@ kept_all kept closed all none e = sym (append-nil kept) ∙ ap (λ (l : List Bod
 -- ---- what a row has
 
 module _ (c : Spaces) (cells : Store) where
-  pub reversed_front : (bodies others : List Body) (codes made : List RowCode) (fault : Option Refusal) → others ≡ bodies → made ≡ reverse codes → IsRow c cells others codes fault → AreFront c cells bodies (reverse made)
-  reversed_front bodies others codes made fault e turned is =
-      subst (λ (l : List RowCode). AreFront c cells bodies l) (sym (ap reverse turned ∙ reverse-reverse codes)) (same_front c cells bodies others codes fault e is)
+  pub reversed_front : (bodies others : List Body) (codes made : List RowCode) (fault : Option Refusal) (cut : Option Short) → others ≡ bodies → made ≡ reverse codes → IsRow c cells others codes fault cut → AreFront c cells bodies (reverse made)
+  reversed_front bodies others codes made fault cut e turned is =
+      subst (λ (l : List RowCode). AreFront c cells bodies l) (sym (ap reverse turned ∙ reverse-reverse codes)) (same_front c cells bodies others codes fault cut e is)
 
 pub not_kept : {X : Type 0} (o : Option X) → is_some o ≡ false → o ≡ None
 not_kept None e = refl

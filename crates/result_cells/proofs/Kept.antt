@@ -10,8 +10,8 @@ use Rattle.std.proofs.lemmas.List.Sums.{sum_by-cons, sum_by_push}
 use Rattle.atomic_table.specs.Table.{State, Me, step, keeps, stepped, opening, Allows, Enters}
 use Rattle.atomic_table.proofs.Lists.{at_set, at_snoc}
 use Rattle.result_cells.specs.declared.view.View.{View}
-use Rattle.result_cells.specs.Views.{seen_view, takes, misses}
-use Rattle.result_cells.specs.Plays.{IsTry, looked, tried}
+use Rattle.result_cells.specs.Views.{seen_view, takes, empties, misses}
+use Rattle.result_cells.specs.Plays.{IsTry, looked, tried, emptied}
 use Rattle.result_cells.specs.Rule.{left_of, IsRuled}
 
 abbrev St : Type 0
@@ -85,6 +85,15 @@ module _ (most : ℕ) where
         (refl, record { hit = λ e. absurd (miss e); miss = λ _. refl; fresh = seen }),
       ))
 
+  pub empties_kept : (slots id : ℕ) (m : M) → Allows Rule slots id m 0 (λ _. 0) (emptied (step slots 0 0 0 none) m)
+  empties_kept slots id m s r _ at _ = let v : View = m.0 in let n : ℕ = left_of s.words in let seen = r.seen id v at in let w : View = empties v n in (
+    w,
+    keeps,
+    tt,
+    word_step s r id v w 0 at (omega arith) (omega arith) (omega arith),
+    (refl, seen),
+  )
+
 -- a seat that took nothing so far tried to take
 module _ (m n : M) (old left found : ℕ) (is : m ≡ (seen_view old, [])) (try : (n.1 ≡ m.1) × IsTry m.0 old left found n.0) where
   pub missed : found ≢ old → n ≡ (seen_view found, [])
@@ -99,3 +108,11 @@ module _ (m n : M) (old left found : ℕ) (is : m ≡ (seen_view old, [])) (try 
   granted words few e hit =
       let taken : n.0.taken ≡ m.0.taken + (old - left) = ap (λ (v : View). v.taken) (try.1.hit hit) in
       let none : m.0.taken ≡ 0 = ap (λ (x : M). x.0.taken) is in omega arith
+
+-- a seat that has seen fewer words left than are wanted found no more when it took them
+pub short_of : (m n : M) (found left words : ℕ) → m ≡ (seen_view left, []) → (n ≡ (empties m.0 found, m.1)) × (found ≤ m.0.seen) → left < words → (n.0.seen ≡ 0) × (n.0.taken < words)
+short_of m n found left words is emptied few =
+    let seen : m.0.seen ≡ left = ap (λ (x : M). x.0.seen) is in
+    let none : m.0.taken ≡ 0 = ap (λ (x : M). x.0.taken) is in
+    let taken : n.0.taken ≡ m.0.taken + found = ap (λ (x : M). x.0.taken) emptied.0 in
+    let low = emptied.1 in (ap (λ (x : M). x.0.seen) emptied.0, omega arith)

@@ -2,7 +2,7 @@
 use Rattle.std.specs.Prelude.{◌≡◌, ◌≢◌, ℕ, ◌-◌, ◌≤◌}
 use Rattle.atomic_table.specs.Table.{Me, Step}
 use Rattle.result_cells.specs.declared.view.View.{View}
-use Rattle.result_cells.specs.Views.{seen_view, takes, misses}
+use Rattle.result_cells.specs.Views.{seen_view, takes, empties, misses}
 
 abbrev Sat : Type 0
 Sat = Me (Unit {0}) View
@@ -21,3 +21,7 @@ looked st m found n = n ≡ (seen_view found, m.1)
 
 abbrev pub tried : At → Sat → ℕ → Sat → Type 0
 tried st m found n = (n.1 ≡ m.1) × IsTry m.0 st.first st.second found n.0
+
+-- what is found is taken, and it is at most what the seat has seen
+abbrev pub emptied : At → Sat → ℕ → Sat → Type 0
+emptied st m found n = (n ≡ (empties m.0 found, m.1)) × (found ≤ m.0.seen)

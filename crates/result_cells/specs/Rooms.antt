@@ -12,10 +12,11 @@ pub record Reserved : Type 0 where
   pub room : TableId
   pub words : ℕ
 
--- so many instruction words were left in that room
+-- so many instruction words are left in that room, of which so many were taken before
 pub record Short : Type 0 where
   pub room : TableId
   pub left : ℕ
+  pub taken : ℕ
 
 -- cells, by their names, and the room for their codes
 pub record Store : Type 0 where

@@ -10,6 +10,10 @@ seen_view left = record { seen = left; taken = 0 }
 abbrev pub takes : View → ℕ → ℕ → View
 takes v words left = record { seen = left; taken = v.taken + words }
 
+-- all words that were left are taken, so none is left
+abbrev pub empties : View → ℕ → View
+empties v found = record { seen = 0; taken = v.taken + found }
+
 -- another number was found than the one that was seen last
 abbrev pub misses : View → ℕ → View
 misses v found = record { seen = found; taken = v.taken }

@@ -2,9 +2,9 @@
 //!
 //! It is one word: how many instruction words are left. The rule (`specs/Rule.antt`) holds between any two steps: what is left and what
 //! was taken make up what the room was made for.
-ghost use Rattle.std.specs.Prelude.{◌≡◌, ◌<◌, IfOk, IfErr};
+ghost use Rattle.std.specs.Prelude.{◌≡◌, ◌<◌, IfOk, IfErr, IfSome};
 
-use crate::rule::{Looks, RoomRule, Takes};
+use crate::rule::{Empties, Looks, RoomRule, Takes};
 use crate::view::View;
 use atomic_table::{Seat, Table};
 use std::alloc::{AllocError, Global};
@@ -41,7 +41,7 @@ impl Model for Reservation {
     ghost view = { λ r. record { room = r.place.table_id; words = r.place.me.0.taken } };
 }
 
-/// Room that wasn't taken, with how many instruction words were left. It takes no bytes.
+/// A want of room, with how many instruction words are left, and how many were taken since they were too few. It takes no bytes.
 #[derive(Drop)]
 pub struct Shortage {
     place: Seat<(), View>,
@@ -52,7 +52,7 @@ impl Model for Shortage {
 
     ghost Value = { Short };
 
-    ghost view = { λ s. record { room = s.place.table_id; left = s.place.me.0.seen } };
+    ghost view = { λ s. record { room = s.place.table_id; left = s.place.me.0.seen; taken = s.place.me.0.taken } };
 }
 
 impl Room {
@@ -64,10 +64,10 @@ impl Room {
         Ok(Room { table })
     }
 
-    /// Takes room for so many instruction words where as many are left. Err where fewer were.
+    /// Takes room for so many instruction words where as many are left. Err where fewer were: they are taken, and nothing is left.
     pub(crate) fn take(&self, words: u64) -> Result<Reservation, Shortage>
         ensures taken { IfOk result (λ r. (r.room ≡ self.now.table) × (r.words ≡ words)) }
-        ensures short { IfErr result (λ s. (s.room ≡ self.now.table) × (s.left < words)) }
+        ensures short { IfErr result (λ s. (s.room ≡ self.now.table) × (s.left ≡ 0) × (s.taken < words)) }
     {
         let shared = &self.table.shared;
         let (mut left, mut place) = shared.load_new_seat::<Looks>(0);
@@ -78,6 +78,19 @@ impl Room {
             }
             left = found;
         }
+        let _ = shared.swap::<Empties>(&mut place, 0, 0);
         Err(Shortage { place })
+    }
+
+    /// A shortage, where nothing is left.
+    pub(crate) fn exhausted(&self) -> Option<Shortage>
+        ensures { IfSome result (λ s. (s.room ≡ self.now.table) × (s.left ≡ 0)) }
+    {
+        let (left, place) = self.table.shared.load_new_seat::<Looks>(0);
+        if left == 0 {
+            Some(Shortage { place })
+        } else {
+            None
+        }
     }
 }

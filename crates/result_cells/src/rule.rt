@@ -13,7 +13,7 @@ impl TableRule<(), View, u64> for RoomRule {
     ghost first = { seen_view };
 }
 
-ghost use Rattle.result_cells.specs.Plays.{looked, tried};
+ghost use Rattle.result_cells.specs.Plays.{looked, tried, emptied};
 
 pub(crate) struct Looks;
 
@@ -25,4 +25,10 @@ pub(crate) struct Takes;
 
 impl Play<(), View> for Takes {
     ghost then = { tried };
+}
+
+pub(crate) struct Empties;
+
+impl Play<(), View> for Empties {
+    ghost then = { emptied };
 }

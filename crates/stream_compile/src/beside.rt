@@ -178,7 +178,7 @@ fn read_with_workers<R: Threads + Wait + Sync, S: Source, G: Gate>(
     } else {
         0
     };
-    // Codes that are linked have no more instruction words together than a text may have.
+    // The codes of a module have no more instruction words together than a text may have.
     let cells = Cells::new(alloc, stored, u64::from(MAX_TEXT) / 4)?;
     let (board, seat) = Board::new(alloc, functions, u64::from(workers) + 1)?;
     let (feeder, hands) = Pool::new(alloc, workers)?;

@@ -81,8 +81,12 @@ fn room_is_taken_while_as_much_is_left(rt: HostRuntime) -> Result<(), Fail> {
     let alloc: Global = rt.alloc();
     let cells = Cells::new(alloc, 2, 3)?;
     assert!(rt; cells.take_room(2).is_ok());
-    assert!(rt; cells.take_room(2).is_err());
+    assert!(rt; cells.exhausted().is_none());
     assert!(rt; cells.take_room(1).is_ok());
-    assert!(rt; cells.take_room(u64::MAX).is_err());
+    assert!(rt; cells.exhausted().is_some());
+    let others = Cells::new(alloc, 2, 3)?;
+    assert!(rt; others.take_room(u64::MAX).is_err());
+    assert!(rt; others.exhausted().is_some());
+    assert!(rt; others.take_room(1).is_err());
     Ok(())
 }

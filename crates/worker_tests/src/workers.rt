@@ -120,6 +120,9 @@ fn push_row(alloc: Global, text: &mut String, row: &Row) -> Result<(), Fail> {
         };
         text.push_str(told.as_str())?;
     }
+    if row.cut.is_some() {
+        text.push_str(", cut")?;
+    }
     text.push_str("; ")?;
     Ok(())
 }
@@ -166,7 +169,7 @@ fn told<R: Threads + Wait + Sync>(
 #[test]
 fn a_worker_serves_until_a_fault_and_while_codes_have_room(rt: HostRuntime) -> Result<(), Fail> {
     let valid: &[u8] = &[0x00, 0x41, 0x07, 0x0B];
-    let rows: [(u64, &[u8], &str); 3] = [
+    let rows: [(u64, &[u8], &str); 4] = [
         (
             1_000,
             &[0x00, 0x6A, 0x0B],
@@ -182,6 +185,11 @@ fn a_worker_serves_until_a_fault_and_while_codes_have_room(rt: HostRuntime) -> R
             40,
             valid,
             "false None (187, 219) batch 0, None, in its cell; batch 1, None, 31 words without room; ",
+        ),
+        (
+            31,
+            valid,
+            "false None (187, 219) batch 0, None, in its cell; batch 1, None, cut; ",
         ),
     ];
     for (room, first, want) in rows {

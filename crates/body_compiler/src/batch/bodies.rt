@@ -10,7 +10,7 @@ use crate::compiling::compile;
 use crate::fitting::fitted;
 use body_cutter::{Batch, Body};
 use index_spaces::Context;
-use result_cells::{Cells, Put, Reservation};
+use result_cells::{Cells, Put, Reservation, Shortage};
 use rv_isa::Code;
 use std::alloc::{AllocError, Global};
 use std::collections::LinkedList;
@@ -22,6 +22,8 @@ use wasm_defs::Refusal;
 pub enum Made {
     Coded(RowCode),
     Faulty(Refusal),
+    /// Nothing: no room was left for any code.
+    Cut(Shortage),
 }
 
 /// Puts a code into the cell of its function, or keeps it apart where that cell holds another one. Room for its words was taken.
@@ -44,13 +46,14 @@ fn keep(
     })
 }
 
-/// Keeps a code where the cells have room for its instruction words. Where they have not, or its function has no cell, the words are
-/// counted.
+/// Takes room for the instruction words of a code, and keeps it where there is room. Where there isn't, or its function has no cell,
+/// the words are counted.
 fn store(alloc: Global, cells: &Cells, index: u32, code: Code) -> Result<Stored, AllocError>
     ensures { IfOk result (λ s. Stores cells.now index s code) }
 {
     let words = code.words.as_slice().len() as u64;
     if index >= cells.count() {
+        let _ = cells.take_room(words);
         return Ok(Stored::Judged(words));
     }
     match cells.take_room(words) {
@@ -59,7 +62,15 @@ fn store(alloc: Global, cells: &Cells, index: u32, code: Code) -> Result<Stored,
     }
 }
 
-/// Compiles a body, and stores its code unless that is too long for any text.
+/// That a code is too long for any text: nothing is left of the room then.
+fn too_long(cells: &Cells) -> Stored
+    ensures { result ≡ Stored.TooLong }
+{
+    let _ = cells.take_room(u64::MAX);
+    Stored::TooLong
+}
+
+/// Compiles a body, and stores its code unless that is too long for any text. Where no room is left for any code, the body is left out.
 fn compile_body(
     alloc: Global,
     cells: &Cells,
@@ -70,6 +81,10 @@ fn compile_body(
     requires low { IsLowBody body.now }
     ensures { IfOk result (IsMade context.now cells.now body.now) }
 {
+    // Why: docs/DECISIONS.md, "Cells have room for as many words as a text"
+    if let Some(short) = cells.exhausted() {
+        return Ok(Made::Cut(short));
+    }
     let stored = match compile(
         alloc,
         context,
@@ -78,7 +93,7 @@ fn compile_body(
         body.first,
     ) {
         Ok(code) => store(alloc, cells, body.index, code)?,
-        Err(BodyStop::TooLong) => Stored::TooLong,
+        Err(BodyStop::TooLong) => too_long(cells),
         Err(BodyStop::Refused(refusal)) => return Ok(Made::Faulty(refusal)),
         Err(BodyStop::NoMemory) => return Err(AllocError),
     };
@@ -88,28 +103,29 @@ fn compile_body(
     }))
 }
 
-/// Compiles bodies, up to the first with an error: their codes, and that error.
+/// Compiles bodies, up to the first with an error, or until no room is left for any code: their codes, and what it stopped at.
 fn compile_bodies(
     alloc: Global,
     cells: &Cells,
     context: &Context,
     bodies: &LinkedList<Body>,
-) -> Result<(Vec<RowCode>, Option<Refusal>), AllocError>
+) -> Result<(Vec<RowCode>, Option<Refusal>, Option<Shortage>), AllocError>
     requires fits { All (FitsBody context.now) bodies.now }
     requires low { All IsLowBody bodies.now }
-    ensures { IfOk result (λ made. IsRow context.now cells.now bodies.now made.0.items made.1) }
+    ensures { IfOk result (λ made. IsRow context.now cells.now bodies.now made.0.items made.1 made.2) }
 {
     let mut codes = Vec::new(alloc);
     for body in bodies.iter() {
         match compile_body(alloc, cells, context, body)? {
             Made::Coded(code) => codes.push(code)?,
-            Made::Faulty(refusal) => return Ok((codes, Some(refusal))),
+            Made::Faulty(refusal) => return Ok((codes, Some(refusal), None)),
+            Made::Cut(short) => return Ok((codes, None, Some(short))),
         }
     }
-    Ok((codes, None))
+    Ok((codes, None, None))
 }
 
-/// Compiles the bodies of a batch, up to the first with an error.
+/// Compiles the bodies of a batch, up to the first with an error, or until no room is left in the cells for any code.
 pub fn compile_batch(
     alloc: Global,
     cells: &Cells,
@@ -121,10 +137,11 @@ pub fn compile_batch(
     ensures row { IfOk result (IsRowOf context.now cells.now) }
     ensures batch { IfOk result (λ row. arc_value row.batch ≡ arc_value batch) }
 {
-    let (codes, fault) = compile_bodies(alloc, cells, context, batch.bodies.as_list())?;
+    let (codes, fault, cut) = compile_bodies(alloc, cells, context, batch.bodies.as_list())?;
     Ok(Row {
         batch,
         codes: RowCodes::new(codes),
         fault,
+        cut,
     })
 }

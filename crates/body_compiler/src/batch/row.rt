@@ -32,12 +32,15 @@ pub struct RowCode {
 /// The codes of a row, in the order of its bodies.
 pub type RowCodes = Sequence<RowCode>;
 
-/// What came of a batch: the codes of its bodies, or of those before the first with an error, and that error.
+/// What came of a batch: the codes of its bodies, or of those before the first with an error, and that error. Where no room is left
+/// in the cells for any code, the bodies that would be compiled next have none.
 #[derive(Drop)]
 pub struct Row {
     pub batch: Arc<Batch, Global>,
     pub codes: RowCodes,
     pub fault: Option<Refusal>,
+    /// That no room was left for any code, where bodies without an error have none.
+    pub cut: Option<Shortage>,
 }
 
 /// Rows, in the order in which they were made.

@@ -9,4 +9,4 @@ pub returns : goal.returns
 returns c =
     let row = c.in-Some.row in
     let is = subst (λ (o : Option Row). IsRowIf c.args.spaces.now c.args.cells.now o) c.in-Some.is c.requires in
-    reversed_front c.args.spaces.now c.args.cells.now c.args.bodies.now (arc_value row.batch).bodies row.codes c.reverse.new.self.items row.fault (search rules) (search rules) is
+    reversed_front c.args.spaces.now c.args.cells.now c.args.bodies.now (arc_value row.batch).bodies row.codes c.reverse.new.self.items row.fault row.cut (search rules) (search rules) is

@@ -1,6 +1,6 @@
 use Rattle.std.proofs.Common.{◌≡◌, ◌-◌, rules, arith, refl, ap, ◌∙◌}
 use Rattle.result_cells.specs.Views.{seen_view}
-use Rattle.result_cells.proofs.Kept.{looks_kept, tries_kept, missed, lowered, granted}
+use Rattle.result_cells.proofs.Kept.{looks_kept, tries_kept, empties_kept, missed, lowered, granted, short_of}
 use Rattle.result_cells.proofs.room.Room.take.Goals as goal
 
 pub load_new_seat-left-requires : goal.load_new_seat-left-requires
@@ -25,5 +25,13 @@ returns-then-found-left-clause-taken c = (
   granted c.loop-left.place.me c.compare_exchange-found.new.seat.me c.loop-left.left (c.loop-left.left - c.args.words) c.compare_exchange-found.result c.loop-left.invariant.1 c.compare_exchange-found.ensures.2 c.args.words (omega arith) refl c.if-found-left.true,
 )
 
+pub swap-requires : goal.swap-requires
+swap-requires c = (search rules, search rules, empties_kept _ _ _ _)
+
 pub returns-clause-short : goal.returns-clause-short
-returns-clause-short c = let seen : c.loop-left.place.me.0.seen ≡ c.loop-left.left = ap (λ m. m.0.seen) c.loop-left.invariant.1 in (search rules, omega arith)
+returns-clause-short c =
+    let short = short_of c.loop-left.place.me c.swap.new.seat.me c.swap.result c.loop-left.left c.args.words c.loop-left.invariant.1 c.swap.ensures.2 (omega arith) in (
+      search rules,
+      short.0,
+      short.1,
+    )
