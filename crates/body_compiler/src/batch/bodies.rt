@@ -1,5 +1,5 @@
 //! Compiles the bodies of a batch.
-ghost use Rattle.std.specs.Prelude.{◌≡◌, ◌+◌, ◌<◌, ◌^◌, All, IfOk, IsSome, length};
+ghost use Rattle.std.specs.Prelude.{◌≡◌, ◌+◌, ◌<◌, ◌≤◌, ◌^◌, All, IfOk, IsSome, length};
 ghost use Rattle.std.specs.Arc.{arc_value};
 ghost use Rattle.body_compiler.specs.LowBatches.{IsLow, IsLowBody};
 ghost use Rattle.body_compiler.specs.BatchRows.{IsMade, IsRow, IsRowOf, IsRoomFor, FitsBody, Stores};
@@ -8,6 +8,7 @@ use crate::batch::row::{Row, RowCode, RowCodes, Stored};
 use crate::code::BodyStop;
 use crate::compiling::compile;
 use crate::fitting::fitted;
+use crate::measuring::measure;
 use body_cutter::{Batch, Body};
 use index_spaces::Context;
 use result_cells::{Cells, Put, Reservation, Shortage};
@@ -46,16 +47,12 @@ fn keep(
     })
 }
 
-/// Takes room for the instruction words of a code, and keeps it where there is room. Where there isn't, or its function has no cell,
-/// the words are counted.
+/// Takes room for the instruction words of a code, and keeps it where there is room. Where there isn't, the words are counted.
 fn store(alloc: Global, cells: &Cells, index: u32, code: Code) -> Result<Stored, AllocError>
+    requires index { index < length cells.now.names }
     ensures { IfOk result (λ s. Stores cells.now index s code) }
 {
     let words = code.words.as_slice().len() as u64;
-    if index >= cells.count() {
-        let _ = cells.take_room(words);
-        return Ok(Stored::Judged(words));
-    }
     match cells.take_room(words) {
         Ok(taken) => keep(alloc, cells, index, code, taken),
         Err(short) => Ok(Stored::NoRoom(words, short)),
@@ -70,7 +67,41 @@ fn too_long(cells: &Cells) -> Stored
     Stored::TooLong
 }
 
-/// Compiles a body, and stores its code unless that is too long for any text. Where no room is left for any code, the body is left out.
+/// Validates a body whose function has no cell, and counts the instruction words of its code. They take room all the same.
+fn count_body(
+    alloc: Global,
+    cells: &Cells,
+    context: &Context,
+    body: &Body,
+) -> Result<Made, AllocError>
+    requires fits { FitsBody context.now body.now }
+    requires low { IsLowBody body.now }
+    requires none { length cells.now.names ≤ body.now.index }
+    ensures { IfOk result (IsMade context.now cells.now body.now) }
+{
+    let stored = match measure(
+        alloc,
+        context,
+        body.index,
+        body.bytes.as_slice(),
+        body.first,
+    ) {
+        Ok(words) => {
+            let _ = cells.take_room(words);
+            Stored::Judged(words)
+        }
+        Err(BodyStop::TooLong) => too_long(cells),
+        Err(BodyStop::Refused(refusal)) => return Ok(Made::Faulty(refusal)),
+        Err(BodyStop::NoMemory) => return Err(AllocError),
+    };
+    Ok(Made::Coded(RowCode {
+        index: body.index,
+        stored,
+    }))
+}
+
+/// Compiles a body, and stores its code unless that is too long for any text; where its function has no cell, the code is only counted.
+/// Where no room is left for any code, the body is left out.
 fn compile_body(
     alloc: Global,
     cells: &Cells,
@@ -84,6 +115,9 @@ fn compile_body(
     // Why: docs/DECISIONS.md, "Cells have room for as many words as a text"
     if let Some(short) = cells.exhausted() {
         return Ok(Made::Cut(short));
+    }
+    if body.index >= cells.count() {
+        return count_body(alloc, cells, context, body);
     }
     let stored = match compile(
         alloc,
