@@ -4,7 +4,7 @@ ghost use Rattle.std.specs.Prelude.{IfOk};
 ghost use Rattle.index_spaces.specs.ItemLimits.{HasSmallType};
 
 use crate::rows::{bytes_of, parts_of, text_of};
-use body_compiler::{BodyStop, compile};
+use body_compiler::{BodyStop, compile, measure};
 use index_spaces::{Context, ContextBuilder};
 use rv_isa::Code;
 use std::alloc::{AllocError, Global};
@@ -96,7 +96,16 @@ fn signature(alloc: Global, has_two: bool) -> Result<Item, AllocError>
     })
 }
 
-/// Compiles a body of the module's one function, whose first byte has the offset.
+/// Whether so many words were counted as a code has, or both are refused alike.
+fn are_alike(counted: Result<u64, BodyStop>, code: &Result<Code, BodyStop>) -> bool {
+    match (counted, code) {
+        (Ok(words), Ok(code)) => words == code.words.as_slice().len() as u64,
+        (Err(stop), Err(other)) => stop == *other,
+        _ => false,
+    }
+}
+
+/// Compiles a body of the module's one function, whose first byte has the offset, and counts its words too.
 fn compiled(alloc: Global, has_two: bool, bytes: &[u8], offset: u32) -> Result<Code, BodyStop> {
     let Ok(signature) = signature(alloc, has_two) else {
         return Err(BodyStop::NoMemory);
@@ -107,7 +116,12 @@ fn compiled(alloc: Global, has_two: bool, bytes: &[u8], offset: u32) -> Result<C
     if bytes.len() > MAX_BODY as usize || !context.has_type_of_function(0) {
         return Err(BodyStop::TooLong);
     }
-    compile(alloc, &context, 0, bytes, u64::from(offset))
+    let offset = u64::from(offset);
+    let code = compile(alloc, &context, 0, bytes, offset);
+    if !are_alike(measure(alloc, &context, 0, bytes, offset), &code) {
+        return Err(BodyStop::TooLong);
+    }
+    code
 }
 
 /// A checksum of words.
