@@ -38,7 +38,7 @@ use Rattle.simulation.proofs.Straight.Instructions.{most_steps, Halts}
 use Rattle.simulation.proofs.Straight.Bulk.{moves_if, bulk_comes, drop_changes}
 use Rattle.simulation.proofs.Straight.Memories.{Changes, global_set_changes, store_comes}
 use Rattle.simulation.proofs.Straight.Operations.{typed_word, typed_range}
-use Rattle.simulation.proofs.Straight.Stores.{ChangesStore}
+use Rattle.simulation.proofs.Straight.Effects.{ChangesStore}
 
 -- so many steps lead to where the frame holds other operands, and the regions another store
 pub record Passes (image : Image) (c : Context) (labels : List Label) (w : EmitContext) (base there : ℕ) (store : Store) (locals operands : List Value) (p : Plain) (mid : Types) (here : ℕ) (r : Running) : Type 0 where

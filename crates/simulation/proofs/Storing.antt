@@ -24,10 +24,9 @@ use Rattle.simulation.proofs.Frames.Values as values
 use Rattle.simulation.specs.Entries.{AreEntries}
 use Rattle.simulation.specs.Laws.{EnvironmentStands}
 use Rattle.simulation.proofs.Changing.{Passes, passes}
-use Rattle.simulation.proofs.Straight.Stores.{ChangesStore}
 use Rattle.simulation.proofs.Entering.{table_kept}
 use Rattle.simulation.proofs.Matching.{StoreStays, Matches, Leads, lifted}
-use Rattle.simulation.proofs.Straight.Effects.{above, enough, effect_above, written_above}
+use Rattle.simulation.proofs.Straight.Effects.{above, enough, effect_above, written_above, ChangesStore}
 use Rattle.simulation.proofs.Straight.Instructions as one
 use Rattle.simulation.proofs.Straight.Lifts.{simple_applied, behind, moves_all, low_now, has_now, told_now, size_now}
 

@@ -3,7 +3,6 @@ pub mod Variables
 pub mod Operations
 pub mod Outcomes
 pub mod Effects
-pub mod Stores
 pub mod Lifts
 pub mod Memories
 pub mod Bulk

@@ -9,8 +9,8 @@ use Rattle.wasm_defs.proofs.NumberLaws.{AreBytes, reading_small, IsSigned, last_
 use Rattle.wasm_defs.specs.Numbers.{Reading, Number, CutOff, Bad, after_byte, number_at, IsSmall}
 use Rattle.wasm_defs.specs.Faults.{tokens_of}
 use Rattle.wasm_defs.specs.Fields.{Cursor, nat_of, window, room_of, from_reading, number, here, u32, vector, repeated, Read, Got, Fault, Wants}
-use Rattle.wasm_defs.specs.Bodies.{with_index, constant, instruction, body_read, type_by, block_type, with_type, branch_table, label, indirect, with_zero, copying, by_number, prefixed, with_mem_arg, mem_arg, zero_byte, initializing, memory, accessed_at}
-use Rattle.wasm_defs.specs.Opcodes.{accesses}
+use Rattle.wasm_defs.specs.Bodies.{with_index, constant, instruction, body_read, type_by, block_type, with_type, branch_table, label, indirect, with_zero, copying, by_number, prefixed, with_mem_arg, mem_arg, zero_byte, initializing, control, variable, memory, accessed_at, operated_at, numeric}
+use Rattle.wasm_defs.specs.Opcodes.{operations, accesses}
 use Rattle.wasm_defs.specs.Trees.{Seq, Nothing, Simple, Block, Loop, If, IfElse, spelled, Tree}
 use Rattle.wasm_defs.specs.declared.token.Plain.{Plain}
 use Rattle.wasm_defs.specs.declared.token.BulkOp.TheVariants.{Fill}
@@ -25,8 +25,9 @@ use Rattle.wasm_laws.proofs.Windows.{cut_got}
 use Rattle.wasm_laws.proofs.Parts.{then_got, got_both, either_got}
 use Rattle.wasm_laws.proofs.Spelt.{bytes_behind}
 use Rattle.wasm_laws.proofs.SpeltFields.{front_bytes}
-use Rattle.wasm_laws.proofs.Instructions.{Spells, by_opcode, Each, each_token}
+use Rattle.wasm_laws.proofs.Instructions.{Each, each_token}
 use Rattle.wasm_defs.specs.declared.operation.Access.{Access}
+use Rattle.wasm_defs.specs.declared.operation.Operation.{Operation}
 use Rattle.wasm_defs.specs.declared.token.BlockType.{BlockType}
 use Rattle.wasm_laws.proofs.FieldLaws.{u32_field}
 use Rattle.wasm_defs.specs.declared.operation.Access.TheVariants as access
@@ -237,37 +238,53 @@ prefixed_in_range counted at d fits =
     either_got _ (eqb n.1 11) _ _ e (λ is. zero_in_range (Bulk Fill) e tt) (λ no.
     either_got _ (nat_lt n.1 18) _ _ e (λ lt. tt) (λ no. tt))))))
 
-all_in_range : (counted : Bool) (d : Cursor) → HasBytes d → Spells counted InRange d
-all_in_range counted d fits = record {
-  unreachables = tt;
-  nops = tt;
-  blocks = type_in_range token.Block d fits (λ t is. is);
-  loops = type_in_range token.Loop d fits (λ t is. is);
-  ifs = type_in_range token.If d fits (λ t is. is);
-  elses = tt;
-  ends = tt;
-  branches = index_in_range Br d fits (λ i lt. lt);
-  branches_if = index_in_range BrIf d fits (λ i lt. lt);
-  tables = table_in_range d fits;
-  returns = tt;
-  calls = index_in_range Call d fits (λ i lt. lt);
-  indirects = indirect_in_range d fits;
-  drops = tt;
-  selects = tt;
-  gets = index_in_range LocalGet d fits (λ i lt. lt);
-  sets = index_in_range LocalSet d fits (λ i lt. lt);
-  tees = index_in_range LocalTee d fits (λ i lt. lt);
-  global_gets = index_in_range GlobalGet d fits (λ i lt. lt);
-  global_sets = index_in_range GlobalSet d fits (λ i lt. lt);
-  memories = λ at b. memory_in_range at b d fits;
-  prefixes = λ at. prefixed_in_range counted at d fits;
-  narrow = narrow_in_range d fits;
-  wide = wide_in_range d fits;
-  computes = λ op. tt;
-}
+-- each group of opcodes in turn
+control_in_range : (at b : ℕ) (d : Cursor) → HasBytes d → IfGot InRange (control at b d)
+unfolding control
+control_in_range at b d fits =
+    either_got _ (eqb b 0x00) _ _ d (λ is. tt) (λ no.
+    either_got _ (eqb b 0x01) _ _ d (λ is. tt) (λ no.
+    either_got _ (eqb b 0x02) _ _ d (λ is. type_in_range token.Block d fits (λ t is. is)) (λ no.
+    either_got _ (eqb b 0x03) _ _ d (λ is. type_in_range token.Loop d fits (λ t is. is)) (λ no.
+    either_got _ (eqb b 0x04) _ _ d (λ is. type_in_range token.If d fits (λ t is. is)) (λ no.
+    either_got _ (eqb b 0x05) _ _ d (λ is. tt) (λ no.
+    either_got _ (eqb b 0x0B) _ _ d (λ is. tt) (λ no.
+    either_got _ (eqb b 0x0C) _ _ d (λ is. index_in_range Br d fits (λ i lt. lt)) (λ no.
+    either_got _ (eqb b 0x0D) _ _ d (λ is. index_in_range BrIf d fits (λ i lt. lt)) (λ no.
+    either_got _ (eqb b 0x0E) _ _ d (λ is. table_in_range d fits) (λ no.
+    either_got _ (eqb b 0x0F) _ _ d (λ is. tt) (λ no.
+    either_got _ (eqb b 0x10) _ _ d (λ is. index_in_range Call d fits (λ i lt. lt)) (λ no.
+    either_got _ (eqb b 0x11) _ _ d (λ is. indirect_in_range d fits) (λ no.
+    either_got _ (eqb b 0x1A) _ _ d (λ is. tt) (λ no.
+    either_got _ (eqb b 0x1B) _ _ d (λ is. tt) (λ no. tt)))))))))))))))
+
+variable_in_range : (at b : ℕ) (d : Cursor) → HasBytes d → IfGot InRange (variable at b d)
+unfolding variable
+variable_in_range at b d fits =
+    either_got _ (eqb b 0x20) _ _ d (λ is. index_in_range LocalGet d fits (λ i lt. lt)) (λ no.
+    either_got _ (eqb b 0x21) _ _ d (λ is. index_in_range LocalSet d fits (λ i lt. lt)) (λ no.
+    either_got _ (eqb b 0x22) _ _ d (λ is. index_in_range LocalTee d fits (λ i lt. lt)) (λ no.
+    either_got _ (eqb b 0x23) _ _ d (λ is. index_in_range GlobalGet d fits (λ i lt. lt)) (λ no.
+    either_got _ (eqb b 0x24) _ _ d (λ is. index_in_range GlobalSet d fits (λ i lt. lt)) (λ no. tt)))))
+
+operated_in_range : (counted : Bool) (at b : ℕ) (row : Option (Option Operation)) (d : Cursor) → HasBytes d → IfGot InRange (operated_at counted at b row d)
+operated_in_range counted at b None d fits = either_got _ (eqb b 0xFC) _ _ d (λ is. prefixed_in_range counted at d fits) (λ no. tt)
+operated_in_range counted at b (Some None) d fits = tt
+operated_in_range counted at b (Some (Some op)) d fits = tt
+
+numeric_in_range : (counted : Bool) (at b : ℕ) (d : Cursor) → HasBytes d → IfGot InRange (numeric counted at b d)
+unfolding numeric
+numeric_in_range counted at b d fits =
+    either_got _ (eqb b 0x41) _ _ d (λ is. narrow_in_range d fits) (λ no.
+    either_got _ (eqb b 0x42) _ _ d (λ is. wide_in_range d fits) (λ no.
+    either_got _ (nat_lt b 0x45) _ _ d (λ lt. tt) (λ ge. operated_in_range counted at b (slice_get operations (b - 0x45)) d fits)))
 
 pub instruction_in_range : (counted : Bool) (at b : ℕ) (d : Cursor) → HasBytes d → IfGot InRange (instruction counted at b d)
-instruction_in_range counted at b d fits = by_opcode counted InRange at b d (all_in_range counted d fits)
+unfolding instruction
+instruction_in_range counted at b d fits =
+    either_got _ (nat_lt b 0x20) _ _ d (λ lt. control_in_range at b d fits) (λ ge.
+    either_got _ (nat_lt b 0x28) _ _ d (λ lt. variable_in_range at b d fits) (λ ge.
+    either_got _ (nat_lt b 0x41) _ _ d (λ lt. memory_in_range at b d fits) (λ ge. numeric_in_range counted at b d fits)))
 
 -- ---- bodies
 

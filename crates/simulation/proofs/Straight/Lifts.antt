@@ -25,10 +25,9 @@ use Rattle.simulation.proofs.Frames.Rules.{types_length, types_append, moves_abo
 use Rattle.simulation.proofs.Frames.Values.{Matches}
 use Rattle.simulation.proofs.Frames.Sited.{IsIn}
 use Rattle.simulation.proofs.Frames.Sitting.{has_words, trap_told, sits_rest}
-use Rattle.simulation.proofs.Straight.Effects.{above, enough, effect_above}
+use Rattle.simulation.proofs.Straight.Effects.{above, enough, effect_above, KeepsStore, none_written}
 use Rattle.simulation.proofs.Straight.Instructions as one
 use Rattle.simulation.proofs.Straight.Outcomes.{outcome}
-use Rattle.simulation.proofs.Straight.Stores.{KeepsStore, none_written}
 use Rattle.simulation.specs.StoreStands.{StoreStands}
 use Rattle.simulation.specs.Functions.{TextPlaces, global_types}
 

@@ -20,7 +20,7 @@ use Rattle.simulation.proofs.Frames.Values.{Matches}
 use Rattle.simulation.proofs.Straight.Instructions.{most_steps, Outcome}
 use Rattle.simulation.proofs.Straight.Variables.{nop_follows, discard_follows, const_follows, get_follows, set_follows, tee_follows, select_follows}
 use Rattle.simulation.proofs.Straight.Operations.{operates}
-use Rattle.simulation.proofs.Straight.Stores.{KeepsStore}
+use Rattle.simulation.proofs.Straight.Effects.{KeepsStore}
 use Rattle.simulation.proofs.Straight.Memories.{global_get_follows, size_follows, load_outcome}
 use Rattle.simulation.specs.StoreStands.{StoreStands}
 use Rattle.simulation.specs.Functions.{global_types}
