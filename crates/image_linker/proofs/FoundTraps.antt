@@ -180,7 +180,7 @@ module _ (w : EmitContext) (distance_to : ℕ → ℕ → ℕ) where
       let first = words w (declarations c) labels h here p in
       let next = after_rule (rule_of c p) (Some h) in
       let left = tokens_in (Simple p rest) + behind in
-      let there = n + length (words away c others h 0 p) in
+      let there = n + length (words away (declarations c) others h 0 p) in
       let own = found_places n first (map (λ k. n + k) (trap_places p)) (places_of (traps_of n left p)) (places_moved n left (trap_places p)) (words_found w (declarations c) labels h here n p) in
       both_traps n there first (code w c labels next (here + length first) rest) (traps_of n left p) (traps away c others next there behind rest)
       (ap (λ (k : ℕ). n + k) (words_size w distance_to (declarations c) labels others same h here p)) own (tree_found c labels others same rest next (here + length first) there behind)
