@@ -26,8 +26,27 @@ loop-row-preserved-then-number-len-2 c = (
   search rules,
 )
 
+pub loop-row-preserved-then-number-len-3 : goal.loop-row-preserved-then-number-len-3
+loop-row-preserved-then-number-len-3 c = (
+  all_tail (IsRowOf c.args.context.now c.args.cells.now) c.in-Some.row (into_iter_items c.loop-row.row-iterator) (into_iter_items c.next.new.self) c.in-Some.ensures.steps.0 c.loop-row.invariant.0,
+  All-set (IsRowIf c.args.context.now c.args.cells.now) c.loop-row.places.items _ (Some c.in-Some.row)
+      (all_head (IsRowOf c.args.context.now c.args.cells.now) c.in-Some.row (into_iter_items c.loop-row.row-iterator) (into_iter_items c.next.new.self) c.in-Some.ensures.steps.0 c.loop-row.invariant.0) c.loop-row.invariant.1,
+  search rules,
+  row_placed c.args.rows.items (into_iter_items c.loop-row.row-iterator) (into_iter_items c.next.new.self) c.in-Some.row c.in-Some.ensures.steps.0 c.loop-row.places.items _ c.deref.result.now.number c.loop-row.invariant.3 (search rules) (search rules) refl,
+  search rules,
+)
+
 pub loop-row-preserved : goal.loop-row-preserved
 loop-row-preserved c = (
+  all_tail (IsRowOf c.args.context.now c.args.cells.now) c.in-Some.row (into_iter_items c.loop-row.row-iterator) (into_iter_items c.next.new.self) c.in-Some.ensures.steps.0 c.loop-row.invariant.0,
+  c.loop-row.invariant.1,
+  search rules,
+  search rules,
+  search rules,
+)
+
+pub loop-row-preserved-else-number-len : goal.loop-row-preserved-else-number-len
+loop-row-preserved-else-number-len c = (
   all_tail (IsRowOf c.args.context.now c.args.cells.now) c.in-Some.row (into_iter_items c.loop-row.row-iterator) (into_iter_items c.next.new.self) c.in-Some.ensures.steps.0 c.loop-row.invariant.0,
   c.loop-row.invariant.1,
   search rules,
