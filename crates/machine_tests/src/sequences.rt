@@ -16,8 +16,8 @@ const STACK_SIZE: usize = 4200;
 
 const MEMORY_SIZE: usize = 68;
 
-/// Words from one entry of the machine's cache of decoded words to the next word with the same entry.
-const ENTRIES: usize = 0x1_0000;
+/// Words from one word to the next one with the same set of entries in the machine's cache of decoded words.
+const SETS: usize = 0x1_0000;
 
 /// A machine of a text and regions of zeros.
 fn machine_of(alloc: Global, text: &[u32]) -> Result<Machine, AllocError>
@@ -155,16 +155,19 @@ fn sequences_are_their_steps(rt: HostRuntime) -> Result<(), Fail> {
 }
 
 #[test]
-fn words_that_share_an_entry_are_told_apart(rt: HostRuntime) -> Result<(), Fail> {
+fn words_that_share_a_set_are_told_apart(rt: HostRuntime) -> Result<(), Fail> {
     let mut seed = 0x2545_F491_4F6C_DD1D;
-    let mut words = Vec::with_capacity(rt.alloc(), ENTRIES + LENGTH)?;
-    words.extend_from_slice(&random_text(&mut seed, 1).words)?;
-    words.resize(ENTRIES, 0)?;
-    words.extend_from_slice(&random_text(&mut seed, 1).words)?;
+    let mut words = Vec::new(rt.alloc());
+    // more words with the same set than it has entries
+    for page in 0..6 {
+        words.resize(page * SETS, 0)?;
+        words.extend_from_slice(&random_text(&mut seed, 1).words)?;
+    }
+    words.resize(6 * SETS, 0)?;
     let mut fused = machine_of(rt.alloc(), &words)?;
     let mut single = machine_of(rt.alloc(), &words)?;
-    for turn in 0..400 {
-        let word = below(&mut seed, 256) + turn % 2 * 0x1_0000;
+    for _ in 0..800 {
+        let word = below(&mut seed, 256) + below(&mut seed, 6) * 0x1_0000;
         let alike = end_alike(&mut fused, &mut single, next(&mut seed), word, 200);
         assert!(rt; alike);
     }

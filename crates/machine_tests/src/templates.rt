@@ -57,7 +57,7 @@ const LOADS: [(u32, u64); 7] = [
 const STORES: [(u32, u64); 4] = [(0x23, 1), (0x1023, 2), (0x2023, 4), (0x3023, 8)];
 
 /// How many kinds of templates there are.
-const KINDS: u64 = 36;
+const KINDS: u64 = 38;
 
 /// LBU and SB.
 const LBU: u32 = 0x4003;
@@ -369,6 +369,17 @@ fn value_template(text: &mut Text, seed: &mut u64, kind: u64) {
         16 => text.load_slot(A7, S0, slot(seed)),
         17 => text.store_slot(T1, S0, slot(seed)),
         18 => operands(text, seed),
+        19 => {
+            move_slot(text, seed);
+            let at = slot(seed);
+            binary(text, seed, at, false);
+        }
+        20 => {
+            text.number(T0, number(seed));
+            text.reg(ADD, T0, T0, S0);
+            text.number(T1, number(seed));
+            text.reg(ADD, T1, T1, S0);
+        }
         _ => text.number(T2, number(seed)),
     }
 }
@@ -430,10 +441,10 @@ fn call_template(text: &mut Text, seed: &mut u64, kind: u64) {
 fn template(text: &mut Text, seed: &mut u64) {
     let kind = below(seed, KINDS);
     match kind {
-        0..=19 => value_template(text, seed, kind),
-        20..=25 => branch_template(text, seed, kind - 20),
-        26..=32 => call_template(text, seed, kind - 26),
-        _ => loop_template(text, seed, kind - 33),
+        0..=21 => value_template(text, seed, kind),
+        22..=27 => branch_template(text, seed, kind - 22),
+        28..=34 => call_template(text, seed, kind - 28),
+        _ => loop_template(text, seed, kind - 35),
     }
 }
 
