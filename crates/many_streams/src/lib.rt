@@ -2,6 +2,8 @@
 #![tactic(auto)]
 
 mod alone;
+mod intake;
+mod judging;
 mod laws;
 mod limits;
 mod member;
@@ -11,6 +13,7 @@ mod streams;
 #[cfg(test)]
 mod tests;
 
+pub use intake::Intake;
 pub use laws::frames_are_one;
 pub use limits::{MAX_INPUT, MAX_MODULES};
 pub use member::{Each, EachChecked, Member, Part};

@@ -2,10 +2,11 @@
 
 ghost use Rattle.std.specs.Prelude.{◌≡◌, ◌<◌, ◌^◌, ◌-◌, ℕ, List, true, false, length, nat_lt, IfOk};
 ghost use Rattle.io_edges.specs.Streams.{TookFront};
-ghost use Rattle.many_streams.specs.Many.{AreEach, AnswersMany, ChecksMany, view};
+ghost use Rattle.many_streams.specs.Many.{AreEach, ComesToMany, AnswersMany, ChecksMany, view};
 ghost use Rattle.many_streams.specs.Members.{IsJudged, IsEach, IsEachChecked};
 
 use crate::alone::judge_alone;
+use crate::judging::judge_in_turn;
 use crate::member::{Each, EachChecked, Member};
 use crate::streams::ManyStop;
 use io_edges::{Gate, Source};
@@ -38,6 +39,29 @@ fn verdicts(alloc: Global, members: Vec<Member>) -> Result<Vec<EachChecked>, All
     Ok(each)
 }
 
+/// Compiles the modules whose bytes the source gives in frames, each by itself, and judges them. Their codes are kept or only counted. Where
+/// they wait, their bodies are kept while the input is read, and compiled once it has ended.
+pub fn judge_many<S: Source>(
+    alloc: Global,
+    source: &mut S,
+    batch: u32,
+    keeps: bool,
+    waits: bool,
+) -> Result<Vec<Member>, ManyStop>
+    requires faults { S.faults source.old < 2 ^ 64 - 1 }
+    requires open { S.is_open source.old ≡ true }
+    ensures answer { ComesToMany (IsJudged keeps) (nat_lt (S.faults source.old) (S.faults source.new)) (S.left source.old) (S.left source.new) (view result) }
+    ensures front { TookFront (S.left source.old) (S.faults source.old) (S.left source.new) (S.faults source.new) }
+{
+    match judge_alone(alloc, source, batch, keeps, waits) {
+        Ok(members) => match judge_in_turn(alloc, members) {
+            Ok(judged) => Ok(judged),
+            Err(_) => Err(ManyStop::NoMemory),
+        },
+        Err(stop) => Err(stop),
+    }
+}
+
 /// Compiles the modules whose bytes the source gives in frames, each by itself: its one image, or its error of least offset. The input is
 /// read to its end, to the source's error, or to where it is no frames.
 ///
@@ -54,7 +78,7 @@ pub fn many<R: Threads + Wait + Sync, S: Source, G: Gate>(
     ensures answer { AnswersMany (nat_lt (S.faults source.old) (S.faults source.new)) (S.left source.old) (S.left source.new) (view result) }
     ensures front { TookFront (S.left source.old) (S.faults source.old) (S.left source.new) (S.faults source.new) }
 {
-    match judge_alone(alloc, source, settings.batch, true) {
+    match judge_many(alloc, source, settings.batch, true, false) {
         Ok(members) => match answers(alloc, members) {
             Ok(each) => Ok(each),
             Err(_) => Err(ManyStop::NoMemory),
@@ -80,7 +104,7 @@ pub fn check_many<R: Threads + Wait + Sync, S: Source, G: Gate>(
     ensures answer { ChecksMany (nat_lt (S.faults source.old) (S.faults source.new)) (S.left source.old) (S.left source.new) (view result) }
     ensures front { TookFront (S.left source.old) (S.faults source.old) (S.left source.new) (S.faults source.new) }
 {
-    match judge_alone(alloc, source, settings.batch, false) {
+    match judge_many(alloc, source, settings.batch, false, false) {
         Ok(members) => match verdicts(alloc, members) {
             Ok(each) => Ok(each),
             Err(_) => Err(ManyStop::NoMemory),
