@@ -12,6 +12,7 @@ mod several;
 mod streams;
 #[cfg(test)]
 mod tests;
+mod working;
 
 pub use intake::Intake;
 pub use laws::frames_are_one;

@@ -40,21 +40,22 @@ fn verdicts(alloc: Global, members: Vec<Member>) -> Result<Vec<EachChecked>, All
 }
 
 /// Compiles the modules whose bytes the source gives in frames, each by itself, and judges them. Their codes are kept or only counted. Where
-/// they wait, their bodies are kept while the input is read, and compiled once it has ended.
-pub fn judge_many<S: Source>(
+/// there are workers, bodies are kept while the input is read, and the workers compile them once it has ended.
+fn judge_many<R: Threads + Wait + Sync, S: Source, G: Gate>(
+    rt: &R,
     alloc: Global,
     source: &mut S,
-    batch: u32,
+    gate: &G,
+    settings: Settings,
     keeps: bool,
-    waits: bool,
 ) -> Result<Vec<Member>, ManyStop>
     requires faults { S.faults source.old < 2 ^ 64 - 1 }
     requires open { S.is_open source.old ≡ true }
     ensures answer { ComesToMany (IsJudged keeps) (nat_lt (S.faults source.old) (S.faults source.new)) (S.left source.old) (S.left source.new) (view result) }
     ensures front { TookFront (S.left source.old) (S.faults source.old) (S.left source.new) (S.faults source.new) }
 {
-    match judge_alone(alloc, source, batch, keeps, waits) {
-        Ok(members) => match judge_in_turn(alloc, members) {
+    match judge_alone(alloc, source, settings.batch, keeps, settings.workers > 0) {
+        Ok(members) => match judge_in_turn(rt, alloc, gate, settings.workers, members) {
             Ok(judged) => Ok(judged),
             Err(_) => Err(ManyStop::NoMemory),
         },
@@ -65,12 +66,13 @@ pub fn judge_many<S: Source>(
 /// Compiles the modules whose bytes the source gives in frames, each by itself: its one image, or its error of least offset. The input is
 /// read to its end, to the source's error, or to where it is no frames.
 ///
-/// All of it is done on the caller's thread: `settings.workers` has no effect yet, so neither `rt` nor `gate` is used.
+/// With `settings.workers` the bodies are kept while the input is read, and then those of one module after the other are compiled by
+/// so many threads. Without them all of it is done on the caller's thread while the input is read.
 pub fn many<R: Threads + Wait + Sync, S: Source, G: Gate>(
-    _rt: &R,
+    rt: &R,
     alloc: Global,
     source: &mut S,
-    _gate: &G,
+    gate: &G,
     settings: Settings,
 ) -> Result<Vec<Each>, ManyStop>
     requires faults { S.faults source.old < 2 ^ 64 - 1 }
@@ -78,7 +80,7 @@ pub fn many<R: Threads + Wait + Sync, S: Source, G: Gate>(
     ensures answer { AnswersMany (nat_lt (S.faults source.old) (S.faults source.new)) (S.left source.old) (S.left source.new) (view result) }
     ensures front { TookFront (S.left source.old) (S.faults source.old) (S.left source.new) (S.faults source.new) }
 {
-    match judge_many(alloc, source, settings.batch, true, false) {
+    match judge_many(rt, alloc, source, gate, settings, true) {
         Ok(members) => match answers(alloc, members) {
             Ok(each) => Ok(each),
             Err(_) => Err(ManyStop::NoMemory),
@@ -93,10 +95,10 @@ pub fn many<R: Threads + Wait + Sync, S: Source, G: Gate>(
 /// It validates and compiles as `many` does, and keeps no code: of each module it keeps what that declares outside its bodies, and
 /// nothing of one whose error is known.
 pub fn check_many<R: Threads + Wait + Sync, S: Source, G: Gate>(
-    _rt: &R,
+    rt: &R,
     alloc: Global,
     source: &mut S,
-    _gate: &G,
+    gate: &G,
     settings: Settings,
 ) -> Result<Vec<EachChecked>, ManyStop>
     requires faults { S.faults source.old < 2 ^ 64 - 1 }
@@ -104,7 +106,7 @@ pub fn check_many<R: Threads + Wait + Sync, S: Source, G: Gate>(
     ensures answer { ChecksMany (nat_lt (S.faults source.old) (S.faults source.new)) (S.left source.old) (S.left source.new) (view result) }
     ensures front { TookFront (S.left source.old) (S.faults source.old) (S.left source.new) (S.faults source.new) }
 {
-    match judge_many(alloc, source, settings.batch, false, false) {
+    match judge_many(rt, alloc, source, gate, settings, false) {
         Ok(members) => match verdicts(alloc, members) {
             Ok(each) => Ok(each),
             Err(_) => Err(ManyStop::NoMemory),

@@ -1,9 +1,9 @@
 //! Inputs, and where they have an error.
 ghost use Rattle.std.specs.Prelude.{◌<◌, ◌≤◌};
 
-use crate::several::judge_many;
-use crate::{FrameReader, MAX_MODULES, Member};
-use io_edges::Flat;
+use crate::{Each, FrameReader, MAX_MODULES, many};
+use io_edges::{Flat, OpenGate};
+use module_stream::Settings;
 use std::alloc::{AllocError, Global};
 use std::test::Fail;
 
@@ -170,15 +170,15 @@ fn by_turns(alloc: Global, modules: &[&[u8]], size: usize) -> Result<Vec<u8>, Al
 }
 
 /// The offset of a module's error.
-fn refused_at(member: &Member) -> Option<u64> {
-    match member {
-        Member::Refused(refusal) => Some(refusal.offset),
-        _ => None,
+fn refused_at(each: &Each) -> Option<u64> {
+    match each {
+        Each::Image(_) => None,
+        Each::Refused(refusal) => Some(refusal.offset),
     }
 }
 
 #[test]
-fn bodies_that_wait(rt: HostRuntime) -> Result<(), Fail> {
+fn modules_with_and_without_workers(rt: HostRuntime) -> Result<(), Fail> {
     let modules: [&[u8]; 6] = [
         &THREE_BODIES,
         &VALID,
@@ -190,15 +190,20 @@ fn bodies_that_wait(rt: HostRuntime) -> Result<(), Fail> {
     let errors = [None, None, Some(25), Some(28), Some(23), Some(23)];
     for size in [1, 5, 40] {
         let bytes = by_turns(rt.alloc(), &modules, size)?;
-        for waits in [false, true] {
-            let judged = judge_many(rt.alloc(), &mut Flat::new(&bytes), 1, true, waits);
-            let Ok(members) = judged else {
+        for workers in [0, 1, 2, 4] {
+            let settings = Settings { workers, batch: 1 };
+            let answer = many(&rt, rt.alloc(), &mut Flat::new(&bytes), &OpenGate, settings);
+            let Ok(each) = answer else {
                 assert!(rt; false);
                 return Ok(());
             };
-            assert_eq!(rt; members.len(), 6);
-            for (member, error) in members.iter().zip(errors) {
-                assert_eq!(rt; refused_at(member), error, "{size} bytes at a time");
+            assert_eq!(rt; each.len(), 6);
+            for (each, error) in each.iter().zip(errors) {
+                assert_eq!(rt;
+                    refused_at(each),
+                    error,
+                    "{workers} workers, {size} bytes at a time"
+                );
             }
         }
     }

@@ -5,17 +5,17 @@ use Rattle.many_streams.proofs.Crowds.{AreAfter, after_none, after_one, after_al
 use Rattle.many_streams.proofs.judging.judge_in_turn.Goals as goal
 
 pub judge-requires-clause-ended : goal.judge-requires-clause-ended
-judge-requires-clause-ended c =
+judge-requires-clause-ended g c κs within =
     let r = c.requires in
     let l = c.loop-member in
     let n = next_is (IsEnded r.0) c.args.members.items (into_iter_items l.member-iterator) (into_iter_items c.next.new.self) (length l.judged.items) c.in-Some.member c.in-Some.ensures.steps.0 l.invariant.after r.1 r.2 in
     (r.0, n.0, n.1)
 
 pub loop-member-init : goal.loop-member-init
-loop-member-init c = record { after = after_none _ _ _ (search rules) (search rules); some = λ keeps list are. some_none (IsJudged keeps) list _ (search rules); few = search rules }
+loop-member-init g c = record { after = after_none _ _ _ (search rules) (search rules); some = λ keeps list are. some_none (IsJudged keeps) list _ (search rules); few = search rules }
 
 pub loop-member-preserved : goal.loop-member-preserved
-loop-member-preserved c =
+loop-member-preserved g c =
     let l = c.loop-member in
     let all = into_iter_items l.member-iterator in
     let rest = into_iter_items c.next.new.self in
@@ -28,7 +28,7 @@ loop-member-preserved c =
     }
 
 pub returns : goal.returns
-returns c = λ keeps list are.
+returns g c = λ keeps list are.
     let l = c.loop-member in
     let none : length (into_iter_items l.member-iterator) ≡ 0 = search rules in
     (sym (after_all c.args.members.items (into_iter_items l.member-iterator) (length l.judged.items) none l.invariant.after) ∙ are.0, l.invariant.some keeps list are)
