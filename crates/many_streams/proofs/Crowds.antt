@@ -17,7 +17,7 @@ use Rattle.many_streams.specs.declared.streams.ManyStop.{ManyStop}
 use Rattle.many_streams.specs.declared.streams.ManyStop.TheVariants as stop
 use Rattle.many_streams.specs.Frames.{IsBadFrame}
 use Rattle.many_streams.specs.Reading.{Progress, IsReading, Takes, Ends, SetsFlags, AreAllSet, with_more}
-use Rattle.many_streams.specs.Members.{IsMember, IsJudged}
+use Rattle.many_streams.specs.Members.{IsMember, IsEnded}
 use Rattle.many_streams.specs.Many.{StandsSo, AreMembers, AreEach, IsStreaming, TakesSome, TakesAll, ComesToEnd, IsFront}
 
 -- ---- lists
@@ -72,7 +72,7 @@ pub record AreAfter (all rest : List Member) (count : ℕ) : Type 0 where
 pub after_none : (all rest : List Member) (count : ℕ) → rest ≡ all → count ≡ 0 → AreAfter all rest count
 after_none all rest count same none = record { done = []; are = sym same; length_is = sym none }
 
-module _ (keeps : Bool) (all rest rest' : List Member) (count : ℕ) (m : Member) (next : rest ≡ m ∷ rest') (a : AreAfter all rest count) where
+module _ (P : List ℕ → Member → Type 0) (all rest rest' : List Member) (count : ℕ) (m : Member) (next : rest ≡ m ∷ rest') (a : AreAfter all rest count) where
   pub after_one : AreAfter all rest' (count + 1)
   after_one = record {
     done = a.done ++ m ∷ [];
@@ -85,15 +85,15 @@ module _ (keeps : Bool) (all rest rest' : List Member) (count : ℕ) (m : Member
       ap (λ (l : List Member). slice_get l count) (a.are ∙ ap (λ (l : List Member). a.done ++ l) next)
       ∙ (ap (λ (n : ℕ). slice_get (a.done ++ m ∷ rest') n) (sym a.length_is) ∙ at_next a.done rest' m)
 
-  pub judged_so : (list : List (List ℕ)) → AreEach (IsJudged keeps) list all → (bytes : List ℕ) → slice_get list count ≡ Some bytes → IsJudged keeps bytes m
-  judged_so list are bytes at = are.1 count bytes m at next_at
+  pub next_so : (list : List (List ℕ)) → AreEach P list all → (bytes : List ℕ) → slice_get list count ≡ Some bytes → P bytes m
+  next_so list are bytes at = are.1 count bytes m at next_at
 
-  pub judged_at : (list : List (List ℕ)) → AreEach (IsJudged keeps) list all → (bytes : List ℕ) × IsJudged keeps bytes m
-  judged_at list are =
+  pub next_is : (list : List (List ℕ)) → AreEach P list all → (bytes : List ℕ) × P bytes m
+  next_is list are =
       let n = are.0 in
       let w = slice_get_within all count m next_at in
       let x = at_index list count (omega arith) in
-      (x.0, judged_so list are x.0 x.1)
+      (x.0, next_so list are x.0 x.1)
 
 pub after_all : (all rest : List Member) (count : ℕ) → length rest ≡ 0 → AreAfter all rest count → length all ≡ count
 after_all all rest count none a = let e = ap length a.are in let n = a.length_is in omega (arith, length-append a.done rest)
@@ -151,12 +151,12 @@ module _ (keeps : Bool) (flags : List Bool) (of : ℕ → List ℕ) (members mem
       subst (λ (l : List ℕ). StandsSo (get_or flags i false) keeps l x) (sym here) (are i x (set_apart members members' i k x m' now other at)))
 
   -- one ended
-  pub members_ended : k < length flags → (IsMember keeps (of k) m → IsJudged keeps (of k) m') → AreMembers keeps (set flags k true) of members'
+  pub members_ended : k < length flags → (IsMember keeps (of k) m → IsEnded keeps (of k) m') → AreMembers keeps (set flags k true) of members'
   members_ended within ends i x at = dite (ℕ_discrete i k)
       (λ same.
       let flag : get_or (set flags k true) i false ≡ true = ap (λ (j : ℕ). get_or (set flags k true) j false) same ∙ get_or-set_same flags k true false within in
       subst (λ (b : Bool). StandsSo b keeps (of i) x) (sym flag)
-      (subst (λ (y : Member). IsJudged keeps (of i) y) (set_at members members' i k x m' in' now same at) (subst (λ (j : ℕ). IsJudged keeps (of j) m') (sym same) (ends was_open))))
+      (subst (λ (y : Member). IsEnded keeps (of i) y) (set_at members members' i k x m' in' now same at) (subst (λ (j : ℕ). IsEnded keeps (of j) m') (sym same) (ends was_open))))
       (λ other.
       subst (λ (b : Bool). StandsSo b keeps (of i) x) (sym (get_or-set_other flags k i true false other)) (are i x (set_apart members members' i k x m' now other at)))
 
@@ -222,7 +222,7 @@ streams_bytes bytes piece s s' f k n m m' members i now items t sets is feeds =
     )
 
 pub streams_ended : (bytes piece : List ℕ) (s s' : Streams) (f : Progress) (k : ℕ) (m m' : Member) (members : Vec Member Global) → (i : IsStreaming bytes s) → s' ≡ record s { reader = f; members = members } → members.items ≡ set s.members.items k m'
-    → 0 < length piece → Takes bytes i.of piece (Ok (taken.End k)) s.reader f → SetsFlags (Ok (taken.End k)) s.reader.ended f.ended → m ≡ get_or s.members.items k m → ((keeps : Bool) (came : List ℕ) → IsMember keeps came m → IsJudged keeps came m')
+    → 0 < length piece → Takes bytes i.of piece (Ok (taken.End k)) s.reader f → SetsFlags (Ok (taken.End k)) s.reader.ended f.ended → m ≡ get_or s.members.items k m → ((keeps : Bool) (came : List ℕ) → IsMember keeps came m → IsEnded keeps came m')
     → TakesSome bytes piece (Ok 1) s'
 streams_ended bytes piece s s' f k m m' members i now items some t sets is ends =
     let c = i.count in
@@ -285,7 +285,7 @@ tab_at zero of i in' = absurd (omega arith)
 tab_at (suc n) of zero in' = refl
 tab_at (suc n) of (suc i) in' = tab_at n (λ k. of (suc k)) i (omega arith)
 
-pub judged_end : (bytes : List ℕ) (s : Streams) → (i : IsStreaming bytes s) → Ends bytes i.of (Ok tt) s.reader → AreAllSet s.reader.modules s.reader.ended → ComesToEnd (IsJudged s.keeps) bytes (Ok s.members.items)
+pub judged_end : (bytes : List ℕ) (s : Streams) → (i : IsStreaming bytes s) → Ends bytes i.of (Ok tt) s.reader → AreAllSet s.reader.modules s.reader.ended → ComesToEnd (IsEnded s.keeps) bytes (Ok s.members.items)
 judged_end bytes s i ends set =
     let n = s.reader.modules in
     let list = tab n i.of in (
@@ -298,7 +298,7 @@ judged_end bytes s i ends set =
             let l = length-tab n i.of in
             let here : slice_get list k ≡ Some (i.of k) = tab_at n i.of k (omega arith) in
             let same : i.of k ≡ b = cc in
-            subst (λ (x : List ℕ). IsJudged s.keeps x m) same (subst (λ (b : Bool). StandsSo b s.keeps (i.of k) m) (set k (omega arith)) (i.members k m is)),
+            subst (λ (x : List ℕ). IsEnded s.keeps x m) same (subst (λ (b : Bool). StandsSo b s.keeps (i.of k) m) (set k (omega arith)) (i.members k m is)),
       ),
     )
 

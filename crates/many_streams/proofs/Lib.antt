@@ -8,3 +8,4 @@ pub mod Feeding
 pub mod Numbers
 pub mod Single
 pub mod Sources
+pub mod Intakes

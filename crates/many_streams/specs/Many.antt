@@ -10,13 +10,13 @@ use Rattle.many_streams.specs.declared.streams.Streams.{Streams}
 use Rattle.many_streams.specs.declared.streams.ManyStop.{ManyStop}
 use Rattle.many_streams.specs.declared.streams.ManyStop.TheVariants as stop
 use Rattle.many_streams.specs.Frames.{Frames, IsCutOff, IsBadFrame}
-use Rattle.many_streams.specs.Members.{IsMember, IsJudged, IsEach, IsEachChecked}
+use Rattle.many_streams.specs.Members.{IsMember, IsEnded, IsEach, IsEachChecked}
 use Rattle.many_streams.specs.Reading.{IsReading}
 
 -- of a module these bytes came, by whether it has ended
 abbrev pub StandsSo : (ended keeps : Bool) → List ℕ → Member → Type 0
 StandsSo false keeps came m = IsMember keeps came m
-StandsSo true keeps came m = IsJudged keeps came m
+StandsSo true keeps came m = IsEnded keeps came m
 
 -- of each module these bytes came; those have ended whose flags are set
 abbrev pub AreMembers : Bool → List Bool → (ℕ → List ℕ) → List Member → Type 0

@@ -3,7 +3,7 @@
 ghost use Rattle.std.specs.Prelude.{◌≡◌, ◌<◌, ◌^◌, ◌-◌, true, length, nat_lt, IfOk};
 ghost use Rattle.io_edges.specs.Streams.{TookFront};
 ghost use Rattle.many_streams.specs.Many.{ComesToMany, view};
-ghost use Rattle.many_streams.specs.Members.{IsJudged};
+ghost use Rattle.many_streams.specs.Members.{IsEnded};
 
 use crate::member::Member;
 use crate::streams::{ManyStop, Streams};
@@ -20,24 +20,26 @@ fn buffer_of(alloc: Global, len: usize) -> Result<Vec<u8>, AllocError>
     vec![in alloc; 0; len]
 }
 
-/// Compiles the modules whose bytes the source gives in frames, each by itself, and judges them. Their codes are kept or only counted.
+/// Compiles the modules whose bytes the source gives in frames, each by itself. Their codes are kept or only counted. Where
+/// they wait, their bodies are kept.
 /// The input is read to its end, to the source's error, or to where it is no frames.
 pub fn judge_alone<S: Source>(
     alloc: Global,
     source: &mut S,
     batch: u32,
     keeps: bool,
+    waits: bool,
 ) -> Result<Vec<Member>, ManyStop>
     requires faults { S.faults source.old < 2 ^ 64 - 1 }
     requires open { S.is_open source.old ≡ true }
-    ensures answer { ComesToMany (IsJudged keeps) (nat_lt (S.faults source.old) (S.faults source.new)) (S.left source.old) (S.left source.new) (view result) }
+    ensures answer { ComesToMany (IsEnded keeps) (nat_lt (S.faults source.old) (S.faults source.new)) (S.left source.old) (S.left source.new) (view result) }
     ensures front { TookFront (S.left source.old) (S.faults source.old) (S.left source.new) (S.faults source.new) }
 {
     let Ok(mut buffer) = buffer_of(alloc, CHUNK) else {
         return Err(ManyStop::NoMemory);
     };
     let buf = buffer.as_mut_slice();
-    let mut streams = Streams::new(alloc, batch, keeps);
+    let mut streams = Streams::new(alloc, batch, keeps, waits);
     loop {
         match source.read(buf) {
             Got::Bytes(count) => match streams.feed(&buf[..count]) {

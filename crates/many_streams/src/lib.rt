@@ -2,6 +2,8 @@
 #![tactic(auto)]
 
 mod alone;
+mod intake;
+mod judging;
 mod laws;
 mod limits;
 mod member;
@@ -10,7 +12,9 @@ mod several;
 mod streams;
 #[cfg(test)]
 mod tests;
+mod working;
 
+pub use intake::Intake;
 pub use laws::frames_are_one;
 pub use limits::{MAX_INPUT, MAX_MODULES};
 pub use member::{Each, EachChecked, Member, Part};

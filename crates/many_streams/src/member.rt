@@ -1,11 +1,17 @@
 //! One of several modules, whose bytes come among those of the others.
 
-ghost use Rattle.std.specs.Prelude.{◌≡◌, ◌<◌, ◌++◌, ℕ, Bool, List, [], true, false, All, take, is_some, OnOk, IfOk};
+ghost use Rattle.std.specs.Prelude.{◌≡◌, ◌<◌, ◌++◌, ℕ, Bool, List, [], true, false, None, All, take, is_some, OnOk, IfOk};
 ghost use Rattle.module_stream.specs.Codes.{AreAll, KeepsAlike};
 ghost use Rattle.module_stream.specs.Done.{IsDone, Decides};
-ghost use Rattle.many_streams.specs.Members.{KeepsCodes, IsFed, FeedsOn, IsMember, IsJudged, IsEach, IsEachChecked};
+ghost use Rattle.module_stream.specs.Streaming.{IsGoing, MayGo};
+ghost use Rattle.body_compiler.specs.BatchRows.{IsRowIf};
+ghost use Rattle.many_streams.specs.Intakes.{Goes};
+ghost use Rattle.many_streams.specs.Members.{KeepsCodes, IsFed, FeedsOn, TakesOn, ResumesOn, IsMember, IsEnded, IsJudged, AreRowsOf, IsEach, IsEachChecked};
 
+use crate::intake::Intake;
+use body_compiler::Row;
 use module_stream::{Built, Checked, Codes, Compilation};
+use result_cells::Cells;
 use std::alloc::{AllocError, Global};
 use wasm_defs::{FrontStop, Refusal};
 
@@ -30,12 +36,24 @@ pub enum EachChecked {
     Refused(Refusal),
 }
 
-/// A module of whose bytes nothing is wrong so far.
+/// A module that is open.
+///
+/// Where it waits, its bodies are kept from the first on, and what comes after them too, until they are validated with what workers
+/// made of them:
+///
+/// ```text
+/// before the bodies ---the code section's count, where it waits---> waits
+///         ^                                                           |
+///         +--------------- the bodies are validated ------------------+
+/// ```
 #[derive(Drop)]
 pub struct Part {
+    alloc: Global,
     pub compilation: Compilation,
     /// How many of its bytes were taken.
     pub fed: usize,
+    /// Its bodies, while they are kept.
+    pub intake: Option<Intake>,
 }
 
 /// What came of one module:
@@ -46,10 +64,11 @@ pub struct Part {
 ///   +-----an error that no further byte can mend-------> Refused
 /// ```
 ///
-/// Of a module that isn't open nothing is kept but what it came to.
+/// A module whose bodies are kept stays open at its end, until these are validated. Of one that isn't open nothing is kept but what it
+/// came to.
 #[derive(Drop)]
 pub enum Member {
-    /// Nothing is wrong with it so far: how far it was compiled.
+    /// No error of it is known so far: how far it was compiled.
     Open(Part),
     /// It has ended, and this is its image.
     Image(Built),
@@ -83,15 +102,15 @@ fn no_codes(alloc: Global, keeps: bool) -> Codes
 }
 
 impl Part {
-    /// Takes the next bytes, and says what is wrong as soon as no further byte can mend it.
-    fn feed(&mut self, piece: &[u8]) -> Result<(), FrontStop>
+    /// Takes the next bytes, and says what is wrong as soon as no further byte can mend it. Bodies are kept, where the module `waits`.
+    fn feed(&mut self, piece: &[u8], waits: bool) -> Result<(), FrontStop>
         requires { (came : List ℕ) × IsFed came self.old }
         ensures fed { (came : List ℕ) → IsFed came self.old → FeedsOn (came ++ piece.now) result self.new }
         ensures kept { KeepsAlike self.old.compilation.codes self.new.compilation.codes }
     {
         let part = front_of(piece, MAX_FED - self.fed);
-        match self.compilation.feed(part, false) {
-            Ok(_) => {
+        match self.take(part, waits) {
+            Ok(()) => {
                 self.fed += part.len();
                 Ok(())
             }
@@ -99,9 +118,100 @@ impl Part {
         }
     }
 
-    /// The module's bytes have ended: judges what is left.
+    /// Takes bytes, all of which are looked at.
+    fn take(&mut self, part: &[u8], waits: bool) -> Result<(), FrontStop>
+        requires { (bytes more : List ℕ) × Goes bytes self.old.compilation self.old.intake (part.now ++ more) }
+        ensures goes { (bytes more : List ℕ) → Goes bytes self.old.compilation self.old.intake (part.now ++ more) → TakesOn bytes result self.new more }
+        ensures fed { self.new.fed ≡ self.old.fed }
+        ensures kept { KeepsAlike self.old.compilation.codes self.new.compilation.codes }
+    {
+        match &mut self.intake {
+            Some(intake) => match intake.feed(part) {
+                Ok(()) => Ok(()),
+                Err(_) => Err(FrontStop::NoMemory),
+            },
+            None => self.compile(part, waits),
+        }
+    }
+
+    /// Takes bytes while no bodies are kept.
+    fn compile(&mut self, part: &[u8], waits: bool) -> Result<(), FrontStop>
+        requires none { self.old.intake ≡ None }
+        requires may { MayGo self.old.compilation part.now }
+        ensures goes { (bytes more : List ℕ) → IsGoing bytes self.old.compilation (part.now ++ more) → TakesOn bytes result self.new more }
+        ensures fed { self.new.fed ≡ self.old.fed }
+        ensures kept { KeepsAlike self.old.compilation.codes self.new.compilation.codes }
+    {
+        match self.compilation.feed(part, waits) {
+            Ok(taken) => {
+                if waits {
+                    self.keep_bodies(&part[taken..])
+                } else {
+                    Ok(())
+                }
+            }
+            Err(stop) => Err(stop),
+        }
+    }
+
+    /// Where bodies come next, they are kept from now on.
+    fn keep_bodies(&mut self, piece: &[u8]) -> Result<(), FrontStop>
+        requires none { self.old.intake ≡ None }
+        requires all { self.old.compilation.cutter ≡ None → piece.now ≡ [] }
+        ensures goes { (bytes more : List ℕ) → IsGoing bytes self.old.compilation (piece.now ++ more) → TakesOn bytes result self.new more }
+        ensures fed { self.new.fed ≡ self.old.fed }
+        ensures kept { KeepsAlike self.old.compilation.codes self.new.compilation.codes }
+    {
+        let Some(cutter) = self.compilation.take_cutter() else {
+            return Ok(());
+        };
+        let mut intake = Intake::new(self.alloc, cutter);
+        match intake.feed(piece) {
+            Ok(()) => {
+                self.intake = Some(intake);
+                Ok(())
+            }
+            Err(_) => Err(FrontStop::NoMemory),
+        }
+    }
+
+    /// Validates the bodies that were kept, where there are any, with what workers made of them: the rows in the order of the batches,
+    /// where they are at hand. Then the bytes after them are taken.
+    fn resume(&mut self, cells: &Cells, rows: Vec<Option<Row>>) -> Result<(), FrontStop>
+        requires may { (bytes more : List ℕ) × Goes bytes self.old.compilation self.old.intake more }
+        requires rows { All (IsRowIf self.old.compilation.spaces cells.now) rows.items }
+        ensures goes { (bytes more : List ℕ) → Goes bytes self.old.compilation self.old.intake more → ResumesOn bytes result self.new more }
+        ensures fed { self.new.fed ≡ self.old.fed }
+        ensures kept { KeepsAlike self.old.compilation.codes self.new.compilation.codes }
+    {
+        let Some(intake) = self.intake.take() else {
+            return Ok(());
+        };
+        let Intake {
+            alloc: _,
+            cutter,
+            kept,
+            rest,
+            error,
+        } = intake;
+        match self.compilation.judge_kept(cells, kept, rows) {
+            Ok(()) => {}
+            Err(stop) => return Err(stop),
+        }
+        if let Some(refusal) = error {
+            return Err(FrontStop::Refused(refusal));
+        }
+        self.compilation.put_cutter(cutter);
+        match self.compilation.feed(rest.as_slice(), false) {
+            Ok(_) => Ok(()),
+            Err(stop) => Err(stop),
+        }
+    }
+
+    /// The module's bytes have ended, and no bodies are kept: judges what is left.
     fn finish(&mut self) -> Result<(), FrontStop>
-        requires { (came : List ℕ) × IsFed came self.old }
+        requires none { self.old.intake ≡ None }
+        requires fed { (came : List ℕ) × IsFed came self.old }
         ensures decides { (came : List ℕ) → IsFed came self.old → Decides came result self.new.compilation }
         ensures kept { KeepsAlike self.old.compilation.codes self.new.compilation.codes }
     {
@@ -121,13 +231,27 @@ impl Part {
         }
     }
 
-    /// The module's bytes have ended: what it comes to.
+    /// The module's bytes have ended, and no bodies are kept: what it comes to.
     fn end(&mut self) -> Result<Member, AllocError>
-        requires { (came : List ℕ) × IsFed came self.old }
+        requires none { self.old.intake ≡ None }
+        requires fed { (came : List ℕ) × IsFed came self.old }
         ensures { IfOk result (λ m. (keeps : Bool) (came : List ℕ) → IsFed came self.old → KeepsCodes keeps self.old.compilation → IsJudged keeps came m) }
     {
         match self.finish() {
             Ok(()) => self.answer(),
+            Err(FrontStop::Refused(refusal)) => Ok(Member::Refused(refusal)),
+            Err(FrontStop::NoMemory) => Err(AllocError),
+        }
+    }
+
+    /// The module's bytes have ended: what it comes to, with what workers made of the bodies that were kept.
+    fn settle(&mut self, cells: &Cells, rows: Vec<Option<Row>>) -> Result<Member, AllocError>
+        requires fed { (came : List ℕ) × IsFed came self.old }
+        requires rows { All (IsRowIf self.old.compilation.spaces cells.now) rows.items }
+        ensures { IfOk result (λ m. (keeps : Bool) (came : List ℕ) → IsFed came self.old → KeepsCodes keeps self.old.compilation → IsJudged keeps came m) }
+    {
+        match self.resume(cells, rows) {
+            Ok(()) => self.end(),
             Err(FrontStop::Refused(refusal)) => Ok(Member::Refused(refusal)),
             Err(FrontStop::NoMemory) => Err(AllocError),
         }
@@ -140,18 +264,21 @@ impl Member {
         ensures { IsMember keeps [] result }
     {
         Member::Open(Part {
+            alloc,
             compilation: Compilation::new(alloc, batch, no_codes(alloc, keeps)),
             fed: 0,
+            intake: None,
         })
     }
 
-    /// Takes the next bytes of a module that has not ended. Those of a module whose error is known are passed over.
-    pub fn feed(&mut self, piece: &[u8]) -> Result<(), AllocError>
+    /// Takes the next bytes of a module that has not ended. Its bodies are kept, where it `waits`. Those of a module whose error is
+    /// known are passed over.
+    pub fn feed(&mut self, piece: &[u8], waits: bool) -> Result<(), AllocError>
         requires { (keeps : Bool) × (came : List ℕ) × IsMember keeps came self.old }
         ensures { OnOk result ((keeps : Bool) (came : List ℕ) → IsMember keeps came self.old → IsMember keeps (came ++ piece.now) self.new) }
     {
         match self {
-            Member::Open(part) => match part.feed(piece) {
+            Member::Open(part) => match part.feed(piece, waits) {
                 Ok(()) => Ok(()),
                 Err(FrontStop::Refused(refusal)) => {
                     *self = Member::Refused(refusal);
@@ -164,19 +291,41 @@ impl Member {
         }
     }
 
-    /// The module's bytes have ended: judges what is left, and keeps nothing but what the module comes to.
+    /// The module's bytes have ended: judges what is left, and keeps nothing but what the module comes to. One whose bodies are kept
+    /// is judged later.
     pub fn end(&mut self) -> Result<(), AllocError>
         requires { (keeps : Bool) × (came : List ℕ) × IsMember keeps came self.old }
-        ensures { OnOk result ((keeps : Bool) (came : List ℕ) → IsMember keeps came self.old → IsJudged keeps came self.new) }
+        ensures { OnOk result ((keeps : Bool) (came : List ℕ) → IsMember keeps came self.old → IsEnded keeps came self.new) }
     {
         match self {
             Member::Open(part) => {
+                if part.intake.is_some() {
+                    return Ok(());
+                }
                 let answer = part.end()?;
                 *self = answer;
                 Ok(())
             }
             Member::Refused(_) => Ok(()),
             Member::Image(_) | Member::Valid(_) => unreachable!(),
+        }
+    }
+
+    /// Judges a module that has ended, with what workers made of its bodies that were kept: the rows in the order of the batches, where
+    /// they are at hand.
+    pub fn settle(self, cells: &Cells, rows: Vec<Option<Row>>) -> Result<Member, AllocError>
+        requires ended { (keeps : Bool) × (came : List ℕ) × IsEnded keeps came self }
+        requires rows { AreRowsOf cells.now rows.items self }
+        ensures { IfOk result (λ m. (keeps : Bool) (came : List ℕ) → IsEnded keeps came self → IsJudged keeps came m) }
+    {
+        match self {
+            Member::Open(part) => {
+                let mut part = part;
+                part.settle(cells, rows)
+            }
+            Member::Image(built) => Ok(Member::Image(built)),
+            Member::Valid(checked) => Ok(Member::Valid(checked)),
+            Member::Refused(refusal) => Ok(Member::Refused(refusal)),
         }
     }
 

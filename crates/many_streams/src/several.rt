@@ -2,10 +2,11 @@
 
 ghost use Rattle.std.specs.Prelude.{◌≡◌, ◌<◌, ◌^◌, ◌-◌, ℕ, List, true, false, length, nat_lt, IfOk};
 ghost use Rattle.io_edges.specs.Streams.{TookFront};
-ghost use Rattle.many_streams.specs.Many.{AreEach, AnswersMany, ChecksMany, view};
+ghost use Rattle.many_streams.specs.Many.{AreEach, ComesToMany, AnswersMany, ChecksMany, view};
 ghost use Rattle.many_streams.specs.Members.{IsJudged, IsEach, IsEachChecked};
 
 use crate::alone::judge_alone;
+use crate::judging::judge_in_turn;
 use crate::member::{Each, EachChecked, Member};
 use crate::streams::ManyStop;
 use io_edges::{Gate, Source};
@@ -38,15 +39,40 @@ fn verdicts(alloc: Global, members: Vec<Member>) -> Result<Vec<EachChecked>, All
     Ok(each)
 }
 
+/// Compiles the modules whose bytes the source gives in frames, each by itself, and judges them. Their codes are kept or only counted. Where
+/// there are workers, bodies are kept while the input is read, and the workers compile them once it has ended.
+fn judge_many<R: Threads + Wait + Sync, S: Source, G: Gate>(
+    rt: &R,
+    alloc: Global,
+    source: &mut S,
+    gate: &G,
+    settings: Settings,
+    keeps: bool,
+) -> Result<Vec<Member>, ManyStop>
+    requires faults { S.faults source.old < 2 ^ 64 - 1 }
+    requires open { S.is_open source.old ≡ true }
+    ensures answer { ComesToMany (IsJudged keeps) (nat_lt (S.faults source.old) (S.faults source.new)) (S.left source.old) (S.left source.new) (view result) }
+    ensures front { TookFront (S.left source.old) (S.faults source.old) (S.left source.new) (S.faults source.new) }
+{
+    match judge_alone(alloc, source, settings.batch, keeps, settings.workers > 0) {
+        Ok(members) => match judge_in_turn(rt, alloc, gate, settings.workers, members) {
+            Ok(judged) => Ok(judged),
+            Err(_) => Err(ManyStop::NoMemory),
+        },
+        Err(stop) => Err(stop),
+    }
+}
+
 /// Compiles the modules whose bytes the source gives in frames, each by itself: its one image, or its error of least offset. The input is
 /// read to its end, to the source's error, or to where it is no frames.
 ///
-/// All of it is done on the caller's thread: `settings.workers` has no effect yet, so neither `rt` nor `gate` is used.
+/// With `settings.workers` the bodies are kept while the input is read, and then those of one module after the other are compiled by
+/// so many threads. Without them all of it is done on the caller's thread while the input is read.
 pub fn many<R: Threads + Wait + Sync, S: Source, G: Gate>(
-    _rt: &R,
+    rt: &R,
     alloc: Global,
     source: &mut S,
-    _gate: &G,
+    gate: &G,
     settings: Settings,
 ) -> Result<Vec<Each>, ManyStop>
     requires faults { S.faults source.old < 2 ^ 64 - 1 }
@@ -54,7 +80,7 @@ pub fn many<R: Threads + Wait + Sync, S: Source, G: Gate>(
     ensures answer { AnswersMany (nat_lt (S.faults source.old) (S.faults source.new)) (S.left source.old) (S.left source.new) (view result) }
     ensures front { TookFront (S.left source.old) (S.faults source.old) (S.left source.new) (S.faults source.new) }
 {
-    match judge_alone(alloc, source, settings.batch, true) {
+    match judge_many(rt, alloc, source, gate, settings, true) {
         Ok(members) => match answers(alloc, members) {
             Ok(each) => Ok(each),
             Err(_) => Err(ManyStop::NoMemory),
@@ -69,10 +95,10 @@ pub fn many<R: Threads + Wait + Sync, S: Source, G: Gate>(
 /// It validates and compiles as `many` does, and keeps no code: of each module it keeps what that declares outside its bodies, and
 /// nothing of one whose error is known.
 pub fn check_many<R: Threads + Wait + Sync, S: Source, G: Gate>(
-    _rt: &R,
+    rt: &R,
     alloc: Global,
     source: &mut S,
-    _gate: &G,
+    gate: &G,
     settings: Settings,
 ) -> Result<Vec<EachChecked>, ManyStop>
     requires faults { S.faults source.old < 2 ^ 64 - 1 }
@@ -80,7 +106,7 @@ pub fn check_many<R: Threads + Wait + Sync, S: Source, G: Gate>(
     ensures answer { ChecksMany (nat_lt (S.faults source.old) (S.faults source.new)) (S.left source.old) (S.left source.new) (view result) }
     ensures front { TookFront (S.left source.old) (S.faults source.old) (S.left source.new) (S.faults source.new) }
 {
-    match judge_alone(alloc, source, settings.batch, false) {
+    match judge_many(rt, alloc, source, gate, settings, false) {
         Ok(members) => match verdicts(alloc, members) {
             Ok(each) => Ok(each),
             Err(_) => Err(ManyStop::NoMemory),

@@ -2,7 +2,7 @@
 
 ghost use Rattle.std.specs.Prelude.{◌≡◌, ◌<◌, List, ℕ, [], All, length, IfOk};
 ghost use Rattle.many_streams.specs.Many.{IsStreaming, MayStream, TakesSome, TakesAll, ComesToEnd, IsFront, view};
-ghost use Rattle.many_streams.specs.Members.{IsMember, IsJudged};
+ghost use Rattle.many_streams.specs.Members.{IsMember, IsEnded};
 
 use crate::member::Member;
 use crate::reader::{FrameReader, Taken};
@@ -27,6 +27,8 @@ pub struct Streams {
     pub batch: u32,
     /// Whether codes are kept, or only counted.
     pub keeps: bool,
+    /// Whether bodies are kept, to be validated once the modules have ended.
+    pub waits: bool,
     pub reader: FrameReader,
     /// The modules in order. Before their number came there are none.
     pub members: Vec<Member>,
@@ -52,7 +54,7 @@ fn new_members(
 
 impl Streams {
     /// Before the first byte.
-    pub fn new(alloc: Global, batch: u32, keeps: bool) -> Streams
+    pub fn new(alloc: Global, batch: u32, keeps: bool, waits: bool) -> Streams
         ensures streaming { IsStreaming [] result }
         ensures keeps { result.keeps ≡ keeps }
     {
@@ -60,6 +62,7 @@ impl Streams {
             alloc,
             batch,
             keeps,
+            waits,
             reader: FrameReader::new(),
             members: Vec::new(alloc),
         }
@@ -88,7 +91,7 @@ impl Streams {
                 }
             }
             Ok(Taken::Bytes(index, count)) => {
-                match self.members[index as usize].feed(&piece[..count]) {
+                match self.members[index as usize].feed(&piece[..count], self.waits) {
                     Ok(()) => Ok(count),
                     Err(_) => Err(ManyStop::NoMemory),
                 }
@@ -116,18 +119,19 @@ impl Streams {
         Ok(())
     }
 
-    /// The input has ended: the modules, each with what it comes to.
+    /// The input has ended: the modules, each with what it comes to, or with its bodies where they were kept.
     ///
     /// # Errors
     /// `Frame` at the number of bytes, where these end too soon.
     pub fn end(self) -> Result<Vec<Member>, ManyStop>
         requires { MayStream self }
-        ensures { (bytes : List ℕ) → IsStreaming bytes self → ComesToEnd (IsJudged self.keeps) bytes (view result) }
+        ensures { (bytes : List ℕ) → IsStreaming bytes self → ComesToEnd (IsEnded self.keeps) bytes (view result) }
     {
         let Streams {
             alloc: _,
             batch: _,
             keeps: _,
+            waits: _,
             reader,
             members,
         } = self;
@@ -147,6 +151,7 @@ impl Streams {
             alloc: _,
             batch: _,
             keeps: _,
+            waits: _,
             reader,
             members: _,
         } = self;

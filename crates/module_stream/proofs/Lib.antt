@@ -16,3 +16,4 @@ pub mod Once
 pub mod Stopped
 pub mod Stops
 pub mod Staying
+pub mod Keeping

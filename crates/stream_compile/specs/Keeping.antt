@@ -1,14 +1,9 @@
 -- Bodies that are read and kept while workers compile them.
 use Rattle.std.specs.Prelude.{◌≡◌, ◌≤◌, ◌<◌, ◌-◌, ◌^◌, ℕ, Bool, List, ◌++◌, length, All, Option, None, Result, Ok, Err}
-use Rattle.wasm_defs.specs.Outside.{ends}
-use Rattle.wasm_defs.specs.Outside as outside
 use Rattle.wasm_defs.specs.declared.front_stop.FrontStop.{FrontStop}
 use Rattle.wasm_defs.specs.declared.front_stop.FrontStop.TheVariants.{Refused, NoMemory}
 use Rattle.wasm_defs.specs.declared.fault.Refusal.{Refusal}
 use Rattle.index_spaces.specs.Spaces.{Spaces}
-use Rattle.section_reader.specs.Onward.{after_parts}
-use Rattle.body_cutter.specs.declared.body.Body.{Body}
-use Rattle.body_cutter.specs.Cuttings.{Cutting}
 use Rattle.body_compiler.specs.BatchRows.{IsRowIf}
 use Rattle.stream_compile.specs.declared.beside.Met.{Met}
 use Rattle.module_stream.specs.declared.compilation.Compilation.{Compilation}
@@ -16,19 +11,13 @@ use Rattle.stream_compile.specs.declared.intake.Intake.{Intake}
 use Rattle.stream_compile.specs.declared.reading.Ending.{Ending}
 use Rattle.stream_compile.specs.Arriving.{IsArriving}
 use Rattle.stream_compile.specs.Chunks.{Chunked}
-use Rattle.module_stream.specs.CutBodies.{counts_data, coded_all}
+use Rattle.module_stream.specs.Keeping.{with_bodies, HasSectionError}
 use Rattle.module_stream.specs.Kept.{kept_bodies}
-use Rattle.module_stream.specs.Progress.{IsJudging}
 use Rattle.stream_compile.specs.Reading.{Settled}
-use Rattle.module_stream.specs.Streaming.{with_cutter}
-
--- a cutter as if it still had these bodies
-abbrev pub with_kept : List Body → Cutting → Cutting
-with_kept kept c = record { place = c.place; queue = record { least = c.queue.least; number = c.queue.number; closed = kept ++ c.queue.closed; begun = c.queue.begun } }
 
 -- a compilation that has the cutter back, with the bodies that were kept
 abbrev pub keeping : Compilation → Intake → Compilation
-keeping s i = with_cutter s (with_kept (kept_bodies i.kept.items) i.cutter)
+keeping s i = with_bodies s (kept_bodies i.kept.items) i.cutter
 
 -- after the bodies that were kept their section has this error, whatever bytes follow
 pub record IsFaulty (first : Option (List ℕ)) (before : ℕ) (left : Option (List ℕ)) (now : ℕ) (may_read : Bool) (s : Compilation) (i : Intake) (r : Refusal) : Type 0 where
@@ -36,7 +25,7 @@ pub record IsFaulty (first : Option (List ℕ)) (before : ℕ) (left : Option (L
   pub chunk : Chunked
   pub arrived : IsArriving None first before left now may_read was chunk
   pub same : chunk.came ≡ i.chunk.came
-  pub judging : (more : List ℕ) → length ((arrived.came ++ arrived.piece) ++ more) ≤ 67108869 → IsJudging ((arrived.came ++ arrived.piece) ++ more) (after_parts (coded_all (counts_data s.front.steps.seen) (kept_bodies i.kept.items)) (ends (outside.Refused r))) s.spaces s.codes
+  pub judging : (more : List ℕ) → length ((arrived.came ++ arrived.piece) ++ more) ≤ 67108869 → HasSectionError ((arrived.came ++ arrived.piece) ++ more) s (kept_bodies i.kept.items) r
 
 -- bodies were read and kept, and none is validated; or the error of their section is found
 abbrev pub Keeps : Result (Unit {0}) FrontStop → (first : Option (List ℕ)) → (before : ℕ) → (left : Option (List ℕ)) → (now : ℕ) → (may_read : Bool) → Compilation → Intake → Type 0

@@ -1,14 +1,14 @@
 use Rattle.std.proofs.Common.{◌≡◌, ◌∙◌, ℕ, [], ◌∷◌, length-append, false, length, sym, ap, subst, refl, rules}
 use Rattle.std.specs.Vec.Iter.{into_iter_items}
-use Rattle.many_streams.specs.Members.{IsEachChecked}
-use Rattle.many_streams.proofs.Crowds.{AreAfter, after_none, after_one, after_all, judged_at, judged_so, some_none, some_push}
+use Rattle.many_streams.specs.Members.{IsJudged, IsEachChecked}
+use Rattle.many_streams.proofs.Crowds.{AreAfter, after_none, after_one, after_all, next_is, next_so, some_none, some_push}
 use Rattle.many_streams.proofs.several.verdicts.Goals as goal
 
 pub into_checked-requires : goal.into_checked-requires
 into_checked-requires c =
     let r = c.requires in
     let l = c.loop-member in
-    judged_at false c.args.members.items (into_iter_items l.member-iterator) (into_iter_items c.next.new.self) (length l.each.items) c.in-Some.member c.in-Some.ensures.steps.0 l.invariant.after r.0 r.1
+    next_is (IsJudged false) c.args.members.items (into_iter_items l.member-iterator) (into_iter_items c.next.new.self) (length l.each.items) c.in-Some.member c.in-Some.ensures.steps.0 l.invariant.after r.0 r.1
 
 pub loop-member-init : goal.loop-member-init
 loop-member-init c = record { after = after_none _ _ _ (search rules) (search rules); some = λ list are. some_none IsEachChecked list _ (search rules); few = search rules }
@@ -19,9 +19,9 @@ loop-member-preserved c =
     let all = into_iter_items l.member-iterator in
     let rest = into_iter_items c.next.new.self in
     record {
-      after = subst (λ (n : ℕ). AreAfter c.args.members.items rest n) (sym (ap length c.in_ok-push.ensures.items ∙ length-append l.each.items (c.into_checked.result ∷ []))) (after_one false c.args.members.items all rest (length l.each.items) c.in-Some.member c.in-Some.ensures.steps.0 l.invariant.after);
+      after = subst (λ (n : ℕ). AreAfter c.args.members.items rest n) (sym (ap length c.in_ok-push.ensures.items ∙ length-append l.each.items (c.into_checked.result ∷ []))) (after_one (IsJudged false) c.args.members.items all rest (length l.each.items) c.in-Some.member c.in-Some.ensures.steps.0 l.invariant.after);
       some = λ list are. some_push IsEachChecked list l.each.items c.push.new.self.items c.into_checked.result (length l.each.items) refl c.in_ok-push.ensures.items (l.invariant.some list are)
-          (λ bytes at. c.into_checked.ensures bytes (judged_so false c.args.members.items all rest (length l.each.items) c.in-Some.member c.in-Some.ensures.steps.0 l.invariant.after list are bytes at));
+          (λ bytes at. c.into_checked.ensures bytes (next_so (IsJudged false) c.args.members.items all rest (length l.each.items) c.in-Some.member c.in-Some.ensures.steps.0 l.invariant.after list are bytes at));
       few = search rules;
     }
 

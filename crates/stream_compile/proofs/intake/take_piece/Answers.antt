@@ -7,7 +7,7 @@ use Rattle.stream_compile.specs.Chunks.{Chunked}
 use Rattle.module_stream.specs.Kept.{kept_bodies}
 use Rattle.module_stream.proofs.Cutting.{few_taken, all_taken}
 use Rattle.module_stream.proofs.NoErrors.{place_is_none, cut_is_none}
-use Rattle.stream_compile.specs.Keeping.{with_kept}
+use Rattle.module_stream.specs.Keeping.{with_kept}
 use Rattle.stream_compile.proofs.Keeping.{piece_taken, piece_refused}
 use Rattle.stream_compile.proofs.intake.take_piece.Goals as goal
 
