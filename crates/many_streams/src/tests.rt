@@ -1,10 +1,7 @@
 //! Inputs, and where they have an error.
-ghost use Rattle.std.specs.Prelude.{◌<◌, ◌≤◌};
+ghost use Rattle.std.specs.Prelude.{◌<◌};
 
-use crate::{Each, FrameReader, MAX_MODULES, many};
-use io_edges::{Flat, OpenGate};
-use module_stream::Settings;
-use std::alloc::{AllocError, Global};
+use crate::{FrameReader, MAX_MODULES};
 use std::test::Fail;
 
 /// The offset of an input's error, where it is read in pieces of so many bytes; none where it is frames.
@@ -94,118 +91,5 @@ fn modules_that_never_begin(rt: HostRuntime) -> Result<(), Fail> {
     assert_eq!(rt; error_of(&bytes, 7), Some(508));
     bytes.extend_from_slice(&[0; 8])?;
     assert_eq!(rt; error_of(&bytes, 7), None);
-    Ok(())
-}
-
-/// A module of one function, with a section after its bodies.
-const VALID: [u8; 28] = [
-    0x00, 0x61, 0x73, 0x6D, 0x01, 0x00, 0x00, 0x00, // magic, version
-    0x01, 0x04, 0x01, 0x60, 0x00, 0x00, // one type, [] -> []
-    0x03, 0x02, 0x01, 0x00, // one function
-    0x0A, 0x04, 0x01, 0x02, 0x00, 0x0B, // its body
-    0x00, 0x02, 0x01, 0x78, // a custom section
-];
-
-/// The same with a `drop` in the body, and without the custom section.
-const WRONG_BODY: [u8; 25] = [
-    0x00, 0x61, 0x73, 0x6D, 0x01, 0x00, 0x00, 0x00, //
-    0x01, 0x04, 0x01, 0x60, 0x00, 0x00, //
-    0x03, 0x02, 0x01, 0x00, //
-    0x0A, 0x05, 0x01, 0x03, 0x00, 0x1A, 0x0B,
-];
-
-/// Two functions, of which the code section has but one body.
-const WRONG_SECTION: [u8; 25] = [
-    0x00, 0x61, 0x73, 0x6D, 0x01, 0x00, 0x00, 0x00, //
-    0x01, 0x04, 0x01, 0x60, 0x00, 0x00, //
-    0x03, 0x03, 0x02, 0x00, 0x00, //
-    0x0A, 0x04, 0x02, 0x02, 0x00, 0x0B,
-];
-
-/// The body has a `drop`, and after the code section there is an unknown one.
-const WRONG_TWICE: [u8; 27] = [
-    0x00, 0x61, 0x73, 0x6D, 0x01, 0x00, 0x00, 0x00, //
-    0x01, 0x04, 0x01, 0x60, 0x00, 0x00, //
-    0x03, 0x02, 0x01, 0x00, //
-    0x0A, 0x05, 0x01, 0x03, 0x00, 0x1A, 0x0B, //
-    0x7F, 0x00,
-];
-
-/// Three functions, which make three batches of a body each.
-const THREE_BODIES: [u8; 32] = [
-    0x00, 0x61, 0x73, 0x6D, 0x01, 0x00, 0x00, 0x00, //
-    0x01, 0x04, 0x01, 0x60, 0x00, 0x00, //
-    0x03, 0x04, 0x03, 0x00, 0x00, 0x00, //
-    0x0A, 0x0A, 0x03, 0x02, 0x00, 0x0B, 0x02, 0x00, 0x0B, 0x02, 0x00, 0x0B,
-];
-
-/// The same with a `drop` in the second body.
-const WRONG_SECOND: [u8; 33] = [
-    0x00, 0x61, 0x73, 0x6D, 0x01, 0x00, 0x00, 0x00, //
-    0x01, 0x04, 0x01, 0x60, 0x00, 0x00, //
-    0x03, 0x04, 0x03, 0x00, 0x00, 0x00, //
-    0x0A, 0x0B, 0x03, 0x02, 0x00, 0x0B, 0x03, 0x00, 0x1A, 0x0B, 0x02, 0x00, 0x0B,
-];
-
-/// Frames of these modules, whose bytes come by turns, so many at a time.
-fn by_turns(alloc: Global, modules: &[&[u8]], size: usize) -> Result<Vec<u8>, AllocError>
-    requires { 0 < size }
-{
-    let mut bytes = Vec::new(alloc);
-    bytes.extend_from_slice(&(modules.len() as u32).to_le_bytes())?;
-    for turn in 0..40 {
-        for (index, module) in modules.iter().enumerate() {
-            if let Some(piece) = module.chunks(size).nth(turn) {
-                bytes.extend_from_slice(&(index as u32).to_le_bytes())?;
-                bytes.extend_from_slice(&(piece.len() as u32).to_le_bytes())?;
-                bytes.extend_from_slice(piece)?;
-            }
-        }
-    }
-    for index in 0..modules.len() {
-        bytes.extend_from_slice(&(index as u32).to_le_bytes())?;
-        bytes.extend_from_slice(&[0; 4])?;
-    }
-    Ok(bytes)
-}
-
-/// The offset of a module's error.
-fn refused_at(each: &Each) -> Option<u64> {
-    match each {
-        Each::Image(_) => None,
-        Each::Refused(refusal) => Some(refusal.offset),
-    }
-}
-
-#[test]
-fn modules_with_and_without_workers(rt: HostRuntime) -> Result<(), Fail> {
-    let modules: [&[u8]; 6] = [
-        &THREE_BODIES,
-        &VALID,
-        &WRONG_SECTION,
-        &WRONG_SECOND,
-        &WRONG_BODY,
-        &WRONG_TWICE,
-    ];
-    let errors = [None, None, Some(25), Some(28), Some(23), Some(23)];
-    for size in [1, 5, 40] {
-        let bytes = by_turns(rt.alloc(), &modules, size)?;
-        for workers in [0, 1, 2, 4] {
-            let settings = Settings { workers, batch: 1 };
-            let answer = many(&rt, rt.alloc(), &mut Flat::new(&bytes), &OpenGate, settings);
-            let Ok(each) = answer else {
-                assert!(rt; false);
-                return Ok(());
-            };
-            assert_eq!(rt; each.len(), 6);
-            for (each, error) in each.iter().zip(errors) {
-                assert_eq!(rt;
-                    refused_at(each),
-                    error,
-                    "{workers} workers, {size} bytes at a time"
-                );
-            }
-        }
-    }
     Ok(())
 }
