@@ -1,4 +1,4 @@
-use Rattle.std.specs.Prelude.{nat_lt, Some, Ok}
+use Rattle.std.specs.Prelude.{◌≡◌, nat_lt, Some, Ok}
 use Rattle.command_words.specs.declared.command.Command.TheVariants.{Compile}
 use Rattle.image_format.specs.ImageBytes.{spelling}
 use Rattle.module_stream.specs.RightSoFar.{closing_bytes}
