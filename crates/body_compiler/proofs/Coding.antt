@@ -1,8 +1,7 @@
 -- Bodies and their codes.
-use Rattle.std.proofs.Common.{◌≡◌, ◌<◌, ℕ, ◌+◌, List, [], ◌∷◌, ◌++◌, length, All, None, Some, Err, sym, refl, ap, ◌∙◌, subst, arith, append_assoc}
+use Rattle.std.proofs.Common.{◌≡◌, ◌<◌, ℕ, ◌+◌, List, [], ◌∷◌, ◌++◌, length, None, Some, Err, sym, ap, ◌∙◌, subst, arith, append_assoc}
 use Rattle.std.specs.Prelude.{is_some}
 use Rattle.std.proofs.lemmas.List.{append-nil}
-use Rattle.std.proofs.lemmas.List.Elements.{All-tail, All-cons}
 use Rattle.wasm_defs.specs.declared.fault.Refusal.{Refusal}
 use Rattle.wasm_defs.specs.Bodies.{body_read}
 use Rattle.wasm_defs.specs.Instances.{first_minimum}
@@ -17,7 +16,7 @@ use Rattle.body_compiler.specs.LowBatches.{IsLowBody}
 use Rattle.body_compiler.specs.declared.code.BodyStop.{BodyStop}
 use Rattle.body_compiler.specs.Compiling.{Compiles}
 use Rattle.body_compiler.specs.declared.batch.bodies.Made.TheVariants.{Faulty}
-use Rattle.body_compiler.specs.BatchRows.{CompilesBody, IsCodeFor, AreCodesFor, IsExhausted, IsRow, IsMade, FitsBody}
+use Rattle.body_compiler.specs.BatchRows.{CompilesBody, IsCodeFor, AreCodesFor, IsExhausted, IsRow, IsMade}
 
 pub fault_inside : (c : Spaces) (b : Body) (r : Refusal) → IsLowBody b → CompilesBody c b (Err (Refused r)) → r.offset < b.first + length b.bytes
 fault_inside c b r low fault = let some = low.some in

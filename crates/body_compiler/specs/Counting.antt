@@ -4,9 +4,9 @@ use Rattle.rv_isa.specs.declared.compiled.Code.{Code}
 use Rattle.wasm_defs.specs.declared.token.Plain.{Plain}
 use Rattle.wasm_defs.specs.declared.token.Token.{Token}
 use Rattle.wasm_defs.specs.declared.token.Token.TheVariants as token
-use Rattle.wasm_defs.specs.Bodies.{BodyRead, Spelled, instruction}
+use Rattle.wasm_defs.specs.Bodies.{BodyRead, Spelled}
 use Rattle.wasm_defs.specs.Faults.{IsCodeFault, IsValidCode, tokens_of}
-use Rattle.wasm_defs.specs.Fields.{Cursor, Got, byte}
+use Rattle.wasm_defs.specs.Fields.{Cursor}
 use Rattle.wasm_defs.specs.Limits.{max_text}
 use Rattle.wasm_defs.specs.Places.{Place, shape}
 use Rattle.wasm_defs.specs.Trees.{Seq}
@@ -109,10 +109,6 @@ abbrev pub StopsCounting : Context → Spelled → BodyStop → Type 0
 StopsCounting c code (Refused r) = IsCodeFault c code r
 StopsCounting c code TooLong = ⊥
 StopsCounting c code NoMemory = Unit {0}
-
--- the next token was read at an offset
-abbrev pub IsNext : (counted : Bool) → ℕ × Token → (old new : Cursor) → Type 0
-IsNext counted next old new = (b : ℕ) × (mid : Cursor) × (byte old ≡ Got (next.0, b) mid) × (instruction counted next.0 b mid ≡ Got next.1 new)
 
 -- a step of it
 abbrev pub GoesOnCounting : (counted : Bool) → Context → ℕ → Spelled → (front : ℕ) → Result (Unit {0}) BodyStop → (too_long : Bool) → Cursor → Checked → WordCount → Type 0

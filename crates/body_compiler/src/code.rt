@@ -31,7 +31,7 @@ use leb_feed::{Fields, Stop};
 use rv_isa::TrapSite;
 use std::alloc::Global;
 use thiserror::Error;
-use wasm_defs::{Kind, Refusal};
+use wasm_defs::{Kind, Refusal, Token};
 
 /// Why a body isn't compiled.
 #[derive(Clone, Copy, Debug, PartialEq, Eq, Error)]
@@ -58,11 +58,11 @@ pub(crate) fn malformed(offset: u64) -> Refusal
 
 /// Why a body's reading stops.
 #[inline(always)]
-pub(crate) fn stop_of(stop: Stop, last: u64) -> BodyStop
-    ensures { result ≡ reading_stop last stop }
+pub(crate) fn stop_of(stop: &Stop, last: u64) -> BodyStop
+    ensures { result ≡ reading_stop last stop.now }
 {
     match stop {
-        Stop::Refused(refusal) => BodyStop::Refused(refusal),
+        Stop::Refused(refusal) => BodyStop::Refused(*refusal),
         // Why: docs/DECISIONS.md, "Whole instructions are validated before a missing `end`"
         Stop::Wants => BodyStop::Refused(malformed(last)),
         Stop::NoMemory => BodyStop::NoMemory,
@@ -101,22 +101,23 @@ fn take_instruction(
         → check.old.checker.frames ≢ [] → Goes counted c last code draft.old.layout front result draft.new.too_long fields.new check.new
         (calling draft.new.labels draft.new.words draft.new.calls.items draft.new.rows sites.new.items) }
 {
-    let token = match instruction(fields, alloc, counted, at, opcode) {
-        Ok(token) => token,
-        Err(stop) => return Err(stop_of(stop, last)),
-    };
-    let step = match check.token(at, &token) {
-        Ok(step) => step,
-        Err(TokenStop::Refused(refusal)) => return Err(BodyStop::Refused(refusal)),
-        Err(TokenStop::NoMemory) => return Err(BodyStop::NoMemory),
-    };
-    match note_token(sites, draft.words(), step.live, at, &token) {
-        Ok(()) => {}
-        Err(_) => return Err(BodyStop::NoMemory),
-    }
-    match take_step(draft, check.context(), &step, &token) {
-        Ok(()) => Ok(()),
-        Err(_) => Err(BodyStop::NoMemory),
+    match instruction(fields, alloc, counted, at, opcode) {
+        Ok(token) => {
+            let step = match check.token(at, &token) {
+                Ok(step) => step,
+                Err(TokenStop::Refused(refusal)) => return Err(BodyStop::Refused(refusal)),
+                Err(TokenStop::NoMemory) => return Err(BodyStop::NoMemory),
+            };
+            match note_token(sites, draft.words(), step.live, at, &token) {
+                Ok(()) => {}
+                Err(_) => return Err(BodyStop::NoMemory),
+            }
+            match take_step(draft, check.context(), &step, &token) {
+                Ok(()) => Ok(()),
+                Err(_) => Err(BodyStop::NoMemory),
+            }
+        }
+        Err(stop) => Err(stop_of(&stop, last)),
     }
 }
 
@@ -159,7 +160,7 @@ pub fn judge_code(
                     Err(stop) => return Err(stop),
                 }
             }
-            Err(stop) => return Err(stop_of(stop, last)),
+            Err(stop) => return Err(stop_of(&stop, last)),
         }
     }
     if !fields.rest().is_empty() {

@@ -143,6 +143,6 @@ pub fn compile(
                 last,
             )
         }
-        Err(stop) => Err(stop_of(stop, last)),
+        Err(stop) => Err(stop_of(&stop, last)),
     }
 }

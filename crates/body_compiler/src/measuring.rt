@@ -22,7 +22,7 @@ ghost use Rattle.control_emit.specs.Pending.{AreBelow};
 ghost use Rattle.body_validator.specs.Checking.{guarded, start_checker};
 ghost use Rattle.body_validator.specs.Checks.{Checked};
 ghost use Rattle.body_compiler.specs.Counting.{jump_sum, word_count, labels_of, after_token, CountsToken, IsCounting, IsCountingOn, StopsCounting, GoesOnCounting, CountsCode};
-ghost use Rattle.body_compiler.specs.Counting.{AreCounted, IsNext, opening, test_size, Sizes, Measures};
+ghost use Rattle.body_compiler.specs.Counting.{AreCounted, opening, test_size, Sizes, Measures};
 ghost use Rattle.body_compiler.specs.Going.{IsGoing};
 ghost use Rattle.body_compiler.specs.Steps.{branches_plain, FunctionsAreSmall, NamesPlain, NamesOpen, TypesLiftFew};
 
@@ -83,6 +83,7 @@ fn table_words(takes: &[u32], labels: &[u32]) -> u128
 }
 
 /// Those of a branch, or of `return`.
+#[inline(never)]
 fn branch_words(takes: &[u32], plain: &Plain) -> u128
     requires branches { branches_plain plain.now ≡ true }
     requires some { 0 < length takes.now }
@@ -104,34 +105,20 @@ fn branch_words(takes: &[u32], plain: &Plain) -> u128
     }
 }
 
-/// Those of an instruction at a reachable point.
-#[inline(always)]
-fn instruction_words(takes: &[u32], plain: &Plain) -> u128
-    requires some { 0 < length takes.now }
-    requires names { NamesPlain (length takes.now) plain.now }
-    ensures { (w : EmitContext) (d : Declarations) (h : ℕ) → result ≡ length (words w d (labels_of (reverse takes.now)) h 0 plain.now) }
-{
-    match plain {
-        Plain::Br(_) | Plain::BrIf(_) | Plain::BrTable(_, _) | Plain::Return => {
-            branch_words(takes, plain)
-        }
-        _ => u128::from(plain_words(plain)),
-    }
-}
-
 /// How many instruction words a function has so far, where its words are only counted.
 #[derive(Drop)]
 struct WordCounter {
     // how many values a branch to each open label takes along, the outermost first
     takes: Vec<u32>,
-    words: u64,
+    // those that are counted, at most a text's
+    words: u32,
     // whether there are more than a text may have: then no more are counted
     too_long: bool,
 }
 
 impl WordCounter {
     /// A function with so many results, of which so many words are counted already.
-    fn new(alloc: Global, words: u64, results: u32) -> Result<WordCounter, AllocError>
+    fn new(alloc: Global, words: u32, results: u32) -> Result<WordCounter, AllocError>
         ensures { IfOk result (λ n. (n.takes.items ≡ results ∷ []) × (n.words ≡ words) × (n.too_long ≡ false)) }
     {
         let mut takes = Vec::new(alloc);
@@ -143,7 +130,7 @@ impl WordCounter {
         })
     }
 
-    /// So many words more.
+    /// So many words more, which are those of one branch.
     fn add(&mut self, more: u128)
         requires short { self.old.too_long ≡ false }
         ensures takes { self.new.takes.items ≡ self.old.takes.items }
@@ -154,7 +141,23 @@ impl WordCounter {
         if u128::from(MAX_TEXT) / 4 < words {
             self.too_long = true;
         } else {
-            self.words = words as u64;
+            self.words = words as u32;
+        }
+    }
+
+    /// So many words more, which are those of one instruction without labels.
+    #[inline(always)]
+    fn add_few(&mut self, more: u32)
+        requires short { self.old.too_long ≡ false }
+        ensures takes { self.new.takes.items ≡ self.old.takes.items }
+        ensures counts { CountsToken false self.new.too_long (word_count self.new.takes.items self.new.words)
+            (word_count self.old.takes.items (self.old.words + more)) }
+    {
+        let words = u64::from(self.words) + u64::from(more);
+        if u64::from(MAX_TEXT) / 4 < words {
+            self.too_long = true;
+        } else {
+            self.words = words as u32;
         }
     }
 
@@ -199,8 +202,13 @@ impl WordCounter {
             (after_token w c (PlainGiven plain.now) (guarded live height) (word_count self.old.takes.items self.old.words)) }
     {
         if live {
-            let more = instruction_words(self.takes.as_slice(), plain);
-            self.add(more);
+            match plain {
+                Plain::Br(_) | Plain::BrIf(_) | Plain::BrTable(_, _) | Plain::Return => {
+                    let more = branch_words(self.takes.as_slice(), plain);
+                    self.add(more);
+                }
+                _ => self.add_few(plain_words(plain)),
+            }
         }
     }
 
@@ -216,7 +224,7 @@ impl WordCounter {
     }
 
     /// Counts the words of a token at a point that is reachable or not, in a module of these types.
-    #[inline(always)]
+    #[inline(never)]
     fn take(&mut self, types: &[FuncType], live: bool, token: &Token) -> Result<(), AllocError>
         requires short { self.old.too_long ≡ false }
         requires some { 0 < length self.old.takes.items }
@@ -239,28 +247,6 @@ impl WordCounter {
     }
 }
 
-/// Reads the next token of a body whose last byte has the offset `last`, and gives the offset of its opcode.
-#[inline(always)]
-fn next_token(
-    fields: &mut Fields<'_>,
-    alloc: Global,
-    counted: bool,
-    last: u64,
-) -> Result<(u64, Token), BodyStop>
-    ensures next { IfOk result (λ next. IsNext counted next fields.old fields.new) }
-    ensures stops { IfErr result (λ stop. (c : ContextGiven) (check : Checked) (code : SpelledGiven) → IsGoing counted c last fields.old check code
-        → check.checker.frames ≢ [] → StopsCounting c code stop) }
-{
-    let (at, opcode) = match fields.byte() {
-        Ok(byte) => byte,
-        Err(stop) => return Err(stop_of(stop, last)),
-    };
-    match instruction(fields, alloc, counted, at, opcode) {
-        Ok(token) => Ok((at, token)),
-        Err(stop) => Err(stop_of(stop, last)),
-    }
-}
-
 /// Reads and checks the next token, and counts its words. Once there are too many, it is only checked.
 #[inline(always)]
 fn count_token(
@@ -280,21 +266,32 @@ fn count_token(
         → GoesOnCounting counted c last code front result counter.new.too_long fields.new check.new
         (word_count counter.new.takes.items counter.new.words) }
 {
-    let (at, token) = match next_token(fields, alloc, counted, last) {
-        Ok(next) => next,
-        Err(stop) => return Err(stop),
+    let (at, opcode) = match fields.byte() {
+        Ok(byte) => byte,
+        Err(stop) => return Err(stop_of(&stop, last)),
     };
-    let step = match check.token(at, &token) {
-        Ok(step) => step,
-        Err(TokenStop::Refused(refusal)) => return Err(BodyStop::Refused(refusal)),
-        Err(TokenStop::NoMemory) => return Err(BodyStop::NoMemory),
-    };
-    if counter.too_long {
-        return Ok(());
-    }
-    match counter.take(check.context().types(), step.live, &token) {
-        Ok(()) => Ok(()),
-        Err(_) => Err(BodyStop::NoMemory),
+    match instruction(fields, alloc, counted, at, opcode) {
+        // here and not after the `match`, where the token would be copied once more
+        Ok(token) => {
+            let live = match check.token(at, &token) {
+                Ok(step) => step.live,
+                Err(TokenStop::Refused(refusal)) => return Err(BodyStop::Refused(refusal)),
+                Err(TokenStop::NoMemory) => return Err(BodyStop::NoMemory),
+            };
+            if counter.too_long {
+                return Ok(());
+            }
+            // most tokens ask neither for the types nor for memory
+            if let Token::Plain(plain) = &token {
+                counter.take_plain(live, plain);
+                return Ok(());
+            }
+            match counter.take(check.context().types(), live, &token) {
+                Ok(()) => Ok(()),
+                Err(_) => Err(BodyStop::NoMemory),
+            }
+        }
+        Err(stop) => Err(stop_of(&stop, last)),
     }
 }
 
@@ -351,7 +348,7 @@ fn measure_code(
         return Err(BodyStop::NoMemory);
     };
     match count_code(fields, &mut check, &mut counter, alloc, counted, last) {
-        Ok(()) => Ok(counter.words),
+        Ok(()) => Ok(u64::from(counter.words)),
         Err(stop) => Err(stop),
     }
 }
@@ -383,6 +380,6 @@ pub fn measure(
             let function = context.type_of_function(index);
             measure_code(alloc, function, locals, &mut fields, check, counted, last)
         }
-        Err(stop) => Err(stop_of(stop, last)),
+        Err(stop) => Err(stop_of(&stop, last)),
     }
 }

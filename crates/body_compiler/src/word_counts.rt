@@ -1,11 +1,11 @@
 //! How many instruction words a token has, without making them.
 
-ghost use Rattle.std.specs.Prelude.{◌≡◌, ◌+◌, false, length, ℕ, List};
+ghost use Rattle.std.specs.Prelude.{◌≡◌, ◌≤◌, ◌+◌, false, length, ℕ, List};
 ghost use Rattle.frame_layout.specs.declared.layout.Layout.{Layout as LayoutGiven};
 ghost use Rattle.frame_layout.specs.Bodies.{unary_body, binary_body, compare_body, convert_body, extend_body};
 ghost use Rattle.frame_layout.specs.BulkWords.{bulk_words};
 ghost use Rattle.frame_layout.specs.Templates.{Declarations, EmitContext, Label, convert_words, operate_words, words, prologue, epilogue};
-ghost use Rattle.body_compiler.specs.Steps.{branches_plain};
+ghost use Rattle.body_compiler.specs.Steps.{branches_plain, max_lift};
 
 use wasm_defs::{
     BinaryOp, BulkOp, CompareOp, ConvertOp, ExtendOp, Operation, Plain, UnaryOp, ValType,
@@ -88,6 +88,7 @@ fn bulk_words(op: BulkOp) -> u32
 }
 
 /// How many instruction words an instruction has at a reachable point that is no branch. It is the same wherever it stands.
+#[inline(always)]
 pub(crate) fn plain_words(plain: &Plain) -> u32
     requires { branches_plain plain.now ≡ false }
     ensures { (w : EmitContext) (d : Declarations) (labels : List Label) (h : ℕ) → result ≡ length (words w d labels h 0 plain.now) }
@@ -113,10 +114,11 @@ pub(crate) fn plain_words(plain: &Plain) -> u32
 }
 
 /// How many begin and end a function with so many declared locals and results.
-pub(crate) fn frame_words(locals: u32, results: u32) -> u64
+pub(crate) fn frame_words(locals: u32, results: u32) -> u32
+    requires few { results ≤ max_lift }
     ensures { (l : LayoutGiven) → l.locals ≡ locals → result ≡ length (prologue l) + length (epilogue l results) }
 {
-    let results = 6 * u64::from(results);
+    let results = 6 * results;
     if locals == 0 {
         17 + results
     } else {

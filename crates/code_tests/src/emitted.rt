@@ -3,10 +3,11 @@
 use crate::rows::{narrow, numbers_of, parts_of, text_of};
 use frame_layout::{Layout, load_slot, store_slot};
 use integer_emit::{emit_binary, emit_compare, emit_const, emit_convert, emit_unary};
-use memory_emit::{
-    emit_global_get, emit_global_set, emit_grow, emit_load, emit_local_get, emit_local_set,
-    emit_local_tee, emit_select, emit_size, emit_store,
-};
+use memory_emit::access::{emit_load, emit_store};
+use memory_emit::globals::{emit_global_get, emit_global_set};
+use memory_emit::locals::{emit_local_get, emit_local_set, emit_local_tee};
+use memory_emit::pages::{emit_grow, emit_size};
+use memory_emit::select::emit_select;
 use rv_isa::WordBuffer;
 use std::alloc::Global;
 use std::test::Fail;

@@ -104,8 +104,8 @@ returns-in-Err-Refused-clause-goes c = λ c' code before front k h more.
     let exact = rw c.in-Err-Refused.field-0-is at (c.in-Err-Refused.ensures.exact (tokens_of g.tokens) g.reached) in
     refused_token c.args.counted c' c.args.last c.args.at c.args.opcode before c.args.fields.now c.instruction.new.fields c.in-Ok.token c.args.check.now code _ g h more c.in-Ok.ensures (ap (λ r. r.offset) steps.1) exact
 
-pub returns-in-Err-clause-goes : goal.returns-in-Err-clause-goes
-returns-in-Err-clause-goes c = λ c' code before front k h more.
+pub returns-clause-goes : goal.returns-clause-goes
+returns-clause-goes c = λ c' code before front k h more.
     let words = calling c.args.draft.now.labels c.args.draft.now.words c.args.draft.now.calls.items c.args.draft.now.rows c.args.sites.now.items in
     let g = going_of c.args.counted c.args.draft.now.too_long c' c.args.last before c.args.check.now code c.args.draft.now.layout front words k in
     rw c.stop_of.ensures (stop_behind c.args.counted c' c.args.last c.args.at c.args.opcode before c.args.fields.now c.args.check.now code c.args.draft.now.layout front c.args.draft.now.too_long words c.instruction.new.fields c.args.check.now c.in-Err.stop g h more c.in-Err.ensures)

@@ -1,4 +1,4 @@
-use Rattle.std.proofs.Common.{Bool, sym, subst, ◌∙◌, rules}
+use Rattle.std.proofs.Common.{Bool, subst, rules}
 use Rattle.body_compiler.specs.Counting.{word_count, IsCountingOn}
 use Rattle.body_compiler.proofs.CountingOn.{going_of, counted_code, stopped_code}
 use Rattle.body_compiler.proofs.Going.{isnt_over, is_over, is_valid, has_more, tested_empty, tested_some}

@@ -1,6 +1,6 @@
-use Rattle.std.proofs.Common.{[], ◌+◌, ℕ, Bool, is_some, ◌≡◌, ◌∙◌, length, sym, ap, subst, arith}
+use Rattle.std.proofs.Common.{◌+◌, Bool, is_some, ◌≡◌, ◌∙◌, length, sym, ap, subst, arith}
 use Rattle.wasm_defs.specs.declared.types.FuncType.{FuncType}
-use Rattle.wasm_defs.specs.Bodies.{body_cursor, body_read, last_of}
+use Rattle.wasm_defs.specs.Bodies.{body_read, last_of}
 use Rattle.wasm_defs.specs.Context.{body_context, type_or_empty, type_of_function}
 use Rattle.index_spaces.specs.Spaces.{context_in}
 use Rattle.body_validator.specs.Checks.{Checked}

@@ -1,9 +1,9 @@
-use Rattle.std.proofs.Common.{◌≡◌, ◌∙◌, ◌+◌, ℕ, List, [], ◌∷◌, false, Ok, Err, length, reverse, refl, sym, ap, subst}
+use Rattle.std.proofs.Common.{◌≡◌, ◌∙◌, ◌+◌, ℕ, List, [], ◌∷◌, length, sym, ap}
 use Rattle.wasm_defs.specs.declared.types.ValType.{ValType}
 use Rattle.body_validator.specs.Checking.{Checker}
 use Rattle.frame_layout.specs.declared.layout.Layout.{Layout}
 use Rattle.frame_layout.specs.Templates.{prologue, epilogue}
-use Rattle.body_compiler.specs.Counting.{WordCount, word_count, begun_count, AreCounted}
+use Rattle.body_compiler.specs.Counting.{word_count, begun_count}
 use Rattle.body_compiler.proofs.CountingOn.{started}
 use Rattle.body_compiler.proofs.Whole.{counted_size, uncounted_size}
 use Rattle.body_compiler.proofs.measuring.measure_code.Goals as goal
@@ -30,7 +30,7 @@ returns-in-Ok-count_code c = λ c' code g none same rows first.
     let k = started c.args.counted c' c.args.last c.args.fields.now c.args.check code front n g none is in
     let frame : (l : Layout) → l.locals ≡ slots.locals → front ≡ length (prologue l) + length (epilogue l (length c.args.function.now.results)) = λ l e.
     c.frame_words.ensures l e ∙ ap (λ (m : ℕ). length (prologue l) + length (epilogue l m)) results in
-    counted_size rows first c' code slots (length c.args.function.now.results) front frame c.count_code.new.counter.words (c.in-Ok-count_code.ensures c' code front k)
+    rw (sym c.from.ensures) at (counted_size rows first c' code slots (length c.args.function.now.results) front frame c.count_code.new.counter.words (c.in-Ok-count_code.ensures c' code front k))
 
 pub returns : goal.returns
 returns c = λ c' code g none same rows first.

@@ -3,7 +3,7 @@ use Rattle.rv_isa.specs.declared.operations.Op.{Op}
 use Rattle.rv_isa.specs.declared.operations.Op.TheVariants.{Jalr}
 use Rattle.frame_layout.specs.Macros.{x0, ra}
 use Rattle.frame_layout.specs.declared.layout.Layout.{Layout}
-use Rattle.frame_layout.specs.Templates.{zero_locals, result_words, prologue, epilogue}
+use Rattle.frame_layout.specs.Templates.{zero_locals, result_words, epilogue}
 use Rattle.body_compiler.proofs.word_counts.frame_words.Goals as goal
 
 results_length : (l : Layout) (n i : ℕ) → length (result_words l n i) ≡ 6 * n
@@ -20,9 +20,9 @@ locals_length l (suc n) some = refl
 pub returns-then-locals-eq0 : goal.returns-then-locals-eq0
 returns-then-locals-eq0 c = λ l same.
     let none : l.locals ≡ 0 = omega (arith, same) in
-    omega (arith, epilogue_length l c.args.results, c.from-results.ensures, ap (λ (n : ℕ). length (zero_locals l n)) none)
+    omega (arith, epilogue_length l c.args.results, ap (λ (n : ℕ). length (zero_locals l n)) none)
 
 pub returns-else-locals-eq0 : goal.returns-else-locals-eq0
 returns-else-locals-eq0 c = λ l same.
     let some : 0 < l.locals = omega (arith, same) in
-    omega (arith, epilogue_length l c.args.results, c.from-results.ensures, locals_length l l.locals some)
+    omega (arith, epilogue_length l c.args.results, locals_length l l.locals some)
