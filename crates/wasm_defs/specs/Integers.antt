@@ -15,6 +15,8 @@ use Rattle.wasm_defs.specs.declared.operation.ConvertOp.{ConvertOp}
 use Rattle.wasm_defs.specs.declared.operation.ConvertOp.TheVariants.{Wrap, ExtendS, ExtendU}
 use Rattle.wasm_defs.specs.declared.operation.ExtendOp.{ExtendOp}
 use Rattle.wasm_defs.specs.declared.operation.ExtendOp.TheVariants.{I32Extend8S, I32Extend16S, I64Extend8S, I64Extend16S, I64Extend32S}
+use Rattle.wasm_defs.specs.declared.operation.Operation.TheVariants.{Convert}
+use Rattle.wasm_defs.specs.Opcodes.{row_type}
 use Rattle.wasm_defs.specs.Values.{modulus, signed, unsigned, bits}
 
 -- what an operation gives that is not defined at some operands: where it is undefined, the instruction traps
@@ -112,9 +114,7 @@ converted ExtendS n = unsigned I64 (signed I32 n)
 converted ExtendU n = n
 
 abbrev pub converted_type : ConvertOp → ValType
-converted_type Wrap = I32
-converted_type ExtendS = I64
-converted_type ExtendU = I64
+converted_type op = (row_type (Convert op)).result
 
 -- ---- sign extension: the low 8, 16 or 32 bits as a signed number (iextendM_s)
 

@@ -1,14 +1,19 @@
--- The opcodes of operations, loads and stores, a row for each (WebAssembly Core 1.0, 5.4.4 and 5.4.5; sign extension: Core 2.0, 5.4.7).
+-- The opcodes of operations, loads and stores, and their types, a row for each (WebAssembly Core 1.0, 5.4.4 and 5.4.5; sign extension:
+-- Core 2.0, 5.4.7).
 use Rattle.std.specs.Prelude.{ℕ, suc, Bool, false, ◌&&◌, ◌==◌, if◌then◌else◌, List, [], ◌∷◌, Option, None, Some}
 use denote.Enum.Declared.{tag_of}
 use Rattle.wasm_defs.specs.declared.types.ValType.{ValType}
+use Rattle.wasm_defs.specs.declared.types.ValType.TheVariants.{I32}
 use Rattle.wasm_defs.specs.declared.operation.Operation.{Operation}
 use Rattle.wasm_defs.specs.declared.operation.Operation.TheVariants.{Unary, Test, Binary, Compare, Convert, Extend}
+use Rattle.wasm_defs.specs.declared.operation.Operands.TheVariants.{One}
+use Rattle.wasm_defs.specs.declared.operation.NumericType.{NumericType}
+use Rattle.wasm_defs.specs.declared.operation.AccessType.{AccessType}
 use Rattle.wasm_defs.specs.declared.operation.Access.{Access}
 use Rattle.wasm_defs.specs.declared.operation.Access.TheVariants.{Load, Store}
 use Rattle.wasm_defs.specs.declared.operation.LoadOp.{LoadOp}
 use Rattle.wasm_defs.specs.declared.operation.StoreOp.{StoreOp}
-use Rattle.wasm_defs.specs.declared.opcodes.TheConstants.{OPERATIONS, ACCESSES}
+use Rattle.wasm_defs.specs.declared.opcodes.TheConstants.{OPERATIONS, OPERATION_TYPES, ACCESSES, ACCESS_TYPES}
 use Rattle.wasm_defs.specs.contracts.types.ValType as type
 use Rattle.wasm_defs.specs.contracts.operation.UnaryOp as unary
 use Rattle.wasm_defs.specs.contracts.operation.BinaryOp as binary
@@ -60,3 +65,26 @@ load_code op = row_that (is_access (Load op)) 0x28 accesses
 
 unfoldable pub store_code : StoreOp → ℕ
 store_code op = row_that (is_access (Store op)) 0x28 accesses
+
+-- ---- the type of an operation, and what a load or store accesses, is what its row states
+
+-- what a second list has where the first one has the first row that is so; where there is none, what is given
+abbrev pub beside : {A B : Type 0} → (A → Bool) → B → List (Option A) → List (Option B) → B
+beside is given [] values = given
+beside is given (x ∷ rows) [] = given
+beside is given (None ∷ rows) (y ∷ values) = beside is given rows values
+beside is given (Some x ∷ rows) (None ∷ values) = beside is given rows values
+beside is given (Some x ∷ rows) (Some y ∷ values) = if is x then y else beside is given rows values
+
+-- each operation has a row, and each load and store, so these are no row's
+abbrev no_type : NumericType
+no_type = record { operands = One I32; result = I32 }
+
+abbrev no_access : AccessType
+no_access = record { value = I32; alignment = 0 }
+
+abbrev pub row_type : Operation → NumericType
+row_type op = beside (is_operation op) no_type operations OPERATION_TYPES
+
+abbrev pub row_access : Access → AccessType
+row_access a = beside (is_access a) no_access accesses ACCESS_TYPES

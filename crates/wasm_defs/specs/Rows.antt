@@ -1,27 +1,16 @@
 -- What the rows of the tables of opcodes say: each states its opcode, and the type of its instruction (WebAssembly Core 2.0, 3.3.1 and 3.3.7).
 use Rattle.std.specs.Prelude.{◌≡◌, ℕ, zero, suc, ◌-◌, List, [], ◌∷◌, Some, slice_get, option_map}
-use Rattle.wasm_defs.specs.declared.operation.Operands.{Operands}
-use Rattle.wasm_defs.specs.declared.operation.Operands.TheVariants.{One, Two}
-use Rattle.wasm_defs.specs.declared.operation.NumericType.{NumericType}
 use Rattle.wasm_defs.specs.declared.operation.Operation.{Operation}
 use Rattle.wasm_defs.specs.declared.operation.LoadOp.{LoadOp}
 use Rattle.wasm_defs.specs.declared.operation.StoreOp.{StoreOp}
 use Rattle.wasm_defs.specs.declared.opcodes.TheConstants.{OPERATION_CODES, OPERATION_TYPES, ACCESS_CODES, ACCESS_TYPES}
 use Rattle.wasm_defs.specs.Opcodes.{operation_code, load_code, store_code}
-use Rattle.wasm_defs.specs.Typing.{Types, Signature, operated, load_type, load_alignment, store_type, store_alignment}
+use Rattle.wasm_defs.specs.Typing.{signature_in, operated, load_type, load_alignment, store_type, store_alignment}
 
 -- so many numbers, from n upward
 abbrev pub upward : (n count : ℕ) → List ℕ
 upward n zero = []
 upward n (suc count) = n ∷ upward (suc n) count
-
--- topmost first
-abbrev pub operand_types : Operands → Types
-operand_types (One t) = t ∷ []
-operand_types (Two t u) = u ∷ t ∷ []
-
-abbrev pub signature_in : NumericType → Signature
-signature_in t = record { params = operand_types t.operands; results = t.result ∷ [] }
 
 -- the opcodes that the rows state are in order
 abbrev pub OperationsAreInOrder : Type 0

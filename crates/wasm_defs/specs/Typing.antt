@@ -7,19 +7,20 @@ use Rattle.wasm_defs.specs.declared.context.GlobalType.{GlobalType}
 use Rattle.wasm_defs.specs.declared.token.BlockType.{BlockType}
 use Rattle.wasm_defs.specs.declared.token.BlockType.TheVariants.{Empty, Value, Index}
 use Rattle.wasm_defs.specs.declared.operation.ConvertOp.{ConvertOp}
-use Rattle.wasm_defs.specs.declared.operation.ConvertOp.TheVariants.{Wrap, ExtendS, ExtendU}
 use Rattle.wasm_defs.specs.declared.operation.ExtendOp.{ExtendOp}
-use Rattle.wasm_defs.specs.declared.operation.ExtendOp.TheVariants.{I32Extend8S, I32Extend16S, I64Extend8S, I64Extend16S, I64Extend32S}
 use Rattle.wasm_defs.specs.declared.operation.Operation.{Operation}
 use Rattle.wasm_defs.specs.declared.operation.Operation.TheVariants.{Unary, Test, Binary, Compare, Convert, Extend}
+use Rattle.wasm_defs.specs.declared.operation.Operands.{Operands}
+use Rattle.wasm_defs.specs.declared.operation.Operands.TheVariants.{One, Two}
+use Rattle.wasm_defs.specs.declared.operation.NumericType.{NumericType}
+use Rattle.wasm_defs.specs.declared.operation.Access.TheVariants as access
 use Rattle.wasm_defs.specs.declared.operation.LoadOp.{LoadOp}
-use Rattle.wasm_defs.specs.declared.operation.LoadOp.TheVariants.{I32Load, I64Load, I32Load8S, I32Load8U, I32Load16S, I32Load16U, I64Load8S, I64Load8U, I64Load16S, I64Load16U, I64Load32S, I64Load32U}
 use Rattle.wasm_defs.specs.declared.operation.StoreOp.{StoreOp}
-use Rattle.wasm_defs.specs.declared.operation.StoreOp.TheVariants.{I32Store, I64Store, I32Store8, I32Store16, I64Store8, I64Store16, I64Store32}
 use Rattle.wasm_defs.specs.declared.token.BulkOp.{BulkOp}
 use Rattle.wasm_defs.specs.declared.token.BulkOp.TheVariants.{Fill, Copy, Init}
 use Rattle.wasm_defs.specs.declared.token.Plain.{Plain}
 use Rattle.wasm_defs.specs.declared.token.Plain.TheVariants.{Unreachable, Nop, Br, BrIf, BrTable, Return, Call, CallIndirect, Drop, Select, LocalGet, LocalSet, LocalTee, GlobalGet, GlobalSet, Load, Store, MemorySize, MemoryGrow, Bulk, DataDrop, Const, Numeric}
+use Rattle.wasm_defs.specs.Opcodes.{row_type, row_access}
 use Rattle.wasm_defs.specs.Trees.{Seq, Nothing, Simple, Block, Loop, If, IfElse}
 
 abbrev pub Types : Type 0
@@ -99,18 +100,21 @@ are_labels taken types (l ∷ ls) = are_these types (slice_get taken l) && are_l
 
 -- ---- numeric instructions (Core 3.3.1)
 
+-- topmost first
+abbrev pub operand_types : Operands → Types
+operand_types (One t) = t ∷ []
+operand_types (Two t u) = u ∷ t ∷ []
+
+abbrev pub signature_in : NumericType → Signature
+signature_in t = record { params = operand_types t.operands; results = t.result ∷ [] }
+
+-- of those that no group gives a type, as their rows have it
 abbrev pub converted : ConvertOp → Signature
-converted Wrap = record { params = I64 ∷ []; results = I32 ∷ [] }
-converted ExtendS = record { params = I32 ∷ []; results = I64 ∷ [] }
-converted ExtendU = record { params = I32 ∷ []; results = I64 ∷ [] }
+converted op = signature_in (row_type (Convert op))
 
 -- the type of the operand of a sign extension, and of what it gives
 abbrev pub extend_type : ExtendOp → ValType
-extend_type I32Extend8S = I32
-extend_type I32Extend16S = I32
-extend_type I64Extend8S = I64
-extend_type I64Extend16S = I64
-extend_type I64Extend32S = I64
+extend_type op = (row_type (Extend op)).result
 
 abbrev pub operated : Operation → Signature
 operated (Unary t op) = record { params = t ∷ []; results = t ∷ [] }
@@ -122,52 +126,18 @@ operated (Extend op) = record { params = extend_type op ∷ []; results = extend
 
 -- ---- memory instructions (Core 3.3.4)
 
+-- the type of the value, and the greatest alignment: so many bytes are loaded or stored, as a power of two
 abbrev pub load_type : LoadOp → ValType
-load_type I32Load = I32
-load_type I64Load = I64
-load_type I32Load8S = I32
-load_type I32Load8U = I32
-load_type I32Load16S = I32
-load_type I32Load16U = I32
-load_type I64Load8S = I64
-load_type I64Load8U = I64
-load_type I64Load16S = I64
-load_type I64Load16U = I64
-load_type I64Load32S = I64
-load_type I64Load32U = I64
+load_type op = (row_access (access.Load op)).value
 
--- the greatest alignment: so many bytes are loaded, as a power of two
 abbrev pub load_alignment : LoadOp → ℕ
-load_alignment I32Load = 2
-load_alignment I64Load = 3
-load_alignment I32Load8S = 0
-load_alignment I32Load8U = 0
-load_alignment I32Load16S = 1
-load_alignment I32Load16U = 1
-load_alignment I64Load8S = 0
-load_alignment I64Load8U = 0
-load_alignment I64Load16S = 1
-load_alignment I64Load16U = 1
-load_alignment I64Load32S = 2
-load_alignment I64Load32U = 2
+load_alignment op = (row_access (access.Load op)).alignment
 
 abbrev pub store_type : StoreOp → ValType
-store_type I32Store = I32
-store_type I64Store = I64
-store_type I32Store8 = I32
-store_type I32Store16 = I32
-store_type I64Store8 = I64
-store_type I64Store16 = I64
-store_type I64Store32 = I64
+store_type op = (row_access (access.Store op)).value
 
 abbrev pub store_alignment : StoreOp → ℕ
-store_alignment I32Store = 2
-store_alignment I64Store = 3
-store_alignment I32Store8 = 0
-store_alignment I32Store16 = 1
-store_alignment I64Store8 = 0
-store_alignment I64Store16 = 1
-store_alignment I64Store32 = 2
+store_alignment op = (row_access (access.Store op)).alignment
 
 -- an instruction that wants a condition to hold
 abbrev pub only_if : Bool → Rule → Rule

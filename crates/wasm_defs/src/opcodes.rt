@@ -2,7 +2,7 @@
 //! grammar, tests and documents read them, and `rows_have_types` says that the types which they state are those of typing.
 
 ghost use Rattle.std.specs.Prelude.{◌≡◌, ◌-◌, ◌≤◌, slice_get};
-ghost use Rattle.wasm_defs.specs.Opcodes.{operations, accesses};
+ghost use Rattle.wasm_defs.specs.Opcodes.{operations, accesses, row_access};
 
 use crate::operation::Access::*;
 use crate::operation::BinaryOp::*;
@@ -155,8 +155,9 @@ macro_rules! numeric_rows {
 
 /// Loads and stores: the opcode, the name, the access, the type of the value, and the greatest alignment, as a power of two.
 macro_rules! access_rows {
-    ($read:ident) => {
+    ($read:ident $($access:ident)?) => {
         $read! {
+            $($access)?
             0x28 "i32.load" Load(I32Load) I32 2;
             0x29 "i64.load" Load(I64Load) I64 3;
             0x2A "f32.load";
@@ -223,6 +224,15 @@ macro_rules! accesses_of {
 macro_rules! access_types_of {
     ($($code:literal $name:literal $($op:ident ($x:ident) $t:ident $most:literal)?;)*) => {
         [$(if_any!($(AccessType { value: $t, alignment: $most })?)),*]
+    };
+}
+
+/// The type of an access, by its row.
+macro_rules! access_type {
+    ($access:ident $($code:literal $name:literal $($op:ident ($x:ident) $t:ident $most:literal)?;)*) => {
+        match $access {
+            $($($op($x) => AccessType { value: $t, alignment: $most },)?)*
+        }
     };
 }
 
@@ -297,6 +307,13 @@ impl Operation {
 }
 
 impl Access {
+    /// What it accesses, as its row has it.
+    pub fn ty(self) -> AccessType
+        ensures { result ≡ row_access self }
+    {
+        access_rows!(access_type self)
+    }
+
     /// The load or store of an opcode from 0x28 on: `None` past the table, `Some(None)` for one that is left out.
     pub fn of_opcode(opcode: u8) -> Option<Option<Access>>
         requires { 0x28 ≤ opcode }
