@@ -17,7 +17,7 @@ ghost use Rattle.body_compiler.specs.Going.{IsGoing};
 
 use crate::code::{BodyStop, judge_code, stop_of};
 use crate::function_builder::{begin, finish};
-use crate::locals::declare_locals;
+use crate::opened::{OpenedBody, open_body};
 use body_validator::Check;
 use frame_layout::Layout;
 use index_spaces::Context;
@@ -40,31 +40,33 @@ fn no_sites(alloc: Global) -> Vec<TrapSite>
     }
 }
 
-/// Compiles the code of a body whose first byte has the offset `first` and whose last one `last`, of a function of that type with so many
-/// declared locals, in a module whose table has so many rows at first and which counts its data segments or doesn't.
+/// Compiles the code of a body whose first byte has the offset `first`, in a module whose table has so many rows at first.
 fn compile_code(
     alloc: Global,
     rows: u32,
-    function: &FuncType,
-    locals: u32,
-    fields: &mut Fields<'_>,
-    mut check: Check<'_>,
-    counted: bool,
     first: u64,
-    last: u64,
+    body: OpenedBody<'_>,
 ) -> Result<Code, BodyStop>
-    requires small { TypeIsSmall function.now }
-    requires locals { locals ≤ max_locals }
-    requires bytes { AreBytes fields.old.rest }
-    requires few { length fields.old.rest ≤ max_body }
-    requires begun { check.checker ≡ start_checker check.context }
-    requires unlabelled { check.context.labels ≡ [] }
-    requires functions { FunctionsAreSmall check.context }
-    requires results { length check.context.results ≡ length function.now.results }
-    ensures { (c : ContextGiven) (code : SpelledGiven) (g : IsGoing counted c last fields.old check.entry code) → g.tokens ≡ []
-        → length c.results ≡ length function.now.results → Makes rows first c code
-        (record { params = length function.now.params; locals = locals; greatest = 0 }) (length function.now.results) result }
+    requires small { TypeIsSmall body.function.now }
+    requires locals { body.locals ≤ max_locals }
+    requires bytes { AreBytes body.fields.rest }
+    requires few { length body.fields.rest ≤ max_body }
+    requires begun { body.check.checker ≡ start_checker body.check.context }
+    requires unlabelled { body.check.context.labels ≡ [] }
+    requires functions { FunctionsAreSmall body.check.context }
+    requires results { length body.check.context.results ≡ length body.function.now.results }
+    ensures { (c : ContextGiven) (code : SpelledGiven) (g : IsGoing body.entry.counted c body.entry.last body.entry.fields body.entry.check code) → g.tokens ≡ []
+        → length c.results ≡ length body.entry.function.now.results → Makes rows first c code
+        (record { params = length body.entry.function.now.params; locals = body.entry.locals; greatest = 0 }) (length body.entry.function.now.results) result }
 {
+    let OpenedBody {
+        function,
+        locals,
+        mut fields,
+        mut check,
+        counted,
+        last,
+    } = body;
     let layout = Layout {
         params: function.params.as_slice().len() as u32,
         locals,
@@ -77,7 +79,13 @@ fn compile_code(
     };
     let mut sites = no_sites(alloc);
     match judge_code(
-        alloc, fields, &mut check, &mut draft, &mut sites, counted, last,
+        alloc,
+        &mut fields,
+        &mut check,
+        &mut draft,
+        &mut sites,
+        counted,
+        last,
     ) {
         Ok(()) => {}
         Err(stop) => return Err(stop),
@@ -119,30 +127,8 @@ pub fn compile(
     ensures { Compiles (first_minimum context.now.tables) offset (context_in context.now) index
         (body_read (is_some context.now.data_count) offset bytes.now) result }
 {
-    context.keeps_limits();
-    let counted = context.data_count().is_some();
-    let len = bytes.len() as u64;
-    let last = offset + len.saturating_sub(1);
-    let mut fields = Fields::new(bytes, offset, offset + len + 1);
-    let Ok(mut check) = Check::new(alloc, context, index) else {
-        return Err(BodyStop::NoMemory);
-    };
-    match declare_locals(&mut fields, &mut check) {
-        Ok(locals) => {
-            let function = context.type_of_function(index);
-            let rows = rows_of(context);
-            compile_code(
-                alloc,
-                rows,
-                function,
-                locals,
-                &mut fields,
-                check,
-                counted,
-                offset,
-                last,
-            )
-        }
-        Err(stop) => Err(stop_of(&stop, last)),
+    match open_body(alloc, context, index, bytes, offset) {
+        Ok(body) => compile_code(alloc, rows_of(context), offset, body),
+        Err(stop) => Err(stop),
     }
 }

@@ -28,7 +28,7 @@ ghost use Rattle.body_compiler.specs.Steps.{branches_plain, FunctionsAreSmall, N
 
 use crate::code::{BodyStop, malformed, stop_of};
 use crate::instructions::instruction;
-use crate::locals::declare_locals;
+use crate::opened::{OpenedBody, open_body};
 use crate::steps::{params_of, results_of};
 use crate::word_counts::{frame_words, plain_words};
 use body_validator::{Check, TokenStop};
@@ -325,29 +325,29 @@ fn count_code(
     Ok(())
 }
 
-/// Counts the words of the code of a body whose last byte has the offset `last`, of a function of that type with so many declared locals.
-fn measure_code(
-    alloc: Global,
-    function: &FuncType,
-    locals: u32,
-    fields: &mut Fields<'_>,
-    mut check: Check<'_>,
-    counted: bool,
-    last: u64,
-) -> Result<u64, BodyStop>
-    requires begun { check.checker ≡ start_checker check.context }
-    requires unlabelled { check.context.labels ≡ [] }
-    requires functions { FunctionsAreSmall check.context }
-    requires small { TypeIsSmall function.now }
-    ensures { (c : ContextGiven) (code : SpelledGiven) (g : IsGoing counted c last fields.old check.entry code) → g.tokens ≡ []
-        → length c.results ≡ length function.now.results → (rows first : ℕ) → Sizes rows first c code
-        (record { params = length function.now.params; locals = locals; greatest = 0 }) (length function.now.results) result }
+/// Counts the words of a body's code.
+fn measure_code(alloc: Global, body: OpenedBody<'_>) -> Result<u64, BodyStop>
+    requires begun { body.check.checker ≡ start_checker body.check.context }
+    requires unlabelled { body.check.context.labels ≡ [] }
+    requires functions { FunctionsAreSmall body.check.context }
+    requires small { TypeIsSmall body.function.now }
+    ensures { (c : ContextGiven) (code : SpelledGiven) (g : IsGoing body.entry.counted c body.entry.last body.entry.fields body.entry.check code) → g.tokens ≡ []
+        → length c.results ≡ length body.entry.function.now.results → (rows first : ℕ) → Sizes rows first c code
+        (record { params = length body.entry.function.now.params; locals = body.entry.locals; greatest = 0 }) (length body.entry.function.now.results) result }
 {
+    let OpenedBody {
+        function,
+        locals,
+        mut fields,
+        mut check,
+        counted,
+        last,
+    } = body;
     let results = function.results.as_slice().len() as u32;
     let Ok(mut counter) = WordCounter::new(alloc, frame_words(locals, results), results) else {
         return Err(BodyStop::NoMemory);
     };
-    match count_code(fields, &mut check, &mut counter, alloc, counted, last) {
+    match count_code(&mut fields, &mut check, &mut counter, alloc, counted, last) {
         Ok(()) => Ok(u64::from(counter.words)),
         Err(stop) => Err(stop),
     }
@@ -367,19 +367,8 @@ pub fn measure(
     ensures { Measures (first_minimum context.now.tables) offset (context_in context.now) index
         (body_read (is_some context.now.data_count) offset bytes.now) result }
 {
-    context.keeps_limits();
-    let counted = context.data_count().is_some();
-    let len = bytes.len() as u64;
-    let last = offset + len.saturating_sub(1);
-    let mut fields = Fields::new(bytes, offset, offset + len + 1);
-    let Ok(mut check) = Check::new(alloc, context, index) else {
-        return Err(BodyStop::NoMemory);
-    };
-    match declare_locals(&mut fields, &mut check) {
-        Ok(locals) => {
-            let function = context.type_of_function(index);
-            measure_code(alloc, function, locals, &mut fields, check, counted, last)
-        }
-        Err(stop) => Err(stop_of(&stop, last)),
+    match open_body(alloc, context, index, bytes, offset) {
+        Ok(body) => measure_code(alloc, body),
+        Err(stop) => Err(stop),
     }
 }
