@@ -1,7 +1,8 @@
 //! A piece of an image's bytes: as many as are written at once.
 
-ghost use Rattle.std.specs.Prelude.{◌≡◌, ◌++◌, ◌+◌, ◌*◌, ◌≤◌, ◌<◌, [], length, take, IfOk};
+ghost use Rattle.std.specs.Prelude.{◌≡◌, ◌++◌, ◌+◌, ◌*◌, ◌≤◌, ◌<◌, ℕ, List, [], length, take, IfOk};
 ghost use Rattle.std.specs.List.{flat_map};
+ghost use Rattle.std.proofs.Common.{arith};
 ghost use Rattle.image_format.specs.ImageBytes.{u32 as u32_bytes, place as place_bytes};
 
 use crate::image::TrapPlace;
@@ -11,13 +12,28 @@ use std::marker::Model;
 /// How many bytes a piece has at most.
 const PIECE_BYTES: usize = 65_536;
 
-/// How many instruction words a piece encodes at most, each in 4 bytes.
-const PIECE_WORDS: usize = 16_384;
+/// A value whose encoding has the same number of bytes whatever it is.
+pub trait FixedSize {
+    /// Its encoding.
+    ghost encoding: { Self → List ℕ };
 
-/// How many trap sites a piece encodes at most, each in 12 bytes.
-const PIECE_PLACES: usize = 5_461;
+    ghost BYTES: { ℕ };
 
-/// The encoding of some instruction words or trap sites of an image, 64 KiB at most. Contracts see its bytes.
+    /// How many bytes it has.
+    const BYTES: usize;
+
+    ghost some: { 0 < BYTES };
+
+    ghost few: { BYTES ≤ 12 };
+
+    /// Writes the encoding at an index.
+    fn write_at(&self, room: &mut [u8], at: usize)
+        requires { at + BYTES ≤ length room.old }
+        ensures bytes { take (at + BYTES) room.new ≡ take at room.old ++ encoding self.now }
+        ensures len { length room.new ≡ length room.old };
+}
+
+/// The encoding of some elements of a list of an image, 64 KiB at most. Contracts see its bytes.
 #[derive(Drop)]
 pub struct Piece {
     room: Vec<u8>,
@@ -41,47 +57,52 @@ fn zeros(alloc: Global, len: usize) -> Result<Vec<u8>, AllocError>
     vec![in alloc; 0; len]
 }
 
-/// Writes a number at an index.
-#[inline(always)]
-#[tactic(auto, unfolding(crate::specs::ImageBytes::u32))]
-fn put_number(room: &mut [u8], at: usize, number: u32)
-    requires { at + 4 ≤ length room.old }
-    ensures bytes { take (at + 4) room.new ≡ take at room.old ++ u32_bytes number }
-    ensures len { length room.new ≡ length room.old }
-{
-    room[at..at + 4].copy_from_slice(&number.to_le_bytes());
-}
+impl FixedSize for u32 {
+    ghost encoding = { u32_bytes };
 
-/// Writes a trap site at an index.
-fn put_place(room: &mut [u8], at: usize, place: &TrapPlace)
-    requires { at + 12 ≤ length room.old }
-    ensures bytes { take (at + 12) room.new ≡ take at room.old ++ place_bytes place.now }
-    ensures len { length room.new ≡ length room.old }
-{
-    put_number(room, at, place.offset);
-    put_number(room, at + 4, place.function);
-    put_number(room, at + 8, place.module_offset);
-}
+    ghost BYTES = { 4 };
 
-/// Writes instruction words, from the first byte on.
-fn put_words(room: &mut [u8], words: &[u32])
-    requires { 4 * length words.now ≤ length room.old }
-    ensures bytes { take (4 * length words.now) room.new ≡ flat_map u32_bytes words.now }
-    ensures len { length room.new ≡ length room.old }
-{
-    for (index, word) in words.iter().enumerate() {
-        put_number(room, 4 * index, *word);
+    const BYTES: usize = 4;
+
+    ghost some = { omega arith };
+
+    ghost few = { omega arith };
+
+    #[inline(always)]
+    #[tactic(auto, unfolding(crate::specs::ImageBytes::u32))]
+    fn write_at(&self, room: &mut [u8], at: usize) {
+        room[at..at + 4].copy_from_slice(&self.to_le_bytes());
     }
 }
 
-/// Writes trap sites, from the first byte on.
-fn put_places(room: &mut [u8], places: &[TrapPlace])
-    requires { 12 * length places.now ≤ length room.old }
-    ensures bytes { take (12 * length places.now) room.new ≡ flat_map place_bytes places.now }
+impl FixedSize for TrapPlace {
+    ghost encoding = { place_bytes };
+
+    ghost BYTES = { 12 };
+
+    const BYTES: usize = 12;
+
+    ghost some = { omega arith };
+
+    ghost few = { omega arith };
+
+    fn write_at(&self, room: &mut [u8], at: usize) {
+        self.offset.write_at(room, at);
+        self.function.write_at(room, at + 4);
+        self.module_offset.write_at(room, at + 8);
+    }
+}
+
+/// Writes the encodings of values, from the first byte on.
+fn write_items<T: FixedSize>(room: &mut [u8], items: &[T])
+    requires { T.BYTES * length items.now ≤ length room.old }
+    ensures bytes { take (T.BYTES * length items.now) room.new ≡ flat_map T.encoding items.now }
     ensures len { length room.new ≡ length room.old }
 {
-    for (index, place) in places.iter().enumerate() {
-        put_place(room, 12 * index, place);
+    let mut at = 0;
+    for item in items {
+        item.write_at(room, at);
+        at += T::BYTES;
     }
 }
 
@@ -103,27 +124,15 @@ impl Piece {
         &self.room.as_slice()[..self.held]
     }
 
-    /// Replaces the bytes by the encoding of the first of these instruction words, as many as fit, and returns how many these are.
-    pub fn encode_words(&mut self, words: &[u32]) -> usize
-        ensures bytes { self.new ≡ flat_map u32_bytes (take result words.now) }
-        ensures within { result ≤ length words.now }
-        ensures some { 0 < length words.now → 0 < result }
+    /// Replaces the bytes by the encoding of the first of these values, as many as fit, and returns how many these are.
+    pub fn encode<T: FixedSize>(&mut self, items: &[T]) -> usize
+        ensures bytes { self.new ≡ flat_map T.encoding (take result items.now) }
+        ensures within { result ≤ length items.now }
+        ensures some { 0 < length items.now → 0 < result }
     {
-        let count = words.len().min(PIECE_WORDS);
-        put_words(self.room.as_mut_slice(), &words[..count]);
-        self.held = 4 * count;
-        count
-    }
-
-    /// Replaces the bytes by the encoding of the first of these trap sites, as many as fit, and returns how many these are.
-    pub fn encode_places(&mut self, places: &[TrapPlace]) -> usize
-        ensures bytes { self.new ≡ flat_map place_bytes (take result places.now) }
-        ensures within { result ≤ length places.now }
-        ensures some { 0 < length places.now → 0 < result }
-    {
-        let count = places.len().min(PIECE_PLACES);
-        put_places(self.room.as_mut_slice(), &places[..count]);
-        self.held = 12 * count;
+        let count = items.len().min(PIECE_BYTES / T::BYTES);
+        write_items(self.room.as_mut_slice(), &items[..count]);
+        self.held = T::BYTES * count;
         count
     }
 }

@@ -3,26 +3,26 @@
 ghost use Rattle.std.specs.Prelude.{◌≡◌, ◌≤◌, ◌<◌, ◌^◌, ◌-◌, ◌++◌, true, nat_lt, length, IfOk, OnErr};
 ghost use Rattle.std.specs.List.{flat_map};
 ghost use Rattle.image_format.specs.declared.limits.TheConstants.{IMAGE_BYTES};
-ghost use Rattle.image_format.specs.ImageBytes.{place, spelling, u32 as u32_bytes};
+ghost use Rattle.image_format.specs.ImageBytes.{place, spelling};
 ghost use Rattle.image_format.specs.Parts.{joined};
 ghost use Rattle.io_edges.specs.Streams.{WritesText};
 ghost use Rattle.stream_compile.specs.Running.{IsTold};
 ghost use Rattle.stream_compile.specs.Texts.{compiled, Told};
 
 use crate::writing::{SINK_FAILED, write_both};
-use image_format::{Image, Piece, ShortFields, TrapPlace, short_fields};
+use image_format::{FixedSize, Image, Piece, ShortFields, TrapPlace, short_fields};
 use io_edges::{Sink, write_all};
 use std::alloc::{AllocError, Global};
 
-/// Writes instruction words, a piece at a time, and says whether the sink took them.
-fn write_words<O: Sink>(out: &mut O, piece: &mut Piece, words: &[u32]) -> bool
+/// Writes the elements of a list, a piece at a time, and says whether the sink took them.
+fn write_items<T: FixedSize, O: Sink>(out: &mut O, piece: &mut Piece, items: &[T]) -> bool
     requires { O.is_open out.old ≡ true }
-    ensures text { WritesText result (flat_map u32_bytes words.now) (O.written out.old) (O.written out.new) (O.faults out.old) (O.faults out.new) }
+    ensures text { WritesText result (flat_map T.encoding items.now) (O.written out.old) (O.written out.new) (O.faults out.old) (O.faults out.new) }
     ensures open { result ≡ true → O.is_open out.new ≡ true }
 {
     let mut from = 0;
-    while from < words.len() {
-        let count = piece.encode_words(&words[from..]);
+    while from < items.len() {
+        let count = piece.encode(&items[from..]);
         if !write_all(out, piece.as_slice()) {
             return false;
         }
@@ -31,45 +31,20 @@ fn write_words<O: Sink>(out: &mut O, piece: &mut Piece, words: &[u32]) -> bool
     true
 }
 
-/// Writes trap sites, a piece at a time, and says whether the sink took them.
-fn write_places<O: Sink>(out: &mut O, piece: &mut Piece, places: &[TrapPlace]) -> bool
+/// Writes the fields before a list, and the list.
+fn write_list<T: FixedSize, O: Sink>(
+    out: &mut O,
+    piece: &mut Piece,
+    front: &[u8],
+    items: &[T],
+) -> bool
     requires { O.is_open out.old ≡ true }
-    ensures text { WritesText result (flat_map place places.now) (O.written out.old) (O.written out.new) (O.faults out.old) (O.faults out.new) }
-    ensures open { result ≡ true → O.is_open out.new ≡ true }
-{
-    let mut from = 0;
-    while from < places.len() {
-        let count = piece.encode_places(&places[from..]);
-        if !write_all(out, piece.as_slice()) {
-            return false;
-        }
-        from += count;
-    }
-    true
-}
-
-/// Writes the fields before the instruction words, and the words.
-fn write_text<O: Sink>(out: &mut O, piece: &mut Piece, front: &[u8], words: &[u32]) -> bool
-    requires { O.is_open out.old ≡ true }
-    ensures text { WritesText result (front.now ++ flat_map u32_bytes words.now) (O.written out.old) (O.written out.new) (O.faults out.old)
+    ensures text { WritesText result (front.now ++ flat_map T.encoding items.now) (O.written out.old) (O.written out.new) (O.faults out.old)
         (O.faults out.new) }
     ensures open { result ≡ true → O.is_open out.new ≡ true }
 {
     if write_all(out, front) {
-        write_words(out, piece, words)
-    } else {
-        false
-    }
-}
-
-/// Writes the fields before the trap sites, and the sites.
-fn write_traps<O: Sink>(out: &mut O, piece: &mut Piece, front: &[u8], places: &[TrapPlace]) -> bool
-    requires { O.is_open out.old ≡ true }
-    ensures text { WritesText result (front.now ++ flat_map place places.now) (O.written out.old) (O.written out.new) (O.faults out.old) (O.faults out.new) }
-    ensures open { result ≡ true → O.is_open out.new ≡ true }
-{
-    if write_all(out, front) {
-        write_places(out, piece, places)
+        write_items(out, piece, items)
     } else {
         false
     }
@@ -88,7 +63,7 @@ fn write_rest<O: Sink>(
     ensures { WritesText result ((front.now ++ flat_map place places.now) ++ (count.now ++ passive.now)) (O.written out.old) (O.written out.new)
         (O.faults out.old) (O.faults out.new) }
 {
-    if write_traps(out, piece, front, places) {
+    if write_list(out, piece, front, places) {
         write_both(out, count, passive)
     } else {
         false
@@ -106,7 +81,7 @@ fn write_parts<O: Sink>(out: &mut O, piece: &mut Piece, fields: &ShortFields, im
     let places = image.places.as_slice();
     let count = fields.before_passive.as_slice();
     let passive = image.passive.as_slice();
-    if write_text(out, piece, front, words) {
+    if write_list(out, piece, front, words) {
         write_rest(out, piece, middle, places, count, passive)
     } else {
         false
