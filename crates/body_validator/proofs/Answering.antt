@@ -1,5 +1,5 @@
 -- A checker's step accepts exactly the viable tokens.
-use Rattle.std.proofs.Common.{◌≡◌, ℕ, Bool, List, [], ◌∷◌, ◌++◌, Option, None, Some, Result, Ok, Err, refl, sym, ap, ◌∙◌, subst}
+use Rattle.std.proofs.Common.{◌≡◌, ℕ, Bool, List, [], ◌∷◌, ◌++◌, Option, None, Some, IfSome, Result, Ok, Err, refl, sym, ap, ◌∙◌, subst}
 use Rattle.wasm_defs.specs.declared.fault.Kind.{Kind}
 use Rattle.wasm_defs.specs.declared.token.Token.{Token}
 use Rattle.body_validator.specs.declared.check.Step.{Step}
@@ -86,3 +86,12 @@ reached-viable c tokens reach = accepted-viable c.context tokens c.checker.frame
 pub reached-body : (c : Checked) (tokens : List Token) → c.checker.frames ≡ [] → IsReached tokens c → (tree : Seq) × Tree tokens tree × IsBody c.context tree
 reached-body c tokens over reach =
     finished-body c.context tokens (reaches c.context tokens c.checker reach ∙ ap (λ (fs : Frames). Some fs) over)
+
+-- and so of a token that was answered, or left
+pub maybe_exact : (offset : ℕ) (tokens : List Token) (t : Token) (r : Option (Result Step TokenStop)) (old new : Checked) → IfSome r (λ s. Answered offset t s old new) → IsReached tokens old → IfSome r (λ s. IsAnswered tokens t s old new)
+maybe_exact offset tokens t None old new h reach = tt
+maybe_exact offset tokens t (Some r) old new h reach = answered_exact offset tokens t r old new h reach
+
+pub maybe_placed : (offset : ℕ) (tokens : List Token) (t : Token) (r : Option (Result Step TokenStop)) (old new : Checked) → IfSome r (λ s. Answered offset t s old new) → IsReached tokens old → IfSome r (λ s. IsPlaced old.context tokens t s)
+maybe_placed offset tokens t None old new h reach = tt
+maybe_placed offset tokens t (Some r) old new h reach = answered_placed offset tokens t r old new h reach

@@ -13,8 +13,9 @@
 //! check.token(36, i64.eqz)        Ok(Step { live: false, .. }): what isn't reachable may take anything
 //! ```
 
-ghost use Rattle.std.specs.Prelude.{◌≡◌, ◌↔◌, IsTrue, IsSome, List, [], ◌∷◌, ◌++◌, length, IfOk, OnOk};
+ghost use Rattle.std.specs.Prelude.{◌≡◌, ◌↔◌, IsTrue, IsSome, List, [], ◌∷◌, ◌++◌, length, IfOk, IfSome, OnOk, None};
 ghost use Rattle.wasm_defs.specs.declared.token.Token.{Token as TokenGiven};
+ghost use Rattle.wasm_defs.specs.declared.token.Token.TheVariants.{Plain as PlainGiven};
 ghost use Rattle.wasm_defs.specs.declared.types.FuncType.{FuncType as FuncTypeGiven};
 ghost use Rattle.wasm_defs.specs.Bodies.{Group};
 ghost use Rattle.wasm_defs.specs.Context.{type_of_function};
@@ -30,12 +31,12 @@ use crate::locals::Locals;
 use crate::operands::Stop;
 use crate::scope::Scope;
 use crate::stack::Stack;
-use crate::steps::{kind_of_fault, take};
+use crate::steps::{kind_of_fault, take, try_plain};
 use index_spaces::Context;
 use std::alloc::{AllocError, AllocFailed, Global};
 use std::marker::Model;
 use thiserror::Error;
-use wasm_defs::{Kind, MAX_LOCALS, Refusal, Token, ValType};
+use wasm_defs::{Kind, MAX_LOCALS, Plain, Refusal, Token, ValType};
 
 /// Where a token is: whether the point before it is reachable, and the numbers of operands before and after it, those of the
 /// enclosing blocks among them. They count where their points are reachable: what follows `unreachable`, `br`, `br_table` or
@@ -175,6 +176,44 @@ impl<'a> Check<'a> {
             → IsPlaced self.old.context tokens token.now result }
     {
         self.answer(offset, token)
+    }
+
+    /// Takes one of the commonest instructions as `token` does, or leaves it to `token`: then the check is as before.
+    ///
+    /// It is inlined where the instruction is known, so that of its cases one is left.
+    #[inline(always)]
+    pub fn common(&mut self, offset: u64, plain: &Plain) -> Option<Result<Step, TokenStop>>
+        ensures steps { IfSome result (λ r. Answered offset (PlainGiven plain.now) r self.old self.new) }
+        ensures exact { (tokens : List TokenGiven) → IsReached tokens self.old
+            → IfSome result (λ r. IsAnswered tokens (PlainGiven plain.now) r self.old self.new) }
+        ensures places { (tokens : List TokenGiven) → IsReached tokens self.old
+            → IfSome result (λ r. IsPlaced self.old.context tokens (PlainGiven plain.now) r) }
+        ensures left { result ≡ None → self.new ≡ self.old }
+    {
+        self.common_answer(offset, plain)
+    }
+
+    #[inline(always)]
+    fn common_answer(&mut self, _offset: u64, plain: &Plain) -> Option<Result<Step, TokenStop>>
+        ensures steps { IfSome result (λ r. Answered _offset (PlainGiven plain.now) r self.old self.new) }
+        ensures left { result ≡ None → self.new ≡ self.old }
+    {
+        let live = self.stack.is_live();
+        let height_before = self.stack.height();
+        match try_plain(&self.scope, &mut self.stack, plain) {
+            Ok(()) => {}
+            Err(Stop::Refused) => return None,
+            Err(Stop::NoMemory) => return Some(Err(TokenStop::NoMemory)),
+        }
+        let height_after = self.stack.height();
+        if self.greatest < height_after && self.stack.is_live() {
+            self.greatest = height_after;
+        }
+        Some(Ok(Step {
+            live,
+            height_before,
+            height_after,
+        }))
     }
 
     fn answer(&mut self, offset: u64, token: &Token) -> Result<Step, TokenStop>

@@ -2,6 +2,7 @@
 
 ghost use Rattle.std.specs.Prelude.{◌≡◌};
 ghost use Rattle.body_validator.specs.Checking.{applied, labels, step, fault_kind};
+ghost use Rattle.wasm_defs.specs.declared.token.Token.TheVariants.{Plain as PlainGiven};
 ghost use Rattle.wasm_defs.specs.Typing.{rule_of};
 ghost use Rattle.body_validator.specs.Exchange.{Steps, Tries};
 ghost use Rattle.body_validator.specs.Scopes.{rule_meant, unlabelled, with_labels, begun};
@@ -135,6 +136,14 @@ fn take_plain<'a>(scope: &Scope<'a>, stack: &mut Stack<'a>, plain: &Plain) -> Re
             apply(stack, rule)
         }
     }
+}
+
+/// Takes one more token that is one of the commonest instructions, where the single operands do. A refusal says nothing.
+#[inline(always)]
+pub fn try_plain<'a>(scope: &Scope<'a>, stack: &mut Stack<'a>, plain: &Plain) -> Result<(), Stop>
+    ensures { Tries (step (unlabelled scope.now) (PlainGiven plain.now) stack.old) result stack.old stack.new }
+{
+    take_common(scope, stack, plain)
 }
 
 fn begin<'a>(
