@@ -1,5 +1,5 @@
 -- What comes of a batch of bodies.
-use Rattle.std.specs.Prelude.{◌≡◌, ◌≢◌, ℕ, ◌+◌, ◌*◌, ◌<◌, ◌≤◌, List, [], ◌∷◌, ◌++◌, length, slice_index, Option, None, Some, IsSome, is_some, Result, Ok, Err}
+use Rattle.std.specs.Prelude.{◌≡◌, ◌≢◌, ◌⊎◌, ℕ, ◌+◌, ◌*◌, ◌<◌, ◌≤◌, List, [], ◌∷◌, ◌++◌, length, slice_index, Option, None, Some, IsSome, is_some, Result, Ok, Err}
 use Rattle.std.specs.Arc.{arc_value}
 use Rattle.wasm_defs.specs.declared.fault.Refusal.{Refusal}
 use Rattle.wasm_defs.specs.Bodies.{body_read}
@@ -36,16 +36,20 @@ IsRoomFor cells taken code = (taken.room ≡ cells.room.table) × (taken.words �
 abbrev pub IsExhausted : Store → Short → Type 0
 IsExhausted cells short = (short.room ≡ cells.room.table) × (short.left ≡ 0)
 
+-- a worker makes at most so many words of one body
+abbrev pub max_draft : ℕ
+max_draft = 1048576
+
 -- This is kept of the code of the function with this index: a note of the function's cell, which knows the code; or the code, with such
--- a note, which knows another one; and the room that was taken for it. Or how many words it has, where the function has no cell, or
--- fewer were left, which were taken. Or that it has more words than a text
+-- a note, which knows another one; and the room that was taken for it. Or how many words it has, where the function has no cell, a
+-- worker makes fewer, or fewer were left, which were taken. Or that it has more words than a text
 abbrev pub Stores : Store → ℕ → Stored → Code → Type 0
 Stores cells index (Cell note taken) code =
     (index < length cells.names) × (note.cell ≡ slice_index cells.names index) × (note.known ≡ Some code) × IsRoomFor cells taken code
 Stores cells index (Apart note taken kept) code =
     (index < length cells.names) × (note.cell ≡ slice_index cells.names index) × ((held : Code) × (note.known ≡ Some held) × (held ≢ code))
     × (arc_value kept ≡ code) × IsRoomFor cells taken code
-Stores cells index (Judged words) code = (length cells.names ≤ index) × (words ≡ length code.words)
+Stores cells index (Judged words) code = ((length cells.names ≤ index) ⊎ (max_draft < length code.words)) × (words ≡ length code.words)
 Stores cells index (NoRoom words short) code =
     (index < length cells.names) × (words ≡ length code.words) × IsExhausted cells short × (short.taken < length code.words)
 Stores cells index TooLong code = max_text < 4 * length code.words

@@ -16,7 +16,10 @@ use rv_isa::Code;
 use std::alloc::{AllocError, Global};
 use std::collections::LinkedList;
 use std::sync::Arc;
-use wasm_defs::Refusal;
+use wasm_defs::{FuncType, Refusal};
+
+/// The most instruction words that a worker makes of one body, 4 MiB: each worker may be at such a body.
+const MAX_DRAFT: u64 = 1_048_576;
 
 /// What compiling a body made.
 #[derive(Drop)]
@@ -67,8 +70,8 @@ fn too_long(cells: &Cells) -> Stored
     Stored::TooLong
 }
 
-/// Validates a body whose function has no cell, and counts the instruction words of its code. They take room all the same.
-fn count_body(
+/// Compiles a body whose function has a cell, and stores its code unless that is too long for any text.
+fn make_code(
     alloc: Global,
     cells: &Cells,
     context: &Context,
@@ -76,49 +79,9 @@ fn count_body(
 ) -> Result<Made, AllocError>
     requires fits { FitsBody context.now body.now }
     requires low { IsLowBody body.now }
-    requires none { length cells.now.names ≤ body.now.index }
+    requires cell { body.now.index < length cells.now.names }
     ensures { IfOk result (IsMade context.now cells.now body.now) }
 {
-    let stored = match measure(
-        alloc,
-        context,
-        body.index,
-        body.bytes.as_slice(),
-        body.first,
-    ) {
-        Ok(words) => {
-            let _ = cells.take_room(words);
-            Stored::Judged(words)
-        }
-        Err(BodyStop::TooLong) => too_long(cells),
-        Err(BodyStop::Refused(refusal)) => return Ok(Made::Faulty(refusal)),
-        Err(BodyStop::NoMemory) => return Err(AllocError),
-    };
-    Ok(Made::Coded(RowCode {
-        index: body.index,
-        stored,
-    }))
-}
-
-/// Compiles a body, and stores its code unless that is too long for any text; where its function has no cell, the code is only counted.
-/// Where no room is left for any code, the body is left out.
-fn compile_body(
-    alloc: Global,
-    cells: &Cells,
-    context: &Context,
-    body: &Body,
-) -> Result<Made, AllocError>
-    requires fits { FitsBody context.now body.now }
-    requires low { IsLowBody body.now }
-    ensures { IfOk result (IsMade context.now cells.now body.now) }
-{
-    // Why: docs/DECISIONS.md, "Cells have room for as many words as a text"
-    if let Some(short) = cells.exhausted() {
-        return Ok(Made::Cut(short));
-    }
-    if body.index >= cells.count() {
-        return count_body(alloc, cells, context, body);
-    }
     let stored = match compile(
         alloc,
         context,
@@ -135,6 +98,96 @@ fn compile_body(
         index: body.index,
         stored,
     }))
+}
+
+/// The most values that a function, a block or a branch of these types takes or leaves.
+fn most_values(types: &[FuncType]) -> u64
+    ensures { result ≤ 1000 }
+{
+    let mut most = 0;
+    for ty in types {
+        most = most
+            .max(ty.params.as_slice().len())
+            .max(ty.results.as_slice().len());
+    }
+    most.min(1000) as u64
+}
+
+/// Whether a body is so long that its code may have more instruction words than a worker makes: a byte of it has at most 80 of them, and
+/// six more for each value that a branch takes along.
+fn may_be_long(context: &Context, body: &Body) -> bool {
+    let bytes = body.bytes.as_slice().len() as u64;
+    if bytes <= MAX_DRAFT / 6080 {
+        return false;
+    }
+    let types = context.types();
+    // where the types would take longer than the body, branches may take along as many values as any
+    let values = if types.len() as u64 <= bytes {
+        most_values(types)
+    } else {
+        1000
+    };
+    MAX_DRAFT / (80 + 6 * values) < bytes
+}
+
+/// Validates a body, and counts the instruction words of its code. Where they are more than a worker makes, or the function has no cell,
+/// they take room all the same, and else it is compiled.
+fn count_body(
+    alloc: Global,
+    cells: &Cells,
+    context: &Context,
+    body: &Body,
+) -> Result<Made, AllocError>
+    requires fits { FitsBody context.now body.now }
+    requires low { IsLowBody body.now }
+    ensures { IfOk result (IsMade context.now cells.now body.now) }
+{
+    let stored = match measure(
+        alloc,
+        context,
+        body.index,
+        body.bytes.as_slice(),
+        body.first,
+    ) {
+        Ok(words) => {
+            if body.index < cells.count() && words <= MAX_DRAFT {
+                return make_code(alloc, cells, context, body);
+            }
+            let _ = cells.take_room(words);
+            Stored::Judged(words)
+        }
+        Err(BodyStop::TooLong) => too_long(cells),
+        Err(BodyStop::Refused(refusal)) => return Ok(Made::Faulty(refusal)),
+        Err(BodyStop::NoMemory) => return Err(AllocError),
+    };
+    Ok(Made::Coded(RowCode {
+        index: body.index,
+        stored,
+    }))
+}
+
+/// Compiles a body, and stores its code unless that is too long for any text; where its function has no cell, or its code is longer than a
+/// worker makes, the code is only counted. Where no room is left for any code, the body is left out.
+fn compile_body(
+    alloc: Global,
+    cells: &Cells,
+    context: &Context,
+    body: &Body,
+) -> Result<Made, AllocError>
+    requires fits { FitsBody context.now body.now }
+    requires low { IsLowBody body.now }
+    ensures { IfOk result (IsMade context.now cells.now body.now) }
+{
+    // Why: docs/DECISIONS.md, "Cells have room for as many words as a text"
+    if let Some(short) = cells.exhausted() {
+        return Ok(Made::Cut(short));
+    }
+    // Why: docs/DECISIONS.md, "A worker makes no long code"
+    if body.index < cells.count() && !may_be_long(context, body) {
+        make_code(alloc, cells, context, body)
+    } else {
+        count_body(alloc, cells, context, body)
+    }
 }
 
 /// Compiles bodies, up to the first with an error, or until no room is left for any code: their codes, and what it stopped at.

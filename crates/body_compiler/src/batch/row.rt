@@ -13,7 +13,8 @@ pub enum Stored {
     Cell(CellNote, Reservation),
     /// The code, and a note of that cell, which knows that it holds another one. Room for its words was taken.
     Apart(CellNote, Reservation, Arc<Code, Global>),
-    /// How many instruction words the code has: the function has no cell, so the body was only validated.
+    /// How many instruction words the code has: the function has no cell, or they are more than a worker makes, so the body was only
+    /// validated.
     Judged(u64),
     /// How many instruction words the code has: the codes that are kept left fewer, so the body was only validated.
     NoRoom(u64, Shortage),

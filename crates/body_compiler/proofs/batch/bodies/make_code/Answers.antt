@@ -3,7 +3,7 @@ use Rattle.wasm_defs.specs.declared.fault.Refusal.{Refusal}
 use Rattle.body_compiler.specs.declared.code.BodyStop.TheVariants.{Refused}
 use Rattle.body_compiler.specs.BatchRows.{CompilesBody}
 use Rattle.body_compiler.proofs.Coding.{fault_inside, refused_of}
-use Rattle.body_compiler.proofs.batch.bodies.compile_body.Goals as goal
+use Rattle.body_compiler.proofs.batch.bodies.make_code.Goals as goal
 
 pub returns-in-Err-Refused : goal.returns-in-Err-Refused
 returns-in-Err-Refused c =
