@@ -20,3 +20,4 @@ pub mod CountingOn
 pub mod Whole
 pub mod Rests
 mod Coding
+pub mod Opcodes

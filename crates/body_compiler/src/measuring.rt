@@ -4,9 +4,9 @@
 //! A token is read and checked as where the body is compiled. Then its words are counted, which depend on no index and no
 //! address: only a branch has more of them for each value that it takes along.
 
-ghost use Rattle.std.specs.Prelude.{◌≡◌, ◌≢◌, ◌≤◌, ◌<◌, ◌+◌, ◌*◌, ◌^◌, true, false, ℕ, List, [], ◌∷◌, Some, None, IsSome, is_some, length, drop, reverse, slice_index_or, IfOk, IfErr, OnOk};
+ghost use Rattle.std.specs.Prelude.{◌≡◌, ◌≢◌, ◌≤◌, ◌<◌, ◌+◌, ◌*◌, ◌^◌, true, false, Bool, ℕ, List, [], ◌∷◌, Some, None, IsSome, is_some, length, drop, reverse, slice_index_or, IfOk, IfErr, OnOk};
 ghost use Rattle.rv_isa.specs.declared.compiled.Code.{Code as CodeGiven};
-ghost use Rattle.wasm_defs.specs.Bodies.{body_read, instruction, Spelled as SpelledGiven};
+ghost use Rattle.wasm_defs.specs.Bodies.{body_read, instruction, with_mem_arg, constant, Spelled as SpelledGiven};
 ghost use Rattle.wasm_defs.specs.Context.{type_of_function};
 ghost use Rattle.wasm_defs.specs.Fields.{Cursor as CursorGiven, Got, byte};
 ghost use Rattle.wasm_defs.specs.Instances.{first_minimum};
@@ -27,7 +27,8 @@ ghost use Rattle.body_compiler.specs.Going.{IsGoing};
 ghost use Rattle.body_compiler.specs.Steps.{branches_plain, FunctionsAreSmall, NamesPlain, NamesOpen, TypesLiftFew};
 
 use crate::code::{BodyStop, malformed, stop_of};
-use crate::instructions::instruction;
+use crate::immediates::{accessed_place, named_index, value};
+use crate::instructions::{access_of, instruction, operation_of};
 use crate::opened::{OpenedBody, open_body};
 use crate::steps::{params_of, results_of};
 use crate::word_counts::{frame_words, plain_words};
@@ -35,7 +36,7 @@ use body_validator::{Check, TokenStop};
 use index_spaces::Context;
 use leb_feed::Fields;
 use std::alloc::{AllocError, Global};
-use wasm_defs::{FuncType, MAX_TEXT, Plain, Token};
+use wasm_defs::{Access, FuncType, MAX_TEXT, Plain, Token, ValType};
 
 /// Those of a jump that takes so many values along.
 fn jump_words(takes: u32) -> u128
@@ -247,6 +248,149 @@ impl WordCounter {
     }
 }
 
+/// Checks a token that was read at an offset, and counts its words. Once there are too many, it is only checked.
+#[inline(never)]
+fn count_read(
+    check: &mut Check<'_>,
+    counter: &mut WordCounter,
+    at: u64,
+    token: &Token,
+) -> Result<(), BodyStop>
+    requires counts { AreCounted counter.old.too_long counter.old.takes.items check.old }
+    requires more { check.old.checker.frames ≢ [] }
+    ensures counts { OnOk result (AreCounted counter.new.too_long counter.new.takes.items check.new) }
+    ensures goes { (counted : Bool) (c : ContextGiven) (last b : ℕ) (before mid after : CursorGiven) (code : SpelledGiven) (front : ℕ)
+        → byte before ≡ Got (at, b) mid → instruction counted at b mid ≡ Got token.now after
+        → IsCountingOn counted counter.old.too_long c last before check.old code front (word_count counter.old.takes.items counter.old.words)
+        → GoesOnCounting counted c last code front result counter.new.too_long after check.new
+        (word_count counter.new.takes.items counter.new.words) }
+{
+    let live = match check.token(at, token) {
+        Ok(step) => step.live,
+        Err(TokenStop::Refused(refusal)) => return Err(BodyStop::Refused(refusal)),
+        Err(TokenStop::NoMemory) => return Err(BodyStop::NoMemory),
+    };
+    if counter.too_long {
+        return Ok(());
+    }
+    match counter.take(check.context().types(), live, token) {
+        Ok(()) => Ok(()),
+        Err(_) => Err(BodyStop::NoMemory),
+    }
+}
+
+/// Checks one of the commonest instructions as `count_read` does. It is inlined where the instruction is known, so that what depends on
+/// it is not asked again.
+#[inline(always)]
+fn count_common(
+    check: &mut Check<'_>,
+    counter: &mut WordCounter,
+    at: u64,
+    plain: Plain,
+) -> Result<(), BodyStop>
+    requires counts { AreCounted counter.old.too_long counter.old.takes.items check.old }
+    requires more { check.old.checker.frames ≢ [] }
+    ensures counts { OnOk result (AreCounted counter.new.too_long counter.new.takes.items check.new) }
+    ensures goes { (counted : Bool) (c : ContextGiven) (last b : ℕ) (before mid after : CursorGiven) (code : SpelledGiven) (front : ℕ)
+        → byte before ≡ Got (at, b) mid → instruction counted at b mid ≡ Got (PlainGiven plain) after
+        → IsCountingOn counted counter.old.too_long c last before check.old code front (word_count counter.old.takes.items counter.old.words)
+        → GoesOnCounting counted c last code front result counter.new.too_long after check.new
+        (word_count counter.new.takes.items counter.new.words) }
+{
+    match check.common(at, &plain) {
+        Some(Ok(step)) => {
+            if counter.too_long {
+                return Ok(());
+            }
+            counter.take_plain(step.live, &plain);
+            Ok(())
+        }
+        Some(Err(TokenStop::Refused(refusal))) => Err(BodyStop::Refused(refusal)),
+        Some(Err(TokenStop::NoMemory)) => Err(BodyStop::NoMemory),
+        None => count_read(check, counter, at, &Token::Plain(plain)),
+    }
+}
+
+/// Reads, checks and counts a load or a store, whose opcode was read at an offset.
+#[inline(always)]
+fn count_access(
+    fields: &mut Fields<'_>,
+    check: &mut Check<'_>,
+    counter: &mut WordCounter,
+    last: u64,
+    at: u64,
+    access: Access,
+) -> Result<(), BodyStop>
+    requires counts { AreCounted counter.old.too_long counter.old.takes.items check.old }
+    requires more { check.old.checker.frames ≢ [] }
+    ensures shrinks { OnOk result (length fields.new.rest ≤ length fields.old.rest) }
+    ensures counts { OnOk result (AreCounted counter.new.too_long counter.new.takes.items check.new) }
+    ensures goes { (counted : Bool) (c : ContextGiven) (b : ℕ) (before : CursorGiven) (code : SpelledGiven) (front : ℕ)
+        → byte before ≡ Got (at, b) fields.old → instruction counted at b fields.old ≡ with_mem_arg access fields.old
+        → IsCountingOn counted counter.old.too_long c last before check.old code front (word_count counter.old.takes.items counter.old.words)
+        → GoesOnCounting counted c last code front result counter.new.too_long fields.new check.new
+        (word_count counter.new.takes.items counter.new.words) }
+{
+    match accessed_place(fields) {
+        Ok(place) => match access {
+            Access::Load(op) => count_common(check, counter, at, Plain::Load(op, place)),
+            Access::Store(op) => count_common(check, counter, at, Plain::Store(op, place)),
+        },
+        Err(stop) => Err(stop_of(&stop, last)),
+    }
+}
+
+/// Reads, checks and counts a constant of a type, whose opcode was read at an offset.
+#[inline(always)]
+fn count_constant(
+    fields: &mut Fields<'_>,
+    check: &mut Check<'_>,
+    counter: &mut WordCounter,
+    last: u64,
+    at: u64,
+    ty: ValType,
+) -> Result<(), BodyStop>
+    requires counts { AreCounted counter.old.too_long counter.old.takes.items check.old }
+    requires more { check.old.checker.frames ≢ [] }
+    ensures shrinks { OnOk result (length fields.new.rest ≤ length fields.old.rest) }
+    ensures counts { OnOk result (AreCounted counter.new.too_long counter.new.takes.items check.new) }
+    ensures goes { (counted : Bool) (c : ContextGiven) (b : ℕ) (before : CursorGiven) (code : SpelledGiven) (front : ℕ)
+        → byte before ≡ Got (at, b) fields.old → instruction counted at b fields.old ≡ constant ty fields.old
+        → IsCountingOn counted counter.old.too_long c last before check.old code front (word_count counter.old.takes.items counter.old.words)
+        → GoesOnCounting counted c last code front result counter.new.too_long fields.new check.new
+        (word_count counter.new.takes.items counter.new.words) }
+{
+    match value(fields, ty) {
+        Ok(n) => count_common(check, counter, at, Plain::Const(ty, n)),
+        Err(stop) => Err(stop_of(&stop, last)),
+    }
+}
+
+/// Reads, checks and counts an instruction, whose opcode was read with its offset.
+fn count_other(
+    fields: &mut Fields<'_>,
+    check: &mut Check<'_>,
+    counter: &mut WordCounter,
+    alloc: Global,
+    counted: bool,
+    last: u64,
+    opcode: (u64, u8),
+) -> Result<(), BodyStop>
+    requires counts { AreCounted counter.old.too_long counter.old.takes.items check.old }
+    requires more { check.old.checker.frames ≢ [] }
+    ensures shrinks { OnOk result (length fields.new.rest ≤ length fields.old.rest) }
+    ensures counts { OnOk result (AreCounted counter.new.too_long counter.new.takes.items check.new) }
+    ensures goes { (c : ContextGiven) (before : CursorGiven) (code : SpelledGiven) (front : ℕ) → byte before ≡ Got opcode fields.old
+        → IsCountingOn counted counter.old.too_long c last before check.old code front (word_count counter.old.takes.items counter.old.words)
+        → GoesOnCounting counted c last code front result counter.new.too_long fields.new check.new
+        (word_count counter.new.takes.items counter.new.words) }
+{
+    match instruction(fields, alloc, counted, opcode.0, opcode.1) {
+        Ok(token) => count_read(check, counter, opcode.0, &token),
+        Err(stop) => Err(stop_of(&stop, last)),
+    }
+}
+
 /// Reads and checks the next token, and counts its words. Once there are too many, it is only checked.
 #[inline(always)]
 fn count_token(
@@ -270,28 +414,45 @@ fn count_token(
         Ok(byte) => byte,
         Err(stop) => return Err(stop_of(&stop, last)),
     };
-    match instruction(fields, alloc, counted, at, opcode) {
-        // here and not after the `match`, where the token would be copied once more
-        Ok(token) => {
-            let live = match check.token(at, &token) {
-                Ok(step) => step.live,
-                Err(TokenStop::Refused(refusal)) => return Err(BodyStop::Refused(refusal)),
-                Err(TokenStop::NoMemory) => return Err(BodyStop::NoMemory),
-            };
-            if counter.too_long {
-                return Ok(());
-            }
-            // most tokens ask neither for the types nor for memory
-            if let Token::Plain(plain) = &token {
-                counter.take_plain(live, plain);
-                return Ok(());
-            }
-            match counter.take(check.context().types(), live, &token) {
-                Ok(()) => Ok(()),
-                Err(_) => Err(BodyStop::NoMemory),
-            }
-        }
-        Err(stop) => Err(stop_of(&stop, last)),
+    // an arm for each opcode that is common: what depends on the opcode is not asked again, and its token is never in memory
+    match opcode {
+        0x05 => count_read(check, counter, at, &Token::Else),
+        0x0B => count_read(check, counter, at, &Token::End),
+        0x0D => match named_index(fields) {
+            Ok(x) => count_common(check, counter, at, Plain::BrIf(x)),
+            Err(stop) => Err(stop_of(&stop, last)),
+        },
+        0x20 => match named_index(fields) {
+            Ok(x) => count_common(check, counter, at, Plain::LocalGet(x)),
+            Err(stop) => Err(stop_of(&stop, last)),
+        },
+        0x21 => match named_index(fields) {
+            Ok(x) => count_common(check, counter, at, Plain::LocalSet(x)),
+            Err(stop) => Err(stop_of(&stop, last)),
+        },
+        0x22 => match named_index(fields) {
+            Ok(x) => count_common(check, counter, at, Plain::LocalTee(x)),
+            Err(stop) => Err(stop_of(&stop, last)),
+        },
+        0x23 => match named_index(fields) {
+            Ok(x) => count_common(check, counter, at, Plain::GlobalGet(x)),
+            Err(stop) => Err(stop_of(&stop, last)),
+        },
+        0x24 => match named_index(fields) {
+            Ok(x) => count_common(check, counter, at, Plain::GlobalSet(x)),
+            Err(stop) => Err(stop_of(&stop, last)),
+        },
+        0x41 => count_constant(fields, check, counter, last, at, ValType::I32),
+        0x42 => count_constant(fields, check, counter, last, at, ValType::I64),
+        0x28..=0x3E => match access_of(opcode) {
+            Some(access) => count_access(fields, check, counter, last, at, access),
+            None => count_other(fields, check, counter, alloc, counted, last, (at, opcode)),
+        },
+        0x45..=0xC4 => match operation_of(opcode) {
+            Some(op) => count_common(check, counter, at, Plain::Numeric(op)),
+            None => count_other(fields, check, counter, alloc, counted, last, (at, opcode)),
+        },
+        _ => count_other(fields, check, counter, alloc, counted, last, (at, opcode)),
     }
 }
 

@@ -1,4 +1,4 @@
-use Rattle.std.proofs.Common.{Bool, ◌≡◌, ◌∙◌, is_some, length, sym, ap, subst}
+use Rattle.std.proofs.Common.{Bool, ◌∙◌, length, sym, ap, subst}
 use Rattle.std.proofs.lemmas.List.{length-reverse}
 use Rattle.wasm_defs.specs.declared.types.FuncType.{FuncType}
 use Rattle.wasm_defs.specs.Bodies.{body_read}

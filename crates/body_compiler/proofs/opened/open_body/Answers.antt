@@ -1,7 +1,6 @@
 use Rattle.std.proofs.Common.{◌≡◌, ◌+◌, ◌∙◌, is_some, sym, ap, subst, arith}
 use Rattle.wasm_defs.specs.Bodies.{last_of}
 use Rattle.wasm_defs.specs.Context.{type_or_empty, type_of_function}
-use Rattle.wasm_defs.specs.Instances.{first_minimum}
 use Rattle.wasm_defs.specs.SmallTypes.{TypeIsSmall}
 use Rattle.wasm_laws.proofs.Exports.{function_is_small}
 use Rattle.index_spaces.specs.Spaces.{context_in}
