@@ -7,8 +7,8 @@ use Rattle.wasm_laws.specs.Sections.{AreBytes}
 use Rattle.body_compiler.specs.Going.{calling, IsCompiling, IsTaking}
 use Rattle.body_compiler.proofs.code.judge_code.Given as goal
 
-abbrev pub invariant-loop-alloc : goal.invariant-loop-alloc
-invariant-loop-alloc l = record {
+abbrev pub invariant-loop-reading : goal.invariant-loop-reading
+invariant-loop-reading l = record {
   layout : l.draft.layout ≡ l.fn.draft.layout;
   rows : l.draft.rows ≡ l.fn.draft.rows;
   held : IsHeld (draft l.draft.labels l.draft.words);
@@ -19,5 +19,5 @@ invariant-loop-alloc l = record {
       → IsTaking l.counted l.draft.too_long c l.last l.fields l.check code l.fn.draft.layout front (calling l.draft.labels l.draft.words l.draft.calls.items l.draft.rows l.sites.items);
 }
 
-abbrev pub decreases-loop-alloc : goal.decreases-loop-alloc
-decreases-loop-alloc l = length l.fields.rest
+abbrev pub decreases-loop-reading : goal.decreases-loop-reading
+decreases-loop-reading l = length l.fields.rest

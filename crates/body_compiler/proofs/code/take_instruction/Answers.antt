@@ -1,111 +1,184 @@
-use Rattle.std.proofs.Common.{◌≡◌, ℕ, ◌+◌, ◌++◌, ◌∙◌, List, length, refl, sym, ap, subst, arith}
-use Rattle.wasm_defs.specs.Faults.{tokens_of}
-use Rattle.body_compiler.proofs.Going.{going_of, instruction_shrinks, refused_token, stop_behind}
-use Rattle.body_compiler.proofs.Lengths.{takes_behind}
-use Rattle.body_validator.specs.Checking.{guarded}
-use Rattle.control_emit.specs.Emits.{draft}
-use Rattle.control_emit.specs.Walks.{token_sites}
-use Rattle.body_compiler.proofs.Spelled.{token_in_range, bytes_later}
-use Rattle.wasm_defs.specs.Typing.{Context}
-use Rattle.index_spaces.specs.Spaces.{context_in}
-use Rattle.body_compiler.specs.Steps.{appended_at, TypesLiftFew}
+use Rattle.std.proofs.Common.{◌∙◌, length, sym, subst}
+use Rattle.wasm_defs.specs.declared.token.Plain.TheVariants.{BrIf, LocalGet, LocalSet, LocalTee, GlobalGet, GlobalSet}
+use Rattle.wasm_defs.specs.declared.token.Token.{Token}
+use Rattle.wasm_defs.specs.Fields.{Read}
+use Rattle.leb_feed.specs.Reads.{Stops}
 use Rattle.body_compiler.specs.Going.{calling}
-use Rattle.body_compiler.proofs.Known.{takes_there, calls_there, rows_there, same_functions}
-use Rattle.body_compiler.proofs.Tying.{names, tied-after, some-labels}
-use Rattle.body_compiler.proofs.Walking.{any, unlinked, step-held}
+use Rattle.body_compiler.proofs.Going.{going_of, instruction_shrinks, on_any, stop_behind}
+use Rattle.body_compiler.proofs.Opcodes.{else_read, end_read, br_if_read, local_get_read, local_set_read, local_tee_read, global_get_read, global_set_read, i32_const_read, i64_const_read}
+use Rattle.body_compiler.proofs.Spelled.{bytes_later}
 use Rattle.body_compiler.proofs.code.take_instruction.Goals as goal
 
-pub take_step-requires-clause-range : goal.take_step-requires-clause-range
-take_step-requires-clause-range c = token_in_range c.args.counted c.args.at c.args.opcode c.args.fields.now c.instruction.new.fields c.in-Ok.token c.requires.bytes c.in-Ok.ensures
+pub returns-in-5-clause-goes : goal.returns-in-5-clause-goes
+returns-in-5-clause-goes c =
+    λ c' code before front known h more. c.take_read.ensures.goes c.args.reading.counted c' c.args.reading.last c.args.opcode code before c.args.fields.now c.args.fields.now front known h (else_read c.args.reading.counted c.args.at c.args.opcode c.args.fields.now c.in-5.is)
 
-pub returns-in-Ok-take_step-clause-bytes : goal.returns-in-Ok-take_step-clause-bytes
-returns-in-Ok-take_step-clause-bytes c = bytes_later c.args.counted c.args.at c.args.opcode c.args.fields.now c.instruction.new.fields c.in-Ok.token c.in-Ok.ensures c.requires.bytes
+pub returns-in-11-clause-goes : goal.returns-in-11-clause-goes
+returns-in-11-clause-goes c =
+    λ c' code before front known h more. c.take_read-in-11.ensures.goes c.args.reading.counted c' c.args.reading.last c.args.opcode code before c.args.fields.now c.args.fields.now front known h (end_read c.args.reading.counted c.args.at c.args.opcode c.args.fields.now c.in-11.is)
 
-pub take_step-requires-clause-some : goal.take_step-requires-clause-some
-take_step-requires-clause-some c = some-labels c.args.draft.now.labels c.args.check.now (length c.args.fields.now.rest + 1) c.requires.tied c.requires.more
+pub returns-in-Ok-clause-shrinks : goal.returns-in-Ok-clause-shrinks
+returns-in-Ok-clause-shrinks c =
+    on_any _ _ (instruction_shrinks c.args.reading.counted c.args.at c.args.opcode c.args.fields.now c.named_index.new.fields _ (br_if_read c.args.reading.counted c.args.at c.args.opcode c.args.fields.now c.in-13.is ∙ c.in-Ok.ensures BrIf))
 
-pub take_step-requires-clause-names : goal.take_step-requires-clause-names
-take_step-requires-clause-names c = names c.args.draft.now.labels c.args.check.now c.token.new.self c.in-Ok.token (length c.args.fields.now.rest + 1) c.requires.tied c.in-Ok-token.ensures.steps.0
+pub returns-in-Ok-clause-bytes : goal.returns-in-Ok-clause-bytes
+returns-in-Ok-clause-bytes c =
+    on_any _ _ (bytes_later c.args.reading.counted c.args.at c.args.opcode c.args.fields.now c.named_index.new.fields _ (br_if_read c.args.reading.counted c.args.at c.args.opcode c.args.fields.now c.in-13.is ∙ c.in-Ok.ensures BrIf) c.requires.bytes)
 
-pub take_step-requires-clause-few : goal.take_step-requires-clause-few
-take_step-requires-clause-few c = let count = c.requires.tied.count in let few = c.requires.tied.few in omega arith
+pub returns-in-Ok-clause-tied : goal.returns-in-Ok-clause-tied
+returns-in-Ok-clause-tied c =
+    c.take_common.ensures.tied (length c.args.fields.now.rest) (length c.named_index.new.fields.rest) c.requires.tied (instruction_shrinks c.args.reading.counted c.args.at c.args.opcode c.args.fields.now c.named_index.new.fields _ (br_if_read c.args.reading.counted c.args.at c.args.opcode c.args.fields.now c.in-13.is ∙ c.in-Ok.ensures BrIf))
 
-pub take_step-requires-clause-high : goal.take_step-requires-clause-high
-take_step-requires-clause-high c = let low = c.requires.tied.low in let is = c.in-Ok-token.ensures.steps.3.1 in omega arith
+pub returns-in-Ok-clause-goes : goal.returns-in-Ok-clause-goes
+returns-in-Ok-clause-goes c =
+    λ c' code before front known h more. c.take_common.ensures.goes c.args.reading.counted c' c.args.reading.last c.args.opcode code before c.args.fields.now c.named_index.new.fields front known h (br_if_read c.args.reading.counted c.args.at c.args.opcode c.args.fields.now c.in-13.is ∙ c.in-Ok.ensures BrIf)
 
-pub take_step-requires-clause-types : goal.take_step-requires-clause-types
-take_step-requires-clause-types c =
-    let steps = c.in-Ok-token.ensures.steps in
-    subst TypesLiftFew (sym (c.context.ensures.types ∙ ap (λ (x : Context). x.types) steps.1)) c.requires.tied.functions
+pub returns-in-Err-clause-goes : goal.returns-in-Err-clause-goes
+returns-in-Err-clause-goes c =
+    λ c' code before front k h more.
+    let g = going_of c.args.reading.counted c.args.draft.now.too_long c' c.args.reading.last before c.args.check.now code c.args.draft.now.layout front (calling c.args.draft.now.labels c.args.draft.now.words c.args.draft.now.calls.items c.args.draft.now.rows c.args.sites.now.items) k in
+    let stops = subst (λ (r : Read Token). Stops c.in-Err.stop r) (sym (br_if_read c.args.reading.counted c.args.at c.args.opcode c.args.fields.now c.in-13.is)) (c.in-Err.ensures BrIf) in
+    rw c.stop_of.ensures (stop_behind c.args.reading.counted c' c.args.reading.last c.args.at c.args.opcode before c.args.fields.now c.args.check.now code c.args.draft.now.layout front c.args.draft.now.too_long (calling c.args.draft.now.labels c.args.draft.now.words c.args.draft.now.calls.items c.args.draft.now.rows c.args.sites.now.items) c.named_index.new.fields c.args.check.now c.in-Err.stop g h more stops)
 
-pub take_step-requires-clause-there : goal.take_step-requires-clause-there
-take_step-requires-clause-there c =
-    let steps = c.in-Ok-token.ensures.steps in
-    takes_there c.args.check.now c.token.new.self c.in-Ok.token c.in-Ok-token.step c.requires.tied.known steps.0 steps.3
+pub returns-in-Ok-named_index-clause-shrinks : goal.returns-in-Ok-named_index-clause-shrinks
+returns-in-Ok-named_index-clause-shrinks c =
+    on_any _ _ (instruction_shrinks c.args.reading.counted c.args.at c.args.opcode c.args.fields.now c.named_index-in-32.new.fields _ (local_get_read c.args.reading.counted c.args.at c.args.opcode c.args.fields.now c.in-32.is ∙ c.in-Ok-named_index.ensures LocalGet))
 
-pub take_step-requires-clause-called : goal.take_step-requires-clause-called
-take_step-requires-clause-called c =
-    let steps = c.in-Ok-token.ensures.steps in
-    let same = same_functions c.args.check.now.context (context_in c.context.result.now) (c.context.ensures.types ∙ ap (λ (x : Context). x.types) steps.1) (c.context.ensures.functions ∙ ap (λ (x : Context). x.functions) steps.1) (c.context.ensures.globals ∙ ap (λ (x : Context). x.globals) steps.1) in
-    calls_there c.args.check.now c.token.new.self (context_in c.context.result.now) c.in-Ok.token c.in-Ok-token.step same c.requires.tied.known steps.0 steps.3
+pub returns-in-Ok-named_index-clause-bytes : goal.returns-in-Ok-named_index-clause-bytes
+returns-in-Ok-named_index-clause-bytes c =
+    on_any _ _ (bytes_later c.args.reading.counted c.args.at c.args.opcode c.args.fields.now c.named_index-in-32.new.fields _ (local_get_read c.args.reading.counted c.args.at c.args.opcode c.args.fields.now c.in-32.is ∙ c.in-Ok-named_index.ensures LocalGet) c.requires.bytes)
 
-pub take_step-requires-clause-row : goal.take_step-requires-clause-row
-take_step-requires-clause-row c =
-    let steps = c.in-Ok-token.ensures.steps in
-    let same = same_functions c.args.check.now.context (context_in c.context.result.now) (c.context.ensures.types ∙ ap (λ (x : Context). x.types) steps.1) (c.context.ensures.functions ∙ ap (λ (x : Context). x.functions) steps.1) (c.context.ensures.globals ∙ ap (λ (x : Context). x.globals) steps.1) in
-    rows_there c.args.check.now c.token.new.self (context_in c.context.result.now) c.in-Ok.token c.in-Ok-token.step same c.requires.tied.known steps.0 steps.3
+pub returns-in-Ok-named_index-clause-tied : goal.returns-in-Ok-named_index-clause-tied
+returns-in-Ok-named_index-clause-tied c =
+    c.take_common-in-Ok-named_index.ensures.tied (length c.args.fields.now.rest) (length c.named_index-in-32.new.fields.rest) c.requires.tied (instruction_shrinks c.args.reading.counted c.args.at c.args.opcode c.args.fields.now c.named_index-in-32.new.fields _ (local_get_read c.args.reading.counted c.args.at c.args.opcode c.args.fields.now c.in-32.is ∙ c.in-Ok-named_index.ensures LocalGet))
 
-pub returns-in-Ok-take_step-clause-tied : goal.returns-in-Ok-take_step-clause-tied
-returns-in-Ok-take_step-clause-tied c =
-    let w = any c.args.draft.now.rows (context_in c.context.result.now).types c.args.draft.now.layout in
-    let s = c.in-Ok-token.step in
-    let steps = c.in-Ok-token.ensures.steps in
-    let own = c.args.check.now.context in
-    let same = same_functions own (context_in c.context.result.now) (c.context.ensures.types ∙ ap (λ (x : Context). x.types) steps.1) (c.context.ensures.functions ∙ ap (λ (x : Context). x.functions) steps.1) (c.context.ensures.globals ∙ ap (λ (x : Context). x.globals) steps.1) in
-    let shrinks = instruction_shrinks c.args.counted c.args.at c.args.opcode c.args.fields.now c.instruction.new.fields c.in-Ok.token c.in-Ok.ensures in
-    tied-after w own c.in-Ok.token (appended_at c.take_step.new.draft.too_long c.in-Ok.token (guarded s.live s.height_before)) (draft c.args.draft.now.labels c.args.draft.now.words) (draft c.take_step.new.draft.labels c.take_step.new.draft.words) c.args.check.now c.token.new.self
-    (length c.args.fields.now.rest + 1) (length c.instruction.new.fields.rest) (omega arith) c.requires.tied
-    (c.in-Ok-take_step.ensures.words w own refl (unlinked c.args.draft.now.rows (context_in c.context.result.now).types c.args.draft.now.layout) same) steps.0 steps.1
+pub returns-in-Ok-named_index-clause-goes : goal.returns-in-Ok-named_index-clause-goes
+returns-in-Ok-named_index-clause-goes c =
+    λ c' code before front known h more. c.take_common-in-Ok-named_index.ensures.goes c.args.reading.counted c' c.args.reading.last c.args.opcode code before c.args.fields.now c.named_index-in-32.new.fields front known h (local_get_read c.args.reading.counted c.args.at c.args.opcode c.args.fields.now c.in-32.is ∙ c.in-Ok-named_index.ensures LocalGet)
 
-pub returns-in-Ok-take_step-clause-shrinks : goal.returns-in-Ok-take_step-clause-shrinks
-returns-in-Ok-take_step-clause-shrinks c = instruction_shrinks c.args.counted c.args.at c.args.opcode c.args.fields.now c.instruction.new.fields c.in-Ok.token c.in-Ok.ensures
+pub returns-in-Err-named_index-clause-goes : goal.returns-in-Err-named_index-clause-goes
+returns-in-Err-named_index-clause-goes c =
+    λ c' code before front k h more.
+    let g = going_of c.args.reading.counted c.args.draft.now.too_long c' c.args.reading.last before c.args.check.now code c.args.draft.now.layout front (calling c.args.draft.now.labels c.args.draft.now.words c.args.draft.now.calls.items c.args.draft.now.rows c.args.sites.now.items) k in
+    let stops = subst (λ (r : Read Token). Stops c.in-Err-named_index.stop r) (sym (local_get_read c.args.reading.counted c.args.at c.args.opcode c.args.fields.now c.in-32.is)) (c.in-Err-named_index.ensures LocalGet) in
+    rw c.stop_of-in-Err-named_index.ensures (stop_behind c.args.reading.counted c' c.args.reading.last c.args.at c.args.opcode before c.args.fields.now c.args.check.now code c.args.draft.now.layout front c.args.draft.now.too_long (calling c.args.draft.now.labels c.args.draft.now.words c.args.draft.now.calls.items c.args.draft.now.rows c.args.sites.now.items) c.named_index-in-32.new.fields c.args.check.now c.in-Err-named_index.stop g h more stops)
 
-pub returns-in-Ok-take_step-clause-held : goal.returns-in-Ok-take_step-clause-held
-returns-in-Ok-take_step-clause-held c =
-    let w = any c.args.draft.now.rows (context_in c.context.result.now).types c.args.draft.now.layout in
-    let s = c.in-Ok-token.step in
-    let steps = c.in-Ok-token.ensures.steps in
-    let own = c.args.check.now.context in
-    let same = same_functions own (context_in c.context.result.now) (c.context.ensures.types ∙ ap (λ (x : Context). x.types) steps.1) (c.context.ensures.functions ∙ ap (λ (x : Context). x.functions) steps.1) (c.context.ensures.globals ∙ ap (λ (x : Context). x.globals) steps.1) in
-    step-held w own c.in-Ok.token (appended_at c.take_step.new.draft.too_long c.in-Ok.token (guarded s.live s.height_before)) (draft c.args.draft.now.labels c.args.draft.now.words) (draft c.take_step.new.draft.labels c.take_step.new.draft.words) c.requires.held
-    (c.in-Ok-take_step.ensures.words w own refl (unlinked c.args.draft.now.rows (context_in c.context.result.now).types c.args.draft.now.layout) same)
+pub returns-in-Ok-named_index-2-clause-shrinks : goal.returns-in-Ok-named_index-2-clause-shrinks
+returns-in-Ok-named_index-2-clause-shrinks c =
+    on_any _ _ (instruction_shrinks c.args.reading.counted c.args.at c.args.opcode c.args.fields.now c.named_index-in-33.new.fields _ (local_set_read c.args.reading.counted c.args.at c.args.opcode c.args.fields.now c.in-33.is ∙ c.in-Ok-named_index-2.ensures LocalSet))
 
-pub returns-in-Ok-take_step-clause-goes : goal.returns-in-Ok-take_step-clause-goes
-returns-in-Ok-take_step-clause-goes c = λ c' code before front known h more.
-    let old = c.args.draft.now in
-    let new = c.take_step.new.draft in
-    let x = calling old.labels old.words old.calls.items old.rows c.args.sites.now.items in
-    let y = calling new.labels new.words new.calls.items new.rows c.note_token.new.sites.items in
-    let s = c.in-Ok-token.step in
-    let t = c.in-Ok.token in
-    let steps = c.in-Ok-token.ensures.steps in
-    let g = going_of c.args.counted old.too_long c' c.args.last before c.args.check.now code old.layout front x known in
-    let exact = c.in-Ok-token.ensures.exact (tokens_of g.tokens) g.reached in
-    let d = context_in c.context.result.now in
-    let same = same_functions c.args.check.now.context d (c.context.ensures.types ∙ ap (λ (x : Context). x.types) steps.1) (c.context.ensures.functions ∙ ap (λ (x : Context). x.functions) steps.1) (c.context.ensures.globals ∙ ap (λ (x : Context). x.globals) steps.1) in
-    let sites = subst (λ (l : List ℕ). c.note_token.new.sites.items ≡ c.args.sites.now.items ++ token_sites t (guarded s.live s.height_before) (length l) c.args.at) c.words.ensures (c.in-Ok-note_token.ensures s.height_before) in
-    takes_behind c.args.counted c' d c.args.last c.args.at c.args.opcode before c.args.fields.now c.instruction.new.fields t s c.args.check.now c.token.new.self code old.layout front x y old.too_long new.too_long known h more
-    c.in-Ok.ensures steps.0 steps.1 exact.0 (c.in-Ok-token.ensures.places (tokens_of g.tokens) g.reached) same c.in-Ok-take_step.ensures.too_long c.in-Ok-take_step.ensures.words c.in-Ok-take_step.ensures.calls sites c.in-Ok-take_step.ensures.rows
+pub returns-in-Ok-named_index-2-clause-bytes : goal.returns-in-Ok-named_index-2-clause-bytes
+returns-in-Ok-named_index-2-clause-bytes c =
+    on_any _ _ (bytes_later c.args.reading.counted c.args.at c.args.opcode c.args.fields.now c.named_index-in-33.new.fields _ (local_set_read c.args.reading.counted c.args.at c.args.opcode c.args.fields.now c.in-33.is ∙ c.in-Ok-named_index-2.ensures LocalSet) c.requires.bytes)
 
-pub returns-in-Err-Refused-clause-goes : goal.returns-in-Err-Refused-clause-goes
-returns-in-Err-Refused-clause-goes c = λ c' code before front k h more.
-    let g = going_of c.args.counted c.args.draft.now.too_long c' c.args.last before c.args.check.now code c.args.draft.now.layout front (calling c.args.draft.now.labels c.args.draft.now.words c.args.draft.now.calls.items c.args.draft.now.rows c.args.sites.now.items) k in
-    let steps = rw c.in-Err-Refused.field-0-is at c.in-Err-Refused.ensures.steps in
-    let exact = rw c.in-Err-Refused.field-0-is at (c.in-Err-Refused.ensures.exact (tokens_of g.tokens) g.reached) in
-    refused_token c.args.counted c' c.args.last c.args.at c.args.opcode before c.args.fields.now c.instruction.new.fields c.in-Ok.token c.args.check.now code _ g h more c.in-Ok.ensures (ap (λ r. r.offset) steps.1) exact
+pub returns-in-Ok-named_index-2-clause-tied : goal.returns-in-Ok-named_index-2-clause-tied
+returns-in-Ok-named_index-2-clause-tied c =
+    c.take_common-in-Ok-named_index-2.ensures.tied (length c.args.fields.now.rest) (length c.named_index-in-33.new.fields.rest) c.requires.tied (instruction_shrinks c.args.reading.counted c.args.at c.args.opcode c.args.fields.now c.named_index-in-33.new.fields _ (local_set_read c.args.reading.counted c.args.at c.args.opcode c.args.fields.now c.in-33.is ∙ c.in-Ok-named_index-2.ensures LocalSet))
 
-pub returns-clause-goes : goal.returns-clause-goes
-returns-clause-goes c = λ c' code before front k h more.
-    let words = calling c.args.draft.now.labels c.args.draft.now.words c.args.draft.now.calls.items c.args.draft.now.rows c.args.sites.now.items in
-    let g = going_of c.args.counted c.args.draft.now.too_long c' c.args.last before c.args.check.now code c.args.draft.now.layout front words k in
-    rw c.stop_of.ensures (stop_behind c.args.counted c' c.args.last c.args.at c.args.opcode before c.args.fields.now c.args.check.now code c.args.draft.now.layout front c.args.draft.now.too_long words c.instruction.new.fields c.args.check.now c.in-Err.stop g h more c.in-Err.ensures)
+pub returns-in-Ok-named_index-2-clause-goes : goal.returns-in-Ok-named_index-2-clause-goes
+returns-in-Ok-named_index-2-clause-goes c =
+    λ c' code before front known h more. c.take_common-in-Ok-named_index-2.ensures.goes c.args.reading.counted c' c.args.reading.last c.args.opcode code before c.args.fields.now c.named_index-in-33.new.fields front known h (local_set_read c.args.reading.counted c.args.at c.args.opcode c.args.fields.now c.in-33.is ∙ c.in-Ok-named_index-2.ensures LocalSet)
+
+pub returns-in-Err-named_index-2-clause-goes : goal.returns-in-Err-named_index-2-clause-goes
+returns-in-Err-named_index-2-clause-goes c =
+    λ c' code before front k h more.
+    let g = going_of c.args.reading.counted c.args.draft.now.too_long c' c.args.reading.last before c.args.check.now code c.args.draft.now.layout front (calling c.args.draft.now.labels c.args.draft.now.words c.args.draft.now.calls.items c.args.draft.now.rows c.args.sites.now.items) k in
+    let stops = subst (λ (r : Read Token). Stops c.in-Err-named_index-2.stop r) (sym (local_set_read c.args.reading.counted c.args.at c.args.opcode c.args.fields.now c.in-33.is)) (c.in-Err-named_index-2.ensures LocalSet) in
+    rw c.stop_of-in-Err-named_index-2.ensures (stop_behind c.args.reading.counted c' c.args.reading.last c.args.at c.args.opcode before c.args.fields.now c.args.check.now code c.args.draft.now.layout front c.args.draft.now.too_long (calling c.args.draft.now.labels c.args.draft.now.words c.args.draft.now.calls.items c.args.draft.now.rows c.args.sites.now.items) c.named_index-in-33.new.fields c.args.check.now c.in-Err-named_index-2.stop g h more stops)
+
+pub returns-in-Ok-named_index-3-clause-shrinks : goal.returns-in-Ok-named_index-3-clause-shrinks
+returns-in-Ok-named_index-3-clause-shrinks c =
+    on_any _ _ (instruction_shrinks c.args.reading.counted c.args.at c.args.opcode c.args.fields.now c.named_index-in-34.new.fields _ (local_tee_read c.args.reading.counted c.args.at c.args.opcode c.args.fields.now c.in-34.is ∙ c.in-Ok-named_index-3.ensures LocalTee))
+
+pub returns-in-Ok-named_index-3-clause-bytes : goal.returns-in-Ok-named_index-3-clause-bytes
+returns-in-Ok-named_index-3-clause-bytes c =
+    on_any _ _ (bytes_later c.args.reading.counted c.args.at c.args.opcode c.args.fields.now c.named_index-in-34.new.fields _ (local_tee_read c.args.reading.counted c.args.at c.args.opcode c.args.fields.now c.in-34.is ∙ c.in-Ok-named_index-3.ensures LocalTee) c.requires.bytes)
+
+pub returns-in-Ok-named_index-3-clause-tied : goal.returns-in-Ok-named_index-3-clause-tied
+returns-in-Ok-named_index-3-clause-tied c =
+    c.take_common-in-Ok-named_index-3.ensures.tied (length c.args.fields.now.rest) (length c.named_index-in-34.new.fields.rest) c.requires.tied (instruction_shrinks c.args.reading.counted c.args.at c.args.opcode c.args.fields.now c.named_index-in-34.new.fields _ (local_tee_read c.args.reading.counted c.args.at c.args.opcode c.args.fields.now c.in-34.is ∙ c.in-Ok-named_index-3.ensures LocalTee))
+
+pub returns-in-Ok-named_index-3-clause-goes : goal.returns-in-Ok-named_index-3-clause-goes
+returns-in-Ok-named_index-3-clause-goes c =
+    λ c' code before front known h more. c.take_common-in-Ok-named_index-3.ensures.goes c.args.reading.counted c' c.args.reading.last c.args.opcode code before c.args.fields.now c.named_index-in-34.new.fields front known h (local_tee_read c.args.reading.counted c.args.at c.args.opcode c.args.fields.now c.in-34.is ∙ c.in-Ok-named_index-3.ensures LocalTee)
+
+pub returns-in-Err-named_index-3-clause-goes : goal.returns-in-Err-named_index-3-clause-goes
+returns-in-Err-named_index-3-clause-goes c =
+    λ c' code before front k h more.
+    let g = going_of c.args.reading.counted c.args.draft.now.too_long c' c.args.reading.last before c.args.check.now code c.args.draft.now.layout front (calling c.args.draft.now.labels c.args.draft.now.words c.args.draft.now.calls.items c.args.draft.now.rows c.args.sites.now.items) k in
+    let stops = subst (λ (r : Read Token). Stops c.in-Err-named_index-3.stop r) (sym (local_tee_read c.args.reading.counted c.args.at c.args.opcode c.args.fields.now c.in-34.is)) (c.in-Err-named_index-3.ensures LocalTee) in
+    rw c.stop_of-in-Err-named_index-3.ensures (stop_behind c.args.reading.counted c' c.args.reading.last c.args.at c.args.opcode before c.args.fields.now c.args.check.now code c.args.draft.now.layout front c.args.draft.now.too_long (calling c.args.draft.now.labels c.args.draft.now.words c.args.draft.now.calls.items c.args.draft.now.rows c.args.sites.now.items) c.named_index-in-34.new.fields c.args.check.now c.in-Err-named_index-3.stop g h more stops)
+
+pub returns-in-Ok-named_index-4-clause-shrinks : goal.returns-in-Ok-named_index-4-clause-shrinks
+returns-in-Ok-named_index-4-clause-shrinks c =
+    on_any _ _ (instruction_shrinks c.args.reading.counted c.args.at c.args.opcode c.args.fields.now c.named_index-in-35.new.fields _ (global_get_read c.args.reading.counted c.args.at c.args.opcode c.args.fields.now c.in-35.is ∙ c.in-Ok-named_index-4.ensures GlobalGet))
+
+pub returns-in-Ok-named_index-4-clause-bytes : goal.returns-in-Ok-named_index-4-clause-bytes
+returns-in-Ok-named_index-4-clause-bytes c =
+    on_any _ _ (bytes_later c.args.reading.counted c.args.at c.args.opcode c.args.fields.now c.named_index-in-35.new.fields _ (global_get_read c.args.reading.counted c.args.at c.args.opcode c.args.fields.now c.in-35.is ∙ c.in-Ok-named_index-4.ensures GlobalGet) c.requires.bytes)
+
+pub returns-in-Ok-named_index-4-clause-tied : goal.returns-in-Ok-named_index-4-clause-tied
+returns-in-Ok-named_index-4-clause-tied c =
+    c.take_common-in-Ok-named_index-4.ensures.tied (length c.args.fields.now.rest) (length c.named_index-in-35.new.fields.rest) c.requires.tied (instruction_shrinks c.args.reading.counted c.args.at c.args.opcode c.args.fields.now c.named_index-in-35.new.fields _ (global_get_read c.args.reading.counted c.args.at c.args.opcode c.args.fields.now c.in-35.is ∙ c.in-Ok-named_index-4.ensures GlobalGet))
+
+pub returns-in-Ok-named_index-4-clause-goes : goal.returns-in-Ok-named_index-4-clause-goes
+returns-in-Ok-named_index-4-clause-goes c =
+    λ c' code before front known h more. c.take_common-in-Ok-named_index-4.ensures.goes c.args.reading.counted c' c.args.reading.last c.args.opcode code before c.args.fields.now c.named_index-in-35.new.fields front known h (global_get_read c.args.reading.counted c.args.at c.args.opcode c.args.fields.now c.in-35.is ∙ c.in-Ok-named_index-4.ensures GlobalGet)
+
+pub returns-in-Err-named_index-4-clause-goes : goal.returns-in-Err-named_index-4-clause-goes
+returns-in-Err-named_index-4-clause-goes c =
+    λ c' code before front k h more.
+    let g = going_of c.args.reading.counted c.args.draft.now.too_long c' c.args.reading.last before c.args.check.now code c.args.draft.now.layout front (calling c.args.draft.now.labels c.args.draft.now.words c.args.draft.now.calls.items c.args.draft.now.rows c.args.sites.now.items) k in
+    let stops = subst (λ (r : Read Token). Stops c.in-Err-named_index-4.stop r) (sym (global_get_read c.args.reading.counted c.args.at c.args.opcode c.args.fields.now c.in-35.is)) (c.in-Err-named_index-4.ensures GlobalGet) in
+    rw c.stop_of-in-Err-named_index-4.ensures (stop_behind c.args.reading.counted c' c.args.reading.last c.args.at c.args.opcode before c.args.fields.now c.args.check.now code c.args.draft.now.layout front c.args.draft.now.too_long (calling c.args.draft.now.labels c.args.draft.now.words c.args.draft.now.calls.items c.args.draft.now.rows c.args.sites.now.items) c.named_index-in-35.new.fields c.args.check.now c.in-Err-named_index-4.stop g h more stops)
+
+pub returns-in-Ok-named_index-5-clause-shrinks : goal.returns-in-Ok-named_index-5-clause-shrinks
+returns-in-Ok-named_index-5-clause-shrinks c =
+    on_any _ _ (instruction_shrinks c.args.reading.counted c.args.at c.args.opcode c.args.fields.now c.named_index-in-36.new.fields _ (global_set_read c.args.reading.counted c.args.at c.args.opcode c.args.fields.now c.in-36.is ∙ c.in-Ok-named_index-5.ensures GlobalSet))
+
+pub returns-in-Ok-named_index-5-clause-bytes : goal.returns-in-Ok-named_index-5-clause-bytes
+returns-in-Ok-named_index-5-clause-bytes c =
+    on_any _ _ (bytes_later c.args.reading.counted c.args.at c.args.opcode c.args.fields.now c.named_index-in-36.new.fields _ (global_set_read c.args.reading.counted c.args.at c.args.opcode c.args.fields.now c.in-36.is ∙ c.in-Ok-named_index-5.ensures GlobalSet) c.requires.bytes)
+
+pub returns-in-Ok-named_index-5-clause-tied : goal.returns-in-Ok-named_index-5-clause-tied
+returns-in-Ok-named_index-5-clause-tied c =
+    c.take_common-in-Ok-named_index-5.ensures.tied (length c.args.fields.now.rest) (length c.named_index-in-36.new.fields.rest) c.requires.tied (instruction_shrinks c.args.reading.counted c.args.at c.args.opcode c.args.fields.now c.named_index-in-36.new.fields _ (global_set_read c.args.reading.counted c.args.at c.args.opcode c.args.fields.now c.in-36.is ∙ c.in-Ok-named_index-5.ensures GlobalSet))
+
+pub returns-in-Ok-named_index-5-clause-goes : goal.returns-in-Ok-named_index-5-clause-goes
+returns-in-Ok-named_index-5-clause-goes c =
+    λ c' code before front known h more. c.take_common-in-Ok-named_index-5.ensures.goes c.args.reading.counted c' c.args.reading.last c.args.opcode code before c.args.fields.now c.named_index-in-36.new.fields front known h (global_set_read c.args.reading.counted c.args.at c.args.opcode c.args.fields.now c.in-36.is ∙ c.in-Ok-named_index-5.ensures GlobalSet)
+
+pub returns-in-Err-named_index-5-clause-goes : goal.returns-in-Err-named_index-5-clause-goes
+returns-in-Err-named_index-5-clause-goes c =
+    λ c' code before front k h more.
+    let g = going_of c.args.reading.counted c.args.draft.now.too_long c' c.args.reading.last before c.args.check.now code c.args.draft.now.layout front (calling c.args.draft.now.labels c.args.draft.now.words c.args.draft.now.calls.items c.args.draft.now.rows c.args.sites.now.items) k in
+    let stops = subst (λ (r : Read Token). Stops c.in-Err-named_index-5.stop r) (sym (global_set_read c.args.reading.counted c.args.at c.args.opcode c.args.fields.now c.in-36.is)) (c.in-Err-named_index-5.ensures GlobalSet) in
+    rw c.stop_of-in-Err-named_index-5.ensures (stop_behind c.args.reading.counted c' c.args.reading.last c.args.at c.args.opcode before c.args.fields.now c.args.check.now code c.args.draft.now.layout front c.args.draft.now.too_long (calling c.args.draft.now.labels c.args.draft.now.words c.args.draft.now.calls.items c.args.draft.now.rows c.args.sites.now.items) c.named_index-in-36.new.fields c.args.check.now c.in-Err-named_index-5.stop g h more stops)
+
+pub take_constant-requires-clause-reads : goal.take_constant-requires-clause-reads
+take_constant-requires-clause-reads c =
+    (c.args.reading.counted, c.args.opcode, i32_const_read c.args.reading.counted c.args.at c.args.opcode c.args.fields.now c.in-65.is)
+
+pub returns-in-65-clause-goes : goal.returns-in-65-clause-goes
+returns-in-65-clause-goes c =
+    λ c' code before front known h more. c.take_constant.ensures.goes c.args.reading.counted c' c.args.opcode code before front known h (i32_const_read c.args.reading.counted c.args.at c.args.opcode c.args.fields.now c.in-65.is)
+
+pub take_constant-requires-in-66-clause-reads : goal.take_constant-requires-in-66-clause-reads
+take_constant-requires-in-66-clause-reads c =
+    (c.args.reading.counted, c.args.opcode, i64_const_read c.args.reading.counted c.args.at c.args.opcode c.args.fields.now c.in-66.is)
+
+pub returns-in-66-clause-goes : goal.returns-in-66-clause-goes
+returns-in-66-clause-goes c =
+    λ c' code before front known h more. c.take_constant-in-66.ensures.goes c.args.reading.counted c' c.args.opcode code before front known h (i64_const_read c.args.reading.counted c.args.at c.args.opcode c.args.fields.now c.in-66.is)
+
+pub take_access-requires-clause-reads : goal.take_access-requires-clause-reads
+take_access-requires-clause-reads c =
+    (c.args.reading.counted, c.args.opcode, c.in-Some.ensures c.args.reading.counted c.args.at c.args.fields.now)
+
+pub returns-in-Some-clause-goes : goal.returns-in-Some-clause-goes
+returns-in-Some-clause-goes c =
+    λ c' code before front known h more. c.take_access.ensures.goes c.args.reading.counted c' c.args.opcode code before front known h (c.in-Some.ensures c.args.reading.counted c.args.at c.args.fields.now)
+
+pub returns-in-Some-operation_of-clause-goes : goal.returns-in-Some-operation_of-clause-goes
+returns-in-Some-operation_of-clause-goes c =
+    λ c' code before front known h more. c.take_common-in-Some-operation_of.ensures.goes c.args.reading.counted c' c.args.reading.last c.args.opcode code before c.args.fields.now c.args.fields.now front known h (c.in-Some-operation_of.ensures c.args.reading.counted c.args.at c.args.fields.now)

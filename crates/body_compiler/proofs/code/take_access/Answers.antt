@@ -1,0 +1,39 @@
+use Rattle.std.proofs.Common.{◌∙◌, length, sym, subst}
+use Rattle.wasm_defs.specs.declared.token.Token.{Token}
+use Rattle.wasm_defs.specs.Fields.{Read}
+use Rattle.leb_feed.specs.Reads.{Stops}
+use Rattle.body_compiler.specs.Going.{calling}
+use Rattle.body_compiler.proofs.Going.{going_of, instruction_shrinks, on_any, stop_behind}
+use Rattle.body_compiler.proofs.Spelled.{bytes_later}
+use Rattle.body_compiler.proofs.code.take_access.Goals as goal
+
+pub returns-in-Load-clause-shrinks : goal.returns-in-Load-clause-shrinks
+returns-in-Load-clause-shrinks c =
+    on_any _ _ (instruction_shrinks c.requires.reads.0 c.args.at c.requires.reads.1 c.args.fields.now c.accessed_place.new.fields _ (c.requires.reads.2 ∙ c.in-Ok.ensures c.args.access))
+
+pub returns-in-Load-clause-bytes : goal.returns-in-Load-clause-bytes
+returns-in-Load-clause-bytes c =
+    on_any _ _ (bytes_later c.requires.reads.0 c.args.at c.requires.reads.1 c.args.fields.now c.accessed_place.new.fields _ (c.requires.reads.2 ∙ c.in-Ok.ensures c.args.access) c.requires.bytes)
+
+pub returns-in-Load-clause-tied : goal.returns-in-Load-clause-tied
+returns-in-Load-clause-tied c =
+    c.take_common.ensures.tied (length c.args.fields.now.rest) (length c.accessed_place.new.fields.rest) c.requires.tied (instruction_shrinks c.requires.reads.0 c.args.at c.requires.reads.1 c.args.fields.now c.accessed_place.new.fields _ (c.requires.reads.2 ∙ c.in-Ok.ensures c.args.access))
+
+pub returns-in-Store-clause-shrinks : goal.returns-in-Store-clause-shrinks
+returns-in-Store-clause-shrinks c =
+    on_any _ _ (instruction_shrinks c.requires.reads.0 c.args.at c.requires.reads.1 c.args.fields.now c.accessed_place.new.fields _ (c.requires.reads.2 ∙ c.in-Ok.ensures c.args.access))
+
+pub returns-in-Store-clause-bytes : goal.returns-in-Store-clause-bytes
+returns-in-Store-clause-bytes c =
+    on_any _ _ (bytes_later c.requires.reads.0 c.args.at c.requires.reads.1 c.args.fields.now c.accessed_place.new.fields _ (c.requires.reads.2 ∙ c.in-Ok.ensures c.args.access) c.requires.bytes)
+
+pub returns-in-Store-clause-tied : goal.returns-in-Store-clause-tied
+returns-in-Store-clause-tied c =
+    c.take_common-in-Store.ensures.tied (length c.args.fields.now.rest) (length c.accessed_place.new.fields.rest) c.requires.tied (instruction_shrinks c.requires.reads.0 c.args.at c.requires.reads.1 c.args.fields.now c.accessed_place.new.fields _ (c.requires.reads.2 ∙ c.in-Ok.ensures c.args.access))
+
+pub returns-in-Err-clause-goes : goal.returns-in-Err-clause-goes
+returns-in-Err-clause-goes c =
+    λ counted c' b code before front k h same.
+    let g = going_of counted c.args.draft.now.too_long c' c.args.last before c.args.check.now code c.args.draft.now.layout front (calling c.args.draft.now.labels c.args.draft.now.words c.args.draft.now.calls.items c.args.draft.now.rows c.args.sites.now.items) k in
+    let stops = subst (λ (r : Read Token). Stops c.in-Err.stop r) (sym same) (c.in-Err.ensures c.args.access) in
+    rw c.stop_of.ensures (stop_behind counted c' c.args.last c.args.at b before c.args.fields.now c.args.check.now code c.args.draft.now.layout front c.args.draft.now.too_long (calling c.args.draft.now.labels c.args.draft.now.words c.args.draft.now.calls.items c.args.draft.now.rows c.args.sites.now.items) c.accessed_place.new.fields c.args.check.now c.in-Err.stop g h c.requires.more stops)
