@@ -13,7 +13,7 @@
 //! of operands 0 and 1, and their sum into that of operand 0.
 //!
 //! What comes often has an arm of its own, by its opcode (`take_instruction`). There the immediate is read, and `Check::common` checks the
-//! instruction in the place of `Check::token`: all of it is inlined, so that nothing that hangs on the opcode is asked again.
+//! instruction in the place of `Check::token`.
 
 ghost use Rattle.std.specs.Prelude.{◌≡◌, ◌≢◌, ◌≤◌, false, Bool, ℕ, ◌+◌, ◌*◌, List, [], length, Ok, OnOk};
 ghost use Rattle.wasm_defs.specs.Bodies.{instruction, with_mem_arg, constant, Spelled as SpelledGiven};
@@ -160,8 +160,7 @@ fn take_read(
     }
 }
 
-/// Does as `take_read` does with one of the commonest instructions. It is inlined where the instruction is known, so that what depends on
-/// it is not asked again.
+/// Does as `take_read` does with one of the commonest instructions.
 #[inline(always)]
 fn take_common(
     check: &mut Check<'_>,

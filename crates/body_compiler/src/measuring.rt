@@ -279,8 +279,7 @@ fn count_read(
     }
 }
 
-/// Checks one of the commonest instructions as `count_read` does. It is inlined where the instruction is known, so that what depends on
-/// it is not asked again.
+/// Checks one of the commonest instructions as `count_read` does.
 #[inline(always)]
 fn count_common(
     check: &mut Check<'_>,
@@ -414,7 +413,7 @@ fn count_token(
         Ok(byte) => byte,
         Err(stop) => return Err(stop_of(&stop, last)),
     };
-    // an arm for each opcode that is common: what depends on the opcode is not asked again, and its token is never in memory
+    // an arm for each opcode that is common: its immediate is read without the general reader, whose token would be copied
     match opcode {
         0x05 => count_read(check, counter, at, &Token::Else),
         0x0B => count_read(check, counter, at, &Token::End),

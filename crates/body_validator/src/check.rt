@@ -179,8 +179,6 @@ impl<'a> Check<'a> {
     }
 
     /// Takes one of the commonest instructions as `token` does, or leaves it to `token`: then the check is as before.
-    ///
-    /// It is inlined where the instruction is known, so that of its cases one is left.
     #[inline(always)]
     pub fn common(&mut self, offset: u64, plain: &Plain) -> Option<Result<Step, TokenStop>>
         ensures steps { IfSome result (λ r. Answered offset (PlainGiven plain.now) r self.old self.new) }

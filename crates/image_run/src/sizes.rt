@@ -13,10 +13,10 @@ pub const ENTRY_BYTES: u64 = size_of::<Entry>() as u64;
 /// Bytes of an argument of an import.
 pub const VALUE_BYTES: u64 = size_of::<Value>() as u64;
 
-/// How many words a machine keeps decoded.
+/// How many words a machine keeps decoded of a text that has no more of them; of a longer text it keeps four times as many.
 const ENTRIES: u64 = 0x1_0000;
 
-/// How many bytes loading an image takes.
+/// How many bytes loading an image takes, but for what the machine keeps of a text of more than 65,536 words: that is 6 MiB more.
 pub(crate) fn bytes_wanted(image: &Image) -> u64
     ensures { result ≡ bytes_wanted image.now }
 {
