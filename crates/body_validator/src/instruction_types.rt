@@ -1,7 +1,7 @@
 //! The types of instructions: what each takes from the operands, and what it leaves in their place.
 
 ghost use Rattle.std.specs.Prelude.{◌≡◌, [], ◌∷◌, reverse, None, slice_get, MatchOption};
-ghost use Rattle.wasm_defs.specs.Typing.{Fixed, Stops, with_type, are_labels, only_if, called, converted, extend_type, operated, rule_of, block_type};
+ghost use Rattle.wasm_defs.specs.Typing.{Fixed, Stops, with_type, are_labels, only_if, called, operand_types, operated, rule_of, block_type};
 ghost use Rattle.body_validator.specs.Checking.{labels};
 ghost use Rattle.body_validator.specs.Exchange.{taken_types};
 ghost use Rattle.body_validator.specs.Scopes.{with_labels, rule_meant, IsBlockType};
@@ -12,8 +12,8 @@ use crate::scope::Scope;
 use crate::stack::Stack;
 use wasm_defs::ValType::{I32, I64};
 use wasm_defs::{
-    BlockType, BulkOp, ConvertOp, ExtendOp, FuncType, GlobalType, LoadOp, MemArg, Operation, Plain,
-    StoreOp, ValType,
+    BlockType, BulkOp, FuncType, GlobalType, LoadOp, MemArg, Operands, Operation, Plain, StoreOp,
+    ValType,
 };
 
 /// What a plain instruction takes from the operands, and what it leaves in their place.
@@ -38,15 +38,6 @@ fn one<'a>(t: ValType) -> &'a [ValType]
     match t {
         ValType::I32 => &[ValType::I32],
         ValType::I64 => &[ValType::I64],
-    }
-}
-
-fn two<'a>(t: ValType) -> &'a [ValType]
-    ensures { result.now ≡ t ∷ t ∷ [] }
-{
-    match t {
-        ValType::I32 => &[ValType::I32, ValType::I32],
-        ValType::I64 => &[ValType::I64, ValType::I64],
     }
 }
 
@@ -111,23 +102,16 @@ fn fixed<'a>(params: &'a [ValType], results: &'a [ValType]) -> Option<Rule<'a>>
     Some(Rule::Fixed(plainly(params), results))
 }
 
-fn conversion<'a>(op: ConvertOp) -> Option<Rule<'a>>
-    ensures { rule_meant result ≡ Fixed (converted op).params (converted op).results }
+/// The types of a numeric instruction's operands.
+fn operand_types<'a>(operands: Operands) -> &'a [ValType]
+    ensures { reverse result.now ≡ operand_types operands }
 {
-    match op {
-        ConvertOp::Wrap => fixed(one(I64), one(I32)),
-        ConvertOp::ExtendS => fixed(one(I32), one(I64)),
-        ConvertOp::ExtendU => fixed(one(I32), one(I64)),
-    }
-}
-
-/// Sign extensions (Core 2.0, 3.3.1).
-fn extension<'a>(op: ExtendOp) -> Option<Rule<'a>>
-    ensures { rule_meant result ≡ Fixed (extend_type op ∷ []) (extend_type op ∷ []) }
-{
-    match op {
-        ExtendOp::I32Extend8S | ExtendOp::I32Extend16S => fixed(one(I32), one(I32)),
-        _ => fixed(one(I64), one(I64)),
+    match operands {
+        Operands::One(t) => one(t),
+        Operands::Two(I32, I32) => &[I32, I32],
+        Operands::Two(I32, I64) => &[I32, I64],
+        Operands::Two(I64, I32) => &[I64, I32],
+        Operands::Two(I64, I64) => &[I64, I64],
     }
 }
 
@@ -135,14 +119,8 @@ fn extension<'a>(op: ExtendOp) -> Option<Rule<'a>>
 fn operation<'a>(op: Operation) -> Option<Rule<'a>>
     ensures { rule_meant result ≡ Fixed (operated op).params (operated op).results }
 {
-    match op {
-        Operation::Unary(t, _) => fixed(one(t), one(t)),
-        Operation::Test(t) => fixed(one(t), one(I32)),
-        Operation::Binary(t, _) => fixed(two(t), one(t)),
-        Operation::Compare(t, _) => fixed(two(t), one(I32)),
-        Operation::Convert(op) => conversion(op),
-        Operation::Extend(op) => extension(op),
-    }
+    let ty = op.ty();
+    fixed(operand_types(ty.operands), one(ty.result))
 }
 
 /// A rule that wants a condition to hold.

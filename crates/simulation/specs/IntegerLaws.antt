@@ -14,6 +14,9 @@ use Rattle.wasm_defs.specs.declared.operation.ConvertOp.TheVariants.{Wrap, Exten
 use Rattle.wasm_defs.specs.declared.operation.ExtendOp.{ExtendOp}
 use Rattle.wasm_defs.specs.declared.operation.Operation.{Operation}
 use Rattle.wasm_defs.specs.declared.operation.Operation.TheVariants.{Unary, Test, Binary, Compare, Convert, Extend}
+use Rattle.wasm_defs.specs.declared.operation.Operands.{Operands}
+use Rattle.wasm_defs.specs.declared.operation.Operands.TheVariants.{One, Two}
+use Rattle.wasm_defs.specs.Opcodes.{row_type}
 use Rattle.wasm_defs.specs.Typing.{extend_type}
 use Rattle.wasm_defs.specs.Values.{modulus, word}
 use Rattle.wasm_defs.specs.Integers.{Computed, Number, DividesByZero, Overflows, binary, unary, compare, ieqz, converted, converted_type, sign_extended}
@@ -73,11 +76,13 @@ TestLaw =
 
 -- ---- conversions
 
+abbrev pub operand_type : Operands → ValType
+operand_type (One t) = t
+operand_type (Two t u) = u
+
 -- the type of the operand
 abbrev pub converted_from : ConvertOp → ValType
-converted_from Wrap = I64
-converted_from ExtendS = I32
-converted_from ExtendU = I32
+converted_from op = operand_type (row_type (Convert op)).operands
 
 -- a conversion that has words
 abbrev pub Converts : ConvertOp → Type 0

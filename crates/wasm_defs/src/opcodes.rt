@@ -2,7 +2,7 @@
 //! grammar, tests and documents read them, and `rows_have_types` says that the types which they state are those of typing.
 
 ghost use Rattle.std.specs.Prelude.{◌≡◌, ◌-◌, ◌≤◌, slice_get};
-ghost use Rattle.wasm_defs.specs.Opcodes.{operations, accesses, row_access};
+ghost use Rattle.wasm_defs.specs.Opcodes.{operations, accesses, row_type, row_access};
 
 use crate::operation::Access::*;
 use crate::operation::BinaryOp::*;
@@ -19,8 +19,9 @@ use crate::types::ValType::*;
 /// Numeric instructions without an immediate: the opcode, the name, the operation, and the types of its operands and its
 /// result. Those on floats, which are left out, have an opcode and a name.
 macro_rules! numeric_rows {
-    ($read:ident) => {
+    ($read:ident $($operation:ident)?) => {
         $read! {
+            $($operation)?
             0x45 "i32.eqz" Test(I32) [I32] -> I32;
             0x46 "i32.eq" Compare(I32, Eq) [I32 I32] -> I32;
             0x47 "i32.ne" Compare(I32, Ne) [I32 I32] -> I32;
@@ -227,6 +228,15 @@ macro_rules! access_types_of {
     };
 }
 
+/// The type of an operation, by its row.
+macro_rules! operation_type {
+    ($operation:ident $($code:literal $name:literal $($op:ident ($($x:ident),*) [$($t:ident)*] -> $r:ident)?;)*) => {
+        match $operation {
+            $($($op($($x),*) => NumericType { operands: operands!($($t)*), result: $r },)?)*
+        }
+    };
+}
+
 /// The type of an access, by its row.
 macro_rules! access_type {
     ($access:ident $($code:literal $name:literal $($op:ident ($x:ident) $t:ident $most:literal)?;)*) => {
@@ -297,6 +307,13 @@ fn access_at(rows: &[Option<Access>], row: usize) -> Option<Option<Access>>
 }
 
 impl Operation {
+    /// The types of its operands and its result, as its row has them.
+    pub fn ty(self) -> NumericType
+        ensures { result ≡ row_type self }
+    {
+        numeric_rows!(operation_type self)
+    }
+
     /// The operation of an opcode from 0x45 on: `None` past the table, `Some(None)` for one that is left out.
     pub fn of_opcode(opcode: u8) -> Option<Option<Operation>>
         requires { 0x45 ≤ opcode }
