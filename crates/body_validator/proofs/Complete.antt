@@ -91,37 +91,6 @@ turns c type o fs more h =
 record Inner (c : Context) (opening : Opening) (type : Signature) (tokens : List Token → List Token) (passed : List Place → List Place) (f : Frame) (fs : Frames) : Type 0 where
   by : (more : List Token) → observe c (tokens more) (opened opening type f.operands.live ∷ f ∷ fs) ≡ passing passed (observe c more (receive type.results (f ∷ fs)))
 
--- the tokens after a block's first one, with its `end`
-record Encloses (c : Context) (opening : Opening) (type : Signature) (params : Types) (tokens : List Token → List Token) (passed : List Place → List Place) (rest : Seq) (f : Frame) (fs : Frames) (to : Types) : Type 0 where
-  after : Operands
-  fits : Fits after.unknown after.own to
-  known : IsKnown after.live after.unknown
-  place : place_of (with_operands f after ∷ fs) ≡ end_of (at c (f ∷ fs)) rest (moved (length params) (length type.results) (place_of (f ∷ fs)))
-  by : (more : List Token) → on (enter opening type params (f ∷ fs)) (observe c (tokens (spelled rest more)))
-      ≡ passing (λ ps. passed (places (at c (f ∷ fs)) rest (moved (length params) (length type.results) (place_of (f ∷ fs))) ps)) (observe c more (with_operands f after ∷ fs))
-
-encloses : (c : Context) (opening : Opening) (type : Signature) (params : Types) (tokens : List Token → List Token) (passed : List Place → List Place) (rest : Seq) (f : Frame) (fs : Frames) (below to : Types)
-    → FrameFits f (params ++ below) → FrameIsKnown f
-    → ((own : List Operand) → take_all f.operands.unknown params f.operands.own ≡ Some own → Inner c opening type tokens passed (with_own f own) fs)
-    → ((own : List Operand) → Fits f.operands.unknown own (type.results ++ below) → Passes c rest (with_own f own) fs to)
-    → Encloses c opening type params tokens passed rest f fs to
-encloses c opening type params tokens passed rest f fs below to h k inner after =
-    let left = take_all-takes f.operands.unknown params f.operands.own below h in
-    let received = known type.results ++ left.own in
-    let next = after received (known-fits f.operands.unknown type.results left.own below left.fits) in
-    let entered : Option (List Operand) → Option Frames = λ o. o >>= λ own. Some (opened opening type f.operands.live ∷ with_own f own ∷ fs) in
-    let moves = types_move f.operands.live f.operands.unknown params type.results f.operands.own left.own (height fs) k left.is in
-    record {
-      after = next.after;
-      fits = next.fits;
-      known = next.known;
-      place = next.place ∙ ap (end_of (at c (f ∷ fs)) rest) moves;
-      by = λ more. ap (λ (o : Option (List Operand)). on (entered o) (observe c (tokens (spelled rest more)))) left.is
-          ∙ (inner left.own left.is).by (spelled rest more)
-          ∙ ap (passing passed) (next.by more)
-          ∙ ap (λ (place : Place). passing (λ ps. passed (places (at c (f ∷ fs)) rest place ps)) (observe c more (with_operands f next.after ∷ fs))) moves;
-    }
-
 -- a body and its `end`
 inner_of : (c : Context) (opening : Opening) (type : Signature) (body : Seq) (first : Place) (f : Frame) (fs : Frames) → may_end opening type ≡ true
     → place_of (opened opening type f.operands.live ∷ f ∷ fs) ≡ first
@@ -158,25 +127,54 @@ inner_of_two c type body other first f fs is p q =
           ∙ ap (λ (x : Place). passing (λ ps. places within body x (end_of within body x ∷ seen ps)) (observe c more (receive type.results (f ∷ fs)))) is;
     }
 
--- the block's own signature is its shape
-typed_shape : (c : Context) (type : BlockType) (s : Signature) → block_type c type ≡ Some s → s ≡ shape c type
-typed_shape c type s e = ap or_empty (sym e)
+-- the points of a body, with its end
+abbrev body_places : Context → Types → Seq → Place → List Place → List Place
+body_places c label body first ps =
+    let within = inside c label in
+    places within body first (end_of within body first ∷ ps)
 
--- a block after the sequence's first token
-opens : (c : Context) (opening : Opening) (params : Signature → Types) (o : Option Signature) (s : Signature) (f : Frame) (fs : Frames) (tokens : List Token) → o ≡ Some s
-    → on (o >>= λ x. enter opening x (params x) (f ∷ fs)) (observe c tokens) ≡ on (enter opening s (params s) (f ∷ fs)) (observe c tokens)
-opens c opening params o s f fs tokens e = ap (λ (x : Option Signature). on (x >>= λ y. enter opening y (params y) (f ∷ fs)) (observe c tokens)) e
+-- the point after a block that takes these
+abbrev behind : (Signature → Types) → Frame → Frames → Signature → Place
+behind params f fs s = moved (length (params s)) (length s.results) (place_of (f ∷ fs))
 
--- the points of a block and of what follows it, by its signature
-abbrev block_places : Context → (Signature → Types) → Seq → Seq → Place → Place → (Signature → Place) → Signature → List Place → List Place
-block_places c label body rest place first next s ps =
-    let within = inside c (label s) in
-    place ∷ places within body first (end_of within body first ∷ places c rest (next s) ps)
+-- a sequence is a block's first token, `tokens` up to the block's end, which lead through the points `passed`, and the rest
+record IsAround (c : Context) (opening : Opening) (type : BlockType) (params : Signature → Types) (tokens : List Token → List Token) (passed : Signature → List Place → List Place)
+    (rest whole : Seq) (f : Frame) (fs : Frames) : Type 0 where
+  read : (more : List Token) → observe c (spelled whole more) (f ∷ fs)
+      ≡ see (place_of (f ∷ fs)) (on (block_type (at c (f ∷ fs)) type >>= λ s. enter opening s (params s) (f ∷ fs)) (observe c (tokens (spelled rest more))))
+  placed : (ps : List Place) → place_of (f ∷ fs) ∷ passed (shape (at c (f ∷ fs)) type) (places (at c (f ∷ fs)) rest (behind params f fs (shape (at c (f ∷ fs)) type)) ps)
+      ≡ places (at c (f ∷ fs)) whole (place_of (f ∷ fs)) ps
+  ended : end_of (at c (f ∷ fs)) rest (behind params f fs (shape (at c (f ∷ fs)) type)) ≡ end_of (at c (f ∷ fs)) whole (place_of (f ∷ fs))
 
-abbrev both_places : Context → Seq → Seq → Seq → Place → Place → Signature → List Place → List Place
-both_places c body other rest place first s ps =
-    let within = inside c s.results in
-    place ∷ places within body first (end_of within body first ∷ places within other first (end_of within other first ∷ places c rest (after_if s place) ps))
+passes_around : (c : Context) (opening : Opening) (type : BlockType) (params : Signature → Types) (tokens : List Token → List Token) (passed : Signature → List Place → List Place)
+    (rest whole : Seq) (f : Frame) (fs : Frames) (s : Signature) (below from to : Types) → IsAround c opening type params tokens passed rest whole f fs
+    → block_type (at c (f ∷ fs)) type ≡ Some s → from ≡ params s ++ below → FrameFits f from → FrameIsKnown f
+    → ((own : List Operand) → take_all f.operands.unknown (params s) f.operands.own ≡ Some own → Inner c opening s tokens (passed s) (with_own f own) fs)
+    → ((own : List Operand) → Fits f.operands.unknown own (s.results ++ below) → Passes c rest (with_own f own) fs to)
+    → Passes c whole f fs to
+passes_around c opening type params tokens passed rest whole f fs s below from to around is splits fit k inner after =
+    let place = place_of (f ∷ fs) in
+    let outside = at c (f ∷ fs) in
+    let left = take_all-takes f.operands.unknown (params s) f.operands.own below (subst (λ (x : Types). FrameFits f x) splits fit) in
+    let next = after (known s.results ++ left.own) (known-fits f.operands.unknown s.results left.own below left.fits) in
+    let entered : Option (List Operand) → Option Frames = λ o. o >>= λ own. Some (opened opening s f.operands.live ∷ with_own f own ∷ fs) in
+    let moves = types_move f.operands.live f.operands.unknown (params s) s.results f.operands.own left.own (height fs) k left.is in
+    let same : s ≡ shape outside type = ap or_empty (sym is) in
+    let last : List Token → Observed = λ more. observe c more (with_operands f next.after ∷ fs) in
+    record {
+      after = next.after;
+      fits = next.fits;
+      known = next.known;
+      place = next.place ∙ ap (end_of outside rest) moves ∙ ap (λ (x : Signature). end_of outside rest (behind params f fs x)) same ∙ around.ended;
+      by = λ more. around.read more
+          ∙ ap (λ (o : Option Signature). see place (on (o >>= λ x. enter opening x (params x) (f ∷ fs)) (observe c (tokens (spelled rest more))))) is
+          ∙ ap (λ (o : Option (List Operand)). see place (on (entered o) (observe c (tokens (spelled rest more))))) left.is
+          ∙ ap (see place) ((inner left.own left.is).by (spelled rest more))
+          ∙ ap (passing (λ ps. place ∷ passed s ps)) (next.by more)
+          ∙ ap (λ (x : Place). passing (λ ps. place ∷ passed s (places outside rest x ps)) (last more)) moves
+          ∙ ap (λ (x : Signature). passing (λ ps. place ∷ passed x (places outside rest (behind params f fs x) ps)) (last more)) same
+          ∙ ap (λ (ps : List Place). passing (λ qs. ps) (last more)) (around.placed (last more).passed);
+    }
 
 pub passes : (c : Context) (tree : Seq) (f : Frame) (fs : Frames) (from to : Types) → Typed (at c (f ∷ fs)) tree from to → FrameFits f from → FrameIsKnown f → Passes c tree f fs to
 passes c Nothing f fs from to h fit k =
@@ -199,83 +197,37 @@ passes c (Simple p rest) f fs from to h fit k =
 passes c (Block type body rest) f fs from to h fit k =
     let s = h.0 in
     let place = place_of (f ∷ fs) in
-    let around = at c (f ∷ fs) in
-    let same = typed_shape around type s h.2 in
-    let within = inside around s.results in
-    let whole = encloses c Blocks s s.params (λ more. spelled body (token.End ∷ more)) (λ ps. places within body place (end_of within body place ∷ ps)) rest f fs h.1 to
-    (subst (λ (x : Types). FrameFits f x) h.3 fit) k
+    passes_around c Blocks type (λ x. x.params) (λ more. spelled body (token.End ∷ more)) (λ x. body_places (at c (f ∷ fs)) x.results body place)
+    rest (Block type body rest) f fs s h.1 from to (record { read = λ more. refl; placed = λ ps. refl; ended = refl }) h.2 h.3 fit k
     (λ own took. inner_of c Blocks s body place (with_own f own) fs refl (params_stay f.operands.live f.operands.unknown s.params f.operands.own own (height fs) k took)
     (passes c body (opened Blocks s f.operands.live) (with_own f own ∷ fs) s.params s.results h.4 (known-fit s.params) (fresh-known f.operands.live)))
-    (λ own g. passes c rest (with_own f own) fs (s.results ++ h.1) to h.5 g k) in
-    record {
-      after = whole.after;
-      fits = whole.fits;
-      known = whole.known;
-      place = whole.place ∙ ap (λ (x : Signature). end_of around rest (after_block x place)) same;
-      by = λ more. ap (see place) (opens c Blocks (λ x. x.params) (block_type around type) s f fs (spelled body (token.End ∷ spelled rest more)) h.2 ∙ whole.by more)
-          ∙ ap (λ (x : Signature). passing (block_places around (λ y. y.results) body rest place place (λ y. after_block y place) x) (observe c more (with_operands f whole.after ∷ fs))) same;
-    }
+    (λ own g. passes c rest (with_own f own) fs (s.results ++ h.1) to h.5 g k)
 passes c (Loop type body rest) f fs from to h fit k =
     let s = h.0 in
     let place = place_of (f ∷ fs) in
-    let around = at c (f ∷ fs) in
-    let same = typed_shape around type s h.2 in
-    let within = inside around s.params in
-    let whole = encloses c Loops s s.params (λ more. spelled body (token.End ∷ more)) (λ ps. places within body place (end_of within body place ∷ ps)) rest f fs h.1 to
-    (subst (λ (x : Types). FrameFits f x) h.3 fit) k
+    passes_around c Loops type (λ x. x.params) (λ more. spelled body (token.End ∷ more)) (λ x. body_places (at c (f ∷ fs)) x.params body place)
+    rest (Loop type body rest) f fs s h.1 from to (record { read = λ more. refl; placed = λ ps. refl; ended = refl }) h.2 h.3 fit k
     (λ own took. inner_of c Loops s body place (with_own f own) fs refl (params_stay f.operands.live f.operands.unknown s.params f.operands.own own (height fs) k took)
     (passes c body (opened Loops s f.operands.live) (with_own f own ∷ fs) s.params s.results h.4 (known-fit s.params) (fresh-known f.operands.live)))
-    (λ own g. passes c rest (with_own f own) fs (s.results ++ h.1) to h.5 g k) in
-    record {
-      after = whole.after;
-      fits = whole.fits;
-      known = whole.known;
-      place = whole.place ∙ ap (λ (x : Signature). end_of around rest (after_block x place)) same;
-      by = λ more. ap (see place) (opens c Loops (λ x. x.params) (block_type around type) s f fs (spelled body (token.End ∷ spelled rest more)) h.2 ∙ whole.by more)
-          ∙ ap (λ (x : Signature). passing (block_places around (λ y. y.params) body rest place place (λ y. after_block y place) x) (observe c more (with_operands f whole.after ∷ fs))) same;
-    }
+    (λ own g. passes c rest (with_own f own) fs (s.results ++ h.1) to h.5 g k)
 passes c (If type body rest) f fs from to h fit k =
     let s = h.0 in
-    let place = place_of (f ∷ fs) in
-    let first = moved 1 0 place in
-    let around = at c (f ∷ fs) in
-    let same = typed_shape around type s h.2 in
-    let within = inside around s.results in
-    let whole = encloses c Ifs s (I32 ∷ s.params) (λ more. spelled body (token.End ∷ more)) (λ ps. places within body first (end_of within body first ∷ ps)) rest f fs h.1 to
-    (subst (λ (x : Types). FrameFits f x) h.3 fit) k
-    (λ own took. inner_of c Ifs s body first (with_own f own) fs (same_types-of s.params s.results h.4) (condition_goes f.operands.live f.operands.unknown s.params f.operands.own own (height fs) k took)
+    let place = moved 1 0 (place_of (f ∷ fs)) in
+    passes_around c Ifs type (λ x. I32 ∷ x.params) (λ more. spelled body (token.End ∷ more)) (λ x. body_places (at c (f ∷ fs)) x.results body place)
+    rest (If type body rest) f fs s h.1 from to (record { read = λ more. refl; placed = λ ps. refl; ended = refl }) h.2 h.3 fit k
+    (λ own took. inner_of c Ifs s body place (with_own f own) fs (same_types-of s.params s.results h.4) (condition_goes f.operands.live f.operands.unknown s.params f.operands.own own (height fs) k took)
     (passes c body (opened Ifs s f.operands.live) (with_own f own ∷ fs) s.params s.results h.5 (known-fit s.params) (fresh-known f.operands.live)))
-    (λ own g. passes c rest (with_own f own) fs (s.results ++ h.1) to h.6 g k) in
-    record {
-      after = whole.after;
-      fits = whole.fits;
-      known = whole.known;
-      place = whole.place ∙ ap (λ (x : Signature). end_of around rest (after_if x place)) same;
-      by = λ more. ap (see place) (opens c Ifs (λ x. I32 ∷ x.params) (block_type around type) s f fs (spelled body (token.End ∷ spelled rest more)) h.2 ∙ whole.by more)
-          ∙ ap (λ (x : Signature). passing (block_places around (λ y. y.results) body rest place first (λ y. after_if y place) x) (observe c more (with_operands f whole.after ∷ fs))) same;
-    }
+    (λ own g. passes c rest (with_own f own) fs (s.results ++ h.1) to h.6 g k)
 passes c (IfElse type body other rest) f fs from to h fit k =
     let s = h.0 in
-    let place = place_of (f ∷ fs) in
-    let first = moved 1 0 place in
-    let around = at c (f ∷ fs) in
-    let same = typed_shape around type s h.2 in
-    let within = inside around s.results in
-    let whole = encloses c Ifs s (I32 ∷ s.params) (λ more. spelled body (token.Else ∷ spelled other (token.End ∷ more)))
-    (λ ps. places within body first (end_of within body first ∷ places within other first (end_of within other first ∷ ps))) rest f fs h.1 to
-    (subst (λ (x : Types). FrameFits f x) h.3 fit) k
-    (λ own took. inner_of_two c s body other first (with_own f own) fs (condition_goes f.operands.live f.operands.unknown s.params f.operands.own own (height fs) k took)
+    let place = moved 1 0 (place_of (f ∷ fs)) in
+    passes_around c Ifs type (λ x. I32 ∷ x.params) (λ more. spelled body (token.Else ∷ spelled other (token.End ∷ more)))
+    (λ x ps. body_places (at c (f ∷ fs)) x.results body place (body_places (at c (f ∷ fs)) x.results other place ps))
+    rest (IfElse type body other rest) f fs s h.1 from to (record { read = λ more. refl; placed = λ ps. refl; ended = refl }) h.2 h.3 fit k
+    (λ own took. inner_of_two c s body other place (with_own f own) fs (condition_goes f.operands.live f.operands.unknown s.params f.operands.own own (height fs) k took)
     (passes c body (opened Ifs s f.operands.live) (with_own f own ∷ fs) s.params s.results h.4 (known-fit s.params) (fresh-known f.operands.live))
     (passes c other (opened Elses s f.operands.live) (with_own f own ∷ fs) s.params s.results h.5 (known-fit s.params) (fresh-known f.operands.live)))
-    (λ own g. passes c rest (with_own f own) fs (s.results ++ h.1) to h.6 g k) in
-    record {
-      after = whole.after;
-      fits = whole.fits;
-      known = whole.known;
-      place = whole.place ∙ ap (λ (x : Signature). end_of around rest (after_if x place)) same;
-      by = λ more. ap (see place) (opens c Ifs (λ x. I32 ∷ x.params) (block_type around type) s f fs (spelled body (token.Else ∷ spelled other (token.End ∷ spelled rest more))) h.2 ∙ whole.by more)
-          ∙ ap (λ (x : Signature). passing (both_places around body other rest place first x) (observe c more (with_operands f whole.after ∷ fs))) same;
-    }
+    (λ own g. passes c rest (with_own f own) fs (s.results ++ h.1) to h.6 g k)
 
 -- ---- whole bodies
 

@@ -11,7 +11,7 @@ use Rattle.wasm_defs.specs.Typing.{Types, Signature, Context, inside, Typed, IsB
 use Rattle.wasm_defs.specs.Viable.{IsViable}
 use Rattle.body_validator.specs.declared.stack.Opening.{Opening}
 use Rattle.body_validator.specs.declared.stack.Opening.TheVariants.{Block as Blocks, Loop as Loops, If as Ifs, Else as Elses}
-use Rattle.body_validator.specs.Checking.{Operand, Operands, Frame, Frames, ◌>>=◌, known, take_all, apply, at, enter, closes, may_end, receive, starts_live, takes_else, step, run, start}
+use Rattle.body_validator.specs.Checking.{Operand, Operands, Frame, Frames, ◌>>=◌, known, take_all, apply, label_of, at, enter, closes, may_end, receive, starts_live, takes_else, step, run, start}
 use Rattle.body_validator.proofs.OperandLaws.{Fits, known-beneath, take_all-taken, apply-source, closes-true, same_types-true}
 use Rattle.body_validator.proofs.Options.{through, some_inside, true_parts, passed}
 use Rattle.body_validator.proofs.Nesting.{takes_else-true}
@@ -136,31 +136,21 @@ abbrev GoesInside : Context → Opening → Signature → Frame → Frames → (
 GoesInside c opening s f fs P own tokens =
     Goes c (opened opening s f.operands.live) (with_own f own ∷ fs) (Goes c (received (with_own f own) s.results) fs P) tokens
 
-goes_block : (c : Context) (type : BlockType) (s : Signature) (f : Frame) (fs : Frames) (P : List Token → Type 0) (own : List Operand) (tokens : List Token)
-    → block_type (at c (f ∷ fs)) type ≡ Some s → take_all f.operands.unknown s.params f.operands.own ≡ Some own
-    → GoesInside c Blocks s f fs P own tokens → Goes c f fs P (token.Block type ∷ tokens)
-goes_block c type s f fs P own tokens e took g = by_ending g.ending
+-- a block that has no `else`, by its first token and its tree
+goes_ended : (c : Context) (opening : Opening) (first : Token) (whole : Seq → Seq → Seq) (s : Signature) (f : Frame) (fs : Frames) (P : List Token → Type 0) (own : List Operand) (tokens : List Token)
+    → (opening ≡ Ifs → ⊥) → ((body rest : Seq) (k : List Token) → first ∷ spelled body (token.End ∷ spelled rest k) ≡ spelled (whole body rest) k)
+    → ((body rest : Seq) (below : Types) → Typed (inside (at c (f ∷ fs)) (label_of opening s)) body s.params s.results → Typed (at c (f ∷ fs)) rest (s.results ++ below) f.type.results
+        → Typed (at c (f ∷ fs)) (whole body rest) (s.params ++ below) f.type.results)
+    → take_all f.operands.unknown s.params f.operands.own ≡ Some own → GoesInside c opening s f fs P own tokens → Goes c f fs P (first ∷ tokens)
+goes_ended c opening first whole s f fs P own tokens ended same typed took g = by_ending g.ending
   where
-    by_ending : Ending (at c (f ∷ fs)) Blocks s g.tree g.rest tokens → Goes c f fs P (token.Block type ∷ tokens)
-    by_ending (turns_over other o is t) = absurd (cc)
+    by_ending : Ending (at c (f ∷ fs)) opening s g.tree g.rest tokens → Goes c f fs P (first ∷ tokens)
+    by_ending (turns_over other o is t) = absurd (ended o)
     by_ending (ends is m) =
         let around = surrounds c s s.params f fs P own g.rest took g.then in
-        goes_around c s s.params f fs P (λ k. token.Block type ∷ spelled g.tree (token.End ∷ k)) (Block type g.tree around.tree) g.rest (token.Block type ∷ tokens) around
-        (λ k. refl) (ap (λ (x : List Token). token.Block type ∷ x) is)
-        (s, around.below, e, refl, inside_typed (inside (at c (f ∷ fs)) s.results) s g.tree g.from g.fits g.typed, around.typed)
-
-goes_loop : (c : Context) (type : BlockType) (s : Signature) (f : Frame) (fs : Frames) (P : List Token → Type 0) (own : List Operand) (tokens : List Token)
-    → block_type (at c (f ∷ fs)) type ≡ Some s → take_all f.operands.unknown s.params f.operands.own ≡ Some own
-    → GoesInside c Loops s f fs P own tokens → Goes c f fs P (token.Loop type ∷ tokens)
-goes_loop c type s f fs P own tokens e took g = by_ending g.ending
-  where
-    by_ending : Ending (at c (f ∷ fs)) Loops s g.tree g.rest tokens → Goes c f fs P (token.Loop type ∷ tokens)
-    by_ending (turns_over other o is t) = absurd (cc)
-    by_ending (ends is m) =
-        let around = surrounds c s s.params f fs P own g.rest took g.then in
-        goes_around c s s.params f fs P (λ k. token.Loop type ∷ spelled g.tree (token.End ∷ k)) (Loop type g.tree around.tree) g.rest (token.Loop type ∷ tokens) around
-        (λ k. refl) (ap (λ (x : List Token). token.Loop type ∷ x) is)
-        (s, around.below, e, refl, inside_typed (inside (at c (f ∷ fs)) s.params) s g.tree g.from g.fits g.typed, around.typed)
+        goes_around c s s.params f fs P (λ k. first ∷ spelled g.tree (token.End ∷ k)) (whole g.tree around.tree) g.rest (first ∷ tokens) around
+        (same g.tree around.tree) (ap (λ (x : List Token). first ∷ x) is)
+        (typed g.tree around.tree around.below (inside_typed (inside (at c (f ∷ fs)) (label_of opening s)) s g.tree g.from g.fits g.typed) around.typed)
 
 goes_if : (c : Context) (type : BlockType) (s : Signature) (f : Frame) (fs : Frames) (P : List Token → Type 0) (own : List Operand) (tokens : List Token)
     → block_type (at c (f ∷ fs)) type ≡ Some s → take_all f.operands.unknown (I32 ∷ s.params) f.operands.own ≡ Some own
@@ -225,13 +215,13 @@ goes c (token.Plain p ∷ tokens) f fs e =
 goes c (token.Block type ∷ tokens) f fs e =
     let s = opens_by c (λ s. enter Blocks s s.params (f ∷ fs)) (block_type (at c (f ∷ fs)) type) tokens e in
     let x = entered c Blocks s.0 s.0.params f fs tokens s.2 in
-    goes_block c type s.0 f fs (Closes c f.type.results fs) x.own tokens s.1 x.took
-    (goes c tokens (opened Blocks s.0 f.operands.live) (with_own f x.own ∷ fs) x.ran)
+    goes_ended c Blocks (token.Block type) (Block type) s.0 f fs (Closes c f.type.results fs) x.own tokens (λ o. absurd (cc)) (λ body rest k. refl)
+    (λ body rest below within after. (s.0, below, s.1, refl, within, after)) x.took (goes c tokens (opened Blocks s.0 f.operands.live) (with_own f x.own ∷ fs) x.ran)
 goes c (token.Loop type ∷ tokens) f fs e =
     let s = opens_by c (λ s. enter Loops s s.params (f ∷ fs)) (block_type (at c (f ∷ fs)) type) tokens e in
     let x = entered c Loops s.0 s.0.params f fs tokens s.2 in
-    goes_loop c type s.0 f fs (Closes c f.type.results fs) x.own tokens s.1 x.took
-    (goes c tokens (opened Loops s.0 f.operands.live) (with_own f x.own ∷ fs) x.ran)
+    goes_ended c Loops (token.Loop type) (Loop type) s.0 f fs (Closes c f.type.results fs) x.own tokens (λ o. absurd (cc)) (λ body rest k. refl)
+    (λ body rest below within after. (s.0, below, s.1, refl, within, after)) x.took (goes c tokens (opened Loops s.0 f.operands.live) (with_own f x.own ∷ fs) x.ran)
 goes c (token.If type ∷ tokens) f fs e =
     let s = opens_by c (λ s. enter Ifs s (I32 ∷ s.params) (f ∷ fs)) (block_type (at c (f ∷ fs)) type) tokens e in
     let x = entered c Ifs s.0 (I32 ∷ s.0.params) f fs tokens s.2 in

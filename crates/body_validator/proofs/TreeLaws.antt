@@ -12,8 +12,20 @@ ClosesSequence (token.End ∷ ts) = Unit {0}
 ClosesSequence (token.Else ∷ ts) = Unit {0}
 ClosesSequence (_ ∷ ts) = ⊥
 
--- the same tokens, up to where both sequences end
-pub spelled-one : (s t : Seq) (a b : List Token) → ClosesSequence a → ClosesSequence b → spelled s a ≡ spelled t b → (s ≡ t) × (a ≡ b)
+-- the same tokens are of one sequence, up to where both end
+abbrev AreOne : Seq → Seq → Type 0
+AreOne s t = (a b : List Token) → ClosesSequence a → ClosesSequence b → spelled s a ≡ spelled t b → (s ≡ t) × (a ≡ b)
+
+-- the same tokens are of one sequence, its `end` and another sequence
+closed-one : (body c rest r : Seq) (a b : List Token) → AreOne body c → AreOne rest r → ClosesSequence a → ClosesSequence b
+    → spelled body (token.End ∷ spelled rest a) ≡ spelled c (token.End ∷ spelled r b) → (body ≡ c) × (rest ≡ r) × (a ≡ b)
+closed-one body c rest r a b inside after h g e =
+    let inner = inside (token.End ∷ spelled rest a) (token.End ∷ spelled r b) tt tt e in
+    let behind : token.End ∷ spelled rest a ≡ token.End ∷ spelled r b = inner.1 in
+    let more = after a b h g (cc) in
+    (inner.0, more.0, more.1)
+
+pub spelled-one : (s t : Seq) → AreOne s t
 spelled-one Nothing Nothing a b h g e = (refl, e)
 spelled-one Nothing (Simple q r) a b h g e = absurd (subst ClosesSequence e h)
 spelled-one Nothing (Block u c r) a b h g e = absurd (subst ClosesSequence e h)
@@ -32,39 +44,31 @@ spelled-one (Simple p rest) (Simple q r) a b h g e =
     (cc, more.1)
 spelled-one (Block type body rest) (Block u c r) a b h g e =
     let first : type ≡ u = cc in
-    let inner = spelled-one body c (token.End ∷ spelled rest a) (token.End ∷ spelled r b) tt tt (cc) in
-    let within : body ≡ c = inner.0 in
-    let behind : token.End ∷ spelled rest a ≡ token.End ∷ spelled r b = inner.1 in
-    let more = spelled-one rest r a b h g (cc) in
-    let last : rest ≡ r = more.0 in
-    (cc, more.1)
+    let more = closed-one body c rest r a b (spelled-one body c) (spelled-one rest r) h g (cc) in
+    let within : body ≡ c = more.0 in
+    let last : rest ≡ r = more.1 in
+    (cc, more.2)
 spelled-one (Loop type body rest) (Loop u c r) a b h g e =
     let first : type ≡ u = cc in
-    let inner = spelled-one body c (token.End ∷ spelled rest a) (token.End ∷ spelled r b) tt tt (cc) in
-    let within : body ≡ c = inner.0 in
-    let behind : token.End ∷ spelled rest a ≡ token.End ∷ spelled r b = inner.1 in
-    let more = spelled-one rest r a b h g (cc) in
-    let last : rest ≡ r = more.0 in
-    (cc, more.1)
+    let more = closed-one body c rest r a b (spelled-one body c) (spelled-one rest r) h g (cc) in
+    let within : body ≡ c = more.0 in
+    let last : rest ≡ r = more.1 in
+    (cc, more.2)
 spelled-one (If type body rest) (If u c r) a b h g e =
     let first : type ≡ u = cc in
-    let inner = spelled-one body c (token.End ∷ spelled rest a) (token.End ∷ spelled r b) tt tt (cc) in
-    let within : body ≡ c = inner.0 in
-    let behind : token.End ∷ spelled rest a ≡ token.End ∷ spelled r b = inner.1 in
-    let more = spelled-one rest r a b h g (cc) in
-    let last : rest ≡ r = more.0 in
-    (cc, more.1)
+    let more = closed-one body c rest r a b (spelled-one body c) (spelled-one rest r) h g (cc) in
+    let within : body ≡ c = more.0 in
+    let last : rest ≡ r = more.1 in
+    (cc, more.2)
 spelled-one (IfElse type body other rest) (IfElse u c d r) a b h g e =
     let first : type ≡ u = cc in
     let inner = spelled-one body c (token.Else ∷ spelled other (token.End ∷ spelled rest a)) (token.Else ∷ spelled d (token.End ∷ spelled r b)) tt tt (cc) in
     let within : body ≡ c = inner.0 in
     let turned : token.Else ∷ spelled other (token.End ∷ spelled rest a) ≡ token.Else ∷ spelled d (token.End ∷ spelled r b) = inner.1 in
-    let second = spelled-one other d (token.End ∷ spelled rest a) (token.End ∷ spelled r b) tt tt (cc) in
-    let without : other ≡ d = second.0 in
-    let behind : token.End ∷ spelled rest a ≡ token.End ∷ spelled r b = second.1 in
-    let more = spelled-one rest r a b h g (cc) in
-    let last : rest ≡ r = more.0 in
-    (cc, more.1)
+    let more = closed-one other d rest r a b (spelled-one other d) (spelled-one rest r) h g (cc) in
+    let without : other ≡ d = more.0 in
+    let last : rest ≡ r = more.1 in
+    (cc, more.2)
 spelled-one (If type body rest) (IfElse u c d r) a b h g e =
     let inner = spelled-one body c (token.End ∷ spelled rest a) (token.Else ∷ spelled d (token.End ∷ spelled r b)) tt tt (cc) in
     let clash : token.End ∷ spelled rest a ≡ token.Else ∷ spelled d (token.End ∷ spelled r b) = inner.1 in
