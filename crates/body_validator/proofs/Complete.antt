@@ -6,7 +6,7 @@ use Rattle.wasm_defs.specs.declared.token.Token.{Token}
 use Rattle.wasm_defs.specs.declared.token.Token.TheVariants as token
 use Rattle.wasm_defs.specs.Trees.{Seq, Nothing, Simple, Block, Loop, If, IfElse, spelled}
 use Rattle.wasm_defs.specs.Typing.{Types, Signature, Context, inside, Typed, IsBody, rule_of, block_type}
-use Rattle.wasm_defs.specs.Places.{Place, moved, after_block, after_if, or_empty, shape, end_of, places, places_of}
+use Rattle.wasm_defs.specs.Places.{Place, moved, or_empty, shape, end_of, places, places_of}
 use Rattle.body_validator.specs.declared.stack.Opening.{Opening}
 use Rattle.body_validator.specs.declared.stack.Opening.TheVariants.{Block as Blocks, Loop as Loops, If as Ifs, Else as Elses}
 use Rattle.body_validator.specs.Checking.{Operand, Operands, Frame, Frames, ◌>>=◌, guarded, known, take_all, put, fresh, label_of, at, enter, closes, may_end, receive, starts_live, step, run, start, height, place_of}

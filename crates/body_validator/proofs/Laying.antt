@@ -1,5 +1,6 @@
 -- Operands that are laid out as single ones and lists.
 use Rattle.std.proofs.Common.{◌≡◌, ◌⊎◌, inl, inr, ℕ, zero, suc, ◌+◌, ◌-◌, ◌<◌, ◌≤◌, Bool, true, false, List, [], ◌∷◌, ◌++◌, length, get_or, set, take, drop, map, Option, None, Some, Result, Ok, Err, refl, sym, ap, ◌∙◌, subst, append_assoc, arith}
+use Rattle.std.specs.Global.{Vec}
 use Rattle.std.specs.Prelude.{reverse, is_some}
 use Rattle.std.proofs.lemmas.List.{append-nil, length-append, length-map, map-append, length-drop, length-take-le, length-reverse, take-append-drop, take-take, take_at, take-append-le, drop_at, drop-append-le, drop_all, reverse-append, take_all as take_all_of}
 use Rattle.wasm_defs.specs.declared.types.ValType.{ValType}
@@ -203,6 +204,16 @@ pub record IsOver (o n : Operands) : Type 0 where
   pub unknown : n.unknown ≡ o.unknown
   pub under : take o.start n.singles.items ≡ take o.start o.singles.items
   pub above : o.start ≤ length n.singles.items
+
+-- other single ones, the same below the start
+pub singles_over : (o : Operands) (singles : Vec Operand) → take o.start singles.items ≡ take o.start o.singles.items → o.start ≤ length singles.items → IsOver o (record o { singles = singles })
+singles_over o singles under above = record { lists = refl; listed = refl; start = refl; unknown = refl; under = under; above = above }
+
+-- one is put on those that are left
+pub put_over : (o : Operands) (singles : Vec Operand) (left : List Operand) (t : Operand) → o.start ≤ length left → take o.start left ≡ take o.start o.singles.items → singles.items ≡ left ++ t ∷ []
+    → IsOver o (record o { singles = singles })
+put_over o singles left t above under is =
+    singles_over o singles (ap (take o.start) is ∙ take-append-le o.start left (t ∷ []) above ∙ under) (omega (arith, ap length is, length-append left (t ∷ []), above))
 
 stacked_at : (lists : List Spread) (m n : ℕ) → AreStacked lists m → floor_of lists ≤ n → AreStacked lists n
 stacked_at [] m n s h = tt

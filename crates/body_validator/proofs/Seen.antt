@@ -1,5 +1,5 @@
 -- Steps of the frames, from what becomes of the operands.
-use Rattle.std.proofs.Common.{refl, ◌<◌, ◌≡◌, ℕ, ◌≤◌, Bool, true, false, List, [], ◌∷◌, ◌++◌, length, take, drop, Option, None, Some, Result, Ok, Err, sym, ap, ◌∙◌, subst, arith}
+use Rattle.std.proofs.Common.{refl, ◌<◌, ◌≡◌, ℕ, ◌-◌, ◌≤◌, Bool, true, false, List, [], ◌∷◌, ◌++◌, length, take, drop, Option, None, Some, Result, Ok, Err, sym, ap, ◌∙◌, subst, arith}
 use Rattle.std.specs.Prelude.{reverse, is_some}
 use Rattle.std.proofs.lemmas.List.{length-append, length-take-le, take-append-le, drop_all, take-take}
 use Rattle.wasm_defs.specs.Typing.{Types, Fixed, Stops, Discards, Selects}
@@ -8,16 +8,13 @@ use Rattle.body_validator.specs.declared.kept.Operands.{Operands}
 use Rattle.body_validator.specs.declared.operands.Stop.{Stop}
 use Rattle.body_validator.specs.declared.operands.Stop.TheVariants.{Refused, NoMemory}
 use Rattle.body_validator.specs.Checking.{Operand, Operands as Checked, Frames, ◌>>=◌, known, take_all, Taken, take_any, put, applied}
-use Rattle.body_validator.specs.Stacks.{own_of, frame_of, frames_of, IsLaid}
+use Rattle.body_validator.specs.Stacks.{own_of, frame_of, frames_of, HasLast, IsLaid}
 use Rattle.body_validator.specs.Exchange.{Exchanges, TakesOne, TakesThree, Steps, Tries}
 use Rattle.body_validator.specs.Kept.{flat, IsKept, IsSeen, IsSeenFrom, IsTried}
 use Rattle.body_validator.proofs.Laying.{base_seen}
 use Rattle.body_validator.proofs.Options.{some_inside}
 use Rattle.body_validator.proofs.Flat.{take_all-drop, some_or_none}
-use Rattle.body_validator.proofs.Frames.{discard_steps, select_applied}
-
-pub seen_in : (all : List Flat) (f : Flat) (rest : List Flat) (o : Operands) → all ≡ f ∷ rest → IsSeenFrom all o → IsSeen f.base f.unknown o
-seen_in all f rest o e h = subst (λ (x : List Flat). IsSeenFrom x o) e h
+use Rattle.body_validator.proofs.Frames.{last_in, discard_steps, select_applied}
 
 pub seen_from : (all : List Flat) (f : Flat) (rest : List Flat) (o : Operands) → all ≡ f ∷ rest → IsSeen f.base f.unknown o → IsSeenFrom all o
 seen_from all f rest o e h = subst (λ (x : List Flat). IsSeenFrom x o) (sym e) h
@@ -26,11 +23,22 @@ pub kept_from : (all : List Flat) (o : Operands) → IsSeenFrom all o → IsKept
 kept_from [] o h = h
 kept_from (f ∷ fs) o h = h.kept
 
+pub last_seen : (slice items : List Flat) (f : Flat) (o : Operands) → slice ≡ items → HasLast slice f → IsSeenFrom (reverse items) o → IsSeen f.base f.unknown o
+last_seen slice items f o e h s = subst (λ (x : List Flat). IsSeenFrom x o) (last_in slice items f e h) s
+
 -- what is above the innermost base changes
-pub laid_again : (all : List Flat) (f : Flat) (rest : List Flat) (old new : List Operand) → all ≡ f ∷ rest → IsLaid all old → take f.base new ≡ take f.base old → f.base ≤ length new → IsLaid all new
+laid_again : (all : List Flat) (f : Flat) (rest : List Flat) (old new : List Operand) → all ≡ f ∷ rest → IsLaid all old → take f.base new ≡ take f.base old → f.base ≤ length new → IsLaid all new
 laid_again all f rest old new is h e within =
     let inside = subst (λ (x : List Flat). IsLaid x old) is h in
     subst (λ (x : List Flat). IsLaid x new) (sym is) (within, subst (λ (x : List Operand). IsLaid rest x) (sym e) inside.1)
+
+-- what is above the base of the last of these changes
+pub last_again : (slice items : List Flat) (f : Flat) (o n : Operands) → slice ≡ items → HasLast slice f → IsLaid (reverse items) (flat o) → take f.base (flat n) ≡ take f.base (flat o)
+    → IsSeen f.base f.unknown n → IsLaid (reverse items) (flat n) × IsSeenFrom (reverse items) n
+last_again slice items f o n e h laid below seen =
+    let rest = reverse (take (length items - 1) items) in
+    let is = last_in slice items f e h in
+    (laid_again (reverse items) f rest (flat o) (flat n) is laid below (base_seen f.base f.unknown n seen), seen_from (reverse items) f rest n is seen)
 
 made : (o : Option (List Operand)) (g : Types) (x : Checked) (r : List Operand) (k : Checked → Frames) → (o >>= λ left. Some (known g ++ left)) ≡ Some r
     → ((o >>= λ own. Some (put x (known g ++ own))) >>= λ y. Some (k y)) ≡ Some (k (put x r))

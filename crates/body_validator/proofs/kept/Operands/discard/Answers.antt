@@ -1,8 +1,8 @@
-use Rattle.std.proofs.Common.{◌≡◌, List, length, take, drop, true, refl, sym, ap, ◌∙◌, arith}
+use Rattle.std.proofs.Common.{◌≡◌, List, length, take, drop, true, sym, ap, ◌∙◌, arith}
 use Rattle.body_validator.specs.declared.kept.Operands.{Operands}
 use Rattle.body_validator.specs.Checking.{Operand}
 use Rattle.body_validator.specs.Stacks.{own_of}
-use Rattle.body_validator.proofs.Laying.{IsOver, none_taken, one_taken, dropped_over, below_over}
+use Rattle.body_validator.proofs.Laying.{singles_over, none_taken, one_taken, dropped_over, below_over}
 use Rattle.body_validator.proofs.kept.Operands.discard.Goals as goal
 use Rattle.body_validator.proofs.kept.Operands.discard.Goals.{else-len-self-via-then-len-self+else-not-self, else-len-self-via-else-len-self}
 
@@ -17,14 +17,7 @@ pub returns-clause-own : goal.returns-clause-own
 returns-clause-own c =
     let o = c.show.new.self in
     let n : Operands = record o { singles = c.remove.new.operands } in
-    let over : IsOver o n = record {
-      lists = refl;
-      listed = refl;
-      start = refl;
-      unknown = refl;
-      under = c.remove.ensures.below;
-      above = omega (arith, c.remove.ensures.above, c.remove.new.operands.ok.0);
-    } in
+    let over = singles_over o c.remove.new.operands c.remove.ensures.below (omega (arith, c.remove.ensures.above, c.remove.new.operands.ok.0)) in
     let len : c.len.result ≡ length o.singles.items = omega (arith, c.len.ensures, o.singles.ok.0) in
     let some : length o.singles.items ≡ o.start → o.unknown ≡ true = elim c.else-len-self.branch [
       | else-len-self-via-then-len-self+else-not-self w ↦ λ e. w.if-not-self.false
@@ -39,12 +32,5 @@ pub returns-clause-below : goal.returns-clause-below
 returns-clause-below c =
     let o = c.show.new.self in
     let n : Operands = record o { singles = c.remove.new.operands } in
-    let over : IsOver o n = record {
-      lists = refl;
-      listed = refl;
-      start = refl;
-      unknown = refl;
-      under = c.remove.ensures.below;
-      above = omega (arith, c.remove.ensures.above, c.remove.new.operands.ok.0);
-    } in
+    let over = singles_over o c.remove.new.operands c.remove.ensures.below (omega (arith, c.remove.ensures.above, c.remove.new.operands.ok.0)) in
     below_over c.args.base c.args.unknown o n c.show.ensures.seen over ∙ ap (take c.args.base) c.show.ensures.same

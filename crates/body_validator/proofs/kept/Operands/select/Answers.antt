@@ -1,10 +1,9 @@
-use Rattle.std.proofs.Common.{◌≤◌, ◌∷◌, [], List, length, take, drop, refl, sym, ap, ◌∙◌, arith}
-use Rattle.std.proofs.lemmas.List.{take-append-le, length-append}
+use Rattle.std.proofs.Common.{◌≤◌, ◌∷◌, List, length, take, drop, sym, ap, ◌∙◌, arith}
 use Rattle.body_validator.specs.declared.kept.Operands.{Operands}
 use Rattle.body_validator.specs.Checking.{Operand, selected_of}
 use Rattle.body_validator.specs.Stacks.{own_of}
 use Rattle.body_validator.proofs.Frames.{part_own}
-use Rattle.body_validator.proofs.Laying.{IsOver, selected_seen, three_taken, put_one, below_over}
+use Rattle.body_validator.proofs.Laying.{put_over, selected_seen, three_taken, put_one, below_over}
 use Rattle.body_validator.proofs.kept.Operands.select.Goals as goal
 
 pub returns-in_default-clause-own : goal.returns-in_default-clause-own
@@ -23,14 +22,7 @@ returns-clause-own c =
     let t = c.in-Some.operand in
     let kept = c.remove.new.operands.items in
     let above : o.start ≤ length kept = omega (arith, c.remove.ensures.above, c.remove.new.operands.ok.0) in
-    let over : IsOver o n = record {
-      lists = refl;
-      listed = refl;
-      start = refl;
-      unknown = refl;
-      under = ap (take o.start) c.put.ensures ∙ take-append-le o.start kept (t ∷ []) above ∙ c.remove.ensures.below ∙ ap (take o.start) c.reserve.ensures.items;
-      above = omega (arith, ap length c.put.ensures, length-append kept (t ∷ []), above);
-    } in
+    let over = put_over o c.put.new.operands kept t above (c.remove.ensures.below ∙ ap (take o.start) c.reserve.ensures.items) c.put.ensures in
     let own = ap (λ (x : List Operand). own_of x o.start) c.put.ensures ∙ put_one kept t o.start above
     ∙ ap (λ (x : List Operand). t ∷ x) (c.remove.ensures.own ∙ ap (λ (x : List Operand). drop 3 (own_of x o.start)) c.reserve.ensures.items) in (
       t,
@@ -48,12 +40,5 @@ returns-clause-below c =
     let t = c.in-Some.operand in
     let kept = c.remove.new.operands.items in
     let above : o.start ≤ length kept = omega (arith, c.remove.ensures.above, c.remove.new.operands.ok.0) in
-    let over : IsOver o n = record {
-      lists = refl;
-      listed = refl;
-      start = refl;
-      unknown = refl;
-      under = ap (take o.start) c.put.ensures ∙ take-append-le o.start kept (t ∷ []) above ∙ c.remove.ensures.below ∙ ap (take o.start) c.reserve.ensures.items;
-      above = omega (arith, ap length c.put.ensures, length-append kept (t ∷ []), above);
-    } in
+    let over = put_over o c.put.new.operands kept t above (c.remove.ensures.below ∙ ap (take o.start) c.reserve.ensures.items) c.put.ensures in
     below_over c.args.base c.args.unknown o n c.show.ensures.seen over ∙ ap (take c.args.base) c.show.ensures.same

@@ -5,17 +5,13 @@ use Rattle.body_validator.specs.Stacks.{frames_of}
 use Rattle.body_validator.specs.Exchange.{taken_types, Steps}
 use Rattle.body_validator.specs.Kept.{flat}
 use Rattle.body_validator.proofs.Frames.{last_in}
-use Rattle.body_validator.proofs.Laying.{base_seen}
-use Rattle.body_validator.proofs.Seen.{seen_in, seen_from, laid_again, exchange_steps}
+use Rattle.body_validator.proofs.Seen.{last_seen, last_again, exchange_steps}
 use Rattle.body_validator.proofs.stack.Stack.exchange.Goals as goal
 
 pub exchange-requires : goal.exchange-requires
 exchange-requires c =
     let s = c.self.inside in
-    let frame = c.in-Some.frame in
-    let frames = s.frames.items in
-    let is = last_in c.deref.result.now frames frame c.deref.ensures.value c.in-Some.ensures in
-    seen_in (reverse frames) frame (reverse (take (length frames - 1) frames)) s.operands is c.self.invariant.1
+    last_seen c.deref.result.now s.frames.items c.in-Some.frame s.operands c.deref.ensures.value c.in-Some.ensures c.self.invariant.1
 
 pub returns : goal.returns
 returns c =
@@ -31,11 +27,6 @@ returns c =
 pub invariant_of-self : goal.invariant_of-self
 invariant_of-self c =
     let s = c.self.inside in
-    let frame = c.in-Some.frame in
-    let frames = s.frames.items in
-    let rest = reverse (take (length frames - 1) frames) in
-    let is = last_in c.deref.result.now frames frame c.deref.ensures.value c.in-Some.ensures in (
-      laid_again (reverse frames) frame rest (flat s.operands) (flat c.exchange.new.self) is c.self.invariant.0 c.exchange.ensures.below (base_seen frame.base frame.unknown c.exchange.new.self c.exchange.ensures.seen),
-      seen_from (reverse frames) frame rest c.exchange.new.self is c.exchange.ensures.seen,
-      c.self.invariant.2,
-    )
+    let kept = last_again c.deref.result.now s.frames.items c.in-Some.frame s.operands c.exchange.new.self c.deref.ensures.value c.in-Some.ensures
+        c.self.invariant.0 c.exchange.ensures.below c.exchange.ensures.seen in
+    (kept.0, kept.1, c.self.invariant.2)
