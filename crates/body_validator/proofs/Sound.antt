@@ -140,7 +140,7 @@ GoesInside c opening s f fs P own tokens =
 goes_ended : (c : Context) (opening : Opening) (first : Token) (whole : Seq → Seq → Seq) (s : Signature) (f : Frame) (fs : Frames) (P : List Token → Type 0) (own : List Operand) (tokens : List Token)
     → (opening ≡ Ifs → ⊥) → ((body rest : Seq) (k : List Token) → first ∷ spelled body (token.End ∷ spelled rest k) ≡ spelled (whole body rest) k)
     → ((body rest : Seq) (below : Types) → Typed (inside (at c (f ∷ fs)) (label_of opening s)) body s.params s.results → Typed (at c (f ∷ fs)) rest (s.results ++ below) f.type.results
-        → Typed (at c (f ∷ fs)) (whole body rest) (s.params ++ below) f.type.results)
+    → Typed (at c (f ∷ fs)) (whole body rest) (s.params ++ below) f.type.results)
     → take_all f.operands.unknown s.params f.operands.own ≡ Some own → GoesInside c opening s f fs P own tokens → Goes c f fs P (first ∷ tokens)
 goes_ended c opening first whole s f fs P own tokens ended same typed took g = by_ending g.ending
   where

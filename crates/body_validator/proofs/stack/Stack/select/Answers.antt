@@ -26,5 +26,5 @@ pub invariant_of-self : goal.invariant_of-self
 invariant_of-self c =
     let s = c.self.inside in
     let kept = last_again c.deref.result.now s.frames.items c.in-Some.frame s.operands c.select.new.self c.deref.ensures.value c.in-Some.ensures
-        c.self.invariant.0 c.select.ensures.below c.select.ensures.seen in
+    c.self.invariant.0 c.select.ensures.below c.select.ensures.seen in
     (kept.0, kept.1, c.self.invariant.2)
