@@ -15,6 +15,7 @@ use Rattle.wasm_laws.specs.Sections.{AreBytes}
 use Rattle.wasm_laws.specs.Completing.{IsGot, IsTooLong, Completes, CompletesOrPasses}
 use Rattle.wasm_laws.proofs.Steady.{with_more}
 use Rattle.wasm_laws.proofs.Windows.{all_of, ReadsOn, number_lies, number_reads_on}
+use Rattle.wasm_laws.proofs.Names.{text_outcome}
 
 -- ---- bytes that complete
 
@@ -253,21 +254,9 @@ pub record Owes (len n : ℕ) (c : Cursor) : Type 0 where
   pub short : length (take n (drop len (window c))) < n
 
 pub text_owes : (len n : ℕ) (c : Cursor) → text_after len n c ≡ Wants → Owes len n c
-text_owes len n c e =
-    let text = take n (drop len (window c)) in
-    elim (cases_lt (room_of c) (len + n)) [
-      | inl long ↦ absurd (let t = rw (lt-ltb (room_of c) (len + n) long) at e in cc)
-      | inr fits ↦ let t = rw (le-ltb (room_of c) (len + n) fits) at e in elim (cases_Bool (completes n between text)) [
-        | inr wrong ↦ absurd (let u = rw wrong at t in cc)
-        | inl right ↦ let u = rw right at t in elim (cases_lt (length text) n) [
-          | inl lt ↦ record { fits = fits; right = right; short = lt }
-          | inr ge ↦ let v = rw (le-ltb (length text) n ge) at u in elim (cases_Bool (ltb max_name n)) [
-            | inl over ↦ absurd (let w = rw over at v in cc)
-            | inr under ↦ absurd (let w = rw under at v in cc)
-          ]
-        ]
-      ]
-    ]
+text_owes len n c =
+    text_outcome (λ r. r ≡ Wants → Owes len n c) len n c (λ e. absurd (cc)) (λ e. absurd (cc)) (λ fits right lt e. record { fits = fits; right = right; short = lt })
+    (λ fits right ge under e. absurd (cc))
 
 text_completes : (c : Cursor) (n : ℤ) (len : ℕ) → number_at false 32 (window c) ≡ Number n len → len ≤ length (window c) → ((more : List ℕ) → number_at false 32 (window c ++ more) ≡ Number n len) → Owes len (nat_of n) c → CompletesOrPasses name c
 text_completes c n len is lies on o =

@@ -1,14 +1,13 @@
 -- Reading refuses nothing as Ended: that is said of bytes that are owed alone.
-use Rattle.std.proofs.Common.{◌<◌, ℕ, ◌+◌, Bool, true, false, cond, leb, ltb, eqb, List, [], ◌∷◌, length, take, drop, arith, inl, inr}
+use Rattle.std.proofs.Common.{◌<◌, ℕ, ◌+◌, Bool, true, false, cond, leb, ltb, eqb, List, [], ◌∷◌, length, arith, inl, inr}
 use Rattle.std.proofs.lemmas.Bool.{cases_Bool}
 use Rattle.wasm_defs.specs.declared.fault.Kind.{Kind}
-use Rattle.wasm_defs.specs.Limits.{max_name}
 use Rattle.wasm_defs.specs.Numbers.{Reading, Number, CutOff, Bad, number_at}
-use Rattle.wasm_defs.specs.Text.{between, completes}
 use Rattle.wasm_defs.specs.Fields.{Cursor, Read, Got, Fault, Wants, Reader, then_go, ◌>>=◌, done, refused, repeated, room_of, window, cut, first_of, byte, from_reading, number, u32, count, vector, run, room, here, stop, text_after, least, name_from, nat_of, name, agree, fixed}
 use Rattle.wasm_defs.specs.Entries.{Seen, value_type}
 use Rattle.wasm_defs.specs.Outside.{row, left_over, header, preamble, section_end}
 use Rattle.wasm_defs.specs.Faults.{rank}
+use Rattle.wasm_laws.proofs.Names.{text_outcome}
 use Rattle.wasm_laws.proofs.EachReader.{malformed, unsupported, limit, invalid, wrong, wrong_after, Composes, RowHas, repeated_has, u32_has, count_has, vector_has, value_type_has, header_has, preamble_has, row_has}
 
 abbrev pub Lasts : {A : Type 0} → Read A → Type 0
@@ -88,18 +87,7 @@ fixed_lasts bytes = record {
 }
 
 text_lasts : (len n : ℕ) (c : Cursor) → Lasts (text_after len n c)
-text_lasts len n c =
-    let text = take n (drop len (window c)) in
-    elim (cases_Bool (ltb (room_of c) (len + n))) [
-      | inl long ↦ rw long malformed
-      | inr fits ↦ rw fits (elim (cases_Bool (completes n between text)) [
-        | inr wrong ↦ rw wrong malformed
-        | inl right ↦ rw right (elim (cases_Bool (ltb (length text) n)) [
-          | inl short ↦ rw short tt
-          | inr whole ↦ rw whole (elim (cases_Bool (ltb max_name n)) [ inl over ↦ rw over limit | inr few ↦ rw few tt ])
-        ])
-      ])
-    ]
+text_lasts len n c = text_outcome Lasts len n c malformed limit (λ fits right short. tt) (λ fits right whole few. tt)
 
 name_from_lasts : (c : Cursor) (r : Reading) → Lasts (name_from c r)
 name_from_lasts c (Number n len) = text_lasts len (nat_of n) c

@@ -1,14 +1,14 @@
 -- Names are steady fields: what more bytes can't complete, they don't.
-use Rattle.std.proofs.Common.{◌≡◌, ℕ, suc, ◌+◌, ◌-◌, ◌*◌, ◌≤◌, ◌<◌, false, ltb, eqb, ◌||◌, List, [], ◌∷◌, ◌++◌, length, take, drop, Option, Some, None, refl, sym, ap, ◌∙◌, arith, length-drop, length-take, inl, inr, ◌⊎◌, ℤ, pos, ◌+ℤ◌, ◌^◌}
+use Rattle.std.proofs.Common.{◌≡◌, ℕ, suc, ◌+◌, ◌-◌, ◌*◌, ◌≤◌, ◌<◌, true, false, ltb, eqb, ◌||◌, List, [], ◌∷◌, ◌++◌, length, take, drop, Option, Some, None, refl, sym, ap, ◌∙◌, arith, length-drop, length-take, inl, inr, ◌⊎◌, ℤ, pos, ◌+ℤ◌, ◌^◌}
 use Rattle.std.specs.Prelude.{◌*ℤ◌}
 use Rattle.std.proofs.lemmas.List.{append-nil, take-append-le, drop-append-le}
 use Rattle.std.proofs.lemmas.Bool.{cases_lt, cases_Bool, lt-ltb, le-ltb, lt-leb, leb-false, ne_eqb}
 use Rattle.wasm_defs.specs.Numbers.{Reading, Number, CutOff, Bad, number_at, last_byte, after_byte}
-use Rattle.wasm_defs.specs.declared.fault.Kind.TheVariants.{Malformed}
+use Rattle.wasm_defs.specs.declared.fault.Kind.TheVariants.{Malformed, Limit}
 use Rattle.wasm_defs.specs.declared.text.Inside.{Inside}
 use Rattle.wasm_defs.specs.Limits.{max_name}
 use Rattle.wasm_defs.specs.Text.{between, due_in, next_byte, completes}
-use Rattle.wasm_defs.specs.Fields.{Cursor, refused, room_of, window, nat_of, text_after, least, length_owed, name_from, name}
+use Rattle.wasm_defs.specs.Fields.{Cursor, Read, Got, Wants, refused, room_of, window, past, nat_of, text_after, least, length_owed, name_from, name}
 use Rattle.wasm_defs.proofs.NumberLaws.{after_cut}
 use Rattle.wasm_laws.proofs.Steady.{with_more, Extends, faulty, owed, Advances, StandsIn, IsThere, IsDecided, IfGot, IsMarked, Field}
 use Rattle.wasm_laws.proofs.Windows.{same_window, wider_window, added, window_short, window_whole, take_over, all_of, got_past, past_advance, stands_here, LiesIn, ReadsOn, number_lies, window_reads_on}
@@ -136,74 +136,49 @@ text_extends len n c more h =
       ])
     ]
 
-text_advances : (len n : ℕ) (c : Cursor) → len ≤ length (window c) → Advances c (text_after len n c)
-text_advances len n c h =
+-- a text by its outcomes: it is refused, or is owed, or is there whole
+pub text_outcome : (P : Read (ℕ × List ℕ) → Type 0) (len n : ℕ) (c : Cursor) → P (refused Malformed c.at c) → P (refused Limit c.at c)
+    → (len + n ≤ room_of c → completes n between (take n (drop len (window c))) ≡ true → length (take n (drop len (window c))) < n → P Wants)
+    → (len + n ≤ room_of c → completes n between (take n (drop len (window c))) ≡ true → n ≤ length (take n (drop len (window c))) → n ≤ max_name
+    → P (Got (c.at, take n (drop len (window c))) (past c (len + n))))
+    → P (text_after len n c)
+text_outcome P len n c malformed limit late whole =
     let text = take n (drop len (window c)) in
-    elim (cases_Bool (ltb (room_of c) (len + n))) [
-      | inl long ↦ rw long tt
-      | inr fits ↦ rw fits (elim (cases_Bool (completes n between text)) [
-        | inr wrong ↦ rw wrong tt
+    elim (cases_lt (room_of c) (len + n)) [
+      | inl long ↦ rw (lt-ltb (room_of c) (len + n) long) malformed
+      | inr fits ↦ rw (le-ltb (room_of c) (len + n) fits) (elim (cases_Bool (completes n between text)) [
+        | inr wrong ↦ rw wrong malformed
         | inl right ↦ rw right (elim (cases_lt (length text) n) [
-          | inl lt ↦ rw (lt-ltb (length text) n lt) tt
-          | inr ge ↦ rw (le-ltb (length text) n ge) (elim (cases_Bool (ltb max_name n)) [
-            | inl over ↦ rw over tt
-            | inr under ↦ rw under (past_advance c (len + n) (omega (arith, length-take n (drop len (window c)), length-drop len (window c))))
+          | inl lt ↦ rw (lt-ltb (length text) n lt) (late fits right lt)
+          | inr ge ↦ rw (le-ltb (length text) n ge) (elim (cases_lt max_name n) [
+            | inl over ↦ rw (lt-ltb max_name n over) limit
+            | inr under ↦ rw (le-ltb max_name n under) (whole fits right ge under)
           ])
         ])
       ])
     ]
 
+-- so many bytes of the length and the text are there
+pub text_there : (len n : ℕ) (c : Cursor) → len ≤ length (window c) → n ≤ length (take n (drop len (window c))) → len + n ≤ length (window c)
+text_there len n c h ge = omega (arith, length-take n (drop len (window c)), length-drop len (window c))
+
+text_advances : (len n : ℕ) (c : Cursor) → len ≤ length (window c) → Advances c (text_after len n c)
+text_advances len n c h = text_outcome (Advances c) len n c tt tt (λ fits right lt. tt) (λ fits right ge under. past_advance c (len + n) (text_there len n c h ge))
+
 text_stands : (len n low : ℕ) (c : Cursor) → low ≤ c.at → 1 ≤ len → len ≤ length (window c) → StandsIn low c (text_after len n c)
 text_stands len n low c le some h =
-    let text = take n (drop len (window c)) in
     let short = window_short c in
     let byte : length c.rest < room_of c → 0 < length c.rest = λ lt. omega arith in
-    elim (cases_Bool (ltb (room_of c) (len + n))) [
-      | inl long ↦ rw long (stands_here low c _ le byte)
-      | inr fits ↦ rw fits (elim (cases_Bool (completes n between text)) [
-        | inr wrong ↦ rw wrong (stands_here low c _ le byte)
-        | inl right ↦ rw right (elim (cases_lt (length text) n) [
-          | inl lt ↦ rw (lt-ltb (length text) n lt) tt
-          | inr ge ↦ rw (le-ltb (length text) n ge) (elim (cases_Bool (ltb max_name n)) [
-            | inl over ↦ rw over (stands_here low c _ le byte)
-            | inr under ↦ rw under tt
-          ])
-        ])
-      ])
-    ]
+    text_outcome (StandsIn low c) len n c (stands_here low c Malformed le byte) (stands_here low c Limit le byte) (λ fits right lt. tt) (λ fits right ge under. tt)
 
 -- where the section is there, so is the text that is in it
 text_decides : (len n : ℕ) (c : Cursor) → IsThere c → IsDecided (text_after len n c)
 text_decides len n c there =
-    let text = take n (drop len (window c)) in
     let whole = window_whole c there in
-    elim (cases_lt (room_of c) (len + n)) [
-      | inl long ↦ rw (lt-ltb (room_of c) (len + n) long) tt
-      | inr fits ↦ rw (le-ltb (room_of c) (len + n) fits) (elim (cases_Bool (completes n between text)) [
-        | inr wrong ↦ rw wrong tt
-        | inl right ↦ rw (right, le-ltb (length text) n (omega (arith, length-take n (drop len (window c)), length-drop len (window c)))) (elim (cases_Bool (ltb max_name n)) [
-          | inl over ↦ rw over tt
-          | inr under ↦ rw under tt
-        ])
-      ])
-    ]
+    text_outcome IsDecided len n c tt tt (λ fits right lt. absurd (omega (arith, length-take n (drop len (window c)), length-drop len (window c)))) (λ fits right ge under. tt)
 
 text_marked : (len n : ℕ) (c : Cursor) → 1 ≤ len → IfGot (IsMarked c) (text_after len n c)
-text_marked len n c some =
-    let text = take n (drop len (window c)) in
-    elim (cases_Bool (ltb (room_of c) (len + n))) [
-      | inl long ↦ rw long tt
-      | inr fits ↦ rw fits (elim (cases_Bool (completes n between text)) [
-        | inr wrong ↦ rw wrong tt
-        | inl right ↦ rw right (elim (cases_lt (length text) n) [
-          | inl lt ↦ rw (lt-ltb (length text) n lt) tt
-          | inr ge ↦ rw (le-ltb (length text) n ge) (elim (cases_Bool (ltb max_name n)) [
-            | inl over ↦ rw over tt
-            | inr under ↦ rw under (omega arith, omega arith)
-          ])
-        ])
-      ])
-    ]
+text_marked len n c some = text_outcome (IfGot (IsMarked c)) len n c tt tt (λ fits right lt. tt) (λ fits right ge under. (omega arith, omega arith))
 
 owed_extends : (c : Cursor) (more : List ℕ) (s : Reading) → AtLeast (least (window c)) (length (window c)) (window (with_more c more)) s → Extends (ℕ × List ℕ) more (length_owed c) (name_from (with_more c more) s)
 owed_extends c more s h =

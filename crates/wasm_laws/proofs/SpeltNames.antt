@@ -1,6 +1,6 @@
 -- Names are read as they are encoded.
 use Rattle.std.proofs.Common.{◌≡◌, ◌≤◌, ℕ, ◌+◌, ◌-◌, ℤ, pos, true, false, ltb, List, ◌++◌, length, take, drop, refl, sym, ap, subst, ◌∙◌, append_assoc, arith, length-append, length-take, length-drop, inl, inr}
-use Rattle.std.proofs.lemmas.Bool.{cases_Bool, cases_lt, lt-ltb, le-ltb, ltb-false}
+use Rattle.std.proofs.lemmas.Bool.{cases_Bool, le-ltb}
 use Rattle.std.proofs.lemmas.List.{take-take, take-append-drop, drop_at, take_at, drop-take}
 use Rattle.wasm_defs.proofs.NumberLaws.{reading_means}
 use Rattle.wasm_defs.specs.Numbers.{Spells, Reading, Number, CutOff, Bad, Means, number_at}
@@ -9,6 +9,7 @@ use Rattle.wasm_defs.specs.Text.{between, completes}
 use Rattle.wasm_defs.specs.Fields.{Cursor, Got, nat_of, past, room_of, window, text_after, least, length_owed, name_from, name}
 use Rattle.wasm_defs.specs.Items.{u32_is, name_is}
 use Rattle.wasm_laws.proofs.Steady.{IfGot}
+use Rattle.wasm_laws.proofs.Names.{text_outcome}
 use Rattle.wasm_laws.proofs.Utf8.{utf8_completes, completes_utf8}
 use Rattle.wasm_laws.proofs.Spelt.{cursor, Ready, Found, Spelt}
 use Rattle.wasm_laws.proofs.SpeltFields.{found_front, front_window, past_front, window_bytes, spelling_read, natural}
@@ -39,22 +40,10 @@ text_found c n len ready h spelled =
     let text = take m (drop len w) in
     let short = length-take m (drop len w) in
     let left = length-drop len w in
-    elim (cases_Bool (ltb (room_of c) (len + m))) [
-      | inl long ↦ rw long tt
-      | inr fits ↦ rw fits (elim (cases_Bool (completes m between text)) [
-        | inr wrong ↦ rw wrong tt
-        | inl right ↦ rw right (elim (cases_lt (length text) m) [
-          | inl lt ↦ rw (lt-ltb (length text) m lt) tt
-          | inr ge ↦ rw (le-ltb (length text) m ge) (elim (cases_Bool (ltb max_name m)) [
-            | inl over ↦ rw over tt
-            | inr under ↦
-                let size : length text ≡ m = omega arith in
-                let small = ltb-false max_name m under in
-                rw under (found_front (name_is (c.at, text)) (IsShort (c.at, text)) c (len + m) ready (omega arith) (name_spelled c.at m len n w (natural 32 n (take len w) spelled) spelled size right) (omega arith))
-          ])
-        ])
-      ])
-    ]
+    text_outcome (IfGot (λ x d. Found (name_is x) (IsShort x) c d)) len m c tt tt (λ fits right lt. tt)
+    (λ fits right ge under.
+    let size : length text ≡ m = omega arith in
+    found_front (name_is (c.at, text)) (IsShort (c.at, text)) c (len + m) ready (omega arith) (name_spelled c.at m len n w (natural 32 n (take len w) spelled) spelled size right) (omega arith))
 
 owed_found : (c : Cursor) → IfGot (λ x d. Found (name_is x) (IsShort x) c d) (length_owed c)
 owed_found c =
