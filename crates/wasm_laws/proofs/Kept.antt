@@ -114,14 +114,6 @@ exported_keeps seen = record {
       ]);
 }
 
-imported_keeps : Keeps imported
-unfolding imported
-imported_keeps seen = search yielding depth 40
-
-function_keeps : Keeps function
-unfolding function
-function_keeps seen = search yielding depth 40
-
 limits_kept : (most top : ℕ) (c : Cursor) → IfGot (λ l d. IsMinimum most l) (limits most top c)
 unfolding limits
 limits_kept most top c =
@@ -168,31 +160,11 @@ memory_keeps seen = record {
   got = λ c. then_got (λ l d. IsMinimum max_pages l) (λ x d. IsKept seen.functions x) (limits max_pages top_pages c) _ (limits_kept max_pages top_pages c) (λ l d h. h);
 }
 
-global_keeps : Keeps global
-unfolding global
-global_keeps seen = search yielding depth 40
-
-start_keeps : Keeps start
-unfolding start
-start_keeps seen = search yielding depth 40
-
-element_keeps : Keeps element
-unfolding element
-element_keeps seen = search yielding depth 40
-
-code_keeps : Keeps code
-unfolding code
-code_keeps seen = search yielding depth 40
-
 data_count_keeps : Keeps data_count
 unfolding data_count
 data_count_keeps seen = record {
   got = λ c. then_got (λ n d. n.1 ≤ max_entries) (λ x d. IsKept seen.functions x) (count max_entries c) _ (count_up_to max_entries c) (λ n d le. le);
 }
-
-segment_keeps : Keeps segment
-unfolding segment passive
-segment_keeps seen = search yielding depth 40
 
 -- ---- modules
 
@@ -204,19 +176,20 @@ entered_functions seen id =
     ]
 
 all_keep : OfEntries Keeps
+unfolding imported function global start element code segment passive
 all_keep = record {
   signatures = signature_keeps;
-  imports = imported_keeps;
-  functions = function_keeps;
+  imports = λ seen. search yielding depth 40;
+  functions = λ seen. search yielding depth 40;
   tables = table_keeps;
   memories = memory_keeps;
-  globals = global_keeps;
+  globals = λ seen. search yielding depth 40;
   exports = exported_keeps;
-  starts = start_keeps;
-  elements = element_keeps;
-  codes = code_keeps;
+  starts = λ seen. search yielding depth 40;
+  elements = λ seen. search yielding depth 40;
+  codes = λ seen. search yielding depth 40;
   data_counts = data_count_keeps;
-  segments = segment_keeps;
+  segments = λ seen. search yielding depth 40;
 }
 
 one_more : (seen : Seen) (x : Item) (xs : List Item) → IsKept seen.functions x → AreKept (note seen x).functions xs → AreKept seen.functions (x ∷ xs)

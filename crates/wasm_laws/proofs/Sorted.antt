@@ -28,42 +28,6 @@ AreSorted before id (Coded b ∷ parts) = (id ≡ 11) × (before ≤ 11) × AreS
 abbrev pub IsOf : ℕ → Item → Type 0
 IsOf id x = section_of x ≡ id
 
-signature_sort : (seen : Seen) → Yields (IsOf 1) (signature seen)
-unfolding signature
-signature_sort seen = search yielding depth 40
-
-imported_sort : (seen : Seen) → Yields (IsOf 2) (imported seen)
-unfolding imported
-imported_sort seen = search yielding depth 40
-
-function_sort : (seen : Seen) → Yields (IsOf 3) (function seen)
-unfolding function
-function_sort seen = search yielding depth 40
-
-table_sort : (seen : Seen) → Yields (IsOf 4) (table seen)
-unfolding table
-table_sort seen = search yielding depth 40
-
-memory_sort : (seen : Seen) → Yields (IsOf 5) (memory seen)
-unfolding memory
-memory_sort seen = search yielding depth 40
-
-global_sort : (seen : Seen) → Yields (IsOf 6) (global seen)
-unfolding global
-global_sort seen = search yielding depth 40
-
-exported_sort : (seen : Seen) → Yields (IsOf 7) (exported seen)
-unfolding exported
-exported_sort seen = search yielding depth 40
-
-start_sort : (seen : Seen) → Yields (IsOf 8) (start seen)
-unfolding start
-start_sort seen = search yielding depth 40
-
-element_sort : (seen : Seen) → Yields (IsOf 9) (element seen)
-unfolding element
-element_sort seen = search yielding depth 40
-
 pub code_sort : (seen : Seen) → Yields (IsOf 11) (code seen)
 unfolding code
 code_sort seen = search yielding depth 40
@@ -93,16 +57,17 @@ either_row id k p q hp hq = by (cases_Bool (eqb id k))
 
 -- a section that is neither custom nor of code holds items of its sort
 pub row_is_sorted : (id : ℕ) → id < 13 → id ≢ 0 → id ≢ 11 → SortedRow id (row id)
+unfolding signature imported function table memory global exported start element
 row_is_sorted id known not_custom not_code =
-    either_row id 1 _ _ (sorted_items id 1 _ _ signature_sort) (λ n1.
-    either_row id 2 _ _ (sorted_items id 2 _ _ imported_sort) (λ n2.
-    either_row id 3 _ _ (sorted_items id 3 _ _ function_sort) (λ n3.
-    either_row id 4 _ _ (sorted_items id 4 _ _ table_sort) (λ n4.
-    either_row id 5 _ _ (sorted_items id 5 _ _ memory_sort) (λ n5.
-    either_row id 6 _ _ (sorted_items id 6 _ _ global_sort) (λ n6.
-    either_row id 7 _ _ (sorted_items id 7 _ _ exported_sort) (λ n7.
-    either_row id 8 _ _ (sorted_items id 8 _ _ start_sort) (λ n8.
-    either_row id 9 _ _ (sorted_items id 9 _ _ element_sort) (λ n9.
+    either_row id 1 _ _ (sorted_items id 1 _ signature (λ seen. search yielding depth 40)) (λ n1.
+    either_row id 2 _ _ (sorted_items id 2 _ imported (λ seen. search yielding depth 40)) (λ n2.
+    either_row id 3 _ _ (sorted_items id 3 _ function (λ seen. search yielding depth 40)) (λ n3.
+    either_row id 4 _ _ (sorted_items id 4 _ table (λ seen. search yielding depth 40)) (λ n4.
+    either_row id 5 _ _ (sorted_items id 5 _ memory (λ seen. search yielding depth 40)) (λ n5.
+    either_row id 6 _ _ (sorted_items id 6 _ global (λ seen. search yielding depth 40)) (λ n6.
+    either_row id 7 _ _ (sorted_items id 7 _ exported (λ seen. search yielding depth 40)) (λ n7.
+    either_row id 8 _ _ (sorted_items id 8 _ start (λ seen. search yielding depth 40)) (λ n8.
+    either_row id 9 _ _ (sorted_items id 9 _ element (λ seen. search yielding depth 40)) (λ n9.
     either_row id 10 _ _ (sorted_items id 10 _ _ data_count_sort) (λ n10.
     either_row id 11 _ _ (λ e. absurd (not_code e)) (λ n11.
     either_row id 12 _ _ (sorted_items id 12 _ _ segment_sort) (λ n12.

@@ -74,53 +74,22 @@ ruleset yielding = (bind_yields, done_yields, refused_yields, either_yields)
 abbrev Indexes : (Seen → Reader Item) → Type 0
 Indexes entry = (seen : Seen) → Yields (IsIndexed seen.types) (entry seen)
 
-signature_indexes : Indexes signature
-unfolding signature
-signature_indexes seen = search yielding depth 40
-
-imported_indexes : Indexes imported
-unfolding imported
-imported_indexes seen = search (index_yields, yielding) depth 40
-
-function_indexes : Indexes function
-unfolding function
-function_indexes seen = search (index_yields, yielding) depth 40
-
-table_indexes : Indexes table
-unfolding table
-table_indexes seen = search yielding depth 40
-
-memory_indexes : Indexes memory
-unfolding memory
-memory_indexes seen = search yielding depth 40
-
-global_indexes : Indexes global
-unfolding global
-global_indexes seen = search yielding depth 40
-
-exported_indexes : Indexes exported
-unfolding exported
-exported_indexes seen = search yielding depth 40
-
-start_indexes : Indexes start
-unfolding start
-start_indexes seen = search yielding depth 40
-
-element_indexes : Indexes element
-unfolding element
-element_indexes seen = search yielding depth 40
-
-code_indexes : Indexes code
-unfolding code
-code_indexes seen = search yielding depth 40
-
-data_count_indexes : Indexes data_count
-unfolding data_count
-data_count_indexes seen = search yielding depth 40
-
-segment_indexes : Indexes segment
-unfolding segment passive
-segment_indexes seen = search yielding depth 40
+all_indexes : OfEntries Indexes
+unfolding signature imported function table memory global exported start element code data_count segment passive
+all_indexes = record {
+  signatures = λ seen. search yielding depth 40;
+  imports = λ seen. search (index_yields, yielding) depth 40;
+  functions = λ seen. search (index_yields, yielding) depth 40;
+  tables = λ seen. search yielding depth 40;
+  memories = λ seen. search yielding depth 40;
+  globals = λ seen. search yielding depth 40;
+  exports = λ seen. search yielding depth 40;
+  starts = λ seen. search yielding depth 40;
+  elements = λ seen. search yielding depth 40;
+  codes = λ seen. search yielding depth 40;
+  data_counts = λ seen. search yielding depth 40;
+  segments = λ seen. search yielding depth 40;
+}
 
 -- ---- modules
 
@@ -130,22 +99,6 @@ entered_types seen id =
       | inl none ↦ rw none.1 refl
       | inr some ↦ rw some.1 refl
     ]
-
-all_indexes : OfEntries Indexes
-all_indexes = record {
-  signatures = signature_indexes;
-  imports = imported_indexes;
-  functions = function_indexes;
-  tables = table_indexes;
-  memories = memory_indexes;
-  globals = global_indexes;
-  exports = exported_indexes;
-  starts = start_indexes;
-  elements = element_indexes;
-  codes = code_indexes;
-  data_counts = data_count_indexes;
-  segments = segment_indexes;
-}
 
 one_more : (seen : Seen) (x : Item) (xs : List Item) → IsIndexed seen.types x → AreIndexed (note seen x).types xs → AreIndexed seen.types (x ∷ xs)
 one_more seen x xs p h = (p, subst (λ (n : ℕ). AreIndexed n xs) (note_types seen x) h)
