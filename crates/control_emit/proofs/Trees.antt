@@ -14,7 +14,7 @@ use Rattle.wasm_defs.specs.Trees.{Seq, Nothing, Simple, Block, Loop, If, IfElse,
 use Rattle.wasm_defs.specs.Typing.{Types, Signature, Context, Rule, Untyped, inside, rule_of}
 use Rattle.frame_layout.specs.Templates.{Label, EmitContext, declarations, words}
 use Rattle.frame_layout.specs.Functions.{label, over, test_words, size, code, call_of, calls, Trap, traps_of, traps, body_place, body_size, body_traps}
-use Rattle.control_emit.specs.Pending.{Pending, Shape, shape_of, shapes, Ends, named, meaning}
+use Rattle.control_emit.specs.Pending.{Pending, Shape, shape_of, shapes, Ends, label_of, named, meaning}
 use Rattle.control_emit.specs.Emits.{FunctionBuilder, IsHeld, Emits, Opens, Turns, Closes}
 use Rattle.control_emit.specs.Walks.{end_shape, start_shape, OpensDead, Step, Walk, token_calls, walk_calls, Calling, token_traps, walk_traps, begun, WordsLaw, CallsLaw}
 use Rattle.control_emit.proofs.Composing.{longer, longer-opens, longer-turns, emits-nothing, emits-as, emits-both, ends_there, enclosed, enclosed-size, closed-shapes, both-enclosed, count-more, count-shapes}
@@ -204,6 +204,65 @@ behind a b d f g k rest x y same =
     (emits-both a b d f (λ es. rest (named (shapes b.labels) es) (length b.words)) x y)
     (λ es is. ap (λ (ss : List Shape). f es ++ rest (named ss es) (length b.words)) x.shapes_are ∙ same es is)
 
+-- a sequence that has a label of its own, from what begins it up to its `end`, and the sequence after it
+closed_live : (w : EmitContext) (c d within : Context) (body rest : Seq) (q place next : Place) (more : List Token) (after : List Place) (old opened new : FunctionBuilder) (sh : Shape) (sized : Label)
+    (first : Ends → List Op) (front begin : ℕ) (all : List Relocation) (all_traps : List Trap) → q ≡ place → sized.takes ≡ sh.takes → ((e : Ends) → length (first e) ≡ front) → begin ≡ length old.words + front
+    → Opens old opened sh first
+    → (i : Through w c (token.End ∷ spelled rest more) (end_of within body q ∷ places d rest next after) opened new (λ es. code w within (named (shapes opened.labels) es) q (length opened.words) body)
+    all (calls w within (counted (shapes opened.labels)) q (length opened.words) body)
+    all_traps (traps w within (counted (shapes opened.labels)) q (length opened.words) (length (token.End ∷ spelled rest more)) body))
+    → Through w c more after i.walk.0 new (λ es. code w d (named (shapes i.walk.0.labels) es) next (length i.walk.0.words) rest)
+    (walk_calls w c (spelled rest more) (places d rest next after) i.walk.0 new i.walk.2) (calls w d (counted (shapes i.walk.0.labels)) next (length i.walk.0.words) rest)
+    (walk_traps w c (spelled rest more) (places d rest next after) i.walk.0 new i.walk.2) (traps w d (counted (shapes i.walk.0.labels)) next (length i.walk.0.words) (length more) rest)
+    → let inner = label sh.base sh.takes 0 ∷ counted (shapes old.labels) in
+    let behind = begin + size w within inner place body in
+    Through w c more after old new
+    (λ es.
+    let labels = named (shapes old.labels) es in
+    let there = begin + size w within (sized ∷ labels) place body in
+    first (ends_there there) ++ (code w within (label_of sh (ends_there there) ∷ labels) place begin body ++ code w d labels next there rest))
+    all (calls w within inner place begin body ++ calls w d (counted (shapes old.labels)) next behind rest)
+    all_traps (traps w within inner place begin (1 + tokens_in rest + length more) body ++ traps w d (counted (shapes old.labels)) next behind (length more) rest)
+closed_live w c d within body rest q place next more after old opened new sh sized first front begin all all_traps from takes fronts begin_is step i r =
+    let here = length old.words in
+    let f : List Label → ℕ → List Op = λ labels k. code w within labels place k body in
+    let emits : Emits opened i.mid (λ es. f (named (shapes opened.labels) es) (length opened.words)) = subst (λ (p : Place). Emits opened i.mid (λ es. code w within (named (shapes opened.labels) es) p (length opened.words) body)) from i.emits in
+    let n = length i.mid.words in
+    let e = ends_there n in
+    let begins : here + length (first e) ≡ begin = omega (arith, fronts e, begin_is) in
+    record {
+      mid = r.mid;
+      emits = behind old i.walk.0 r.mid _ (λ es. []) _ (λ labels k. code w d labels next k rest) (enclosed old opened i.mid i.walk.0 sh first f step emits i.walk.1) r.emits
+          (λ es is.
+          let labels = named (shapes old.labels) es in
+          let k = enclosed-size old opened i.mid sh first f step emits e es is in
+          let z = size_is w within (sized ∷ labels) (label_of sh e ∷ labels) place (here + length (first e)) body (takes, alike-same labels) in
+          let there = begin + size w within (sized ∷ labels) place body in
+          let end : n ≡ there = omega (arith, k, z, begins) in
+          let out : length i.walk.0.words ≡ there = i.walk.1.size ∙ end in
+          let label_at : ℕ → List Label = λ m. label_of sh (ends_there m) ∷ labels in
+          ap (λ (m : ℕ). (first e ++ f (label_at n) m) ++ code w d labels next (length i.walk.0.words) rest) begins
+          ∙ ap (λ (m : ℕ). (first (ends_there m) ++ f (label_at m) begin) ++ code w d labels next (length i.walk.0.words) rest) end
+          ∙ ap (λ (m : ℕ). (first (ends_there there) ++ f (label_at there) begin) ++ code w d labels next m rest) out
+          ∙ append_assoc (first (ends_there there)) (f (label_at there) begin) (code w d labels next there rest));
+      walk = r.walk;
+      noted =
+          let labels = counted (shapes old.labels) in
+          let es = ends_of (shapes old.labels) in
+          let inner = label sh.base sh.takes 0 ∷ labels in
+          let opens : length opened.words ≡ begin = longer-opens old opened sh first step e es (ends_count old.labels) ∙ begins in
+          let k = enclosed-size old opened i.mid sh first f step emits e es (ends_count old.labels) in
+          let z = size_is w within inner (label_of sh e ∷ named (shapes old.labels) es) place (here + length (first e)) body (refl, counted_alike (shapes old.labels)) in
+          let out : length i.walk.0.words ≡ begin + size w within inner place body = omega (arith, i.walk.1.size, k, z, begins) in
+          let same = closed-shapes old opened i.mid i.walk.0 sh i.walk.1.shape step.shapes_are i.emits.shapes_are i.walk.1.shapes_are in
+          let left = 1 + tokens_in rest + length more in
+          let own = calls_at w within q body _ inner _ begin (ap counted step.shapes_are) opens ∙ ap (λ (p : Place). calls w within inner p begin body) from in
+          let own_traps = traps_at w within q body _ inner _ begin _ left (ap counted step.shapes_are) opens (behind_body rest more) ∙ ap (λ (p : Place). traps w within inner p begin left body) from in (
+            both_lists _ _ _ _ _ _ _ i.noted.0 own r.noted.0 (calls_at w d next rest _ labels _ _ (ap counted same) out),
+            both_lists _ _ _ _ _ _ _ i.noted.1 own_traps r.noted.1 (traps_at w d next rest _ labels _ _ (length more) (length more) (ap counted same) out refl),
+          );
+    }
+
 live : (w : EmitContext) (c : Context) (ls : List Types) (t : Seq) (q : Place) (more : List Token) (after : List Place) (old new : FunctionBuilder) → IsHeld old → (x : Walk w c (spelled t more) (places (labelled c ls) t q after) old new)
     → Through w c more after old new (λ es. code w (labelled c ls) (named (shapes old.labels) es) q (length old.words) t)
     (walk_calls w c (spelled t more) (places (labelled c ls) t q after) old new x) (calls w (labelled c ls) (counted (shapes old.labels)) q (length old.words) t)
@@ -252,138 +311,37 @@ live w c ls (Block type body rest) (Some h) more after old new held x =
     let base = h - length s.params in
     let takes = length s.results in
     let next = after_block s (Some h) in
-    let sh = end_shape base takes in
-    let f : List Label → ℕ → List Op = λ labels here. code w within labels (Some h) here body in
-    let step : Opens old x.0 sh (λ e. []) = subst (λ (y : Signature). Opens old x.0 (end_shape (h - length y.params) (length y.results)) (λ e. [])) (sym (shape_labelled c ls type)) x.1 in
+    let step : Opens old x.0 (end_shape base takes) (λ e. []) = subst (λ (y : Signature). Opens old x.0 (end_shape (h - length y.params) (length y.results)) (λ e. [])) (sym (shape_labelled c ls type)) x.1 in
     let i = live w c (s.results ∷ ls) body (Some h) (token.End ∷ spelled rest more) (end_of within body (Some h) ∷ places d rest next after) x.0 new step.held x.2 in
-    let r = live w c ls rest next more after i.walk.0 new i.walk.1.held i.walk.2 in
-    let n = length i.mid.words in
-    record {
-      mid = r.mid;
-      emits = behind old i.walk.0 r.mid _ (λ es. []) _ (λ labels here. code w d labels next here rest) (enclosed old x.0 i.mid i.walk.0 sh (λ e. []) f step i.emits i.walk.1) r.emits
-          (λ es is.
-          let labels = named (shapes old.labels) es in
-          let here = length old.words in
-          let inner : ℕ → List Label = λ k. label base takes k ∷ labels in
-          let k = enclosed-size old x.0 i.mid sh (λ e. []) f step i.emits (ends_there n) es is in
-          let z = size_is w within (inner 0) (inner n) (Some h) here body (refl, alike-same labels) in
-          let zero : here + 0 ≡ here = omega arith in
-          let end : n ≡ here + size w within (inner 0) (Some h) body = let kk = ap (λ (m : ℕ). length (f (inner n) m)) zero in omega arith in
-          let out : length i.walk.0.words ≡ here + size w within (inner 0) (Some h) body = i.walk.1.size ∙ end in
-          ap (λ (m : ℕ). f (inner n) m ++ code w d labels next (length i.walk.0.words) rest) zero
-          ∙ ap (λ (m : ℕ). f (inner m) here ++ code w d labels next (length i.walk.0.words) rest) end
-          ∙ ap (λ (m : ℕ). f (inner (here + size w within (inner 0) (Some h) body)) here ++ code w d labels next m rest) out);
-      walk = r.walk;
-      noted =
-          let here = length old.words in
-          let labels = counted (shapes old.labels) in
-          let es = ends_of (shapes old.labels) in
-          let inner = label base takes 0 ∷ labels in
-          let begins : length x.0.words ≡ here = let k = longer-opens old x.0 sh (λ e. []) step (ends_there n) es (ends_count old.labels) in omega arith in
-          let k = enclosed-size old x.0 i.mid sh (λ e. []) f step i.emits (ends_there n) es (ends_count old.labels) in
-          let z = size_is w within inner (label base takes n ∷ named (shapes old.labels) es) (Some h) (here + 0) body (refl, counted_alike (shapes old.labels)) in
-          let out : length i.walk.0.words ≡ here + size w within inner (Some h) body = let s = i.walk.1.size in omega arith in
-          let same = closed-shapes old x.0 i.mid i.walk.0 sh i.walk.1.shape step.shapes_are i.emits.shapes_are i.walk.1.shapes_are in
-          let behind = 1 + tokens_in rest + length more in (
-            both_lists _ _ _ _ _ _ _ i.noted.0 (calls_at w within (Some h) body _ inner _ here (ap counted step.shapes_are) begins) r.noted.0 (calls_at w d next rest _ labels _ _ (ap counted same) out),
-            both_lists _ _ _ _ _ _ _ i.noted.1 (traps_at w within (Some h) body _ inner _ here _ behind (ap counted step.shapes_are) begins (behind_body rest more)) r.noted.1
-                (traps_at w d next rest _ labels _ _ (length more) (length more) (ap counted same) out refl),
-          );
-    }
+    closed_live w c d within body rest (Some h) (Some h) next more after old x.0 new (end_shape base takes) (label base takes 0) (λ e. []) 0 (length old.words) _ _ refl refl (λ e. refl) (omega arith) step i
+    (live w c ls rest next more after i.walk.0 new i.walk.1.held i.walk.2)
 live w c ls (Loop type body rest) (Some h) more after old new held x =
     let d = labelled c ls in
     let s = shape d type in
     let within = inside d s.params in
     let base = h - length s.params in
     let takes = length s.params in
+    let here = length old.words in
     let next = after_block s (Some h) in
-    let sh = start_shape base takes (length old.words) in
-    let f : List Label → ℕ → List Op = λ labels here. code w within labels (Some h) here body in
-    let step : Opens old x.0 sh (λ e. []) = subst (λ (y : Signature). Opens old x.0 (start_shape (h - length y.params) (length y.params) (length old.words)) (λ e. [])) (sym (shape_labelled c ls type)) x.1 in
+    let step : Opens old x.0 (start_shape base takes here) (λ e. []) = subst (λ (y : Signature). Opens old x.0 (start_shape (h - length y.params) (length y.params) here) (λ e. [])) (sym (shape_labelled c ls type)) x.1 in
     let i = live w c (s.params ∷ ls) body (Some h) (token.End ∷ spelled rest more) (end_of within body (Some h) ∷ places d rest next after) x.0 new step.held x.2 in
-    let r = live w c ls rest next more after i.walk.0 new i.walk.1.held i.walk.2 in
-    let n = length i.mid.words in
-    record {
-      mid = r.mid;
-      emits = behind old i.walk.0 r.mid _ (λ es. []) _ (λ labels here. code w d labels next here rest) (enclosed old x.0 i.mid i.walk.0 sh (λ e. []) f step i.emits i.walk.1) r.emits
-          (λ es is.
-          let labels = named (shapes old.labels) es in
-          let here = length old.words in
-          let inner = label base takes here ∷ labels in
-          let k = enclosed-size old x.0 i.mid sh (λ e. []) f step i.emits (ends_there n) es is in
-          let z = size_is w within inner inner (Some h) here body (refl, alike-same labels) in
-          let zero : here + 0 ≡ here = omega arith in
-          let end : n ≡ here + size w within inner (Some h) body = let kk = ap (λ (m : ℕ). length (f inner m)) zero in omega arith in
-          let out : length i.walk.0.words ≡ here + size w within inner (Some h) body = i.walk.1.size ∙ end in
-          ap (λ (m : ℕ). f inner m ++ code w d labels next (length i.walk.0.words) rest) zero
-          ∙ ap (λ (m : ℕ). f inner here ++ code w d labels next m rest) out);
-      walk = r.walk;
-      noted =
-          let here = length old.words in
-          let labels = counted (shapes old.labels) in
-          let es = ends_of (shapes old.labels) in
-          let inner = label base takes 0 ∷ labels in
-          let begins : length x.0.words ≡ here = let k = longer-opens old x.0 sh (λ e. []) step (ends_there n) es (ends_count old.labels) in omega arith in
-          let k = enclosed-size old x.0 i.mid sh (λ e. []) f step i.emits (ends_there n) es (ends_count old.labels) in
-          let z = size_is w within inner (label base takes here ∷ named (shapes old.labels) es) (Some h) (here + 0) body (refl, counted_alike (shapes old.labels)) in
-          let out : length i.walk.0.words ≡ here + size w within inner (Some h) body = let s = i.walk.1.size in omega arith in
-          let same = closed-shapes old x.0 i.mid i.walk.0 sh i.walk.1.shape step.shapes_are i.emits.shapes_are i.walk.1.shapes_are in
-          let behind = 1 + tokens_in rest + length more in (
-            both_lists _ _ _ _ _ _ _ i.noted.0 (calls_at w within (Some h) body _ inner _ here (ap counted step.shapes_are) begins) r.noted.0 (calls_at w d next rest _ labels _ _ (ap counted same) out),
-            both_lists _ _ _ _ _ _ _ i.noted.1 (traps_at w within (Some h) body _ inner _ here _ behind (ap counted step.shapes_are) begins (behind_body rest more)) r.noted.1
-                (traps_at w d next rest _ labels _ _ (length more) (length more) (ap counted same) out refl),
-          );
-    }
+    closed_live w c d within body rest (Some h) (Some h) next more after old x.0 new (start_shape base takes here) (label base takes here) (λ e. []) 0 here _ _ refl refl (λ e. refl) (omega arith) step i
+    (live w c ls rest next more after i.walk.0 new i.walk.1.held i.walk.2)
 live w c ls (If type body rest) (Some h) more after old new held x =
     let d = labelled c ls in
     let s = shape d type in
     let within = inside d s.results in
     let base = h - 1 - length s.params in
     let takes = length s.results in
-    let next = after_if s (Some h) in
-    let sh = end_shape base takes in
     let here = length old.words in
-    let below = h - 1 in
+    let next = after_if s (Some h) in
     let first : Ends → List Op = λ e. test_words w h here e.other in
-    let f : List Label → ℕ → List Op = λ labels here. code w within labels (Some below) here body in
-    let step : Opens old x.0 sh first = subst (λ (y : Signature). Opens old x.0 (end_shape (h - 1 - length y.params) (length y.results)) first) (sym (shape_labelled c ls type)) x.1 in
-    let from : Some (h - 1 + 0) ≡ Some below = ap (λ (m : ℕ). Some m) (let m : h - 1 + 0 ≡ below = omega arith in m) in
+    let step : Opens old x.0 (end_shape base takes) first = subst (λ (y : Signature). Opens old x.0 (end_shape (h - 1 - length y.params) (length y.results)) first) (sym (shape_labelled c ls type)) x.1 in
     let q : Place = Some (h - 1 + 0) in
+    let from : q ≡ Some (h - 1) = ap (λ (m : ℕ). Some m) (let m : h - 1 + 0 ≡ h - 1 = omega arith in m) in
     let i = live w c (s.results ∷ ls) body q (token.End ∷ spelled rest more) (end_of within body q ∷ places d rest next after) x.0 new step.held x.2 in
-    let emits : Emits x.0 i.mid (λ es. f (named (shapes x.0.labels) es) (length x.0.words)) = subst (λ (r : Place). Emits x.0 i.mid (λ es. code w within (named (shapes x.0.labels) es) r (length x.0.words) body)) from i.emits in
-    let r = live w c ls rest next more after i.walk.0 new i.walk.1.held i.walk.2 in
-    let n = length i.mid.words in
-    record {
-      mid = r.mid;
-      emits = behind old i.walk.0 r.mid _ (λ es. []) _ (λ labels here. code w d labels next here rest) (enclosed old x.0 i.mid i.walk.0 sh first f step emits i.walk.1) r.emits
-          (λ es is.
-          let labels = named (shapes old.labels) es in
-          let inner : ℕ → List Label = λ k. label base takes k ∷ labels in
-          let k = enclosed-size old x.0 i.mid sh first f step emits (ends_there n) es is in
-          let z = size_is w within (inner 0) (inner n) (Some below) (here + 6) body (refl, alike-same labels) in
-          let end : n ≡ here + 6 + size w within (inner 0) (Some below) body = omega arith in
-          let out : length i.walk.0.words ≡ here + 6 + size w within (inner 0) (Some below) body = i.walk.1.size ∙ end in
-          let there = here + 6 + size w within (inner 0) (Some below) body in
-          ap (λ (m : ℕ). (test_words w h here m ++ f (inner m) (here + 6)) ++ code w d labels next (length i.walk.0.words) rest) end
-          ∙ ap (λ (m : ℕ). (test_words w h here there ++ f (inner there) (here + 6)) ++ code w d labels next m rest) out
-          ∙ append_assoc (test_words w h here there) (f (inner there) (here + 6)) (code w d labels next there rest));
-      walk = r.walk;
-      noted =
-          let labels = counted (shapes old.labels) in
-          let es = ends_of (shapes old.labels) in
-          let inner = label base takes 0 ∷ labels in
-          let begins : length x.0.words ≡ here + 6 = longer-opens old x.0 sh first step (ends_there n) es (ends_count old.labels) in
-          let k = enclosed-size old x.0 i.mid sh first f step emits (ends_there n) es (ends_count old.labels) in
-          let z = size_is w within inner (label base takes n ∷ named (shapes old.labels) es) (Some below) (here + 6) body (refl, counted_alike (shapes old.labels)) in
-          let out : length i.walk.0.words ≡ here + 6 + size w within inner (Some below) body = let s = i.walk.1.size in omega arith in
-          let same = closed-shapes old x.0 i.mid i.walk.0 sh i.walk.1.shape step.shapes_are i.emits.shapes_are i.walk.1.shapes_are in
-          let own = calls_at w within q body _ inner _ (here + 6) (ap counted step.shapes_are) begins ∙ ap (λ (r : Place). calls w within inner r (here + 6) body) from in
-          let behind = 1 + tokens_in rest + length more in
-          let own_traps = traps_at w within q body _ inner _ (here + 6) _ behind (ap counted step.shapes_are) begins (behind_body rest more) ∙ ap (λ (r : Place). traps w within inner r (here + 6) behind body) from in (
-            both_lists _ _ _ _ _ _ _ i.noted.0 own r.noted.0 (calls_at w d next rest _ labels _ _ (ap counted same) out),
-            both_lists _ _ _ _ _ _ _ i.noted.1 own_traps r.noted.1 (traps_at w d next rest _ labels _ _ (length more) (length more) (ap counted same) out refl),
-          );
-    }
+    closed_live w c d within body rest q (Some (h - 1)) next more after old x.0 new (end_shape base takes) (label base takes 0) first 6 (here + 6) _ _ from refl (λ e. refl) refl step i
+    (live w c ls rest next more after i.walk.0 new i.walk.1.held i.walk.2)
 live w c ls (IfElse type body other rest) (Some h) more after old new held x =
     let d = labelled c ls in
     let s = shape d type in
