@@ -56,11 +56,7 @@ Walk w c (t ∷ ts) (q ∷ qs) old new = (mid : FunctionBuilder) × Step w c t q
 abbrev pub token_calls : EmitContext → Token → Place → (here : ℕ) → List Relocation
 token_calls w (token.Plain p) None here = []
 token_calls w (token.Plain p) (Some h) here = call_of w here p
-token_calls w (token.Block t) place here = []
-token_calls w (token.Loop t) place here = []
-token_calls w (token.If t) place here = []
-token_calls w token.Else place here = []
-token_calls w token.End place here = []
+token_calls w _ place here = []
 
 abbrev pub walk_calls : (w : EmitContext) (c : Context) (tokens : List Token) (places : List Place) (old new : FunctionBuilder) → Walk w c tokens places old new → List Relocation
 walk_calls w c [] places old new walk = []
@@ -75,11 +71,7 @@ Calling w c tokens places old new calls = (walk : Walk w c tokens places old new
 abbrev pub token_traps : (left : ℕ) → Token → Place → (here : ℕ) → List Trap
 token_traps left (token.Plain p) None here = []
 token_traps left (token.Plain p) (Some h) here = traps_of here left p
-token_traps left (token.Block t) place here = []
-token_traps left (token.Loop t) place here = []
-token_traps left (token.If t) place here = []
-token_traps left token.Else place here = []
-token_traps left token.End place here = []
+token_traps left _ place here = []
 
 abbrev pub walk_traps : (w : EmitContext) (c : Context) (tokens : List Token) (places : List Place) (old new : FunctionBuilder) → Walk w c tokens places old new → List Trap
 walk_traps w c [] places old new walk = []
