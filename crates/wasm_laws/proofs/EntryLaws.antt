@@ -1,7 +1,7 @@
 -- Entries of sections, and what is before and after them, are steady.
 use Rattle.std.proofs.Common.{ℕ, Bool, List}
 use Rattle.wasm_defs.specs.declared.types.ValType.{ValType}
-use Rattle.wasm_defs.specs.Entries.{Seen, index, value_type, listed_type, limits, refused_opcode, constant, signature, imported, function, table, memory, mutability, global, extern_kind, exported, start, listed_index, element, code, data_count, memory_of, passive, segment}
+use Rattle.wasm_defs.specs.Entries.{Seen, index, value_type, listed_type, limits, refused_opcode, constant, mutability, extern_kind, start, listed_index, code, memory_of, passive}
 use Rattle.wasm_defs.specs.Outside.{rest_of_section, number_of, at_most_one, function_count, segment_count, custom_name, body, header, preamble}
 use Rattle.wasm_laws.proofs.Steady.{Steady, In}
 use Rattle.wasm_laws.proofs.FieldLaws.{readers, count_steady, vector_steady, counted_bytes_steady}
@@ -59,53 +59,13 @@ pub ruleset parts = (memory_of_steady, passive_steady, index_steady, value_type_
 
 -- ---- entries
 
-pub signature_steady : (marks : List ℕ) (seen : Seen) → Steady marks (signature seen)
-unfolding signature
-signature_steady marks seen = search parts depth 40
-
-pub imported_steady : (marks : List ℕ) (seen : Seen) → Steady marks (imported seen)
-unfolding imported
-imported_steady marks seen = search parts depth 40
-
-pub function_steady : (marks : List ℕ) (seen : Seen) → Steady marks (function seen)
-unfolding function
-function_steady marks seen = search parts depth 40
-
-pub table_steady : (marks : List ℕ) (seen : Seen) → Steady marks (table seen)
-unfolding table
-table_steady marks seen = search parts depth 40
-
-pub memory_steady : (marks : List ℕ) (seen : Seen) → Steady marks (memory seen)
-unfolding memory
-memory_steady marks seen = search parts depth 40
-
-pub global_steady : (marks : List ℕ) (seen : Seen) → Steady marks (global seen)
-unfolding global
-global_steady marks seen = search parts depth 40
-
-pub exported_steady : (marks : List ℕ) (seen : Seen) → Steady marks (exported seen)
-unfolding exported
-exported_steady marks seen = search parts depth 40
-
 pub start_steady : (marks : List ℕ) (seen : Seen) → Steady marks (start seen)
 unfolding start
 start_steady marks seen = search parts depth 40
 
-pub element_steady : (marks : List ℕ) (seen : Seen) → Steady marks (element seen)
-unfolding element
-element_steady marks seen = search parts depth 40
-
 pub code_steady : (marks : List ℕ) (seen : Seen) → Steady marks (code seen)
 unfolding code
 code_steady marks seen = search parts depth 40
-
-pub data_count_steady : (marks : List ℕ) (seen : Seen) → Steady marks (data_count seen)
-unfolding data_count
-data_count_steady marks seen = search parts depth 40
-
-pub segment_steady : (marks : List ℕ) (seen : Seen) → Steady marks (segment seen)
-unfolding segment
-segment_steady marks seen = search parts depth 40
 
 pub body_steady : (marks : List ℕ) (counted : Bool) → Steady marks (body counted)
 unfolding body

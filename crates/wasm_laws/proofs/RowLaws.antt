@@ -3,13 +3,13 @@ use Rattle.std.proofs.Common.{◌≡◌, ◌<◌, ℕ, Bool, true, false, cond, 
 use Rattle.std.proofs.lemmas.Bool.{cases_Bool, cases_eq, eq-eqb, ne_eqb}
 use Rattle.wasm_defs.specs.declared.item.Item.{Item}
 use Rattle.wasm_defs.specs.Fields.{Cursor, Reader, room_of}
-use Rattle.wasm_defs.specs.Entries.{Seen}
+use Rattle.wasm_defs.specs.Entries.{Seen, signature, imported, function, table, memory, global, exported, element, data_count, segment}
 use Rattle.wasm_defs.specs.Outside.{Nothing, listed, entries_of, code_entry, Row, row, inside, no_end, left_over, section_end}
 pub use Rattle.wasm_laws.specs.Steadiness.{SteadyRow, Leaves, SteadyEnd}
 use Rattle.wasm_laws.proofs.Steady.{with_more, Extends, got, faulty, owed, StandsIn, IsDecided, Steady, bind, either, done_steady}
 use Rattle.wasm_laws.proofs.Windows.{stands_here}
-use Rattle.wasm_laws.proofs.EntryLaws.{signature_steady, imported_steady, function_steady, table_steady, memory_steady, global_steady, exported_steady, start_steady, element_steady, code_steady, data_count_steady, segment_steady, body_steady, rest_steady, number_of_steady, at_most_one_steady, function_count_steady, segment_count_steady, custom_name_steady}
-use Rattle.wasm_laws.proofs.Takes.{Takes, listed_takes, code_entry_takes, signature_takes, imported_takes, function_takes, table_takes, memory_takes, global_takes, exported_takes, start_takes, element_takes, data_count_takes, segment_takes}
+use Rattle.wasm_laws.proofs.EntryLaws.{parts, start_steady, code_steady, body_steady, rest_steady, number_of_steady, at_most_one_steady, function_count_steady, segment_count_steady, custom_name_steady}
+use Rattle.wasm_laws.proofs.Takes.{Takes, firsts, listed_takes, code_entry_takes, start_takes, data_count_takes}
 
 -- ---- rows
 
@@ -27,19 +27,20 @@ either_row true p q hp hq = hp
 either_row false p q hp hq = hq
 
 pub row_steady : (id : ℕ) → SteadyRow (row id)
+unfolding signature imported function table memory global exported element data_count segment
 row_steady id =
-    either_row (eqb id 1) _ _ (entries_steady _ _ (λ s. number_of_steady [] _) (signature_steady []) signature_takes)
-    (either_row (eqb id 2) _ _ (entries_steady _ _ (λ s. number_of_steady [] _) (imported_steady []) imported_takes)
-    (either_row (eqb id 3) _ _ (entries_steady _ _ (function_count_steady []) (function_steady []) function_takes)
-    (either_row (eqb id 4) _ _ (entries_steady _ _ (λ s. at_most_one_steady []) (table_steady []) table_takes)
-    (either_row (eqb id 5) _ _ (entries_steady _ _ (λ s. at_most_one_steady []) (memory_steady []) memory_takes)
-    (either_row (eqb id 6) _ _ (entries_steady _ _ (λ s. number_of_steady [] _) (global_steady []) global_takes)
-    (either_row (eqb id 7) _ _ (entries_steady _ _ (λ s. number_of_steady [] _) (exported_steady []) exported_takes)
+    either_row (eqb id 1) _ _ (entries_steady _ signature (λ s. number_of_steady [] _) (λ s. search parts depth 40) (λ s. search firsts depth 40))
+    (either_row (eqb id 2) _ _ (entries_steady _ imported (λ s. number_of_steady [] _) (λ s. search parts depth 40) (λ s. search firsts depth 40))
+    (either_row (eqb id 3) _ _ (entries_steady _ function (function_count_steady []) (λ s. search parts depth 40) (λ s. search firsts depth 40))
+    (either_row (eqb id 4) _ _ (entries_steady _ table (λ s. at_most_one_steady []) (λ s. search parts depth 40) (λ s. search firsts depth 40))
+    (either_row (eqb id 5) _ _ (entries_steady _ memory (λ s. at_most_one_steady []) (λ s. search parts depth 40) (λ s. search firsts depth 40))
+    (either_row (eqb id 6) _ _ (entries_steady _ global (λ s. number_of_steady [] _) (λ s. search parts depth 40) (λ s. search firsts depth 40))
+    (either_row (eqb id 7) _ _ (entries_steady _ exported (λ s. number_of_steady [] _) (λ s. search parts depth 40) (λ s. search firsts depth 40))
     (either_row (eqb id 8) _ _ (entries_steady _ _ (λ s. done_steady [] 1) (start_steady []) start_takes)
-    (either_row (eqb id 9) _ _ (entries_steady _ _ (λ s. number_of_steady [] _) (element_steady []) element_takes)
-    (either_row (eqb id 10) _ _ (entries_steady _ _ (λ s. done_steady [] 1) (data_count_steady []) data_count_takes)
+    (either_row (eqb id 9) _ _ (entries_steady _ element (λ s. number_of_steady [] _) (λ s. search parts depth 40) (λ s. search firsts depth 40))
+    (either_row (eqb id 10) _ _ (entries_steady _ data_count (λ s. done_steady [] 1) (λ s. search parts depth 40) data_count_takes)
     (either_row (eqb id 11) _ _ (record { front = λ s. done_steady [] _; entry = code_entry_steady []; back = done_steady [] tt; takes = code_entry_takes })
-    (either_row (eqb id 12) _ _ (entries_steady _ _ (segment_count_steady []) (segment_steady []) segment_takes)
+    (either_row (eqb id 12) _ _ (entries_steady _ segment (segment_count_steady []) (λ s. search parts depth 40) (λ s. search firsts depth 40))
     (record { front = λ s. custom_name_steady []; entry = λ s. listed_steady [] _ (start_steady [] s); back = rest_steady []; takes = λ s. listed_takes _ (start_takes s) }))))))))))))
 
 -- ---- where a section ends

@@ -2,7 +2,7 @@
 use Rattle.std.proofs.Common.{ℕ, ◌<◌, Bool, true, false, cond, [], ◌∷◌, length, arith}
 use Rattle.wasm_defs.specs.declared.item.Item.{Item}
 use Rattle.wasm_defs.specs.Fields.{Cursor, Read, Got, Fault, Wants, Reader, then_go, ◌>>=◌, count}
-use Rattle.wasm_defs.specs.Entries.{Seen, index, value_type, limits, signature, imported, function, table, memory, global, exported, start, element, code, data_count, segment}
+use Rattle.wasm_defs.specs.Entries.{Seen, index, value_type, limits, start, code, data_count}
 use Rattle.wasm_defs.specs.Outside.{listed, code_entry, body, header}
 pub use Rattle.wasm_laws.specs.Steadiness.{LeavesFewer, Takes}
 use Rattle.wasm_laws.proofs.Steady.{Advances, moves_of, Steady, IfGot, IsMarked, Field, done_steady}
@@ -51,43 +51,11 @@ pub limits_takes : (most top : ℕ) → Takes (limits most top)
 unfolding limits
 limits_takes most top = search taking depth 40
 
-ruleset firsts = (index_takes, value_type_takes, limits_takes, taking)
-
-pub signature_takes : (seen : Seen) → Takes (signature seen)
-unfolding signature
-signature_takes seen = search firsts depth 40
-
-pub imported_takes : (seen : Seen) → Takes (imported seen)
-unfolding imported
-imported_takes seen = search firsts depth 40
-
-pub function_takes : (seen : Seen) → Takes (function seen)
-unfolding function
-function_takes seen = search firsts depth 40
-
-pub table_takes : (seen : Seen) → Takes (table seen)
-unfolding table
-table_takes seen = search firsts depth 40
-
-pub memory_takes : (seen : Seen) → Takes (memory seen)
-unfolding memory
-memory_takes seen = search firsts depth 40
-
-pub global_takes : (seen : Seen) → Takes (global seen)
-unfolding global
-global_takes seen = search firsts depth 40
-
-pub exported_takes : (seen : Seen) → Takes (exported seen)
-unfolding exported
-exported_takes seen = search firsts depth 40
+pub ruleset firsts = (index_takes, value_type_takes, limits_takes, taking)
 
 pub start_takes : (seen : Seen) → Takes (start seen)
 unfolding start
 start_takes seen = search firsts depth 40
-
-pub element_takes : (seen : Seen) → Takes (element seen)
-unfolding element
-element_takes seen = search firsts depth 40
 
 pub code_takes : (seen : Seen) → Takes (code seen)
 unfolding code
@@ -96,10 +64,6 @@ code_takes seen = search firsts depth 40
 pub data_count_takes : (seen : Seen) → Takes (data_count seen)
 unfolding data_count count
 data_count_takes seen = search firsts depth 40
-
-pub segment_takes : (seen : Seen) → Takes (segment seen)
-unfolding segment
-segment_takes seen = search firsts depth 40
 
 pub body_takes : (counted : Bool) → Takes (body counted)
 unfolding body
