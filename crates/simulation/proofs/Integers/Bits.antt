@@ -34,33 +34,24 @@ module _ (op : ℕ → ℕ → ℕ)
       let whole = word_is (op a b) (below 32 a b ha hb) in
       ap₂ op (word_is a ha) (word_is b hb) ∙ omega (arith, words, tops, numbers, small, whole)
 
+-- two bits have four cases
+of_bits : (P : ℕ → ℕ → Type 0) → P 0 0 → P 0 1 → P 1 0 → P 1 1 → (s t : ℕ) → s < 2 → t < 2 → P s t
+of_bits P none second first both zero zero p q = none
+of_bits P none second first both zero (suc zero) p q = second
+of_bits P none second first both (suc zero) zero p q = first
+of_bits P none second first both (suc zero) (suc zero) p q = both
+of_bits P none second first both s (suc (suc t)) p q = absurd (omega arith)
+of_bits P none second first both (suc (suc s)) t p q = absurd (omega arith)
+
+-- at the bits above
+abbrev TopIs : (ℕ → ℕ → ℕ) → ℕ → ℕ → Type 0
+TopIs op s t = op (s * (2 ^ 33 - 1)) (t * (2 ^ 33 - 1)) ≡ op s t * (2 ^ 33 - 1)
+
 pub and_word : (a b : ℕ) → a < 2 ^ 32 → b < 2 ^ 32 → bit_and (word I32 a) (word I32 b) ≡ word I32 (bit_and a b)
-and_word = apart bit_and and_block (λ k a b ha hb. lt_of_le_of_lt (and_le_l a b) ha) top
-  where
-    top : (s t : ℕ) → s < 2 → t < 2 → bit_and (s * (2 ^ 33 - 1)) (t * (2 ^ 33 - 1)) ≡ bit_and s t * (2 ^ 33 - 1)
-    top zero zero p q = refl
-    top zero (suc t) p q = refl
-    top (suc zero) zero p q = refl
-    top (suc zero) (suc zero) p q = refl
-    top (suc s) (suc (suc t)) p q = absurd (omega arith)
-    top (suc (suc s)) t p q = absurd (omega arith)
+and_word = apart bit_and and_block (λ k a b ha hb. lt_of_le_of_lt (and_le_l a b) ha) (of_bits (TopIs bit_and) refl refl refl refl)
 
 pub or_word : (a b : ℕ) → a < 2 ^ 32 → b < 2 ^ 32 → bit_or (word I32 a) (word I32 b) ≡ word I32 (bit_or a b)
-or_word = apart bit_or or_block or_lt top
-  where
-    top : (s t : ℕ) → s < 2 → t < 2 → bit_or (s * (2 ^ 33 - 1)) (t * (2 ^ 33 - 1)) ≡ bit_or s t * (2 ^ 33 - 1)
-    top zero t p q = refl
-    top (suc zero) zero p q = refl
-    top (suc zero) (suc zero) p q = refl
-    top (suc zero) (suc (suc t)) p q = absurd (omega arith)
-    top (suc (suc s)) t p q = absurd (omega arith)
+or_word = apart bit_or or_block or_lt (of_bits (TopIs bit_or) refl refl refl refl)
 
 pub xor_word : (a b : ℕ) → a < 2 ^ 32 → b < 2 ^ 32 → bit_xor (word I32 a) (word I32 b) ≡ word I32 (bit_xor a b)
-xor_word = apart bit_xor xor_block xor_lt top
-  where
-    top : (s t : ℕ) → s < 2 → t < 2 → bit_xor (s * (2 ^ 33 - 1)) (t * (2 ^ 33 - 1)) ≡ bit_xor s t * (2 ^ 33 - 1)
-    top zero t p q = refl
-    top (suc zero) zero p q = refl
-    top (suc zero) (suc zero) p q = refl
-    top (suc zero) (suc (suc t)) p q = absurd (omega arith)
-    top (suc (suc s)) t p q = absurd (omega arith)
+xor_word = apart bit_xor xor_block xor_lt (of_bits (TopIs bit_xor) refl refl refl refl)
