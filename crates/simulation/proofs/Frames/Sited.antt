@@ -51,6 +51,24 @@ module _ (w : EmitContext) (distance_to : ℕ → ℕ → ℕ) where
   size_alike : (c : Context) (labels others : List Label) → taken_by labels ≡ taken_by others → (tree : Seq) (place : Place) → size w c labels place tree ≡ size away c others place tree
   size_alike c labels others same tree place = sym (code_size w w.distance_to c labels labels refl tree place 0) ∙ code_size w distance_to c labels others same tree place 0
 
+  abbrev AreAlike : Context → Seq → Type 0
+  AreAlike c tree = (labels others : List Label) → taken_by labels ≡ taken_by others → (place : Place) (here behind : ℕ) → traps w c labels place here behind tree ≡ traps away c others place here behind tree
+
+  -- a sequence that has a label of its own, and the one after it
+  closed_alike : (c within : Context) (labels others : List Label) → taken_by labels ≡ taken_by others → (base takes : ℕ) (body rest : Seq) (first next : Place) (here held behind : ℕ)
+      → AreAlike within body → AreAlike c rest
+      → traps w within (label base takes 0 ∷ labels) first here held body ++ traps w c labels next (here + size w within (label base takes 0 ∷ labels) first body) behind rest
+      ≡ traps away within (label base takes 0 ∷ others) first here held body ++ traps away c others next (here + size away within (label base takes 0 ∷ others) first body) behind rest
+  closed_alike c within labels others same base takes body rest first next here held behind inner_alike after_alike =
+      let inner = label base takes 0 ∷ labels in
+      let inner' = label base takes 0 ∷ others in
+      let alike = ap (λ (ns : List ℕ). takes ∷ ns) same in
+      joined (traps w within inner first here held body) (traps away within inner' first here held body)
+      (traps w c labels next (here + size w within inner first body) behind rest) (traps away c others next (here + size away within inner' first body) behind rest)
+      (inner_alike inner inner' alike first here held)
+      (after_alike labels others same next (here + size w within inner first body) behind
+      ∙ ap (λ (m : ℕ). traps away c others next (here + m) behind rest) (size_alike within inner inner' alike body first))
+
   pub traps_alike : (c : Context) (labels others : List Label) → taken_by labels ≡ taken_by others → (tree : Seq) (place : Place) (here behind : ℕ)
       → traps w c labels place here behind tree ≡ traps (record w { distance_to = distance_to }) c others place here behind tree
   traps_alike c labels others same tree None here behind = refl
@@ -62,46 +80,16 @@ module _ (w : EmitContext) (distance_to : ℕ → ℕ → ℕ) where
       ∙ ap (λ (n : ℕ). traps away c others next (here + n) behind rest) (words_size w distance_to (declarations c) labels others same h 0 p))
   traps_alike c labels others same (Block type body rest) (Some h) here behind =
       let s = shape c type in
-      let within = inside c s.results in
-      let n = length s.results in
-      let inner = label (h - length s.params) n 0 ∷ labels in
-      let inner' = label (h - length s.params) n 0 ∷ others in
-      let alike = ap (λ (ns : List ℕ). n ∷ ns) same in
-      let next = after_block s (Some h) in
-      let held = 1 + tokens_in rest + behind in
-      joined (traps w within inner (Some h) here held body) (traps away within inner' (Some h) here held body)
-      (traps w c labels next (here + size w within inner (Some h) body) behind rest) (traps away c others next (here + size away within inner' (Some h) body) behind rest)
-      (traps_alike within inner inner' alike body (Some h) here held)
-      (traps_alike c labels others same rest next (here + size w within inner (Some h) body) behind
-      ∙ ap (λ (m : ℕ). traps away c others next (here + m) behind rest) (size_alike within inner inner' alike body (Some h)))
+      closed_alike c (inside c s.results) labels others same (h - length s.params) (length s.results) body rest (Some h) (after_block s (Some h)) here (1 + tokens_in rest + behind) behind
+      (λ ls os e. traps_alike (inside c s.results) ls os e body) (λ ls os e. traps_alike c ls os e rest)
   traps_alike c labels others same (Loop type body rest) (Some h) here behind =
       let s = shape c type in
-      let within = inside c s.params in
-      let n = length s.params in
-      let inner = label (h - length s.params) n 0 ∷ labels in
-      let inner' = label (h - length s.params) n 0 ∷ others in
-      let alike = ap (λ (ns : List ℕ). n ∷ ns) same in
-      let next = after_block s (Some h) in
-      let held = 1 + tokens_in rest + behind in
-      joined (traps w within inner (Some h) here held body) (traps away within inner' (Some h) here held body)
-      (traps w c labels next (here + size w within inner (Some h) body) behind rest) (traps away c others next (here + size away within inner' (Some h) body) behind rest)
-      (traps_alike within inner inner' alike body (Some h) here held)
-      (traps_alike c labels others same rest next (here + size w within inner (Some h) body) behind
-      ∙ ap (λ (m : ℕ). traps away c others next (here + m) behind rest) (size_alike within inner inner' alike body (Some h)))
+      closed_alike c (inside c s.params) labels others same (h - length s.params) (length s.params) body rest (Some h) (after_block s (Some h)) here (1 + tokens_in rest + behind) behind
+      (λ ls os e. traps_alike (inside c s.params) ls os e body) (λ ls os e. traps_alike c ls os e rest)
   traps_alike c labels others same (If type body rest) (Some h) here behind =
       let s = shape c type in
-      let within = inside c s.results in
-      let n = length s.results in
-      let inner = label (h - 1 - length s.params) n 0 ∷ labels in
-      let inner' = label (h - 1 - length s.params) n 0 ∷ others in
-      let alike = ap (λ (ns : List ℕ). n ∷ ns) same in
-      let next = after_if s (Some h) in
-      let held = 1 + tokens_in rest + behind in
-      joined (traps w within inner (Some (h - 1)) (here + 6) held body) (traps away within inner' (Some (h - 1)) (here + 6) held body)
-      (traps w c labels next (here + 6 + size w within inner (Some (h - 1)) body) behind rest) (traps away c others next (here + 6 + size away within inner' (Some (h - 1)) body) behind rest)
-      (traps_alike within inner inner' alike body (Some (h - 1)) (here + 6) held)
-      (traps_alike c labels others same rest next (here + 6 + size w within inner (Some (h - 1)) body) behind
-      ∙ ap (λ (m : ℕ). traps away c others next (here + 6 + m) behind rest) (size_alike within inner inner' alike body (Some (h - 1))))
+      closed_alike c (inside c s.results) labels others same (h - 1 - length s.params) (length s.results) body rest (Some (h - 1)) (after_if s (Some h)) (here + 6) (1 + tokens_in rest + behind) behind
+      (λ ls os e. traps_alike (inside c s.results) ls os e body) (λ ls os e. traps_alike c ls os e rest)
   traps_alike c labels others same (IfElse type body other rest) (Some h) here behind =
       let s = shape c type in
       let within = inside c s.results in
@@ -117,19 +105,14 @@ module _ (w : EmitContext) (distance_to : ℕ → ℕ → ℕ) where
       let one' = size away within inner' (Some (h - 1)) body in
       let two = size w within inner (Some (h - 1)) other in
       let two' = size away within inner' (Some (h - 1)) other in
-      let first : one ≡ one' = size_alike within inner inner' alike body (Some (h - 1)) in
-      let second : two ≡ two' = size_alike within inner inner' alike other (Some (h - 1)) in
       joined (traps w within inner (Some (h - 1)) (here + 6) held body) (traps away within inner' (Some (h - 1)) (here + 6) held body)
       (traps w within inner (Some (h - 1)) (here + 6 + one + jump) held' other ++ traps w c labels next (here + 6 + one + jump + two) behind rest)
       (traps away within inner' (Some (h - 1)) (here + 6 + one' + jump) held' other ++ traps away c others next (here + 6 + one' + jump + two') behind rest)
       (traps_alike within inner inner' alike body (Some (h - 1)) (here + 6) held)
-      (joined (traps w within inner (Some (h - 1)) (here + 6 + one + jump) held' other) (traps away within inner' (Some (h - 1)) (here + 6 + one' + jump) held' other)
-      (traps w c labels next (here + 6 + one + jump + two) behind rest) (traps away c others next (here + 6 + one' + jump + two') behind rest)
-      (traps_alike within inner inner' alike other (Some (h - 1)) (here + 6 + one + jump) held'
-      ∙ ap (λ (m : ℕ). traps away within inner' (Some (h - 1)) (here + 6 + m + jump) held' other) first)
-      (traps_alike c labels others same rest next (here + 6 + one + jump + two) behind
-      ∙ (ap (λ (m : ℕ). traps away c others next (here + 6 + m + jump + two) behind rest) first
-      ∙ ap (λ (m : ℕ). traps away c others next (here + 6 + one' + jump + m) behind rest) second)))
+      (closed_alike c within labels others same (h - 1 - length s.params) n other rest (Some (h - 1)) next (here + 6 + one + jump) held' behind
+      (λ ls os e. traps_alike within ls os e other) (λ ls os e. traps_alike c ls os e rest)
+      ∙ ap (λ (m : ℕ). traps away within inner' (Some (h - 1)) (here + 6 + m + jump) held' other ++ traps away c others next (here + 6 + m + jump + two') behind rest)
+      (size_alike within inner inner' alike body (Some (h - 1))))
 
   -- those of a function
   pub body_traps_alike : (c : Context) (tree : Seq) → body_traps w c tree ≡ body_traps (record w { distance_to = distance_to }) c tree
