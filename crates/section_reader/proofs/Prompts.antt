@@ -3,8 +3,6 @@ use Rattle.std.proofs.Common.{◌≡◌, ◌≤◌, ◌<◌, ℕ, suc, ◌+◌, 
 use Rattle.std.proofs.lemmas.Bool.{cases_Bool, cases_lt, lt-ltb, le-ltb, lt-leb, le-leb}
 use Rattle.wasm_defs.specs.declared.fault.Kind.{Kind}
 use Rattle.wasm_defs.specs.Numbers.{Reading, Number, CutOff, Bad, number_at, after_byte}
-use Rattle.wasm_defs.specs.Limits.{max_name}
-use Rattle.wasm_defs.specs.Text.{between, completes}
 use Rattle.wasm_defs.specs.Fields.{Cursor, Read, Got, Fault, Wants, Reader, then_go, ◌>>=◌, done, refused, room_of, window, past, cut, first_of, byte, from_reading, number, nat_of, count, run, room, here, stop, agree, fixed, text_after, least, length_owed, name_from, name}
 use Rattle.wasm_defs.specs.Entries.{Seen, code}
 use Rattle.wasm_defs.specs.Outside.{header, preamble, left_over, section_end}
@@ -13,7 +11,7 @@ use Rattle.wasm_laws.specs.Steadiness.{IfGot, with_more, Extends, got, faulty, o
 use Rattle.wasm_laws.proofs.Steady.{field_steady, then_extends}
 use Rattle.wasm_laws.proofs.Windows.{all_of, take_over, window_reads_on, LiesIn, number_lies, ReadsOn, byte_field, number_field}
 use Rattle.wasm_laws.proofs.FieldLaws.{run_steady, fixed_steady}
-use Rattle.wasm_laws.proofs.Names.{name_field}
+use Rattle.wasm_laws.proofs.Names.{text_outcome, name_field}
 use Rattle.wasm_laws.proofs.Completing.{room_left, window_is, text_owes, owed_fits}
 use Rattle.wasm_laws.proofs.RowLaws.{end_steady}
 use Rattle.wasm_laws.proofs.EachReader.{Composes, RowHas, listed_has, code_has, rest_has, either_row, header_has, preamble_has, row_has}
@@ -158,21 +156,7 @@ number_prompt signed bits = record {
 
 text_late : (len n : ℕ) (c : Cursor) (more : List ℕ) → length c.rest ≤ len + n → Leaves (length more) (text_after len n (with_more c more))
 text_late len n c more h =
-    let d = with_more c more in
-    let text = take n (drop len (window d)) in
-    elim (cases_Bool (ltb (room_of d) (len + n))) [
-      | inl long ↦ rw long tt
-      | inr fits ↦ rw fits (elim (cases_Bool (completes n between text)) [
-        | inr wrong ↦ rw wrong tt
-        | inl right ↦ rw right (elim (cases_lt (length text) n) [
-          | inl lt ↦ rw (lt-ltb (length text) n lt) tt
-          | inr ge ↦ rw (le-ltb (length text) n ge) (elim (cases_Bool (ltb max_name n)) [
-            | inl over ↦ rw over tt
-            | inr under ↦ rw under (past_late c more (len + n) h)
-          ])
-        ])
-      ])
-    ]
+    text_outcome (Leaves (length more)) len n (with_more c more) tt tt (λ fits right lt. tt) (λ fits right ge under. past_late c more (len + n) h)
 
 -- a text that isn't whole has room for more than is there
 text_wants : (len n : ℕ) (c : Cursor) → text_after len n c ≡ Wants → length c.rest ≤ len + n
