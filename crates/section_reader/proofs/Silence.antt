@@ -89,57 +89,13 @@ limits_needs most top = bind byte _ byte_needs
 listed_needs : (p : Reader Item) → Needs p → Needs (listed p)
 listed_needs p h = bind p _ h
 
-signature_needs : (seen : Seen) → Needs (signature seen)
-unfolding signature
-signature_needs seen = bind byte _ byte_needs
-
-imported_needs : (seen : Seen) → Needs (imported seen)
-unfolding imported
-imported_needs seen = bind name _ name_needs
-
-function_needs : (seen : Seen) → Needs (function seen)
-unfolding function
-function_needs seen = bind (index seen.types) _ (index_needs seen.types)
-
-table_needs : (seen : Seen) → Needs (table seen)
-unfolding table
-table_needs seen = bind byte _ byte_needs
-
-memory_needs : (seen : Seen) → Needs (memory seen)
-unfolding memory
-memory_needs seen = bind (limits _ _) _ (limits_needs _ _)
-
-global_needs : (seen : Seen) → Needs (global seen)
-unfolding global
-global_needs seen = bind value_type _ value_type_needs
-
-exported_needs : (seen : Seen) → Needs (exported seen)
-unfolding exported
-exported_needs seen = bind name _ name_needs
-
 start_needs : (seen : Seen) → Needs (start seen)
 unfolding start
 start_needs seen = bind (index seen.functions) _ (index_needs seen.functions)
 
-element_needs : (seen : Seen) → Needs (element seen)
-unfolding element
-element_needs seen = bind (index seen.tables) _ (index_needs seen.tables)
-
 code_needs : (seen : Seen) → Needs (code seen)
 unfolding code
 code_needs seen = bind u32 _ u32_needs
-
-data_count_needs : (seen : Seen) → Needs (data_count seen)
-unfolding data_count
-data_count_needs seen = bind (count _) _ (count_needs _)
-
-segment_needs : (seen : Seen) → Needs (segment seen)
-unfolding segment
-segment_needs seen = bind u32 _ u32_needs
-
-body_needs : (counted : Bool) → Needs (body counted)
-unfolding body
-body_needs counted = bind u32 _ u32_needs
 
 number_of_needs : (most : ℕ) → Needs (number_of most)
 unfolding number_of
@@ -148,18 +104,6 @@ number_of_needs most = bind (count most) _ (count_needs most)
 at_most_one_needs : Needs at_most_one
 unfolding at_most_one
 at_most_one_needs = bind u32 _ u32_needs
-
-function_count_needs : (seen : Seen) → Needs (function_count seen)
-unfolding function_count
-function_count_needs seen = bind u32 _ u32_needs
-
-segment_count_needs : (seen : Seen) → Needs (segment_count seen)
-unfolding segment_count
-segment_count_needs seen = bind u32 _ u32_needs
-
-custom_name_needs : Needs custom_name
-unfolding custom_name
-custom_name_needs = bind name _ name_needs
 
 -- a row begins with a field, or it has so many entries at once
 pub record RowNeeds (r : Row) : Type 0 where
@@ -173,22 +117,24 @@ either_row false p q hp hq = hq
 listing : (front : Seen → Reader ℕ) (entry : Seen → Reader Item) → ((seen : Seen) → Needs (front seen)) → ((seen : Seen) → Needs (entry seen)) → RowNeeds (entries_of front entry)
 listing front entry hf he = record { front = λ s. inl (hf s); entry = λ s. listed_needs (entry s) (he s) }
 
+-- each reader begins with a field that needs a byte
 pub row_needs : (id : ℕ) → RowNeeds (outline_row id)
+unfolding signature imported function table memory global exported element data_count segment body function_count segment_count custom_name
 row_needs id =
     either_row (eqb id 11) _ _ (record { front = λ s. inr (0, refl); entry = λ s. listed_needs (code s) (code_needs s) })
-    (either_row (eqb id 1) _ _ (listing _ _ (λ s. number_of_needs _) signature_needs)
-    (either_row (eqb id 2) _ _ (listing _ _ (λ s. number_of_needs _) imported_needs)
-    (either_row (eqb id 3) _ _ (listing _ _ function_count_needs function_needs)
-    (either_row (eqb id 4) _ _ (listing _ _ (λ s. at_most_one_needs) table_needs)
-    (either_row (eqb id 5) _ _ (listing _ _ (λ s. at_most_one_needs) memory_needs)
-    (either_row (eqb id 6) _ _ (listing _ _ (λ s. number_of_needs _) global_needs)
-    (either_row (eqb id 7) _ _ (listing _ _ (λ s. number_of_needs _) exported_needs)
+    (either_row (eqb id 1) _ _ (listing _ _ (λ s. number_of_needs _) (λ s. bind byte _ byte_needs))
+    (either_row (eqb id 2) _ _ (listing _ _ (λ s. number_of_needs _) (λ s. bind name _ name_needs))
+    (either_row (eqb id 3) _ _ (listing _ _ (λ s. bind u32 _ u32_needs) (λ s. bind (index s.types) _ (index_needs s.types)))
+    (either_row (eqb id 4) _ _ (listing _ _ (λ s. at_most_one_needs) (λ s. bind byte _ byte_needs))
+    (either_row (eqb id 5) _ _ (listing _ _ (λ s. at_most_one_needs) (λ s. bind (limits _ _) _ (limits_needs _ _)))
+    (either_row (eqb id 6) _ _ (listing _ _ (λ s. number_of_needs _) (λ s. bind value_type _ value_type_needs))
+    (either_row (eqb id 7) _ _ (listing _ _ (λ s. number_of_needs _) (λ s. bind name _ name_needs))
     (either_row (eqb id 8) _ _ (record { front = λ s. inr (0, refl); entry = λ s. listed_needs (start s) (start_needs s) })
-    (either_row (eqb id 9) _ _ (listing _ _ (λ s. number_of_needs _) element_needs)
-    (either_row (eqb id 10) _ _ (record { front = λ s. inr (0, refl); entry = λ s. listed_needs (data_count s) (data_count_needs s) })
-    (either_row (eqb id 11) _ _ (record { front = λ s. inr (s.declared, ap done (add-one s.declared)); entry = λ s. either s.counted _ _ (body_needs _) (listed_needs (code s) (code_needs s)) })
-    (either_row (eqb id 12) _ _ (listing _ _ segment_count_needs segment_needs)
-    (record { front = λ s. inl custom_name_needs; entry = λ s. listed_needs (start s) (start_needs s) })))))))))))))
+    (either_row (eqb id 9) _ _ (listing _ _ (λ s. number_of_needs _) (λ s. bind (index s.tables) _ (index_needs s.tables)))
+    (either_row (eqb id 10) _ _ (record { front = λ s. inr (0, refl); entry = λ s. listed_needs (data_count s) (bind (count _) _ (count_needs _)) })
+    (either_row (eqb id 11) _ _ (record { front = λ s. inr (s.declared, ap done (add-one s.declared)); entry = λ s. either s.counted _ _ (bind u32 _ u32_needs) (listed_needs (code s) (code_needs s)) })
+    (either_row (eqb id 12) _ _ (listing _ _ (λ s. bind u32 _ u32_needs) (λ s. bind u32 _ u32_needs))
+    (record { front = λ s. inl (bind name _ name_needs); entry = λ s. listed_needs (start s) (start_needs s) })))))))))))))
 
 -- ---- endings
 
