@@ -10,9 +10,9 @@ use Rattle.wasm_defs.specs.Items.{Section}
 use Rattle.wasm_defs.specs.Outside.{Body, Part, Section as Headed, Listed, Coded, Ending, Run, module_read}
 use Rattle.wasm_defs.specs.Trees.{Seq, Tree}
 use Rattle.wasm_defs.specs.Typing.{Context, IsBody}
-use Rattle.wasm_laws.specs.Behind.{SayTheSame, UsesKeep, AreValidIn}
+use Rattle.wasm_laws.specs.Behind.{UsesKeep, AreValidIn}
 use Rattle.wasm_laws.specs.Sections.{AreBytes, parts_in}
-use Rattle.wasm_laws.proofs.Behind.{bodies_stand_behind, bodies_are_valid, uses_keep}
+use Rattle.wasm_laws.proofs.Behind.{same_context, items_with, bodies_stand_behind, bodies_are_valid, uses_keep}
 use Rattle.wasm_laws.proofs.Bytes.{each_byte, HaveBytes, bodies_have_bytes}
 use Rattle.wasm_laws.proofs.Described.{items_of_parts, bodies_of_parts, whole_is_described, whole_ending}
 use Rattle.wasm_laws.proofs.Locals.{locals_are_few}
@@ -58,18 +58,6 @@ spelled_are_valid items k (b ∷ bodies) (tree ∷ trees) s = (spelled_is_valid 
 
 -- ---- all items say of a body what those before it say
 
-same_context : (all first : List Item) (k : ℕ) (b : Body) → SayTheSame all first → context_at all k b ≡ context_at first k b
-same_context all first k b h = made_at (context_of all) (context_of first) (import_count all) (import_count first) h.context h.imports
-  where
-    made_at : (c d : Context) (m n : ℕ) → c ≡ d → m ≡ n → body_context c (type_of_function c (m + k)) (read_of b).groups ≡ body_context d (type_of_function d (n + k)) (read_of b).groups
-    made_at c d m n e f = rw (e, f) refl
-
-items_with : (front : List Part) (x : Part) → items_of (front ++ x ∷ []) ≡ items_of front ++ items_of (x ∷ [])
-items_with [] x = refl
-items_with (Headed at id ∷ front) x = items_with front x
-items_with (Listed y ∷ front) x = ap (λ (l : List Item). y ∷ l) (items_with front x)
-items_with (Coded a ∷ front) x = items_with front x
-
 valid_at_parts : (bytes : List ℕ) (front : List Part) (items : List Item) (k : ℕ) (parts : List Part) (trees : List Seq) → (module_read bytes).parts ≡ front ++ parts → items_of front ≡ items
     → UsesKeep items (items_of parts) → AreValidIn (items_of (module_read bytes).parts) k (bodies_of parts) trees → AreValid items k parts trees
 valid_at_parts bytes front items k [] [] e same s h = tt
@@ -82,7 +70,7 @@ valid_at_parts bytes front items k (Coded b ∷ parts) [] e same s h = absurd h
 valid_at_parts bytes front items k (Coded b ∷ parts) (tree ∷ trees) e same s h =
     let all = items_of (module_read bytes).parts in
     let stands = bodies_stand_behind bytes front b parts e in
-    let here : context_at all k b ≡ context_at items k b = same_context all (items_of front) k b stands.same ∙ ap (λ (l : List Item). context_at l k b) same in (
+    let here : context_at all k b ≡ context_at items k b = sym (same_context all (items_of front) k b stands.same) ∙ ap (λ (l : List Item). context_at l k b) same in (
       subst (λ (c : Context). IsValidCode c (read_of b).code tree) here h.0,
       valid_at_parts bytes (front ++ Coded b ∷ []) items (suc k) parts trees (e ∙ sym (append_assoc front (Coded b ∷ []) parts)) (items_with front (Coded b) ∙ append-nil (items_of front) ∙ same) s h.1,
     )

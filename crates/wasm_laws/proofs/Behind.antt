@@ -92,13 +92,13 @@ bodies_stand_behind bytes front b back e =
 
 -- ---- valid bodies
 
-same_context : (all first : List Item) (k : ℕ) (b : Body) → SayTheSame all first → context_at first k b ≡ context_at all k b
+pub same_context : (all first : List Item) (k : ℕ) (b : Body) → SayTheSame all first → context_at first k b ≡ context_at all k b
 same_context all first k b h = made_at (context_of all) (context_of first) (import_count all) (import_count first) h.context h.imports
   where
     made_at : (c d : Context) (m n : ℕ) → c ≡ d → m ≡ n → body_context d (type_of_function d (n + k)) (read_of b).groups ≡ body_context c (type_of_function c (m + k)) (read_of b).groups
     made_at c d m n e f = rw (e, f) refl
 
-items_with : (front : List Part) (x : Part) → items_of (front ++ x ∷ []) ≡ items_of front ++ items_of (x ∷ [])
+pub items_with : (front : List Part) (x : Part) → items_of (front ++ x ∷ []) ≡ items_of front ++ items_of (x ∷ [])
 items_with [] x = refl
 items_with (Section at id ∷ front) x = items_with front x
 items_with (Listed y ∷ front) x = ap (λ (l : List Item). y ∷ l) (items_with front x)
