@@ -137,12 +137,12 @@ GoesInside c opening s f fs P own tokens =
     Goes c (opened opening s f.operands.live) (with_own f own ∷ fs) (Goes c (received (with_own f own) s.results) fs P) tokens
 
 -- a block that has no `else`, by its first token and its tree
-goes_ended : (c : Context) (opening : Opening) (first : Token) (whole : Seq → Seq → Seq) (s : Signature) (f : Frame) (fs : Frames) (P : List Token → Type 0) (own : List Operand) (tokens : List Token)
+goes_block : (c : Context) (opening : Opening) (first : Token) (whole : Seq → Seq → Seq) (s : Signature) (f : Frame) (fs : Frames) (P : List Token → Type 0) (own : List Operand) (tokens : List Token)
     → (opening ≡ Ifs → ⊥) → ((body rest : Seq) (k : List Token) → first ∷ spelled body (token.End ∷ spelled rest k) ≡ spelled (whole body rest) k)
     → ((body rest : Seq) (below : Types) → Typed (inside (at c (f ∷ fs)) (label_of opening s)) body s.params s.results → Typed (at c (f ∷ fs)) rest (s.results ++ below) f.type.results
     → Typed (at c (f ∷ fs)) (whole body rest) (s.params ++ below) f.type.results)
     → take_all f.operands.unknown s.params f.operands.own ≡ Some own → GoesInside c opening s f fs P own tokens → Goes c f fs P (first ∷ tokens)
-goes_ended c opening first whole s f fs P own tokens ended same typed took g = by_ending g.ending
+goes_block c opening first whole s f fs P own tokens ended same typed took g = by_ending g.ending
   where
     by_ending : Ending (at c (f ∷ fs)) opening s g.tree g.rest tokens → Goes c f fs P (first ∷ tokens)
     by_ending (turns_over other o is t) = absurd (ended o)
@@ -215,12 +215,12 @@ goes c (token.Plain p ∷ tokens) f fs e =
 goes c (token.Block type ∷ tokens) f fs e =
     let s = opens_by c (λ s. enter Blocks s s.params (f ∷ fs)) (block_type (at c (f ∷ fs)) type) tokens e in
     let x = entered c Blocks s.0 s.0.params f fs tokens s.2 in
-    goes_ended c Blocks (token.Block type) (Block type) s.0 f fs (Closes c f.type.results fs) x.own tokens (λ o. absurd (cc)) (λ body rest k. refl)
+    goes_block c Blocks (token.Block type) (Block type) s.0 f fs (Closes c f.type.results fs) x.own tokens (λ o. absurd (cc)) (λ body rest k. refl)
     (λ body rest below within after. (s.0, below, s.1, refl, within, after)) x.took (goes c tokens (opened Blocks s.0 f.operands.live) (with_own f x.own ∷ fs) x.ran)
 goes c (token.Loop type ∷ tokens) f fs e =
     let s = opens_by c (λ s. enter Loops s s.params (f ∷ fs)) (block_type (at c (f ∷ fs)) type) tokens e in
     let x = entered c Loops s.0 s.0.params f fs tokens s.2 in
-    goes_ended c Loops (token.Loop type) (Loop type) s.0 f fs (Closes c f.type.results fs) x.own tokens (λ o. absurd (cc)) (λ body rest k. refl)
+    goes_block c Loops (token.Loop type) (Loop type) s.0 f fs (Closes c f.type.results fs) x.own tokens (λ o. absurd (cc)) (λ body rest k. refl)
     (λ body rest below within after. (s.0, below, s.1, refl, within, after)) x.took (goes c tokens (opened Loops s.0 f.operands.live) (with_own f x.own ∷ fs) x.ran)
 goes c (token.If type ∷ tokens) f fs e =
     let s = opens_by c (λ s. enter Ifs s (I32 ∷ s.params) (f ∷ fs)) (block_type (at c (f ∷ fs)) type) tokens e in

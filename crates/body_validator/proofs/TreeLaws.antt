@@ -27,16 +27,8 @@ closed-one body c rest r a b inside after h g e =
 
 pub spelled-one : (s t : Seq) → AreOne s t
 spelled-one Nothing Nothing a b h g e = (refl, e)
-spelled-one Nothing (Simple q r) a b h g e = absurd (subst ClosesSequence e h)
-spelled-one Nothing (Block u c r) a b h g e = absurd (subst ClosesSequence e h)
-spelled-one Nothing (Loop u c r) a b h g e = absurd (subst ClosesSequence e h)
-spelled-one Nothing (If u c r) a b h g e = absurd (subst ClosesSequence e h)
-spelled-one Nothing (IfElse u c d r) a b h g e = absurd (subst ClosesSequence e h)
-spelled-one (Simple p rest) Nothing a b h g e = absurd (subst ClosesSequence (sym e) g)
-spelled-one (Block type body rest) Nothing a b h g e = absurd (subst ClosesSequence (sym e) g)
-spelled-one (Loop type body rest) Nothing a b h g e = absurd (subst ClosesSequence (sym e) g)
-spelled-one (If type body rest) Nothing a b h g e = absurd (subst ClosesSequence (sym e) g)
-spelled-one (IfElse type body other rest) Nothing a b h g e = absurd (subst ClosesSequence (sym e) g)
+spelled-one Nothing t a b h g e = absurd (subst ClosesSequence e h)
+spelled-one s Nothing a b h g e = absurd (subst ClosesSequence (sym e) g)
 spelled-one (Simple p rest) (Simple q r) a b h g e =
     let first : p ≡ q = cc in
     let more = spelled-one rest r a b h g (cc) in
