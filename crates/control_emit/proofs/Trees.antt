@@ -368,6 +368,30 @@ live w c ls (IfElse type body other rest) (Some h) more after old new held x =
     let r = live w c ls rest next more after j.walk.0 new j.walk.1.held j.walk.2 in
     let m = length i.walk.0.words in
     let n = length j.mid.words in
+    let shapes_same : shapes i.walk.0.labels ≡ sh ∷ shapes old.labels = turn.shapes_are ∙ i.emits.shapes_are ∙ step.shapes_are in
+    -- where the parts are, by labels that take as many
+    let parts : (es : List Ends) → length es ≡ length old.labels → (counted : List Label) → AreAlike counted (label base takes n ∷ named (shapes old.labels) es)
+    → let first_end = here + 6 + size w within counted (Some below) body in
+    let second = first_end + length (over first_live 0 0) in
+    (length x.0.words ≡ here + 6) × (length i.mid.words ≡ first_end) × (m ≡ second) × (n ≡ second + size w within counted (Some below) other) = λ es is counted alike.
+    let e = ends_there n in
+    let begins : length x.0.words ≡ here + 6 = longer-opens old x.0 sh first step e es is in
+    let zi = size_is w within counted (label base takes n ∷ named (shapes old.labels) es) (Some below) (here + 6) body alike in
+    let ki = enclosed-size old x.0 i.mid sh first f step one e es is in
+    let first_end = here + 6 + size w within counted (Some below) body in
+    let first_is : length i.mid.words ≡ first_end = omega arith in
+    let countb = count-more x.0.labels old.labels sh step.shapes_are in
+    let counti = count-shapes i.mid.labels x.0.labels i.emits.shapes_are in
+    let li : 1 + length es ≡ length i.mid.labels = omega arith in
+    let kt = longer-turns i.mid i.walk.0 t turn n es li in
+    let ot = over_size w first_live 0 0 (length i.mid.words) n in
+    let second_is : m ≡ first_end + length (over first_live 0 0) = omega arith in
+    let countt = count-shapes i.walk.0.labels i.mid.labels turn.shapes_are in
+    let lj : length (e ∷ es) ≡ length i.walk.0.labels = omega arith in
+    let kj = longer i.walk.0 j.mid (λ fs. g (named (shapes i.walk.0.labels) fs) m) two (e ∷ es) lj in
+    let named_same = ap (λ (ss : List Shape). length (g (named ss (e ∷ es)) m)) shapes_same in
+    let zj = size_is w within counted (label base takes n ∷ named (shapes old.labels) es) (Some below) m other alike in
+    (begins, first_is, second_is, omega arith) in
     record {
       mid = r.mid;
       emits = behind old j.walk.0 r.mid _ (λ es. []) _ (λ labels here. code w d labels next here rest)
@@ -380,30 +404,13 @@ live w c ls (IfElse type body other rest) (Some h) more after old new held x =
           let first_end = here + 6 + size w within counted (Some below) body in
           let second = first_end + length (over first_live 0 0) in
           let end = second + size w within counted (Some below) other in
-          let e = ends_there n in
-          let begins : length x.0.words ≡ here + 6 = longer-opens old x.0 sh first step e es is in
-          let zi = size_is w within counted (inner n) (Some below) (here + 6) body (refl, alike-same labels) in
-          let ki = enclosed-size old x.0 i.mid sh first f step one e es is in
-          let first_is : length i.mid.words ≡ first_end = omega arith in
-          let countb = count-more x.0.labels old.labels sh step.shapes_are in
-          let counti = count-shapes i.mid.labels x.0.labels i.emits.shapes_are in
-          let li : 1 + length es ≡ length i.mid.labels = omega arith in
-          let kt = longer-turns i.mid i.walk.0 t turn n es li in
-          let ot = over_size w first_live 0 0 (length i.mid.words) n in
-          let second_is : m ≡ second = omega arith in
-          let countt = count-shapes i.walk.0.labels i.mid.labels turn.shapes_are in
-          let lj : length (e ∷ es) ≡ length i.walk.0.labels = omega arith in
-          let kj = longer i.walk.0 j.mid (λ fs. g (named (shapes i.walk.0.labels) fs) m) two (e ∷ es) lj in
-          let shapes_same : shapes i.walk.0.labels ≡ sh ∷ shapes old.labels = turn.shapes_are ∙ i.emits.shapes_are ∙ step.shapes_are in
-          let named_same = ap (λ (ss : List Shape). length (g (named ss (e ∷ es)) m)) shapes_same in
-          let zj = size_is w within counted (inner n) (Some below) m other (refl, alike-same labels) in
-          let end_is : n ≡ end = omega arith in
-          let out : length j.walk.0.words ≡ end = j.walk.1.size ∙ end_is in
+          let at = parts es is counted (refl, alike-same labels) in
+          let out : length j.walk.0.words ≡ end = j.walk.1.size ∙ at.3 in
           let whole : ℕ → ℕ → ℕ → ℕ → ℕ → List Op = λ a b k l o. (test_words w h here k ++ (f (inner l) a ++ (over first_live b l ++ g (inner l) k))) ++ rest_words o in
-          ap (λ (a : ℕ). whole a (length i.mid.words) m n (length j.walk.0.words)) begins
-          ∙ ap (λ (a : ℕ). whole (here + 6) a m n (length j.walk.0.words)) first_is
-          ∙ ap (λ (a : ℕ). whole (here + 6) first_end a n (length j.walk.0.words)) second_is
-          ∙ ap (λ (a : ℕ). whole (here + 6) first_end second a (length j.walk.0.words)) end_is
+          ap (λ (a : ℕ). whole a (length i.mid.words) m n (length j.walk.0.words)) at.0
+          ∙ ap (λ (a : ℕ). whole (here + 6) a m n (length j.walk.0.words)) at.1
+          ∙ ap (λ (a : ℕ). whole (here + 6) first_end a n (length j.walk.0.words)) at.2
+          ∙ ap (λ (a : ℕ). whole (here + 6) first_end second a (length j.walk.0.words)) at.3
           ∙ ap (λ (a : ℕ). whole (here + 6) first_end second end a) out
           ∙ append_assoc (test_words w h here second) (f (inner end) (here + 6) ++ (over first_live first_end end ++ g (inner end) second)) (rest_words end)
           ∙ ap (λ (l : List Op). test_words w h here second ++ l)
@@ -419,34 +426,17 @@ live w c ls (IfElse type body other rest) (Some h) more after old new held x =
           let first_end = here + 6 + size w within inner (Some below) body in
           let second = first_end + length (over first_live 0 0) in
           let end = second + size w within inner (Some below) other in
-          let e = ends_there n in
-          let begins : length x.0.words ≡ here + 6 = longer-opens old x.0 sh first step e es is in
-          let zi = size_is w within inner (label base takes n ∷ named (shapes old.labels) es) (Some below) (here + 6) body alike in
-          let ki = enclosed-size old x.0 i.mid sh first f step one e es is in
-          let first_is : length i.mid.words ≡ first_end = omega arith in
-          let countb = count-more x.0.labels old.labels sh step.shapes_are in
-          let counti = count-shapes i.mid.labels x.0.labels i.emits.shapes_are in
-          let li : 1 + length es ≡ length i.mid.labels = omega arith in
-          let kt = longer-turns i.mid i.walk.0 t turn n es li in
-          let ot = over_size w first_live 0 0 (length i.mid.words) n in
-          let second_is : m ≡ second = omega arith in
-          let countt = count-shapes i.walk.0.labels i.mid.labels turn.shapes_are in
-          let lj : length (e ∷ es) ≡ length i.walk.0.labels = omega arith in
-          let kj = longer i.walk.0 j.mid (λ fs. g (named (shapes i.walk.0.labels) fs) m) two (e ∷ es) lj in
-          let shapes_same : shapes i.walk.0.labels ≡ sh ∷ shapes old.labels = turn.shapes_are ∙ i.emits.shapes_are ∙ step.shapes_are in
-          let named_same = ap (λ (ss : List Shape). length (g (named ss (e ∷ es)) m)) shapes_same in
-          let zj = size_is w within inner (label base takes n ∷ named (shapes old.labels) es) (Some below) m other alike in
-          let end_is : n ≡ end = omega arith in
-          let out : length j.walk.0.words ≡ end = j.walk.1.size ∙ end_is in
+          let at = parts es is inner alike in
+          let out : length j.walk.0.words ≡ end = j.walk.1.size ∙ at.3 in
           let same = closed-shapes old i.walk.0 j.mid j.walk.0 sh j.walk.1.shape shapes_same j.emits.shapes_are j.walk.1.shapes_are in
-          let own = calls_at w within q body _ inner _ (here + 6) (ap counted step.shapes_are) begins ∙ ap (λ (r : Place). calls w within inner r (here + 6) body) from in
-          let own_other = calls_at w within q other _ inner _ second (ap counted shapes_same) second_is ∙ ap (λ (r : Place). calls w within inner r second other) from in
+          let own = calls_at w within q body _ inner _ (here + 6) (ap counted step.shapes_are) at.0 ∙ ap (λ (r : Place). calls w within inner r (here + 6) body) from in
+          let own_other = calls_at w within q other _ inner _ second (ap counted shapes_same) at.2 ∙ ap (λ (r : Place). calls w within inner r second other) from in
           let last = calls_at w d next rest _ labels _ _ (ap counted same) out in
           let behind = walk_calls w c more after r.mid new r.walk in
           let left = 2 + tokens_in other + tokens_in rest + length more in
           let left_other = 1 + tokens_in rest + length more in
-          let own_traps = traps_at w within q body _ inner _ (here + 6) _ left (ap counted step.shapes_are) begins (behind_first other rest more) ∙ ap (λ (r : Place). traps w within inner r (here + 6) left body) from in
-          let other_traps = traps_at w within q other _ inner _ second _ left_other (ap counted shapes_same) second_is (behind_body rest more) ∙ ap (λ (r : Place). traps w within inner r second left_other other) from in
+          let own_traps = traps_at w within q body _ inner _ (here + 6) _ left (ap counted step.shapes_are) at.0 (behind_first other rest more) ∙ ap (λ (r : Place). traps w within inner r (here + 6) left body) from in
+          let other_traps = traps_at w within q other _ inner _ second _ left_other (ap counted shapes_same) at.2 (behind_body rest more) ∙ ap (λ (r : Place). traps w within inner r second left_other other) from in
           let last_traps = traps_at w d next rest _ labels _ _ (length more) (length more) (ap counted same) out refl in
           let traps_behind = walk_traps w c more after r.mid new r.walk in (
             both_lists _ _ _ _ behind _ _ i.noted.0 own (both_lists _ _ _ _ behind _ _ j.noted.0 own_other r.noted.0 last) refl,
