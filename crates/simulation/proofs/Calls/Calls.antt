@@ -48,6 +48,66 @@ called_at None from mid m = absurd m.allowed
 called_at (Some t) from mid m =
     record { ty = t; is = refl; moves = moves_fixed (reverse t.params) (reverse t.results) from mid m; height = λ n. rule_height (called [] t) from mid n tt m }
 
+-- a frame that calls a function of some type: the topmost of these operands are the arguments, and types of the others are `low`
+module _ (text : List (Option Op)) (inst : Instance) (places : TextPlaces) (outer : Types) (f : Frame) (callers : List Frame) (s : State) (m : FramesStay text inst places outer f callers s) (ty : FuncType)
+    (ops : List Value) (low : Types) (before : types_of_values ops ≡ reverse ty.params ++ low) where
+  abbrev taken : ℕ
+  taken = length ty.params
+
+  pub arguments : (types_of_values (take (length ty.params) ops) ≡ reverse ty.params) × (types_of_values (drop (length ty.params) ops) ≡ low) × (length ty.params ≤ length ops)
+  arguments =
+      let parts = types_split (reverse ty.params) low ops before in
+      let same : length (reverse ty.params) ≡ taken = length-reverse ty.params in
+      (ap (λ (i : ℕ). types_of_values (take i ops)) (sym same) ∙ parts.0, ap (λ (i : ℕ). types_of_values (drop i ops)) (sym same) ∙ parts.1, omega (arith, parts.2, same))
+
+  pub others_count : length (types_of_values ops) ≡ length ty.params + length (drop (length ty.params) ops)
+  others_count = types_length ops ∙ ap length (sym (take-append-drop taken ops)) ∙ length-append (take taken ops) (drop taken ops) ∙ omega (arith, length-take-le taken ops arguments.2)
+
+  pub arguments_typed : types_of_values (reverse (take (length ty.params) ops)) ≡ ty.params
+  arguments_typed = types_reverse (take taken ops) ∙ ap reverse arguments.0 ∙ reverse-reverse ty.params
+
+  module _ (live : Operands s.bytes (used callers + operand m.running.compiled.around.layout 0) (ops ++ belows f.labels)) where
+    parted : Operands s.bytes (used callers + operand m.running.compiled.around.layout 0) (take (length ty.params) ops ++ (drop (length ty.params) ops ++ belows f.labels))
+    parted =
+        subst (Operands s.bytes (used callers + operand m.running.compiled.around.layout 0))
+        (ap (λ (vs : List Value). vs ++ belows f.labels) (sym (take-append-drop taken ops)) ∙ append_assoc (take taken ops) (drop taken ops) (belows f.labels)) live
+
+    -- they are the function's first locals
+    pub arguments_stand : (b : Bytes) (rest : Seq) → b ≡ s.bytes → Locals b (used (record f { operands = drop (length ty.params) ops; code = rest } ∷ callers)) (reverse (take (length ty.params) ops))
+    arguments_stand b rest bytes_are =
+        let base_is : used callers + operand m.running.compiled.around.layout 0 + length (drop taken ops ++ belows f.labels) ≡ used (record f { operands = drop taken ops; code = rest } ∷ callers) = omega (arith, m.running.width) in
+        subst (λ (b : Bytes). Locals b (used (record f { operands = drop taken ops; code = rest } ∷ callers)) (reverse (take taken ops))) (sym bytes_are)
+        (subst (λ (i : ℕ). Locals s.bytes i (reverse (take taken ops))) base_is
+        (record { holds = λ i u is. passed s.bytes (used callers + operand m.running.compiled.around.layout 0) (take taken ops) (drop taken ops ++ belows f.labels) parted i u is }))
+
+    -- the function returns to the frame, which goes on with its results
+    pub caller_returns : (at here : ℕ) (rest : Seq) (mid : Types) → HasAt text at (back (part (record f { operands = drop (length ty.params) ops; code = rest }))) → m.running.compiled.begin + here ≡ at + 6
+        → SitsAt text inst places m.running.compiled m.running.os (Some (length mid + length (belows f.labels))) mid here rest m.running.to m.running.there → mid ≡ reverse ty.results ++ low
+        → Returns text inst places outer s.bytes (used callers) (reverse ty.results) (place at) m.address (record f { operands = drop (length ty.params) ops; code = rest })
+    caller_returns at here rest mid gives_back goes_on sits after =
+        let awaits : mid ≡ reverse ty.results ++ types_of_values (drop taken ops) = after ∙ ap (λ (ts : Types). reverse ty.results ++ ts) (sym arguments.1) in
+        record {
+          at = at;
+          here = here;
+          is = refl;
+          gives_back = gives_back;
+          stays = record {
+            compiled = m.running.compiled;
+            os = m.running.os;
+            to = m.running.to;
+            there = m.running.there;
+            room = m.running.room;
+            width = m.running.width;
+            are = m.running.are;
+            values = m.running.values;
+            live = operands_below s.bytes (used callers + operand m.running.compiled.around.layout 0) (take taken ops) (drop taken ops ++ belows f.labels) parted;
+            link_is = m.running.link_is;
+            sits = subst (λ (ts : Types). SitsAt text inst places m.running.compiled m.running.os (Some (length ts + length (belows f.labels))) ts here rest m.running.to m.running.there) awaits sits;
+            fit = m.running.fit;
+          };
+          goes_on = goes_on;
+        }
+
 module _ (text : List (Option Op)) (near : length text ≤ 2 ^ 26) (inst : Instance) (places : TextPlaces) (outer : Types) (stub : HasAt text 0 exit_stub) where
   module _ (c : Config) (s : State) (g : ℕ) (rest : Seq) (m : FramesStay text inst places outer (record c.frame { code = Simple (Call g) rest }) c.callers s) where
     abbrev k : Compiled text inst places c.frame.function
@@ -85,21 +145,14 @@ module _ (text : List (Option Op)) (near : length text ≤ 2 ^ 26) (inst : Insta
       abbrev caller : Frame
       caller = record c.frame { operands = drop (length ty.params) c.frame.operands; code = rest }
 
-      split : (types_of_values (take count ops) ≡ reverse ty.params) × (types_of_values (drop count ops) ≡ x.moves.below) × (count ≤ length ops)
-      split =
-          let before : types_of_values ops ≡ reverse ty.params ++ x.moves.below = x.moves.before ∙ ap (λ (t : FuncType). reverse t.params ++ x.moves.below) (sym ty_is) in
-          let parts = types_split (reverse ty.params) x.moves.below ops before in
-          let same : length (reverse ty.params) ≡ count = length-reverse ty.params in
-          (ap (λ (i : ℕ). types_of_values (take i ops)) (sym same) ∙ parts.0, ap (λ (i : ℕ). types_of_values (drop i ops)) (sym same) ∙ parts.1, omega (arith, parts.2, same))
+      before : types_of_values ops ≡ reverse ty.params ++ x.moves.below
+      before = x.moves.before ∙ ap (λ (t : FuncType). reverse t.params ++ x.moves.below) (sym ty_is)
 
       arguments_are : length (type_of_function at g).params ≡ count
       arguments_are = ap (λ (o : Option FuncType). length (type_or_empty o).params) x.is ∙ ap (λ (t : FuncType). length t.params) (sym ty_is)
 
-      kept_count : length (types_of_values ops) ≡ count + length (drop count ops)
-      kept_count = types_length ops ∙ ap length (sym (take-append-drop count ops)) ∙ length-append (take count ops) (drop count ops) ∙ omega (arith, length-take-le count ops split.2)
-
       slots_are : operand k.around.layout (h - length (type_of_function at g).params) ≡ part (record c.frame { operands = drop (length ty.params) c.frame.operands; code = rest })
-      slots_are = omega (arith, m.running.width, arguments_are, kept_count, length-append (drop count ops) (belows c.frame.labels))
+      slots_are = omega (arith, m.running.width, arguments_are, others_count text inst places outer (record c.frame { code = Simple (Call g) rest }) c.callers s m ty ops x.moves.below before, length-append (drop count ops) (belows c.frame.labels))
 
       small : (part (record c.frame { operands = drop (length ty.params) c.frame.operands; code = rest }) < 2 ^ 24) × (used c.callers ≤ max_slots)
       small =
@@ -127,39 +180,12 @@ module _ (text : List (Option Op)) (near : length text ≤ 2 ^ 26) (inst : Insta
           subst (λ (q : Place). SitsAt text inst places k m.running.os q m.running.sits.typed.0 (m.here + 14) rest m.running.to m.running.there) (x.height n)
           (sits_rest text inst places k m.running.os (Call g) rest h m.here (types_of_values ops) m.running.to m.running.there m.running.sits m.running.sits.typed.0 m.running.sits.typed.2)
 
-      whole_is : ops ++ belows c.frame.labels ≡ take count ops ++ (drop count ops ++ belows c.frame.labels)
-      whole_is = ap (λ (vs : List Value). vs ++ belows c.frame.labels) (sym (take-append-drop count ops)) ∙ append_assoc (take count ops) (drop count ops) (belows c.frame.labels)
-
-      live : Operands s.bytes (used c.callers + operand k.around.layout 0) (take count ops ++ (drop count ops ++ belows c.frame.labels))
-      live = subst (Operands s.bytes (used c.callers + operand k.around.layout 0)) whole_is m.running.live
-
-      awaits : m.running.sits.typed.0 ≡ reverse ty.results ++ types_of_values (drop count ops)
-      awaits = x.moves.after ∙ ap (λ (t : FuncType). reverse t.results ++ x.moves.below) (sym ty_is) ∙ ap (λ (ts : Types). reverse ty.results ++ ts) (sym split.1)
-
       returns : Returns text inst places outer s.bytes (used c.callers) (reverse ty.results) (place (k.begin + (m.here + 8))) m.address caller
       returns =
           let behind = has_rest text (k.begin + m.here) (shift (part caller)) (Auipc ra (hi (distance (k.begin + (m.here + 6)) (places.function g))) ∷ Jalr ra ra (lo (distance (k.begin + (m.here + 6)) (places.function g))) ∷ back (part caller)) has in
-          record {
-            at = k.begin + (m.here + 8);
-            here = m.here + 14;
-            is = refl;
-            gives_back = has_at text (suc (suc (k.begin + m.here + 6))) (k.begin + (m.here + 8)) (back (part caller)) (omega arith) behind.1.1;
-            stays = record {
-              compiled = k;
-              os = m.running.os;
-              to = m.running.to;
-              there = m.running.there;
-              room = m.running.room;
-              width = m.running.width;
-              are = m.running.are;
-              values = m.running.values;
-              live = operands_below s.bytes (used c.callers + operand k.around.layout 0) (take count ops) (drop count ops ++ belows c.frame.labels) live;
-              link_is = m.running.link_is;
-              sits = subst (λ (ts : Types). SitsAt text inst places k m.running.os (Some (length ts + n)) ts (m.here + 14) rest m.running.to m.running.there) awaits sits;
-              fit = m.running.fit;
-            };
-            goes_on = omega arith;
-          }
+          caller_returns text inst places outer (record c.frame { code = Simple (Call g) rest }) c.callers s m ty ops x.moves.below before m.running.live (k.begin + (m.here + 8)) (m.here + 14) rest m.running.sits.typed.0
+          (has_at text (suc (suc (k.begin + m.here + 6))) (k.begin + (m.here + 8)) (back (part caller)) (omega arith) behind.1.1) (omega arith) sits
+          (x.moves.after ∙ ap (λ (t : FuncType). reverse t.results ++ x.moves.below) (sym ty_is))
 
       -- where the function begins
       pub record Begun : Type 0 where
@@ -187,7 +213,6 @@ module _ (text : List (Option Op)) (near : length text ≤ 2 ^ 26) (inst : Insta
           let two = linked_lands text one.end (k.begin + m.here + 6) (k.begin + (m.here + 6)) (places.function g) (behind.0, (behind.1.0, tt)) (omega arith) (omega arith) (omega arith) (omega arith) in
           let bytes : two.end.bytes ≡ s.bytes = two.bytes_are ∙ one.bytes_are in
           let link = two.link_is in
-          let base_is : used c.callers + operand k.around.layout 0 + length (drop count ops ++ belows c.frame.labels) ≡ used (caller ∷ c.callers) = omega (arith, m.running.width) in
           record {
             end = two.end;
             reaches = Reaches-then one.reaches two.reaches;
@@ -201,11 +226,8 @@ module _ (text : List (Option Op)) (near : length text ≤ 2 ^ 26) (inst : Insta
               windows = subst FitWindows (sym bytes) m.frame.windows;
             };
             link_is = omega arith;
-            types = types_reverse (take count ops) ∙ ap reverse split.0 ∙ reverse-reverse ty.params;
-            stand =
-                subst (λ (b : Bytes). Locals b (used (caller ∷ c.callers)) (reverse (take count ops))) (sym bytes)
-                (subst (λ (i : ℕ). Locals s.bytes i (reverse (take count ops))) base_is
-                (record { holds = λ i u is. passed s.bytes (used c.callers + operand k.around.layout 0) (take count ops) (drop count ops ++ belows c.frame.labels) live i u is }));
+            types = arguments_typed text inst places outer (record c.frame { code = Simple (Call g) rest }) c.callers s m ty ops x.moves.below before;
+            stand = arguments_stand text inst places outer (record c.frame { code = Simple (Call g) rest }) c.callers s m ty ops x.moves.below before m.running.live two.end.bytes rest bytes;
             stay = subst (λ (b : Bytes). CallersStay text inst places outer b (place (k.begin + (m.here + 8))) (reverse ty.results) (caller ∷ c.callers)) (sym bytes) (m.address, returns, m.callers_stay);
           }
 

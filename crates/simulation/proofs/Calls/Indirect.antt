@@ -1,8 +1,7 @@
 -- A call by a row of the table, up to the function's first instruction word.
 use Rattle.std.proofs.Common.{◌≡◌, ℕ, suc, ◌+◌, ◌-◌, ◌^◌, ◌<◌, ◌≤◌, Bool, true, false, List, [], ◌∷◌, ◌++◌, length, take, drop, reverse, Option, Some, None, refl, sym, ap, ◌∙◌, subst, arith}
 use Rattle.std.specs.Prelude.{slice_get, nat_lt}
-use Rattle.std.proofs.lemmas.List.{length-append, length-reverse, reverse-reverse, take-append-drop, length-take-le}
-use Rattle.std.proofs.Common.{append_assoc}
+use Rattle.std.proofs.lemmas.List.{length-append}
 use Rattle.rv_isa.specs.declared.operations.Op.{Op}
 use Rattle.rv_isa.specs.declared.operations.Op.TheVariants as op
 use Rattle.rv_isa.specs.declared.operations.ShiftOp.TheVariants.{Slli}
@@ -31,13 +30,12 @@ use Rattle.simulation.proofs.Memory.Tables.{indirect_does}
 use Rattle.simulation.specs.Functions.{TextPlaces}
 use Rattle.simulation.proofs.Frames.Frames.{under, Compiled, SitsAt, Returns, CallersStay, FramesStay, KeepsRegisters}
 use Rattle.simulation.proofs.Frames.Heights.{peak_here}
-use Rattle.simulation.proofs.Frames.Leaving.{operands_below}
-use Rattle.simulation.proofs.Frames.Rules.{types_length, types_split, MovesFixed, moves_fixed, rule_height}
+use Rattle.simulation.proofs.Frames.Rules.{types_length, MovesFixed, moves_fixed, rule_height}
 use Rattle.simulation.proofs.Frames.Sitting.{has_at, has_words, sits_rest}
-use Rattle.simulation.proofs.Frames.Values.{Operands, Locals}
-use Rattle.simulation.proofs.Frames.Reversed.{types_reverse, passed}
+use Rattle.simulation.proofs.Frames.Values.{Locals}
 use Rattle.simulation.specs.Tables.{like_in, TableHolds}
 use Rattle.simulation.proofs.Straight.Operations.{typed_word, typed_range}
+use Rattle.simulation.proofs.Calls.Calls.{others_count, arguments_typed, arguments_stand, caller_returns}
 use Rattle.simulation.proofs.TypeIndices.{like_within}
 
 -- what the rule says of types
@@ -80,8 +78,8 @@ module _ (text : List (Option Op)) (near : length text ≤ 2 ^ 26) (inst : Insta
   index_type : v.ty ≡ I32
   index_type = let e = x.moves.before in cc
 
-  before : types_of_values below ≡ reverse x.ty.params ++ x.moves.below
-  before = let e = x.moves.before in cc
+  arguments_before : types_of_values below ≡ reverse x.ty.params ++ x.moves.below
+  arguments_before = let e = x.moves.before in cc
 
   abbrev Words : (slots : ℕ) → List Op
   Words slots =
@@ -124,21 +122,14 @@ module _ (text : List (Option Op)) (near : length text ≤ 2 ^ 26) (inst : Insta
     abbrev caller : Frame
     caller = record start.frame { operands = drop (length ty.params) below; code = rest }
 
-    split : (types_of_values (take count below) ≡ reverse ty.params) × (types_of_values (drop count below) ≡ x.moves.below) × (count ≤ length below)
-    split =
-        let before' : types_of_values below ≡ reverse ty.params ++ x.moves.below = before ∙ ap (λ (t : FuncType). reverse t.params ++ x.moves.below) (sym ty_is) in
-        let parts = types_split (reverse ty.params) x.moves.below below before' in
-        let same : length (reverse ty.params) ≡ count = length-reverse ty.params in
-        (ap (λ (i : ℕ). types_of_values (take i below)) (sym same) ∙ parts.0, ap (λ (i : ℕ). types_of_values (drop i below)) (sym same) ∙ parts.1, omega (arith, parts.2, same))
+    before : types_of_values below ≡ reverse ty.params ++ x.moves.below
+    before = arguments_before ∙ ap (λ (t : FuncType). reverse t.params ++ x.moves.below) (sym ty_is)
 
     arguments_are : length (type_or_empty (slice_get (under m.running.compiled.context m.running.os).types type)).params ≡ count
     arguments_are = ap (λ (o : Option FuncType). length (type_or_empty o).params) x.is ∙ ap (λ (t : FuncType). length t.params) (sym ty_is)
 
-    kept_count : length (types_of_values below) ≡ count + length (drop count below)
-    kept_count = types_length below ∙ ap length (sym (take-append-drop count below)) ∙ length-append (take count below) (drop count below) ∙ omega (arith, length-take-le count below split.2)
-
     pub slots_are : operand m.running.compiled.around.layout (length (types_of_values (v ∷ below)) + length (belows start.frame.labels) - 1 - length (type_or_empty (slice_get (under m.running.compiled.context m.running.os).types type)).params) ≡ part (record start.frame { operands = drop (length ty.params) below; code = rest })
-    slots_are = omega (arith, m.running.width, arguments_are, kept_count, length-append (drop count below) lower)
+    slots_are = omega (arith, m.running.width, arguments_are, others_count text inst places outer (record start.frame { operands = v ∷ below; code = Simple (CallIndirect type table_index) rest }) start.callers s m ty below x.moves.below before, length-append (drop count below) lower)
 
     has : HasAt text (k.begin + m.here) (Words (part (record start.frame { operands = drop (length ty.params) below; code = rest })))
     has = subst (λ (i : ℕ). HasAt text (k.begin + m.here) (Words i)) slots_are has_here
@@ -168,37 +159,10 @@ module _ (text : List (Option Op)) (near : length text ≤ 2 ^ 26) (inst : Insta
         subst (λ (q : Place). SitsAt text inst places k m.running.os q m.running.sits.typed.0 (m.here + 44) rest m.running.to m.running.there) (x.height n)
         (sits_rest text inst places k m.running.os (CallIndirect type table_index) rest h m.here (types_of_values (v ∷ below)) m.running.to m.running.there m.running.sits m.running.sits.typed.0 m.running.sits.typed.2)
 
-    whole_is : below ++ belows start.frame.labels ≡ take count below ++ (drop count below ++ belows start.frame.labels)
-    whole_is = ap (λ (vs : List Value). vs ++ belows start.frame.labels) (sym (take-append-drop count below)) ∙ append_assoc (take count below) (drop count below) (belows start.frame.labels)
-
-    live : Operands s.bytes (used start.callers + operand k.around.layout 0) (take count below ++ (drop count below ++ belows start.frame.labels))
-    live = subst (Operands s.bytes (used start.callers + operand k.around.layout 0)) whole_is m.running.live.1
-
-    awaits : m.running.sits.typed.0 ≡ reverse ty.results ++ types_of_values (drop count below)
-    awaits = x.moves.after ∙ ap (λ (t : FuncType). reverse t.results ++ x.moves.below) (sym ty_is) ∙ ap (λ (ts : Types). reverse ty.results ++ ts) (sym split.1)
-
     returns : Returns text inst places outer s.bytes (used start.callers) (reverse ty.results) (place (k.begin + (m.here + 38))) m.address caller
-    returns = record {
-      at = k.begin + (m.here + 38);
-      here = m.here + 44;
-      is = refl;
-      gives_back = has_back;
-      stays = record {
-        compiled = k;
-        os = m.running.os;
-        to = m.running.to;
-        there = m.running.there;
-        room = m.running.room;
-        width = m.running.width;
-        are = m.running.are;
-        values = m.running.values;
-        live = operands_below s.bytes (used start.callers + operand k.around.layout 0) (take count below) (drop count below ++ belows start.frame.labels) live;
-        link_is = m.running.link_is;
-        sits = subst (λ (ts : Types). SitsAt text inst places k m.running.os (Some (length ts + n)) ts (m.here + 44) rest m.running.to m.running.there) awaits sits;
-        fit = m.running.fit;
-      };
-      goes_on = omega arith;
-    }
+    returns =
+        caller_returns text inst places outer (record start.frame { operands = v ∷ below; code = Simple (CallIndirect type table_index) rest }) start.callers s m ty below x.moves.below before m.running.live.1 (k.begin + (m.here + 38)) (m.here + 44) rest m.running.sits.typed.0
+        has_back (omega arith) sits (x.moves.after ∙ ap (λ (t : FuncType). reverse t.results ++ x.moves.below) (sym ty_is))
 
     -- where the function begins
     pub record Begun (there : ℕ) : Type 0 where
@@ -222,7 +186,6 @@ module _ (text : List (Option Op)) (near : length text ≤ 2 ^ 26) (inst : Insta
         let first = y.first_is in
         let first_now = m.frame.first in
         let bytes = y.bytes_are in
-        let base_is : used start.callers + operand k.around.layout 0 + length (drop count below ++ belows start.frame.labels) ≡ used (caller ∷ start.callers) = omega (arith, m.running.width) in
         record {
           end = y.end;
           reaches = y.reaches;
@@ -236,10 +199,7 @@ module _ (text : List (Option Op)) (near : length text ≤ 2 ^ 26) (inst : Insta
             windows = subst FitWindows (sym bytes) m.frame.windows;
           };
           link_is = omega arith;
-          types = types_reverse (take count below) ∙ ap reverse split.0 ∙ reverse-reverse ty.params;
-          stand =
-              subst (λ (b : Bytes). Locals b (used (caller ∷ start.callers)) (reverse (take count below))) (sym bytes)
-              (subst (λ (i : ℕ). Locals s.bytes i (reverse (take count below))) base_is
-              (record { holds = λ i u is. passed s.bytes (used start.callers + operand k.around.layout 0) (take count below) (drop count below ++ belows start.frame.labels) live i u is }));
+          types = arguments_typed text inst places outer (record start.frame { operands = v ∷ below; code = Simple (CallIndirect type table_index) rest }) start.callers s m ty below x.moves.below before;
+          stand = arguments_stand text inst places outer (record start.frame { operands = v ∷ below; code = Simple (CallIndirect type table_index) rest }) start.callers s m ty below x.moves.below before m.running.live.1 y.end.bytes rest bytes;
           stay = subst (λ (b : Bytes). CallersStay text inst places outer b (place (k.begin + (m.here + 38))) (reverse ty.results) (caller ∷ start.callers)) (sym bytes) (m.address, returns, m.callers_stay);
         }

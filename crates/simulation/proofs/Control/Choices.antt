@@ -69,6 +69,30 @@ module _ (text : List (Option Op)) (inst : Instance) (places : TextPlaces) {f : 
         let e : h - 1 + 0 ≡ h - 1 = omega arith in
         subst (λ (i : ℕ). peak within tree (Some i) ≤ m) e low
 
+    -- a sequence inside, at an index of its own, with so many tokens up to what follows
+    pieces : (tree : Seq) (below : Types) (i end between : ℕ) → k.begin + end ≤ length text → SitsAt text inst places k os (Some (h - 1 - length s.params + length s.results)) (s.results ++ below) end rest to there
+        → IsCovered tree → Typed within tree s.params s.results → peak within tree (Some (h - 1 + 0)) ≤ k.around.layout.greatest → HasAt text (k.begin + i) (code k.around within (label base n end ∷ labels) (Some (h - 1)) i tree)
+        → k.begin + (i + length (code k.around within (label base n end ∷ labels) (Some (h - 1)) i tree)) ≤ length text
+        → Ending text inst places k (end_of within tree (Some (h - 1))) (i + length (code k.around within (label base n end ∷ labels) (Some (h - 1)) i tree)) end
+        → AreSited places.trap k.begin f.origin (traps k.around within (label base n 0 ∷ labels) (Some (h - 1)) i (between + tokens_in rest + behind_of os) tree)
+        → Pieces text inst places k os s s.results (h - 1) below i tree rest end end between to there
+    pieces tree below i end between near after covered typed low has inside_text ending sited = record {
+      base = base;
+      base_is = refl;
+      near = near;
+      inner = record {
+        covered = covered;
+        typed = typed;
+        low = inner_low tree k.around.layout.greatest low;
+        has = has;
+        inside = inside_text;
+        ending = ending;
+        sited = subst (AreSited places.trap k.begin f.origin)
+            (traps_alike k.around k.around.distance_to within (label base n 0 ∷ labels) (label base n end ∷ labels) refl tree (Some (h - 1)) i (between + tokens_in rest + behind_of os)) sited;
+      };
+      after = after;
+    }
+
     pub if_choice : 1 ≤ h → (x : SitsAt text inst places k os (Some h) from here (If type body rest) to there) → (below : Types) × (from ≡ I32 ∷ (shape (under k.context os) type).params ++ below) × Choice (shape (under k.context os) type) h below here body Nothing rest 1 to there
     if_choice one x =
         let b = of_if at type body rest from to x.typed in
@@ -98,22 +122,9 @@ module _ (text : List (Option Op)) (inst : Instance) (places : TextPlaces) {f : 
             test_inside = omega arith;
             second_near = near;
             near = near;
-            first_pieces = record {
-              base = base;
-              base_is = refl;
-              near = near;
-              inner = record {
-                covered = x.covered.0;
-                typed = b.inner;
-                low = inner_low body k.around.layout.greatest (omega (arith, low.0, x.low));
-                has = has_first text (k.begin + (here + 6)) inner behind (has_at text (k.begin + here + 6) (k.begin + (here + 6)) (inner ++ behind) (omega arith) has_both);
-                inside = omega arith;
-                ending = ending_falls text inst places k (end_of within body (Some (h - 1))) (here + 6 + length inner) end (omega arith);
-                sited = subst (AreSited places.trap k.begin f.origin) (traps_alike k.around k.around.distance_to within (label base n 0 ∷ labels) (label base n end ∷ labels) refl body (Some (h - 1)) (here + 6) held)
-                    (sited_first places.trap k.begin f.origin one_traps more_traps x.sited);
-              };
-              after = after;
-            };
+            first_pieces = pieces body b.below (here + 6) end 1 near after x.covered.0 b.inner (omega (arith, low.0, x.low))
+                (has_first text (k.begin + (here + 6)) inner behind (has_at text (k.begin + here + 6) (k.begin + (here + 6)) (inner ++ behind) (omega arith) has_both)) (omega arith)
+                (ending_falls text inst places k (end_of within body (Some (h - 1))) (here + 6 + length inner) end (omega arith)) (sited_first places.trap k.begin f.origin one_traps more_traps x.sited);
             second_pieces = record {
               base = base;
               base_is = refl;
@@ -178,38 +189,12 @@ module _ (text : List (Option Op)) (inst : Instance) (places : TextPlaces) {f : 
               test_inside = omega arith;
               second_near = omega arith;
               near = near;
-              first_pieces = record {
-                base = base;
-                base_is = refl;
-                near = near;
-                inner = record {
-                  covered = x.covered.0;
-                  typed = b.inner;
-                  low = inner_low body k.around.layout.greatest (omega (arith, low.0, x.low));
-                  has = has_first text (k.begin + (here + 6)) one (jump ++ (two ++ behind)) has_one;
-                  inside = omega arith;
-                  ending = ending_at text inst places k os live first_end (here + 6 + length one) end (omega arith) (over_leads live first_end end (has_first text (k.begin + first_end) jump (two ++ behind) has_jump));
-                  sited = subst (AreSited places.trap k.begin f.origin) (traps_alike k.around k.around.distance_to within counted inner refl body (Some (h - 1)) (here + 6) held)
-                      (sited_first places.trap k.begin f.origin one_traps (two_traps ++ more_traps) x.sited);
-                };
-                after = after;
-              };
-              second_pieces = record {
-                base = base;
-                base_is = refl;
-                near = near;
-                inner = record {
-                  covered = x.covered.1;
-                  typed = b.second;
-                  low = inner_low other k.around.layout.greatest (omega (arith, low.1, x.low));
-                  has = has_first text (k.begin + second) two behind has_two;
-                  inside = omega arith;
-                  ending = ending_falls text inst places k (end_of within other (Some (h - 1))) (second + length two) end (omega arith);
-                  sited = subst (AreSited places.trap k.begin f.origin) (traps_alike k.around k.around.distance_to within counted inner refl other (Some (h - 1)) second held')
-                      (sited_first places.trap k.begin f.origin two_traps more_traps sited_more);
-                };
-                after = after;
-              };
+              first_pieces = pieces body b.below (here + 6) end (2 + tokens_in other) near after x.covered.0 b.inner (omega (arith, low.0, x.low)) (has_first text (k.begin + (here + 6)) one (jump ++ (two ++ behind)) has_one)
+                  (omega arith)
+                  (ending_at text inst places k os live first_end (here + 6 + length one) end (omega arith) (over_leads live first_end end (has_first text (k.begin + first_end) jump (two ++ behind) has_jump)))
+                  (sited_first places.trap k.begin f.origin one_traps (two_traps ++ more_traps) x.sited);
+              second_pieces = pieces other b.below second end 1 near after x.covered.1 b.second (omega (arith, low.1, x.low)) (has_first text (k.begin + second) two behind has_two) (omega arith)
+                  (ending_falls text inst places k (end_of within other (Some (h - 1))) (second + length two) end (omega arith)) (sited_first places.trap k.begin f.origin two_traps more_traps sited_more);
             },
           )
         where
