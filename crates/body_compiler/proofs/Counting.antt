@@ -34,7 +34,19 @@ module _ (w : EmitContext) (c : Context) where
   over_dead : (q : Place) → q ≡ None → length (over q 0 0) ≡ 0
   over_dead q e = ap (λ (r : Place). length (over r 0 0)) e
 
-  dead : (d : Context) (t : Seq) (q : Place) → q ≡ None → (more : List Token) (behind : List Place) (n : WordCount) → after (spelled t more) (places d t q behind) n ≡ after more behind n
+  abbrev HasNoWords : Context → Seq → Place → Type 0
+  HasNoWords d t q = (more : List Token) (behind : List Place) (n : WordCount) → after (spelled t more) (places d t q behind) n ≡ after more behind n
+
+  -- nor has a body with its `end`, and what follows it
+  dead_closed : (d within : Context) (body rest : Seq) (first next : Place) (takes test : ℕ) → test ≡ 0 → HasNoWords within body first → HasNoWords d rest next
+      → (more : List Token) (behind : List Place) (n : WordCount)
+      → after (spelled body (token.End ∷ spelled rest more)) (places within body first (end_of within body first ∷ places d rest next behind)) (opening takes test n) ≡ after more behind n
+  dead_closed d within body rest first next takes test none inside after_it more behind n =
+      inside (token.End ∷ spelled rest more) (end_of within body first ∷ places d rest next behind) (opening takes test n)
+      ∙ ap (after (spelled rest more) (places d rest next behind)) (let same : n.words + test + 0 ≡ n.words = omega (arith, none) in ap (with_words n) same)
+      ∙ after_it more behind n
+
+  dead : (d : Context) (t : Seq) (q : Place) → q ≡ None → HasNoWords d t q
   dead d Nothing q e more behind n = refl
   dead d (Simple p rest) q e more behind n =
       let here : plain_size w c q n.takes p ≡ 0 = ap (λ (r : Place). plain_size w c r n.takes p) e in
@@ -42,27 +54,16 @@ module _ (w : EmitContext) (c : Context) where
       ∙ ap (after more behind) (no_more n (plain_size w c q n.takes p) here)
   dead d (Block type body rest) q e more behind n =
       let s = shape d type in
-      let within = inside d s.results in
-      let next = after_block s q in
-      dead within body q e (token.End ∷ spelled rest more) (end_of within body q ∷ places d rest next behind) (opening (length (shape c type).results) 0 n)
-      ∙ ap (after (spelled rest more) (places d rest next behind)) (let same : n.words + 0 + 0 ≡ n.words = omega arith in ap (with_words n) same)
-      ∙ dead d rest next (ap (after_block s) e) more behind n
+      dead_closed d (inside d s.results) body rest q (after_block s q) (length (shape c type).results) 0 refl
+      (dead (inside d s.results) body q e) (dead d rest (after_block s q) (ap (after_block s) e)) more behind n
   dead d (Loop type body rest) q e more behind n =
       let s = shape d type in
-      let within = inside d s.params in
-      let next = after_block s q in
-      dead within body q e (token.End ∷ spelled rest more) (end_of within body q ∷ places d rest next behind) (opening (length (shape c type).params) 0 n)
-      ∙ ap (after (spelled rest more) (places d rest next behind)) (let same : n.words + 0 + 0 ≡ n.words = omega arith in ap (with_words n) same)
-      ∙ dead d rest next (ap (after_block s) e) more behind n
+      dead_closed d (inside d s.params) body rest q (after_block s q) (length (shape c type).params) 0 refl
+      (dead (inside d s.params) body q e) (dead d rest (after_block s q) (ap (after_block s) e)) more behind n
   dead d (If type body rest) q e more behind n =
       let s = shape d type in
-      let within = inside d s.results in
-      let next = after_if s q in
-      let first = moved 1 0 q in
-      let test : test_size q ≡ 0 = ap test_size e in
-      dead within body first (ap (moved 1 0) e) (token.End ∷ spelled rest more) (end_of within body first ∷ places d rest next behind) (opening (length (shape c type).results) (test_size q) n)
-      ∙ ap (after (spelled rest more) (places d rest next behind)) (let same : n.words + test_size q + 0 ≡ n.words = omega (arith, test) in ap (with_words n) same)
-      ∙ dead d rest next (ap (after_if s) e) more behind n
+      dead_closed d (inside d s.results) body rest (moved 1 0 q) (after_if s q) (length (shape c type).results) (test_size q) (ap test_size e)
+      (dead (inside d s.results) body (moved 1 0 q) (ap (moved 1 0) e)) (dead d rest (after_if s q) (ap (after_if s) e)) more behind n
   dead d (IfElse type body other rest) q e more behind n =
       let s = shape d type in
       let within = inside d s.results in
@@ -71,16 +72,10 @@ module _ (w : EmitContext) (c : Context) where
       let none : first ≡ None = ap (moved 1 0) e in
       let takes = length (shape c type).results in
       let end = end_of within body first in
-      let none_there : end ≡ None = ap (end_of within body) none ∙ end_dead within body in
-      let test : test_size q ≡ 0 = ap test_size e in
-      let jump : length (over end 0 0) ≡ 0 = over_dead end none_there in
-      let begun = opening takes (test_size q) n in
-      let last : List Token = token.End ∷ spelled rest more in
-      let last_places = end_of within other first ∷ places d rest next behind in
-      dead within body first none (token.Else ∷ spelled other last) (end ∷ places within other first last_places) begun
-      ∙ dead within other first none last last_places (after_token w c token.Else end begun)
-      ∙ ap (after (spelled rest more) (places d rest next behind)) (let same : n.words + test_size q + length (over end 0 0) + 0 ≡ n.words = omega (arith, test, jump) in ap (with_words n) same)
-      ∙ dead d rest next (ap (after_if s) e) more behind n
+      let jump : length (over end 0 0) ≡ 0 = over_dead end (ap (end_of within body) none ∙ end_dead within body) in
+      dead within body first none (token.Else ∷ spelled other (token.End ∷ spelled rest more)) (end ∷ places within other first (end_of within other first ∷ places d rest next behind)) (opening takes (test_size q) n)
+      ∙ dead_closed d within other rest first next takes (length (over end 0 0)) jump (dead within other first none) (dead d rest next (ap (after_if s) e)) more behind (with_words n (n.words + test_size q))
+      ∙ ap (after more behind) (no_more n (test_size q) (ap test_size e))
 
   -- ---- what is reachable
 
@@ -91,8 +86,26 @@ module _ (w : EmitContext) (c : Context) where
   inner_takes : (ls : List Types) (labels : List Label) (base wanted own : ℕ) (takes : List ℕ) → own ≡ wanted → taken_by labels ≡ takes → taken_by (label base own 0 ∷ labels) ≡ wanted ∷ takes
   inner_takes ls labels base wanted own takes e f = ap₂ (λ (n : ℕ) (ns : List ℕ). n ∷ ns) e f
 
-  live : (ls : List Types) (t : Seq) (q : Place) (labels : List Label) (more : List Token) (behind : List Place) (n : WordCount) → taken_by labels ≡ n.takes
+  abbrev HasWords : List Types → Seq → Place → Type 0
+  HasWords ls t q = (labels : List Label) (more : List Token) (behind : List Place) (n : WordCount) → taken_by labels ≡ n.takes
       → after (spelled t more) (places (labelled c ls) t q behind) n ≡ after more behind (with_words n (n.words + size w (labelled c ls) labels q t))
+
+  -- a body with its `end`, and what follows it, after so many words of the block's beginning
+  live_closed : (ls : List Types) (own : Types) (body rest : Seq) (first next : Place) (base wanted begins : ℕ) → length own ≡ wanted → HasWords (own ∷ ls) body first → HasWords ls rest next
+      → (labels : List Label) (more : List Token) (behind : List Place) (n : WordCount) (all : ℕ) → taken_by labels ≡ n.takes
+      → all ≡ begins + size w (labelled c (own ∷ ls)) (label base (length own) 0 ∷ labels) first body + size w (labelled c ls) labels next rest
+      → after (spelled body (token.End ∷ spelled rest more)) (places (labelled c (own ∷ ls)) body first (end_of (labelled c (own ∷ ls)) body first ∷ places (labelled c ls) rest next behind))
+      (opening wanted begins n) ≡ after more behind (with_words n (n.words + all))
+  live_closed ls own body rest first next base wanted begins fits inside after_it labels more behind n all e is =
+      let within = labelled c (own ∷ ls) in
+      let inner : List Label = label base (length own) 0 ∷ labels in
+      let inside_words = size w within inner first body in
+      inside inner (token.End ∷ spelled rest more) (end_of within body first ∷ places (labelled c ls) rest next behind) (opening wanted begins n)
+      (inner_takes ls labels base wanted (length own) n.takes fits e)
+      ∙ after_it labels more behind (with_words n (n.words + begins + inside_words + 0)) e
+      ∙ ap (after more behind) (let same : n.words + begins + inside_words + 0 + size w (labelled c ls) labels next rest ≡ n.words + all = omega (arith, is) in ap (with_words n) same)
+
+  live : (ls : List Types) (t : Seq) (q : Place) → HasWords ls t q
   live ls t None labels more behind n e =
       dead (labelled c ls) t None refl more behind n ∙ ap (after more behind) (sym (no_more n 0 refl))
   live ls Nothing (Some h) labels more behind n e = ap (after more behind) (sym (no_more n 0 refl))
@@ -106,48 +119,27 @@ module _ (w : EmitContext) (c : Context) where
   live ls (Block type body rest) (Some h) labels more behind n e =
       let d = labelled c ls in
       let s = shape d type in
-      let within = inside d s.results in
       let next = after_block s (Some h) in
       let inner : List Label = label (h - length s.params) (length s.results) 0 ∷ labels in
-      let wanted = length (shape c type).results in
-      let own : length s.results ≡ wanted = ap (λ (x : _). length x.results) (shape_labelled c ls type) in
-      let one = opening wanted 0 n in
-      let inside_words = size w within inner (Some h) body in
-      let two = with_words n (n.words + 0 + inside_words + 0) in
-      live (s.results ∷ ls) body (Some h) inner (token.End ∷ spelled rest more) (end_of within body (Some h) ∷ places d rest next behind) one (inner_takes ls labels (h - length s.params) wanted (length s.results) n.takes own e)
-      ∙ live ls rest next labels more behind two e
-      ∙ ap (after more behind) (let same : n.words + 0 + inside_words + 0 + size w d labels next rest ≡ n.words + (inside_words + size w d labels next rest) = omega arith in ap (with_words n) same)
+      live_closed ls s.results body rest (Some h) next (h - length s.params) (length (shape c type).results) 0 (ap (λ (x : _). length x.results) (shape_labelled c ls type))
+      (live (s.results ∷ ls) body (Some h)) (live ls rest next) labels more behind n (size w (inside d s.results) inner (Some h) body + size w d labels next rest) e (omega arith)
   live ls (Loop type body rest) (Some h) labels more behind n e =
       let d = labelled c ls in
       let s = shape d type in
-      let within = inside d s.params in
       let next = after_block s (Some h) in
       let inner : List Label = label (h - length s.params) (length s.params) 0 ∷ labels in
-      let wanted = length (shape c type).params in
-      let own : length s.params ≡ wanted = ap (λ (x : _). length x.params) (shape_labelled c ls type) in
-      let one = opening wanted 0 n in
-      let inside_words = size w within inner (Some h) body in
-      let two = with_words n (n.words + 0 + inside_words + 0) in
-      live (s.params ∷ ls) body (Some h) inner (token.End ∷ spelled rest more) (end_of within body (Some h) ∷ places d rest next behind) one (inner_takes ls labels (h - length s.params) wanted (length s.params) n.takes own e)
-      ∙ live ls rest next labels more behind two e
-      ∙ ap (after more behind) (let same : n.words + 0 + inside_words + 0 + size w d labels next rest ≡ n.words + (inside_words + size w d labels next rest) = omega arith in ap (with_words n) same)
+      live_closed ls s.params body rest (Some h) next (h - length s.params) (length (shape c type).params) 0 (ap (λ (x : _). length x.params) (shape_labelled c ls type))
+      (live (s.params ∷ ls) body (Some h)) (live ls rest next) labels more behind n (size w (inside d s.params) inner (Some h) body + size w d labels next rest) e (omega arith)
   live ls (If type body rest) (Some h) labels more behind n e =
       let d = labelled c ls in
       let s = shape d type in
-      let within = inside d s.results in
       let next = after_if s (Some h) in
       let first : Place = Some (h - 1 + 0) in
       let below : first ≡ Some (h - 1) = let m : h - 1 + 0 ≡ h - 1 = omega arith in ap (λ (m : ℕ). Some m) m in
       let inner : List Label = label (h - 1 - length s.params) (length s.results) 0 ∷ labels in
-      let wanted = length (shape c type).results in
-      let own : length s.results ≡ wanted = ap (λ (x : _). length x.results) (shape_labelled c ls type) in
-      let one = opening wanted 6 n in
-      let inside_words = size w within inner first body in
-      let there : inside_words ≡ size w within inner (Some (h - 1)) body = ap (λ (r : Place). size w within inner r body) below in
-      let two = with_words n (n.words + 6 + inside_words + 0) in
-      live (s.results ∷ ls) body first inner (token.End ∷ spelled rest more) (end_of within body first ∷ places d rest next behind) one (inner_takes ls labels (h - 1 - length s.params) wanted (length s.results) n.takes own e)
-      ∙ live ls rest next labels more behind two e
-      ∙ ap (after more behind) (let same : n.words + 6 + inside_words + 0 + size w d labels next rest ≡ n.words + (6 + size w within inner (Some (h - 1)) body + size w d labels next rest) = omega (arith, there) in ap (with_words n) same)
+      let there = ap (λ (r : Place). size w (inside d s.results) inner r body) (sym below) in
+      live_closed ls s.results body rest first next (h - 1 - length s.params) (length (shape c type).results) 6 (ap (λ (x : _). length x.results) (shape_labelled c ls type))
+      (live (s.results ∷ ls) body first) (live ls rest next) labels more behind n _ e (ap (λ (k : ℕ). 6 + k + size w d labels next rest) there)
   live ls (IfElse type body other rest) (Some h) labels more behind n e =
       let d = labelled c ls in
       let s = shape d type in
@@ -163,19 +155,18 @@ module _ (w : EmitContext) (c : Context) where
       let one = opening wanted 6 n in
       let first_words = size w within inner first body in
       let jump = length (over end 0 0) in
-      let two : WordCount = record { takes = one.takes; words = n.words + 6 + first_words + jump } in
       let other_words = size w within inner first other in
-      let three = with_words n (n.words + 6 + first_words + jump + other_words + 0) in
+      let rest_words = size w d labels next rest in
       let first_there : first_words ≡ size w within inner (Some (h - 1)) body = ap (λ (r : Place). size w within inner r body) below in
       let other_there : other_words ≡ size w within inner (Some (h - 1)) other = ap (λ (r : Place). size w within inner r other) below in
       let jump_there : jump ≡ length (over (end_of within body (Some (h - 1))) 0 0) = ap (λ (r : Place). length (over (end_of within body r) 0 0)) below in
       let last : List Token = token.End ∷ spelled rest more in
       let last_places = end_of within other first ∷ places d rest next behind in
       live (s.results ∷ ls) body first inner (token.Else ∷ spelled other last) (end ∷ places within other first last_places) one fits
-      ∙ live (s.results ∷ ls) other first inner last last_places two fits
-      ∙ live ls rest next labels more behind three e
+      ∙ live_closed ls s.results other rest first next (h - 1 - length s.params) wanted jump own (live (s.results ∷ ls) other first) (live ls rest next) labels more behind
+      (with_words n (n.words + 6 + first_words)) (jump + other_words + rest_words) e refl
       ∙ ap (after more behind)
-      (let same : n.words + 6 + first_words + jump + other_words + 0 + size w d labels next rest ≡ n.words + (6 + size w within inner (Some (h - 1)) body + length (over (end_of within body (Some (h - 1))) 0 0) + size w within inner (Some (h - 1)) other + size w d labels next rest) = omega (arith, first_there, other_there, jump_there) in
+      (let same : n.words + 6 + first_words + (jump + other_words + rest_words) ≡ n.words + (6 + size w within inner (Some (h - 1)) body + length (over (end_of within body (Some (h - 1))) 0 0) + size w within inner (Some (h - 1)) other + rest_words) = omega (arith, first_there, other_there, jump_there) in
       ap (with_words n) same)
 
   -- ---- a body
