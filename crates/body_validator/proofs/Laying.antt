@@ -310,22 +310,36 @@ floor_below (s ∷ lists) n h = h.0
 pub floor_within : (o : Operands) → IsKept o → floor_of (reverse (spreads o.lists)) ≤ length o.singles.items
 floor_within o k = floor_below (reverse (spreads o.lists)) (length o.singles.items) k.stacked
 
+-- so the topmost of some is gone, or has so many types
+abbrev IsLeft : ℕ → Spread → List Spread → List Spread → Type 0
+IsLeft left s rest new =
+    ((left ≡ 0) × (new ≡ rest)) ⊎ ((0 < left) × ((t : Spread) × (new ≡ t ∷ rest) × (t.types.now ≡ take left s.types.now) × (t.below ≡ s.below)))
+
+short_now : (left : ℕ) (s : Spread) (rest new : List Spread) → IsShort left (s ∷ rest) new → IsLeft left s rest new
+short_now left s rest new w = by_case w.now
+  where
+    tops : w.top ≡ s
+    tops = let f = w.is in cc
+
+    rests : w.rest ≡ rest
+    rests = let f = w.is in cc
+
+    by_case : IsLeft left w.top w.rest new → IsLeft left s rest new
+    by_case (inl f) = inl (f.0, f.1 ∙ rests)
+    by_case (inr f) =
+        let t = f.1.0 in
+        inr (f.0, (t, f.1.1 ∙ ap (λ (x : List Spread). t ∷ x) rests, f.1.2 ∙ ap (λ (x : Spread). take left x.types.now) tops, f.1.3 ∙ ap (λ (x : Spread). x.below) tops))
+
 -- the last types of the topmost list are single operands above it
 lowered : (s : Spread) (rest new : List Spread) (singles after : List Operand) (left : ℕ) → AreStacked (s ∷ rest) (length singles)
     → after ≡ take s.below singles ++ (map Some (drop left s.types.now) ++ drop s.below singles) → IsShort left (s ∷ rest) new → laid_out new after ≡ laid_out (s ∷ rest) singles
-lowered s rest new singles after left h e w = subst (λ (x : List Operand). laid_out new x ≡ laid_out (s ∷ rest) singles) (sym e) (by_case w.now)
+lowered s rest new singles after left h e w = subst (λ (x : List Operand). laid_out new x ≡ laid_out (s ∷ rest) singles) (sym e) (by_case (short_now left s rest new w))
   where
     b : ℕ
     b = s.below
 
     types : List Operand
     types = map Some (drop left s.types.now) ++ drop b singles
-
-    tops : w.top ≡ s
-    tops = let f = w.is in cc
-
-    rests : w.rest ≡ rest
-    rests = let f = w.is in cc
 
     long : length (take b singles) ≡ b
     long = length-take-le b singles h.0
@@ -336,19 +350,19 @@ lowered s rest new singles after left h e w = subst (λ (x : List Operand). laid
     back : drop b (take b singles ++ types) ≡ types
     back = drop_at (take b singles) types b long
 
-    by_case : ((left ≡ 0) × (new ≡ w.rest)) ⊎ ((0 < left) × ((t : Spread) × (new ≡ t ∷ w.rest) × (t.types.now ≡ take left w.top.types.now) × (t.below ≡ w.top.below)))
+    by_case : IsLeft left s rest new
         → laid_out new (take b singles ++ types) ≡ laid_out (s ∷ rest) singles
     by_case (inl f) =
-        ap (λ (x : List Spread). laid_out x (take b singles ++ types)) (f.1 ∙ rests)
+        ap (λ (x : List Spread). laid_out x (take b singles ++ types)) f.1
         ∙ split rest (take b singles ++ types) b (floor_below rest b h.1)
         ∙ ap (λ (x : List Operand). laid_out rest x ++ drop b (take b singles ++ types)) front
         ∙ ap (λ (x : List Operand). laid_out rest (take b singles) ++ x) back
         ∙ ap (λ (n : ℕ). laid_out rest (take b singles) ++ (map Some (drop n s.types.now) ++ drop b singles)) f.0
     by_case (inr f) =
         let t = f.1.0 in
-        let at : t.below ≡ b = f.1.3 ∙ ap (λ (x : Spread). x.below) tops in
-        let its : map Some t.types.now ≡ map Some (take left s.types.now) = ap (λ (x : Types). map Some x) (f.1.2 ∙ ap (λ (x : Spread). take left x.types.now) tops) in
-        ap (λ (x : List Spread). laid_out x (take b singles ++ types)) (f.1.1 ∙ ap (λ (x : List Spread). t ∷ x) rests)
+        let at : t.below ≡ b = f.1.3 in
+        let its : map Some t.types.now ≡ map Some (take left s.types.now) = ap (λ (x : Types). map Some x) f.1.2 in
+        ap (λ (x : List Spread). laid_out x (take b singles ++ types)) f.1.1
         ∙ ap (λ (n : ℕ). laid_out rest (take n (take b singles ++ types)) ++ (map Some t.types.now ++ drop n (take b singles ++ types))) at
         ∙ ap (λ (x : List Operand). laid_out rest x ++ (map Some t.types.now ++ drop b (take b singles ++ types))) front
         ∙ ap (λ (x : List Operand). laid_out rest (take b singles) ++ (map Some t.types.now ++ x)) back
@@ -360,7 +374,7 @@ lowered s rest new singles after left h e w = subst (λ (x : List Operand). laid
 cut_short : (s : Spread) (rest new : List Spread) (singles : List Operand) (left height : ℕ) → AreStacked (s ∷ rest) (length singles) → left ≤ length s.types.now
     → (left ≡ 0 → height ≤ s.below + total rest) → (0 < left → height ≡ s.below + total rest + left) → IsShort left (s ∷ rest) new
     → take height (laid_out new (take s.below singles)) ≡ take height (laid_out (s ∷ rest) singles)
-cut_short s rest new singles left height h few none some w = by_case w.now
+cut_short s rest new singles left height h few none some w = by_case (short_now left s rest new w)
   where
     b : ℕ
     b = s.below
@@ -368,35 +382,29 @@ cut_short s rest new singles left height h few none some w = by_case w.now
     low : List Operand
     low = laid_out rest (take b singles)
 
-    tops : w.top ≡ s
-    tops = let f = w.is in cc
-
-    rests : w.rest ≡ rest
-    rests = let f = w.is in cc
-
     long : length low ≡ total rest + b
     long = length-under rest singles b h.0
 
     over : length (take b singles) ≡ b
     over = length-take-le b singles h.0
 
-    by_case : ((left ≡ 0) × (new ≡ w.rest)) ⊎ ((0 < left) × ((t : Spread) × (new ≡ t ∷ w.rest) × (t.types.now ≡ take left w.top.types.now) × (t.below ≡ w.top.below)))
+    by_case : IsLeft left s rest new
         → take height (laid_out new (take b singles)) ≡ take height (laid_out (s ∷ rest) singles)
     by_case (inl f) =
-        ap (λ (x : List Spread). take height (laid_out x (take b singles))) (f.1 ∙ rests)
+        ap (λ (x : List Spread). take height (laid_out x (take b singles))) f.1
         ∙ sym (take-append-le height low (map Some s.types.now ++ drop b singles) (omega (arith, long, none f.0)))
     by_case (inr f) =
         let t = f.1.0 in
         let first = map Some (take left s.types.now) in
         let last = map Some (drop left s.types.now) in
-        let at : t.below ≡ b = f.1.3 ∙ ap (λ (x : Spread). x.below) tops in
-        let its : map Some t.types.now ≡ first = ap (λ (x : Types). map Some x) (f.1.2 ∙ ap (λ (x : Spread). take left x.types.now) tops) in
+        let at : t.below ≡ b = f.1.3 in
+        let its : map Some t.types.now ≡ first = ap (λ (x : Types). map Some x) f.1.2 in
         let end : drop b (take b singles) ≡ [] = drop_all b (take b singles) (omega (arith, over)) in
         let all : map Some s.types.now ++ drop b singles ≡ first ++ (last ++ drop b singles) =
         ap (λ (x : Types). map Some x ++ drop b singles) (sym (take-append-drop left s.types.now))
         ∙ ap (λ (x : List Operand). x ++ drop b singles) (map-append Some (take left s.types.now) (drop left s.types.now)) ∙ append_assoc first last (drop b singles) in
         let size : length (low ++ first) ≡ height = omega (arith, length-append low first, long, some f.0, length-map (take left s.types.now) (λ (t : ValType). Some t), length-take-le left s.types.now few) in
-        ap (λ (x : List Spread). take height (laid_out x (take b singles))) (f.1.1 ∙ ap (λ (x : List Spread). t ∷ x) rests)
+        ap (λ (x : List Spread). take height (laid_out x (take b singles))) f.1.1
         ∙ ap (λ (n : ℕ). take height (laid_out rest (take n (take b singles)) ++ (map Some t.types.now ++ drop n (take b singles)))) at
         ∙ ap (λ (x : List Operand). take height (laid_out rest x ++ (map Some t.types.now ++ drop b (take b singles)))) (take-take b b singles (omega arith))
         ∙ ap (λ (x : List Operand). take height (low ++ (map Some t.types.now ++ x))) end
@@ -513,34 +521,22 @@ stacked_in : (all rest : List Spread) (s : Spread) (n : ℕ) → all ≡ s ∷ r
 stacked_in all rest s n e h = subst (λ (x : List Spread). AreStacked x n) e h
 
 total_short : (s : Spread) (rest new : List Spread) (left : ℕ) → left ≤ length s.types.now → IsShort left (s ∷ rest) new → total new ≡ total rest + left
-total_short s rest new left few w = by_case w.now
+total_short s rest new left few w = by_case (short_now left s rest new w)
   where
-    tops : w.top ≡ s
-    tops = let f = w.is in cc
-
-    rests : w.rest ≡ rest
-    rests = let f = w.is in cc
-
-    by_case : ((left ≡ 0) × (new ≡ w.rest)) ⊎ ((0 < left) × ((t : Spread) × (new ≡ t ∷ w.rest) × (t.types.now ≡ take left w.top.types.now) × (t.below ≡ w.top.below))) → total new ≡ total rest + left
-    by_case (inl f) = omega (arith, ap total (f.1 ∙ rests), f.0)
+    by_case : IsLeft left s rest new → total new ≡ total rest + left
+    by_case (inl f) = omega (arith, ap total f.1, f.0)
     by_case (inr f) =
-        omega (arith, ap total (f.1.1 ∙ ap (λ (x : List Spread). f.1.0 ∷ x) rests), ap length (f.1.2 ∙ ap (λ (x : Spread). take left x.types.now) tops), length-take-le left s.types.now few)
+        omega (arith, ap total f.1.1, ap length f.1.2, length-take-le left s.types.now few)
 
 stacked_short : (s : Spread) (rest new : List Spread) (left m n : ℕ) → AreStacked (s ∷ rest) m → s.below ≤ n → IsShort left (s ∷ rest) new → AreStacked new n
-stacked_short s rest new left m n h g w = by_case w.now
+stacked_short s rest new left m n h g w = by_case (short_now left s rest new w)
   where
-    tops : w.top ≡ s
-    tops = let f = w.is in cc
-
-    rests : w.rest ≡ rest
-    rests = let f = w.is in cc
-
-    by_case : ((left ≡ 0) × (new ≡ w.rest)) ⊎ ((0 < left) × ((t : Spread) × (new ≡ t ∷ w.rest) × (t.types.now ≡ take left w.top.types.now) × (t.below ≡ w.top.below))) → AreStacked new n
+    by_case : IsLeft left s rest new → AreStacked new n
     by_case (inl f) =
-        subst (λ (x : List Spread). AreStacked x n) (sym (f.1 ∙ rests)) (stacked_at rest s.below n h.1 (omega (arith, floor_below rest s.below h.1)))
+        subst (λ (x : List Spread). AreStacked x n) (sym f.1) (stacked_at rest s.below n h.1 (omega (arith, floor_below rest s.below h.1)))
     by_case (inr f) =
-        let at : f.1.0.below ≡ s.below = f.1.3 ∙ ap (λ (x : Spread). x.below) tops in
-        subst (λ (x : List Spread). AreStacked x n) (sym (f.1.1 ∙ ap (λ (x : List Spread). f.1.0 ∷ x) rests)) (omega (arith, at), subst (λ (k : ℕ). AreStacked rest k) (sym at) h.1)
+        let at : f.1.0.below ≡ s.below = f.1.3 in
+        subst (λ (x : List Spread). AreStacked x n) (sym f.1.1) (omega (arith, at), subst (λ (k : ℕ). AreStacked rest k) (sym at) h.1)
 
 pub total_at : (all : List Spread) (s : Spread) (t : Topmost all s) → total all ≡ length s.types.now + total t.rest
 total_at all s t = ap total t.is
