@@ -1,6 +1,6 @@
 //! What several modules come to.
 
-ghost use Rattle.std.specs.Prelude.{◌≡◌, ◌<◌, ◌^◌, ◌-◌, ℕ, List, true, false, length, nat_lt, IfOk};
+ghost use Rattle.std.specs.Prelude.{◌≡◌, ◌<◌, ◌^◌, ◌-◌, ℕ, Bool, List, true, false, length, nat_lt, IfOk};
 ghost use Rattle.io_edges.specs.Streams.{TookFront};
 ghost use Rattle.many_streams.specs.Many.{AreEach, ComesToMany, AnswersMany, ChecksMany, view};
 ghost use Rattle.many_streams.specs.Members.{IsJudged, IsEach, IsEachChecked};
@@ -15,26 +15,55 @@ use std::alloc::{AllocError, Global};
 use std::sync::Wait;
 use std::thread::Threads;
 
-/// What compiling each module came to.
-fn answers(alloc: Global, members: Vec<Member>) -> Result<Vec<Each>, AllocError>
-    requires { (list : List (List ℕ)) × AreEach (IsJudged true) list members.items }
-    ensures { IfOk result (λ v. (list : List (List ℕ)) → AreEach (IsJudged true) list members.items → AreEach IsEach list v.items) }
-{
-    let mut each = Vec::new(alloc);
-    for member in members {
-        each.push(member.into_each())?;
-    }
-    Ok(each)
+/// What a module that has ended comes to.
+trait Comes: Drop {
+    /// Whether its codes are kept.
+    ghost KEEPS: { Bool };
+
+    /// What the bytes of a module come to.
+    ghost comes: { List ℕ → Self → Type 0 };
+
+    /// Whether its codes are kept.
+    const KEEPS: bool;
+
+    /// What a module came to.
+    fn of(member: Member) -> Self
+        requires { (came : List ℕ) × IsJudged KEEPS came member }
+        ensures { (came : List ℕ) → IsJudged KEEPS came member → comes came result };
 }
 
-/// What validating each module came to.
-fn verdicts(alloc: Global, members: Vec<Member>) -> Result<Vec<EachChecked>, AllocError>
-    requires { (list : List (List ℕ)) × AreEach (IsJudged false) list members.items }
-    ensures { IfOk result (λ v. (list : List (List ℕ)) → AreEach (IsJudged false) list members.items → AreEach IsEachChecked list v.items) }
+impl Comes for Each {
+    ghost KEEPS = { true };
+
+    ghost comes = { IsEach };
+
+    const KEEPS: bool = true;
+
+    fn of(member: Member) -> Each {
+        member.into_each()
+    }
+}
+
+impl Comes for EachChecked {
+    ghost KEEPS = { false };
+
+    ghost comes = { IsEachChecked };
+
+    const KEEPS: bool = false;
+
+    fn of(member: Member) -> EachChecked {
+        member.into_checked()
+    }
+}
+
+/// What each module came to.
+fn each_of<E: Comes>(alloc: Global, members: Vec<Member>) -> Result<Vec<E>, AllocError>
+    requires { (list : List (List ℕ)) × AreEach (IsJudged E.KEEPS) list members.items }
+    ensures { IfOk result (λ v. (list : List (List ℕ)) → AreEach (IsJudged E.KEEPS) list members.items → AreEach E.comes list v.items) }
 {
     let mut each = Vec::new(alloc);
     for member in members {
-        each.push(member.into_checked())?;
+        each.push(E::of(member))?;
     }
     Ok(each)
 }
@@ -63,6 +92,28 @@ fn judge_many<R: Threads + Wait + Sync, S: Source, G: Gate>(
     }
 }
 
+/// What each of the modules comes to whose bytes the source gives in frames.
+fn come_to<R: Threads + Wait + Sync, S: Source, G: Gate, E: Comes>(
+    rt: &R,
+    alloc: Global,
+    source: &mut S,
+    gate: &G,
+    settings: Settings,
+) -> Result<Vec<E>, ManyStop>
+    requires faults { S.faults source.old < 2 ^ 64 - 1 }
+    requires open { S.is_open source.old ≡ true }
+    ensures answer { ComesToMany E.comes (nat_lt (S.faults source.old) (S.faults source.new)) (S.left source.old) (S.left source.new) (view result) }
+    ensures front { TookFront (S.left source.old) (S.faults source.old) (S.left source.new) (S.faults source.new) }
+{
+    match judge_many(rt, alloc, source, gate, settings, E::KEEPS) {
+        Ok(members) => match each_of(alloc, members) {
+            Ok(each) => Ok(each),
+            Err(_) => Err(ManyStop::NoMemory),
+        },
+        Err(stop) => Err(stop),
+    }
+}
+
 /// Compiles the modules whose bytes the source gives in frames, each by itself: its one image, or its error of least offset. The input is
 /// read to its end, to the source's error, or to where it is no frames.
 ///
@@ -80,13 +131,7 @@ pub fn many<R: Threads + Wait + Sync, S: Source, G: Gate>(
     ensures answer { AnswersMany (nat_lt (S.faults source.old) (S.faults source.new)) (S.left source.old) (S.left source.new) (view result) }
     ensures front { TookFront (S.left source.old) (S.faults source.old) (S.left source.new) (S.faults source.new) }
 {
-    match judge_many(rt, alloc, source, gate, settings, true) {
-        Ok(members) => match answers(alloc, members) {
-            Ok(each) => Ok(each),
-            Err(_) => Err(ManyStop::NoMemory),
-        },
-        Err(stop) => Err(stop),
-    }
+    come_to(rt, alloc, source, gate, settings)
 }
 
 /// Validates the modules whose bytes the source gives in frames, each by itself: how many functions it declares and how many bytes it
@@ -106,11 +151,5 @@ pub fn check_many<R: Threads + Wait + Sync, S: Source, G: Gate>(
     ensures answer { ChecksMany (nat_lt (S.faults source.old) (S.faults source.new)) (S.left source.old) (S.left source.new) (view result) }
     ensures front { TookFront (S.left source.old) (S.faults source.old) (S.left source.new) (S.faults source.new) }
 {
-    match judge_many(rt, alloc, source, gate, settings, false) {
-        Ok(members) => match verdicts(alloc, members) {
-            Ok(each) => Ok(each),
-            Err(_) => Err(ManyStop::NoMemory),
-        },
-        Err(stop) => Err(stop),
-    }
+    come_to(rt, alloc, source, gate, settings)
 }

@@ -1,13 +1,13 @@
-use Rattle.std.proofs.Common.{◌≡◌, ℕ, List, true, length}
+use Rattle.std.proofs.Common.{◌≡◌, ℕ, List, length}
 use Rattle.std.specs.Vec.Iter.{into_iter_items, into_iter_len}
-use Rattle.many_streams.specs.Members.{IsJudged, IsEach}
+use Rattle.many_streams.specs.Members.{IsJudged}
 use Rattle.many_streams.specs.Many.{AreEach}
 use Rattle.many_streams.proofs.Crowds.{AreAfter, AreSome}
-use Rattle.many_streams.proofs.several.answers.Given as goal
+use Rattle.many_streams.proofs.several.each_of.Given as goal
 
 abbrev pub invariant-loop-member : goal.invariant-loop-member
-invariant-loop-member l = record {
+invariant-loop-member g l = record {
   after : AreAfter l.fn.members.items (into_iter_items l.member-iterator) (length l.each.items);
-  some : (list : List (List ℕ)) → AreEach (IsJudged true) list l.fn.members.items → AreSome IsEach list l.each.items;
+  some : (list : List (List ℕ)) → AreEach (IsJudged g.E.Comes.KEEPS) list l.fn.members.items → AreSome g.E.Comes.comes list l.each.items;
   few : length (into_iter_items l.member-iterator) ≡ into_iter_len l.member-iterator;
 }
