@@ -206,16 +206,21 @@ fn name_of(row: &str) -> &str {
     row.split(';').next().unwrap_or("")
 }
 
+/// Fails where a row has other words than it is to have.
+fn expect_words(alloc: Global, row: &str, words: &WordBuffer, want: &str) -> Result<(), Fail> {
+    let told = text_of(alloc, words.as_slice())?;
+    if told.trim_end() == want {
+        return Ok(());
+    }
+    Err(Fail::new(format!(in alloc; "{row}: {told}")?))
+}
+
 #[test]
 fn operations_have_their_words(rt: HostRuntime) -> Result<(), Fail> {
     for line in OPERATIONS.lines() {
         let (row, want) = parts_of(line);
         let words = operation_of(rt.alloc(), row)?;
-        assert_eq!(rt;
-            text_of(rt.alloc(), words.as_slice())?.trim_end(),
-            want,
-            "{row}"
-        );
+        expect_words(rt.alloc(), row, &words, want)?;
     }
     Ok(())
 }
@@ -235,11 +240,7 @@ fn accesses_have_their_words(rt: HostRuntime) -> Result<(), Fail> {
     for line in ACCESSES.lines() {
         let (row, want) = parts_of(line);
         let words = access_of(rt.alloc(), row)?;
-        assert_eq!(rt;
-            text_of(rt.alloc(), words.as_slice())?.trim_end(),
-            want,
-            "{row}"
-        );
+        expect_words(rt.alloc(), row, &words, want)?;
     }
     Ok(())
 }
@@ -249,11 +250,7 @@ fn variables_have_their_words(rt: HostRuntime) -> Result<(), Fail> {
     for line in VARIABLES.lines() {
         let (row, want) = parts_of(line);
         let words = variable(rt.alloc(), name_of(row))?;
-        assert_eq!(rt;
-            text_of(rt.alloc(), words.as_slice())?.trim_end(),
-            want,
-            "{row}"
-        );
+        expect_words(rt.alloc(), row, &words, want)?;
     }
     Ok(())
 }
@@ -263,11 +260,7 @@ fn calls_have_their_words(rt: HostRuntime) -> Result<(), Fail> {
     for line in CALLS.lines() {
         let (row, want) = parts_of(line);
         let words = calling(rt.alloc(), name_of(row))?;
-        assert_eq!(rt;
-            text_of(rt.alloc(), words.as_slice())?.trim_end(),
-            want,
-            "{row}"
-        );
+        expect_words(rt.alloc(), row, &words, want)?;
     }
     Ok(())
 }
