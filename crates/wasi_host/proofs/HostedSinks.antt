@@ -18,6 +18,20 @@ use Rattle.wasi_host.specs.Hosted.{HostsRun, code_of_end, outcome_of}
 use Rattle.wasi_host.specs.Sinks.{Answers}
 use Rattle.wasi_host.proofs.HostedRuns.{Whole, agree, broken, still_of, whole, whole_hosts}
 
+-- What a run came to whose host prints to this sink, from one state of the host to another.
+pub record Came (O : Type 0) (written_of : O → Option (List ℕ)) (faults_of : O → ℕ) (image : Image) (e : Export) (arguments : List Value) (n : ℕ)
+    (from to : WasiHost O) (outcome : Outcome) (memory : List ℕ) (results : List Value) : Type 0 where
+  -- the host still holds the sink
+  pub still : to.out.ghost_name ≡ from.out.ghost_name
+  -- proc_exit was called exactly where the host stopped the run
+  pub exits_agree : has_unknown_import image.imports ≡ false → to.is_open ≡ true → (outcome ≡ HostStopped → IsSome to.exit) × (IsSome to.exit → outcome ≡ HostStopped)
+  -- the sink took all
+  pub hosts : to.is_open ≡ true → (end : RunEnd) → outcome_of end ≡ outcome → code_of_end end ≡ to.exit
+      → HostsRun (Some end) image.imports (λ rs. run_of_export image e arguments rs n) memory results (written_of from.out.now) (written_of to.out.now) × (faults_of to.out.now ≡ faults_of from.out.now)
+  -- the sink failed
+  pub fails : to.is_open ≡ false
+      → HostsRun None image.imports (λ rs. run_of_export image e arguments rs n) memory results (written_of from.out.now) (written_of to.out.now) × Rose (faults_of from.out.now) (faults_of to.out.now)
+
 module _ (O : Type 0) (written_of : O → Option (List ℕ)) (faults_of : O → ℕ) (image : Image) where
   abbrev pub Rel : WasiHost O → HostCall → Reply → WasiHost O → Type 0
   Rel from call reply to =
@@ -51,30 +65,20 @@ module _ (O : Type 0) (written_of : O → Option (List ℕ)) (faults_of : O → 
         whole (WasiHost O) Rel image.imports (IsOver from.out.ghost_name) (λ x. x.is_open) (λ x. written_of x.out.now) (λ x. faults_of x.out.now) (λ x. x.exit) (says from.out.ghost_name) image e arguments n from to (of, refl) open_now fresh
         outcome memory results h
 
-    -- the sink took all
-    pub hosts : to.is_open ≡ true → (end : RunEnd) → outcome_of end ≡ outcome → code_of_end end ≡ to.exit
-        → HostsRun (Some end) image.imports (λ rs. run_of_export image e arguments rs n) memory results (written_of from.out.now) (written_of to.out.now) × (faults_of to.out.now ≡ faults_of from.out.now)
-    hosts is end same code = (
-      whole_hosts (WasiHost O) Rel image.imports (IsOver from.out.ghost_name) (λ x. x.is_open) (λ x. written_of x.out.now) (λ x. faults_of x.out.now) (λ x. x.exit) (says from.out.ghost_name) image e arguments n from to (of, refl) open_now fresh
-          outcome memory results h (is_whole is) end same code,
-      (is_whole is).faults_are,
-    )
-
-    -- proc_exit was called exactly where the host stopped the run
-    pub exits_agree : has_unknown_import image.imports ≡ false → to.is_open ≡ true → (outcome ≡ HostStopped → IsSome to.exit) × (IsSome to.exit → outcome ≡ HostStopped)
-    exits_agree known is =
-        agree (WasiHost O) Rel image.imports (IsOver from.out.ghost_name) (λ x. x.is_open) (λ x. written_of x.out.now) (λ x. faults_of x.out.now) (λ x. x.exit) (says from.out.ghost_name) image e arguments n from to (of, refl) open_now fresh
-        outcome memory results h refl known (is_whole is)
-
-    -- the sink failed
-    pub fails : to.is_open ≡ false
-        → HostsRun None image.imports (λ rs. run_of_export image e arguments rs n) memory results (written_of from.out.now) (written_of to.out.now) × Rose (faults_of from.out.now) (faults_of to.out.now)
-    fails =
-        broken (WasiHost O) Rel image.imports (IsOver from.out.ghost_name) (λ x. x.is_open) (λ x. written_of x.out.now) (λ x. faults_of x.out.now) (λ x. x.exit) (says from.out.ghost_name) image e arguments n from to (of, refl) open_now fresh
-        outcome memory results h
-
-    -- the host still holds the sink
-    pub still : to.out.ghost_name ≡ from.out.ghost_name
-    still =
-        (still_of (WasiHost O) Rel image.imports (IsOver from.out.ghost_name) (λ x. x.is_open) (λ x. written_of x.out.now) (λ x. faults_of x.out.now) (λ x. x.exit) (says from.out.ghost_name) image e arguments n from to (of, refl) open_now fresh
-        outcome memory results h).1
+    pub came : Came O written_of faults_of image e arguments n from to outcome memory results
+    came = record {
+      still =
+          (still_of (WasiHost O) Rel image.imports (IsOver from.out.ghost_name) (λ x. x.is_open) (λ x. written_of x.out.now) (λ x. faults_of x.out.now) (λ x. x.exit) (says from.out.ghost_name) image e arguments n from to (of, refl) open_now fresh
+          outcome memory results h).1;
+      exits_agree = λ known is.
+          agree (WasiHost O) Rel image.imports (IsOver from.out.ghost_name) (λ x. x.is_open) (λ x. written_of x.out.now) (λ x. faults_of x.out.now) (λ x. x.exit) (says from.out.ghost_name) image e arguments n from to (of, refl) open_now fresh
+          outcome memory results h refl known (is_whole is);
+      hosts = λ is end same code. (
+        whole_hosts (WasiHost O) Rel image.imports (IsOver from.out.ghost_name) (λ x. x.is_open) (λ x. written_of x.out.now) (λ x. faults_of x.out.now) (λ x. x.exit) (says from.out.ghost_name) image e arguments n from to (of, refl) open_now fresh
+            outcome memory results h (is_whole is) end same code,
+        (is_whole is).faults_are,
+      );
+      fails =
+          broken (WasiHost O) Rel image.imports (IsOver from.out.ghost_name) (λ x. x.is_open) (λ x. written_of x.out.now) (λ x. faults_of x.out.now) (λ x. x.exit) (says from.out.ghost_name) image e arguments n from to (of, refl) open_now fresh
+          outcome memory results h;
+    }
