@@ -15,7 +15,7 @@ use Rattle.index_spaces.specs.Spaces.{Spaces, context_in}
 use Rattle.image_linker.specs.ImageOf.{front_of, segment_words, joined, version_for}
 use Rattle.image_linker.specs.Linking.{words_from, front_words, global_words, named_segments, starts_of, has_room, linked, linked_rows, linked_segments, linked_import, linked_export, linked_start, linked_traps}
 
-abbrev image_by : Version → List ℕ → List ℕ → List Row → ℕ → ℕ → List Segment → List Import → List Export → ℕ → Bool → List TrapPlace → List ℕ → Image
+abbrev pub image_by : Version → List ℕ → List ℕ → List Row → ℕ → ℕ → List Segment → List Import → List Export → ℕ → Bool → List TrapPlace → List ℕ → Image
 image_by version text globals table pages cap segments imports exports start unlinkable traps passive =
     record { version = version; text = text; globals = globals; table = table; pages = pages; cap = cap; segments = segments; imports = imports; exports = exports; start = start; unlinkable = unlinkable; places = traps; passive = passive }
 
