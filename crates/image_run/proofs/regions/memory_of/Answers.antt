@@ -3,7 +3,7 @@ use Rattle.std.proofs.Math.ListN.{drop_of_length-le}
 use Rattle.std.proofs.Math.Seq.{take-nil}
 use Rattle.std.specs.Prelude.{replicate}
 use Rattle.image_run.specs.States.{zeros}
-use Rattle.rv64im_machine.specs.Linear.{Linear}
+use Rattle.linear_memory.specs.Linear.{Linear}
 use Rattle.image_run.proofs.MemoryLaws.{placing_begins, placing_ends}
 use Rattle.image_run.proofs.regions.memory_of.Goals as goal
 
