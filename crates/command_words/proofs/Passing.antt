@@ -143,35 +143,29 @@ options_read : (rows : List Row) (w b : ℕ) → option_and_then (number_in 0 64
     → option_and_then (number_in 1 1048576) (one_of (codes "batch") rows) ≡ Some b → (o : Options) × (options_in rows ≡ Some o)
 options_read rows w b is_w is_b = (record { workers = w; batch = b }, ap₂ options_of is_w is_b)
 
+-- of any subcommand with both options
+level_options : (s : Shape) → AllFit (codes "workers") (parser.Unsigned 0 64) s.rules → AllFit (codes "batch") (parser.Unsigned 1 1048576) s.rules → HasNoShort s.rules
+    → list_any (gives_default (codes "workers")) s.rules ≡ true → list_any (gives_default (codes "batch")) s.rules ≡ true
+    → (words : List Text) → Passes s words → (o : Options) × (options_in (rows_of s words) ≡ Some o)
+level_options s workers batch none default_workers default_batch words e =
+    let w = number_read (codes "workers") 0 64 s workers none default_workers words e in
+    let b = number_read (codes "batch") 1 1048576 s batch none default_batch words e in
+    options_read (rows_of s words) w.0 b.0 w.1 b.1
+
 check_read : (words : List Text) → Passes (leaf check) words → (o : Options) × (options_in (rows_of (leaf check) words) ≡ Some o)
-check_read words e =
-    let w = number_read (codes "workers") 0 64 (leaf check) check_workers no_short_check refl words e in
-    let b = number_read (codes "batch") 1 1048576 (leaf check) check_batch no_short_check refl words e in
-    options_read (rows_of (leaf check) words) w.0 b.0 w.1 b.1
+check_read = level_options (leaf check) check_workers check_batch no_short_check refl refl
 
 compile_read : (words : List Text) → Passes (leaf compile) words → (o : Options) × (options_in (rows_of (leaf compile) words) ≡ Some o)
-compile_read words e =
-    let w = number_read (codes "workers") 0 64 (leaf compile) compile_workers no_short_compile refl words e in
-    let b = number_read (codes "batch") 1 1048576 (leaf compile) compile_batch no_short_compile refl words e in
-    options_read (rows_of (leaf compile) words) w.0 b.0 w.1 b.1
+compile_read = level_options (leaf compile) compile_workers compile_batch no_short_compile refl refl
 
 many_read : (words : List Text) → Passes (leaf many) words → (o : Options) × (options_in (rows_of (leaf many) words) ≡ Some o)
-many_read words e =
-    let w = number_read (codes "workers") 0 64 (leaf many) many_workers no_short_many refl words e in
-    let b = number_read (codes "batch") 1 1048576 (leaf many) many_batch no_short_many refl words e in
-    options_read (rows_of (leaf many) words) w.0 b.0 w.1 b.1
+many_read = level_options (leaf many) many_workers many_batch no_short_many refl refl
 
 run_options : (words : List Text) → Passes (leaf run) words → (o : Options) × (options_in (rows_of (leaf run) words) ≡ Some o)
-run_options words e =
-    let w = number_read (codes "workers") 0 64 (leaf run) run_workers no_short_run refl words e in
-    let b = number_read (codes "batch") 1 1048576 (leaf run) run_batch no_short_run refl words e in
-    options_read (rows_of (leaf run) words) w.0 b.0 w.1 b.1
+run_options = level_options (leaf run) run_workers run_batch no_short_run refl refl
 
 drill_options : (words : List Text) → Passes (leaf drill) words → (o : Options) × (options_in (rows_of (leaf drill) words) ≡ Some o)
-drill_options words e =
-    let w = number_read (codes "workers") 0 64 (leaf drill) drill_workers no_short_drill refl words e in
-    let b = number_read (codes "batch") 1 1048576 (leaf drill) drill_batch no_short_drill refl words e in
-    options_read (rows_of (leaf drill) words) w.0 b.0 w.1 b.1
+drill_options = level_options (leaf drill) drill_workers drill_batch no_short_drill refl refl
 
 given_has : (name : Text) (rows : List Row) → is_given name rows ≡ true → has_row name rows ≡ true
 given_has name [] e = absurd (true≢false (sym e))
