@@ -8,3 +8,5 @@ pub mod SizeLaws
 pub mod ValueLaws
 pub mod SoundLaws
 pub mod OffsetLaws
+pub mod ConstantLaws
+pub mod RegionLaws

@@ -9,15 +9,15 @@ use Rattle.rv_isa.specs.declared.operations.RegOpW.TheVariants.{Addw}
 use Rattle.rv_isa.specs.declared.operations.Op.{Op}
 use Rattle.rv_isa.specs.declared.operations.Op.TheVariants.{Lui, Auipc, Jal, Jalr, Branch, Load, Store, Imm, Shift, Addiw, ShiftW, Reg, RegW, Fence, Ecall, Ebreak}
 use Rattle.rv_isa.specs.declared.stepping.Region.{Region}
-use Rattle.rv_isa.specs.declared.stepping.Region.TheVariants.{Stack, Globals, Table, Memory, Passive}
 use Rattle.rv_isa.specs.Words.{IsInRange}
 use Rattle.rv_isa.specs.Values.{plus, i_value, u_value, b_value, j_value, register_form, shift_form, shift_form_w, is_taken, load_width, store_width}
-use Rattle.rv_isa.specs.Steps.{Registers, reg, set_reg, Bytes, State, Stepped, Next, Call, Fault, gives, jump, branch, load, put, le_bytes, region, with_region, value_at, loaded, stored, store, act, code_of, text_base, fetched, at_word, step, Ran, go_on, exec}
+use Rattle.rv_isa.specs.Steps.{Registers, reg, set_reg, Bytes, State, Stepped, Next, Call, Fault, gives, jump, branch, load, put, le_bytes, region, value_at, loaded, stored, store, act, code_of, text_base, fetched, at_word, step, Ran, go_on, exec}
 use Rattle.rv_isa.specs.Runs.{OnStep, OnRan, Loads, Stores, IsWord, AreBytes, IsSound}
 use Rattle.rv_isa.specs.Laws.{StepsStaySound, RunsStaySound}
 use Rattle.rv_isa.proofs.Inverse.{sound}
 use Rattle.rv_isa.proofs.ByteLaws.{AreBytes-put, value_at_small}
 use Rattle.rv_isa.proofs.AccessLaws.{loaded_says, stored_says}
+use Rattle.rv_isa.proofs.RegionLaws.{replaced}
 use Rattle.rv_isa.proofs.ValueLaws.{extended_small, if_small, computed_small, computed_w_small, load_value_small}
 
 -- ---- the parts of a state
@@ -27,33 +27,6 @@ set_small registers zero value h small r = h r
 set_small registers (suc rd) value h small zero = h zero
 set_small registers (suc rd) value h small (suc r) =
     if_small (suc r == suc rd) value (registers (suc r)) (2 ^ 64) small (h (suc r))
-
-with_region_bytes : (b : Bytes) (to : Region) (new : List ℕ) → ((r : Region) → AreBytes (region b r)) → AreBytes new → (r : Region) → AreBytes (region (with_region b to new) r)
-with_region_bytes b Stack new h small Stack = small
-with_region_bytes b Stack new h small Globals = h Globals
-with_region_bytes b Stack new h small Table = h Table
-with_region_bytes b Stack new h small Memory = h Memory
-with_region_bytes b Stack new h small Passive = h Passive
-with_region_bytes b Globals new h small Stack = h Stack
-with_region_bytes b Globals new h small Globals = small
-with_region_bytes b Globals new h small Table = h Table
-with_region_bytes b Globals new h small Memory = h Memory
-with_region_bytes b Globals new h small Passive = h Passive
-with_region_bytes b Table new h small Stack = h Stack
-with_region_bytes b Table new h small Globals = h Globals
-with_region_bytes b Table new h small Table = small
-with_region_bytes b Table new h small Memory = h Memory
-with_region_bytes b Table new h small Passive = h Passive
-with_region_bytes b Memory new h small Stack = h Stack
-with_region_bytes b Memory new h small Globals = h Globals
-with_region_bytes b Memory new h small Table = h Table
-with_region_bytes b Memory new h small Memory = small
-with_region_bytes b Memory new h small Passive = h Passive
-with_region_bytes b Passive new h small Stack = h Stack
-with_region_bytes b Passive new h small Globals = h Globals
-with_region_bytes b Passive new h small Table = h Table
-with_region_bytes b Passive new h small Memory = h Memory
-with_region_bytes b Passive new h small Passive = small
 
 loaded_small : (b : Bytes) (op : LoadOp) (address value : ℕ) → ((r : Region) → AreBytes (region b r)) → loaded b op address ≡ Some value → value < 2 ^ 64
 loaded_small b op address value h e =
@@ -68,7 +41,7 @@ stored_bytes b op address value b' h e r =
     let width = store_width op in
     let new = put width s.at (region b s.to) (le_bytes width value) in
     subst (λ (x : Bytes). AreBytes (region x r)) (sym s.bytes_are) (
-    with_region_bytes b s.to new h (AreBytes-put width s.at value (region b s.to) (h s.to)) r)
+    replaced AreBytes b s.to new h (AreBytes-put width s.at value (region b s.to) (h s.to)) r)
 
 -- ---- an operation whose fields fit, at an address that is followed by another
 
