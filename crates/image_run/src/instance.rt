@@ -56,8 +56,7 @@ impl<'a> Model for Instance<'a> {
 
 impl<'a> Instance<'a> {
     /// How many bytes `load` takes for an image, all of them at once: the regions, its memory up to the cap among them, the text, what
-    /// the machine keeps of the words that it has decoded, and the arguments of an import. What `malloc` adds isn't counted. Where the
-    /// text has more than 65,536 words, 6 MiB more are taken for decoded words than are counted here.
+    /// the machine keeps of the words that it has decoded, and the arguments of an import. What `malloc` adds isn't counted.
     pub fn bytes_wanted(image: &Image) -> u64
         ensures { result ≡ bytes_wanted image.now }
     {

@@ -3,7 +3,7 @@ ghost use Rattle.std.specs.Prelude.{◌≡◌};
 ghost use Rattle.image_run.specs.Sizes.{bytes_wanted};
 
 use crate::layout::{PAGE, STACK_SIZE};
-use decode_cache::Entry;
+use decode_cache::{Entry, cache_entries};
 use image_format::{Image, PARAMS};
 use wasm_defs::Value;
 
@@ -13,10 +13,7 @@ pub const ENTRY_BYTES: u64 = size_of::<Entry>() as u64;
 /// Bytes of an argument of an import.
 pub const VALUE_BYTES: u64 = size_of::<Value>() as u64;
 
-/// How many words a machine keeps decoded of a text that has no more of them; of a longer text it keeps four times as many.
-const ENTRIES: u64 = 0x1_0000;
-
-/// How many bytes loading an image takes, but for what the machine keeps of a text of more than 65,536 words: that is 6 MiB more.
+/// How many bytes loading an image takes.
 pub(crate) fn bytes_wanted(image: &Image) -> u64
     ensures { result ≡ bytes_wanted image.now }
 {
@@ -25,7 +22,9 @@ pub(crate) fn bytes_wanted(image: &Image) -> u64
     let table = 16 * image.table.as_slice().len() as u64;
     let memory = PAGE * u64::from(image.cap);
     let passive = image.passive.as_slice().len() as u64;
-    let text = 4 * image.text.as_slice().len() as u64;
-    let kept = ENTRY_BYTES * ENTRIES + VALUE_BYTES * u64::from(PARAMS);
-    stack + globals + table + memory + passive + text + kept
+    let words = image.text.as_slice().len();
+    let text = 4 * words as u64;
+    let decoded = ENTRY_BYTES * cache_entries(words);
+    let arguments = VALUE_BYTES * u64::from(PARAMS);
+    stack + globals + table + memory + passive + text + decoded + arguments
 }
