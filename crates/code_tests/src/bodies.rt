@@ -26,11 +26,14 @@ a global that is not there; size 2 34; 00 23 00 0B = Invalid at byte 35
 a call by a table that is not there; size 2 34; 00 11 00 00 0B = Invalid at byte 35
 more locals than 50000; size 2 34; 01 D1 86 03 7F 0B = Limit at byte 35
 br_table; number 2 34; 01 01 7F 20 01 20 00 0E 02 00 00 00 20 00 0B = 90 words, 6 slots, number 3023586912
-if, else, unreachable; number 2 34; 01 01 7F 20 00 04 40 05 20 00 21 01 0B 00 20 00 20 01 6A 21 00 20 00 04 40 0B 20 00 0B = 67 words, 5 slots, number 2504998459
-what follows br is unreachable; number 2 34; 01 01 7F 20 01 0C 00 20 01 20 00 0E 03 00 00 00 00 20 01 20 00 0D 00 1A 20 00 0B = 52 words, 5 slots, number 84568908
+if, else, unreachable; number 2 34; 01 01 7F 20 00 04 40 05 20 00 21 01 0B 00 20 00 20 01 6A 21 00 20 00 04 40 0B 20 00 0B = 67 words, 5 slots, \
+    number 2504998459
+what follows br is unreachable; number 2 34; 01 01 7F 20 01 0C 00 20 01 20 00 0E 03 00 00 00 00 20 01 20 00 0D 00 1A 20 00 0B = 52 words, 5 slots, \
+    number 84568908
 br and return; number 2 34; 00 20 00 21 01 20 01 0C 00 20 01 0F 20 00 0B = 49 words, 4 slots, number 1107650567
 unreachable alone; number 2 34; 00 00 00 02 40 20 00 0D 00 0B 20 00 0B = 26 words, 3 slots, number 1351678236
-unreachable ifs; number 2 34; 01 01 7F 20 01 0C 00 20 00 04 40 0C 00 20 00 0E 00 00 0B 20 00 04 40 05 20 01 20 00 0E 00 01 0B 20 01 20 00 0D 00 1A 20 00 0B = 52 words, 5 slots, number 84568908
+unreachable ifs; number 2 34; 01 01 7F 20 01 0C 00 20 00 04 40 0C 00 20 00 0E 00 00 0B 20 00 04 40 05 20 01 20 00 0E 00 01 0B 20 01 20 00 0D 00 1A \
+    20 00 0B = 52 words, 5 slots, number 84568908
 a block, an if and a loop; number 2 34; 00 02 40 20 00 04 40 0B 03 40 0B 20 01 0F 0B 20 01 0C 00 20 00 0B = 63 words, 4 slots, number 3978937987
 br_table and br; number 2 34; 01 01 7F 20 01 20 00 0E 03 00 00 00 00 20 01 0C 00 20 00 20 01 6A 21 00 20 00 0B = 98 words, 6 slots, number 2127988688
 an if with a result whose else ends unreachable; size 1 31; 01 03 7E 20 00 04 7F 41 00 05 00 0B 0B = 63 words, 6 slots
@@ -44,7 +47,8 @@ a load that is cut off; size 1 31; 00 28 = Malformed at byte 32
 a call that lacks its argument; size 1 31; 00 10 00 0B = Invalid at byte 32
 a call of no function; size 1 31; 00 10 01 0B = Invalid at byte 32
 two calls, return, a call that is unreachable; calls 1 34; 00 20 00 10 00 10 00 0F 10 00 0B = 25: 00000097 000080E7 to 0; 39: 00000097 000080E7 to 0;
-div_s, div_u, return, a trap that is unreachable; traps 1 34; 00 20 00 20 00 6D 1A 20 00 20 00 6E 0F 00 0B = 9: 00000073 of 34; 34: 00000073 of 39; 41: 00000073 of 39; 67: 00000073 of 45;";
+div_s, div_u, return, a trap that is unreachable; traps 1 34; 00 20 00 20 00 6D 1A 20 00 20 00 6E 0F 00 0B = 9: 00000073 of 34; 34: 00000073 of 39; \
+    41: 00000073 of 39; 67: 00000073 of 45;";
 
 /// The words of `local.get 0; local.get 1; i32.add; end` in a function with two parameters.
 const SUM: [&str; 6] = [

@@ -7,7 +7,8 @@ use wasm_defs::{Kind, Refusal, Value};
 /// `(module (import "app" "get" (func (param i32) (result i64))) (func (export "twice") (param i32) (result i64)
 /// local.get 0 call 0 i64.const 2 i64.mul))`
 const TWICE: &[u8] =
-    b"\0asm\x01\0\0\0\x01\x06\x01\x60\x01\x7F\x01\x7E\x02\x0B\x01\x03app\x03get\0\0\x03\x02\x01\0\x07\x09\x01\x05twice\0\x01\x0A\x0B\x01\x09\0\x20\0\x10\0\x42\x02\x7E\x0B";
+    b"\0asm\x01\0\0\0\x01\x06\x01\x60\x01\x7F\x01\x7E\x02\x0B\x01\x03app\x03get\0\0\
+      \x03\x02\x01\0\x07\x09\x01\x05twice\0\x01\x0A\x0B\x01\x09\0\x20\0\x10\0\x42\x02\x7E\x0B";
 
 /// The numbers that the host has.
 const NUMBERS: [i64; 2] = [10, 21];

@@ -14,19 +14,23 @@ use wasm_defs::{
 /// of these functions, how many functions there are, how many of them are imported and declared, whether there are a memory, global 0 and
 /// global 1; and what the first of each kind is.
 const TOLD: &str = "\
-types [FuncType { params: Sequence { elements: [I64] }, results: Sequence { elements: [] } }, FuncType { params: Sequence { elements: [] }, results: Sequence { elements: [] } }]
+types [FuncType { params: Sequence { elements: [I64] }, results: Sequence { elements: [] } }, FuncType { params: Sequence { elements: [] }, \
+    results: Sequence { elements: [] } }]
 functions of types [0, 1]
 tables []
 memories [Limits { flag: 50, min: (51, 2), max: None }]
 globals [GlobalType { ty: I64, mutable: true }] from [-7]
 imports [Import { offset: 18, module: Sequence { elements: [101, 110, 118] }, name: Sequence { elements: [108, 111, 103] }, type_index: 0 }]
-exports [Export { name: Sequence { elements: [109, 101, 109] }, kind: Memory, index: 0 }, Export { name: Sequence { elements: [114, 117, 110] }, kind: Function, index: 1 }]
+exports [Export { name: Sequence { elements: [109, 101, 109] }, kind: Memory, index: 0 }, Export { name: Sequence { elements: [114, 117, 110] }, \
+    kind: Function, index: 1 }]
 elements [ElementRow { place: 3, functions: Sequence { elements: [1, 0] } }, ElementRow { place: 4294967295, functions: Sequence { elements: [] } }]
-data [DataRow { place: Some(65535), bytes: Sequence { elements: [97, 98] } }, DataRow { place: Some(4294967295), bytes: Sequence { elements: [] } }, DataRow { place: None, bytes: Sequence { elements: [99] } }]
+data [DataRow { place: Some(65535), bytes: Sequence { elements: [97, 98] } }, DataRow { place: Some(4294967295), bytes: Sequence { elements: [] } \
+    }, DataRow { place: None, bytes: Sequence { elements: [99] } }]
 data count Some(3)
 start Some(1)
 [true, true, false] [true, true, false] [Some(0), Some(1), None] (2, 1, 1) (true, true, false)
-18 FuncType { params: Sequence { elements: [I64] }, results: Sequence { elements: [] } } FuncType { params: Sequence { elements: [I64] }, results: Sequence { elements: [] } } GlobalType { ty: I64, mutable: true } -7
+18 FuncType { params: Sequence { elements: [I64] }, results: Sequence { elements: [] } } FuncType { params: Sequence { elements: [I64] }, results: \
+    Sequence { elements: [] } } GlobalType { ty: I64, mutable: true } -7
 ";
 
 fn types(alloc: Global, types: &[ValType]) -> Result<ValTypes, AllocError>
@@ -170,7 +174,8 @@ fn context_of(alloc: Global) -> Result<Context, AddStop> {
 /// What a context has of each kind, in the order of the indices.
 fn lists_of(alloc: Global, context: &Context) -> Result<String, AllocError> {
     format!(in alloc;
-        "types {:?}\nfunctions of types {:?}\ntables {:?}\nmemories {:?}\nglobals {:?} from {:?}\nimports {:?}\nexports {:?}\nelements {:?}\ndata {:?}\ndata count {:?}\nstart {:?}\n",
+        "types {:?}\nfunctions of types {:?}\ntables {:?}\nmemories {:?}\nglobals {:?} from {:?}\nimports {:?}\n\
+         exports {:?}\nelements {:?}\ndata {:?}\ndata count {:?}\nstart {:?}\n",
         context.types(),
         context.type_indices(),
         context.tables(),
