@@ -20,9 +20,9 @@ use Rattle.body_validator.specs.Checks.{Checked, IsReached}
 use Rattle.frame_layout.specs.Templates.{EmitContext}
 use Rattle.body_compiler.specs.declared.code.BodyStop.{BodyStop}
 use Rattle.body_compiler.specs.declared.code.BodyStop.TheVariants.{Refused, TooLong, NoMemory}
-use Rattle.body_compiler.specs.Counting.{WordCount, word_count, begun_count, after_token, after_tokens, IsCounting, IsCountingOn, HasManyWords, CountsToken, AreCounted, StopsCounting, CountsCode}
+use Rattle.body_compiler.specs.Counting.{going_of, WordCount, word_count, begun_count, after_token, after_tokens, IsCounting, IsCountingOn, HasManyWords, CountsToken, AreCounted, CountsCode}
 use Rattle.body_compiler.specs.Steps.{FunctionsAreSmall}
-use Rattle.body_compiler.specs.Going.{IsGoing, ArePlaced, calling, reading_stop}
+use Rattle.body_compiler.specs.Going.{IsGoing, ArePlaced, calling, reading_stop, StopsReading}
 use Rattle.body_compiler.proofs.Depths.{checker_depth}
 use Rattle.body_compiler.proofs.Counting.{after_both, body_counted, tokens_more}
 use Rattle.body_compiler.proofs.Going.{no_opcode, stop_behind, goes_behind, tokens_behind, is_valid, all_tokens}
@@ -31,13 +31,13 @@ use Rattle.body_compiler.proofs.Walking.{next-place}
 -- ---- no token is read
 
 pub byte_stops : (counted : Bool) (c : Context) (last : ℕ) (cursor : Cursor) (check : Checked) (code : Spelled) (s : Stop) → IsGoing counted c last cursor check code → (check.checker.frames ≡ [] → ⊥) → Stops s (byte cursor)
-    → StopsCounting c code (reading_stop last s)
+    → StopsReading c code (reading_stop last s)
 byte_stops counted c last cursor check code (stop.Refused r) g more h = no_opcode counted c last cursor check code r g more (inl h)
 byte_stops counted c last cursor check code stop.Wants g more h = no_opcode counted c last cursor check code (record { offset = last; kind = Malformed }) g more (inr (h, refl))
 byte_stops counted c last cursor check code stop.NoMemory g more h = tt
 
 pub instruction_stops : (counted : Bool) (c : Context) (last at b : ℕ) (before d : Cursor) (check : Checked) (code : Spelled) (s : Stop) → IsGoing counted c last before check code → byte before ≡ Got (at, b) d → (check.checker.frames ≡ [] → ⊥)
-    → Stops s (instruction counted at b d) → StopsCounting c code (reading_stop last s)
+    → Stops s (instruction counted at b d) → StopsReading c code (reading_stop last s)
 instruction_stops counted c last at b before d check code (stop.Refused r) g h more is =
     stop_behind counted c last at b before d check code (record { params = 0; locals = 0; greatest = 0 }) [] false (calling [] [] [] 0 []) d check (stop.Refused r) g h more is
 instruction_stops counted c last at b before d check code stop.Wants g h more is =
@@ -55,11 +55,6 @@ started counted c last cursor check code front n g none is = record {
   placed = λ more tree spells body. (places_of c tree, refl);
   words = λ w. subst (λ (ts : List (ℕ × Token)). n ≡ after_tokens w c (tokens_of ts) [] (begun_count front (length c.results))) (sym none) is;
 }
-
--- what was read is right, whether or not there are too many words
-abbrev pub going_of : (counted too_long : Bool) (c : Context) (last : ℕ) (cursor : Cursor) (check : Checked) (code : Spelled) (front : ℕ) (n : WordCount) → IsCountingOn counted too_long c last cursor check code front n → IsGoing counted c last cursor check code
-going_of counted true c last cursor check code front n k = k.0
-going_of counted false c last cursor check code front n k = k.going
 
 -- ---- one token more
 
@@ -133,7 +128,7 @@ counted_code counted c last cursor check code front n k none nothing =
           ∙ body_counted w c (ts ++ []) tree front spells,
     )
 
-pub stopped_code : (c : Context) (code : Spelled) (front words : ℕ) (s : BodyStop) → StopsCounting c code s → CountsCode c code front (Err s) words
+pub stopped_code : (c : Context) (code : Spelled) (front words : ℕ) (s : BodyStop) → StopsReading c code s → CountsCode c code front (Err s) words
 stopped_code c code front words (Refused r) h = h
 stopped_code c code front words TooLong h = absurd h
 stopped_code c code front words NoMemory h = tt

@@ -26,7 +26,8 @@ use Rattle.control_emit.proofs.Trees.{ends_of, ends_count}
 use Rattle.body_compiler.specs.Going.{CallingDraft, IsCompiling, IsTaking, IsTooLong}
 use Rattle.body_compiler.specs.Steps.{table_jumps, appended_at, GetsTooLong, HaveSameFunctions, PassesText}
 use Rattle.body_compiler.specs.Unlinked.{IsUnlinked}
-use Rattle.body_compiler.proofs.Going.{going_of, goes_behind, tokens_behind}
+use Rattle.body_compiler.specs.Going.{going_of}
+use Rattle.body_compiler.proofs.Going.{goes_behind, tokens_behind}
 use Rattle.body_compiler.proofs.Walking.{next-place, compiles_behind}
 
 -- ---- a table has its jumps, and one more

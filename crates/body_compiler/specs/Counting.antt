@@ -91,6 +91,11 @@ abbrev pub IsCountingOn : (counted too_long : Bool) → Context → ℕ → Curs
 IsCountingOn counted false c last cursor check code front n = IsCounting counted c last cursor check code front n
 IsCountingOn counted true c last cursor check code front n = IsGoing counted c last cursor check code × HasManyWords c code front
 
+-- what was read is right, whether or not there are too many words
+abbrev pub going_of : (counted too_long : Bool) (c : Context) (last : ℕ) (cursor : Cursor) (check : Checked) (code : Spelled) (front : ℕ) (n : WordCount) → IsCountingOn counted too_long c last cursor check code front n → IsGoing counted c last cursor check code
+going_of counted true c last cursor check code front n k = k.0
+going_of counted false c last cursor check code front n k = k.going
+
 -- a token more: the words are those after it, or there are too many then
 abbrev pub CountsToken : (before after : Bool) → (new then : WordCount) → Type 0
 CountsToken false false new then = new ≡ then
@@ -103,17 +108,6 @@ pub record AreCounted (too_long : Bool) (takes : List ℕ) (check : Checked) : T
   pub count : too_long ≡ false → length takes ≡ length check.checker.frames
   pub unlabelled : check.context.labels ≡ []
   pub functions : FunctionsAreSmall check.context
-
--- why counting stops
-abbrev pub StopsCounting : Context → Spelled → BodyStop → Type 0
-StopsCounting c code (Refused r) = IsCodeFault c code r
-StopsCounting c code TooLong = ⊥
-StopsCounting c code NoMemory = Unit {0}
-
--- a step of it
-abbrev pub GoesOnCounting : (counted : Bool) → Context → ℕ → Spelled → (front : ℕ) → Result (Unit {0}) BodyStop → (too_long : Bool) → Cursor → Checked → WordCount → Type 0
-GoesOnCounting counted c last code front (Ok done) too_long cursor check n = IsCountingOn counted too_long c last cursor check code front n
-GoesOnCounting counted c last code front (Err stop) too_long cursor check n = StopsCounting c code stop
 
 -- the answer: valid code, and its words; or its first error; or valid code that has too many
 abbrev pub CountsCode : Context → Spelled → (front : ℕ) → Result (Unit {0}) BodyStop → (words : ℕ) → Type 0

@@ -15,9 +15,10 @@ ghost use Rattle.body_compiler.specs.Making.{Makes};
 ghost use Rattle.body_compiler.specs.Steps.{FunctionsAreSmall};
 ghost use Rattle.body_compiler.specs.Going.{IsGoing};
 
-use crate::code::{BodyStop, judge_code, stop_of};
+use crate::code::{BodyDraft, BodyStop, judge_code};
 use crate::function_builder::{begin, finish};
 use crate::opened::{OpenedBody, open_body};
+use crate::token_loop::ReadContext;
 use body_validator::Check;
 use frame_layout::Layout;
 use index_spaces::Context;
@@ -55,8 +56,8 @@ fn compile_code(
     requires unlabelled { body.check.context.labels ≡ [] }
     requires functions { FunctionsAreSmall body.check.context }
     requires results { length body.check.context.results ≡ length body.function.now.results }
-    ensures { (c : ContextGiven) (code : SpelledGiven) (g : IsGoing body.entry.counted c body.entry.last body.entry.fields body.entry.check code) → g.tokens ≡ []
-        → length c.results ≡ length body.entry.function.now.results → Makes rows first c code
+    ensures { (c : ContextGiven) (code : SpelledGiven) (g : IsGoing body.entry.counted c body.entry.last body.entry.fields body.entry.check code)
+        → g.tokens ≡ [] → length c.results ≡ length body.entry.function.now.results → Makes rows first c code
         (record { params = length body.entry.function.now.params; locals = body.entry.locals; greatest = 0 }) (length body.entry.function.now.results) result }
 {
     let OpenedBody {
@@ -74,24 +75,35 @@ fn compile_code(
     };
     let results = function.results.as_slice().len() as u32;
     let bytes = fields.rest().len();
-    let Ok(mut draft) = begin(alloc, layout, rows, results, bytes) else {
+    let Ok(draft) = begin(alloc, layout, rows, results, bytes) else {
         return Err(BodyStop::NoMemory);
     };
-    let mut sites = no_sites(alloc);
+    let mut draft = BodyDraft {
+        function: draft,
+        sites: no_sites(alloc),
+    };
     match judge_code(
-        alloc,
         &mut fields,
         &mut check,
         &mut draft,
-        &mut sites,
-        counted,
-        last,
+        ReadContext {
+            alloc,
+            counted,
+            last,
+        },
     ) {
         Ok(()) => {}
         Err(stop) => return Err(stop),
     }
     let greatest = check.end().greatest;
-    match finish(alloc, draft, sites, first, greatest as u32, results) {
+    match finish(
+        alloc,
+        draft.function,
+        draft.sites,
+        first,
+        greatest as u32,
+        results,
+    ) {
         Ok(code) => Ok(code),
         Err(_) => Err(BodyStop::NoMemory),
     }

@@ -4,7 +4,8 @@
 //! A token is read and checked as where the body is compiled. Then its words are counted, which depend on no index and no
 //! address: only a branch has more of them for each value that it takes along.
 
-ghost use Rattle.std.specs.Prelude.{◌≡◌, ◌≢◌, ◌≤◌, ◌<◌, ◌+◌, ◌*◌, ◌^◌, true, false, Bool, ℕ, List, [], ◌∷◌, Some, None, IsSome, is_some, length, drop, reverse, slice_index_or, IfOk, IfErr, OnOk};
+ghost use Rattle.std.specs.Prelude.{◌≡◌, ◌≢◌, ◌≤◌, ◌<◌, ◌+◌, ◌*◌, ◌^◌, true, false, Bool, ℕ, List, [], ◌∷◌, Some, None, IsSome, is_some, length};
+ghost use Rattle.std.specs.Prelude.{drop, reverse, slice_index_or, IfOk, IfErr, OnOk};
 ghost use Rattle.rv_isa.specs.declared.compiled.Code.{Code as CodeGiven};
 ghost use Rattle.wasm_defs.specs.Bodies.{body_read, instruction, with_mem_arg, constant, Spelled as SpelledGiven};
 ghost use Rattle.wasm_defs.specs.Context.{type_of_function};
@@ -21,22 +22,22 @@ ghost use Rattle.frame_layout.proofs.Sizes.{jump_count, front_count, unless_coun
 ghost use Rattle.control_emit.specs.Pending.{AreBelow};
 ghost use Rattle.body_validator.specs.Checking.{guarded, start_checker};
 ghost use Rattle.body_validator.specs.Checks.{Checked};
-ghost use Rattle.body_compiler.specs.Counting.{jump_sum, word_count, labels_of, after_token, CountsToken, IsCounting, IsCountingOn, StopsCounting, GoesOnCounting, CountsCode};
-ghost use Rattle.body_compiler.specs.Counting.{AreCounted, opening, test_size, Sizes, Measures};
+ghost use Rattle.body_compiler.specs.Counting.{jump_sum, word_count, labels_of, after_token, CountsToken, IsCounting, IsCountingOn, CountsCode};
+ghost use Rattle.body_compiler.specs.Counting.{AreCounted, going_of, opening, test_size, Sizes, Measures};
+ghost use Rattle.wasm_laws.specs.Sections.{AreBytes};
 ghost use Rattle.body_compiler.specs.Going.{IsGoing};
 ghost use Rattle.body_compiler.specs.Steps.{branches_plain, FunctionsAreSmall, NamesPlain, NamesOpen, TypesLiftFew};
 
-use crate::code::{BodyStop, malformed, stop_of};
-use crate::immediates::{accessed_place, named_index, value};
-use crate::instructions::{access_of, instruction, operation_of};
+use crate::code::BodyStop;
 use crate::opened::{OpenedBody, open_body};
 use crate::steps::{params_of, results_of};
+use crate::token_loop::{ReadContext, TokenSink, read_code};
 use crate::word_counts::{frame_words, plain_words};
 use body_validator::{Check, TokenStop};
 use index_spaces::Context;
 use leb_feed::Fields;
 use std::alloc::{AllocError, Global};
-use wasm_defs::{Access, FuncType, MAX_TEXT, Plain, Token, ValType};
+use wasm_defs::{FuncType, MAX_TEXT, Plain, Token};
 
 /// Those of a jump that takes so many values along.
 fn jump_words(takes: u32) -> u128
@@ -248,210 +249,52 @@ impl WordCounter {
     }
 }
 
-/// Checks a token that was read at an offset, and counts its words. Once there are too many, it is only checked.
-#[inline(never)]
-fn count_read(
-    check: &mut Check<'_>,
-    counter: &mut WordCounter,
-    at: u64,
-    token: &Token,
-) -> Result<(), BodyStop>
-    requires counts { AreCounted counter.old.too_long counter.old.takes.items check.old }
-    requires more { check.old.checker.frames ≢ [] }
-    ensures counts { OnOk result (AreCounted counter.new.too_long counter.new.takes.items check.new) }
-    ensures goes { (counted : Bool) (c : ContextGiven) (last b : ℕ) (before mid after : CursorGiven) (code : SpelledGiven) (front : ℕ)
-        → byte before ≡ Got (at, b) mid → instruction counted at b mid ≡ Got token.now after
-        → IsCountingOn counted counter.old.too_long c last before check.old code front (word_count counter.old.takes.items counter.old.words)
-        → GoesOnCounting counted c last code front result counter.new.too_long after check.new
-        (word_count counter.new.takes.items counter.new.words) }
-{
-    let live = match check.token(at, token) {
-        Ok(step) => step.live,
-        Err(TokenStop::Refused(refusal)) => return Err(BodyStop::Refused(refusal)),
-        Err(TokenStop::NoMemory) => return Err(BodyStop::NoMemory),
-    };
-    if counter.too_long {
-        return Ok(());
-    }
-    match counter.take(check.context().types(), live, token) {
-        Ok(()) => Ok(()),
-        Err(_) => Err(BodyStop::NoMemory),
-    }
-}
+impl TokenSink for WordCounter {
+    ghost Front = { ℕ };
 
-/// Checks one of the commonest instructions as `count_read` does.
-#[inline(always)]
-fn count_common(
-    check: &mut Check<'_>,
-    counter: &mut WordCounter,
-    at: u64,
-    plain: Plain,
-) -> Result<(), BodyStop>
-    requires counts { AreCounted counter.old.too_long counter.old.takes.items check.old }
-    requires more { check.old.checker.frames ≢ [] }
-    ensures counts { OnOk result (AreCounted counter.new.too_long counter.new.takes.items check.new) }
-    ensures goes { (counted : Bool) (c : ContextGiven) (last b : ℕ) (before mid after : CursorGiven) (code : SpelledGiven) (front : ℕ)
-        → byte before ≡ Got (at, b) mid → instruction counted at b mid ≡ Got (PlainGiven plain) after
-        → IsCountingOn counted counter.old.too_long c last before check.old code front (word_count counter.old.takes.items counter.old.words)
-        → GoesOnCounting counted c last code front result counter.new.too_long after check.new
-        (word_count counter.new.takes.items counter.new.words) }
-{
-    match check.common(at, &plain) {
-        Some(Ok(step)) => {
-            if counter.too_long {
-                return Ok(());
-            }
-            counter.take_plain(step.live, &plain);
-            Ok(())
+    ghost Came = { λ counted c last cursor check code front n.
+        IsCountingOn counted n.too_long c last cursor check code front (word_count n.takes.items n.words) };
+
+    ghost going = { λ counted c last cursor check code front n k.
+        going_of counted n.too_long c last cursor check code front (word_count n.takes.items n.words) k };
+
+    ghost Fits = { λ check left n. AreCounted n.too_long n.takes.items check };
+
+    #[inline(never)]
+    fn take_read(&mut self, check: &mut Check<'_>, at: u64, token: &Token) -> Result<(), BodyStop> {
+        let live = match check.token(at, token) {
+            Ok(step) => step.live,
+            Err(TokenStop::Refused(refusal)) => return Err(BodyStop::Refused(refusal)),
+            Err(TokenStop::NoMemory) => return Err(BodyStop::NoMemory),
+        };
+        if self.too_long {
+            return Ok(());
         }
-        Some(Err(TokenStop::Refused(refusal))) => Err(BodyStop::Refused(refusal)),
-        Some(Err(TokenStop::NoMemory)) => Err(BodyStop::NoMemory),
-        None => count_read(check, counter, at, &Token::Plain(plain)),
+        match self.take(check.context().types(), live, token) {
+            Ok(()) => Ok(()),
+            Err(_) => Err(BodyStop::NoMemory),
+        }
     }
-}
 
-/// Reads, checks and counts a load or a store, whose opcode was read at an offset.
-#[inline(always)]
-fn count_access(
-    fields: &mut Fields<'_>,
-    check: &mut Check<'_>,
-    counter: &mut WordCounter,
-    last: u64,
-    at: u64,
-    access: Access,
-) -> Result<(), BodyStop>
-    requires counts { AreCounted counter.old.too_long counter.old.takes.items check.old }
-    requires more { check.old.checker.frames ≢ [] }
-    ensures shrinks { OnOk result (length fields.new.rest ≤ length fields.old.rest) }
-    ensures counts { OnOk result (AreCounted counter.new.too_long counter.new.takes.items check.new) }
-    ensures goes { (counted : Bool) (c : ContextGiven) (b : ℕ) (before : CursorGiven) (code : SpelledGiven) (front : ℕ)
-        → byte before ≡ Got (at, b) fields.old → instruction counted at b fields.old ≡ with_mem_arg access fields.old
-        → IsCountingOn counted counter.old.too_long c last before check.old code front (word_count counter.old.takes.items counter.old.words)
-        → GoesOnCounting counted c last code front result counter.new.too_long fields.new check.new
-        (word_count counter.new.takes.items counter.new.words) }
-{
-    match accessed_place(fields) {
-        Ok(place) => match access {
-            Access::Load(op) => count_common(check, counter, at, Plain::Load(op, place)),
-            Access::Store(op) => count_common(check, counter, at, Plain::Store(op, place)),
-        },
-        Err(stop) => Err(stop_of(&stop, last)),
-    }
-}
-
-/// Reads, checks and counts a constant of a type, whose opcode was read at an offset.
-#[inline(always)]
-fn count_constant(
-    fields: &mut Fields<'_>,
-    check: &mut Check<'_>,
-    counter: &mut WordCounter,
-    last: u64,
-    at: u64,
-    ty: ValType,
-) -> Result<(), BodyStop>
-    requires counts { AreCounted counter.old.too_long counter.old.takes.items check.old }
-    requires more { check.old.checker.frames ≢ [] }
-    ensures shrinks { OnOk result (length fields.new.rest ≤ length fields.old.rest) }
-    ensures counts { OnOk result (AreCounted counter.new.too_long counter.new.takes.items check.new) }
-    ensures goes { (counted : Bool) (c : ContextGiven) (b : ℕ) (before : CursorGiven) (code : SpelledGiven) (front : ℕ)
-        → byte before ≡ Got (at, b) fields.old → instruction counted at b fields.old ≡ constant ty fields.old
-        → IsCountingOn counted counter.old.too_long c last before check.old code front (word_count counter.old.takes.items counter.old.words)
-        → GoesOnCounting counted c last code front result counter.new.too_long fields.new check.new
-        (word_count counter.new.takes.items counter.new.words) }
-{
-    match value(fields, ty) {
-        Ok(n) => count_common(check, counter, at, Plain::Const(ty, n)),
-        Err(stop) => Err(stop_of(&stop, last)),
-    }
-}
-
-/// Reads, checks and counts an instruction, whose opcode was read with its offset.
-fn count_other(
-    fields: &mut Fields<'_>,
-    check: &mut Check<'_>,
-    counter: &mut WordCounter,
-    alloc: Global,
-    counted: bool,
-    last: u64,
-    opcode: (u64, u8),
-) -> Result<(), BodyStop>
-    requires counts { AreCounted counter.old.too_long counter.old.takes.items check.old }
-    requires more { check.old.checker.frames ≢ [] }
-    ensures shrinks { OnOk result (length fields.new.rest ≤ length fields.old.rest) }
-    ensures counts { OnOk result (AreCounted counter.new.too_long counter.new.takes.items check.new) }
-    ensures goes { (c : ContextGiven) (before : CursorGiven) (code : SpelledGiven) (front : ℕ) → byte before ≡ Got opcode fields.old
-        → IsCountingOn counted counter.old.too_long c last before check.old code front (word_count counter.old.takes.items counter.old.words)
-        → GoesOnCounting counted c last code front result counter.new.too_long fields.new check.new
-        (word_count counter.new.takes.items counter.new.words) }
-{
-    match instruction(fields, alloc, counted, opcode.0, opcode.1) {
-        Ok(token) => count_read(check, counter, opcode.0, &token),
-        Err(stop) => Err(stop_of(&stop, last)),
-    }
-}
-
-/// Reads and checks the next token, and counts its words. Once there are too many, it is only checked.
-#[inline(always)]
-fn count_token(
-    fields: &mut Fields<'_>,
-    check: &mut Check<'_>,
-    counter: &mut WordCounter,
-    alloc: Global,
-    counted: bool,
-    last: u64,
-) -> Result<(), BodyStop>
-    requires counts { AreCounted counter.old.too_long counter.old.takes.items check.old }
-    requires more { check.old.checker.frames ≢ [] }
-    ensures shrinks { OnOk result (length fields.new.rest < length fields.old.rest) }
-    ensures counts { OnOk result (AreCounted counter.new.too_long counter.new.takes.items check.new) }
-    ensures goes { (c : ContextGiven) (code : SpelledGiven) (front : ℕ)
-        → IsCountingOn counted counter.old.too_long c last fields.old check.old code front (word_count counter.old.takes.items counter.old.words)
-        → GoesOnCounting counted c last code front result counter.new.too_long fields.new check.new
-        (word_count counter.new.takes.items counter.new.words) }
-{
-    let (at, opcode) = match fields.byte() {
-        Ok(byte) => byte,
-        Err(stop) => return Err(stop_of(&stop, last)),
-    };
-    // an arm for each opcode that is common: its immediate is read without the general reader, whose token would be copied
-    match opcode {
-        0x05 => count_read(check, counter, at, &Token::Else),
-        0x0B => count_read(check, counter, at, &Token::End),
-        0x0D => match named_index(fields) {
-            Ok(x) => count_common(check, counter, at, Plain::BrIf(x)),
-            Err(stop) => Err(stop_of(&stop, last)),
-        },
-        0x20 => match named_index(fields) {
-            Ok(x) => count_common(check, counter, at, Plain::LocalGet(x)),
-            Err(stop) => Err(stop_of(&stop, last)),
-        },
-        0x21 => match named_index(fields) {
-            Ok(x) => count_common(check, counter, at, Plain::LocalSet(x)),
-            Err(stop) => Err(stop_of(&stop, last)),
-        },
-        0x22 => match named_index(fields) {
-            Ok(x) => count_common(check, counter, at, Plain::LocalTee(x)),
-            Err(stop) => Err(stop_of(&stop, last)),
-        },
-        0x23 => match named_index(fields) {
-            Ok(x) => count_common(check, counter, at, Plain::GlobalGet(x)),
-            Err(stop) => Err(stop_of(&stop, last)),
-        },
-        0x24 => match named_index(fields) {
-            Ok(x) => count_common(check, counter, at, Plain::GlobalSet(x)),
-            Err(stop) => Err(stop_of(&stop, last)),
-        },
-        0x41 => count_constant(fields, check, counter, last, at, ValType::I32),
-        0x42 => count_constant(fields, check, counter, last, at, ValType::I64),
-        0x28..=0x3E => match access_of(opcode) {
-            Some(access) => count_access(fields, check, counter, last, at, access),
-            None => count_other(fields, check, counter, alloc, counted, last, (at, opcode)),
-        },
-        0x45..=0xC4 => match operation_of(opcode) {
-            Some(op) => count_common(check, counter, at, Plain::Numeric(op)),
-            None => count_other(fields, check, counter, alloc, counted, last, (at, opcode)),
-        },
-        _ => count_other(fields, check, counter, alloc, counted, last, (at, opcode)),
+    #[inline(always)]
+    fn take_common(
+        &mut self,
+        check: &mut Check<'_>,
+        at: u64,
+        plain: Plain,
+    ) -> Result<(), BodyStop> {
+        match check.common(at, &plain) {
+            Some(Ok(step)) => {
+                if self.too_long {
+                    return Ok(());
+                }
+                self.take_plain(step.live, &plain);
+                Ok(())
+            }
+            Some(Err(TokenStop::Refused(refusal))) => Err(BodyStop::Refused(refusal)),
+            Some(Err(TokenStop::NoMemory)) => Err(BodyStop::NoMemory),
+            None => self.take_read(check, at, &Token::Plain(plain)),
+        }
     }
 }
 
@@ -460,39 +303,35 @@ fn count_code(
     fields: &mut Fields<'_>,
     check: &mut Check<'_>,
     counter: &mut WordCounter,
-    alloc: Global,
-    counted: bool,
-    last: u64,
+    reading: ReadContext,
 ) -> Result<(), BodyStop>
+    requires bytes { AreBytes fields.old.rest }
     requires counts { AreCounted counter.old.too_long counter.old.takes.items check.old }
     requires short { counter.old.too_long ≡ false }
     ensures { (c : ContextGiven) (code : SpelledGiven) (front : ℕ)
-        → IsCounting counted c last fields.old check.old code front (word_count counter.old.takes.items counter.old.words)
+        → IsCounting reading.counted c reading.last fields.old check.old code front (word_count counter.old.takes.items counter.old.words)
         → CountsCode c code front result counter.new.words }
 {
-    while !check.is_over() {
-        match count_token(fields, check, counter, alloc, counted, last) {
-            Ok(()) => {}
-            Err(stop) => return Err(stop),
+    match read_code(fields, check, counter, reading) {
+        Ok(()) => {
+            if counter.too_long {
+                return Err(BodyStop::TooLong);
+            }
+            Ok(())
         }
+        Err(stop) => Err(stop),
     }
-    if !fields.rest().is_empty() {
-        return Err(BodyStop::Refused(malformed(fields.offset())));
-    }
-    if counter.too_long {
-        return Err(BodyStop::TooLong);
-    }
-    Ok(())
 }
 
 /// Counts the words of a body's code.
 fn measure_code(alloc: Global, body: OpenedBody<'_>) -> Result<u64, BodyStop>
+    requires bytes { AreBytes body.fields.rest }
     requires begun { body.check.checker ≡ start_checker body.check.context }
     requires unlabelled { body.check.context.labels ≡ [] }
     requires functions { FunctionsAreSmall body.check.context }
     requires small { TypeIsSmall body.function.now }
-    ensures { (c : ContextGiven) (code : SpelledGiven) (g : IsGoing body.entry.counted c body.entry.last body.entry.fields body.entry.check code) → g.tokens ≡ []
-        → length c.results ≡ length body.entry.function.now.results → (rows first : ℕ) → Sizes rows first c code
+    ensures { (c : ContextGiven) (code : SpelledGiven) (g : IsGoing body.entry.counted c body.entry.last body.entry.fields body.entry.check code)
+        → g.tokens ≡ [] → length c.results ≡ length body.entry.function.now.results → (rows first : ℕ) → Sizes rows first c code
         (record { params = length body.entry.function.now.params; locals = body.entry.locals; greatest = 0 }) (length body.entry.function.now.results) result }
 {
     let OpenedBody {
@@ -507,7 +346,16 @@ fn measure_code(alloc: Global, body: OpenedBody<'_>) -> Result<u64, BodyStop>
     let Ok(mut counter) = WordCounter::new(alloc, frame_words(locals, results), results) else {
         return Err(BodyStop::NoMemory);
     };
-    match count_code(&mut fields, &mut check, &mut counter, alloc, counted, last) {
+    match count_code(
+        &mut fields,
+        &mut check,
+        &mut counter,
+        ReadContext {
+            alloc,
+            counted,
+            last,
+        },
+    ) {
         Ok(()) => Ok(u64::from(counter.words)),
         Err(stop) => Err(stop),
     }

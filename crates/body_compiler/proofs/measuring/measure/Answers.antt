@@ -1,4 +1,4 @@
-use Rattle.std.proofs.Common.{Bool, ◌∙◌, length, sym, ap, subst}
+use Rattle.std.proofs.Common.{Bool, ◌∙◌, length, sym, ap, subst, arith}
 use Rattle.std.proofs.lemmas.List.{length-reverse}
 use Rattle.wasm_defs.specs.declared.types.FuncType.{FuncType}
 use Rattle.wasm_defs.specs.Bodies.{body_read}
@@ -7,9 +7,15 @@ use Rattle.wasm_defs.specs.Instances.{first_minimum}
 use Rattle.index_spaces.specs.Spaces.{context_in}
 use Rattle.body_validator.specs.Checks.{Checked}
 use Rattle.body_compiler.specs.Counting.{Sizes, Measures}
-use Rattle.body_compiler.proofs.Beginning.{code_begins, groups_are}
+use Rattle.body_compiler.proofs.Beginning.{code_begins, code_is_bytes, groups_are}
+use Rattle.body_compiler.proofs.Spelled.{bytes_are}
 use Rattle.body_compiler.proofs.Whole.{measured}
 use Rattle.body_compiler.proofs.measuring.measure.Goals as goal
+
+pub measure_code-requires-clause-bytes : goal.measure_code-requires-clause-bytes
+measure_code-requires-clause-bytes c =
+    let declared = c.in-Ok.ensures.opened.declared in
+    code_is_bytes c.args.offset c.args.bytes.now declared.0 c.in-Ok.body.fields declared.1 (bytes_are c.args.bytes.now (λ i. omega (arith, c.type_inv.bytes i)))
 
 pub measure_code-requires-clause-unlabelled : goal.measure_code-requires-clause-unlabelled
 measure_code-requires-clause-unlabelled c = ap (λ (x : Checked). x.context.labels) c.in-Ok.ensures.opened.declared.2
