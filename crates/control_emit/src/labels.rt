@@ -10,7 +10,6 @@ ghost use Rattle.control_emit.specs.Pending.{Ends, shapes, named, patched, all_p
 ghost use Rattle.control_emit.specs.Pending.{fewer, unjumped, all_unjumped, end_at, chain, IsBefore, AreLinked, AreKept};
 ghost use Rattle.frame_layout.specs.Macros.{distance, far};
 ghost use Rattle.control_emit.specs.Emits.{draft, IsFront, IsHeld, Emits, Opens, Turns, Closes};
-ghost use Rattle.control_emit.specs.Begins.{IsOpening, Begins};
 ghost use Rattle.control_emit.specs.Walks.{body_label, end_shape, start_shape, IsLive};
 
 use crate::jumps::{
@@ -21,7 +20,6 @@ use frame_layout::Layout;
 use rv_isa::WordBuffer;
 use std::alloc::{AllocError, Global};
 use std::marker::Model;
-use wasm_defs::Token;
 
 /// Most bodies have no more jumps to blocks' ends than so many.
 const FIRST_JUMPS: usize = 32;
@@ -230,8 +228,14 @@ impl Labels {
         self.labels.len()
     }
 
-    /// Opens a label that leads to its block's end.
-    fn open_block(&mut self, buffer: &WordBuffer, base: u32, values: u32) -> Result<(), AllocError>
+    /// Opens the label of a block, or of an `if` that isn't reachable, which leads to its end. Its base is the height below the
+    /// block's parameters, and a branch to it takes so many values along.
+    pub fn open_block(
+        &mut self,
+        buffer: &WordBuffer,
+        base: u32,
+        values: u32,
+    ) -> Result<(), AllocError>
         requires held { IsHeld (draft self.old buffer.now) }
         requires low { base + values < 0x8000_0000 }
         ensures ok { OnOk result (Opens (draft self.old buffer.now) (draft self.new buffer.now) (end_shape base values) (λ e. [])) }
@@ -248,8 +252,14 @@ impl Labels {
         Ok(())
     }
 
-    /// Opens a label that leads here.
-    fn open_loop(&mut self, buffer: &WordBuffer, base: u32, values: u32) -> Result<(), AllocError>
+    /// Opens the label of a loop, which leads here. Its base is the height below the loop's parameters, and a branch to it takes so
+    /// many values along.
+    pub fn open_loop(
+        &mut self,
+        buffer: &WordBuffer,
+        base: u32,
+        values: u32,
+    ) -> Result<(), AllocError>
         requires held { IsHeld (draft self.old buffer.now) }
         requires low { base + values < 0x8000_0000 }
         ensures ok { OnOk result (Opens (draft self.old buffer.now) (draft self.new buffer.now) (start_shape base values (length buffer.now)) (λ e. [])) }
@@ -266,8 +276,9 @@ impl Labels {
         Ok(())
     }
 
-    /// Opens the label of an `if` whose condition is the topmost of so many operands, and appends its instruction words.
-    fn open_if(
+    /// Opens the label of an `if` at a reachable point, which leads to its end, and appends its instruction words. Its condition is
+    /// the topmost of so many operands, its base the height below its parameters, and a branch to it takes so many values along.
+    pub fn open_if(
         &mut self,
         buffer: &mut WordBuffer,
         layout: &Layout,
@@ -296,43 +307,6 @@ impl Labels {
             last_jump: None,
         });
         Ok(())
-    }
-
-    /// Opens the block, loop or `if` of a token, with so many operands on the stack. Its label's base is the height below its
-    /// parameters, and a branch to it takes so many values along. The instruction words of an `if` are appended where it is
-    /// reachable. Where memory runs out the words and the labels are as they were.
-    pub fn begin(
-        &mut self,
-        buffer: &mut WordBuffer,
-        layout: &Layout,
-        height: u32,
-        token: &Token,
-        base: u32,
-        values: u32,
-        live: bool,
-    ) -> Result<(), AllocError>
-        requires held { IsHeld (draft self.old buffer.old) }
-        requires opens { IsOpening token.now }
-        requires low { base + values < 0x8000_0000 }
-        requires high { height < 0x8000_0000 }
-        requires slots { link layout.now < 0x7FFF_FFFF }
-        ensures ok { (w : EmitContext) → w.layout ≡ layout.now
-            → OnOk result (Begins w token.now live height base values (draft self.old buffer.old) (draft self.new buffer.new)) }
-        ensures err { OnErr result (buffer.new ≡ buffer.old) }
-        ensures kept { OnErr result (self.new ≡ self.old) }
-    {
-        match token {
-            Token::Block(_) => self.open_block(buffer, base, values),
-            Token::Loop(_) => self.open_loop(buffer, base, values),
-            Token::If(_) => {
-                if live {
-                    self.open_if(buffer, layout, height, base, values)
-                } else {
-                    self.open_block(buffer, base, values)
-                }
-            }
-            _ => unreachable!(),
-        }
     }
 
     /// Where a jump to a label leads, and what it takes along.
