@@ -5,7 +5,7 @@ use Rattle.std.proofs.lemmas.List.{take_more, reverse-append, length-reverse, ta
 use Rattle.wasm_defs.specs.declared.types.ValType.{ValType}
 use Rattle.wasm_defs.specs.Typing.{Types, same_type, same_types}
 use Rattle.body_validator.specs.Stacks.{own_of}
-use Rattle.body_validator.specs.Exchange.{exchanged}
+use Rattle.body_validator.specs.Exchange.{given_types, exchanged}
 use Rattle.body_validator.specs.Checking.{Operand, ◌>>=◌, guarded, known, none_left, any_at, is_of, take_all}
 
 pub reverse_more : {A : Type 0} (xs : List A) (i : ℕ) (d : A) → i < length xs → reverse (take (i + 1) xs) ≡ get_or xs i d ∷ reverse (take i xs)
@@ -95,6 +95,10 @@ pub put_own : (items : List Operand) (ts : Types) (base : ℕ) → base ≤ leng
 put_own items ts base h =
     ap reverse (drop-append-le base items (map Some ts) h) ∙ reverse-append (drop base items) (map Some ts)
     ∙ ap (λ (x : List Operand). x ++ own_of items base) (sym (known-reverse ts))
+
+pub one_reversed : (given : Option ValType) → reverse (given_types given) ≡ given_types given
+one_reversed None = refl
+one_reversed (Some t) = refl
 
 pub exchanged_all : (unknown : Bool) (p g : Types) (own : List Operand) → is_some (take_all unknown p own) ≡ true → exchanged unknown p g own ≡ Some (known g ++ drop (length p) own)
 exchanged_all unknown p g own e = ap (λ (o : Option (List Operand)). o >>= λ left. Some (known g ++ left)) (take_all-drop unknown p own e)

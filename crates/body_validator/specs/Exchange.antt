@@ -1,6 +1,9 @@
 -- Operands that are taken from a flat stack, and others that are put in their place.
-use Rattle.std.specs.Prelude.{◌≡◌, ℕ, Bool, true, false, List, ◌∷◌, ◌++◌, length, drop, reverse, Option, None, Some, Result, Ok, Err}
+use Rattle.std.specs.Prelude.{◌≡◌, ℕ, Bool, true, false, List, [], ◌∷◌, ◌++◌, length, drop, reverse, Option, None, Some, Result, Ok, Err}
+use Rattle.wasm_defs.specs.declared.types.ValType.{ValType}
 use Rattle.wasm_defs.specs.declared.types.ValType.TheVariants.{I32}
+use Rattle.body_validator.specs.declared.operands.Few.{Few}
+use Rattle.body_validator.specs.declared.operands.Few.TheVariants.{Zero, One, Two}
 use Rattle.body_validator.specs.declared.operands.Stop.{Stop}
 use Rattle.body_validator.specs.declared.operands.Stop.TheVariants.{Refused, NoMemory}
 use Rattle.body_validator.specs.declared.operands.Taken.{Taken}
@@ -11,6 +14,15 @@ use Rattle.body_validator.specs.Stacks.{own_of}
 abbrev pub with_condition : Bool → Types → Types
 with_condition false types = types
 with_condition true types = I32 ∷ types
+
+abbrev pub few_types : Few → Types
+few_types Zero = []
+few_types (One t) = t ∷ []
+few_types (Two s t) = t ∷ s ∷ []
+
+abbrev pub given_types : Option ValType → Types
+given_types None = []
+given_types (Some t) = t ∷ []
 
 abbrev pub taken_types : Taken → Types
 taken_types taken = with_condition taken.condition (reverse taken.types.now)

@@ -76,7 +76,7 @@ fn are_all_labels(stack: &Stack<'_>, types: &[ValType], indices: &[u32]) -> bool
 }
 
 #[inline(always)]
-pub fn plainly(types: &[ValType]) -> Taken<'_>
+fn plainly(types: &[ValType]) -> Taken<'_>
     ensures { taken_types result ≡ reverse types.now }
 {
     Taken {
@@ -87,7 +87,7 @@ pub fn plainly(types: &[ValType]) -> Taken<'_>
 
 /// With an i32 on top: a condition, or an index.
 #[inline(always)]
-pub fn conditionally(types: &[ValType]) -> Taken<'_>
+fn conditionally(types: &[ValType]) -> Taken<'_>
     ensures { taken_types result ≡ ValType.I32 ∷ reverse types.now }
 {
     Taken {

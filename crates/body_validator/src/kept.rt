@@ -14,19 +14,20 @@ ghost use Rattle.std.specs.Prelude.{◌≡◌, ℕ, ◌+◌, ◌<◌, ◌≤◌,
 ghost use Rattle.std.specs.Prelude.{OnOk, OnErr};
 ghost use Rattle.body_validator.specs.Checking.{take_all, none_left, selected_of};
 ghost use Rattle.body_validator.specs.Stacks.{own_of};
-ghost use Rattle.body_validator.specs.Exchange.{taken_types, Exchanges, TakesOne, TakesThree};
+ghost use Rattle.body_validator.specs.Exchange.{taken_types, few_types, given_types, Exchanges, TakesOne, TakesThree};
 ghost use Rattle.body_validator.specs.Kept.{flat, floor_of, spreads, IsKept, IsSeen, AreShown, AreSame, HasRoom, KeepsRoom, IsTakenFrom, IsTried};
 
 use crate::lists::Lists;
 use crate::operands::{
-    Operand, Stop, Taken, are_just, count_of, exchange, finds, put, put_all, remove, selected,
+    Few, Operand, Stop, Taken, are_just, count_of, count_of_few, exchange_few, finds, put, put_all,
+    remove, selected,
 };
 use std::alloc::{AllocError, Global};
 use wasm_defs::ValType;
 
 // Why: docs/DECISIONS.md, "The check keeps a long list of types as one entry"
 /// Lists of fewer types are kept one by one.
-pub const LONG: usize = 16;
+const LONG: usize = 16;
 
 /// The most operands in lists, so that all of them fit a usize.
 const MOST_LISTED: usize = 1 << 62;
@@ -239,19 +240,18 @@ impl<'a> Operands<'a> {
         self.unknown = false;
     }
 
-    /// Takes single operands from those above the base, and puts others in their place. A refusal says only that the single ones
-    /// don't do. Where they are fewer than it takes, it looks no further.
+    /// Takes few single operands from those above the base, and puts one in their place, or none. A refusal says only that the single
+    /// ones don't do. Where they are fewer than it takes, it looks no further.
     #[inline(always)]
-    pub fn exchange_singles(&mut self, taken: Taken<'_>, given: &[ValType]) -> Result<(), Stop>
+    pub fn exchange_few(&mut self, taken: Few, given: Option<ValType>) -> Result<(), Stop>
         requires { self.old.start ≤ vec_len self.old.singles }
         ensures { (base : ℕ) (unknown : Bool) → IsSeen base unknown self.old
-            → IsTried base unknown (taken_types taken.entry) (reverse given.now) result self.old self.new }
+            → IsTried base unknown (few_types taken) (given_types given) result self.old self.new }
     {
-        let count = count_of(taken.types, taken.condition);
-        if self.singles.len() - self.start < count {
+        if self.singles.len() - self.start < count_of_few(taken) {
             return Err(Stop::Refused);
         }
-        exchange(&mut self.singles, self.start, self.unknown, taken, given)
+        exchange_few(&mut self.singles, self.start, taken, given)
     }
 
     /// Takes operands from those above the base, which may be in lists, and puts others in their place.

@@ -1,10 +1,10 @@
 //! The operands of the innermost frame, as a flat stack keeps them.
 
-ghost use Rattle.std.specs.Prelude.{◌≡◌, ◌+◌, ◌<◌, ◌≤◌, [], ◌∷◌, ◌++◌, length, map, reverse, take, drop, is_some, Some, vec_len, vec_capacity, OnOk};
+ghost use Rattle.std.specs.Prelude.{◌≡◌, Bool, ◌+◌, ◌<◌, ◌≤◌, [], ◌∷◌, ◌++◌, length, map, reverse, take, drop, is_some, Some, vec_len, vec_capacity, OnOk};
 ghost use Rattle.body_validator.specs.Checking.{is_of, joined, take_all, none_left, any_at, selected_of};
 ghost use Rattle.wasm_defs.specs.Typing.{same_types};
 ghost use Rattle.body_validator.specs.Stacks.{own_of};
-ghost use Rattle.body_validator.specs.Exchange.{taken_types, with_condition, Exchanges};
+ghost use Rattle.body_validator.specs.Exchange.{taken_types, with_condition, few_types, given_types, Exchanges};
 ghost use Rattle.body_validator.specs.declared.operands.Stop.TheVariants.{NoMemory};
 
 use std::alloc::AllocError;
@@ -157,60 +157,88 @@ impl From<AllocError> for Stop {
     }
 }
 
-/// Makes room for so many more operands. Mostly there is some.
+/// Makes room for an operand in place of those that are taken. Mostly there is some, and always where any is taken.
 #[inline(always)]
-fn make_room(operands: &mut Vec<Operand>, more: usize) -> Result<(), AllocError>
+fn make_room_after(operands: &mut Vec<Operand>, taken: usize) -> Result<(), AllocError>
     ensures items { operands.new.items ≡ operands.old.items }
     ensures len { vec_len operands.new ≡ vec_len operands.old }
-    ensures room { OnOk result (vec_len operands.new + more ≤ vec_capacity operands.new) }
+    ensures room { OnOk result (vec_len operands.new < vec_capacity operands.new + taken) }
 {
-    if more <= operands.capacity() - operands.len() {
+    if 0 < taken || operands.len() < operands.capacity() {
         return Ok(());
     }
-    operands.reserve(more)
+    operands.reserve(1)
 }
 
-/// Makes room for so many operands in place of those that are taken. Where no more are given than taken there is some.
+/// The types of at most two operands, the topmost last.
+#[derive(Clone, Copy)]
+pub enum Few {
+    Zero,
+    One(ValType),
+    Two(ValType, ValType),
+}
+
+/// How many these are.
 #[inline(always)]
-fn make_room_after(
-    operands: &mut Vec<Operand>,
-    taken: usize,
-    given: usize,
-) -> Result<(), AllocError>
-    ensures items { operands.new.items ≡ operands.old.items }
-    ensures len { vec_len operands.new ≡ vec_len operands.old }
-    ensures room { OnOk result (vec_len operands.new + given ≤ vec_capacity operands.new + taken) }
+pub fn count_of_few(few: Few) -> usize
+    ensures { result ≡ length (few_types few) }
 {
-    if given <= taken {
-        return Ok(());
+    match few {
+        Few::Zero => 0,
+        Few::One(_) => 1,
+        Few::Two(_, _) => 2,
     }
-    make_room(operands, given)
 }
 
-/// Takes operands from those above the base, which has as many above it, and puts others in their place.
+/// Whether these are the topmost operands, of which there are as many.
 #[inline(always)]
-pub fn exchange(
+fn are_topmost(operands: &[Operand], few: Few) -> bool
+    requires { length (few_types few) ≤ length operands.now }
+    ensures { (unknown : Bool) → result ≡ is_some (take_all unknown (few_types few) (reverse operands.now)) }
+{
+    let height = operands.len();
+    match few {
+        Few::Zero => true,
+        Few::One(t) => is_of_type(operands[height - 1], t),
+        Few::Two(s, t) => {
+            is_of_type(operands[height - 1], t) && is_of_type(operands[height - 2], s)
+        }
+    }
+}
+
+/// Puts an operand of the type on top, for which there is room, or none.
+#[inline(always)]
+fn put_maybe(operands: &mut Vec<Operand>, given: Option<ValType>)
+    requires { vec_len operands.old + length (given_types given) ≤ vec_capacity operands.old }
+    ensures { operands.new.items ≡ operands.old.items ++ map Some (given_types given) }
+{
+    if let Some(t) = given {
+        operands.push_reserved(Some(t));
+    }
+}
+
+/// Takes few operands from those above the base, which has as many above it, and puts one in their place, or none.
+#[inline(always)]
+pub fn exchange_few(
     operands: &mut Vec<Operand>,
     base: usize,
-    unknown: bool,
-    taken: Taken<'_>,
-    given: &[ValType],
+    taken: Few,
+    given: Option<ValType>,
 ) -> Result<(), Stop>
-    requires { base + length (taken_types taken) ≤ vec_len operands.old }
-    ensures own { Exchanges unknown base (taken_types taken.entry) (reverse given.now) result
-        operands.old.items operands.new.items }
+    requires { base + length (few_types taken) ≤ vec_len operands.old }
+    ensures own { (unknown : Bool) → Exchanges unknown base (few_types taken) (given_types given) result operands.old.items operands.new.items }
     ensures below { take base operands.new.items ≡ take base operands.old.items }
     ensures above { base ≤ vec_len operands.new }
 {
-    if !finds(&operands[base..], unknown, taken) {
+    if !are_topmost(&operands[base..], taken) {
         return Err(Stop::Refused);
     }
-    let count = count_of(taken.types, taken.condition);
-    if make_room_after(operands, count, given.len()).is_err() {
+    let count = count_of_few(taken);
+    if make_room_after(operands, count).is_err() {
         return Err(Stop::NoMemory);
     }
     remove(operands, base, count);
-    put_all(operands, given);
+    put_maybe(operands, given);
     Ok(())
 }
 

@@ -4,11 +4,11 @@ ghost use Rattle.std.specs.Prelude.{◌≡◌, ◌-◌, ◌<◌, [], ◌∷◌, 
 ghost use Rattle.body_validator.specs.Checking.{height, body_frames, label_of, is_open, is_live, may_turn, labels, may_end, takes_else, applied, enter, turned};
 ghost use Rattle.body_validator.specs.Checking.{ended};
 ghost use Rattle.wasm_defs.specs.Typing.{Stops, Fixed, Discards, Selects};
-ghost use Rattle.body_validator.specs.Exchange.{taken_types, Steps, Tries};
+ghost use Rattle.body_validator.specs.Exchange.{taken_types, few_types, given_types, Steps, Tries};
 ghost use Rattle.body_validator.specs.Stacks.{HasLast, is_live_in, signature};
 
 use crate::kept::Operands;
-use crate::operands::{Stop, Taken, are_same, count_of};
+use crate::operands::{Few, Stop, Taken, are_same, count_of};
 use std::alloc::{AllocError, Global};
 use std::marker::Model;
 use wasm_defs::ValType;
@@ -204,17 +204,16 @@ impl<'a> Stack<'a> {
         Some(taken_by_label(self.frames[count - 1 - depth]))
     }
 
-    /// Takes single operands from the innermost frame, and puts others in their place. A refusal says only that the single ones
-    /// don't do.
+    /// Takes few operands, which are single ones, from the innermost frame, and puts one in their place, or none. A refusal says only
+    /// that the single ones don't do.
     #[inline(always)]
-    pub fn exchange_singles(&mut self, taken: Taken<'_>, given: &[ValType]) -> Result<(), Stop>
-        ensures { Tries (applied (Fixed (taken_types taken.entry) (reverse given.now)) self.old) result
-            self.old self.new }
+    pub fn exchange_few(&mut self, taken: Few, given: Option<ValType>) -> Result<(), Stop>
+        ensures { Tries (applied (Fixed (few_types taken) (given_types given)) self.old) result self.old self.new }
     {
         if self.frames.len() == 0 {
             return Err(Stop::Refused);
         }
-        self.operands.exchange_singles(taken, given)
+        self.operands.exchange_few(taken, given)
     }
 
     /// Takes operands from the innermost frame, which may be in lists, and puts others in their place.

@@ -1,19 +1,20 @@
 //! One token's step of the open frames.
 
-ghost use Rattle.std.specs.Prelude.{◌≡◌};
+ghost use Rattle.std.specs.Prelude.{◌≡◌, [], ◌∷◌, reverse, IfSome};
 ghost use Rattle.body_validator.specs.Checking.{applied, labels, step, fault_kind};
 ghost use Rattle.wasm_defs.specs.declared.token.Token.TheVariants.{Plain as PlainGiven};
-ghost use Rattle.wasm_defs.specs.Typing.{rule_of};
-ghost use Rattle.body_validator.specs.Exchange.{Steps, Tries};
+ghost use Rattle.wasm_defs.specs.Typing.{Fixed, only_if, rule_of};
+ghost use Rattle.body_validator.specs.Exchange.{few_types, given_types, Steps, Tries};
 ghost use Rattle.body_validator.specs.Scopes.{rule_meant, unlabelled, with_labels, begun};
 
 use crate::accesses::{load_alignment, load_type, store_alignment, store_type};
-use crate::instruction_types::{Rule, block_types, conditionally, plainly, rule_for};
-use crate::kept::LONG;
-use crate::operands::{Stop, Taken};
+use crate::instruction_types::{Rule, block_types, rule_for};
+use crate::operands::{Few, Stop, Taken};
 use crate::scope::Scope;
 use crate::stack::{Opening, Stack};
-use wasm_defs::{BlockType, Kind, LoadOp, MemArg, Operation, Plain, StoreOp, Token, ValType};
+use wasm_defs::{
+    BlockType, GlobalType, Kind, LoadOp, MemArg, Operation, Plain, StoreOp, Token, ValType,
+};
 
 fn apply<'a>(stack: &mut Stack<'a>, rule: Option<Rule<'a>>) -> Result<(), Stop>
     ensures { Steps (applied (rule_meant rule.entry) stack.old) result stack.old stack.new }
@@ -27,100 +28,85 @@ fn apply<'a>(stack: &mut Stack<'a>, rule: Option<Rule<'a>>) -> Result<(), Stop>
     }
 }
 
-/// Takes a `global.get`, where there is such a global.
+/// A `global.set` takes the type of a global that may be set.
 #[inline(always)]
-fn get_global<'a>(scope: &Scope<'a>, stack: &mut Stack<'a>, index: u32) -> Result<(), Stop>
-    ensures { Tries (applied (rule_of (with_labels scope.now (labels stack.old)) (Plain.GlobalGet index)) stack.old) result stack.old stack.new }
+fn set_global(global: GlobalType) -> Option<(Few, Option<ValType>)>
+    ensures { IfSome result (λ e. only_if global.mutable (Fixed (global.ty ∷ []) []) ≡ Fixed (few_types e.0) (given_types e.1)) }
 {
-    match scope.global(index) {
-        Some(global) => stack.exchange_singles(plainly(&[]), &[global.ty]),
-        None => Err(Stop::Refused),
+    if !global.mutable {
+        return None;
     }
+    Some((Few::One(global.ty), None))
 }
 
-/// Takes a `global.set`, where there is such a global and it may be set.
+/// A load, where the module has a memory and the access is aligned no further than its bytes.
 #[inline(always)]
-fn set_global<'a>(scope: &Scope<'a>, stack: &mut Stack<'a>, index: u32) -> Result<(), Stop>
-    ensures { Tries (applied (rule_of (with_labels scope.now (labels stack.old)) (Plain.GlobalSet index)) stack.old) result stack.old stack.new }
-{
-    match scope.global(index) {
-        Some(global) if global.mutable => stack.exchange_singles(plainly(&[global.ty]), &[]),
-        _ => Err(Stop::Refused),
-    }
-}
-
-/// Takes a load, where the module has a memory and the access is aligned no further than its bytes.
-#[inline(always)]
-fn take_load<'a>(
-    scope: &Scope<'a>,
-    stack: &mut Stack<'a>,
-    op: LoadOp,
-    place: MemArg,
-) -> Result<(), Stop>
-    ensures { Tries (applied (rule_of (with_labels scope.now (labels stack.old)) (Plain.Load op place)) stack.old) result stack.old stack.new }
+fn load<'a>(scope: &Scope<'a>, op: LoadOp, place: MemArg) -> Option<(Few, Option<ValType>)>
+    ensures { IfSome result (λ e. rule_of scope.now (Plain.Load op place) ≡ Fixed (few_types e.0) (given_types e.1)) }
 {
     if !scope.can_access(place, load_alignment(op)) {
-        return Err(Stop::Refused);
+        return None;
     }
-    stack.exchange_singles(plainly(&[ValType::I32]), &[load_type(op)])
+    Some((Few::One(ValType::I32), Some(load_type(op))))
 }
 
-/// Takes a store, where the module has a memory and the access is aligned no further than its bytes.
+/// A store, where the module has a memory and the access is aligned no further than its bytes.
 #[inline(always)]
-fn take_store<'a>(
-    scope: &Scope<'a>,
-    stack: &mut Stack<'a>,
-    op: StoreOp,
-    place: MemArg,
-) -> Result<(), Stop>
-    ensures { Tries (applied (rule_of (with_labels scope.now (labels stack.old)) (Plain.Store op place)) stack.old) result stack.old stack.new }
+fn store<'a>(scope: &Scope<'a>, op: StoreOp, place: MemArg) -> Option<(Few, Option<ValType>)>
+    ensures { IfSome result (λ e. rule_of scope.now (Plain.Store op place) ≡ Fixed (few_types e.0) (given_types e.1)) }
 {
     if !scope.can_access(place, store_alignment(op)) {
-        return Err(Stop::Refused);
+        return None;
     }
-    stack.exchange_singles(plainly(&[ValType::I32, store_type(op)]), &[])
+    Some((Few::Two(ValType::I32, store_type(op)), None))
 }
 
-/// Takes one of the commonest instructions, where the single operands do. They have their rules' types here, so that nothing goes
-/// over their lists, and the types are never in memory. A refusal says nothing.
+/// A `br_if` whose label takes at most one value.
+#[inline(always)]
+fn branch_if(types: &[ValType]) -> Option<(Few, Option<ValType>)>
+    ensures { IfSome result (λ e. Fixed (ValType.I32 ∷ reverse types.now) (reverse types.now) ≡ Fixed (few_types e.0) (given_types e.1)) }
+{
+    match types.len() {
+        0 => Some((Few::One(ValType::I32), None)),
+        1 => Some((Few::Two(types[0], ValType::I32), Some(types[0]))),
+        _ => None,
+    }
+}
+
+/// What one of the commonest instructions takes from the operands, and what it leaves in their place: at most two, and at most one.
+#[inline(always)]
+fn few_of<'a>(scope: &Scope<'a>, stack: &Stack<'a>, plain: &Plain) -> Option<(Few, Option<ValType>)>
+    ensures { IfSome result (λ e. rule_of (with_labels scope.now (labels stack.now)) plain.now ≡ Fixed (few_types e.0) (given_types e.1)) }
+{
+    match plain {
+        Plain::LocalGet(x) => Some((Few::Zero, Some(scope.local(*x)?))),
+        Plain::LocalSet(x) => Some((Few::One(scope.local(*x)?), None)),
+        Plain::LocalTee(x) => {
+            let t = scope.local(*x)?;
+            Some((Few::One(t), Some(t)))
+        }
+        Plain::Const(t, _) => Some((Few::Zero, Some(*t))),
+        Plain::Numeric(Operation::Binary(t, _)) => Some((Few::Two(*t, *t), Some(*t))),
+        Plain::Numeric(Operation::Compare(t, _)) => Some((Few::Two(*t, *t), Some(ValType::I32))),
+        Plain::Numeric(Operation::Test(t)) => Some((Few::One(*t), Some(ValType::I32))),
+        Plain::GlobalGet(x) => Some((Few::Zero, Some(scope.global(*x)?.ty))),
+        Plain::GlobalSet(x) => set_global(scope.global(*x)?),
+        Plain::Load(op, place) => load(scope, *op, *place),
+        Plain::Store(op, place) => store(scope, *op, *place),
+        Plain::BrIf(label) => branch_if(stack.label(*label)?),
+        _ => None,
+    }
+}
+
+/// Takes one of the commonest instructions, where the single operands do. Nothing goes over lists of types here, and where the
+/// instruction is known, so is what it takes and leaves. A refusal says nothing.
 #[inline(always)]
 fn take_common<'a>(scope: &Scope<'a>, stack: &mut Stack<'a>, plain: &Plain) -> Result<(), Stop>
     ensures { Tries (applied (rule_of (with_labels scope.now (labels stack.old)) plain.now) stack.old) result stack.old stack.new }
 {
-    match plain {
-        Plain::LocalGet(x) => match scope.local(*x) {
-            Some(t) => stack.exchange_singles(plainly(&[]), &[t]),
-            None => Err(Stop::Refused),
-        },
-        Plain::LocalSet(x) => match scope.local(*x) {
-            Some(t) => stack.exchange_singles(plainly(&[t]), &[]),
-            None => Err(Stop::Refused),
-        },
-        Plain::LocalTee(x) => match scope.local(*x) {
-            Some(t) => stack.exchange_singles(plainly(&[t]), &[t]),
-            None => Err(Stop::Refused),
-        },
-        Plain::Const(t, _) => stack.exchange_singles(plainly(&[]), &[*t]),
-        Plain::Numeric(Operation::Binary(t, _)) => {
-            stack.exchange_singles(plainly(&[*t, *t]), &[*t])
-        }
-        Plain::Numeric(Operation::Compare(t, _)) => {
-            stack.exchange_singles(plainly(&[*t, *t]), &[ValType::I32])
-        }
-        Plain::Numeric(Operation::Test(t)) => {
-            stack.exchange_singles(plainly(&[*t]), &[ValType::I32])
-        }
-        Plain::GlobalGet(x) => get_global(scope, stack, *x),
-        Plain::GlobalSet(x) => set_global(scope, stack, *x),
-        Plain::Load(op, place) => take_load(scope, stack, *op, *place),
-        Plain::Store(op, place) => take_store(scope, stack, *op, *place),
-        Plain::BrIf(label) => match stack.label(*label) {
-            Some(types) if types.len() < LONG => {
-                stack.exchange_singles(conditionally(types), types)
-            }
-            _ => Err(Stop::Refused),
-        },
-        _ => Err(Stop::Refused),
+    match few_of(scope, stack, plain) {
+        Some((taken, given)) => stack.exchange_few(taken, given),
+        None => Err(Stop::Refused),
     }
 }
 
