@@ -24,7 +24,7 @@ ghost use Rattle.frame_layout.specs.Slots.{link};
 ghost use Rattle.wasm_laws.specs.Immediates.{TokenIsInRange};
 ghost use Rattle.wasm_laws.specs.Sections.{AreBytes};
 ghost use Rattle.body_validator.specs.Checks.{Checked as CheckedGiven, Answered, IsAnswered, IsPlaced, IsReached};
-ghost use Rattle.body_compiler.specs.Steps.{max_lift, AreTied};
+ghost use Rattle.body_compiler.specs.Steps.{max_link, max_lift, AreTied};
 ghost use Rattle.body_compiler.specs.Going.{Beginning, IsCompiling, IsTaking, calling, going_of, Goes, Judges, reading_stop};
 ghost use Rattle.control_emit.specs.Emits.{draft as drafted, IsHeld};
 
@@ -94,7 +94,7 @@ fn take_checked(
     requires range { TokenIsInRange token.now }
     requires taken { (old : CheckedGiven) × (left : ℕ) × AreTied draft.old.function.labels old (left + 1) × (old.checker.frames ≢ [])
         × Answered at token.now (Ok step.now) old check.now }
-    requires slots { link draft.old.function.layout ≤ 51000 }
+    requires slots { link draft.old.function.layout ≤ max_link }
     ensures layout { draft.new.function.layout ≡ draft.old.function.layout }
     ensures rows { draft.new.function.rows ≡ draft.old.function.rows }
     ensures held { OnOk result (IsHeld (drafted draft.new.function.labels draft.new.function.words)) }
@@ -138,7 +138,7 @@ impl TokenSink for BodyDraft {
         (calling d.function.labels d.function.words d.function.calls.items d.function.rows d.sites.items) k.2 };
 
     ghost Fits = { λ check left d. AreTied d.function.labels check left × IsHeld (drafted d.function.labels d.function.words)
-        × (link d.function.layout ≤ 51000) × (5 ≤ length d.function.words) };
+        × (link d.function.layout ≤ max_link) × (5 ≤ length d.function.words) };
 
     #[inline(never)]
     fn take_read(&mut self, check: &mut Check<'_>, at: u64, token: &Token) -> Result<(), BodyStop> {
@@ -175,12 +175,12 @@ pub fn judge_code(
     requires held { IsHeld (drafted draft.old.function.labels draft.old.function.words) }
     requires bytes { AreBytes fields.old.rest }
     requires tied { AreTied draft.old.function.labels check.old (length fields.old.rest) }
-    requires slots { link draft.old.function.layout ≤ 51000 }
+    requires slots { link draft.old.function.layout ≤ max_link }
     requires room { 5 ≤ length draft.old.function.words }
     requires short { draft.old.function.too_long ≡ false }
     ensures over { OnOk result (check.new.checker.frames ≡ []) }
     ensures most { OnOk result (check.new.checker.greatest ≤ max_lift * max_body) }
-    ensures slots { OnOk result (link draft.new.function.layout ≤ 51000) }
+    ensures slots { OnOk result (link draft.new.function.layout ≤ max_link) }
     ensures room { OnOk result (5 ≤ length draft.new.function.words) }
     ensures judges { (c : ContextGiven) (code : SpelledGiven) (front : List ℕ)
         → IsCompiling reading.counted c reading.last fields.old check.old code draft.old.function.layout front

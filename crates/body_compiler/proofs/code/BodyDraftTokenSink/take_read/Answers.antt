@@ -2,6 +2,7 @@ use Rattle.std.proofs.Common.{◌≤◌, ◌∙◌, length, sym, ap, subst, arit
 use Rattle.wasm_defs.specs.Faults.{tokens_of}
 use Rattle.frame_layout.specs.declared.layout.Layout.{Layout}
 use Rattle.frame_layout.specs.Slots.{link}
+use Rattle.body_compiler.specs.Steps.{max_link}
 use Rattle.body_compiler.specs.Going.{IsTaking, calling, going_of}
 use Rattle.body_compiler.proofs.Going.{goes_or_stops, on_any, on_four, on_map, on_three, refused_token}
 use Rattle.body_compiler.proofs.code.BodyDraftTokenSink.take_read.Goals as goal
@@ -11,7 +12,7 @@ returns-in-Ok-clause-fits c =
     λ left later fits less.
     let e = c.take_checked.ensures in
     on_four _ _ _ _ _ (e.tied c.args.check.now left later fits.0 less c.in-Ok.ensures.steps) e.held
-    (on_any _ _ (subst (λ (l : Layout). link l ≤ 51000) (sym e.layout) fits.2))
+    (on_any _ _ (subst (λ (l : Layout). link l ≤ max_link) (sym e.layout) fits.2))
     (on_map (length c.args.self.now.function.words ≤ length c.take_checked.new.draft.function.words) (5 ≤ length c.take_checked.new.draft.function.words) _ (λ g. omega (arith, fits.3, g)) e.grows)
 
 pub returns-in-Ok-clause-goes : goal.returns-in-Ok-clause-goes
