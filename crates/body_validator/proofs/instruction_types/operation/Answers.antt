@@ -1,4 +1,4 @@
-use Rattle.std.proofs.Common.{◌≡◌, ◌∙◌, [], ◌∷◌, refl, sym, ap}
+use Rattle.std.proofs.Common.{◌≡◌, ◌∙◌, [], ◌∷◌, sym, ap}
 use Rattle.std.specs.Prelude.{reverse}
 use Rattle.wasm_defs.specs.declared.operation.NumericType.{NumericType}
 use Rattle.wasm_defs.specs.Typing.{Signature, operand_types, operated}
