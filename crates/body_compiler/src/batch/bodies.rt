@@ -8,6 +8,7 @@ use crate::batch::row::{Row, RowCode, RowCodes, Stored};
 use crate::code::BodyStop;
 use crate::compiling::compile;
 use crate::fitting::fitted;
+use crate::longest::may_be_longer;
 use crate::measuring::measure;
 use body_cutter::{Batch, Body};
 use index_spaces::Context;
@@ -16,7 +17,7 @@ use rv_isa::Code;
 use std::alloc::{AllocError, Global};
 use std::collections::LinkedList;
 use std::sync::Arc;
-use wasm_defs::{FuncType, Refusal};
+use wasm_defs::Refusal;
 
 /// The most instruction words that a worker makes of one body, 4 MiB: each worker may be at such a body.
 const MAX_DRAFT: u64 = 1_048_576;
@@ -100,36 +101,6 @@ fn make_code(
     }))
 }
 
-/// The most values that a function, a block or a branch of these types takes or leaves.
-fn most_values(types: &[FuncType]) -> u64
-    ensures { result ≤ 1000 }
-{
-    let mut most = 0;
-    for ty in types {
-        most = most
-            .max(ty.params.as_slice().len())
-            .max(ty.results.as_slice().len());
-    }
-    most.min(1000) as u64
-}
-
-/// Whether a body is so long that its code may have more instruction words than a worker makes: a byte of it has at most 80 of them, and
-/// six more for each value that a branch takes along.
-fn may_be_long(context: &Context, body: &Body) -> bool {
-    let bytes = body.bytes.as_slice().len() as u64;
-    if bytes <= MAX_DRAFT / 6080 {
-        return false;
-    }
-    let types = context.types();
-    // where the types would take longer than the body, branches may take along as many values as any
-    let values = if types.len() as u64 <= bytes {
-        most_values(types)
-    } else {
-        1000
-    };
-    MAX_DRAFT / (80 + 6 * values) < bytes
-}
-
 /// Validates a body, and counts the instruction words of its code. Where they are more than a worker makes, or the function has no cell,
 /// they take room all the same, and else it is compiled.
 fn count_body(
@@ -183,7 +154,7 @@ fn compile_body(
         return Ok(Made::Cut(short));
     }
     // Why: docs/DECISIONS.md, "A worker makes no long code"
-    if body.index < cells.count() && !may_be_long(context, body) {
+    if body.index < cells.count() && !may_be_longer(context, body, MAX_DRAFT) {
         make_code(alloc, cells, context, body)
     } else {
         count_body(alloc, cells, context, body)
