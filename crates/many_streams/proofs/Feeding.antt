@@ -13,6 +13,7 @@ use Rattle.body_cutter.specs.Cuttings.{Cutting}
 use Rattle.image_linker.specs.Judging.{IsVerdictOf}
 use Rattle.body_compiler.specs.declared.batch.row.Row.{Row}
 use Rattle.result_cells.specs.Rooms.{Store}
+use Rattle.module_stream.specs.Limits.{max_read}
 use Rattle.module_stream.specs.declared.compilation.Compilation.{Compilation}
 use Rattle.module_stream.specs.declared.built.Built.{Built}
 use Rattle.module_stream.specs.declared.built.Checked.{Checked}
@@ -25,15 +26,15 @@ use Rattle.module_stream.proofs.Streaming.{reading_of, going_reading}
 use Rattle.many_streams.specs.declared.member.Part.{Part}
 use Rattle.many_streams.specs.declared.member.Member.{Member}
 use Rattle.many_streams.specs.declared.member.Member.TheVariants as member
-use Rattle.many_streams.specs.Members.{max_fed, KeepsCodes, IsFed, IsRefusedFor, FeedsOn, TakesOn, ResumesOn, IsMember, IsEnded, IsJudged, AreRowsOf}
+use Rattle.many_streams.specs.Members.{KeepsCodes, IsFed, IsRefusedFor, FeedsOn, TakesOn, ResumesOn, IsMember, IsEnded, IsJudged, AreRowsOf}
 
 -- ---- what is looked at
 
 abbrev front : List ℕ → List ℕ
-front came = take max_fed came
+front came = take max_read came
 
-front_length : (came : List ℕ) → length (front came) ≤ max_fed
-front_length came = let l = length-take max_fed came in omega arith
+front_length : (came : List ℕ) → length (front came) ≤ max_read
+front_length came = let l = length-take max_read came in omega arith
 
 take-append : {X : Type 0} (n : ℕ) (xs ys : List X) → take n (xs ++ ys) ≡ take n xs ++ take (n - length (take n xs)) ys
 take-append zero xs ys = refl
@@ -47,13 +48,13 @@ take-append (suc n) (x ∷ xs) ys = ap (λ l. x ∷ l) (take-append n xs ys ∙ 
     fewer a b = omega arith
 
 -- a fault of what was looked at, whatever follows as far as bytes are looked at, is one of the module's, whatever follows
-pub decided_early : (came : List ℕ) (r : Refusal) → length came ≤ max_fed → ((more : List ℕ) → length (came ++ more) ≤ max_fed → IsVerdictOf (came ++ more) (Rejected r)) → (rest : List ℕ) → IsVerdictOf (came ++ rest) (Rejected r)
+pub decided_early : (came : List ℕ) (r : Refusal) → length came ≤ max_read → ((more : List ℕ) → length (came ++ more) ≤ max_read → IsVerdictOf (came ++ more) (Rejected r)) → (rest : List ℕ) → IsVerdictOf (came ++ rest) (Rejected r)
 decided_early came r few v rest =
-    let n = max_fed - length came in
+    let n = max_read - length came in
     elim (cases_lt n (length rest)) [
       | inl over ↦
           let read = came ++ take n rest in
-          let full : max_fed ≤ length read = omega (arith, length-append came (take n rest), length-take n rest) in
+          let full : max_read ≤ length read = omega (arith, length-append came (take n rest), length-take n rest) in
           let whole : read ++ drop n rest ≡ came ++ rest = append_assoc came (take n rest) (drop n rest) ∙ ap (λ (x : List ℕ). came ++ x) (take-append-drop n rest) in
           subst (λ (x : List ℕ). IsVerdictOf x (Rejected r)) whole (verdict_stays read (drop n rest) full (Rejected r) (v (take n rest) (omega (arith, length-append came (take n rest), length-take n rest))))
       | inr fits ↦ v rest (omega (arith, length-append came rest))
@@ -68,31 +69,31 @@ fed_none alloc s p same unread = subst (IsFed []) (sym same) (record { count = r
 
 -- what is looked at decides
 refused_all : (came : List ℕ) (r : Refusal) → IsVerdictOf (front came) (Rejected r) → IsVerdictOf came (Rejected r)
-refused_all came r v = elim (cases_lt (length (front came)) max_fed) [
-  | inl less ↦ subst (λ (l : List ℕ). IsVerdictOf l (Rejected r)) (take_all max_fed came (let l = length-take max_fed came in omega arith)) v
-  | inr full ↦ subst (λ (l : List ℕ). IsVerdictOf l (Rejected r)) (take-append-drop max_fed came) (verdict_stays (front came) (drop max_fed came) full (Rejected r) v)
+refused_all came r v = elim (cases_lt (length (front came)) max_read) [
+  | inl less ↦ subst (λ (l : List ℕ). IsVerdictOf l (Rejected r)) (take_all max_read came (let l = length-take max_read came in omega arith)) v
+  | inr full ↦ subst (λ (l : List ℕ). IsVerdictOf l (Rejected r)) (take-append-drop max_read came) (verdict_stays (front came) (drop max_read came) full (Rejected r) v)
 ]
 
 module _ (came : List ℕ) (p : Part) (f : IsFed came p) where
-  pub room_is : p.fed ≤ max_fed
+  pub room_is : p.fed ≤ max_read
   room_is = let l = front_length came in let c = f.count in omega arith
 
   -- what is looked at of the next piece
-  front_more : (piece part : List ℕ) → part ≡ take (max_fed - p.fed) piece → front (came ++ piece) ≡ front came ++ part
-  front_more piece part is = take-append max_fed came piece ∙ ap (λ (l : List ℕ). front came ++ l) (ap (λ (n : ℕ). take (max_fed - n) piece) (sym f.count) ∙ sym is)
+  front_more : (piece part : List ℕ) → part ≡ take (max_read - p.fed) piece → front (came ++ piece) ≡ front came ++ part
+  front_more piece part is = take-append max_read came piece ∙ ap (λ (l : List ℕ). front came ++ l) (ap (λ (n : ℕ). take (max_read - n) piece) (sym f.count) ∙ sym is)
 
-  going_on : (part more : List ℕ) → length ((front came ++ part) ++ more) ≤ max_fed → Goes ((front came ++ part) ++ more) p.compilation p.intake (part ++ more)
+  going_on : (part more : List ℕ) → length ((front came ++ part) ++ more) ≤ max_read → Goes ((front came ++ part) ++ more) p.compilation p.intake (part ++ more)
   going_on part more few =
       let e = append_assoc (front came) part more in
       subst (λ (l : List ℕ). Goes l p.compilation p.intake (part ++ more)) (sym e) (f.going (part ++ more) (omega (arith, ap length e)))
 
-  pub may_take : (piece part : List ℕ) → part ≡ take (max_fed - p.fed) piece → (bytes more : List ℕ) × Goes bytes p.compilation p.intake (part ++ more)
+  pub may_take : (piece part : List ℕ) → part ≡ take (max_read - p.fed) piece → (bytes more : List ℕ) × Goes bytes p.compilation p.intake (part ++ more)
   may_take piece part is =
       let l = front_length (came ++ piece) in
       let e = ap length (front_more piece part is) in
       ((front came ++ part) ++ [], [], going_on part [] (let n = ap length (append-nil (front came ++ part)) in omega arith))
 
-  pub fed_on : (piece part : List ℕ) (q : Part) → part ≡ take (max_fed - p.fed) piece → All (λ b. b < 256) part → q.fed ≡ p.fed + length part
+  pub fed_on : (piece part : List ℕ) (q : Part) → part ≡ take (max_read - p.fed) piece → All (λ b. b < 256) part → q.fed ≡ p.fed + length part
       → ((bytes more : List ℕ) → Goes bytes p.compilation p.intake (part ++ more) → Goes bytes q.compilation q.intake more) → IsFed (came ++ piece) q
   fed_on piece part q is low more_fed goes =
       let e = front_more piece part is in
@@ -100,21 +101,21 @@ module _ (came : List ℕ) (p : Part) (f : IsFed came p) where
         count = let c = f.count in let l = length-append (front came) part in let g = ap length e in omega arith;
         bytes = subst (All (λ b. b < 256)) (sym e) (All-append (λ b. b < 256) (front came) part f.bytes low);
         going = λ more few.
-            let g = subst (λ (l : List ℕ). length (l ++ more) ≤ max_fed) e few in
+            let g = subst (λ (l : List ℕ). length (l ++ more) ≤ max_read) e few in
             subst (λ (l : List ℕ). Goes (l ++ more) q.compilation q.intake more) (sym e) (goes ((front came ++ part) ++ more) more (going_on part more g));
       }
 
-  pub fed_refused : (piece part : List ℕ) (r : Refusal) → part ≡ take (max_fed - p.fed) piece
+  pub fed_refused : (piece part : List ℕ) (r : Refusal) → part ≡ take (max_read - p.fed) piece
       → ((bytes more : List ℕ) → Goes bytes p.compilation p.intake (part ++ more) → IsVerdictOf bytes (Rejected r)) → IsRefusedFor (came ++ piece) r
   fed_refused piece part r is goes rest =
       let e = front_more piece part is in
       let l = front_length (came ++ piece) in
-      let whole : (front came ++ part) ++ (drop max_fed (came ++ piece) ++ rest) ≡ (came ++ piece) ++ rest =
-      ap (λ (x : List ℕ). x ++ (drop max_fed (came ++ piece) ++ rest)) (sym e) ∙ (sym (append_assoc (front (came ++ piece)) (drop max_fed (came ++ piece)) rest) ∙ ap (λ (x : List ℕ). x ++ rest) (take-append-drop max_fed (came ++ piece))) in
+      let whole : (front came ++ part) ++ (drop max_read (came ++ piece) ++ rest) ≡ (came ++ piece) ++ rest =
+      ap (λ (x : List ℕ). x ++ (drop max_read (came ++ piece) ++ rest)) (sym e) ∙ (sym (append_assoc (front (came ++ piece)) (drop max_read (came ++ piece)) rest) ∙ ap (λ (x : List ℕ). x ++ rest) (take-append-drop max_read (came ++ piece))) in
       subst (λ (x : List ℕ). IsVerdictOf x (Rejected r)) whole
-      (decided_early (front came ++ part) r (let g = ap length e in omega arith) (λ more few. goes ((front came ++ part) ++ more) more (going_on part more few)) (drop max_fed (came ++ piece) ++ rest))
+      (decided_early (front came ++ part) r (let g = ap length e in omega arith) (λ more few. goes ((front came ++ part) ++ more) more (going_on part more few)) (drop max_read (came ++ piece) ++ rest))
 
-  pub fed_stop : (piece part : List ℕ) (e : FrontStop) (q q' : Part) → part ≡ take (max_fed - p.fed) piece
+  pub fed_stop : (piece part : List ℕ) (e : FrontStop) (q q' : Part) → part ≡ take (max_read - p.fed) piece
       → ((bytes more : List ℕ) → Goes bytes p.compilation p.intake (part ++ more) → TakesOn bytes (Err e) q more) → FeedsOn (came ++ piece) (Err e) q'
   fed_stop piece part (Refused r) q q' is goes = fed_refused piece part r is goes
   fed_stop piece part NoMemory q q' is goes = tt
@@ -152,8 +153,8 @@ module _ (came : List ℕ) (p : Part) (f : IsFed came p) where
     pub done_on : (s : Compilation) → ((bytes : List ℕ) → All (λ b. b < 256) bytes → IsGoing bytes p.compilation [] → Decides bytes (Ok tt) s) → IsDone came s
     done_on s ends =
         let d = ends (front came) f.bytes going_all in
-        elim (cases_lt (length (front came)) max_fed) [
-          | inl less ↦ subst (λ (l : List ℕ). IsDone l s) (take_all max_fed came (let l = length-take max_fed came in omega arith)) d
+        elim (cases_lt (length (front came)) max_read) [
+          | inl less ↦ subst (λ (l : List ℕ). IsDone l s) (take_all max_read came (let l = length-take max_read came in omega arith)) d
           | inr full ↦ absurd (no_module (front came) full d.«module» d.is.is)
         ]
 

@@ -8,6 +8,7 @@ use Rattle.image_linker.specs.Judging.{IsVerdictOf}
 use Rattle.body_compiler.specs.declared.batch.row.Row.{Row}
 use Rattle.body_compiler.specs.BatchRows.{IsRowIf}
 use Rattle.result_cells.specs.Rooms.{Store}
+use Rattle.module_stream.specs.Limits.{max_read}
 use Rattle.module_stream.specs.declared.compilation.Compilation.{Compilation}
 use Rattle.module_stream.specs.Done.{IsBuilt, IsValid}
 use Rattle.module_stream.specs.Streaming.{IsGoing}
@@ -20,15 +21,11 @@ use Rattle.many_streams.specs.declared.member.Each.TheVariants as each
 use Rattle.many_streams.specs.declared.member.EachChecked.{EachChecked}
 use Rattle.many_streams.specs.declared.member.EachChecked.TheVariants as checked
 
--- so many bytes decide about any module
-abbrev pub max_fed : ℕ
-max_fed = 67108869
-
 -- these bytes were taken, and no error of them is known, save that of a section whose bodies are kept
 pub record IsFed (came : List ℕ) (p : Part) : Type 0 where
-  pub count : p.fed ≡ length (take max_fed came)
-  pub bytes : All (λ b. b < 256) (take max_fed came)
-  pub going : (more : List ℕ) → length (take max_fed came ++ more) ≤ max_fed → Goes (take max_fed came ++ more) p.compilation p.intake more
+  pub count : p.fed ≡ length (take max_read came)
+  pub bytes : All (λ b. b < 256) (take max_read came)
+  pub going : (more : List ℕ) → length (take max_read came ++ more) ≤ max_read → Goes (take max_read came ++ more) p.compilation p.intake more
 
 -- whatever bytes follow, this is their error of least offset
 abbrev pub IsRefusedFor : List ℕ → Refusal → Type 0

@@ -10,13 +10,10 @@ ghost use Rattle.many_streams.specs.Members.{KeepsCodes, IsFed, FeedsOn, TakesOn
 
 use crate::intake::Intake;
 use body_compiler::Row;
-use module_stream::{Built, Checked, Codes, Compilation};
+use module_stream::{Built, Checked, Codes, Compilation, MAX_READ};
 use result_cells::Cells;
 use std::alloc::{AllocError, Global};
 use wasm_defs::{FrontStop, Refusal};
-
-/// The most bytes of a module that are looked at: so many decide about any.
-const MAX_FED: usize = 67_108_869;
 
 /// What compiling one module comes to.
 #[derive(Drop)]
@@ -108,7 +105,7 @@ impl Part {
         ensures fed { (came : List ℕ) → IsFed came self.old → FeedsOn (came ++ piece.now) result self.new }
         ensures kept { KeepsAlike self.old.compilation.codes self.new.compilation.codes }
     {
-        let part = front_of(piece, MAX_FED - self.fed);
+        let part = front_of(piece, MAX_READ - self.fed);
         match self.take(part, waits) {
             Ok(()) => {
                 self.fed += part.len();

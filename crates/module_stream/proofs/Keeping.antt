@@ -14,6 +14,7 @@ use Rattle.body_cutter.specs.declared.body.Body.{Body}
 use Rattle.body_cutter.specs.Places.{Place}
 use Rattle.body_cutter.specs.Cuttings.{Cutting, Handed, left, IsFed, IsRefused}
 use Rattle.image_linker.specs.Judging.{IsVerdictOf}
+use Rattle.module_stream.specs.Limits.{max_read}
 use Rattle.module_stream.specs.declared.compilation.Compilation.{Compilation}
 use Rattle.module_stream.specs.Codes.{Coding}
 use Rattle.module_stream.specs.CutBodies.{counts_data, coded_all, cut_run, sections_behind}
@@ -121,7 +122,7 @@ module _ (bytes : List ℕ) (s : Compilation) where
 
 -- validating these bodies comes to this, whatever comes after them
 abbrev pub JudgesAll : (s t : Compilation) → List Body → Result (Unit {0}) FrontStop → Type 0
-JudgesAll s t kept r = (bytes : List ℕ) (run : Run) (counted : Bool) → length bytes ≤ 67108869 → IsJudging bytes (after_parts (coded_all counted kept) run) s.spaces s.codes → TakesPart bytes r run t.spaces t.codes
+JudgesAll s t kept r = (bytes : List ℕ) (run : Run) (counted : Bool) → length bytes ≤ max_read → IsJudging bytes (after_parts (coded_all counted kept) run) s.spaces s.codes → TakesPart bytes r run t.spaces t.codes
 
 module _ (bytes : List ℕ) (s t : Compilation) (kept : List Body) where
   module _ (c : Cutting) (more : List ℕ) (g : IsGoing bytes (with_bodies s kept c) more) where
@@ -149,7 +150,7 @@ module _ (bytes : List ℕ) (s t : Compilation) (kept : List Body) where
     pub keeping_stops : (e : FrontStop) (later : List ℕ) → JudgesAll s t kept (Err e) → GoesOn bytes (Err e) t later
     keeping_stops e later takes = part_goes bytes behind_kept e t later (takes bytes behind_kept (counts_data s.front.steps.seen) g.few kept_next)
 
-  module _ (r : Refusal) (few : length bytes ≤ 67108869) (j : HasSectionError bytes s kept r) where
+  module _ (r : Refusal) (few : length bytes ≤ max_read) (j : HasSectionError bytes s kept r) where
     pub faulty_can : CanTakeAll s.spaces s.codes kept
     faulty_can = (bytes, ends (Refused r), few, counts_data s.front.steps.seen, j)
 

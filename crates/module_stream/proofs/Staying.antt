@@ -4,6 +4,7 @@ use Rattle.wasm_defs.specs.declared.fault.Refusal.{Refusal}
 use Rattle.wasm_defs.specs.Outside.{Run, Ending, Refused, module_read}
 use Rattle.wasm_defs.specs.Faults.{Module, Verdict, Accepted, Rejected, IsFaultInside, ending_fault}
 use Rattle.wasm_laws.proofs.Bounded.{module_is_refused, module_stays}
+use Rattle.module_stream.specs.Limits.{max_read}
 use Rattle.image_linker.specs.Judging.{IsTextFault, IsVerdictOf}
 
 -- an error of a module with this run, of so many bytes, and that of least offset
@@ -21,7 +22,7 @@ first_stays n m run later stop r e same p =
     subst (λ (x : Run). IsFirstIn m x r) (sym (same ∙ is)) here
 
 -- as many bytes as are read at most are no module
-pub no_module : (read : List ℕ) → 67108869 ≤ length read → (m : Module) → IsVerdictOf read (Accepted m) → ⊥
+pub no_module : (read : List ℕ) → max_read ≤ length read → (m : Module) → IsVerdictOf read (Accepted m) → ⊥
 no_module read le m v =
     let h = module_is_refused read le in
     let k : ending_fault (length read) (module_read read).ending ≡ Some h.0 = ap (ending_fault (length read)) h.1 in
@@ -29,7 +30,7 @@ no_module read le m v =
     absurd (let t : Some h.0 ≡ None = sym k ∙ none in cc)
 
 -- and more bytes after them change nothing
-pub verdict_stays : (read more : List ℕ) → 67108869 ≤ length read → (v : Verdict) → IsVerdictOf read v → IsVerdictOf (read ++ more) v
+pub verdict_stays : (read more : List ℕ) → max_read ≤ length read → (v : Verdict) → IsVerdictOf read v → IsVerdictOf (read ++ more) v
 verdict_stays read more le (Accepted m) v = absurd (no_module read le m v)
 verdict_stays read more le (Rejected r) v =
     let h = module_is_refused read le in

@@ -21,6 +21,7 @@ use Rattle.body_cutter.specs.Sections as cut
 use Rattle.body_cutter.specs.Places.{Place}
 use Rattle.body_cutter.specs.Cuttings.{Cutting, Handed, left, handed, no_batch, is_whole, IsFed, IsRefused, Ends}
 use Rattle.image_linker.specs.Judging.{IsVerdictOf}
+use Rattle.module_stream.specs.Limits.{max_read}
 use Rattle.module_stream.specs.declared.compilation.Compilation.{Compilation}
 use Rattle.module_stream.specs.CutBodies.{counts_data, coded_all, cut_run, sections_behind}
 use Rattle.wasm_defs.specs.declared.fault.Kind.TheVariants.{Ended}
@@ -41,12 +42,12 @@ use Rattle.wasm_laws.proofs.Described.{whole_ending}
 -- ---- what came is right
 
 pub record IsReading (bytes : List ℕ) (f : Front) (spaces : Spaces) (codes : Coding) (more : List ℕ) : Type 0 where
-  pub few : length bytes ≤ 67108869
+  pub few : length bytes ≤ max_read
   pub judging : IsJudging bytes (remaining_parts f more) spaces codes
   pub place : IsOutside f (length bytes) more
 
 pub record IsCutting (bytes : List ℕ) (f : Front) (c : Cutting) (spaces : Spaces) (codes : Coding) (more : List ℕ) : Type 0 where
-  pub few : length bytes ≤ 67108869
+  pub few : length bytes ≤ max_read
   pub judging : IsJudging bytes (cut_run (counts_data f.steps.seen) (left c more) (sections_behind f.steps.seen c.place.at c.place.end more)) spaces codes
   pub skips : can_skip f c.place.end ≡ true
   pub count : c.place.at + length more ≡ length bytes
@@ -90,7 +91,7 @@ module _ (bytes : List ℕ) (s : Compilation) (more : List ℕ) where
 
 -- ---- before the first byte
 
-pub reading_begins : (bytes : List ℕ) (f : Front) (spaces : Spaces) (codes : Coding) → length bytes ≤ 67108869 → remaining_parts f bytes ≡ module_read bytes → total f ≡ 0 → is_at_bodies f.steps.stage ≡ false → f.waiting ≡ None → spaces ≡ spaces_of [] → AreAll codes []
+pub reading_begins : (bytes : List ℕ) (f : Front) (spaces : Spaces) (codes : Coding) → length bytes ≤ max_read → remaining_parts f bytes ≡ module_read bytes → total f ≡ 0 → is_at_bodies f.steps.stage ≡ false → f.waiting ≡ None → spaces ≡ spaces_of [] → AreAll codes []
     → IsReading bytes f spaces codes bytes
 reading_begins bytes f spaces codes few is none apart idle empty uncoded = record {
   few = few;
@@ -302,7 +303,7 @@ module _ (bytes : List ℕ) (f : Front) (old mid new : Cutting) (spaces : Spaces
   end_same : new.place.end ≡ old.place.end
   end_same = ap (λ (p : Place). p.end) place ∙ fed.place.1
 
-  pub cutting_on : can_skip f old.place.end ≡ true → length bytes ≤ 67108869 → old.place.at + length (piece ++ more) ≡ length bytes → IsJudging bytes (rest_run f.steps.seen mid behind_piece) spaces codes
+  pub cutting_on : can_skip f old.place.end ≡ true → length bytes ≤ max_read → old.place.at + length (piece ++ more) ≡ length bytes → IsJudging bytes (rest_run f.steps.seen mid behind_piece) spaces codes
       → IsCutting bytes f new spaces codes behind_piece
   cutting_on skips few count j = record {
     few = few;
@@ -332,7 +333,7 @@ module _ (bytes : List ℕ) (f : Front) (old mid new : Cutting) (spaces : Spaces
     skipped_run : (later : List ℕ) → rest_run f.steps.seen mid later ≡ remaining_parts g later
     skipped_run later = judged_run later ∙ whole_run f.steps.seen new later whole (is later) closed ∙ sym (skipped later)
 
-    pub reading_behind : length bytes ≤ 67108869 → old.place.at + length (piece ++ more) ≡ length bytes → IsJudging bytes (rest_run f.steps.seen mid behind_piece) spaces codes
+    pub reading_behind : length bytes ≤ max_read → old.place.at + length (piece ++ more) ≡ length bytes → IsJudging bytes (rest_run f.steps.seen mid behind_piece) spaces codes
         → g.steps.stage ≡ stage.Between → total g ≡ new.place.end → g.waiting ≡ None → IsReading bytes g spaces codes behind_piece
     reading_behind few count j between all idle = record {
       few = few;

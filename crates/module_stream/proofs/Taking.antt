@@ -34,6 +34,7 @@ use Rattle.image_linker.specs.Codes.{IsCodeOf}
 use Rattle.image_linker.specs.Judging.{limit_at}
 use Rattle.wasm_laws.specs.Order.{first_section}
 use Rattle.wasm_laws.proofs.Order.{around_body, parts_in_module}
+use Rattle.module_stream.specs.Limits.{max_read}
 use Rattle.module_stream.specs.Codes.{Coding}
 use Rattle.module_stream.specs.Progress.{IsJudged, IsJudging, CanTakeNext, TakesPart, TakesBody, TakesCode, stop_at, body_of_spaces}
 use Rattle.module_stream.proofs.Judging.{told_there, typed_there, few_functions, few_bodies, few_imports}
@@ -118,7 +119,7 @@ item_is_small bytes left spaces bodies x j =
     let e = ap items_of j.parts ∙ items_of-append j.front (outside.Listed x ∷ left.parts) in
     one_is_small (items_of j.front) x (items_of left.parts) (subst (λ (items : List Item). TypesAreSmall (types_of items)) e (types_are_small bytes))
 
-pub can_take : (bytes : List ℕ) (left : Run) (spaces : Spaces) (codes : Coding) (b : GivenBody) (counted : Bool) → length bytes ≤ 67108869
+pub can_take : (bytes : List ℕ) (left : Run) (spaces : Spaces) (codes : Coding) (b : GivenBody) (counted : Bool) → length bytes ≤ max_read
     → IsJudging bytes (after_part (outside.Coded (given_body counted b)) left) spaces codes → CanTakeNext spaces codes b
 can_take bytes left spaces codes b counted few j =
     let next = after_part (outside.Coded (given_body counted b)) left in

@@ -23,6 +23,7 @@ use Rattle.body_compiler.specs.Counting.{Measures}
 use Rattle.image_linker.specs.ImageOf.{front_of}
 use Rattle.image_linker.specs.Codes.{IsCodeOf}
 use Rattle.image_linker.specs.Judging.{text_bytes, limit_at, IsTextFault, IsVerdictOf}
+use Rattle.module_stream.specs.Limits.{max_read}
 use Rattle.module_stream.specs.Codes.{Coding, AreAll, with_code}
 use Rattle.module_stream.specs.CutBodies.{coded_all}
 
@@ -78,7 +79,7 @@ CanTakeNext spaces codes b = CanTake spaces codes.count b × (codes.count < 2 ^ 
 -- bodies can be taken: of some module they come next, after what is right
 abbrev pub CanTakeAll : Spaces → Coding → List GivenBody → Type 0
 CanTakeAll spaces codes bodies =
-    (bytes : List ℕ) × (left : Run) × (length bytes ≤ 67108869) × (counted : Bool) × IsJudging bytes (after_parts (coded_all counted bodies) left) spaces codes
+    (bytes : List ℕ) × (left : Run) × (length bytes ≤ max_read) × (counted : Bool) × IsJudging bytes (after_parts (coded_all counted bodies) left) spaces codes
 
 -- parts were taken; or the module's error is found
 abbrev pub TakesPart : List ℕ → Result (Unit {0}) FrontStop → Run → Spaces → Coding → Type 0

@@ -16,6 +16,7 @@ use Rattle.body_cutter.specs.declared.body.Body.{Body}
 use Rattle.body_cutter.specs.Queues.{bytes_of}
 use Rattle.body_cutter.specs.Cuttings.{Cutting, left, is_whole}
 use Rattle.image_linker.specs.Judging.{IsVerdictOf}
+use Rattle.module_stream.specs.Limits.{max_read}
 use Rattle.module_stream.specs.declared.compilation.Compilation.{Compilation}
 use Rattle.module_stream.specs.Codes.{KeepsAlike}
 use Rattle.module_stream.specs.CutBodies.{counts_data, cut_run, sections_behind}
@@ -49,13 +50,13 @@ IsPlaced least f (Some c) len more = IsInside least f c len more
 
 -- of these bytes those are still to come: what came is right so far, and its bodies are compiled
 pub record IsGoing (bytes : List ℕ) (s : Compilation) (more : List ℕ) : Type 0 where
-  pub few : length bytes ≤ 67108869
+  pub few : length bytes ≤ max_read
   pub judging : IsJudging bytes (left_of s.front s.cutter more) s.spaces s.codes
   pub place : IsPlaced s.batch s.front s.cutter (length bytes) more
 
 -- nothing was read yet
 abbrev pub IsUnread : Compilation → Type 0
-IsUnread s = (bytes : List ℕ) → length bytes ≤ 67108869 → IsGoing bytes s bytes
+IsUnread s = (bytes : List ℕ) → length bytes ≤ max_read → IsGoing bytes s bytes
 
 -- there are such bytes
 abbrev pub MayGo : Compilation → List ℕ → Type 0
@@ -89,7 +90,7 @@ IsErrorFree s = HasNoError (left_of s.front s.cutter [])
 
 -- an item was read and isn't taken yet; what came before it is right
 pub record IsTaking (bytes : List ℕ) (s : Compilation) (x : Item) (more : List ℕ) : Type 0 where
-  pub few : length bytes ≤ 67108869
+  pub few : length bytes ≤ max_read
   pub judging : IsJudging bytes (after_part (Listed x) (remaining_parts s.front more)) s.spaces s.codes
   pub outside : s.cutter ≡ None
   pub idle : s.front.waiting ≡ None

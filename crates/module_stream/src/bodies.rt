@@ -11,6 +11,7 @@ ghost use Rattle.image_linker.specs.Judging.{limit_at};
 ghost use Rattle.module_stream.specs.Codes.{KeepsAlike};
 ghost use Rattle.module_stream.specs.CutBodies.{coded_all};
 ghost use Rattle.module_stream.specs.Progress.{IsJudging, CanTake, CanTakeNext, CanTakeAll, stop_at, TakesBody, CountsBody, TakesCode, TakesPart, KeepsLimit};
+ghost use Rattle.module_stream.specs.Limits.{max_read};
 
 use crate::codes::Codes;
 use body_compiler::{BodyStop, compile, measure};
@@ -210,7 +211,7 @@ pub fn take_batch(
     batch: Batch,
 ) -> Result<(), FrontStop>
     requires { CanTakeAll spaces.now codes.old batch.bodies }
-    ensures takes { (bytes : List ℕ) (left : RunGiven) (counted : Bool) → length bytes ≤ 67108869
+    ensures takes { (bytes : List ℕ) (left : RunGiven) (counted : Bool) → length bytes ≤ max_read
         → IsJudging bytes (after_parts (coded_all counted batch.bodies) left) spaces.now codes.old
         → TakesPart bytes result left spaces.now codes.new }
     ensures kept { KeepsAlike codes.old codes.new }
@@ -236,7 +237,7 @@ pub fn take_batches(
     ensures place { cutter.new.place ≡ cutter.old.place }
     ensures queue { OnOk result ((cutter.new.queue.closed ≡ []) × (cutter.new.queue.begun ≡ cutter.old.queue.begun)
         × (cutter.new.queue.least ≡ cutter.old.queue.least)) }
-    ensures takes { (bytes : List ℕ) (left : RunGiven) (counted : Bool) → length bytes ≤ 67108869
+    ensures takes { (bytes : List ℕ) (left : RunGiven) (counted : Bool) → length bytes ≤ max_read
         → IsJudging bytes (after_parts (coded_all counted cutter.old.queue.closed) left) spaces.now codes.old
         → TakesPart bytes result left spaces.now codes.new }
     ensures kept { KeepsAlike codes.old codes.new }

@@ -33,6 +33,7 @@ ghost use Rattle.module_stream.specs.Done.{IsDone, Decides, IsBuilt};
 ghost use Rattle.module_stream.specs.Done.{checked_of};
 ghost use Rattle.module_stream.specs.Streaming.{IsGoing, IsErrorFree, IsUnread, MayGo, MayEnd, GoesOn, Advances, Lessens, IsWaiting, AllWait, WaitsAfter};
 ghost use Rattle.module_stream.specs.Streaming.{with_cutter, KeepsRest, IsTaking, MayTake, MayBegin, TakesItem};
+ghost use Rattle.module_stream.specs.Limits.{max_read};
 
 use crate::bodies::take_batches;
 use crate::built::{Built, Checked};
@@ -188,7 +189,7 @@ impl Compilation {
         ensures place { cutter.new.place ≡ cutter.old.place }
         ensures queue { OnOk result ((cutter.new.queue.closed ≡ []) × (cutter.new.queue.begun ≡ cutter.old.queue.begun)
             × (cutter.new.queue.least ≡ cutter.old.queue.least)) }
-        ensures takes { (bytes : List ℕ) (left : RunGiven) (counted : Bool) → length bytes ≤ 67108869
+        ensures takes { (bytes : List ℕ) (left : RunGiven) (counted : Bool) → length bytes ≤ max_read
             → IsJudging bytes (after_parts (coded_all counted cutter.old.queue.closed) left) self.old.spaces self.old.codes
             → TakesPart bytes result left self.new.spaces self.new.codes }
     {
@@ -235,7 +236,7 @@ impl Compilation {
         requires can { CanTakeAll self.old.spaces self.old.codes (kept_bodies kept.items) }
         requires rows { All (IsRowIf self.old.spaces cells.now) rows.items }
         ensures rest { KeepsRest self.old self.new }
-        ensures takes { (bytes : List ℕ) (left : RunGiven) (counted : Bool) → length bytes ≤ 67108869
+        ensures takes { (bytes : List ℕ) (left : RunGiven) (counted : Bool) → length bytes ≤ max_read
             → IsJudging bytes (after_parts (coded_all counted (kept_bodies kept.items)) left) self.old.spaces self.old.codes
             → TakesPart bytes result left self.new.spaces self.new.codes }
     {

@@ -9,10 +9,12 @@ mod bodies;
 mod built;
 mod codes;
 mod compilation;
+mod limits;
 mod settings;
 mod shared;
 
 pub use built::{Built, Checked};
 pub use codes::Codes;
 pub use compilation::Compilation;
+pub use limits::MAX_READ;
 pub use settings::Settings;

@@ -10,6 +10,7 @@ ghost use Rattle.module_stream.specs.CutBodies.{coded_all};
 ghost use Rattle.body_compiler.specs.BatchRows.{IsRowIf};
 ghost use Rattle.module_stream.specs.Kept.{kept_bodies, AreFront};
 ghost use Rattle.module_stream.specs.Progress.{IsJudging, CanTakeNext, CanTakeAll, TakesBody, TakesCode, TakesPart};
+ghost use Rattle.module_stream.specs.Limits.{max_read};
 
 use crate::bodies::{count_code, limit_at, share_code, take_code};
 use crate::codes::Codes;
@@ -137,7 +138,7 @@ fn take_bodies(
 ) -> Result<(), FrontStop>
     requires can { CanTakeAll spaces.now codes.old bodies.now }
     requires made { AreFront spaces.now cells.now bodies.now (reverse made.items) }
-    ensures takes { (bytes : List ℕ) (left : RunGiven) (counted : Bool) → length bytes ≤ 67108869
+    ensures takes { (bytes : List ℕ) (left : RunGiven) (counted : Bool) → length bytes ≤ max_read
         → IsJudging bytes (after_parts (coded_all counted bodies.now) left) spaces.now codes.old
         → TakesPart bytes result left spaces.now codes.new }
     ensures kept { KeepsAlike codes.old codes.new }
@@ -209,7 +210,7 @@ pub fn take_kept(
 ) -> Result<(), FrontStop>
     requires can { CanTakeAll spaces.now codes.old (kept_bodies kept.items) }
     requires rows { All (IsRowIf spaces.now cells.now) rows.items }
-    ensures takes { (bytes : List ℕ) (left : RunGiven) (counted : Bool) → length bytes ≤ 67108869
+    ensures takes { (bytes : List ℕ) (left : RunGiven) (counted : Bool) → length bytes ≤ max_read
         → IsJudging bytes (after_parts (coded_all counted (kept_bodies kept.items)) left) spaces.now codes.old
         → TakesPart bytes result left spaces.now codes.new }
     ensures kept { KeepsAlike codes.old codes.new }

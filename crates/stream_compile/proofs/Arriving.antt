@@ -8,6 +8,7 @@ use Rattle.wasm_defs.specs.declared.front_stop.FrontStop.{FrontStop}
 use Rattle.io_edges.specs.Causes.{Rose}
 use Rattle.stream_compile.specs.declared.chunk.ReadStatus.{ReadStatus}
 use Rattle.stream_compile.specs.declared.chunk.ReadStatus.TheVariants.{Bytes, Full, End, Failed}
+use Rattle.module_stream.specs.Limits.{max_read}
 use Rattle.module_stream.specs.declared.compilation.Compilation.{Compilation}
 use Rattle.stream_compile.specs.Arriving.{StandsAt, IsArriving, has_failed}
 use Rattle.stream_compile.specs.Received.{IsRead}
@@ -76,7 +77,7 @@ module _ (closing : Option ℕ) (first : Option (List ℕ)) (before : ℕ) where
     abbrev all : List ℕ
     all = a.came ++ a.piece
 
-    pub few_all : length all ≤ 67108869
+    pub few_all : length all ≤ max_read
     few_all = let few = a.few in let count = a.count in omega arith
 
     pub is_read : IsRead closing first left all
@@ -86,7 +87,7 @@ module _ (closing : Option ℕ) (first : Option (List ℕ)) (before : ℕ) where
     may_go = (all ++ [], [], a.going [] (let few = few_all in let n = append-nil all in omega (arith, few, ap length n)))
 
     -- where none is pending
-    going_none : c.pending ≡ [] → (more : List ℕ) → length (all ++ more) ≤ 67108869 → IsGoing (all ++ more) s more
+    going_none : c.pending ≡ [] → (more : List ℕ) → length (all ++ more) ≤ max_read → IsGoing (all ++ more) s more
     going_none none more few = subst (λ (l : List ℕ). IsGoing (all ++ more) s (l ++ more)) none (a.going more few)
 
     pub going_here : c.pending ≡ [] → IsGoing all s []
@@ -117,7 +118,7 @@ module _ (closing : Option ℕ) (first : Option (List ℕ)) (before : ℕ) where
         goes_on t d batch (ap (λ (x : Chunked). x.count) is) (ap (λ (x : Chunked). x.came) is) (λ bytes more g. subst (λ (x : Chunked). IsGoing bytes t (x.pending ++ more)) (sym is) (goes bytes more g))
 
     -- the compilation found what the bytes come to
-    pub stops_there : (stop : FrontStop) (t : Compilation) → ((more : List ℕ) → length (all ++ more) ≤ 67108869 → GoesOn (all ++ more) (Err stop) t more) → before < 2 ^ 64 - 1 → Settled closing (has_failed c.came) (Err stop) t first left before now
+    pub stops_there : (stop : FrontStop) (t : Compilation) → ((more : List ℕ) → length (all ++ more) ≤ max_read → GoesOn (all ++ more) (Err stop) t more) → before < 2 ^ 64 - 1 → Settled closing (has_failed c.came) (Err stop) t first left before now
     stops_there stop t goes low = of c.came a.stands
       where
         of : (x : ReadStatus) → StandsAt x left before now c.count may_read → Settled closing (has_failed x) (Err stop) t first left before now
@@ -159,7 +160,7 @@ module _ (closing : Option ℕ) (first : Option (List ℕ)) (before : ℕ) where
     pub may_be_read : c.came ≡ Bytes → may_read ≡ true
     may_be_read is = (at_bytes is).1
 
-    pub read_full : (d : Chunked) → c.came ≡ Bytes → d ≡ record c { came = Full } → 67108869 ≤ c.count → IsArriving closing first before left now may_read s d
+    pub read_full : (d : Chunked) → c.came ≡ Bytes → d ≡ record c { came = Full } → max_read ≤ c.count → IsArriving closing first before left now may_read s d
     read_full d is e le = stands_so left now may_read Full d e refl ((at_bytes is).0, le)
 
     pub read_end : (left' : Option (List ℕ)) (now' : ℕ) (may_read' : Bool) (d : Chunked) → c.came ≡ Bytes → d ≡ record c { came = End } → IsAtEnd left → left' ≡ left → now' ≡ now → IsArriving closing first before left' now' may_read' s d
@@ -169,7 +170,7 @@ module _ (closing : Option ℕ) (first : Option (List ℕ)) (before : ℕ) where
     read_failed left' now' may_read' d is e same rose = stands_so left' now' may_read' Failed d e same (subst (λ (n : ℕ). Rose n now') (at_bytes is).0 rose)
 
     pub read_more : (left' : Option (List ℕ)) (now' : ℕ) (may_read' : Bool) (piece : List ℕ) (d : Chunked) → c.came ≡ Bytes → c.pending ≡ [] → IsErrorFree s → ClosedAreValid closing s → d ≡ record { pending = piece; count = c.count + length piece; came = Bytes }
-        → All (λ b. b < 256) piece → length piece ≤ 65536 → c.count + length piece ≤ 67108869 → left ≡ prepend_known piece left' → now' ≡ now → may_read' ≡ true → IsArriving closing first before left' now' may_read' s d
+        → All (λ b. b < 256) piece → length piece ≤ 65536 → c.count + length piece ≤ max_read → left ≡ prepend_known piece left' → now' ≡ now → may_read' ≡ true → IsArriving closing first before left' now' may_read' s d
     read_more left' now' may_read' piece d is none free valid e are short few took calm may =
         subst (λ (y : Chunked). IsArriving closing first before left' now' may_read' s y) (sym e) (record {
           came = all;
@@ -186,7 +187,7 @@ module _ (closing : Option ℕ) (first : Option (List ℕ)) (before : ℕ) where
         })
 
     pub read_bytes : (left' : Option (List ℕ)) (now' : ℕ) (may_read' : Bool) (n room : ℕ) (xs : List ℕ) (d : Chunked) → c.came ≡ Bytes → c.pending ≡ [] → IsErrorFree s → ClosedAreValid closing s → d ≡ record { pending = take n xs; count = c.count + n; came = Bytes }
-        → All (λ b. b < 256) xs → n ≤ length (take room xs) → room ≤ 65536 → c.count + room ≤ 67108869 → left ≡ prepend_known (take n (take room xs)) left' → now' ≡ now → may_read' ≡ true → IsArriving closing first before left' now' may_read' s d
+        → All (λ b. b < 256) xs → n ≤ length (take room xs) → room ≤ 65536 → c.count + room ≤ max_read → left ≡ prepend_known (take n (take room xs)) left' → now' ≡ now → may_read' ≡ true → IsArriving closing first before left' now' may_read' s d
     read_bytes left' now' may_read' n room xs d is none free valid e are fits short few took calm may =
         let len : length (take n xs) ≡ n = omega (arith, length-take n xs, length-take room xs) in
         let within : n ≤ room = omega (arith, length-take room xs) in

@@ -6,6 +6,7 @@ use Rattle.wasm_defs.specs.declared.front_stop.FrontStop.{FrontStop}
 use Rattle.wasm_defs.specs.declared.front_stop.FrontStop.TheVariants as stop
 use Rattle.body_cutter.specs.declared.body.Body.{Body}
 use Rattle.body_cutter.specs.Cuttings.{Cutting, IsFed, IsRefused}
+use Rattle.module_stream.specs.Limits.{max_read}
 use Rattle.module_stream.specs.declared.compilation.Compilation.{Compilation}
 use Rattle.stream_compile.specs.declared.intake.Intake.{Intake}
 use Rattle.stream_compile.specs.Arriving.{IsArriving, has_failed}
@@ -84,13 +85,13 @@ module _ (first : Option (List ℕ)) (before : ℕ) (left_now : Option (List ℕ
       can_judge_faulty =
           let few = few_all None first before left_now now may_read f.was f.chunk f.arrived in
           let e = append-nil all_came in
-          let short : length (all_came ++ []) ≤ 67108869 = omega (arith, ap length e) in
+          let short : length (all_came ++ []) ≤ max_read = omega (arith, ap length e) in
           faulty_can (all_came ++ []) s s kept r short (f.judging [] short)
 
       failed_same : has_failed f.chunk.came ≡ has_failed i.chunk.came
       failed_same = ap has_failed f.same
 
-      pub faulty_stops : (e : FrontStop) → ((more : List ℕ) → length (all_came ++ more) ≤ 67108869 → GoesOn (all_came ++ more) (Err e) t more) → before < 2 ^ 64 - 1 → Settled None (has_failed i.chunk.came) (Err e) t first left_now before now
+      pub faulty_stops : (e : FrontStop) → ((more : List ℕ) → length (all_came ++ more) ≤ max_read → GoesOn (all_came ++ more) (Err e) t more) → before < 2 ^ 64 - 1 → Settled None (has_failed i.chunk.came) (Err e) t first left_now before now
       faulty_stops e goes low = subst (λ (b : Bool). Settled None b (Err e) t first left_now before now) failed_same (stops_there None first before left_now now may_read f.was f.chunk f.arrived e t goes low)
 
       -- a body is wrong

@@ -10,6 +10,7 @@ use Rattle.image_linker.specs.Judging.{IsVerdictOf}
 use Rattle.io_edges.specs.Causes.{Rose}
 use Rattle.stream_compile.specs.Reading.{Settles}
 use Rattle.stream_compile.specs.Received.{IsRead, AreReceived}
+use Rattle.module_stream.specs.Limits.{max_read}
 use Rattle.module_stream.proofs.Once.{verdict_once}
 use Rattle.module_stream.proofs.Staying.{no_module, verdict_stays}
 
@@ -22,7 +23,7 @@ none_left (Some l) end = sym end
 at_end : (closing : Option ℕ) (read : List ℕ) (old new : Option (List ℕ)) → IsRead closing old new read → IsAtEnd new → AreReceived closing old new false read
 at_end closing read old new is end = (read, [], is, none_left new end, sym (append-nil read))
 
-when_full : (closing : Option ℕ) (read : List ℕ) (old new : Option (List ℕ)) → IsRead closing old new read → 67108869 ≤ length read → (bytes : List ℕ) × AreReceived closing old new false bytes × ((v : Verdict) → IsVerdictOf read v → IsVerdictOf bytes v)
+when_full : (closing : Option ℕ) (read : List ℕ) (old new : Option (List ℕ)) → IsRead closing old new read → max_read ≤ length read → (bytes : List ℕ) × AreReceived closing old new false bytes × ((v : Verdict) → IsVerdictOf read v → IsVerdictOf bytes v)
 when_full closing read old None is le = (read, (read, [], is, tt, sym (append-nil read)), λ v p. p)
 when_full closing read old (Some r) is le = (read ++ r, (read, r, is, refl, refl), λ v p. verdict_stays read r le v p)
 
@@ -46,7 +47,7 @@ settled_fault closing read old new before now few is rose = record {
   ended = λ f m p. absurd cc;
 }
 
-pub settled_full : (closing : Option ℕ) (read : List ℕ) (old new : Option (List ℕ)) (before now : ℕ) → IsRead closing old new read → 67108869 ≤ length read → now ≡ before → Settles closing read false old new before now
+pub settled_full : (closing : Option ℕ) (read : List ℕ) (old new : Option (List ℕ)) (before now : ℕ) → IsRead closing old new read → max_read ≤ length read → now ≡ before → Settles closing read false old new before now
 settled_full closing read old new before now is le same =
     let f = when_full closing read old new is le in
     record {
@@ -61,7 +62,7 @@ settled_full closing read old new before now is le same =
 -- the bytes that came have an error, whatever follows, as far as bytes are read: reading goes no
 -- further
 pub settled_early : (closing : Option ℕ) (came : List ℕ) (r : Refusal) (old new : Option (List ℕ)) (before now : ℕ) → IsRead closing old new came → now ≡ before
-    → ((more : List ℕ) → length (came ++ more) ≤ 67108869 → IsVerdictOf (came ++ more) (Rejected r)) → (read : List ℕ) × Settles closing read false old new before now × IsVerdictOf read (Rejected r)
+    → ((more : List ℕ) → length (came ++ more) ≤ max_read → IsVerdictOf (came ++ more) (Rejected r)) → (read : List ℕ) × Settles closing read false old new before now × IsVerdictOf read (Rejected r)
 settled_early closing came r old None before now is same v =
     let here = subst (λ (l : List ℕ). IsVerdictOf l (Rejected r)) (append-nil came) (v [] (omega (arith, is.few, ap length (append-nil came)))) in (
       came,
@@ -76,11 +77,11 @@ settled_early closing came r old None before now is same v =
       here,
     )
 settled_early closing came r old (Some rest) before now is same v =
-    let n = 67108869 - length came in
+    let n = max_read - length came in
     let read = came ++ take n rest in
     elim (cases_lt n (length rest)) [
       | inl over ↦
-          let full : 67108869 ≤ length read = omega (arith, is.few, length-append came (take n rest), length-take n rest) in
+          let full : max_read ≤ length read = omega (arith, is.few, length-append came (take n rest), length-take n rest) in
           let whole : read ++ drop n rest ≡ came ++ rest = append_assoc came (take n rest) (drop n rest) ∙ ap (λ (x : List ℕ). came ++ x) (take-append-drop n rest) in (
             read,
             record {

@@ -5,6 +5,7 @@ use Rattle.io_edges.specs.Causes.{Rose}
 use Rattle.wasm_defs.specs.declared.front_stop.FrontStop.{FrontStop}
 use Rattle.stream_compile.specs.declared.chunk.ReadStatus.{ReadStatus}
 use Rattle.stream_compile.specs.declared.chunk.ReadStatus.TheVariants as came
+use Rattle.module_stream.specs.Limits.{max_read}
 use Rattle.module_stream.specs.declared.compilation.Compilation.{Compilation}
 use Rattle.stream_compile.specs.declared.reading.Ending.{Ending}
 use Rattle.stream_compile.specs.Chunks.{Chunked}
@@ -16,7 +17,7 @@ use Rattle.module_stream.specs.Streaming.{IsGoing}
 -- read, and whether it may be read
 abbrev pub StandsAt : ReadStatus → (left : Option (List ℕ)) → (before now count : ℕ) → (may_read : Bool) → Type 0
 StandsAt came.Bytes left before now count may_read = (now ≡ before) × (may_read ≡ true)
-StandsAt came.Full left before now count may_read = (now ≡ before) × (67108869 ≤ count)
+StandsAt came.Full left before now count may_read = (now ≡ before) × (max_read ≤ count)
 StandsAt came.End left before now count may_read = (now ≡ before) × IsAtEnd left
 StandsAt came.Failed left before now count may_read = Rose before now
 
@@ -27,14 +28,14 @@ pub record IsArriving (closing : Option ℕ) (first : Option (List ℕ)) (before
   pub came : List ℕ
   pub piece : List ℕ
   pub count : length (came ++ piece) ≡ c.count
-  pub few : c.count ≤ 67108869
+  pub few : c.count ≤ max_read
   pub bytes : All (λ b. b < 256) (came ++ piece)
   pub taken : first ≡ prepend_known (came ++ piece) left
   pub stands : StandsAt c.came left before now c.count may_read
   pub short : length piece ≤ 65536
   pub right : PrefixIsValid closing came
   pub batch : IfSome closing (λ least. s.batch ≡ least)
-  pub going : (more : List ℕ) → length ((came ++ piece) ++ more) ≤ 67108869 → IsGoing ((came ++ piece) ++ more) s (c.pending ++ more)
+  pub going : (more : List ℕ) → length ((came ++ piece) ++ more) ≤ max_read → IsGoing ((came ++ piece) ++ more) s (c.pending ++ more)
 
 abbrev pub has_failed : ReadStatus → Bool
 has_failed came.Bytes = false

@@ -6,6 +6,7 @@ use Rattle.wasm_defs.specs.declared.fault.Refusal.{Refusal}
 use Rattle.index_spaces.specs.Spaces.{Spaces}
 use Rattle.body_compiler.specs.BatchRows.{IsRowIf}
 use Rattle.stream_compile.specs.declared.beside.Met.{Met}
+use Rattle.module_stream.specs.Limits.{max_read}
 use Rattle.module_stream.specs.declared.compilation.Compilation.{Compilation}
 use Rattle.stream_compile.specs.declared.intake.Intake.{Intake}
 use Rattle.stream_compile.specs.declared.reading.Ending.{Ending}
@@ -25,7 +26,7 @@ pub record IsFaulty (first : Option (List ℕ)) (before : ℕ) (left : Option (L
   pub chunk : Chunked
   pub arrived : IsArriving None first before left now may_read was chunk
   pub same : chunk.came ≡ i.chunk.came
-  pub judging : (more : List ℕ) → length ((arrived.came ++ arrived.piece) ++ more) ≤ 67108869 → HasSectionError ((arrived.came ++ arrived.piece) ++ more) s (kept_bodies i.kept.items) r
+  pub judging : (more : List ℕ) → length ((arrived.came ++ arrived.piece) ++ more) ≤ max_read → HasSectionError ((arrived.came ++ arrived.piece) ++ more) s (kept_bodies i.kept.items) r
 
 -- bodies were read and kept, and none is validated; or the error of their section is found
 abbrev pub Keeps : Result (Unit {0}) FrontStop → (first : Option (List ℕ)) → (before : ℕ) → (left : Option (List ℕ)) → (now : ℕ) → (may_read : Bool) → Compilation → Intake → Type 0

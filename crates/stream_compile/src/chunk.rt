@@ -4,15 +4,13 @@ ghost use Rattle.std.specs.Prelude.{◌≡◌, ◌≢◌, ◌<◌, ◌≤◌, �
 ghost use Rattle.io_edges.specs.Streams.{Reads, ReadCounts, ReadsOn, TookFront};
 ghost use Rattle.module_stream.specs.declared.compilation.Compilation.{Compilation};
 ghost use Rattle.module_stream.specs.Streaming.{IsErrorFree, ClosedAreValid};
+ghost use Rattle.module_stream.specs.Limits.{max_read};
 ghost use Rattle.stream_compile.specs.Arriving.{IsArriving, has_failed};
 
 use io_edges::{Got, Source};
+use module_stream::MAX_READ;
 use std::alloc::{AllocError, Global};
 use std::marker::Model;
-
-/// The most bytes that are read: a section's size that begins at the limit on a module's bytes has at most five.
-// Why: docs/DECISIONS.md, "`check` reads up to 67,108,869 bytes"
-const MOST_READ: usize = 67_108_869;
 
 /// How many bytes are asked for at a time.
 const CHUNK: usize = 65_536;
@@ -118,12 +116,12 @@ impl Chunk {
     #[tactic(auto, using(crate::proofs::Fronts::took_nothing))]
     pub fn read<S: Source>(&mut self, source: &mut S) -> ReadStatus
         requires none { self.old.pending ≡ [] }
-        requires few { self.old.count ≤ 67108869 }
+        requires few { self.old.count ≤ max_read }
         requires on { self.old.came ≡ ReadStatus.Bytes → S.is_open source.old ≡ true }
         ensures came { result ≡ self.new.came }
         ensures more { result ≡ ReadStatus.Bytes → self.old.count < self.new.count }
         ensures rest { result ≢ ReadStatus.Bytes → self.new.pending ≡ [] }
-        ensures few { self.new.count ≤ 67108869 }
+        ensures few { self.new.count ≤ max_read }
         ensures arrives { (closing : Option ℕ) (first : Option (List ℕ)) (before : ℕ) (s : Compilation) → IsErrorFree s → ClosedAreValid closing s
             → IsArriving closing first before (S.left source.old) (S.faults source.old) (S.is_open source.old) s self.old
             → IsArriving closing first before (S.left source.new) (S.faults source.new) (S.is_open source.new) s self.new }
@@ -132,13 +130,13 @@ impl Chunk {
         if self.came != ReadStatus::Bytes {
             return self.came;
         }
-        if MOST_READ <= self.count {
+        if MAX_READ <= self.count {
             self.came = ReadStatus::Full;
             return ReadStatus::Full;
         }
         self.from = 0;
         self.len = 0;
-        let room = (MOST_READ - self.count).min(CHUNK);
+        let room = (MAX_READ - self.count).min(CHUNK);
         match fill(source, self.bytes.as_mut_slice(), room) {
             Got::Bytes(n) => {
                 self.len = n;

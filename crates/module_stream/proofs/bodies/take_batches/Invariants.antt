@@ -1,6 +1,7 @@
 use Rattle.std.proofs.Common.{◌≡◌, ◌≤◌, ℕ, Bool, List, length}
 use Rattle.wasm_defs.specs.Outside.{Run}
 use Rattle.section_reader.specs.Onward.{after_parts}
+use Rattle.module_stream.specs.Limits.{max_read}
 use Rattle.module_stream.specs.Codes.{KeepsAlike}
 use Rattle.module_stream.specs.CutBodies.{coded_all}
 use Rattle.module_stream.specs.Progress.{IsJudging}
@@ -12,7 +13,7 @@ invariant-loop-batch l = record {
   begun : l.cutter.queue.begun ≡ l.initial.cutter.queue.begun;
   least : l.cutter.queue.least ≡ l.initial.cutter.queue.least;
   kept : KeepsAlike l.initial.codes l.codes;
-  judging : (bytes : List ℕ) (left : Run) (counted : Bool) → length bytes ≤ 67108869
+  judging : (bytes : List ℕ) (left : Run) (counted : Bool) → length bytes ≤ max_read
       → IsJudging bytes (after_parts (coded_all counted l.initial.cutter.queue.closed) left) l.spaces l.initial.codes
       → IsJudging bytes (after_parts (coded_all counted l.cutter.queue.closed) left) l.spaces l.codes;
 }

@@ -2,6 +2,7 @@ use Rattle.std.proofs.Common.{◌≤◌, ℕ, Bool, List, length}
 use Rattle.std.specs.Prelude.{reverse}
 use Rattle.wasm_defs.specs.Outside.{Run}
 use Rattle.section_reader.specs.Onward.{after_parts}
+use Rattle.module_stream.specs.Limits.{max_read}
 use Rattle.module_stream.specs.Codes.{KeepsAlike}
 use Rattle.module_stream.specs.CutBodies.{coded_all}
 use Rattle.module_stream.specs.Kept.{AreFront}
@@ -14,6 +15,6 @@ invariant-loop-body l =
     × (goal.iterator-loop-body).is_finite l.body-iterator
     × KeepsAlike l.initial.codes l.codes
     × AreFront l.spaces l.cells l.body-iterator (reverse l.made.items)
-    × ((bytes : List ℕ) (left : Run) (counted : Bool) → length bytes ≤ 67108869
+    × ((bytes : List ℕ) (left : Run) (counted : Bool) → length bytes ≤ max_read
     → IsJudging bytes (after_parts (coded_all counted l.bodies) left) l.spaces l.initial.codes
     → IsJudging bytes (after_parts (coded_all counted l.body-iterator) left) l.spaces l.codes)

@@ -1,6 +1,7 @@
 use Rattle.std.proofs.Common.{◌≡◌, ◌-◌, ◌≤◌, ℕ, false, List, Option}
 use Rattle.std.specs.Prelude.{IsSome}
 use Rattle.io_edges.specs.Streams.{TookFront}
+use Rattle.module_stream.specs.Limits.{max_read}
 use Rattle.module_stream.specs.Codes.{KeepsAlike}
 use Rattle.stream_compile.specs.Arriving.{IsArriving}
 use Rattle.stream_compile.proofs.reading.read_on.Given as goal
@@ -10,10 +11,10 @@ invariant-loop-stop g l = record {
   arrives : (closing : Option ℕ) (first : Option (List ℕ)) (before : ℕ) → (IsSome closing → l.up_to_bodies ≡ false)
       → IsArriving closing first before (g.S.Source.left l.initial.source) (g.S.Source.faults l.initial.source) (g.S.Source.is_open l.initial.source) l.initial.compilation l.initial.chunk
       → IsArriving closing first before (g.S.Source.left l.source) (g.S.Source.faults l.source) (g.S.Source.is_open l.source) l.compilation l.chunk;
-  few : l.chunk.count ≤ 67108869;
+  few : l.chunk.count ≤ max_read;
   front : TookFront (g.S.Source.left l.initial.source) (g.S.Source.faults l.initial.source) (g.S.Source.left l.source) (g.S.Source.faults l.source);
   kept : KeepsAlike l.initial.compilation.codes l.compilation.codes;
 }
 
 abbrev pub decreases-loop-stop : goal.decreases-loop-stop
-decreases-loop-stop g l = 67108869 - l.chunk.count
+decreases-loop-stop g l = max_read - l.chunk.count

@@ -6,6 +6,7 @@ use Rattle.section_reader.specs.Onward.{after_parts}
 use Rattle.body_cutter.specs.Places.{Place}
 use Rattle.wasm_defs.specs.declared.front_stop.FrontStop.{FrontStop}
 use Rattle.body_cutter.specs.Cuttings.{Handed, left, Feeds}
+use Rattle.module_stream.specs.Limits.{max_read}
 use Rattle.module_stream.specs.CutBodies.{coded_all, counts_data, cut_run, sections_behind}
 use Rattle.module_stream.specs.Progress.{IsJudging}
 use Rattle.module_stream.specs.Streaming.{AreOpen, IsGoing, with_cutter}
@@ -20,7 +21,7 @@ use Rattle.module_stream.proofs.compilation.Compilation.cut.Goals.{In-Ok, In-Err
 
 -- the closed batches come next, and then what the rest comes to
 fed_next : (c : In-Ok) (bytes more : List ℕ) → IsGoing bytes (with_cutter c.args.self.now c.args.cutter) (c.args.piece.now ++ more)
-    → (length bytes ≤ 67108869)
+    → (length bytes ≤ max_read)
     × IsJudging bytes (after_parts (coded_all (counts_data c.args.self.now.front.steps.seen) c.feed.new.self.queue.closed)
     (rest_run c.args.self.now.front.steps.seen c.feed.new.self (drop c.in-Ok.taken c.args.piece.now ++ more))) c.args.self.now.spaces c.args.self.now.codes
 fed_next c bytes more g =
@@ -30,7 +31,7 @@ fed_next c bytes more g =
 
 -- or then their section's error
 refused_next : (c : In-Err-Refused) (bytes more : List ℕ) → IsGoing bytes (with_cutter c.args.self.now c.args.cutter) (c.args.piece.now ++ more)
-    → (length bytes ≤ 67108869)
+    → (length bytes ≤ max_read)
     × IsJudging bytes (after_parts (coded_all (counts_data c.args.self.now.front.steps.seen) c.feed.new.self.queue.closed) (ends (Refused c.in-Err-Refused.refusal)))
     c.args.self.now.spaces c.args.self.now.codes
 refused_next c bytes more g =
