@@ -13,5 +13,5 @@ mod spaces;
 mod tables;
 mod trap_places;
 
-pub use codes::{BodyCode, text_limit};
+pub use codes::{BodyCode, passes_limit, text_limit};
 pub use linking::link;

@@ -1,12 +1,10 @@
 //! Compiles bodies: each is validated, and its instruction words are counted.
 
-ghost use Rattle.std.specs.Prelude.{◌≡◌, ◌≤◌, ◌<◌, ◌+◌, ◌*◌, ◌^◌, OnOk, Ok, None, ℕ, Bool, List, [], length, nat_lt};
+ghost use Rattle.std.specs.Prelude.{◌≡◌, ◌≤◌, ◌<◌, ◌+◌, ◌*◌, ◌^◌, OnOk, Ok, None, ℕ, Bool, List, [], length};
 ghost use Rattle.std.specs.Arc.{arc_value};
 ghost use Rattle.rv_isa.specs.declared.compiled.Code.{Code as GivenCode};
-ghost use Rattle.wasm_defs.specs.Limits.{max_text};
 ghost use Rattle.wasm_defs.specs.Outside.{Run as RunGiven};
 ghost use Rattle.section_reader.specs.Onward.{after_parts};
-ghost use Rattle.image_linker.specs.ImageOf.{front_of};
 ghost use Rattle.image_linker.specs.Judging.{limit_at};
 ghost use Rattle.module_stream.specs.Codes.{KeepsAlike};
 ghost use Rattle.module_stream.specs.CutBodies.{coded_all};
@@ -16,6 +14,7 @@ ghost use Rattle.module_stream.specs.Limits.{max_read};
 use crate::codes::Codes;
 use body_compiler::{BodyStop, compile, measure};
 use body_cutter::{Batch, Body, Cutter};
+use image_linker::passes_limit;
 use index_spaces::ContextBuilder;
 use rv_isa::Code;
 use std::alloc::Global;
@@ -73,15 +72,6 @@ fn measure_body(
     measure(alloc, context, index, body.bytes.as_slice(), body.first)
 }
 
-/// Whether a text with so many instruction words of functions passes the limit. Before them come the exit stub, of two words,
-/// and the stubs of the imported functions, of eighteen each.
-fn passes_limit(imported: u32, words: u128) -> bool
-    requires { words < 2 ^ 65 }
-    ensures { result ≡ nat_lt max_text (4 * (front_of imported + words)) }
-{
-    u128::from(MAX_TEXT) / 4 < 2 + 18 * u128::from(imported) + words
-}
-
 /// Whether a code of so many instruction words can follow these codes.
 fn keep_limit(
     spaces: &ContextBuilder,
@@ -93,7 +83,7 @@ fn keep_limit(
     ensures { KeepsLimit spaces.now codes.now body.now more result }
 {
     let words = u128::from(codes.words()) + u128::from(more);
-    if passes_limit(spaces.context().imported(), words) {
+    if passes_limit(u64::from(spaces.context().imported()), words) {
         return Err(FrontStop::Refused(limit_at(body)));
     }
     Ok(())
