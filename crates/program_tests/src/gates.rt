@@ -6,12 +6,13 @@ use crate::calling::{HEADER, bytes_of};
 use io_edges::{Flat, Gate, Go, Got, Source};
 use std::alloc::Global;
 use std::sync::Wait;
+use std::sync::atomic::AtomicBool;
 use std::sync::atomic::Ordering::SeqCst;
-use std::sync::atomic::{AtomicBool, AtomicU64};
 use std::test::Fail;
 use std::thread;
 use std::thread::Threads;
 use stream_compile::{Answer, CheckAnswer, Settings, stream_check, stream_compile};
+use test_gates::SecondFirst;
 
 /// What follows the header of a module: two functions without parameters and results, whose bodies do nothing.
 const TWO_BODIES: &str = "01 04 01 60 00 00 03 03 02 00 00 0A 0B 02 04 00 01 01 0B 04 00 01 01 0B";
@@ -47,50 +48,6 @@ fn is_compiled<R: Threads + Wait + Sync, S: Source, G: Gate>(
     match stream_compile(rt, alloc, source, gate, settings) {
         Answer::Image(_) => true,
         _ => false,
-    }
-}
-
-/// Holds batch 0 until batch 1 has finished.
-#[derive(Drop)]
-struct SecondFirst {
-    first_is_done: AtomicBool,
-    second_is_done: AtomicBool,
-    last_turn: AtomicU64,
-}
-
-impl SecondFirst {
-    fn new() -> Self {
-        SecondFirst {
-            first_is_done: AtomicBool::new(false),
-            second_is_done: AtomicBool::new(false),
-            last_turn: AtomicU64::new(0),
-        }
-    }
-
-    /// Whether both batches have finished, before the last turn that there is.
-    fn is_through(&self) -> bool {
-        let turn = self.last_turn.load(SeqCst);
-        self.first_is_done.load(SeqCst) && self.second_is_done.load(SeqCst) && turn < 1_048_576
-    }
-}
-
-impl Gate for SecondFirst {
-    fn enter(&self, batch: u32, turn: u32) -> Go {
-        self.last_turn.store(u64::from(turn), SeqCst);
-        if batch == 0 && !self.second_is_done.load(SeqCst) {
-            thread::yield_now();
-            Go::Hold
-        } else {
-            Go::Run
-        }
-    }
-
-    fn finished(&self, batch: u32) {
-        if batch == 0 {
-            self.first_is_done.store(true, SeqCst);
-        } else {
-            self.second_is_done.store(true, SeqCst);
-        }
     }
 }
 

@@ -7,16 +7,15 @@ use body_compiler::{Row, Stored};
 use body_cutter::{Batch, Bodies, Body, BodyBytes};
 use cancel_drain::{Board, Closed};
 use index_spaces::{Context, ContextBuilder};
-use io_edges::{Gate, Go, OpenGate};
+use io_edges::OpenGate;
 use result_cells::Cells;
 use std::alloc::{AllocError, Global};
 use std::collections::LinkedList;
-use std::sync::atomic::Ordering::SeqCst;
-use std::sync::atomic::{AtomicBool, AtomicU64};
 use std::sync::{Arc, Wait};
 use std::test::Fail;
 use std::thread;
 use std::thread::Threads;
+use test_gates::SecondFirst;
 use wasm_defs::{FuncType, Item, ValType, ValTypes};
 
 // A batch of one body, whose size is given and has one byte.
@@ -199,34 +198,6 @@ fn a_worker_serves_until_a_fault_and_while_codes_have_room(rt: HostRuntime) -> R
     Ok(())
 }
 
-// Holds batch 0 until batch 1 has finished.
-#[derive(Drop)]
-struct SecondFirst {
-    second_is_done: AtomicBool,
-    first_is_done: AtomicBool,
-    last_turn: AtomicU64,
-}
-
-impl Gate for SecondFirst {
-    fn enter(&self, batch: u32, turn: u32) -> Go {
-        self.last_turn.store(u64::from(turn), SeqCst);
-        if batch == 0 && !self.second_is_done.load(SeqCst) {
-            thread::yield_now();
-            Go::Hold
-        } else {
-            Go::Run
-        }
-    }
-
-    fn finished(&self, batch: u32) {
-        if batch == 0 {
-            self.first_is_done.store(true, SeqCst);
-        } else {
-            self.second_is_done.store(true, SeqCst);
-        }
-    }
-}
-
 // What two workers make of two batches, where the gate holds the first until the second has finished: how many rows each worker has, and how
 // the board was left.
 fn told_of_two<R: Threads + Wait + Sync>(
@@ -274,16 +245,11 @@ fn told_of_two<R: Threads + Wait + Sync>(
 
 #[test]
 fn batches_run_beside_each_other(rt: HostRuntime) -> Result<(), Fail> {
-    let gate = SecondFirst {
-        second_is_done: AtomicBool::new(false),
-        first_is_done: AtomicBool::new(false),
-        last_turn: AtomicU64::new(0),
-    };
+    let gate = SecondFirst::new();
     assert_eq!(rt;
         told_of_two(&rt, rt.alloc(), &gate)?.as_str(),
         "(1, 1) false Some(Refusal { offset: 25, kind: Invalid }) (187, 219) "
     );
-    assert!(rt; gate.last_turn.load(SeqCst) < 1_048_576);
-    assert!(rt; gate.first_is_done.load(SeqCst) && gate.second_is_done.load(SeqCst));
+    assert!(rt; gate.is_through());
     Ok(())
 }
