@@ -12,7 +12,7 @@ ghost use Rattle.module_stream.specs.Progress.{IsJudging, CanTake, CanTakeNext, 
 ghost use Rattle.module_stream.specs.Limits.{max_read};
 
 use crate::codes::Codes;
-use body_compiler::{BodyStop, compile, measure};
+use body_compiler::{BodyStop, compile, may_be_longer, measure};
 use body_cutter::{Batch, Body, Cutter};
 use image_linker::passes_limit;
 use index_spaces::ContextBuilder;
@@ -134,15 +134,33 @@ pub fn share_code(
     }
 }
 
-/// Takes the next body, whose code has so many instruction words. No code is kept.
-pub fn count_code(
+/// Takes the next body, and keeps its code.
+fn keep_code(
+    alloc: Global,
+    spaces: &ContextBuilder,
+    codes: &mut Codes,
+    body: &Body,
+) -> Result<(), FrontStop>
+    requires { CanTakeNext spaces.now codes.old body.now }
+    ensures takes { TakesCode spaces.now codes.old body.now result codes.new }
+    ensures kept { KeepsAlike codes.old codes.new }
+{
+    match take_body(alloc, spaces, codes.count(), body) {
+        Ok(code) => add_code(alloc, spaces, codes, body, code),
+        Err(stop) => Err(stop_at(body, stop)),
+    }
+}
+
+/// Takes the next body, whose code has so many instruction words: where codes are kept, they are made if the text keeps its limit with
+/// them.
+pub fn take_counted(
+    alloc: Global,
     spaces: &ContextBuilder,
     codes: &mut Codes,
     body: &Body,
     words: u64,
 ) -> Result<(), FrontStop>
     requires can { CanTakeNext spaces.now codes.old body.now }
-    requires none { codes.old.kept ≡ None }
     requires code { (code : GivenCode) × (words ≡ length code.words) × TakesBody spaces.now codes.old.count body.now (Ok code) }
     ensures takes { TakesCode spaces.now codes.old body.now result codes.new }
     ensures kept { KeepsAlike codes.old codes.new }
@@ -151,26 +169,34 @@ pub fn count_code(
         Ok(()) => {}
         Err(stop) => return Err(stop),
     }
+    if codes.are_kept() {
+        return keep_code(alloc, spaces, codes, body);
+    }
     codes.count_words(words);
     Ok(())
 }
 
-/// Takes the next body, and counts its code, where no code is kept.
-fn take_count(
+/// Takes the next body, once the instruction words of its code are counted.
+fn take_measured(
     alloc: Global,
     spaces: &ContextBuilder,
     codes: &mut Codes,
     body: &Body,
 ) -> Result<(), FrontStop>
-    requires can { CanTakeNext spaces.now codes.old body.now }
-    requires none { codes.old.kept ≡ None }
+    requires { CanTakeNext spaces.now codes.old body.now }
     ensures takes { TakesCode spaces.now codes.old body.now result codes.new }
     ensures kept { KeepsAlike codes.old codes.new }
 {
     match measure_body(alloc, spaces, codes.count(), body) {
-        Ok(words) => count_code(spaces, codes, body, words),
+        Ok(words) => take_counted(alloc, spaces, codes, body, words),
         Err(stop) => Err(stop_at(body, stop)),
     }
+}
+
+/// Whether a body is so long that with the instruction words of its code and those of these codes the text may pass its limit.
+fn may_pass_limit(spaces: &ContextBuilder, codes: &Codes, body: &Body) -> bool {
+    let left = u64::from(MAX_TEXT / 4).saturating_sub(codes.words());
+    may_be_longer(spaces.context(), body, left)
 }
 
 /// Takes the next body, after those that have these codes.
@@ -184,12 +210,11 @@ pub fn take_code(
     ensures takes { TakesCode spaces.now codes.old body.now result codes.new }
     ensures kept { KeepsAlike codes.old codes.new }
 {
-    if !codes.are_kept() {
-        return take_count(alloc, spaces, codes, body);
-    }
-    match take_body(alloc, spaces, codes.count(), body) {
-        Ok(code) => add_code(alloc, spaces, codes, body, code),
-        Err(stop) => Err(stop_at(body, stop)),
+    // Why: docs/DECISIONS.md, "A body that may be too long is counted first"
+    if !codes.are_kept() || may_pass_limit(spaces, codes, body) {
+        take_measured(alloc, spaces, codes, body)
+    } else {
+        keep_code(alloc, spaces, codes, body)
     }
 }
 

@@ -12,7 +12,7 @@ ghost use Rattle.module_stream.specs.Kept.{kept_bodies, AreFront};
 ghost use Rattle.module_stream.specs.Progress.{IsJudging, CanTakeNext, CanTakeAll, TakesBody, TakesCode, TakesPart};
 ghost use Rattle.module_stream.specs.Limits.{max_read};
 
-use crate::bodies::{count_code, limit_at, share_code, take_code};
+use crate::bodies::{limit_at, share_code, take_code, take_counted};
 use crate::codes::Codes;
 use body_compiler::{Row, RowCode, Stored};
 use body_cutter::{Batch, Body};
@@ -49,26 +49,6 @@ fn are_same(bodies: &LinkedList<Body>, others: &LinkedList<Body>) -> bool
         }
     }
     others.next().is_none()
-}
-
-/// Takes the next body, of whose code a worker kept the number of instruction words: by compiling it again where codes are kept.
-fn take_counted(
-    alloc: Global,
-    spaces: &ContextBuilder,
-    codes: &mut Codes,
-    body: &Body,
-    words: u64,
-) -> Result<(), FrontStop>
-    requires can { CanTakeNext spaces.now codes.old body.now }
-    requires code { (code : GivenCode) × (words ≡ length code.words) × TakesBody spaces.now codes.old.count body.now (Ok code) }
-    ensures takes { TakesCode spaces.now codes.old body.now result codes.new }
-    ensures kept { KeepsAlike codes.old codes.new }
-{
-    if codes.are_kept() {
-        take_code(alloc, spaces, codes, body)
-    } else {
-        count_code(spaces, codes, body, words)
-    }
 }
 
 /// Takes the next body, of which a worker stored the code.

@@ -1,10 +1,10 @@
 use Rattle.std.proofs.Common.{ℕ, Ok, Err, subst}
 use Rattle.module_stream.specs.Progress.{CountsBody, TakesBody}
 use Rattle.module_stream.proofs.Taking.{stop_taken}
-use Rattle.module_stream.proofs.bodies.take_count.Goals as goal
+use Rattle.module_stream.proofs.bodies.take_measured.Goals as goal
 
-pub count_code-requires-clause-code : goal.count_code-requires-clause-code
-count_code-requires-clause-code c =
+pub take_counted-requires-clause-code : goal.take_counted-requires-clause-code
+take_counted-requires-clause-code c =
     let counted = subst (λ (n : ℕ). CountsBody c.args.spaces.now n c.args.body.now (Ok c.in-Ok.words)) c.count.ensures c.in-Ok.ensures in
     (counted.0, counted.2, counted.1)
 
