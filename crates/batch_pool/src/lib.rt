@@ -5,6 +5,7 @@
 //! `run_beside` starts a thread for each worker, in parallel with the thread that feeds them, and joins them all.
 #![tactic(auto)]
 
+mod batch_compiler;
 mod feeder;
 mod hand;
 mod idle;
@@ -19,6 +20,7 @@ mod ticket;
 mod worked;
 mod worker;
 
+pub use batch_compiler::BatchCompiler;
 pub use feeder::Feeder;
 pub use hand::Hand;
 pub use laws::row_law;

@@ -22,13 +22,13 @@ ghost use Rattle.body_compiler.specs.BatchRows.{IsRowOf, FitsBody};
 ghost use Rattle.batch_pool.specs.Working.{Fits, Grows, IsServed, AddsRowOf};
 ghost use Rattle.batch_pool.specs.Serving.{Tries, Runs, told};
 
+use crate::batch_compiler::BatchCompiler;
 use crate::ticket::Ticket;
 use body_compiler::{Row, compile_batch};
 use body_cutter::{Batch, Body};
 use cancel_drain::{Board, BoardSeat, Claim, Drained};
 use index_spaces::Context;
 use io_edges::{Gate, Go};
-use result_cells::Cells;
 use std::alloc::{AllocError, Global};
 use std::collections::LinkedList;
 use std::sync::Arc;
@@ -102,27 +102,25 @@ fn report(board: &Board, seat: &mut BoardSeat, fault: Option<Refusal>)
 }
 
 /// Runs a batch that was claimed.
-fn run(
-    alloc: Global,
+fn run<G: Gate>(
     board: &Board,
     seat: &mut BoardSeat,
-    cells: &Cells,
-    context: &Context,
+    compiler: &BatchCompiler<'_, G>,
     batch: Arc<Batch, Global>,
 ) -> Result<Row, AllocError>
     requires table { seat.old.table ≡ board.now.table }
-    requires fits { All (FitsBody context.now) (arc_value batch).bodies }
+    requires fits { All (FitsBody compiler.now.context.now) (arc_value batch).bodies }
     requires low { IsLow (arc_value batch) }
     requires running { 0 < times (arc_value batch).number (arc_value batch).start seat.old.view.running }
     ensures table { seat.new.table ≡ seat.old.table }
-    ensures row { IfOk result (IsRowOf context.now cells.now) }
+    ensures row { IfOk result (IsRowOf compiler.now.context.now compiler.now.cells.now) }
     ensures batch { IfOk result (λ row. arc_value row.batch ≡ arc_value batch) }
     ensures runs { IfOk result (λ row. Runs seat.old.view row seat.new.view) }
     ensures err { OnErr result (seat.new ≡ seat.old) }
 {
     let number = batch.number;
     let start = batch.start;
-    let row = compile_batch(alloc, cells, context, batch)?;
+    let row = compile_batch(compiler.alloc, compiler.cells, compiler.context, batch)?;
     report(board, seat, row.fault);
     board.finish(seat, number, start);
     Ok(row)
@@ -131,19 +129,16 @@ fn run(
 /// Takes a ticket that fits out of the work: its batch is drained where an error before it was reported, or else run, unless
 /// another seat was first.
 pub fn serve_fitting<G: Gate>(
-    alloc: Global,
     board: &Board,
     seat: &mut BoardSeat,
-    cells: &Cells,
-    context: &Context,
-    gate: &G,
+    compiler: &BatchCompiler<'_, G>,
     rows: &mut Vec<Row>,
     ticket: Ticket,
 ) -> Result<(), AllocError>
     requires table { seat.old.table ≡ board.now.table }
-    requires fits { Fits context.now board.now.functions ticket }
+    requires fits { Fits compiler.now.context.now board.now.functions ticket }
     ensures table { seat.new.table ≡ seat.old.table }
-    ensures grows { Grows context.now cells.now seat.old.view seat.new.view rows.old.items rows.new.items }
+    ensures grows { Grows compiler.now.context.now compiler.now.cells.now seat.old.view seat.new.view rows.old.items rows.new.items }
     ensures running { OnOk result (seat.new.view.running ≡ seat.old.view.running) }
     ensures served { OnOk result (IsServed seat.old.view seat.new.view ticket) }
     ensures batch { AddsRowOf ticket rows.old.items rows.new.items }
@@ -157,34 +152,31 @@ pub fn serve_fitting<G: Gate>(
     if !try_claim(board, seat, number, start) {
         return Ok(());
     }
-    enter(gate, number);
-    let row = run(alloc, board, seat, cells, context, batch)?;
+    enter(compiler.gate, number);
+    let row = run(board, seat, compiler, batch)?;
     rows.push_reserved(row);
-    gate.finished(number);
+    compiler.gate.finished(number);
     Ok(())
 }
 
 /// Serves a ticket where it fits, and else passes it over.
 pub fn serve<G: Gate>(
-    alloc: Global,
     board: &Board,
     seat: &mut BoardSeat,
-    cells: &Cells,
-    context: &Context,
-    gate: &G,
+    compiler: &BatchCompiler<'_, G>,
     rows: &mut Vec<Row>,
     ticket: Ticket,
 ) -> Result<(), AllocError>
     requires table { seat.old.table ≡ board.now.table }
     ensures table { seat.new.table ≡ seat.old.table }
-    ensures grows { Grows context.now cells.now seat.old.view seat.new.view rows.old.items rows.new.items }
+    ensures grows { Grows compiler.now.context.now compiler.now.cells.now seat.old.view seat.new.view rows.old.items rows.new.items }
     ensures running { OnOk result (seat.new.view.running ≡ seat.old.view.running) }
-    ensures served { OnOk result (Fits context.now board.now.functions ticket → IsServed seat.old.view seat.new.view ticket) }
+    ensures served { OnOk result (Fits compiler.now.context.now board.now.functions ticket → IsServed seat.old.view seat.new.view ticket) }
     ensures batch { AddsRowOf ticket rows.old.items rows.new.items }
 {
     // Why: docs/DECISIONS.md, "A ticket that doesn't fit is passed over"
-    if !fits(board, context, &ticket) {
+    if !fits(board, compiler.context, &ticket) {
         return Ok(());
     }
-    serve_fitting(alloc, board, seat, cells, context, gate, rows, ticket)
+    serve_fitting(board, seat, compiler, rows, ticket)
 }

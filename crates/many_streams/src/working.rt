@@ -4,7 +4,7 @@ ghost use Rattle.std.specs.Prelude.{◌≡◌, [], All, length, IfOk};
 ghost use Rattle.batch_pool.specs.Desks.{IsDesk, IsIdle};
 ghost use Rattle.body_compiler.specs.BatchRows.{IsRowIf};
 
-use batch_pool::{Desk, Joined, Pool, Reading, by_number, run_beside, settle};
+use batch_pool::{BatchCompiler, Desk, Joined, Pool, Reading, by_number, run_beside, settle};
 use body_compiler::Row;
 use body_cutter::Batch;
 use cancel_drain::Board;
@@ -97,10 +97,14 @@ pub fn work_off<R: Threads + Wait + Sync, G: Gate>(
     let cells = Cells::new(alloc, stored, u64::from(MAX_TEXT) / 4)?;
     let (board, seat) = Board::new(alloc, functions, u64::from(workers) + 1)?;
     let (feeder, hands) = Pool::new(alloc, workers)?;
+    let compiler = BatchCompiler {
+        alloc,
+        context,
+        cells: &cells,
+        gate,
+    };
     let reader = KeptBatches { kept };
-    let Ok(joined) = run_beside(
-        rt, alloc, &board, seat, &cells, context, gate, hands, feeder, reader,
-    ) else {
+    let Ok(joined) = run_beside(rt, &board, seat, &compiler, hands, feeder, reader) else {
         return Err(AllocError);
     };
     let Joined {
@@ -109,7 +113,7 @@ pub fn work_off<R: Threads + Wait + Sync, G: Gate>(
         kept: tickets,
         rows,
     } = joined;
-    let Some(settled) = settle(alloc, board, seat, &cells, context, gate, rows, tickets) else {
+    let Some(settled) = settle(board, seat, &compiler, rows, tickets) else {
         return Err(AllocError);
     };
     let rows = by_number(alloc, context, &cells, settled.rows, kept.len())?;

@@ -11,7 +11,7 @@ ghost use Rattle.stream_compile.specs.Keeping.{keeping, Keeps, IsMet, Resumes};
 use crate::chunk::Chunk;
 use crate::intake::{Intake, read_bodies};
 use crate::reading::Ending;
-use batch_pool::{Desk, Feeder, Hand, Pool, Reading, Ticket, by_number, run_beside, settle};
+use batch_pool::{BatchCompiler, Desk, Pool, Reading, Ticket, by_number, run_beside, settle};
 use body_compiler::Row;
 use cancel_drain::{Board, BoardSeat};
 use index_spaces::Context;
@@ -97,36 +97,34 @@ pub struct Met {
     pub rows: Vec<Option<Row>>,
 }
 
-/// Reads bodies while a worker for each hand, as far as threads can be started, compiles those that were handed over. None where
-/// memory ran out.
+/// Reads bodies while so many workers, as far as threads can be started, compile those that were handed over. None where memory
+/// ran out.
+#[tactic(auto, using(crate::proofs::Fronts::took_nothing))]
 fn read_in_scope<R: Threads + Wait + Sync, S: Source, G: Gate>(
     rt: &R,
-    alloc: Global,
     source: &mut S,
-    gate: &G,
     board: &Board,
     seat: BoardSeat,
-    cells: &Cells,
-    context: &Context,
-    hands: Vec<Hand>,
-    feeder: Feeder,
+    compiler: &BatchCompiler<'_, G>,
+    workers: u32,
     intake: Intake,
 ) -> Option<Gathered>
     requires table { seat.table ≡ board.now.table }
     requires first { (seat.view.feeder ≡ true) × (seat.view.running ≡ []) × (seat.view.published ≡ []) }
-    requires parts { length hands.items < seat.view.parts }
+    requires parts { workers < seat.view.parts }
     requires arrives { (first : Option (List ℕ)) × (before : ℕ) × (s : Given)
         × IsArriving None first before (S.left source.old) (S.faults source.old) (S.is_open source.old) (keeping s intake) intake.chunk }
-    ensures read { IfSome result (λ j. HasRead context.now cells.now board.now seat.view j.seat j.tickets.items j.rows.items) }
+    ensures read { IfSome result (λ j. HasRead compiler.now.context.now compiler.now.cells.now board.now seat.view j.seat j.tickets.items j.rows.items) }
     ensures keeps { IfSome result (λ j. (first : Option (List ℕ)) (before : ℕ) (s : Given)
         → IsArriving None first before (S.left source.old) (S.faults source.old) (S.is_open source.old) (keeping s intake) intake.chunk
         → Keeps j.read first before (S.left source.new) (S.faults source.new) (S.is_open source.new) s j.intake) }
     ensures front { TookFront (S.left source.old) (S.faults source.old) (S.left source.new) (S.faults source.new) }
 {
-    let reader = BodyReader::new(alloc, source, intake);
-    match run_beside(
-        rt, alloc, board, seat, cells, context, gate, hands, feeder, reader,
-    ) {
+    let Ok((feeder, hands)) = Pool::new(compiler.alloc, workers) else {
+        return None;
+    };
+    let reader = BodyReader::new(compiler.alloc, source, intake);
+    match run_beside(rt, board, seat, compiler, hands, feeder, reader) {
         Ok(joined) => {
             let seat = joined.seat;
             let tickets = joined.kept;
@@ -181,10 +179,13 @@ fn read_with_workers<R: Threads + Wait + Sync, S: Source, G: Gate>(
     // The codes of a module have no more instruction words together than a text may have.
     let cells = Cells::new(alloc, stored, u64::from(MAX_TEXT) / 4)?;
     let (board, seat) = Board::new(alloc, functions, u64::from(workers) + 1)?;
-    let (feeder, hands) = Pool::new(alloc, workers)?;
-    let Some(gathered) = read_in_scope(
-        rt, alloc, source, gate, &board, seat, &cells, context, hands, feeder, intake,
-    ) else {
+    let compiler = BatchCompiler {
+        alloc,
+        context,
+        cells: &cells,
+        gate,
+    };
+    let Some(gathered) = read_in_scope(rt, source, &board, seat, &compiler, workers, intake) else {
         return Err(AllocError);
     };
     let Gathered {
@@ -195,7 +196,7 @@ fn read_with_workers<R: Threads + Wait + Sync, S: Source, G: Gate>(
         rows,
     } = gathered;
     // Why: docs/DECISIONS.md, "Workers compile the code section's bodies, and are joined at its end"
-    let Some(settled) = settle(alloc, board, seat, &cells, context, gate, rows, tickets) else {
+    let Some(settled) = settle(board, seat, &compiler, rows, tickets) else {
         return Err(AllocError);
     };
     let rows = by_number(alloc, context, &cells, settled.rows, intake.kept.len())?;

@@ -2,7 +2,7 @@
 ghost use Rattle.std.specs.Prelude.{◌≡◌, ⊤, length, IfOk};
 ghost use Rattle.batch_pool.specs.Desks.{IsDesk, IsIdle};
 
-use batch_pool::{Desk, Pool, Reading, by_number, run_beside, settle};
+use batch_pool::{BatchCompiler, Desk, Pool, Reading, by_number, run_beside, settle};
 use body_compiler::Row;
 use body_cutter::{Batch, Bodies, Body, BodyBytes};
 use cancel_drain::{Board, Closed};
@@ -123,23 +123,18 @@ fn run<R: Threads + Wait + Sync>(
         alloc,
         saw: Ok(false),
     };
-    let Ok(joined) = run_beside(
-        rt, alloc, &board, seat, &cells, context, &OpenGate, hands, feeder, reading,
-    ) else {
+    let compiler = BatchCompiler {
+        alloc,
+        context,
+        cells: &cells,
+        gate: &OpenGate,
+    };
+    let Ok(joined) = run_beside(rt, &board, seat, &compiler, hands, feeder, reading) else {
         return Err(AllocError);
     };
     let kept = joined.kept.len();
     let saw = joined.reader.saw?;
-    let Some(settled) = settle(
-        alloc,
-        board,
-        joined.seat,
-        &cells,
-        context,
-        &OpenGate,
-        joined.rows,
-        joined.kept,
-    ) else {
+    let Some(settled) = settle(board, joined.seat, &compiler, joined.rows, joined.kept) else {
         return Err(AllocError);
     };
     let rows = by_number(alloc, context, &cells, settled.rows, BATCHES as usize)?;

@@ -2,7 +2,7 @@
 ghost use Rattle.std.specs.Prelude.{◌≡◌, ◌≤◌, IfOk, length};
 ghost use Rattle.index_spaces.specs.ItemLimits.{HasSmallType};
 
-use batch_pool::{Feeder, Hand, Pool, Ticket, Worked, work};
+use batch_pool::{BatchCompiler, Feeder, Hand, Pool, Ticket, Worked, work};
 use body_compiler::{Row, Stored};
 use body_cutter::{Batch, Bodies, Body, BodyBytes};
 use cancel_drain::{Board, Closed};
@@ -157,9 +157,13 @@ fn told<R: Threads + Wait + Sync>(
     };
     board.publish(&mut seat, 0, 23);
     board.publish(&mut seat, 1, 27);
-    let worked = work(
-        rt, alloc, &mut hand, &board, seat, &cells, &context, &OpenGate,
-    );
+    let compiler = BatchCompiler {
+        alloc,
+        context: &context,
+        cells: &cells,
+        gate: &OpenGate,
+    };
+    let worked = work(rt, &mut hand, &board, seat, &compiler);
     let closed = board.close(worked.seat);
     outcome(alloc, worked.starved, worked.rows.as_slice(), &closed)
 }
@@ -217,19 +221,25 @@ fn told_of_two<R: Threads + Wait + Sync>(
     board.publish(&mut seat, 0, 23);
     board.publish(&mut seat, 1, 27);
     let other = board.split(&mut seat);
-    let (b, c, x) = (&board, &cells, &context);
+    let compiler = BatchCompiler {
+        alloc,
+        context: &context,
+        cells: &cells,
+        gate,
+    };
+    let (b, c) = (&board, &compiler);
     let (first, second) = thread::join(
         rt,
         move || -> Worked
             requires table { seat.table ≡ b.now.table }
             ensures table { result.seat.table ≡ seat.table }
             ensures parts { result.seat.view.parts ≡ seat.view.parts }
-        { work(rt, alloc, &mut one, b, seat, c, x, gate) },
+        { work(rt, &mut one, b, seat, c) },
         move || -> Worked
             requires table { other.table ≡ b.now.table }
             ensures table { result.seat.table ≡ other.table }
             ensures parts { result.seat.view.parts ≡ other.view.parts }
-        { work(rt, alloc, &mut two, b, other, c, x, gate) },
+        { work(rt, &mut two, b, other, c) },
     );
     let Worked {
         mut seat,

@@ -3,6 +3,7 @@ ghost use Rattle.std.specs.Prelude.{◌≡◌, ◌<◌, ◌^◌, ◌⊎◌, true
 ghost use Rattle.batch_pool.specs.Desks.{IsDesk, IsIdle, HasRead};
 ghost use Rattle.batch_pool.specs.Working.{IsWorked};
 
+use crate::batch_compiler::BatchCompiler;
 use crate::feeder::Feeder;
 use crate::hand::Hand;
 use crate::scope::desk::Desk;
@@ -14,8 +15,6 @@ use body_compiler::Row;
 use cancel_drain::{Board, BoardSeat};
 use index_spaces::Context;
 use io_edges::Gate;
-use result_cells::Cells;
-use std::alloc::Global;
 use std::snapshot::Snapshot;
 use std::sync::Wait;
 use std::sync::atomic::AtomicU64;
@@ -58,12 +57,9 @@ pub struct Joined<T> {
 /// with the reader as it is after its reading, or as it was.
 pub fn run_beside<R: Threads + Wait + Sync, G: Gate, T: Reading + Drop>(
     rt: &R,
-    alloc: Global,
     board: &Board,
     seat: BoardSeat,
-    cells: &Cells,
-    context: &Context,
-    gate: &G,
+    compiler: &BatchCompiler<'_, G>,
     hands: Vec<Hand>,
     feeder: Feeder,
     reading: T,
@@ -72,7 +68,7 @@ pub fn run_beside<R: Threads + Wait + Sync, G: Gate, T: Reading + Drop>(
     requires first { (seat.view.feeder ≡ true) × (seat.view.running ≡ []) × (seat.view.published ≡ []) }
     requires parts { length hands.items < seat.view.parts }
     requires can { T.can_read reading }
-    ensures read { IfOk result (λ j. HasRead context.now cells.now board.now seat.view j.seat j.kept.items j.rows.items) }
+    ensures read { IfOk result (λ j. HasRead compiler.now.context.now compiler.now.cells.now board.now seat.view j.seat j.kept.items j.rows.items) }
     ensures made { IfOk result (λ j. T.reads reading j.reader) }
     ensures back { IfErr result (λ r. T.reads reading r ⊎ (r ≡ reading)) }
 {
@@ -87,13 +83,15 @@ pub fn run_beside<R: Threads + Wait + Sync, G: Gate, T: Reading + Drop>(
             requires first { (seat.view.feeder ≡ true) × (seat.view.running ≡ []) × (seat.view.published ≡ []) }
             requires parts { (length hands.items < seat.view.parts) × (seat.view.parts < 2 ^ 64) }
             requires can { T.can_read reading }
-            ensures read { IfOk result (λ j. HasRead context.entry.now cells.entry.now board.entry.now seat.view j.seat j.kept.items j.rows.items) }
+            ensures read { IfOk result (λ j.
+                HasRead compiler.entry.now.context.now compiler.entry.now.cells.now board.entry.now seat.view j.seat j.kept.items j.rows.items) }
             ensures made { IfOk result (λ j. T.reads reading j.reader) }
             ensures back { IfErr result (λ r. T.reads reading r ⊎ (r ≡ reading)) }
         {
+            let (context, cells) = (compiler.context, compiler.cells);
             let mut seat = seat;
-            let mut rows: Vec<Row> = Vec::new(alloc);
-            let mut handles: Vec<PromisedHandle<Worked, Labour<'_>>> = Vec::new(alloc);
+            let mut rows: Vec<Row> = Vec::new(compiler.alloc);
+            let mut handles: Vec<PromisedHandle<Worked, Labour<'_>>> = Vec::new(compiler.alloc);
             let mut number = 0u64;
             for hand in hands {
                 let part = board.split(&mut seat);
@@ -107,12 +105,8 @@ pub fn run_beside<R: Threads + Wait + Sync, G: Gate, T: Reading + Drop>(
                     promise,
                     move || -> Worked
                         requires { part.table ≡ board.now.table }
-                        ensures { IsWorked context.entry.now cells.entry.now part result }
-                    {
-                        labour_at(
-                            rt, alloc, hand, board, part, cells, context, gate, mine, told,
-                        )
-                    },
+                        ensures { IsWorked compiler.entry.now.context.now compiler.entry.now.cells.now part result }
+                    { labour_at(rt, hand, board, part, compiler, mine, told) },
                 ) {
                     Ok(handle) => {
                         let Ok(()) = handles.push(handle) else {
@@ -131,7 +125,7 @@ pub fn run_beside<R: Threads + Wait + Sync, G: Gate, T: Reading + Drop>(
                 }
                 number = number.wrapping_add(1);
             }
-            let mut desk = Desk::new(alloc, board, context, seat, feeder);
+            let mut desk = Desk::new(compiler.alloc, board, context, seat, feeder);
             let mut reader = reading;
             reader.read(board, context, &mut desk);
             let Desk {

@@ -2,6 +2,7 @@
 ghost use Rattle.std.specs.Prelude.{◌≡◌};
 ghost use Rattle.batch_pool.specs.Working.{IsWorked};
 
+use crate::batch_compiler::BatchCompiler;
 use crate::hand::Hand;
 use crate::worked::Worked;
 use crate::worker::work;
@@ -10,7 +11,6 @@ use cancel_drain::{Board, BoardSeat};
 use index_spaces::Context;
 use io_edges::Gate;
 use result_cells::Cells;
-use std::alloc::Global;
 use std::snapshot::Snapshot;
 use std::sync::Wait;
 use std::sync::atomic::AtomicU64;
@@ -34,26 +34,23 @@ impl<'a> Promise<Worked> for Labour<'a> {
 /// A worker's thread. Where it was refused, it gives its seat back at once.
 pub fn labour_at<R: Threads + Wait + Sync, G: Gate>(
     rt: &R,
-    alloc: Global,
     hand: Hand,
     board: &Board,
     seat: BoardSeat,
-    cells: &Cells,
-    context: &Context,
-    gate: &G,
+    compiler: &BatchCompiler<'_, G>,
     number: u64,
     refused: &AtomicU64,
 ) -> Worked
     requires table { seat.table ≡ board.now.table }
-    ensures { IsWorked context.now cells.now seat result }
+    ensures { IsWorked compiler.now.context.now compiler.now.cells.now seat result }
 {
     if refused.load(SeqCst) == number {
         return Worked {
             seat,
-            rows: Rows::new(Vec::new(alloc)),
+            rows: Rows::new(Vec::new(compiler.alloc)),
             starved: false,
         };
     }
     let mut hand = hand;
-    work(rt, alloc, &mut hand, board, seat, cells, context, gate)
+    work(rt, &mut hand, board, seat, compiler)
 }

@@ -6,14 +6,14 @@ ghost use Rattle.cancel_drain.specs.Closing.{IsTried, IsClosed, IsSettled};
 ghost use Rattle.cancel_drain.specs.declared.view.View.{View};
 ghost use Rattle.batch_pool.specs.Settling.{AreKept};
 
+use crate::batch_compiler::BatchCompiler;
 use crate::serving::serve_fitting;
 use crate::ticket::Ticket;
 use body_compiler::Row;
 use cancel_drain::{Board, BoardSeat, Closed};
 use index_spaces::Context;
 use io_edges::Gate;
-use result_cells::Cells;
-use std::alloc::{AllocError, Global};
+use std::alloc::AllocError;
 
 /// Publishes the batch of a ticket that fits, and keeps the ticket. Where memory runs out, nothing has changed.
 pub fn keep(
@@ -43,25 +43,22 @@ pub fn keep(
 
 /// Serves each kept batch. None where memory ran out.
 fn try_all<G: Gate>(
-    alloc: Global,
     board: &Board,
     seat: &mut BoardSeat,
-    cells: &Cells,
-    context: &Context,
-    gate: &G,
+    compiler: &BatchCompiler<'_, G>,
     rows: &mut Vec<Row>,
     kept: Vec<Ticket>,
 ) -> Option<()>
     requires table { seat.old.table ≡ board.now.table }
     requires feeder { seat.old.view.feeder ≡ true }
-    requires kept { AreKept context.now board.now.functions seat.old.view.published kept.items }
+    requires kept { AreKept compiler.now.context.now board.now.functions seat.old.view.published kept.items }
     ensures table { seat.new.table ≡ seat.old.table }
-    ensures grows { Grows context.now cells.now seat.old.view seat.new.view rows.old.items rows.new.items }
+    ensures grows { Grows compiler.now.context.now compiler.now.cells.now seat.old.view seat.new.view rows.old.items rows.new.items }
     ensures running { IfSome result (λ _. seat.new.view.running ≡ seat.old.view.running) }
     ensures tried { IfSome result (λ _. (b : ℕ) → b < length seat.new.view.published → IsTried seat.new.view b) }
 {
     for ticket in kept {
-        match serve_fitting(alloc, board, seat, cells, context, gate, rows, ticket) {
+        match serve_fitting(board, seat, compiler, rows, ticket) {
             Ok(()) => {}
             Err(_) => return None,
         }
@@ -81,26 +78,22 @@ pub struct Settled {
 /// Serves each kept batch on the last seat, which fed the others, and closes the board: each batch that was published is done
 /// once, or drained after a reported error. None where memory ran out.
 pub fn settle<G: Gate>(
-    alloc: Global,
     board: Board,
     seat: BoardSeat,
-    cells: &Cells,
-    context: &Context,
-    gate: &G,
+    compiler: &BatchCompiler<'_, G>,
     rows: Vec<Row>,
     kept: Vec<Ticket>,
 ) -> Option<Settled>
     requires table { seat.table ≡ board.table }
     requires seat { (seat.view.feeder ≡ true) × (seat.view.running ≡ []) × (seat.view.parts ≡ board.seats) }
-    requires kept { AreKept context.now board.functions seat.view.published kept.items }
-    ensures { IfSome result (λ s. (w : View) × Grows context.now cells.now seat.view w rows.items s.rows.items
+    requires kept { AreKept compiler.now.context.now board.functions seat.view.published kept.items }
+    ensures { IfSome result (λ s. (w : View)
+        × Grows compiler.now.context.now compiler.now.cells.now seat.view w rows.items s.rows.items
         × IsClosed board.functions w s.closed.least s.closed.states × ((b : ℕ) → b < length w.published → IsSettled w s.closed.least b)) }
 {
     let mut seat = seat;
     let mut rows = rows;
-    try_all(
-        alloc, &board, &mut seat, cells, context, gate, &mut rows, kept,
-    )?;
+    try_all(&board, &mut seat, compiler, &mut rows, kept)?;
     let closed = board.close(seat);
     Some(Settled { closed, rows })
 }

@@ -6,5 +6,5 @@ use Rattle.batch_pool.proofs.scope.settling.try_all.Given as goal
 abbrev pub invariant-loop-ticket : goal.invariant-loop-ticket
 invariant-loop-ticket g l =
     (l.seat.table ≡ l.board.table)
-    × HasTried l.context l.cells l.board.functions l.initial.seat.view l.seat.view l.initial.rows.items l.rows.items (into_iter_items l.ticket-iterator)
+    × HasTried l.compiler.context.now l.compiler.cells.now l.board.functions l.initial.seat.view l.seat.view l.initial.rows.items l.rows.items (into_iter_items l.ticket-iterator)
     × (length (into_iter_items l.ticket-iterator) ≡ into_iter_len l.ticket-iterator)

@@ -10,8 +10,8 @@ use Rattle.batch_pool.proofs.scope.beside.fn.run_beside.scope.Goals as goal
 pub loop-hand-preserved : goal.loop-hand-preserved
 loop-hand-preserved g c =
     let i = c.loop-hand.invariant in
-    let ctx = c.captures.context.now in
-    let cells = c.captures.cells.now in
+    let ctx = c.captures.compiler.now.context.now in
+    let cells = c.captures.compiler.now.cells.now in
     let split = gathers_split ctx cells c.captures.seat.view c.loop-hand.seat.view c.split-part.new.seat.view [] c.loop-hand.rows.items i.3 (ap (λ s. s.view) c.split-part.ensures.left) in
     elim c.match-spawn_with.branch [
       | in-Ok+in-Ok-push w ↦ (
@@ -21,8 +21,8 @@ loop-hand-preserved g c =
         gathers_at ctx cells c.captures.seat.view c.split-part.new.seat.view c.match-spawn_with.seat.view [] c.loop-hand.rows.items c.match-spawn_with.rows.items (search rules) (search rules) split,
         search rules,
         search rules,
-        all_pushed (λ h. AreOf c.captures.context.now c.captures.cells.now c.captures.board.now.table h.promise) w.in-Ok.handle c.loop-hand.handles.items c.match-spawn_with.handles.items (search (rules, w.in-Ok-push.ensures.items)) i.6
-            (are_of c.captures.context.now c.captures.cells.now c.captures.board.now.table w.in-Ok.handle.promise _ c.split-part.result c.loop-hand.seat.view.seen w.in-Ok.ensures.ok refl refl c.of.ensures (search rules) c.split-part.ensures.right.1),
+        all_pushed (λ h. AreOf c.captures.compiler.now.context.now c.captures.compiler.now.cells.now c.captures.board.now.table h.promise) w.in-Ok.handle c.loop-hand.handles.items c.match-spawn_with.handles.items (search (rules, w.in-Ok-push.ensures.items)) i.6
+            (are_of c.captures.compiler.now.context.now c.captures.compiler.now.cells.now c.captures.board.now.table w.in-Ok.handle.promise _ c.split-part.result c.loop-hand.seat.view.seen w.in-Ok.ensures.ok refl refl c.of.ensures (search rules) c.split-part.ensures.right.1),
       )
       | in-Err+in-Some-take_in w ↦ (
         tt,
@@ -32,7 +32,7 @@ loop-hand-preserved g c =
             (gathers_trans ctx cells c.captures.seat.view c.split-part.new.seat.view w.take_in.new.seat.view [] c.loop-hand.rows.items w.take_in.new.rows.items split w.in-Some-take_in.ensures.gathers),
         search rules,
         search rules,
-        all_same (λ h. AreOf c.captures.context.now c.captures.cells.now c.captures.board.now.table h.promise) c.loop-hand.handles.items c.match-spawn_with.handles.items (search rules) i.6,
+        all_same (λ h. AreOf c.captures.compiler.now.context.now c.captures.compiler.now.cells.now c.captures.board.now.table h.promise) c.loop-hand.handles.items c.match-spawn_with.handles.items (search rules) i.6,
       )
     ]
 
@@ -49,8 +49,8 @@ join_all-requires g c =
 pub returns : goal.returns
 returns g c =
     let i = c.loop-hand.invariant in
-    let ctx = c.captures.context.now in
-    let cells = c.captures.cells.now in
+    let ctx = c.captures.compiler.now.context.now in
+    let cells = c.captures.compiler.now.cells.now in
     let d = c.new-desk.result in
     let kept = c.read.ensures in
     let same : d.seat.view.parts ≡ c.loop-hand.seat.view.parts = ap (λ (s : Sitter). s.view.parts) c.new-desk.ensures.seat in
