@@ -15,7 +15,7 @@ use Rattle.result_cells.specs.Rooms.{Store}
 use Rattle.batch_pool.specs.declared.scope.labour.Labour.{Labour}
 use Rattle.batch_pool.specs.Gathering.{IsFresh, Gathers, AreOf}
 
-or_false : (b : Bool) → (b || false) ≡ b
+pub or_false : (b : Bool) → (b || false) ≡ b
 or_false true = refl
 or_false false = refl
 

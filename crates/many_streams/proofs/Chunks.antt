@@ -5,6 +5,7 @@ use native.Mathlib.Decide.{ℕ_discrete}
 use Rattle.std.proofs.Math.ListN.{set, length-set}
 use Rattle.std.proofs.lemmas.Bool.{ne_eqb}
 use Rattle.std.proofs.lemmas.List.{append-nil, get_or-set_same, get_or-set_other}
+use Rattle.batch_pool.proofs.Gathered.{or_false}
 use Rattle.many_streams.specs.Frames.{Chunk, u32, chunk_encoding, chunks_encoding, encoding, bytes_of, ends, is_ended, IsOpen, MayFollow, AreInOrder, AreWellFormed}
 use Rattle.many_streams.specs.Reading.{AreFlags, AreOf}
 
@@ -21,10 +22,6 @@ bytes_of-push i [] c = append-nil (cond (eqb c.index i) c.bytes [])
 bytes_of-push i (x ∷ cs) c =
     ap (λ (l : List ℕ). cond (eqb x.index i) x.bytes [] ++ l) (bytes_of-push i cs c)
     ∙ sym (append_assoc (cond (eqb x.index i) x.bytes []) (bytes_of i cs) (cond (eqb c.index i) c.bytes []))
-
-pub or_false : (b : Bool) → (b || false) ≡ b
-or_false true = refl
-or_false false = refl
 
 or_assoc : (a b c : Bool) → (a || (b || c)) ≡ ((a || b) || c)
 or_assoc true b c = refl

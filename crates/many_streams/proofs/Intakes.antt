@@ -16,12 +16,9 @@ use Rattle.module_stream.specs.Progress.{CanTakeAll}
 use Rattle.module_stream.specs.Streaming.{IsGoing, GoesOn, with_cutter}
 use Rattle.module_stream.proofs.Cutting.{all_taken}
 use Rattle.module_stream.proofs.Keeping.{JudgesAll, keeping_from, keeping_fed, keeping_refused, keeping_can, keeping_judged, keeping_stops, faulty_can, faulty_body, section_refused}
+use Rattle.module_stream.proofs.Sharing.{not_kept}
 use Rattle.many_streams.specs.declared.intake.Intake.{Intake}
 use Rattle.many_streams.specs.Intakes.{KeepsBy, Keeps}
-
-not_some : {X : Type 0} (o : Option X) → is_some o ≡ false → o ≡ None
-not_some None e = refl
-not_some (Some x) e = absurd (true≢false e)
 
 module _ (bytes : List ℕ) (s : Compilation) (i : Intake) (piece more : List ℕ) where
   -- the section's error is known
@@ -34,12 +31,12 @@ module _ (bytes : List ℕ) (s : Compilation) (i : Intake) (piece more : List �
 
   module _ (none : is_some i.error ≡ false) (k : Keeps bytes s i (piece ++ more)) where
     here : KeepsBy None bytes s i (piece ++ more)
-    here = subst (λ (o : Option Refusal). KeepsBy o bytes s i (piece ++ more)) (not_some i.error none) k
+    here = subst (λ (o : Option Refusal). KeepsBy o bytes s i (piece ++ more)) (not_kept i.error none) k
 
     -- the section is whole
     pub keeps_rest : (j : Intake) → is_whole i.cutter ≡ true → j.error ≡ i.error → j.cutter ≡ i.cutter → j.kept ≡ i.kept → j.rest.items ≡ i.rest.items ++ piece → Keeps bytes s j more
     keeps_rest j whole error cutter kept rest =
-        subst (λ (o : Option Refusal). KeepsBy o bytes s j more) (sym (error ∙ not_some i.error none)) (
+        subst (λ (o : Option Refusal). KeepsBy o bytes s j more) (sym (error ∙ not_kept i.error none)) (
           subst (λ (l : List ℕ). IsGoing bytes (with_bodies s (kept_bodies j.kept.items) j.cutter) (l ++ more)) (sym rest)
               (subst (λ (l : List ℕ). IsGoing bytes (with_bodies s (kept_bodies j.kept.items) j.cutter) l) (sym (append_assoc i.rest.items piece more))
               (rw (kept, cutter) here.0)),
@@ -59,7 +56,7 @@ module _ (bytes : List ℕ) (s : Compilation) (i : Intake) (piece more : List �
         pub keeps_behind : is_whole j.cutter ≡ true → j.rest.items ≡ i.rest.items ++ drop taken piece → Keeps bytes s j more
         keeps_behind whole rest =
             let is : j.rest.items ≡ drop taken piece = rest ∙ ap (λ (l : List ℕ). l ++ drop taken piece) (here.1 owed) in
-            subst (λ (o : Option Refusal). KeepsBy o bytes s j more) (sym (error ∙ not_some i.error none)) (
+            subst (λ (o : Option Refusal). KeepsBy o bytes s j more) (sym (error ∙ not_kept i.error none)) (
               subst (λ (l : List ℕ). IsGoing bytes (with_bodies s (kept_bodies j.kept.items) j.cutter) (l ++ more)) (sym is) now_going,
               λ not. absurd (true≢false (sym whole ∙ not)),
             )
@@ -71,7 +68,7 @@ module _ (bytes : List ℕ) (s : Compilation) (i : Intake) (piece more : List �
             let there : mid.place.at < mid.place.end = subst (λ (p : Place). p.at < p.end) place (inside (ap (λ (p : Place). p.stop) place ∙ fed.going)) in
             let all : taken ≡ length piece = all_taken i.cutter mid piece taken fed there in
             let out : drop taken piece ≡ [] = drop_all taken piece (omega arith) in
-            subst (λ (o : Option Refusal). KeepsBy o bytes s j more) (sym (error ∙ not_some i.error none)) (
+            subst (λ (o : Option Refusal). KeepsBy o bytes s j more) (sym (error ∙ not_kept i.error none)) (
               subst (λ (l : List ℕ). IsGoing bytes (with_bodies s (kept_bodies j.kept.items) j.cutter) (l ++ more)) (out ∙ sym none') now_going,
               λ not. none',
             )
