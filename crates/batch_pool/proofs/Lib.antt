@@ -1,6 +1,6 @@
 pub mod AfterReading
 pub mod Complete
-pub mod Gathered
+pub mod GatheringLaws
 pub mod Handing
 pub mod Moves
 pub mod Placing

@@ -23,7 +23,7 @@ use Rattle.control_emit.specs.Pending.{Ends, shapes, named}
 use Rattle.control_emit.specs.Walks.{Step, token_calls, token_sites, count_of}
 use Rattle.control_emit.proofs.Partly.{next_is_within}
 use Rattle.control_emit.proofs.Trees.{ends_of, ends_count}
-use Rattle.body_compiler.specs.Going.{CallingDraft, IsCompiling, IsTaking, IsTooLong}
+use Rattle.body_compiler.specs.Going.{BodyState, IsCompiling, IsTaking, IsTooLong}
 use Rattle.body_compiler.specs.Steps.{table_jumps, appended_at, GetsTooLong, HaveSameFunctions, PassesText}
 use Rattle.body_compiler.specs.Unlinked.{IsUnlinked}
 use Rattle.body_compiler.specs.Going.{going_of}
@@ -56,7 +56,7 @@ table-within w c t h d ends = (0, omega arith)
 
 -- ---- a body
 
-pub too_long : (counted : Bool) (c : Context) (last at b : ℕ) (before d e : Cursor) (t : Token) (h : ℕ) (check : Checked) (code : Spelled) (layout : Layout) (front : List ℕ) (old : CallingDraft) → (k : IsCompiling counted c last before check code layout front old)
+pub too_long : (counted : Bool) (c : Context) (last at b : ℕ) (before d e : Cursor) (t : Token) (h : ℕ) (check : Checked) (code : Spelled) (layout : Layout) (front : List ℕ) (old : BodyState) → (k : IsCompiling counted c last before check code layout front old)
     → byte before ≡ Got (at, b) d → (check.checker.frames ≡ [] → ⊥) → instruction counted at b d ≡ Got t e
     → ((more : List Token) (tree : Seq) → Tree (tokens_of k.going.tokens ++ t ∷ more) tree → IsBody check.context tree → slice_get (places_of check.context tree) (length (tokens_of k.going.tokens)) ≡ Some (Some h))
     → PassesText old.draft.labels old.draft.words t
@@ -82,7 +82,7 @@ too_long counted c last at b before d e t h check code layout front old k here g
 
 -- ---- one token more, whether or not the code is too long
 
-pub takes_behind : (counted : Bool) (c module_context : Context) (last at b : ℕ) (before d e : Cursor) (t : Token) (s : Taken_step) (check later : Checked) (code : Spelled) (layout : Layout) (front : List ℕ) (old new : CallingDraft) (was is_now : Bool) → (k : IsTaking counted was c last before check code layout front old)
+pub takes_behind : (counted : Bool) (c module_context : Context) (last at b : ℕ) (before d e : Cursor) (t : Token) (s : Taken_step) (check later : Checked) (code : Spelled) (layout : Layout) (front : List ℕ) (old new : BodyState) (was is_now : Bool) → (k : IsTaking counted was c last before check code layout front old)
     → byte before ≡ Got (at, b) d → (check.checker.frames ≡ [] → ⊥) → instruction counted at b d ≡ Got t e
     → step_checker check.context t check.checker ≡ Some later.checker → later.context ≡ check.context
     → let tokens = tokens_of (going_of counted was c last before check code layout front old k).tokens in

@@ -76,7 +76,7 @@ pub(crate) fn stop_of(stop: &Stop, last: u64) -> BodyStop
 
 /// A body's draft.
 #[derive(Drop)]
-pub struct BodyDraft {
+pub struct BodyBuilder {
     pub function: FunctionBuilder,
     pub sites: Vec<TrapSite>,
 }
@@ -85,7 +85,7 @@ pub struct BodyDraft {
 #[inline(always)]
 fn take_checked(
     check: &Check<'_>,
-    draft: &mut BodyDraft,
+    draft: &mut BodyBuilder,
     at: u64,
     step: &Step,
     token: &Token,
@@ -127,10 +127,10 @@ fn take_checked(
     }
 }
 
-impl TokenSink for BodyDraft {
+impl TokenSink for BodyBuilder {
     ghost Front = { Beginning };
 
-    ghost Came = { λ counted c last cursor check code front d. (d.function.layout ≡ front.layout) × (d.function.rows ≡ front.rows)
+    ghost Tracks = { λ counted c last cursor check code front d. (d.function.layout ≡ front.layout) × (d.function.rows ≡ front.rows)
         × IsTaking counted d.function.too_long c last cursor check code front.layout front.words
         (calling d.function.labels d.function.words d.function.calls.items d.function.rows d.sites.items) };
 
@@ -169,7 +169,7 @@ impl TokenSink for BodyDraft {
 pub fn judge_code(
     fields: &mut Fields<'_>,
     check: &mut Check<'_>,
-    draft: &mut BodyDraft,
+    draft: &mut BodyBuilder,
     reading: ReadContext,
 ) -> Result<(), BodyStop>
     requires held { IsHeld (drafted draft.old.function.labels draft.old.function.words) }

@@ -15,7 +15,7 @@ ghost use Rattle.body_compiler.specs.Making.{Makes};
 ghost use Rattle.body_compiler.specs.Steps.{FunctionsAreSmall};
 ghost use Rattle.body_compiler.specs.Going.{IsGoing};
 
-use crate::code::{BodyDraft, BodyStop, judge_code};
+use crate::code::{BodyBuilder, BodyStop, judge_code};
 use crate::function_builder::{begin, finish};
 use crate::opened::{OpenedBody, open_body};
 use crate::token_loop::ReadContext;
@@ -78,7 +78,7 @@ fn compile_code(
     let Ok(draft) = begin(alloc, layout, rows, results, bytes) else {
         return Err(BodyStop::NoMemory);
     };
-    let mut draft = BodyDraft {
+    let mut draft = BodyBuilder {
         function: draft,
         sites: no_sites(alloc),
     };

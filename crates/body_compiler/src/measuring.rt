@@ -252,7 +252,7 @@ impl WordCounter {
 impl TokenSink for WordCounter {
     ghost Front = { ℕ };
 
-    ghost Came = { λ counted c last cursor check code front n.
+    ghost Tracks = { λ counted c last cursor check code front n.
         IsCountingOn counted n.too_long c last cursor check code front (word_count n.takes.items n.words) };
 
     ghost going = { λ counted c last cursor check code front n k.

@@ -27,11 +27,11 @@ pub trait TokenSink {
     /// What stands before the first of them.
     ghost Front: { Type 0 };
 
-    /// How far a body's code came: what was read is right, and leads to what it has.
-    ghost Came: { Bool → ContextGiven → ℕ → CursorGiven → CheckedGiven → SpelledGiven → Front → Self → Type 0 };
+    /// What was read of a body's code is right, and leads to what it has.
+    ghost Tracks: { Bool → ContextGiven → ℕ → CursorGiven → CheckedGiven → SpelledGiven → Front → Self → Type 0 };
 
     ghost going: { (counted : Bool) (c : ContextGiven) (last : ℕ) (cursor : CursorGiven) (check : CheckedGiven) (code : SpelledGiven) (front : Front)
-        (sink : Self) → Came counted c last cursor check code front sink → IsGoing counted c last cursor check code };
+        (sink : Self) → Tracks counted c last cursor check code front sink → IsGoing counted c last cursor check code };
 
     /// It is of the blocks that a check has open, where at most so many bytes follow.
     ghost Fits: { CheckedGiven → ℕ → Self → Type 0 };
@@ -43,8 +43,8 @@ pub trait TokenSink {
         requires more { check.old.checker.frames ≢ [] }
         ensures fits { (left later : ℕ) → Fits check.old (left + 1) self.old → later ≤ left → OnOk result (Fits check.new later self.new) }
         ensures goes { (counted : Bool) (c : ContextGiven) (last b : ℕ) (code : SpelledGiven) (before mid after : CursorGiven) (front : Front)
-            → Came counted c last before check.old code front self.old → byte before ≡ Got (at, b) mid → instruction counted at b mid ≡ Got token.now after
-            → OnOk result (Came counted c last after check.new code front self.new) × IfErr result (StopsReading c code) };
+            → Tracks counted c last before check.old code front self.old → byte before ≡ Got (at, b) mid → instruction counted at b mid ≡ Got token.now after
+            → OnOk result (Tracks counted c last after check.new code front self.new) × IfErr result (StopsReading c code) };
 
     /// Does as `take_read` does with one of the commonest instructions.
     fn take_common(&mut self, check: &mut Check<'_>, at: u64, plain: Plain) -> Result<(), BodyStop>
@@ -53,9 +53,9 @@ pub trait TokenSink {
         requires more { check.old.checker.frames ≢ [] }
         ensures fits { (left later : ℕ) → Fits check.old (left + 1) self.old → later ≤ left → OnOk result (Fits check.new later self.new) }
         ensures goes { (counted : Bool) (c : ContextGiven) (last b : ℕ) (code : SpelledGiven) (before mid after : CursorGiven) (front : Front)
-            → Came counted c last before check.old code front self.old → byte before ≡ Got (at, b) mid
+            → Tracks counted c last before check.old code front self.old → byte before ≡ Got (at, b) mid
             → instruction counted at b mid ≡ Got (PlainGiven plain) after
-            → OnOk result (Came counted c last after check.new code front self.new) × IfErr result (StopsReading c code) };
+            → OnOk result (Tracks counted c last after check.new code front self.new) × IfErr result (StopsReading c code) };
 }
 
 /// What reading an instruction asks for, besides its bytes: where memory comes from, whether the module counts its data segments, and the
@@ -113,9 +113,9 @@ fn take_indexed<T: TokenSink>(
     ensures bytes { OnOk result (AreBytes fields.new.rest) }
     ensures fits { OnOk result (T.Fits check.new (length fields.new.rest) sink.new) }
     ensures goes { (counted : Bool) (c : ContextGiven) (b : ℕ) (code : SpelledGiven) (before : CursorGiven) (front : T.Front)
-        → T.Came counted c last before check.old code front sink.old → byte before ≡ Got (at, b) fields.old
+        → T.Tracks counted c last before check.old code front sink.old → byte before ≡ Got (at, b) fields.old
         → instruction counted at b fields.old ≡ with_index (indexed named) fields.old
-        → OnOk result (T.Came counted c last fields.new check.new code front sink.new) × IfErr result (StopsReading c code) }
+        → OnOk result (T.Tracks counted c last fields.new check.new code front sink.new) × IfErr result (StopsReading c code) }
 {
     match named_index(fields) {
         Ok(x) => sink.take_common(check, at, named.with(x)),
@@ -141,9 +141,9 @@ fn take_access<T: TokenSink>(
     ensures bytes { OnOk result (AreBytes fields.new.rest) }
     ensures fits { OnOk result (T.Fits check.new (length fields.new.rest) sink.new) }
     ensures goes { (counted : Bool) (c : ContextGiven) (b : ℕ) (code : SpelledGiven) (before : CursorGiven) (front : T.Front)
-        → T.Came counted c last before check.old code front sink.old → byte before ≡ Got (at, b) fields.old
+        → T.Tracks counted c last before check.old code front sink.old → byte before ≡ Got (at, b) fields.old
         → instruction counted at b fields.old ≡ with_mem_arg access fields.old
-        → OnOk result (T.Came counted c last fields.new check.new code front sink.new) × IfErr result (StopsReading c code) }
+        → OnOk result (T.Tracks counted c last fields.new check.new code front sink.new) × IfErr result (StopsReading c code) }
 {
     match accessed_place(fields) {
         Ok(place) => match access {
@@ -172,9 +172,9 @@ fn take_constant<T: TokenSink>(
     ensures bytes { OnOk result (AreBytes fields.new.rest) }
     ensures fits { OnOk result (T.Fits check.new (length fields.new.rest) sink.new) }
     ensures goes { (counted : Bool) (c : ContextGiven) (b : ℕ) (code : SpelledGiven) (before : CursorGiven) (front : T.Front)
-        → T.Came counted c last before check.old code front sink.old → byte before ≡ Got (at, b) fields.old
+        → T.Tracks counted c last before check.old code front sink.old → byte before ≡ Got (at, b) fields.old
         → instruction counted at b fields.old ≡ constant ty fields.old
-        → OnOk result (T.Came counted c last fields.new check.new code front sink.new) × IfErr result (StopsReading c code) }
+        → OnOk result (T.Tracks counted c last fields.new check.new code front sink.new) × IfErr result (StopsReading c code) }
 {
     match value(fields, ty) {
         Ok(n) => sink.take_common(check, at, Plain::Const(ty, n)),
@@ -199,8 +199,8 @@ fn take_other<T: TokenSink>(
     ensures bytes { OnOk result (AreBytes fields.new.rest) }
     ensures fits { OnOk result (T.Fits check.new (length fields.new.rest) sink.new) }
     ensures goes { (c : ContextGiven) (code : SpelledGiven) (before : CursorGiven) (front : T.Front)
-        → T.Came reading.counted c reading.last before check.old code front sink.old → byte before ≡ Got (at, opcode) fields.old
-        → OnOk result (T.Came reading.counted c reading.last fields.new check.new code front sink.new) × IfErr result (StopsReading c code) }
+        → T.Tracks reading.counted c reading.last before check.old code front sink.old → byte before ≡ Got (at, opcode) fields.old
+        → OnOk result (T.Tracks reading.counted c reading.last fields.new check.new code front sink.new) × IfErr result (StopsReading c code) }
 {
     match instruction(fields, reading.alloc, reading.counted, at, opcode) {
         Ok(token) => sink.take_read(check, at, &token),
@@ -225,8 +225,8 @@ fn take_instruction<T: TokenSink>(
     ensures bytes { OnOk result (AreBytes fields.new.rest) }
     ensures fits { OnOk result (T.Fits check.new (length fields.new.rest) sink.new) }
     ensures goes { (c : ContextGiven) (code : SpelledGiven) (before : CursorGiven) (front : T.Front)
-        → T.Came reading.counted c reading.last before check.old code front sink.old → byte before ≡ Got (at, opcode) fields.old
-        → OnOk result (T.Came reading.counted c reading.last fields.new check.new code front sink.new) × IfErr result (StopsReading c code) }
+        → T.Tracks reading.counted c reading.last before check.old code front sink.old → byte before ≡ Got (at, opcode) fields.old
+        → OnOk result (T.Tracks reading.counted c reading.last fields.new check.new code front sink.new) × IfErr result (StopsReading c code) }
 {
     // an arm for each opcode that is common: its immediate is read without the general reader, whose token would be copied
     match opcode {
@@ -265,8 +265,8 @@ pub fn read_code<T: TokenSink>(
     ensures over { OnOk result (check.new.checker.frames ≡ []) }
     ensures fits { OnOk result (T.Fits check.new 0 sink.new) }
     ensures goes { (c : ContextGiven) (code : SpelledGiven) (front : T.Front)
-        → T.Came reading.counted c reading.last fields.old check.old code front sink.old
-        → OnOk result (T.Came reading.counted c reading.last fields.new check.new code front sink.new × (fields.new.rest ≡ []))
+        → T.Tracks reading.counted c reading.last fields.old check.old code front sink.old
+        → OnOk result (T.Tracks reading.counted c reading.last fields.new check.new code front sink.new × (fields.new.rest ≡ []))
         × IfErr result (StopsReading c code) }
 {
     while !check.is_over() {

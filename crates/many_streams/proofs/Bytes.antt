@@ -8,7 +8,7 @@ use Rattle.many_streams.specs.declared.reader.Next.TheVariants as next
 use Rattle.many_streams.specs.declared.reader.Taken.TheVariants as taken
 use Rattle.many_streams.specs.Frames.{Chunk, u32, encoding, bytes_of, ends, is_ended, MayFollow, IsBadFrame}
 use Rattle.many_streams.specs.Reading.{Progress, IsReading, StandsAt, with_more, Takes}
-use Rattle.batch_pool.proofs.Gathered.{or_false}
+use Rattle.batch_pool.proofs.GatheringLaws.{or_false}
 use Rattle.many_streams.proofs.Chunks.{encoding-push, bytes_of-push, is_ended-push, formed_push}
 use Rattle.many_streams.proofs.Ending.{cut_too_long}
 

@@ -5,7 +5,7 @@ use native.Mathlib.Decide.{ℕ_discrete}
 use Rattle.std.proofs.Math.ListN.{set, length-set}
 use Rattle.std.proofs.lemmas.Bool.{ne_eqb}
 use Rattle.std.proofs.lemmas.List.{append-nil, get_or-set_same, get_or-set_other}
-use Rattle.batch_pool.proofs.Gathered.{or_false}
+use Rattle.batch_pool.proofs.GatheringLaws.{or_false}
 use Rattle.many_streams.specs.Frames.{Chunk, u32, chunk_encoding, chunks_encoding, encoding, bytes_of, ends, is_ended, IsOpen, MayFollow, AreInOrder, AreWellFormed}
 use Rattle.many_streams.specs.Reading.{AreFlags, AreOf}
 

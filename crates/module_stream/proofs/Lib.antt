@@ -9,7 +9,7 @@ pub mod Cutting
 pub mod CodeEnds
 pub mod Streaming
 pub mod Wholes
-pub mod RightSoFar
+pub mod ValidPrefixes
 pub mod NoErrors
 pub mod Sharing
 pub mod Once

@@ -25,10 +25,10 @@ use Rattle.body_cutter.specs.Places.{Place, still}
 use Rattle.body_cutter.specs.Queues.{bodies_in}
 use Rattle.body_cutter.specs.Cuttings.{Cutting, left, IsFed}
 use Rattle.module_stream.specs.CutBodies.{counts_data, coded_all, behind, cut_run, sections_behind}
-use Rattle.module_stream.specs.RightSoFar.{PrefixIsValid}
+use Rattle.module_stream.specs.ValidPrefixes.{PrefixIsValid}
 use Rattle.module_stream.specs.Streaming.{HasNoError}
 use Rattle.module_stream.proofs.Cutting.{left_ending}
-use Rattle.module_stream.proofs.RightSoFar.{parts_after, ending_after, front_ends, none_dropped, none_waits}
+use Rattle.module_stream.proofs.ValidPrefixes.{parts_after, ending_after, front_ends, none_dropped, none_waits}
 
 -- ---- before the first byte
 

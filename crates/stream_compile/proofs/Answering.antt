@@ -30,7 +30,7 @@ use Rattle.module_stream.specs.Done.{IsModuleOfSize, IsDone}
 use Rattle.stream_compile.specs.Running.{RunsAs, IsForeign}
 use Rattle.stream_compile.specs.Compiling.{IsRefused, CompilesSource, ChecksSource}
 use Rattle.module_stream.specs.Done.{IsBuilt}
-use Rattle.module_stream.specs.RightSoFar.{closing_bytes}
+use Rattle.module_stream.specs.ValidPrefixes.{closing_bytes}
 use Rattle.stream_compile.specs.Reading.{Settled, Judged, answer_of, of_lasting, stopped_answer, view}
 use Rattle.module_stream.specs.Done.{checked_of}
 use Rattle.stream_compile.specs.Texts.{Outcome, settings_of, closing_of, read_fault, accepted, compiled, rejected, TellsCheck, OfReading, OfModule, ComesOfModule, ComesTo}

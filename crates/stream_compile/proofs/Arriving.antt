@@ -13,13 +13,13 @@ use Rattle.module_stream.specs.declared.compilation.Compilation.{Compilation}
 use Rattle.stream_compile.specs.Arriving.{StandsAt, IsArriving, has_failed}
 use Rattle.stream_compile.specs.Received.{IsRead}
 use Rattle.stream_compile.specs.Chunks.{Chunked}
-use Rattle.module_stream.specs.RightSoFar.{closing_bytes}
+use Rattle.module_stream.specs.ValidPrefixes.{closing_bytes}
 use Rattle.module_stream.specs.Done.{Decides}
 use Rattle.stream_compile.specs.Reading.{Settled}
 use Rattle.module_stream.specs.Streaming.{IsGoing, IsErrorFree, IsUnread, AllWait, ClosedAreValid, GoesOn, MayGo, MayEnd}
 use Rattle.stream_compile.proofs.Pumping.{came_more, going_piece, going_all, early, at_end, at_fault, at_limit}
 use Rattle.module_stream.proofs.NoErrors.{none_read}
-use Rattle.module_stream.proofs.RightSoFar.{right_so_far}
+use Rattle.module_stream.proofs.ValidPrefixes.{valid_prefix}
 use Rattle.module_stream.proofs.Streaming.{going_decides}
 
 none_prepended : (o : Option (List ℕ)) → o ≡ prepend_known [] o
@@ -181,7 +181,7 @@ module _ (closing : Option ℕ) (first : Option (List ℕ)) (before : ℕ) where
           taken = a.taken ∙ came_more all piece left left' took;
           stands = (calm ∙ (at_bytes is).0, may);
           short = short;
-          right = right_so_far closing all s (going_here none) free valid;
+          right = valid_prefix closing all s (going_here none) free valid;
           batch = a.batch;
           going = λ more fits. going_piece s all piece (going_none none) more fits;
         })

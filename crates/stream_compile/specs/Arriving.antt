@@ -9,7 +9,7 @@ use Rattle.module_stream.specs.Limits.{max_read}
 use Rattle.module_stream.specs.declared.compilation.Compilation.{Compilation}
 use Rattle.stream_compile.specs.declared.reading.Ending.{Ending}
 use Rattle.stream_compile.specs.Chunks.{Chunked}
-use Rattle.module_stream.specs.RightSoFar.{PrefixIsValid}
+use Rattle.module_stream.specs.ValidPrefixes.{PrefixIsValid}
 use Rattle.stream_compile.specs.Reading.{Settled}
 use Rattle.module_stream.specs.Streaming.{IsGoing}
 

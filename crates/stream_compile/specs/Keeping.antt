@@ -5,7 +5,7 @@ use Rattle.wasm_defs.specs.declared.front_stop.FrontStop.TheVariants.{Refused, N
 use Rattle.wasm_defs.specs.declared.fault.Refusal.{Refusal}
 use Rattle.index_spaces.specs.Spaces.{Spaces}
 use Rattle.body_compiler.specs.BatchRows.{IsRowIf}
-use Rattle.stream_compile.specs.declared.beside.Met.{Met}
+use Rattle.stream_compile.specs.declared.beside.ReadSection.{ReadSection}
 use Rattle.module_stream.specs.Limits.{max_read}
 use Rattle.module_stream.specs.declared.compilation.Compilation.{Compilation}
 use Rattle.stream_compile.specs.declared.intake.Intake.{Intake}
@@ -40,5 +40,5 @@ Resumes (Ok chunk) first before left now may_read s = IsArriving None first befo
 Resumes (Err e) first before left now may_read s = before < 2 ^ 64 - 1 → Settled None e.failed e.judged s first left before now
 
 -- the rows that are at hand are right
-abbrev pub IsMet : Spaces → Met → Type 0
-IsMet c m = All (IsRowIf c m.cells) m.rows.items
+abbrev pub HasRightRows : Spaces → ReadSection → Type 0
+HasRightRows c m = All (IsRowIf c m.cells) m.rows.items

@@ -2,7 +2,7 @@
 use Rattle.std.specs.Prelude.{◌≡◌, ◌≤◌, ◌⊎◌, ℕ, Bool, true, false, List, ◌++◌, length, Option, IfSome}
 use Rattle.std.specs.Io.KnownBytes.{prepend_known, IsAtEnd}
 use Rattle.wasm_laws.specs.Runs.{deciding_length}
-use Rattle.module_stream.specs.RightSoFar.{PrefixIsValid}
+use Rattle.module_stream.specs.ValidPrefixes.{PrefixIsValid}
 
 -- These bytes were read of a source that had the first left before and has the second left after: a prefix of what was left. They
 -- are no more than those that decide about any module, and up to the last piece of them, of 65,536 bytes at most, nothing was found

@@ -55,7 +55,7 @@ use Rattle.many_streams.specs.declared.member.EachChecked.TheVariants as each
 use Rattle.many_streams.specs.Frames.{Frames, IsBadFrame, IsCutOff}
 use Rattle.many_streams.specs.Many.{IsFront}
 use Rattle.module_stream.specs.declared.settings.Settings.{Settings}
-use Rattle.module_stream.specs.RightSoFar.{closing_bytes}
+use Rattle.module_stream.specs.ValidPrefixes.{closing_bytes}
 use Rattle.stream_compile.specs.Received.{AreReceived, AreReceivedUpTo, image_input}
 
 -- a status, and what is written

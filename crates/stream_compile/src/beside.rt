@@ -6,7 +6,7 @@ ghost use Rattle.batch_pool.specs.Desks.{HasRead};
 ghost use Rattle.module_stream.specs.declared.compilation.Compilation.{Compilation as Given};
 ghost use Rattle.stream_compile.specs.Arriving.{IsArriving};
 ghost use Rattle.module_stream.specs.Codes.{KeepsAlike};
-ghost use Rattle.stream_compile.specs.Keeping.{keeping, Keeps, IsMet, Resumes};
+ghost use Rattle.stream_compile.specs.Keeping.{keeping, Keeps, HasRightRows, Resumes};
 
 use crate::chunk::Chunk;
 use crate::intake::{Intake, read_bodies};
@@ -73,7 +73,7 @@ impl<'a, S: Source> Reading for BodyReader<'a, S> {
 
 /// What was read, and what is to be settled.
 #[derive(Drop)]
-struct Gathered {
+struct UnsettledSection {
     intake: Intake,
     /// Whether the reading met an error.
     read: Result<(), FrontStop>,
@@ -87,7 +87,7 @@ struct Gathered {
 
 /// What was read, and what workers made of it.
 #[derive(Drop)]
-pub struct Met {
+pub struct ReadSection {
     pub intake: Intake,
     /// Whether the reading met an error.
     pub read: Result<(), FrontStop>,
@@ -108,7 +108,7 @@ fn read_in_scope<R: Threads + Wait + Sync, S: Source, G: Gate>(
     compiler: &BatchCompiler<'_, G>,
     workers: u32,
     intake: Intake,
-) -> Option<Gathered>
+) -> Option<UnsettledSection>
     requires table { seat.table ≡ board.now.table }
     requires first { (seat.view.feeder ≡ true) × (seat.view.running ≡ []) × (seat.view.published ≡ []) }
     requires parts { workers < seat.view.parts }
@@ -133,7 +133,7 @@ fn read_in_scope<R: Threads + Wait + Sync, S: Source, G: Gate>(
             let intake = reader.intake;
             let read = reader.read;
             let _source = reader.source;
-            Some(Gathered {
+            Some(UnsettledSection {
                 intake,
                 read,
                 seat,
@@ -160,10 +160,10 @@ fn read_with_workers<R: Threads + Wait + Sync, S: Source, G: Gate>(
     workers: u32,
     compilation: &Compilation,
     intake: Intake,
-) -> Result<Met, AllocError>
+) -> Result<ReadSection, AllocError>
     requires arrives { (first : Option (List ℕ)) × (before : ℕ) × (s : Given)
         × IsArriving None first before (S.left source.old) (S.faults source.old) (S.is_open source.old) (keeping s intake) intake.chunk }
-    ensures met { IfOk result (IsMet compilation.now.spaces) }
+    ensures rows { IfOk result (HasRightRows compilation.now.spaces) }
     ensures keeps { IfOk result (λ m. (first : Option (List ℕ)) (before : ℕ) (s : Given)
         → IsArriving None first before (S.left source.old) (S.faults source.old) (S.is_open source.old) (keeping s intake) intake.chunk
         → Keeps m.read first before (S.left source.new) (S.faults source.new) (S.is_open source.new) s m.intake) }
@@ -185,22 +185,22 @@ fn read_with_workers<R: Threads + Wait + Sync, S: Source, G: Gate>(
         cells: &cells,
         gate,
     };
-    let Some(gathered) = read_in_scope(rt, source, &board, seat, &compiler, workers, intake) else {
+    let Some(unsettled) = read_in_scope(rt, source, &board, seat, &compiler, workers, intake) else {
         return Err(AllocError);
     };
-    let Gathered {
+    let UnsettledSection {
         intake,
         read,
         seat,
         tickets,
         rows,
-    } = gathered;
+    } = unsettled;
     // Why: docs/DECISIONS.md, "Workers compile the code section's bodies, and are joined at its end"
     let Some(settled) = settle(board, seat, &compiler, rows, tickets) else {
         return Err(AllocError);
     };
     let rows = by_number(alloc, context, &cells, settled.rows, intake.kept.len())?;
-    Ok(Met {
+    Ok(ReadSection {
         intake,
         read,
         cells,
@@ -232,31 +232,32 @@ pub fn read_beside<R: Threads + Wait + Sync, S: Source, G: Gate>(
         return Ok(chunk);
     };
     let intake = Intake::new(alloc, cutter, chunk);
-    let Ok(met) = read_with_workers(rt, alloc, source, gate, workers, compilation, intake) else {
+    let Ok(section) = read_with_workers(rt, alloc, source, gate, workers, compilation, intake)
+    else {
         return Err(Ending {
             judged: Err(FrontStop::NoMemory),
             failed: false,
         });
     };
-    judge_met(compilation, met)
+    judge_section(compilation, section)
 }
 
 /// Validates what was read in parallel with workers.
-fn judge_met(compilation: &mut Compilation, met: Met) -> Result<Chunk, Ending>
-    requires met { IsMet compilation.old.spaces met }
+fn judge_section(compilation: &mut Compilation, section: ReadSection) -> Result<Chunk, Ending>
+    requires rows { HasRightRows compilation.old.spaces section }
     requires keeps { (first : Option (List ℕ)) × (before : ℕ) × (left : Option (List ℕ)) × (now : ℕ) × (may_read : Bool)
-        × Keeps met.read first before left now may_read compilation.old met.intake }
+        × Keeps section.read first before left now may_read compilation.old section.intake }
     ensures resumes { (first : Option (List ℕ)) (before : ℕ) (left : Option (List ℕ)) (now : ℕ) (may_read : Bool)
-        → Keeps met.read first before left now may_read compilation.old met.intake
+        → Keeps section.read first before left now may_read compilation.old section.intake
         → Resumes result first before left now may_read compilation.new }
     ensures kept { KeepsAlike compilation.old.codes compilation.new.codes }
 {
-    let Met {
+    let ReadSection {
         intake,
         read,
         cells,
         rows,
-    } = met;
+    } = section;
     let Intake {
         cutter,
         kept,

@@ -2,7 +2,7 @@
 
 ghost use Rattle.std.specs.Prelude.{◌≡◌, ◌<◌, ◌^◌, ◌-◌, true, nat_lt};
 ghost use Rattle.io_edges.specs.Streams.{TookFront};
-ghost use Rattle.module_stream.specs.RightSoFar.{closing_bytes};
+ghost use Rattle.module_stream.specs.ValidPrefixes.{closing_bytes};
 ghost use Rattle.stream_compile.specs.Compiling.{CompilesSource, ChecksSource};
 
 use crate::answer::{Answer, CheckAnswer};

@@ -1,7 +1,7 @@
 //! Reads a source, and validates and compiles the module that it gives while its bytes come.
 
 ghost use Rattle.std.specs.Prelude.{◌≡◌, ◌<◌, ◌^◌, ◌-◌, ℕ, Bool, true, false, List, [], Option, None, IsSome, OnOk, nat_lt};
-ghost use Rattle.module_stream.specs.RightSoFar.{closing_bytes};
+ghost use Rattle.module_stream.specs.ValidPrefixes.{closing_bytes};
 ghost use Rattle.io_edges.specs.Streams.{TookFront};
 ghost use Rattle.stream_compile.specs.Arriving.{IsArriving, Arrives, ReadsOn};
 ghost use Rattle.module_stream.specs.Codes.{KeepsAlike};

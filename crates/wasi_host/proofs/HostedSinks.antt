@@ -19,7 +19,7 @@ use Rattle.wasi_host.specs.Sinks.{Answers}
 use Rattle.wasi_host.proofs.HostedRuns.{Whole, agree, broken, still_of, whole, whole_hosts}
 
 -- What a run came to whose host prints to this sink, from one state of the host to another.
-pub record Came (O : Type 0) (written_of : O → Option (List ℕ)) (faults_of : O → ℕ) (image : Image) (e : Export) (arguments : List Value) (n : ℕ)
+pub record HostedRun (O : Type 0) (written_of : O → Option (List ℕ)) (faults_of : O → ℕ) (image : Image) (e : Export) (arguments : List Value) (n : ℕ)
     (from to : WasiHost O) (outcome : Outcome) (memory : List ℕ) (results : List Value) : Type 0 where
   -- the host still holds the sink
   pub still : to.out.ghost_name ≡ from.out.ghost_name
@@ -65,7 +65,7 @@ module _ (O : Type 0) (written_of : O → Option (List ℕ)) (faults_of : O → 
         whole (WasiHost O) Rel image.imports (IsOver from.out.ghost_name) (λ x. x.is_open) (λ x. written_of x.out.now) (λ x. faults_of x.out.now) (λ x. x.exit) (says from.out.ghost_name) image e arguments n from to (of, refl) open_now fresh
         outcome memory results h
 
-    pub came : Came O written_of faults_of image e arguments n from to outcome memory results
+    pub came : HostedRun O written_of faults_of image e arguments n from to outcome memory results
     came = record {
       still =
           (still_of (WasiHost O) Rel image.imports (IsOver from.out.ghost_name) (λ x. x.is_open) (λ x. written_of x.out.now) (λ x. faults_of x.out.now) (λ x. x.exit) (says from.out.ghost_name) image e arguments n from to (of, refl) open_now fresh

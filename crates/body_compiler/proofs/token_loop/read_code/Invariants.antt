@@ -8,8 +8,8 @@ abbrev pub invariant-loop-reading : goal.invariant-loop-reading
 invariant-loop-reading g l = record {
   fits : g.T.TokenSink.Fits l.check (length l.fields.rest) l.sink;
   bytes : AreBytes l.fields.rest;
-  goes : (c : Context) (code : Spelled) (front : g.T.TokenSink.Front) → g.T.TokenSink.Came l.reading.counted c l.reading.last l.fn.fields l.fn.check code front l.fn.sink
-      → g.T.TokenSink.Came l.reading.counted c l.reading.last l.fields l.check code front l.sink;
+  goes : (c : Context) (code : Spelled) (front : g.T.TokenSink.Front) → g.T.TokenSink.Tracks l.reading.counted c l.reading.last l.fn.fields l.fn.check code front l.fn.sink
+      → g.T.TokenSink.Tracks l.reading.counted c l.reading.last l.fields l.check code front l.sink;
 }
 
 abbrev pub decreases-loop-reading : goal.decreases-loop-reading

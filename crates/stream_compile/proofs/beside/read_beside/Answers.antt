@@ -24,11 +24,11 @@ read_with_workers-requires-clause-arrives g c κs within =
           (subst (λ (k : Chunked). IsArriving None r.0 r.1 (g.S.Source.left old) (g.S.Source.faults old) (g.S.Source.is_open old) c.args.compilation.now k) (sym c.new-intake.ensures.chunk) r.2),
     )
 
-pub judge_met-requires-clause-met : goal.judge_met-requires-clause-met
-judge_met-requires-clause-met g c = c.in-Ok.ensures.met
+pub judge_section-requires-clause-rows : goal.judge_section-requires-clause-rows
+judge_section-requires-clause-rows g c = c.in-Ok.ensures.rows
 
-pub judge_met-requires-clause-keeps : goal.judge_met-requires-clause-keeps
-judge_met-requires-clause-keeps g c =
+pub judge_section-requires-clause-keeps : goal.judge_section-requires-clause-keeps
+judge_section-requires-clause-keeps g c =
     let r = c.requires.arrives in
     let new = c.read_with_workers.new.source in
     let old = c.args.source.now in
@@ -49,8 +49,8 @@ returns-clause-resumes g c = λ first before a.
     let old = c.args.source.now in
     let i = c.new-intake.result in
     let some = sym c.take_cutter.ensures.cutter ∙ c.in-Some.is ∙ ap (λ (k : Cutting). Some k) (sym c.new-intake.ensures.cutter) in
-    c.judge_met.ensures.resumes first before (g.S.Source.left new) (g.S.Source.faults new) (g.S.Source.is_open new) (c.in-Ok.ensures.keeps first before c.take_cutter.new.self (keeping_begins first before (g.S.Source.left old) (g.S.Source.faults old) (g.S.Source.is_open old) c.args.compilation.now c.take_cutter.new.self i some c.take_cutter.ensures.rest c.new-intake.ensures.kept
+    c.judge_section.ensures.resumes first before (g.S.Source.left new) (g.S.Source.faults new) (g.S.Source.is_open new) (c.in-Ok.ensures.keeps first before c.take_cutter.new.self (keeping_begins first before (g.S.Source.left old) (g.S.Source.faults old) (g.S.Source.is_open old) c.args.compilation.now c.take_cutter.new.self i some c.take_cutter.ensures.rest c.new-intake.ensures.kept
     (subst (λ (k : Chunked). IsArriving None first before (g.S.Source.left old) (g.S.Source.faults old) (g.S.Source.is_open old) c.args.compilation.now k) (sym c.new-intake.ensures.chunk) a)))
 
 pub returns-clause-kept : goal.returns-clause-kept
-returns-clause-kept g c = c.judge_met.ensures.kept ∙ ap (λ (s : Compilation). is_some s.codes.kept) c.take_cutter.ensures.rest
+returns-clause-kept g c = c.judge_section.ensures.kept ∙ ap (λ (s : Compilation). is_some s.codes.kept) c.take_cutter.ensures.rest

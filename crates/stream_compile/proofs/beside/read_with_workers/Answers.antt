@@ -6,4 +6,4 @@ pub by_number-requires : goal.by_number-requires
 by_number-requires g c =
     let has = c.in-Some.ensures.read in
     let grows = c.in-Some-settle.ensures.1.adds in
-    rows_grown (IsRowOf c.context-context.result.now c.in_ok-cells.cells) c.in-Some.gathered.rows.items grows.more _ grows.are has.right grows.right
+    rows_grown (IsRowOf c.context-context.result.now c.in_ok-cells.cells) c.in-Some.unsettled.rows.items grows.more _ grows.are has.right grows.right

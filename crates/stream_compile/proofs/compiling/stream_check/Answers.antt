@@ -1,5 +1,5 @@
 use Rattle.std.specs.Prelude.{nat_lt}
-use Rattle.module_stream.specs.RightSoFar.{closing_bytes}
+use Rattle.module_stream.specs.ValidPrefixes.{closing_bytes}
 use Rattle.stream_compile.proofs.Answering.{judged_at, judged_checked}
 use Rattle.stream_compile.proofs.compiling.stream_check.Goals as goal
 

@@ -1,6 +1,6 @@
 use Rattle.std.proofs.Common.{◌∙◌}
 use Rattle.std.specs.Prelude.{nat_lt, Some}
-use Rattle.module_stream.specs.RightSoFar.{closing_bytes}
+use Rattle.module_stream.specs.ValidPrefixes.{closing_bytes}
 use Rattle.stream_compile.specs.Reading.{view}
 use Rattle.stream_compile.specs.Running.{RunsAs}
 use Rattle.stream_compile.specs.Texts.{OfDrill}

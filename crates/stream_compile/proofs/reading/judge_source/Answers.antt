@@ -1,4 +1,4 @@
-use Rattle.module_stream.specs.RightSoFar.{closing_bytes}
+use Rattle.module_stream.specs.ValidPrefixes.{closing_bytes}
 use Rattle.stream_compile.proofs.Answering.{source_judged, source_stopped}
 use Rattle.stream_compile.proofs.reading.judge_source.Goals as goal
 

@@ -1,5 +1,5 @@
 use Rattle.std.proofs.Common.{None}
-use Rattle.module_stream.specs.RightSoFar.{closing_bytes}
+use Rattle.module_stream.specs.ValidPrefixes.{closing_bytes}
 use Rattle.stream_compile.proofs.Arriving.{arriving_begins, none_given, closing_is, closing_whole, settled_beside}
 use Rattle.stream_compile.proofs.Fronts.{took_more}
 use Rattle.stream_compile.proofs.reading.read_source.Goals as goal

@@ -7,14 +7,14 @@ use Rattle.image_run.specs.Ends.{run_of_export}
 use Rattle.image_run.proofs.SignatureLaws.{all_known, then_fit}
 use Rattle.wasi_host.specs.declared.run_end.RunEnd.{RunEnd}
 use Rattle.wasi_host.specs.Hosted.{HostsRun}
-use Rattle.wasi_host.proofs.HostedSinks.{Came, came}
+use Rattle.wasi_host.proofs.HostedSinks.{HostedRun, came}
 use Rattle.wasi_host.proofs.running.run_hosted.Given.{Over}
 use Rattle.wasi_host.proofs.running.run_hosted.Goals as goal
 use Rattle.wasi_host.proofs.running.run_hosted.Goals.{After-is_open}
 
 -- what the run came to
 run : (g : Over) (c : After-is_open g) → (e : Export) × (export_named c.args.export.now c.args.image.now.exports ≡ Some e)
-    × Came g.row.O.Denot g.O.Sink.written g.O.Sink.faults c.args.image.now e (map value_of c.args.arguments.now) c.args.steps c.new-host.result c.start_and_run-outcome.new.host
+    × HostedRun g.row.O.Denot g.O.Sink.written g.O.Sink.faults c.args.image.now e (map value_of c.args.arguments.now) c.args.steps c.new-host.result c.start_and_run-outcome.new.host
     c.start_and_run-outcome.result c.start_and_run-outcome.new.self.memory c.start_and_run-outcome.new.self.results
 run g c =
     let h = rw c.requires.same at c.start_and_run-outcome.ensures.run in (

@@ -1,7 +1,7 @@
 use Rattle.std.proofs.Common.{rules}
 use Rattle.std.specs.Vec.Iter.{into_iter_items}
 use Rattle.batch_pool.specs.Gathering.{AreOf}
-use Rattle.batch_pool.proofs.Gathered.{gathers_same, gathers_trans}
+use Rattle.batch_pool.proofs.GatheringLaws.{gathers_same, gathers_trans}
 use Rattle.body_compiler.proofs.Rests.{all_same, all_tail}
 use Rattle.batch_pool.proofs.scope.gathering.join_all.Goals as goal
 

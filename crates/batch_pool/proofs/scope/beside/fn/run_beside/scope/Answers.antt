@@ -1,7 +1,7 @@
 use Rattle.std.proofs.Common.{◌≡◌, rules, refl, ap, ◌∙◌, arith, []}
 use Rattle.cancel_drain.specs.Handles.{Sitter}
 use Rattle.batch_pool.specs.Gathering.{AreOf}
-use Rattle.batch_pool.proofs.Gathered.{gathers_split, gathers_trans, gathers_at, are_of}
+use Rattle.batch_pool.proofs.GatheringLaws.{gathers_split, gathers_trans, gathers_at, are_of}
 use Rattle.body_compiler.proofs.Rests.{all_pushed, all_same}
 use Rattle.batch_pool.proofs.AfterReading.{has_read}
 use Rattle.batch_pool.proofs.scope.beside.fn.run_beside.scope.Goals.{in-Ok+in-Ok-push, in-Err+in-Some-take_in}

@@ -29,7 +29,7 @@ use Rattle.module_stream.specs.declared.compilation.Compilation.{Compilation}
 use Rattle.module_stream.specs.CutBodies.{counts_data, coded_all, behind, sections_behind}
 use Rattle.module_stream.specs.Codes.{Coding}
 use Rattle.module_stream.specs.Progress.{IsJudged, IsJudging}
-use Rattle.module_stream.specs.RightSoFar.{MayWait, PrefixIsValid}
+use Rattle.module_stream.specs.ValidPrefixes.{MayWait, PrefixIsValid}
 use Rattle.module_stream.specs.Streaming.{left_of, AreOpen, IsGoing, IsPlaced, IsWaiting, AllWait, ClosedAreValid, HasNoError, IsErrorFree}
 use Rattle.module_stream.proofs.Cutting.{left_begun}
 use Rattle.module_stream.proofs.Judging.{all_told}
@@ -210,5 +210,5 @@ right closing batch came f (Some c) spaces codes p judging free w = let j = judg
   waiting = waiting_there closing batch f c (module_read came).ending w (sym j.ending) p.begun;
 }
 
-pub right_so_far : (closing : Option ℕ) (came : List ℕ) (s : Compilation) → IsGoing came s [] → IsErrorFree s → ClosedAreValid closing s → PrefixIsValid closing came
-right_so_far closing came s g free w = right closing s.batch came s.front s.cutter s.spaces s.codes g.place g.judging free w
+pub valid_prefix : (closing : Option ℕ) (came : List ℕ) (s : Compilation) → IsGoing came s [] → IsErrorFree s → ClosedAreValid closing s → PrefixIsValid closing came
+valid_prefix closing came s g free w = right closing s.batch came s.front s.cutter s.spaces s.codes g.place g.judging free w

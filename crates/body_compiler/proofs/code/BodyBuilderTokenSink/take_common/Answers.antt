@@ -7,7 +7,7 @@ use Rattle.body_validator.specs.Checks.{Checked}
 use Rattle.body_compiler.specs.Steps.{AreTied, max_link}
 use Rattle.body_compiler.specs.Going.{IsTaking, calling, going_of}
 use Rattle.body_compiler.proofs.Going.{goes_or_stops, on_any, on_four, on_map, on_three, refused_token}
-use Rattle.body_compiler.proofs.code.BodyDraftTokenSink.take_common.Goals as goal
+use Rattle.body_compiler.proofs.code.BodyBuilderTokenSink.take_common.Goals as goal
 
 pub returns-in-Some-Ok-clause-fits : goal.returns-in-Some-Ok-clause-fits
 returns-in-Some-Ok-clause-fits c =

@@ -5,7 +5,7 @@ use Rattle.frame_layout.specs.Slots.{link}
 use Rattle.body_compiler.specs.Steps.{max_link}
 use Rattle.body_compiler.specs.Going.{IsTaking, calling, going_of}
 use Rattle.body_compiler.proofs.Going.{goes_or_stops, on_any, on_four, on_map, on_three, refused_token}
-use Rattle.body_compiler.proofs.code.BodyDraftTokenSink.take_read.Goals as goal
+use Rattle.body_compiler.proofs.code.BodyBuilderTokenSink.take_read.Goals as goal
 
 pub returns-in-Ok-clause-fits : goal.returns-in-Ok-clause-fits
 returns-in-Ok-clause-fits c =
