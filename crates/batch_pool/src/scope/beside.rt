@@ -89,9 +89,10 @@ pub fn run_beside<R: Threads + Wait + Sync, G: Gate, T: Reading + Drop>(
             ensures back { IfErr result (λ r. T.reads reading r ⊎ (r ≡ reading)) }
         {
             let (context, cells) = (compiler.context, compiler.cells);
+            let (alloc, gate) = (compiler.alloc, compiler.gate);
             let mut seat = seat;
-            let mut rows: Vec<Row> = Vec::new(compiler.alloc);
-            let mut handles: Vec<PromisedHandle<Worked, Labour<'_>>> = Vec::new(compiler.alloc);
+            let mut rows: Vec<Row> = Vec::new(alloc);
+            let mut handles: Vec<PromisedHandle<Worked, Labour<'_>>> = Vec::new(alloc);
             let mut number = 0u64;
             for hand in hands {
                 let part = board.split(&mut seat);
@@ -105,8 +106,16 @@ pub fn run_beside<R: Threads + Wait + Sync, G: Gate, T: Reading + Drop>(
                     promise,
                     move || -> Worked
                         requires { part.table ≡ board.now.table }
-                        ensures { IsWorked compiler.entry.now.context.now compiler.entry.now.cells.now part result }
-                    { labour_at(rt, hand, board, part, compiler, mine, told) },
+                        ensures { IsWorked context.entry.now cells.entry.now part result }
+                    {
+                        let compiler = BatchCompiler {
+                            alloc,
+                            context,
+                            cells,
+                            gate,
+                        };
+                        labour_at(rt, hand, board, part, &compiler, mine, told)
+                    },
                 ) {
                     Ok(handle) => {
                         let Ok(()) = handles.push(handle) else {
@@ -125,7 +134,7 @@ pub fn run_beside<R: Threads + Wait + Sync, G: Gate, T: Reading + Drop>(
                 }
                 number = number.wrapping_add(1);
             }
-            let mut desk = Desk::new(compiler.alloc, board, context, seat, feeder);
+            let mut desk = Desk::new(alloc, board, context, seat, feeder);
             let mut reader = reading;
             reader.read(board, context, &mut desk);
             let Desk {

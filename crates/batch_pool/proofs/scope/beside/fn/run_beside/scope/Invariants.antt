@@ -8,7 +8,7 @@ invariant-loop-hand g l =
     (goal.iterator-loop-hand g).can_next l.hand-iterator
     × (goal.iterator-loop-hand g).is_finite l.hand-iterator
     × (l.seat.table ≡ l.board.now.table)
-    × Gathers l.compiler.now.context.now l.compiler.now.cells.now l.initial.seat.view l.seat.view [] l.rows.items
+    × Gathers l.context l.cells l.initial.seat.view l.seat.view [] l.rows.items
     × (l.seat.view.parts + vec_len l.handles ≡ l.initial.seat.view.parts)
     × (vec_len l.handles + into_iter_len l.hand-iterator < l.initial.seat.view.parts)
-    × All (λ h. AreOf l.compiler.now.context.now l.compiler.now.cells.now l.board.now.table h.promise) l.handles.items
+    × All (λ h. AreOf l.context l.cells l.board.now.table h.promise) l.handles.items
