@@ -5,8 +5,8 @@ use Rattle.stream_compile.specs.Chunks.{Chunked}
 use Rattle.stream_compile.proofs.Arriving.{read_full, read_end, read_failed, read_bytes}
 use Rattle.stream_compile.proofs.chunk.Chunk.read.Goals as goal
 
-pub returns-then-self-ge-MOST_READ-clause-arrives : goal.returns-then-self-ge-MOST_READ-clause-arrives
-returns-then-self-ge-MOST_READ-clause-arrives g c = λ closing first before s free valid a.
+pub returns-then-self-ge-MAX_READ-clause-arrives : goal.returns-then-self-ge-MAX_READ-clause-arrives
+returns-then-self-ge-MAX_READ-clause-arrives g c = λ closing first before s free valid a.
     read_full closing first before (g.S.Source.left c.args.source.now) (g.S.Source.faults c.args.source.now) (g.S.Source.is_open c.args.source.now) s _ a _ (search rules) (search rules) (search rules)
 
 pub returns-in-End-clause-arrives : goal.returns-in-End-clause-arrives
