@@ -221,25 +221,35 @@ fn told_of_two<R: Threads + Wait + Sync>(
     board.publish(&mut seat, 0, 23);
     board.publish(&mut seat, 1, 27);
     let other = board.split(&mut seat);
-    let compiler = BatchCompiler {
-        alloc,
-        context: &context,
-        cells: &cells,
-        gate,
-    };
-    let (b, c) = (&board, &compiler);
+    let (b, c, x) = (&board, &cells, &context);
     let (first, second) = thread::join(
         rt,
         move || -> Worked
             requires table { seat.table ≡ b.now.table }
             ensures table { result.seat.table ≡ seat.table }
             ensures parts { result.seat.view.parts ≡ seat.view.parts }
-        { work(rt, &mut one, b, seat, c) },
+        {
+            let compiler = BatchCompiler {
+                alloc,
+                context: x,
+                cells: c,
+                gate,
+            };
+            work(rt, &mut one, b, seat, &compiler)
+        },
         move || -> Worked
             requires table { other.table ≡ b.now.table }
             ensures table { result.seat.table ≡ other.table }
             ensures parts { result.seat.view.parts ≡ other.view.parts }
-        { work(rt, &mut two, b, other, c) },
+        {
+            let compiler = BatchCompiler {
+                alloc,
+                context: x,
+                cells: c,
+                gate,
+            };
+            work(rt, &mut two, b, other, &compiler)
+        },
     );
     let Worked {
         mut seat,
