@@ -1,5 +1,5 @@
 -- Which batches may be handed over.
-use Rattle.std.proofs.Common.{◌≡◌, ◌<◌, ◌≤◌, [], ◌∷◌, length, All, inl, inr, ap, subst, ◌∙◌, arith}
+use Rattle.std.proofs.Common.{ℕ, ◌≡◌, ◌<◌, ◌≤◌, [], ◌∷◌, length, All, inl, inr, ap, subst, ◌∙◌, arith}
 use Rattle.std.specs.Prelude.{Result, Ok, Err, MatchResult}
 use Rattle.std.specs.Arc.{arc_value}
 use Rattle.index_spaces.specs.Spaces.{Spaces}
@@ -34,7 +34,7 @@ module _ (c : Spaces) (board : Site) (d : Desk) (b : Batch) where
         }
 
 -- what came of the ticket that was put
-pub puts_in : (f f' : Feeding) (b : Batch) (t : Ticket) (r : Result (Unit {0}) Ticket) → arc_value t.batch ≡ b
-    → MatchResult r (λ _. f' ≡ record f { view = puts f.view (t ∷ []) }) (λ u. (u ≡ t) × (f' ≡ f) × (f.room ≤ length f.view.put)) → PutsIn f b f'
-puts_in f f' b t (Ok u) same is = inl (t, same, is)
-puts_in f f' b t (Err u) same is = inr (is.1, is.2)
+pub puts_in : (m : ℕ) (f f' : Feeding) (b : Batch) (t : Ticket) (r : Result (Unit {0}) Ticket) → arc_value t.batch ≡ b → t.module ≡ m
+    → MatchResult r (λ _. f' ≡ record f { view = puts f.view (t ∷ []) }) (λ u. (u ≡ t) × (f' ≡ f) × (f.room ≤ length f.view.put)) → PutsIn m f b f'
+puts_in m f f' b t (Ok u) same of is = inl (t, same, of, is)
+puts_in m f f' b t (Err u) same of is = inr (is.1, is.2)

@@ -34,18 +34,19 @@ pub record IsNext (c : Spaces) (functions : ℕ) (d : Desk) (b : Batch) : Type 0
   pub place : b.number < functions
   pub bodies : All (FitsBody c) b.bodies
 
--- a ticket of the batch was put into the queue; or nothing was, since as many as it was made for were put before
-abbrev pub PutsIn : Feeding → Batch → Feeding → Type 0
-PutsIn f b f' = ((t : Ticket) × (arc_value t.batch ≡ b) × (f' ≡ record f { view = puts f.view (t ∷ []) })) ⊎ ((f' ≡ f) × (f.room ≤ length f.view.put))
+-- a ticket of the module's batch was put into the queue; or nothing was, since as many as it was made for were put before
+abbrev pub PutsIn : ℕ → Feeding → Batch → Feeding → Type 0
+PutsIn m f b f' = ((t : Ticket) × (arc_value t.batch ≡ b) × (t.module ≡ m) × (f' ≡ record f { view = puts f.view (t ∷ []) })) ⊎ ((f' ≡ f) × (f.room ≤ length f.view.put))
 
 -- the batch was published after the others, its ticket was kept after theirs, and one was put into the queue where it has room
 pub record Hands (d : Desk) (b : Batch) (d' : Desk) : Type 0 where
+  pub of : d'.module ≡ d.module
   pub seat : d'.seat ≡ record d.seat { view = publishes d.seat.view b.start }
   pub ticket : Ticket
   pub batch : arc_value ticket.batch ≡ b
   pub kept : d'.kept.items ≡ d.kept.items ++ ticket ∷ []
   pub last : d'.last ≡ b.start
-  pub feeder : PutsIn d.feeder b d'.feeder
+  pub feeder : PutsIn d.module d.feeder b d'.feeder
 
 -- nothing was done or reported at the desk
 pub record IsIdle (d d' : Desk) : Type 0 where
@@ -54,6 +55,7 @@ pub record IsIdle (d d' : Desk) : Type 0 where
 
 -- nothing of the desk has changed
 pub record IsAsBefore (d d' : Desk) : Type 0 where
+  pub of : d'.module ≡ d.module
   pub seat : d'.seat ≡ d.seat
   pub feeder : d'.feeder ≡ d.feeder
   pub kept : d'.kept.items ≡ d.kept.items

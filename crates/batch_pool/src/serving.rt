@@ -145,6 +145,7 @@ pub fn serve_fitting<G: Gate>(
 {
     rows.reserve(1)?;
     let Ticket {
+        module: _,
         number,
         start,
         batch,

@@ -14,7 +14,9 @@ const FAR: u64 = 1 << 60;
 /// A batch that waits for a worker.
 #[derive(Drop)]
 pub struct Ticket {
-    /// How many batches come before it.
+    /// The number of its module.
+    pub module: u32,
+    /// How many batches of that module come before it.
     pub number: u32,
     /// The offset of its first body's size, below 2^60.
     pub start: u64,
@@ -45,27 +47,30 @@ fn are_low(bodies: &LinkedList<Body>) -> bool
 }
 
 impl Ticket {
-    /// The ticket of a batch, or none where one of its offsets is 2^60 or more, or one of its bodies is empty.
-    pub fn of(batch: Arc<Batch, Global>) -> Option<Ticket>
+    /// The ticket of a batch of this module, or none where one of its offsets is 2^60 or more, or one of its bodies is empty.
+    pub fn of(module: u32, batch: Arc<Batch, Global>) -> Option<Ticket>
         ensures ticket { IfSome result (λ t. arc_value t.batch ≡ arc_value batch) }
+        ensures of_module { IfSome result (λ t. t.module ≡ «module») }
         ensures none { IfNone result (¬ IsLow (arc_value batch)) }
     {
         // Why: docs/DECISIONS.md, "Tickets are made of batches whose offsets are below 2^60 and whose bodies have bytes"
         if batch.start < FAR && are_low(batch.bodies.as_list()) {
-            Some(Ticket::new(batch))
+            Some(Ticket::new(module, batch))
         } else {
             None
         }
     }
 
-    /// The ticket of a batch.
-    pub fn new(batch: Arc<Batch, Global>) -> Ticket
+    /// The ticket of a batch of this module.
+    pub fn new(module: u32, batch: Arc<Batch, Global>) -> Ticket
         requires { IsLow (arc_value batch) }
-        ensures { arc_value result.batch ≡ arc_value batch }
+        ensures batch { arc_value result.batch ≡ arc_value batch }
+        ensures of_module { result.module ≡ «module» }
     {
         let number = batch.number;
         let start = batch.start;
         Ticket {
+            module,
             number,
             start,
             batch,

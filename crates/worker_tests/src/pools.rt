@@ -20,7 +20,7 @@ fn put(alloc: Global, feeder: &mut Feeder, number: u32) -> Result<bool, AllocErr
             bodies: Bodies::new(LinkedList::new(alloc)),
         },
     )?;
-    Ok(match Ticket::of(batch) {
+    Ok(match Ticket::of(0, batch) {
         Some(ticket) => feeder.put(ticket).is_ok(),
         None => false,
     })

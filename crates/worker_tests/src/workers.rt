@@ -46,7 +46,7 @@ fn batch(
 
 // Puts a batch into the pool, and answers whether it was taken.
 fn put(feeder: &mut Feeder, batch: Arc<Batch, Global>) -> bool {
-    match Ticket::of(batch) {
+    match Ticket::of(0, batch) {
         Some(ticket) => feeder.put(ticket).is_ok(),
         None => false,
     }

@@ -134,10 +134,11 @@ pub fn run_beside<R: Threads + Wait + Sync, G: Gate, T: Reading + Drop>(
                 }
                 number = number.wrapping_add(1);
             }
-            let mut desk = Desk::new(alloc, board, context, seat, feeder);
+            let mut desk = Desk::new(alloc, 0, board, context, seat, feeder);
             let mut reader = reading;
             reader.read(board, context, &mut desk);
             let Desk {
+                module: _,
                 mut seat,
                 feeder,
                 kept,

@@ -15,8 +15,10 @@ use index_spaces::Context;
 use std::alloc::{AllocError, Global};
 use std::sync::Arc;
 
-/// What the thread that reads hands batches over with.
+/// What the thread that reads hands the batches of a module over with.
 pub struct Desk {
+    /// The module's number.
+    pub module: u32,
     /// Its handle on the board, which it feeds.
     pub seat: BoardSeat,
     /// The queue from which workers take.
@@ -31,6 +33,7 @@ impl Desk {
     /// Before the first batch.
     pub fn new(
         alloc: Global,
+        module: u32,
         board: &Board,
         context: &Context,
         seat: BoardSeat,
@@ -41,10 +44,12 @@ impl Desk {
         requires nothing { (seat.view.running ≡ []) × (seat.view.published ≡ []) }
         ensures desk { IsDesk context.now board.now result }
         ensures seat { result.seat ≡ seat }
+        ensures of_module { result.module ≡ «module» }
     {
         let _ = board;
         let _ = context;
         Desk {
+            module,
             seat,
             feeder,
             kept: Vec::new(alloc),
@@ -68,10 +73,10 @@ impl Desk {
             ⊎ ((¬ IsNext context.now board.now.functions self.old (arc_value batch.now)) × IsAsBefore self.old self.new)) }
         ensures err { OnErr result (IsAsBefore self.old self.new) }
     {
-        let Some(ticket) = Ticket::of(Arc::try_clone(batch)?) else {
+        let Some(ticket) = Ticket::of(self.module, Arc::try_clone(batch)?) else {
             return Ok(());
         };
-        let other = Ticket::new(Arc::try_clone(batch)?);
+        let other = Ticket::new(self.module, Arc::try_clone(batch)?);
         let number = self.kept.len();
         if ticket.number as usize != number || (0 < number && ticket.start <= self.last) {
             return Ok(());

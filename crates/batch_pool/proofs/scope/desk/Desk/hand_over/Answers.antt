@@ -1,4 +1,4 @@
-use Rattle.std.proofs.Common.{rules, ℕ, inl, ap, ◌∙◌}
+use Rattle.std.proofs.Common.{rules, ℕ, refl, inl, ap, ◌∙◌}
 use Rattle.std.specs.Arc.{arc_value}
 use Rattle.cancel_drain.specs.Views.{publishes}
 use Rattle.batch_pool.proofs.Handing.{start_is, is_next, puts_in}
@@ -14,11 +14,12 @@ returns-clause-handed c =
     inl (
       is_next c.args.context.now c.args.board.now d b t same c.requires.desk (search rules) (λ some. search rules) (search rules),
       record {
+        of = refl;
         seat = c.in_ok-keep.ensures.view ∙ ap (λ (s : ℕ). record d.seat { view = publishes d.seat.view s }) start;
         ticket = t;
         batch = same;
         kept = c.in_ok-keep.ensures.pushed;
         last = start;
-        feeder = puts_in d.feeder c.put.new.self b c.new-other.result c.put.result (c.new-other.ensures ∙ c.in_ok-try_clone-2.ensures) c.put.ensures;
+        feeder = puts_in d.module d.feeder c.put.new.self b c.new-other.result c.put.result (c.new-other.ensures.batch ∙ c.in_ok-try_clone-2.ensures) c.new-other.ensures.of_module c.put.ensures;
       },
     )
