@@ -1,5 +1,6 @@
 pub mod AfterReading
 pub mod Complete
+pub mod Crews
 pub mod GatheringLaws
 pub mod Handing
 pub mod Moves
@@ -7,6 +8,7 @@ pub mod Placing
 pub mod Pools
 pub mod Rounds
 pub mod Searches
+pub mod Seats
 pub mod Served
 pub mod Tried
 pub mod Turns

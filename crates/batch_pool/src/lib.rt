@@ -9,6 +9,7 @@ mod batch_compiler;
 mod feeder;
 mod hand;
 mod idle;
+mod lanes;
 mod laws;
 mod pool;
 mod queue;
@@ -23,6 +24,7 @@ mod worker;
 pub use batch_compiler::BatchCompiler;
 pub use feeder::Feeder;
 pub use hand::Hand;
+pub use lanes::{Crew, Lane, LaneSeat, Lending, Seats, WorkedMany, run_many, work_many};
 pub use laws::row_law;
 pub use pool::Pool;
 pub use scope::{
