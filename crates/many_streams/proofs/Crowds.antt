@@ -35,7 +35,7 @@ slice_set_other (y ∷ xs) (suc j) zero x other = refl
 slice_set_other (y ∷ xs) (suc j) (suc k) x other = slice_set_other xs j k x (λ e. other (ap suc e))
 
 -- an element of a list with one more
-slice_push : {X : Type 0} (xs : List X) (x y : X) (i : ℕ) → slice_get (xs ++ x ∷ []) i ≡ Some y → (slice_get xs i ≡ Some y) ⊎ ((i ≡ length xs) × (x ≡ y))
+pub slice_push : {X : Type 0} (xs : List X) (x y : X) (i : ℕ) → slice_get (xs ++ x ∷ []) i ≡ Some y → (slice_get xs i ≡ Some y) ⊎ ((i ≡ length xs) × (x ≡ y))
 slice_push [] x y zero at = inr (refl, cc)
 slice_push [] x y (suc i) at = absurd cc
 slice_push (z ∷ xs) x y zero at = inl at
@@ -53,13 +53,13 @@ slice_all P (y ∷ xs) (suc i) x all at = slice_all P xs i x (All-tail P y xs al
 -- ---- what each comes to
 
 -- an element at an index below the length
-at_index : {X : Type 0} (xs : List X) (i : ℕ) → i < length xs → (x : X) × (slice_get xs i ≡ Some x)
+pub at_index : {X : Type 0} (xs : List X) (i : ℕ) → i < length xs → (x : X) × (slice_get xs i ≡ Some x)
 at_index [] i in' = absurd (omega arith)
 at_index (x ∷ xs) zero in' = (x, refl)
 at_index (x ∷ xs) (suc i) in' = at_index xs i (omega arith)
 
 -- the element after some
-at_next : {X : Type 0} (done rest : List X) (x : X) → slice_get (done ++ x ∷ rest) (length done) ≡ Some x
+pub at_next : {X : Type 0} (done rest : List X) (x : X) → slice_get (done ++ x ∷ rest) (length done) ≡ Some x
 at_next [] rest x = refl
 at_next (y ∷ done) rest x = at_next done rest x
 
@@ -80,7 +80,7 @@ module _ (P : List ℕ → Member → Type 0) (all rest rest' : List Member) (co
     length_is = let n = a.length_is in omega (arith, length-append a.done (m ∷ []));
   }
 
-  next_at : slice_get all count ≡ Some m
+  pub next_at : slice_get all count ≡ Some m
   next_at =
       ap (λ (l : List Member). slice_get l count) (a.are ∙ ap (λ (l : List Member). a.done ++ l) next)
       ∙ (ap (λ (n : ℕ). slice_get (a.done ++ m ∷ rest') n) (sym a.length_is) ∙ at_next a.done rest' m)

@@ -8,4 +8,5 @@ pub mod Feeding
 pub mod Numbers
 pub mod Single
 pub mod Sources
+pub mod Workers
 pub mod Intakes

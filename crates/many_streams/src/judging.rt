@@ -2,7 +2,8 @@
 
 ghost use Rattle.std.specs.Prelude.{◌≡◌, ℕ, Bool, List, IfOk};
 ghost use Rattle.many_streams.specs.Many.{AreEach};
-ghost use Rattle.many_streams.specs.Members.{IsEnded, IsJudged, AreRowsOf};
+ghost use Rattle.many_streams.specs.Members.{IsEnded, IsJudged};
+ghost use Rattle.many_streams.specs.Workers.{AreMade};
 
 use crate::member::Member;
 use crate::working::{Made, work_off};
@@ -11,52 +12,33 @@ use std::alloc::{AllocError, Global};
 use std::sync::Wait;
 use std::thread::Threads;
 
-/// What so many workers make of the bodies of a module that are kept. One batch alone is left to the caller. Err where memory ran out.
-fn made_of<R: Threads + Wait + Sync, G: Gate>(
-    rt: &R,
+/// Judges modules that have ended, each with what workers made of its bodies. Err where memory ran out.
+fn settle_members(
     alloc: Global,
-    gate: &G,
-    workers: u32,
-    member: &Member,
-) -> Result<Made, AllocError>
-    ensures { IfOk result (λ m. AreRowsOf m.cells m.rows.items member.now) }
+    members: Vec<Member>,
+    made: Vec<Made>,
+) -> Result<Vec<Member>, AllocError>
+    requires ended { (keeps : Bool) × (list : List (List ℕ)) × AreEach (IsEnded keeps) list members.items }
+    requires made { AreMade members.items made.items }
+    ensures { IfOk result (λ v. (keeps : Bool) (list : List (List ℕ)) → AreEach (IsEnded keeps) list members.items
+        → AreEach (IsJudged keeps) list v.items) }
 {
-    let Member::Open(part) = member else {
-        return Made::nothing(alloc);
-    };
-    let Some(intake) = &part.intake else {
-        return Made::nothing(alloc);
-    };
-    if intake.kept.len() < 2 {
-        return Made::nothing(alloc);
+    let mut judged = Vec::new(alloc);
+    let mut rest = made.into_iter();
+    for member in members {
+        let Some(part) = rest.next() else {
+            return Err(AllocError);
+        };
+        let Made { cells, rows } = part;
+        let one = member.settle(&cells, rows)?;
+        judged.push(one)?;
     }
-    work_off(
-        rt,
-        alloc,
-        gate,
-        workers,
-        &part.compilation,
-        intake.kept.as_slice(),
-    )
+    Ok(judged)
 }
 
-/// Judges a module that has ended. So many workers compile its bodies, where these are kept. Err where memory ran out.
-fn judge<R: Threads + Wait + Sync, G: Gate>(
-    rt: &R,
-    alloc: Global,
-    gate: &G,
-    workers: u32,
-    member: Member,
-) -> Result<Member, AllocError>
-    requires ended { (keeps : Bool) × (came : List ℕ) × IsEnded keeps came member }
-    ensures { IfOk result (λ m. (keeps : Bool) (came : List ℕ) → IsEnded keeps came member → IsJudged keeps came m) }
-{
-    let Made { cells, rows } = made_of(rt, alloc, gate, workers, &member)?;
-    member.settle(&cells, rows)
-}
-
-/// Judges modules that have ended, one after the other: so many workers compile the bodies of each. Err where memory ran out.
-pub fn judge_in_turn<R: Threads + Wait + Sync, G: Gate>(
+/// Judges modules that have ended: so many workers compile the bodies that were kept of all of them, from one pool. Err where memory ran
+/// out.
+pub fn judge_all<R: Threads + Wait + Sync, G: Gate>(
     rt: &R,
     alloc: Global,
     gate: &G,
@@ -67,10 +49,6 @@ pub fn judge_in_turn<R: Threads + Wait + Sync, G: Gate>(
     ensures { IfOk result (λ v. (keeps : Bool) (list : List (List ℕ)) → AreEach (IsEnded keeps) list members.items
         → AreEach (IsJudged keeps) list v.items) }
 {
-    let mut judged = Vec::new(alloc);
-    for member in members {
-        let one = judge(rt, alloc, gate, workers, member)?;
-        judged.push(one)?;
-    }
-    Ok(judged)
+    let made = work_off(rt, alloc, gate, workers, members.as_slice())?;
+    settle_members(alloc, members, made)
 }

@@ -6,7 +6,7 @@ ghost use Rattle.many_streams.specs.Many.{AreEach, ComesToMany, AnswersMany, Che
 ghost use Rattle.many_streams.specs.Members.{IsJudged, IsEach, IsEachChecked};
 
 use crate::alone::judge_alone;
-use crate::judging::judge_in_turn;
+use crate::judging::judge_all;
 use crate::member::{Each, EachChecked, Member};
 use crate::streams::ManyStop;
 use io_edges::{Gate, Source};
@@ -84,7 +84,7 @@ fn judge_many<R: Threads + Wait + Sync, S: Source, G: Gate>(
     ensures front { TookFront (S.left source.old) (S.faults source.old) (S.left source.new) (S.faults source.new) }
 {
     match judge_alone(alloc, source, settings.batch, keeps, settings.workers > 0) {
-        Ok(members) => match judge_in_turn(rt, alloc, gate, settings.workers, members) {
+        Ok(members) => match judge_all(rt, alloc, gate, settings.workers, members) {
             Ok(judged) => Ok(judged),
             Err(_) => Err(ManyStop::NoMemory),
         },
@@ -117,8 +117,8 @@ fn come_to<R: Threads + Wait + Sync, S: Source, G: Gate, E: Comes>(
 /// Compiles the modules whose bytes the source gives in frames, each by itself: its one image, or its error of least offset. The input is
 /// read to its end, to the source's error, or to where it is no frames.
 ///
-/// With `settings.workers` the bodies are kept while the input is read, and then those of one module after the other are compiled by
-/// so many threads. Without them all of it is done on the caller's thread while the input is read.
+/// With `settings.workers` the bodies are kept while the input is read, and then those of all modules are compiled by so many threads, from
+/// one pool. Without them all of it is done on the caller's thread while the input is read.
 pub fn many<R: Threads + Wait + Sync, S: Source, G: Gate>(
     rt: &R,
     alloc: Global,
