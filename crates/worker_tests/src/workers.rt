@@ -2,7 +2,9 @@
 ghost use Rattle.std.specs.Prelude.{◌≡◌, ◌≤◌, IfOk, length};
 ghost use Rattle.index_spaces.specs.ItemLimits.{HasSmallType};
 
-use batch_pool::{BatchCompiler, Feeder, Hand, Pool, Ticket, Worked, work};
+use batch_pool::{
+    BatchCompiler, Feeder, Hand, Lane, LaneSeat, Pool, Ticket, Worked, work, work_many,
+};
 use body_compiler::{Row, Stored};
 use body_cutter::{Batch, Bodies, Body, BodyBytes};
 use cancel_drain::{Board, Closed};
@@ -44,9 +46,9 @@ fn batch(
     )?)
 }
 
-// Puts a batch into the pool, and answers whether it was taken.
-fn put(feeder: &mut Feeder, batch: Arc<Batch, Global>) -> bool {
-    match Ticket::of(0, batch) {
+// Puts a batch of this module into the pool, and answers whether it was taken.
+fn put(feeder: &mut Feeder, module: u32, batch: Arc<Batch, Global>) -> bool {
+    match Ticket::of(module, batch) {
         Some(ticket) => feeder.put(ticket).is_ok(),
         None => false,
     }
@@ -95,8 +97,8 @@ fn filled(alloc: Global, count: u32, first: &[u8], second: &[u8]) -> Result<Vec<
     let first = batch(alloc, 0, 23, first)?;
     let second = batch(alloc, 1, 27, second)?;
     let (mut feeder, hands) = Pool::new(alloc, count)?;
-    let is_first_put = put(&mut feeder, first);
-    let is_second_put = put(&mut feeder, second);
+    let is_first_put = put(&mut feeder, 0, first);
+    let is_second_put = put(&mut feeder, 0, second);
     feeder.close();
     if is_first_put && is_second_put {
         Ok(hands)
@@ -271,5 +273,84 @@ fn batches_run_beside_each_other(rt: HostRuntime) -> Result<(), Fail> {
         "(1, 1) false Some(Refusal { offset: 25, kind: Invalid }) (187, 219) "
     );
     assert!(rt; gate.is_through());
+    Ok(())
+}
+
+// The hand of a closed pool that has two batches of each of two modules, of one body each. The first body of module 3 has an error.
+fn filled_by_two(alloc: Global) -> Result<Hand, Fail> {
+    let valid: &[u8] = &[0x00, 0x41, 0x07, 0x0B];
+    let faulty: &[u8] = &[0x00, 0x6A, 0x0B];
+    let batches: [(u32, u32, u64, &[u8]); 4] = [
+        (7, 0, 23, valid),
+        (3, 0, 23, faulty),
+        (3, 1, 27, valid),
+        (7, 1, 27, valid),
+    ];
+    let (mut feeder, mut hands) = Pool::new(alloc, 1)?;
+    for (module, number, start, bytes) in batches {
+        let batch = batch(alloc, number, start, bytes)?;
+        if !put(&mut feeder, module, batch) {
+            return Err(Fail::new("a full pool"));
+        }
+    }
+    feeder.close();
+    match hands.pop() {
+        Some(hand) => Ok(hand),
+        None => Err(Fail::new("no hand")),
+    }
+}
+
+// A lane of this module, at whose board two batches were published, and a seat there.
+fn lane<'a>(
+    alloc: Global,
+    module: u32,
+    context: &'a Context,
+) -> Result<(Lane<'a>, LaneSeat), AllocError>
+    ensures module { IfOk result (λ r. r.0.module ≡ «module») }
+    ensures table { IfOk result (λ r. r.1.seat.table ≡ r.0.board.table) }
+{
+    let cells = Cells::new(alloc, 2, 1_000)?;
+    let (board, mut seat) = Board::new(alloc, 2, 1)?;
+    board.publish(&mut seat, 0, 23);
+    board.publish(&mut seat, 1, 27);
+    let lane = Lane {
+        module,
+        board,
+        cells,
+        context,
+    };
+    let rows = Vec::new(alloc);
+    Ok((lane, LaneSeat { seat, rows }))
+}
+
+// What one worker makes of the batches of two modules: the rows of each.
+fn told_of_lanes<R: Threads + Wait + Sync>(rt: &R, alloc: Global) -> Result<String, Fail> {
+    let mut hand = filled_by_two(alloc)?;
+    let Some(context) = two_functions(alloc) else {
+        return Err(Fail::new("out of memory"));
+    };
+    let (one, first) = lane(alloc, 3, &context)?;
+    let (two, second) = lane(alloc, 7, &context)?;
+    let lanes = [one, two];
+    let seats = Vec::from_array(alloc, [first, second])?;
+    let worked = work_many(rt, alloc, &mut hand, &lanes, seats, &OpenGate);
+    let mut text = format!(in alloc; "{}: ", worked.starved)?;
+    for seat in worked.seats.iter() {
+        for row in seat.rows.iter() {
+            push_row(alloc, &mut text, row)?;
+        }
+        text.push_str("| ")?;
+    }
+    Ok(text)
+}
+
+// An error of one module drains that module's batches alone.
+#[test]
+fn a_worker_serves_two_modules(rt: HostRuntime) -> Result<(), Fail> {
+    assert_eq!(rt;
+        told_of_lanes(&rt, rt.alloc())?.as_str(),
+        "false: batch 0, Some(Refusal { offset: 25, kind: Invalid }); | \
+        batch 0, None, in its cell; batch 1, None, in its cell; | "
+    );
     Ok(())
 }
