@@ -1,7 +1,7 @@
 -- How many bytes loading an image takes.
 use Rattle.std.specs.Prelude.{ℕ, ◌+◌, ◌*◌, length}
 use Rattle.rv_isa.specs.Steps.{Bytes}
-use Rattle.decode_cache.specs.Caching.{cache_entries}
+use Rattle.decode_cache.specs.Caching.{entries}
 use Rattle.image_format.specs.Contents.{Image}
 use Rattle.image_format.specs.Environment.{loaded}
 use Rattle.image_format.specs.declared.limits.TheConstants.{PARAMS}
@@ -14,4 +14,4 @@ region_bytes b = length b.stack + length b.globals + length b.table + length b.m
 -- the regions, the memory up to its cap; the text, four bytes a word; what the machine keeps of the words that it has decoded; and the
 -- arguments of an import
 unfoldable pub bytes_wanted : Image → ℕ
-bytes_wanted i = region_bytes (loaded i) + 4 * length i.text + (ENTRY_BYTES * cache_entries (length i.text) + VALUE_BYTES * PARAMS)
+bytes_wanted i = region_bytes (loaded i) + 4 * length i.text + (ENTRY_BYTES * entries + VALUE_BYTES * PARAMS)

@@ -3,7 +3,7 @@ ghost use Rattle.std.specs.Prelude.{◌≡◌};
 ghost use Rattle.image_run.specs.Sizes.{bytes_wanted};
 
 use crate::layout::{PAGE, STACK_SIZE};
-use decode_cache::{Entry, cache_entries};
+use decode_cache::{ENTRIES, Entry};
 use image_format::{Image, PARAMS};
 use wasm_defs::Value;
 
@@ -22,9 +22,8 @@ pub(crate) fn bytes_wanted(image: &Image) -> u64
     let table = 16 * image.table.as_slice().len() as u64;
     let memory = PAGE * u64::from(image.cap);
     let passive = image.passive.as_slice().len() as u64;
-    let words = image.text.as_slice().len();
-    let text = 4 * words as u64;
-    let decoded = ENTRY_BYTES * cache_entries(words);
+    let text = 4 * image.text.as_slice().len() as u64;
+    let decoded = ENTRY_BYTES * ENTRIES;
     let arguments = VALUE_BYTES * u64::from(PARAMS);
     stack + globals + table + memory + passive + text + decoded + arguments
 }

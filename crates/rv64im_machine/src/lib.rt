@@ -9,6 +9,7 @@
 mod advance;
 mod arithmetic;
 mod control;
+mod direct;
 mod dispatch;
 mod execution;
 mod loops;
@@ -19,6 +20,7 @@ mod pairs;
 mod pieces;
 mod regions;
 mod rows;
+mod running;
 mod single;
 mod templates;
 mod transition;

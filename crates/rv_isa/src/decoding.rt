@@ -9,6 +9,7 @@ use crate::operations::{BranchOp, ImmOp, LoadOp, Op, RegOp, RegOpW, ShiftOp, Shi
 use crate::table::{ADDIW_FUNCT3, EBREAK, ECALL, FENCE_FUNCT3, JALR_FUNCT3, Opcode};
 
 /// So many bits of an instruction word, from the bit `low` upward.
+#[inline(always)]
 fn field(word: u32, low: u32, width: u32) -> u32
     requires low_is_a_bit { low < 32 }
     requires width_fits { width < 32 }
@@ -18,24 +19,28 @@ fn field(word: u32, low: u32, width: u32) -> u32
     (word >> low) & ((1 << width) - 1)
 }
 
+#[inline(always)]
 fn rd(word: u32) -> Register
     ensures { result ≡ rd word }
 {
     Register::new(field(word, 7, 5) as u8)
 }
 
+#[inline(always)]
 fn rs1(word: u32) -> Register
     ensures { result ≡ rs1 word }
 {
     Register::new(field(word, 15, 5) as u8)
 }
 
+#[inline(always)]
 fn rs2(word: u32) -> Register
     ensures { result ≡ rs2 word }
 {
     Register::new(field(word, 20, 5) as u8)
 }
 
+#[inline(always)]
 fn funct3(word: u32) -> u32
     ensures { result ≡ funct3 word }
 {
@@ -43,6 +48,7 @@ fn funct3(word: u32) -> u32
 }
 
 /// funct7 and funct3 as one number.
+#[inline(always)]
 fn r_code(word: u32) -> u32
     ensures { result ≡ r_code word }
 {
@@ -50,24 +56,28 @@ fn r_code(word: u32) -> u32
 }
 
 /// The same of a shift of 64 bits, whose amount has the lowest bit of funct7.
+#[inline(always)]
 fn shift_code(word: u32) -> u32
     ensures { result ≡ shift_code word }
 {
     field(word, 26, 6) * 2 * 8 + funct3(word)
 }
 
+#[inline(always)]
 fn i_imm(word: u32) -> Imm12
     ensures { result ≡ i_imm word }
 {
     Imm12::new(field(word, 20, 12) as u16)
 }
 
+#[inline(always)]
 fn s_imm(word: u32) -> Imm12
     ensures { result ≡ s_imm word }
 {
     Imm12::new((field(word, 25, 7) * 0x20 + field(word, 7, 5)) as u16)
 }
 
+#[inline(always)]
 fn b_imm(word: u32) -> Imm12
     ensures { result ≡ b_imm word }
 {
@@ -77,12 +87,14 @@ fn b_imm(word: u32) -> Imm12
     )
 }
 
+#[inline(always)]
 fn u_imm(word: u32) -> Imm20
     ensures { result ≡ u_imm word }
 {
     Imm20::new(field(word, 12, 20))
 }
 
+#[inline(always)]
 fn j_imm(word: u32) -> Imm20
     ensures { result ≡ j_imm word }
 {
@@ -90,6 +102,7 @@ fn j_imm(word: u32) -> Imm20
     Imm20::new(sign + field(word, 12, 8) * 0x800 + field(word, 20, 1) * 0x400 + field(word, 21, 10))
 }
 
+#[inline(always)]
 fn jalr_of(word: u32) -> Option<Op>
     ensures { result ≡ jalr_of word }
 {
@@ -104,6 +117,7 @@ fn jalr_of(word: u32) -> Option<Op>
     }
 }
 
+#[inline(always)]
 fn branch_of(word: u32) -> Option<Op>
     ensures { result ≡ branch_of word }
 {
@@ -116,6 +130,7 @@ fn branch_of(word: u32) -> Option<Op>
     })
 }
 
+#[inline(always)]
 fn load_of(word: u32) -> Option<Op>
     ensures { result ≡ load_of word }
 {
@@ -128,6 +143,7 @@ fn load_of(word: u32) -> Option<Op>
     })
 }
 
+#[inline(always)]
 fn store_of(word: u32) -> Option<Op>
     ensures { result ≡ store_of word }
 {
@@ -140,6 +156,7 @@ fn store_of(word: u32) -> Option<Op>
     })
 }
 
+#[inline(always)]
 fn shift_of(word: u32) -> Option<Op>
     ensures { result ≡ shift_of word }
 {
@@ -152,6 +169,7 @@ fn shift_of(word: u32) -> Option<Op>
     })
 }
 
+#[inline(always)]
 fn imm_of(word: u32) -> Option<Op>
     ensures { result ≡ imm_of word }
 {
@@ -166,6 +184,7 @@ fn imm_of(word: u32) -> Option<Op>
     }
 }
 
+#[inline(always)]
 fn imm_w_of(word: u32) -> Option<Op>
     ensures { result ≡ imm_w_of word }
 {
@@ -185,6 +204,7 @@ fn imm_w_of(word: u32) -> Option<Op>
     })
 }
 
+#[inline(always)]
 fn reg_of(word: u32) -> Option<Op>
     ensures { result ≡ reg_of word }
 {
@@ -197,6 +217,7 @@ fn reg_of(word: u32) -> Option<Op>
     })
 }
 
+#[inline(always)]
 fn reg_w_of(word: u32) -> Option<Op>
     ensures { result ≡ reg_w_of word }
 {
@@ -209,6 +230,7 @@ fn reg_w_of(word: u32) -> Option<Op>
     })
 }
 
+#[inline(always)]
 fn fence_of(word: u32) -> Option<Op>
     ensures { result ≡ fence_of word }
 {
@@ -223,6 +245,7 @@ fn fence_of(word: u32) -> Option<Op>
     }
 }
 
+#[inline(always)]
 fn system_of(word: u32) -> Option<Op>
     ensures { result ≡ system_of word }
 {
@@ -234,6 +257,7 @@ fn system_of(word: u32) -> Option<Op>
 }
 
 /// The operation of an instruction word with this opcode, if it has one.
+#[inline(always)]
 fn with_opcode(opcode: Option<Opcode>, word: u32) -> Option<Op>
     ensures { result ≡ with_opcode opcode word }
 {
@@ -265,6 +289,7 @@ fn with_opcode(opcode: Option<Opcode>, word: u32) -> Option<Op>
 
 /// The operation of an instruction word; none where no instruction of RV64IM has the word. A compressed
 /// instruction's 16 bits are no word here, and a reserved encoding is none.
+#[inline(always)]
 pub fn decode(word: u32) -> Option<Op>
     ensures value { result ≡ decoded word }
     ensures exact { (op : Op) → (result ≡ Some op) ↔ Encodes op word }

@@ -1,6 +1,6 @@
 //! The instruction word of an operation (sections 2.2 and 2.3, chapter 24).
 ghost use Rattle.std.specs.Prelude.{◌≡◌, ◌^◌, ◌<◌};
-ghost use Rattle.rv_isa.specs.declared.operations.Op.TheVariants.{Lui as LuiGiven, Jalr as JalrGiven, Ecall as EcallGiven, Branch as BranchGiven};
+ghost use Rattle.rv_isa.specs.declared.operations.Op.TheVariants.{Lui as LuiGiven, Auipc as AuipcGiven, Jalr as JalrGiven, Ecall as EcallGiven, Branch as BranchGiven};
 ghost use Rattle.rv_isa.specs.declared.operations.Op.TheVariants.{Load as LoadGiven, Store as StoreGiven, Imm as ImmGiven, Shift as ShiftGiven};
 ghost use Rattle.rv_isa.specs.declared.operations.Op.TheVariants.{Reg as RegGiven, RegW as RegWGiven};
 ghost use Rattle.rv_isa.specs.Words.{opcode_bits, r_type, i_type, shift_type, s_type, b_type, u_type, j_type, IsRegister, word_of, IsInRange};
@@ -170,6 +170,15 @@ pub fn encode_lui(rd: Register, imm: Imm20) -> u32
     ensures { result ≡ word_of (LuiGiven rd imm) }
 {
     u_type(Opcode::Lui, rd, imm)
+}
+
+/// The instruction word of AUIPC.
+#[inline(always)]
+#[tactic(auto, unfolding(crate::specs::Words::word_of))]
+pub fn encode_auipc(rd: Register, imm: Imm20) -> u32
+    ensures { result ≡ word_of (AuipcGiven rd imm) }
+{
+    u_type(Opcode::Auipc, rd, imm)
 }
 
 /// The instruction word of a branch.

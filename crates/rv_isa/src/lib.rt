@@ -22,8 +22,8 @@ pub use buffer::WordBuffer;
 pub use compiled::{Code, Relocation, Relocations, TrapSite, TrapSites, Words};
 pub use decoding::decode;
 pub use encoding::{
-    encode, encode_branch, encode_ecall, encode_imm, encode_jalr, encode_load, encode_lui,
-    encode_reg, encode_reg_w, encode_shift, encode_store,
+    encode, encode_auipc, encode_branch, encode_ecall, encode_imm, encode_jalr, encode_load,
+    encode_lui, encode_reg, encode_reg_w, encode_shift, encode_store,
 };
 pub use fields::{Imm12, Imm20, Register, Shamt5, Shamt6};
 pub use operations::{BranchOp, ImmOp, LoadOp, Op, RegOp, RegOpW, ShiftOp, ShiftOpW, StoreOp};

@@ -89,6 +89,7 @@ impl Opcode {
     }
 
     /// The opcode with these bits, if there is one.
+    #[inline(always)]
     #[tactic(auto, unfolding(crate::specs::Words::opcode_with))]
     pub(crate) fn with_bits(bits: u32) -> Option<Opcode>
         ensures { result ≡ opcode_with bits }
@@ -137,6 +138,7 @@ impl BranchOp {
     }
 
     /// The instruction of this group with that code, if there is one.
+    #[inline(always)]
     #[tactic(auto, unfolding(crate::specs::Words::branch_op))]
     pub(crate) fn with_funct3(funct3: u32) -> Option<BranchOp>
         ensures { result ≡ branch_op funct3 }
@@ -177,6 +179,7 @@ impl LoadOp {
     }
 
     /// The instruction of this group with that code, if there is one.
+    #[inline(always)]
     #[tactic(auto, unfolding(crate::specs::Words::load_op))]
     pub(crate) fn with_funct3(funct3: u32) -> Option<LoadOp>
         ensures { result ≡ load_op funct3 }
@@ -203,6 +206,7 @@ impl StoreOp {
     }
 
     /// The instruction of this group with that code, if there is one.
+    #[inline(always)]
     #[tactic(auto, unfolding(crate::specs::Words::store_op))]
     pub(crate) fn with_funct3(funct3: u32) -> Option<StoreOp>
         ensures { result ≡ store_op funct3 }
@@ -241,6 +245,7 @@ impl ImmOp {
     }
 
     /// The instruction of this group with that code, if there is one.
+    #[inline(always)]
     #[tactic(auto, unfolding(crate::specs::Words::imm_op))]
     pub(crate) fn with_funct3(funct3: u32) -> Option<ImmOp>
         ensures { result ≡ imm_op funct3 }
@@ -253,6 +258,7 @@ impl ShiftOp {
     const ALL: [ShiftOp; 3] = [ShiftOp::Slli, ShiftOp::Srli, ShiftOp::Srai];
 
     /// funct7 and funct3 of the instruction. The lowest bit of funct7 is one of the amount, and 0 here.
+    #[inline(always)]
     pub(crate) fn funct(self) -> u32
         ensures value { result ≡ shift_funct self }
         ensures small { result < 2 ^ 9 }
@@ -265,6 +271,7 @@ impl ShiftOp {
     }
 
     /// The instruction of this group with that code, if there is one.
+    #[inline(always)]
     #[tactic(auto, unfolding(crate::specs::Words::shift_op))]
     pub(crate) fn with_funct(funct: u32) -> Option<ShiftOp>
         ensures { result ≡ shift_op funct }
@@ -290,6 +297,7 @@ impl ShiftOpW {
     }
 
     /// The instruction of this group with that code, if there is one.
+    #[inline(always)]
     #[tactic(auto, unfolding(crate::specs::Words::shift_w_op))]
     pub(crate) fn with_funct(funct: u32) -> Option<ShiftOpW>
         ensures { result ≡ shift_w_op funct }
@@ -349,6 +357,7 @@ impl RegOp {
     }
 
     /// The instruction of this group with that code, if there is one.
+    #[inline(always)]
     #[tactic(auto, unfolding(crate::specs::Words::reg_op))]
     pub(crate) fn with_funct(funct: u32) -> Option<RegOp>
         ensures { result ≡ reg_op funct }
@@ -392,6 +401,7 @@ impl RegOpW {
     }
 
     /// The instruction of this group with that code, if there is one.
+    #[inline(always)]
     #[tactic(auto, unfolding(crate::specs::Words::reg_w_op))]
     pub(crate) fn with_funct(funct: u32) -> Option<RegOpW>
         ensures { result ≡ reg_w_op funct }

@@ -1,5 +1,4 @@
-use Rattle.std.proofs.Common.{ℕ, [], length, ap, ◌∙◌, subst, arith}
-use Rattle.decode_cache.specs.Caching.{cache_entries}
+use Rattle.std.proofs.Common.{[], length, ap, ◌∙◌, subst, arith}
 use Rattle.image_format.specs.Contents.{Image, IsImage}
 use Rattle.image_format.proofs.Placed.{segments_fit, pages_are_few}
 use Rattle.image_run.specs.Sizes.{bytes_wanted}
@@ -17,7 +16,7 @@ pub overflow_mul-memory : goal.overflow_mul-memory
 overflow_mul-memory c = omega (arith, c.image.invariant.cap, pages_are_few c.image.inside.version)
 
 pub overflow_mul-text : goal.overflow_mul-text
-overflow_mul-text c = omega (arith, ap length c.as_slice-words.ensures, c.image.invariant.text.most)
+overflow_mul-text c = omega (arith, ap length c.as_slice-4.ensures, c.image.invariant.text.most)
 
 pub returns : goal.returns
 unfolding bytes_wanted
@@ -29,6 +28,5 @@ returns c =
     let globals = c.as_slice.ensures ∙ ap (λ (x : Image). x.globals) is in
     let table = c.as_slice-2.ensures ∙ ap (λ (x : Image). x.table) is in
     let passive = c.as_slice-3.ensures ∙ ap (λ (x : Image). x.passive) is in
-    let text = c.as_slice-words.ensures ∙ ap (λ (x : Image). x.text) is in
-    let decoded = c.cache_entries-decoded.ensures.value ∙ ap (λ (n : ℕ). cache_entries n) (ap length text) in
-    omega (arith, decoded, regions, ap length globals, ap length table, ap length passive, ap length text, ap (λ (x : Image). x.cap) is)
+    let text = c.as_slice-4.ensures ∙ ap (λ (x : Image). x.text) is in
+    omega (arith, regions, ap length globals, ap length table, ap length passive, ap length text, ap (λ (x : Image). x.cap) is)
