@@ -64,6 +64,7 @@ fn extend_words(op: ExtendOp) -> u32
 }
 
 /// Those of a numeric operation: three for each operand, three for the result, and its own.
+#[inline(always)]
 fn operation_words(operation: &Operation) -> u32
     ensures { (w : EmitContext) (h : ℕ) → result ≡ length (operate_words w h operation.now) }
 {
