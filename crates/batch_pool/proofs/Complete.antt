@@ -1,21 +1,17 @@
 -- The rows of all that was published.
-use Rattle.std.proofs.Common.{◌≡◌, ◌≢◌, ◌⊎◌, inl, inr, ℕ, ◌+◌, ◌*◌, ◌<◌, ◌≤◌, List, [], ◌++◌, length, map, slice_index, Option, None, MatchOption, All, Contains, sym, ap, ◌∙◌, subst, arith}
+use Rattle.std.proofs.Common.{◌≡◌, ◌≢◌, inl, inr, ℕ, ◌+◌, ◌*◌, ◌<◌, ◌≤◌, List, [], ◌++◌, length, map, slice_index, Option, None, MatchOption, All, Contains, sym, ap, ◌∙◌, subst, arith}
 use mathlib.Core.Logic.{dite}
 use mathlib.Core.List.{map-append}
 use native.Mathlib.Decide.{ℕ_discrete, dec_le}
 use Rattle.wasm_defs.specs.declared.fault.Refusal.{Refusal}
-use Rattle.index_spaces.specs.Spaces.{Spaces}
 use Rattle.cancel_drain.specs.declared.view.View.{View}
-use Rattle.cancel_drain.specs.Handles.{Site, Sitter}
 use Rattle.cancel_drain.specs.Keys.{key_of}
 use Rattle.cancel_drain.specs.Views.{times}
 use Rattle.cancel_drain.specs.Closing.{IsClosed, IsSettled, IsFaultBefore}
 use Rattle.cancel_drain.proofs.Batches.{once_not}
 use Rattle.body_compiler.specs.declared.batch.row.Row.{Row}
-use Rattle.batch_pool.specs.declared.ticket.Ticket.{Ticket}
-use Rattle.batch_pool.specs.Working.{Grows, place_of, keys_of}
-use Rattle.batch_pool.specs.Desks.{HasRead}
-use Rattle.batch_pool.specs.Laws.{rows_at, HasRow, AreComplete, RowsAreComplete}
+use Rattle.batch_pool.specs.Working.{place_of, keys_of}
+use Rattle.batch_pool.specs.Laws.{rows_at, HasRow, RowsAreComplete}
 use Rattle.batch_pool.proofs.Served.{keys-append}
 use Rattle.batch_pool.proofs.AfterReading.{rows_grown}
 

@@ -1,14 +1,10 @@
 -- Seats of several lanes, parts of which are split off and joined.
-use Rattle.std.proofs.Common.{◌≡◌, ◌≢◌, ◌<◌, ◌≤◌, ◌+◌, ◌-◌, ◌⊎◌, inl, inr, ℕ, zero, suc, Bool, true, false, List, [], ◌∷◌, ◌++◌, length, get_or, All, Some, None, slice_get, refl, sym, ap, ◌∙◌, subst, arith, length-append}
+use Rattle.std.proofs.Common.{◌≡◌, ◌≢◌, ◌<◌, ◌≤◌, ◌+◌, ◌-◌, ◌⊎◌, inl, inr, ℕ, zero, suc, Bool, false, List, [], ◌∷◌, ◌++◌, length, get_or, All, Some, None, slice_get, refl, sym, ap, ◌∙◌, subst, arith, length-append}
 use mathlib.Core.Logic.{dite}
 use native.Mathlib.Decide.{ℕ_discrete}
 use Rattle.std.proofs.Math.ListN.{set, length-set}
 use Rattle.std.proofs.lemmas.Option.{slice_get_within, slice_get_read}
-use Rattle.index_spaces.specs.Spaces.{Spaces}
-use Rattle.result_cells.specs.Rooms.{Store}
-use Rattle.cancel_drain.specs.declared.view.View.{View}
 use Rattle.cancel_drain.specs.Handles.{Sitter}
-use Rattle.cancel_drain.specs.Views.{split_from}
 use Rattle.body_compiler.specs.declared.batch.row.Row.{Row}
 use Rattle.body_compiler.specs.BatchRows.{IsRowOf}
 use Rattle.batch_pool.specs.Settling.{AreKept}
@@ -23,7 +19,7 @@ use Rattle.batch_pool.specs.Working.{IsWorked, Grows}
 use Rattle.batch_pool.specs.Lanes.{AreSeated, AreFresh, Each, Works, Runs, IsWorkedMany, GathersIn, HaveParts, HaveRoom, IsFed}
 use Rattle.batch_pool.specs.Crews.{Splits, IsOfCrew}
 use Rattle.batch_pool.proofs.GatheringLaws.{gathers_same, gathers_trans, gathers_split}
-use Rattle.batch_pool.proofs.Seats.{slice_set_same, slice_set_other, some_one, element_at, each_same, each_trans, seated_on, works_same}
+use Rattle.batch_pool.proofs.Seats.{slice_set_same, slice_set_other, some_one, element_at, each_same, each_trans, seated_on}
 
 -- ---- lists
 

@@ -1,19 +1,18 @@
 -- What serving a ticket of one lane does at its seat, and to the others.
-use Rattle.std.proofs.Common.{◌≡◌, ◌≢◌, ◌<◌, ◌+◌, ◌⊎◌, inl, inr, ℕ, zero, suc, Bool, true, false, List, [], ◌∷◌, ◌++◌, length, All, Some, slice_get, Result, Ok, Err, refl, sym, ap, ◌∙◌, subst, arith, append_assoc}
+use Rattle.std.proofs.Common.{◌≡◌, ◌≢◌, ◌<◌, ◌+◌, inl, inr, ℕ, zero, suc, List, [], ◌∷◌, ◌++◌, length, All, Some, slice_get, Result, Ok, Err, refl, sym, ap, ◌∙◌, subst, arith, append_assoc}
 use Rattle.std.specs.Prelude.{OnOk}
 use mathlib.Core.Logic.{dite}
 use native.Mathlib.Decide.{ℕ_discrete}
-use Rattle.std.proofs.Math.ListN.{set, length-set}
+use Rattle.std.proofs.Math.ListN.{set}
 use Rattle.std.proofs.lemmas.Option.{slice_get_within}
 use Rattle.std.proofs.lemmas.List.{append-nil}
 use Rattle.std.proofs.lemmas.List.Elements.{All-head, All-tail, All-push, All-weaker, Contains-push, Contains-append_left}
-use Rattle.std.specs.Arc.{arc_value}
 use Rattle.body_compiler.specs.declared.batch.row.Row.{Row}
 use Rattle.batch_pool.specs.declared.ticket.Ticket.{Ticket}
 use Rattle.batch_pool.specs.declared.lanes.lane.Lane.{Lane}
 use Rattle.batch_pool.specs.declared.lanes.lane.LaneSeat.{LaneSeat}
 use Rattle.batch_pool.specs.Hands.{Holder, queues}
-use Rattle.batch_pool.specs.Working.{Fits, IsServed, Took}
+use Rattle.batch_pool.specs.Working.{Took}
 use Rattle.batch_pool.specs.Lanes.{AreSeated, AreApart, Each, Works, Runs, Serves, AddsIn, AddsOf, IsOfModule}
 use Rattle.batch_pool.proofs.Served.{grows_same, grows_trans, served_stays, served_later}
 use Rattle.batch_pool.proofs.Turns.{Gives, CountsStay, took_more, later_counts}

@@ -1,5 +1,5 @@
 -- What a worker makes of the tickets of several modules.
-use Rattle.std.specs.Prelude.{◌≡◌, ◌⊎◌, ◌<◌, ℕ, ◌+◌, Bool, true, false, List, [], ◌∷◌, ◌++◌, length, slice_get, Some, All, Contains}
+use Rattle.std.specs.Prelude.{◌≡◌, ◌⊎◌, ◌<◌, ℕ, ◌+◌, Bool, true, false, List, [], ◌++◌, length, slice_get, Some, All, Contains}
 use Rattle.std.specs.Arc.{arc_value}
 use Rattle.body_compiler.specs.declared.batch.row.Row.{Row}
 use Rattle.body_compiler.specs.BatchRows.{IsRowOf}

@@ -12,7 +12,8 @@ use Rattle.body_validator.specs.declared.stack.Opening.TheVariants.{Block as Blo
 use Rattle.body_validator.specs.Checking.{Operand, Operands, Frame, Frames, ◌>>=◌, guarded, known, take_all, put, fresh, label_of, at, enter, closes, may_end, receive, starts_live, step, run, start, height, place_of}
 use Rattle.body_validator.proofs.OperandLaws.{Fits, known-fits, take_all-takes, apply-applies, closes-of, same_types-of}
 use Rattle.body_validator.proofs.Options.{and_true}
-use Rattle.body_validator.proofs.PlaceLaws.{IsKnown, types_move, params_stay, condition_goes, rule_places}
+use Rattle.body_validator.specs.Stacks.{IsKnown}
+use Rattle.body_validator.proofs.PlaceLaws.{fresh_known, types_move, params_stay, condition_goes, rule_places}
 
 abbrev pub with_operands : Frame → Operands → Frame
 with_operands f o = record f { operands = o }
@@ -71,10 +72,6 @@ pub record Passes (c : Context) (tree : Seq) (f : Frame) (fs : Frames) (to : Typ
 pub known-fit : (p : Types) → Fits false (known p) p
 known-fit [] = refl
 known-fit (t ∷ p) = (refl, known-fit p)
-
-fresh-known : (live : Bool) → IsKnown live false
-fresh-known true = refl
-fresh-known false = tt
 
 leaves : (c : Context) (f : Frame) (fs : Frames) (more : List Token) → FrameFits f f.type.results → may_end f.opening f.type ≡ true
     → observe c (token.End ∷ more) (f ∷ fs) ≡ see (place_of (f ∷ fs)) (observe c more (receive f.type.results fs))
@@ -200,7 +197,7 @@ passes c (Block type body rest) f fs from to h fit k =
     passes_around c Blocks type (λ x. x.params) (λ more. spelled body (token.End ∷ more)) (λ x. body_places (at c (f ∷ fs)) x.results body place)
     rest (Block type body rest) f fs s h.1 from to (record { read = λ more. refl; placed = λ ps. refl; ended = refl }) h.2 h.3 fit k
     (λ own took. inner_of c Blocks s body place (with_own f own) fs refl (params_stay f.operands.live f.operands.unknown s.params f.operands.own own (height fs) k took)
-    (passes c body (opened Blocks s f.operands.live) (with_own f own ∷ fs) s.params s.results h.4 (known-fit s.params) (fresh-known f.operands.live)))
+    (passes c body (opened Blocks s f.operands.live) (with_own f own ∷ fs) s.params s.results h.4 (known-fit s.params) (fresh_known f.operands.live)))
     (λ own g. passes c rest (with_own f own) fs (s.results ++ h.1) to h.5 g k)
 passes c (Loop type body rest) f fs from to h fit k =
     let s = h.0 in
@@ -208,7 +205,7 @@ passes c (Loop type body rest) f fs from to h fit k =
     passes_around c Loops type (λ x. x.params) (λ more. spelled body (token.End ∷ more)) (λ x. body_places (at c (f ∷ fs)) x.params body place)
     rest (Loop type body rest) f fs s h.1 from to (record { read = λ more. refl; placed = λ ps. refl; ended = refl }) h.2 h.3 fit k
     (λ own took. inner_of c Loops s body place (with_own f own) fs refl (params_stay f.operands.live f.operands.unknown s.params f.operands.own own (height fs) k took)
-    (passes c body (opened Loops s f.operands.live) (with_own f own ∷ fs) s.params s.results h.4 (known-fit s.params) (fresh-known f.operands.live)))
+    (passes c body (opened Loops s f.operands.live) (with_own f own ∷ fs) s.params s.results h.4 (known-fit s.params) (fresh_known f.operands.live)))
     (λ own g. passes c rest (with_own f own) fs (s.results ++ h.1) to h.5 g k)
 passes c (If type body rest) f fs from to h fit k =
     let s = h.0 in
@@ -216,7 +213,7 @@ passes c (If type body rest) f fs from to h fit k =
     passes_around c Ifs type (λ x. I32 ∷ x.params) (λ more. spelled body (token.End ∷ more)) (λ x. body_places (at c (f ∷ fs)) x.results body place)
     rest (If type body rest) f fs s h.1 from to (record { read = λ more. refl; placed = λ ps. refl; ended = refl }) h.2 h.3 fit k
     (λ own took. inner_of c Ifs s body place (with_own f own) fs (same_types-of s.params s.results h.4) (condition_goes f.operands.live f.operands.unknown s.params f.operands.own own (height fs) k took)
-    (passes c body (opened Ifs s f.operands.live) (with_own f own ∷ fs) s.params s.results h.5 (known-fit s.params) (fresh-known f.operands.live)))
+    (passes c body (opened Ifs s f.operands.live) (with_own f own ∷ fs) s.params s.results h.5 (known-fit s.params) (fresh_known f.operands.live)))
     (λ own g. passes c rest (with_own f own) fs (s.results ++ h.1) to h.6 g k)
 passes c (IfElse type body other rest) f fs from to h fit k =
     let s = h.0 in
@@ -225,8 +222,8 @@ passes c (IfElse type body other rest) f fs from to h fit k =
     (λ x ps. body_places (at c (f ∷ fs)) x.results body place (body_places (at c (f ∷ fs)) x.results other place ps))
     rest (IfElse type body other rest) f fs s h.1 from to (record { read = λ more. refl; placed = λ ps. refl; ended = refl }) h.2 h.3 fit k
     (λ own took. inner_of_two c s body other place (with_own f own) fs (condition_goes f.operands.live f.operands.unknown s.params f.operands.own own (height fs) k took)
-    (passes c body (opened Ifs s f.operands.live) (with_own f own ∷ fs) s.params s.results h.4 (known-fit s.params) (fresh-known f.operands.live))
-    (passes c other (opened Elses s f.operands.live) (with_own f own ∷ fs) s.params s.results h.5 (known-fit s.params) (fresh-known f.operands.live)))
+    (passes c body (opened Ifs s f.operands.live) (with_own f own ∷ fs) s.params s.results h.4 (known-fit s.params) (fresh_known f.operands.live))
+    (passes c other (opened Elses s f.operands.live) (with_own f own ∷ fs) s.params s.results h.5 (known-fit s.params) (fresh_known f.operands.live)))
     (λ own g. passes c rest (with_own f own) fs (s.results ++ h.1) to h.6 g k)
 
 -- ---- whole bodies

@@ -5,12 +5,12 @@ use Rattle.wasm_defs.specs.declared.types.ValType.TheVariants.{I32}
 use Rattle.wasm_defs.specs.Typing.{Types, Rule, Untyped, Fixed, Stops, Discards, Selects}
 use Rattle.wasm_defs.specs.Places.{moved, after_rule}
 use Rattle.body_validator.specs.Checking.{Operand, Operands, ◌>>=◌, guarded, known, is_of, take_one, take_all, Taken, take_any, joined, put, apply}
+use Rattle.body_validator.specs.Stacks.{IsKnown}
 use Rattle.body_validator.proofs.Options.{through, some_inside, guarded-true}
 
--- where a point is reachable, all operands are known
-abbrev pub IsKnown : Bool → Bool → Type 0
-IsKnown true unknown = unknown ≡ false
-IsKnown false unknown = Unit {0}
+pub fresh_known : (live : Bool) → IsKnown live false
+fresh_known true = refl
+fresh_known false = tt
 
 take_one-length : (t : ValType) (own left : List Operand) → take_one false t own ≡ Some left → length own ≡ 1 + length left
 take_one-length t [] left e = absurd (cc)

@@ -11,19 +11,23 @@ use Rattle.wasm_defs.specs.Typing.{Types}
 use Rattle.body_validator.specs.Checking.{Operand, Frames, ◌>>=◌, known, take_all, selected_of}
 use Rattle.body_validator.specs.Stacks.{own_of}
 
+-- the types that are taken, the topmost first: those of a rule's parameters, below a condition where there is one
 abbrev pub with_condition : Bool → Types → Types
 with_condition false types = types
 with_condition true types = I32 ∷ types
 
+-- the types of up to two operands, the topmost first
 abbrev pub few_types : Few → Types
 few_types Zero = []
 few_types (One t) = t ∷ []
 few_types (Two s t) = t ∷ s ∷ []
 
+-- the type of what is put in their place, if anything is
 abbrev pub given_types : Option ValType → Types
 given_types None = []
 given_types (Some t) = t ∷ []
 
+-- the types that a row of operands takes, which names them in the order in which they were put
 abbrev pub taken_types : Taken → Types
 taken_types taken = with_condition taken.condition (reverse taken.types.now)
 

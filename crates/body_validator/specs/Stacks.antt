@@ -18,6 +18,11 @@ frame_of f items = record {
   operands = record { own = own_of items f.base; unknown = f.unknown; live = f.live };
 }
 
+-- where a frame is reachable, all its operands are known
+abbrev pub IsKnown : Bool → Bool → Type 0
+IsKnown true unknown = unknown ≡ false
+IsKnown false unknown = Unit {0}
+
 -- the frames, the innermost first: what is below a frame's base is the next one's
 abbrev pub frames_of : List Flat → List Operand → Frames
 frames_of [] items = []

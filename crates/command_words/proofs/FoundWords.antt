@@ -1,5 +1,5 @@
 -- The words that were found for ARGS, and the loop over them.
-use Rattle.std.proofs.Common.{◌≡◌, ◌∙◌, ◌<◌, ◌+◌, ◌++◌, ℕ, List, [], ◌∷◌, Bor, Option, Some, None, length, refl, ap, sym, subst, add-one, append_assoc, drop-cons}
+use Rattle.std.proofs.Common.{◌≡◌, ◌∙◌, ◌<◌, ◌+◌, ◌++◌, ℕ, List, [], ◌∷◌, Bor, Option, Some, None, length, refl, ap, sym, add-one, append_assoc, drop-cons}
 use Rattle.std.specs.Prelude.{drop, map, option_and_then, option_map, slice_index_or, unwrap_or}
 use Rattle.clap.specs.Walk.{Text}
 use Rattle.command_words.specs.Arguments.{argument_in, arguments_in}

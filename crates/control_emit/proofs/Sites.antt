@@ -1,5 +1,5 @@
 -- The traps of a walk with the offsets of its tokens.
-use Rattle.std.proofs.Common.{◌≡◌, ℕ, zero, suc, ◌+◌, ◌-◌, List, [], ◌∷◌, ◌++◌, map, length, Some, None, refl, sym, ap, ◌∙◌, subst, arith, append_assoc, length-append}
+use Rattle.std.proofs.Common.{◌≡◌, ℕ, zero, suc, ◌+◌, ◌-◌, List, [], ◌∷◌, ◌++◌, map, length, Some, None, refl, sym, ap, ◌∙◌, arith, append_assoc, length-append}
 use Rattle.std.specs.Prelude.{slice_index}
 use Rattle.std.proofs.lemmas.List.{map-append}
 use Rattle.rv_isa.specs.declared.compiled.TrapSite.{TrapSite}
@@ -10,7 +10,7 @@ use Rattle.wasm_defs.specs.Configurations.{Origin, offset_of}
 use Rattle.wasm_defs.specs.Places.{Place, places_of}
 use Rattle.wasm_defs.specs.Typing.{Context}
 use Rattle.frame_layout.specs.Templates.{EmitContext}
-use Rattle.frame_layout.specs.Functions.{Trap, trap_at, site_of, body_traps}
+use Rattle.frame_layout.specs.Functions.{trap_at, site_of}
 use Rattle.frame_layout.specs.Traps.{trap_places, site_at}
 use Rattle.control_emit.specs.Emits.{FunctionBuilder}
 use Rattle.control_emit.specs.Walks.{Walk, token_traps, walk_traps, token_sites, walk_sites, begun, SitesLaw}

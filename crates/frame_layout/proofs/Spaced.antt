@@ -5,7 +5,7 @@ use Rattle.rv_isa.specs.declared.compiled.TrapSite.{TrapSite}
 use Rattle.wasm_defs.specs.declared.types.ValType.{ValType}
 use Rattle.wasm_defs.specs.declared.types.ValType.TheVariants.{I32, I64}
 use Rattle.wasm_defs.specs.declared.operation.Operation.{Operation}
-use Rattle.wasm_defs.specs.declared.operation.Operation.TheVariants.{Unary, Test, Binary, Compare, Convert, Extend}
+use Rattle.wasm_defs.specs.declared.operation.Operation.TheVariants.{Binary}
 use Rattle.wasm_defs.specs.declared.operation.BinaryOp.{BinaryOp}
 use Rattle.wasm_defs.specs.declared.operation.BinaryOp.TheVariants as binary
 use Rattle.wasm_defs.specs.declared.token.BulkOp.TheVariants.{Fill, Copy, Init}
@@ -16,8 +16,8 @@ use Rattle.wasm_defs.specs.Trees.{Seq, Nothing, Simple, Block, Loop, If, IfElse,
 use Rattle.wasm_defs.specs.Typing.{Context, inside, rule_of}
 use Rattle.wasm_defs.specs.Places.{Place, after_rule, shape, after_block, after_if, end_of}
 use Rattle.frame_layout.specs.declared.layout.Layout.{Layout}
-use Rattle.frame_layout.specs.Templates.{Declarations, Label, EmitContext, operate_words, declarations, words, zero_locals, prologue, epilogue}
-use Rattle.frame_layout.specs.Functions.{label, over, size, Trap, trap_at, traps_of, site_of, traps, body_place, body_size, body_traps, sites_of, function_size}
+use Rattle.frame_layout.specs.Templates.{Declarations, Label, EmitContext, operate_words, declarations, words, prologue}
+use Rattle.frame_layout.specs.Functions.{label, over, size, Trap, trap_at, traps_of, site_of, traps, body_place, body_size, body_traps, function_size}
 use Rattle.frame_layout.specs.Traps.{trap_places, operation_places, division_places, AreSpaced}
 use Rattle.frame_layout.specs.Laws.{SpacedLaw}
 

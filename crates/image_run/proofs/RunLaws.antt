@@ -15,7 +15,7 @@ use Rattle.rv_isa.proofs.SizeLaws.{runs_keep_sizes}
 use Rattle.wasm_defs.specs.declared.types.ValType.{ValType}
 use Rattle.image_format.specs.Contents.{Image}
 use Rattle.image_format.specs.Environment.{code_of_image, Entry}
-use Rattle.image_format.specs.ImageRun.{Running, Stepping, To, environment, finish, memory_of, stepped, on, steps, run_of}
+use Rattle.image_format.specs.ImageRun.{Running, Stepping, To, environment, memory_of, stepped, on, steps, run_of}
 use Rattle.image_format.specs.ImageRun as image
 use Rattle.image_run.specs.declared.answer.Answer.{Answer}
 use Rattle.image_run.specs.declared.answer.Answer.TheVariants as answer

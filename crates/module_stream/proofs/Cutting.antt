@@ -6,7 +6,7 @@ use Rattle.std.proofs.lemmas.List.{append-nil, drop-append-le, take-append-drop}
 use Rattle.std.proofs.Math.Seq.{drop-append-add, drop-length}
 use Rattle.wasm_defs.specs.declared.fault.Refusal.{Refusal}
 use Rattle.wasm_defs.specs.Entries.{Seen}
-use Rattle.wasm_defs.specs.Outside.{Part, Run, ends, sections, no_end}
+use Rattle.wasm_defs.specs.Outside.{Run, ends, sections, no_end}
 use Rattle.wasm_defs.specs.Outside as outside
 use Rattle.section_reader.specs.Onward.{after_parts}
 use Rattle.body_cutter.specs.declared.body.Body.{Body}

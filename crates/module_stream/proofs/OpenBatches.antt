@@ -4,7 +4,7 @@ use Rattle.std.proofs.lemmas.Bool.{cases_Bool, leb-false}
 use Rattle.body_cutter.specs.declared.body.Body.{Body}
 use Rattle.body_cutter.specs.Sections.{End, Whole, Faulty, Owed, Given, bodies_from}
 use Rattle.body_cutter.specs.Places.{Place, still}
-use Rattle.body_cutter.specs.Queues.{Queue, with_begun, with_body, with_bodies, all_closed, bytes_of}
+use Rattle.body_cutter.specs.Queues.{Queue, with_begun, with_body, with_bodies, bytes_of}
 use Rattle.body_cutter.specs.Cuttings.{Cutting, Handed, finished, handed, left, no_batch}
 use Rattle.module_stream.specs.Streaming.{AreOpen}
 

@@ -14,7 +14,7 @@ use Rattle.wasm_defs.specs.Trees.{Seq}
 use Rattle.wasm_defs.specs.Typing.{Context}
 use Rattle.wasm_defs.specs.Bodies.{BodyRead, body_read}
 use Rattle.wasm_defs.specs.Context.{context_of, types_of}
-use Rattle.wasm_defs.specs.Outside.{Body, Run, Part, after_part}
+use Rattle.wasm_defs.specs.Outside.{Body, Run, after_part}
 use Rattle.wasm_defs.specs.Outside as outside
 use Rattle.wasm_defs.specs.Faults.{IsValidCode, read_of, context_at, items_of, bodies_of}
 use Rattle.frame_layout.specs.Templates.{EmitContext}

@@ -3,7 +3,7 @@ use Rattle.std.proofs.Common.{◌≡◌, ◌⊎◌, inl, inr, ℕ, suc, Bool, fa
 use Rattle.std.specs.Prelude.{IfOk, codes, String, string_bytes}
 use Rattle.std.specs.Fmt.{decimal}
 use Rattle.std.specs.Global.{Global}
-use Rattle.std.specs.Io.KnownBytes.{prepend_known, IsAtEnd}
+use Rattle.std.specs.Io.KnownBytes.{IsAtEnd}
 use Rattle.std.specs.declared.alloc.AllocError.{AllocError}
 use Rattle.wasm_defs.specs.declared.fault.Refusal.{Refusal}
 use Rattle.wasm_defs.specs.Faults.{Rejected}
@@ -18,7 +18,7 @@ use Rattle.many_streams.specs.Members.{IsEachChecked}
 use Rattle.many_streams.specs.Many.{AreEach, ChecksMany}
 use Rattle.stream_compile.specs.declared.output.Output.{Output}
 use Rattle.stream_compile.specs.Reading.{view}
-use Rattle.stream_compile.specs.Texts.{Outcome, TellsCheck, OfModule, AreChecked, OfFrames, ComesOfMany, ComesTo, read_fault, kind_name, bad_frame, many_line, many_text, many_status, said, told_many}
+use Rattle.stream_compile.specs.Texts.{TellsCheck, OfModule, AreChecked, OfFrames, ComesTo, read_fault, kind_name, bad_frame, many_line, many_text, many_status, said, told_many}
 use Rattle.stream_compile.proofs.Answering.{valid_outcome}
 use Rattle.stream_compile.proofs.Joins.{five}
 

@@ -10,7 +10,6 @@ use Rattle.wasm_defs.specs.Outside.{Part, Section, Listed, Coded, Body, module_r
 use Rattle.wasm_defs.specs.Trees.{Seq}
 use Rattle.wasm_defs.specs.Typing.{Context}
 use Rattle.wasm_defs.specs.Context.{context_of}
-use Rattle.wasm_defs.specs.declared.fault.Kind.TheVariants.{Invalid}
 use Rattle.wasm_defs.specs.Faults.{ending_fault, items_of, bodies_of, read_of, context_at, Use, use_of, offset_of_use, serves, use_kind, UsesRight, IsUseFault, IsCodeFault, IsValidCode, IsOutsideFault, IsFaultInside, IsFault, AreValid, Module, Verdict, Accepted, Rejected}
 use Rattle.wasm_laws.specs.Sections.{AreBytes}
 use Rattle.wasm_laws.proofs.Behind.{bodies_stand_behind}

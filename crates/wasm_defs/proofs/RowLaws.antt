@@ -18,7 +18,7 @@ use Rattle.wasm_defs.specs.declared.operation.StoreOp.TheVariants.{I32Store}
 use Rattle.wasm_defs.specs.declared.operation.Operation.{Operation}
 use Rattle.wasm_defs.specs.declared.operation.Operation.TheVariants.{Unary, Test, Binary, Compare, Convert, Extend}
 use Rattle.wasm_defs.specs.Opcodes.{operation_code, load_code, store_code, row_type}
-use Rattle.wasm_defs.specs.Typing.{Signature, signature_in, operated}
+use Rattle.wasm_defs.specs.Typing.{signature_in, operated}
 use Rattle.wasm_defs.specs.Rows.{OperationsAreInOrder, AccessesAreInOrder, OperationHasType, LoadHasType, StoreHasType}
 
 pub operations_in_order : OperationsAreInOrder

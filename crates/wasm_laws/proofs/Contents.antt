@@ -9,7 +9,7 @@ use Rattle.wasm_defs.specs.Limits.{max_module, max_body}
 use Rattle.wasm_defs.specs.Fields.{Cursor, Reader, room_of}
 use Rattle.wasm_defs.specs.Entries.{Seen, note, code, data_count, start}
 use Rattle.wasm_defs.specs.Outside as outside
-use Rattle.wasm_defs.specs.Outside.{Body, Part, Listed, Coded, Nothing, listed, body, custom_name, rest_of_section, code_entry, Row, entries_of, row, position_of, is_misplaced, header, entered, noted, inside, no_end, left_over, section_end, Ending, Whole, Refused, Owed, Run, ends, after_part, runs_on, Next, finish, entries, contents, section, owes, at_the_end, or_section, sections_up_to}
+use Rattle.wasm_defs.specs.Outside.{Body, Part, Listed, Coded, listed, body, custom_name, code_entry, Row, entries_of, row, position_of, header, entered, noted, inside, no_end, section_end, ends, after_part, Next, finish, entries, contents, section, owes, at_the_end, or_section, sections_up_to}
 use Rattle.wasm_defs.specs.Items.{Spelling, exactly, each_is, u32_is, body_is, listed_index_is, item_is, section_of, AllOf, Custom, Vector, Starting, Counting, Bodies, HoldsVector, payload_is}
 use Rattle.wasm_defs.specs.Rules.{AllKeep, all_noted}
 use Rattle.wasm_laws.proofs.Steady.{IfGot}

@@ -6,7 +6,7 @@ use Rattle.wasm_defs.specs.Limits.{max_module}
 use Rattle.wasm_defs.specs.Fields.{Cursor, Read, Got, Fault, Wants, byte, u32, here, room_of}
 use Rattle.wasm_defs.specs.Entries.{Seen}
 use Rattle.wasm_defs.specs.Outside as outside
-use Rattle.wasm_defs.specs.Outside.{Body, Part, Listed, Coded, Nothing, listed, body, custom_name, rest_of_section, code_entry, Row, entries_of, row, position_of, id_of, is_misplaced, header, entered, noted, inside, no_end, left_over, section_end, Ending, Whole, Refused, Owed, Run, ends, after_part, runs_on, Next, finish, entries, contents, section, owes_code, at_the_end, or_section, sections_up_to}
+use Rattle.wasm_defs.specs.Outside.{Part, position_of, id_of, is_misplaced, header, entered, inside, no_end, Whole, Run, runs_on, Next, section}
 use Rattle.wasm_defs.specs.Items.{◌then◌, each_is, byte_is, u32_is, Section, Payload, Custom, Vector, Starting, Counting, Bodies, payload_position, payload_is, section_is, payload_items, StandsBehind, last_with, AreInOrder}
 use Rattle.wasm_defs.specs.Rules.{AllKeep, all_noted, IsSmall, SectionsKeep}
 use Rattle.wasm_laws.specs.Sections.{parts_of, parts_in}

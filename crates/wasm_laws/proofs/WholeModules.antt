@@ -5,7 +5,7 @@ use Rattle.wasm_defs.specs.Limits.{max_module}
 use Rattle.wasm_defs.specs.Fields.{Read, Got, then_go, done, fixed}
 use Rattle.wasm_defs.specs.Entries.{Seen, nothing}
 use Rattle.wasm_defs.specs.Outside as outside
-use Rattle.wasm_defs.specs.Outside.{Body, Part, Row, row, position_of, header, entered, inside, no_end, Ending, Whole, Run, after_part, runs_on, Next, contents, section, owes_code, at_the_end, or_section, sections_up_to, sections, magic, version, preamble, beginning, module_read}
+use Rattle.wasm_defs.specs.Outside.{Part, Row, row, position_of, header, entered, inside, no_end, Whole, Run, after_part, runs_on, Next, contents, section, or_section, sections_up_to, sections, magic, version, preamble, module_read}
 use Rattle.wasm_defs.specs.Items.{each_is, u32_is, Section, Payload, Custom, Vector, Starting, Counting, Bodies, payload_id, payload_position, payload_is, section_is, payload_items, items_in, bodies_in, AreInOrder}
 use Rattle.wasm_defs.specs.Rules.{AllKeep, all_noted, IsSmall, SectionsKeep}
 use Rattle.wasm_laws.specs.Sections.{parts_of, parts_in, AreSectionsOf}

@@ -10,7 +10,7 @@ use Rattle.wasm_defs.specs.Trees.{Seq, Nothing, Block, Loop}
 use Rattle.wasm_defs.specs.Typing.{Types, Signature}
 use Rattle.wasm_defs.specs.Places.{shape}
 use Rattle.wasm_defs.specs.Values.{Value, types_of_values}
-use Rattle.wasm_defs.specs.Configurations.{Func, Instance, Frame, Config, Step, belows, whole, used}
+use Rattle.wasm_defs.specs.Configurations.{Instance, Frame, Config, Step, belows, used}
 use Rattle.wasm_defs.specs.Configurations as config
 use Rattle.wasm_defs.specs.Reductions.{within, leave, returns, reduce, carried}
 use Rattle.frame_layout.specs.Macros.{distance, far}

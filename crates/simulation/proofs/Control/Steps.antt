@@ -13,7 +13,7 @@ use Rattle.wasm_defs.specs.Trees.{Seq, Simple}
 use Rattle.wasm_defs.specs.Typing.{Types, Stops, Fixed, Moves, with_type, rule_of, Typed}
 use Rattle.wasm_defs.specs.Places.{Place, after_rule}
 use Rattle.wasm_defs.specs.Values.{types_of_values}
-use Rattle.wasm_defs.specs.Configurations.{Func, Instance, Frame, Config, Step, To, Trapped, place_of, belows, whole, used}
+use Rattle.wasm_defs.specs.Configurations.{Func, Instance, Config, Step, place_of, belows, used}
 use Rattle.wasm_defs.specs.Configurations as config
 use Rattle.wasm_defs.specs.Reductions.{simple, branch, returns}
 use Rattle.frame_layout.specs.Slots.{operand}

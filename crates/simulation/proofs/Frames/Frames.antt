@@ -7,7 +7,7 @@ use Rattle.wasm_defs.specs.Trees.{Seq}
 use Rattle.wasm_defs.specs.Typing.{Types, Context, Typed}
 use Rattle.wasm_defs.specs.Places.{Place, end_of}
 use Rattle.wasm_defs.specs.Values.{types_of_values}
-use Rattle.wasm_defs.specs.Configurations.{Func, Function, type_of, Instance, Frame, tokens_behind, belows, whole, part, used, max_slots}
+use Rattle.wasm_defs.specs.Configurations.{Func, Instance, Frame, tokens_behind, belows, whole, part, used, max_slots}
 use Rattle.wasm_defs.specs.Configurations as config
 use Rattle.frame_layout.specs.Macros.{ra, s0, distance, far, back}
 use Rattle.frame_layout.specs.Slots.{link, operand, need}

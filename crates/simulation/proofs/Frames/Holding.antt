@@ -7,7 +7,7 @@ use Rattle.rv_isa.specs.Runs.{place, Reaches, FitWindows}
 use Rattle.wasm_defs.specs.Trees.{Seq}
 use Rattle.wasm_defs.specs.Typing.{Types}
 use Rattle.wasm_defs.specs.Values.{Value, types_of_values}
-use Rattle.wasm_defs.specs.Configurations.{Instance, Store, Invocation, Frame, Config, Outside, Inside, Carrying, Step, To, Returned, Trapped, Stopped, Waiting, Stuck, belows, whole, used}
+use Rattle.wasm_defs.specs.Configurations.{Instance, Store, Invocation, Frame, Outside, Inside, Carrying, Step, To, Returned, Trapped, Stopped, Waiting, Stuck, belows, used}
 use Rattle.wasm_defs.specs.Configurations as config
 use Rattle.frame_layout.specs.Laws.{slot_at}
 use Rattle.frame_layout.specs.Macros.{s0, s5}

@@ -17,7 +17,6 @@ use Rattle.frame_layout.proofs.Standing.{has_first, has_rest}
 use Rattle.frame_layout.proofs.Constants.{block_leaves}
 use Rattle.frame_layout.proofs.Steps.{does_leave}
 use Rattle.frame_layout.proofs.Instructions.{stored_does}
-use Rattle.frame_layout.proofs.WordLaws.{low_word}
 use Rattle.simulation.specs.Regions.{memory_now}
 use Rattle.simulation.specs.MemoryLaws.{SizeLaw, GrownMemoryLaw, ZerosBehindLaw}
 

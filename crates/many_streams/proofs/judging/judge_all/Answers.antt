@@ -1,4 +1,4 @@
-use Rattle.std.proofs.Common.{List, sym, subst}
+use Rattle.std.proofs.Common.{List, subst}
 use Rattle.many_streams.specs.declared.member.Member.{Member}
 use Rattle.many_streams.specs.Workers.{AreMade}
 use Rattle.many_streams.proofs.judging.judge_all.Goals as goal

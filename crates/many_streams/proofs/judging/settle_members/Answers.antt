@@ -1,4 +1,4 @@
-use Rattle.std.proofs.Common.{◌≡◌, ◌∙◌, ◌+◌, ℕ, [], ◌∷◌, length-append, length, sym, ap, subst, refl, rules}
+use Rattle.std.proofs.Common.{◌≡◌, ◌∙◌, ℕ, [], ◌∷◌, length-append, length, sym, ap, subst, refl, rules}
 use Rattle.std.specs.Vec.Iter.{into_iter_items}
 use Rattle.many_streams.specs.declared.working.Made.{Made}
 use Rattle.many_streams.specs.Members.{IsEnded, IsJudged}

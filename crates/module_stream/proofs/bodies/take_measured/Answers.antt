@@ -1,5 +1,5 @@
 use Rattle.std.proofs.Common.{ℕ, Ok, Err, subst}
-use Rattle.module_stream.specs.Progress.{CountsBody, TakesBody}
+use Rattle.module_stream.specs.Progress.{CountsBody}
 use Rattle.module_stream.proofs.Taking.{stop_taken}
 use Rattle.module_stream.proofs.bodies.take_measured.Goals as goal
 

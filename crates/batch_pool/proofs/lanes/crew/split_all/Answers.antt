@@ -1,6 +1,5 @@
-use Rattle.std.proofs.Common.{◌≡◌, ◌<◌, ◌∙◌, length, refl, sym, ap, arith}
+use Rattle.std.proofs.Common.{◌<◌, ◌∙◌, length, refl, ap, arith}
 use Rattle.std.proofs.lemmas.Option.{slice_get_read}
-use Rattle.cancel_drain.specs.Handles.{Sitter}
 use Rattle.batch_pool.specs.declared.lanes.lane.Lane.{Lane}
 use Rattle.batch_pool.specs.declared.lanes.lane.LaneSeat.{LaneSeat}
 use Rattle.batch_pool.proofs.Crews.{partly_at, split_begins, split_steps, split_fresh, split_each, split_seated}

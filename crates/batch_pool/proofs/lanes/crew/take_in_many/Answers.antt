@@ -1,4 +1,4 @@
-use Rattle.std.proofs.Common.{rules, ◌≡◌, ◌<◌, ◌∙◌, ◌+◌, length, refl, sym, ap, arith}
+use Rattle.std.proofs.Common.{rules, ◌≡◌, ◌∙◌, length, refl, sym, arith}
 use Rattle.batch_pool.specs.declared.lanes.lane.LaneSeat.{LaneSeat}
 use Rattle.batch_pool.proofs.Seats.{element_at}
 use Rattle.batch_pool.proofs.Crews.{worked_at, taken_begins, taken_next, taken_steps, taken_each, taken_seated}

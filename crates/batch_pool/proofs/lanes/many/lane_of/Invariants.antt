@@ -1,4 +1,4 @@
-use Rattle.std.proofs.Common.{◌≡◌, ◌≢◌, ℕ, All, take}
+use Rattle.std.proofs.Common.{◌≢◌, All, take}
 use Rattle.batch_pool.proofs.lanes.many.lane_of.Given as goal
 
 abbrev pub invariant-loop-k : goal.invariant-loop-k

@@ -1,4 +1,4 @@
-use Rattle.std.proofs.Common.{rules, ◌≡◌, ◌+◌, ◌∙◌, ℕ, List, All, length, refl, sym, ap, subst, arith}
+use Rattle.std.proofs.Common.{rules, ◌≡◌, ◌+◌, ◌∙◌, ℕ, List, All, length, sym, ap, subst, arith}
 use Rattle.std.specs.Prelude.{vec_len}
 use Rattle.std.specs.Vec.Iter.{into_iter_len}
 use Rattle.std.specs.declared.vec.Vec.{Vec}
@@ -6,7 +6,7 @@ use Rattle.std.specs.declared.alloc.Global.{Global}
 use Rattle.body_compiler.proofs.Rests.{all_pushed, all_same}
 use Rattle.batch_pool.specs.declared.lanes.lane.Lane.{Lane}
 use Rattle.batch_pool.specs.declared.lanes.lane.LaneSeat.{LaneSeat}
-use Rattle.batch_pool.specs.Lanes.{AreSeated, AreApart, AreFresh, Each, IsWorkedMany, GathersIn}
+use Rattle.batch_pool.specs.Lanes.{AreSeated, AreApart, Each, IsWorkedMany, GathersIn}
 use Rattle.batch_pool.specs.Crews.{IsOfCrew}
 use Rattle.batch_pool.proofs.Crews.{HasStarted, started_begins, have_one, started_one, taken_back, room_mid, room_all, all_joined, crew_of}
 use Rattle.batch_pool.proofs.lanes.crew.fn.run_lent.scope.Goals.{in-Ok-spawn_with+in-Ok-push, in-Err+in-Some-take_in_many}

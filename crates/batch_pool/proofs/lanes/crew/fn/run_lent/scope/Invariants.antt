@@ -1,4 +1,4 @@
-use Rattle.std.specs.Prelude.{◌≡◌, All, vec_len}
+use Rattle.std.specs.Prelude.{All, vec_len}
 use Rattle.std.specs.Vec.Iter.{into_iter_len}
 use Rattle.batch_pool.specs.Lanes.{AreSeated, Each}
 use Rattle.batch_pool.specs.Crews.{IsOfCrew}
