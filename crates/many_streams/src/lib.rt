@@ -10,8 +10,6 @@ mod member;
 mod reader;
 mod several;
 mod streams;
-#[cfg(test)]
-mod tests;
 mod working;
 
 pub use intake::Intake;

@@ -1,7 +1,7 @@
-//! Inputs, and where they have an error.
+//! Inputs of several modules, and where they have an error.
 ghost use Rattle.std.specs.Prelude.{◌<◌};
 
-use crate::{FrameReader, MAX_MODULES};
+use many_streams::{FrameReader, MAX_MODULES};
 use std::test::Fail;
 
 /// The offset of an input's error, where it is read in pieces of so many bytes; none where it is frames.

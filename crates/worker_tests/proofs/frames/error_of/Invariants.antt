@@ -1,6 +1,6 @@
 use Rattle.std.proofs.Common.{length}
 use Rattle.many_streams.specs.Reading.{MayTake}
-use Rattle.many_streams.proofs.tests.error_of.Given as goal
+use Rattle.worker_tests.proofs.frames.error_of.Given as goal
 
 abbrev pub invariant-loop-rest : goal.invariant-loop-rest
 invariant-loop-rest l = MayTake l.reader
