@@ -5,8 +5,6 @@
 mod bulk;
 mod drop;
 mod parts;
-#[cfg(test)]
-mod tests;
 
 pub use bulk::{emit_bulk, emit_copy, emit_fill, emit_init};
 pub use drop::emit_drop;

@@ -1,6 +1,6 @@
-//! Instruction words that were put together by hand from the manual's tables.
+//! Instruction words of bulk memory that were put together by hand from the manual's tables.
 
-use crate::{emit_drop, emit_fill};
+use bulk_emit::{emit_drop, emit_fill};
 use frame_layout::Layout;
 use rv_isa::WordBuffer;
 use std::test::Fail;
