@@ -17,7 +17,7 @@ use Rattle.wasm_defs.specs.Typing.{Types, Context, Moves, Fixed, store_type, sto
 use Rattle.wasm_defs.specs.Values.{Value, word, types_of_values}
 use Rattle.wasm_defs.specs.Memory.{page, pages_of, grown}
 use Rattle.wasm_defs.specs.Configurations.{Store}
-use Rattle.wasm_defs.specs.Effects.{Gives, effect, grew, value, bytes_written}
+use Rattle.wasm_defs.specs.Effects.{Gives, effect, grew, value}
 use Rattle.frame_layout.specs.Slots.{operand}
 use Rattle.frame_layout.specs.Macros.{s0, s5}
 use Rattle.frame_layout.specs.Templates.{Label, EmitContext, global_set_words, store_words, grow_words, declarations, words}
@@ -34,33 +34,23 @@ use Rattle.simulation.proofs.Frames.Values.{Agree, Holds, Matches}
 use Rattle.simulation.proofs.Goings.{Goes, goes_by}
 use Rattle.simulation.proofs.GrowingMemory.{Grown, GrownBy, grow_goes}
 use Rattle.simulation.proofs.Steps.{with_machine}
-use Rattle.simulation.proofs.Straight.Instructions.{most_steps, Halts}
+use Rattle.simulation.proofs.Straight.Instructions.{Halts}
 use Rattle.simulation.proofs.Straight.Bulk.{moves_if, bulk_comes, drop_changes}
-use Rattle.simulation.proofs.Straight.Memories.{Changes, global_set_changes, store_comes}
+use Rattle.simulation.proofs.Straight.Memories.{Change, Changes, global_set_changes, store_comes}
 use Rattle.simulation.proofs.Straight.Operations.{typed_word, typed_range}
 use Rattle.simulation.proofs.Straight.Effects.{ChangesStore}
 
 -- so many steps lead to where the frame holds other operands, and the regions another store
 pub record Passes (image : Image) (c : Context) (labels : List Label) (w : EmitContext) (base there : ℕ) (store : Store) (locals operands : List Value) (p : Plain) (mid : Types) (here : ℕ) (r : Running) : Type 0 where
-  pub store_after : Store
-  pub after : List Value
-  pub gives : effect store locals image.cap p operands ≡ Gives store_after locals after
-  pub types_are : types_of_values after ≡ mid
-  pub calls_stay : store_after.calls ≡ store.calls
-  pub replies_stay : store_after.replies ≡ store.replies
-  pub globals_stay : types_of_values store_after.globals ≡ types_of_values store.globals
-  pub segments_stay : length store_after.segments ≡ length store.segments
-  pub steps : ℕ
-  pub some : 0 < steps
-  pub short : steps ≤ most_steps + 128 * bytes_written p operands
+  pub change : Change store image.cap locals operands p mid
   pub last : Running
-  pub goes : Goes image steps r last
+  pub goes : Goes image change.steps r last
   pub pc_is : last.machine.pc ≡ r.machine.pc + 4 * length (words w (declarations c) labels (length operands) here p)
   pub bytes : Bytes
-  pub matches : Matches w.layout base there bytes locals after last.machine
+  pub matches : Matches w.layout base there bytes locals change.after last.machine
   pub low : Agree base r.machine.bytes last.machine.bytes
   pub table_stays : last.machine.bytes.table ≡ r.machine.bytes.table
-  pub stands : StoreStands store_after last.pages image.cap last.machine
+  pub stands : StoreStands change.store_after last.pages image.cap last.machine
   pub calls : last.calls ≡ r.calls
   pub replies : last.replies ≡ r.replies
   pub results : last.results ≡ r.results
@@ -84,19 +74,9 @@ module _ (image : Image) (near : length (code_of_image image) ≤ 2 ^ 26) (few :
 
   moved : (operands : List Value) (p : Plain) (mid : Types) → Changes (code_of_image image) c labels w base there r.machine.bytes store image.cap r.pages locals operands p mid here r.machine → Passing operands p mid
   moved operands p mid x = record {
-    store_after = x.store_after;
-    after = x.after;
-    gives = x.gives;
-    types_are = x.types_are;
-    calls_stay = x.calls_stay;
-    replies_stay = x.replies_stay;
-    globals_stay = x.globals_stay;
-    segments_stay = x.segments_stay;
-    steps = x.steps;
-    some = x.some;
-    short = x.short;
+    change = x.change;
     last = with_machine r x.end;
-    goes = goes_by image x.steps r x.end x.reaches;
+    goes = goes_by image x.change.steps r x.end x.reaches;
     pc_is = x.pc_is;
     bytes = record x.end.bytes { stack = r.machine.bytes.stack };
     matches = x.matches;
@@ -109,6 +89,10 @@ module _ (image : Image) (near : length (code_of_image image) ≤ 2 ^ 26) (few :
     later = refl;
   }
 
+  either_passes : (operands : List Value) (p : Plain) (mid : Types) → Changes (code_of_image image) c labels w base there r.machine.bytes store image.cap r.pages locals operands p mid here r.machine ⊎ Halting operands p → Passing operands p mid ⊎ Halting operands p
+  either_passes operands p mid (inl z) = inl (moved operands p mid z)
+  either_passes operands p mid (inr z) = inr z
+
   global_set_passes : (operands : List Value) (mid : Types) (x : ℕ) → OnLocal store.globals x (λ t. t ∷ []) (λ t. []) (types_of_values operands) mid → length operands ≤ w.layout.greatest
       → HasAt (code_of_image image) i (global_set_words w (length operands) x) → Holding operands → Passing operands (GlobalSet x) mid
   global_set_passes [] mid x g low has m = let e = g.moves.before in absurd cc
@@ -119,11 +103,6 @@ module _ (image : Image) (near : length (code_of_image image) ≤ 2 ^ 26) (few :
       moved (v ∷ below) (GlobalSet x) mid
       (global_set_changes code c labels w base there r.machine.bytes store image.cap locals here r.machine i at r.pages holds v g.local.v below mid x g.local.is (ty_is ∙ sym g.local.ty_is) (rest ∙ sym g.moves.after) low has m)
 
-  stored_passes : (y x : Value) (below : List Value) (mid : Types) (o : StoreOp) (mem : MemArg) → Changes (code_of_image image) c labels w base there r.machine.bytes store image.cap r.pages locals (y ∷ x ∷ below) (plain.Store o mem) mid here r.machine ⊎ Halting (y ∷ x ∷ below) (plain.Store o mem)
-      → Passing (y ∷ x ∷ below) (plain.Store o mem) mid ⊎ Halting (y ∷ x ∷ below) (plain.Store o mem)
-  stored_passes y x below mid o mem (inl z) = inl (moved (y ∷ x ∷ below) (plain.Store o mem) mid z)
-  stored_passes y x below mid o mem (inr z) = inr z
-
   store_passes : (operands : List Value) (mid : Types) (o : StoreOp) (mem : MemArg) → mem.offset < 2 ^ 32 → MovesFixed (store_type o ∷ I32 ∷ []) [] (types_of_values operands) mid → length operands ≤ w.layout.greatest
       → HasAt (code_of_image image) i (store_words w (length operands) o mem.offset) → Holding operands → Passing operands (plain.Store o mem) mid ⊎ Halting operands (plain.Store o mem)
   store_passes [] mid o mem small f low has m = let e = f.before in absurd cc
@@ -133,14 +112,10 @@ module _ (image : Image) (near : length (code_of_image image) ≤ 2 ^ 26) (few :
       let y_ty : y.ty ≡ store_type o = cc in
       let x_ty : x.ty ≡ I32 = cc in
       let rest : types_of_values below ≡ f.below = cc in
-      stored_passes y x below mid o mem
+      either_passes (y ∷ x ∷ below) (plain.Store o mem) mid
       (store_comes code c labels w base there r.machine.bytes store image.cap locals here r.machine i at r.pages holds y x below o mem y_ty x_ty low m mid (rest ∙ sym f.after) small has near)
 
   -- ---- many bytes
-
-  either_passes : (operands : List Value) (p : Plain) (mid : Types) → Changes (code_of_image image) c labels w base there r.machine.bytes store image.cap r.pages locals operands p mid here r.machine ⊎ Halting operands p → Passing operands p mid ⊎ Halting operands p
-  either_passes operands p mid (inl z) = inl (moved operands p mid z)
-  either_passes operands p mid (inr z) = inr z
 
   bulk_passes : (op : BulkOp) (operands : List Value) (mid : Types) → (nat_lt 0 c.memories && reads_segment c op) ≡ true → MovesFixed (I32 ∷ I32 ∷ I32 ∷ []) [] (types_of_values operands) mid → length operands ≤ w.layout.greatest
       → HasAt (code_of_image image) i (words w (declarations c) labels (length operands) here (Bulk op)) → Holding operands → Passing operands (Bulk op) mid ⊎ Halting operands (Bulk op)
@@ -169,17 +144,19 @@ module _ (image : Image) (near : length (code_of_image image) ≤ 2 ^ 26) (few :
         let hold : Holds (word I32 number) (value I32 number) = record { is = refl; range = small } in
         let matches = put_stands w.layout base there r.machine.bytes locals (x ∷ below) below r.machine g.last.machine (word I32 number) (value I32 number) bytes_are first last hold (omega arith) m m.live.1 in
         record {
-          store_after = after;
-          after = value I32 number ∷ below;
-          gives = gives;
-          types_are = types;
-          calls_stay = calls;
-          replies_stay = replies;
-          globals_stay = ap types_of_values globals;
-          segments_stay = ap length segments;
-          steps = 8;
-          some = omega arith;
-          short = omega arith;
+          change = record {
+            store_after = after;
+            after = value I32 number ∷ below;
+            gives = gives;
+            types_are = types;
+            calls_stay = calls;
+            replies_stay = replies;
+            globals_stay = ap types_of_values globals;
+            segments_stay = ap length segments;
+            steps = 8;
+            some = omega arith;
+            short = omega arith;
+          };
           last = g.last;
           goes = g.goes;
           pc_is = g.pc_is;

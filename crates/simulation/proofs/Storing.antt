@@ -78,11 +78,12 @@ module _ (im : Image) (near : length (code_of_image im) ≤ 2 ^ 26) (inst : Inst
 
     by_effect : (e : Effect) → Whole (above (belows c.frame.labels) e) → Goes mid ⊎ Stops → Goal e
     by_effect (Gives store locals operands) whole_is (inl y) =
-        let same : Gives store locals (operands ++ lower) ≡ Gives y.store_after c.frame.locals y.after = sym whole_is ∙ y.gives in
-        let store_is : y.store_after ≡ store = cc in
+        let z = y.change in
+        let same : Gives store locals (operands ++ lower) ≡ Gives z.store_after c.frame.locals z.after = sym whole_is ∙ z.gives in
+        let store_is : z.store_after ≡ store = cc in
         let locals_are : c.frame.locals ≡ locals = cc in
-        let after_is : y.after ≡ operands ++ lower = cc in
-        let all : types_of_values operands ++ types_of_values lower ≡ mid ++ types_of_values lower = sym (types_append operands lower) ∙ ap types_of_values (sym after_is) ∙ y.types_are in
+        let after_is : z.after ≡ operands ++ lower = cc in
+        let all : types_of_values operands ++ types_of_values lower ≡ mid ++ types_of_values lower = sym (types_append operands lower) ∙ ap types_of_values (sym after_is) ∙ z.types_are in
         let types_are : types_of_values operands ≡ mid = append_cancel_right (types_of_values operands) mid (types_of_values lower) all in
         let owed : bytes_written p (c.frame.operands ++ lower) ≡ bytes_written p c.frame.operands = written_above p c.frame.operands lower step (enough at p c.frame.operands mid step moves) in
         let pc_is = y.pc_is in
@@ -91,9 +92,9 @@ module _ (im : Image) (near : length (code_of_image im) ≤ 2 ^ 26) (inst : Inst
         let here = m.here + length (words k.around (declarations at) labels (length (types_of_values c.frame.operands) + length lower) m.here p) in
         let sits = behind text near inst places outer c r.machine p rest step m mid moves typed in
         record {
-          steps = y.steps;
-          within = omega (arith, y.short, owed);
-          moves = inl y.some;
+          steps = z.steps;
+          within = omega (arith, z.short, owed);
+          moves = inl z.some;
           to = y.last;
           goes = y.goes;
           matches = record {
@@ -104,13 +105,13 @@ module _ (im : Image) (near : length (code_of_image im) ≤ 2 ^ 26) (inst : Inst
                 (subst (λ (ts : Types). SitsAt text inst places k m.running.os (Some (length ts + length lower)) ts here rest m.running.to m.running.there) (sym types_are) sits)
                 m.running.fit;
             store = subst (λ (st : Store). StoreStays im inst places st y.last) store_is
-                (record { calls = y.calls ∙ x.store.calls ∙ sym y.calls_stay; replies = y.replies ∙ x.store.replies ∙ sym y.replies_stay; stands = y.stands; types = record { globals = x.store.types.globals ∙ sym y.globals_stay; segments = subst (λ (n : ℕ). inst.context.segments ≤ n) (sym y.segments_stay) x.store.types.segments }; table = table_kept inst places r.machine.bytes y.last.machine.bytes y.table_stays x.store.table; told = x.store.told });
+                (record { calls = y.calls ∙ x.store.calls ∙ sym z.calls_stay; replies = y.replies ∙ x.store.replies ∙ sym z.replies_stay; stands = y.stands; types = record { globals = x.store.types.globals ∙ sym z.globals_stay; segments = subst (λ (n : ℕ). inst.context.segments ≤ n) (sym z.segments_stay) x.store.types.segments }; table = table_kept inst places r.machine.bytes y.last.machine.bytes y.table_stays x.store.table; told = x.store.told });
             results = y.results ∙ x.results;
             later = subst (AreEntries inst places c.later) (sym y.later) x.later;
           };
         }
     by_effect (Gives store locals operands) whole_is (inr y) = let wrong = sym whole_is ∙ y.gives in absurd cc
-    by_effect (Traps kind) whole_is (inl y) = let wrong = sym whole_is ∙ y.gives in absurd cc
+    by_effect (Traps kind) whole_is (inl y) = let wrong = sym whole_is ∙ y.change.gives in absurd cc
     by_effect (Traps kind) whole_is (inr y) =
         let same : Traps kind ≡ Traps y.kind = sym whole_is ∙ y.gives in
         let kind_is : y.kind ≡ kind = cc in
@@ -119,7 +120,7 @@ module _ (im : Image) (near : length (code_of_image im) ≤ 2 ^ 26) (inst : Inst
           halts_at text inst places outer c.store c.later 128 y.steps r.machine kind (k.begin + m.here) (k.begin + (m.here + y.word)) (place_of c.frame (Simple p rest)) m.at (omega (arith, y.ends))
               (told_now text near inst places outer c r.machine p rest step m y.word y.among) y.short (subst (λ (t : TrapKind). TrapsAt text y.steps y.behind (trap_number t) r.machine) kind_is y.traps),
         )
-    by_effect Fails whole_is (inl y) = let wrong = sym whole_is ∙ y.gives in absurd cc
+    by_effect Fails whole_is (inl y) = let wrong = sym whole_is ∙ y.change.gives in absurd cc
     by_effect Fails whole_is (inr y) = let wrong = sym whole_is ∙ y.gives in absurd cc
 
   pub storing_leads : Leads im inst places outer 128 (ahead (Simple p rest) + labels_ahead c.frame.labels) r (simple inst c p rest)

@@ -7,8 +7,8 @@ use Rattle.std.proofs.lemmas.List.{length-map}
 use Rattle.wasm_defs.specs.declared.context.GlobalType.{GlobalType}
 use Rattle.rv_isa.specs.declared.operations.Op.{Op}
 use Rattle.rv_isa.specs.Steps.{State, Bytes, window, le_bytes}
-use Rattle.rv_isa.specs.Runs.{place, HasAt, AreBytes, FitWindows}
-use Rattle.rv_isa.specs.declared.stepping.Region.TheVariants.{Stack, Globals, Table, Memory, Passive}
+use Rattle.rv_isa.specs.Runs.{place, HasAt, AreBytes}
+use Rattle.rv_isa.specs.declared.stepping.Region.TheVariants.{Globals}
 use Rattle.rv_isa.proofs.ByteLaws.{length-put, length-le_bytes}
 use Rattle.wasm_defs.specs.declared.types.ValType.TheVariants.{I32}
 use Rattle.wasm_defs.specs.declared.value.TrapKind.TheVariants.{MemoryBounds}
@@ -18,18 +18,17 @@ use Rattle.wasm_defs.specs.declared.token.Plain.TheVariants.{Bulk, DataDrop}
 use Rattle.wasm_defs.specs.Typing.{Types, Context, Rule, Moves, only_if, reads_segment}
 use Rattle.wasm_defs.specs.Configurations.{Store}
 use Rattle.wasm_defs.specs.Values.{Value, types_of_values, word}
-use Rattle.wasm_defs.specs.Memory.{page, written_at, filled_at, copied_at}
+use Rattle.wasm_defs.specs.Memory.{page, filled_at, copied_at}
 use Rattle.wasm_defs.specs.Effects.{Gives, Traps, effect, stored, copied}
 use Rattle.frame_layout.specs.Slots.{operand}
 use Rattle.frame_layout.specs.BulkWords.{fill_words, copy_words, init_words, drop_words}
 use Rattle.frame_layout.specs.Templates.{Label, EmitContext, declarations, words}
 use Rattle.frame_layout.specs.Traps.{bulk_places}
 use Rattle.frame_layout.specs.Laws.{slot_at, TrapsAt}
-use Rattle.simulation.specs.Regions.{with_global, with_memory, SegmentStands}
+use Rattle.simulation.specs.Regions.{with_global, SegmentStands}
 use Rattle.simulation.specs.StoreLaws.{WrittenOver}
 use Rattle.simulation.specs.StoreStands.{StoreStands}
-use Rattle.simulation.proofs.Memory.Standing.{written_stands}
-use Rattle.simulation.proofs.Memory.StoreStanding.{store_stored, store_dropped}
+use Rattle.simulation.proofs.Memory.StoreStanding.{store_dropped}
 use Rattle.simulation.specs.BulkLaws.{Writes, Filled, Copied, Inited}
 use Rattle.simulation.proofs.Memory.Bulk.Fill.{fill_law_does}
 use Rattle.simulation.proofs.Memory.Bulk.Copy.{copy_law_does}
@@ -40,7 +39,7 @@ use Rattle.simulation.proofs.Frames.Rules.{types_length}
 use Rattle.simulation.proofs.Frames.Sited.{IsIn}
 use Rattle.simulation.proofs.Frames.Values.{Matches}
 use Rattle.simulation.proofs.Straight.Instructions.{most_steps, Halts}
-use Rattle.simulation.proofs.Straight.Memories.{Changes, beside_matches}
+use Rattle.simulation.proofs.Straight.Memories.{Change, Changes, globals_fit, changed, written_changes}
 use Rattle.simulation.proofs.Straight.Operations.{typed_word, typed_range}
 
 -- ---- what typing says
@@ -61,22 +60,6 @@ length-set (b ∷ xs) (suc x) a = ap suc (length-set xs x a)
 
 globals_count : (c : Context) (store : Store) → StoreFits c store → length c.globals ≡ length store.globals
 globals_count c store fits = omega (arith, ap length fits.globals, length-map c.globals (λ (g : GlobalType). g.ty), types_length store.globals)
-
--- ---- windows
-
-memory_fits : (b : Bytes) (memory : List ℕ) → length (with_memory b memory).memory ≤ window → FitWindows b → FitWindows (with_memory b memory)
-memory_fits b memory small fit Stack = fit Stack
-memory_fits b memory small fit Globals = fit Globals
-memory_fits b memory small fit Table = fit Table
-memory_fits b memory small fit Memory = small
-memory_fits b memory small fit Passive = fit Passive
-
-globals_fit : (b : Bytes) (globals : List ℕ) → length globals ≤ window → FitWindows b → FitWindows (record b { globals = globals })
-globals_fit b globals small fit Stack = fit Stack
-globals_fit b globals small fit Globals = small
-globals_fit b globals small fit Table = fit Table
-globals_fit b globals small fit Memory = fit Memory
-globals_fit b globals small fit Passive = fit Passive
 
 module _ (code : List (Option Op)) (short : length code ≤ 2 ^ 26) (c : Context) (labels : List Label) (w : EmitContext) (base there : ℕ) (b : Bytes) (store : Store)
     (cap : ℕ) (locals : List Value) (here : ℕ) (s : State) (i : ℕ) (at : s.pc ≡ place i) (pages : ℕ) (holds : StoreStands store pages cap s) (fits : StoreFits c store) where
@@ -122,29 +105,7 @@ module _ (code : List (Option Op)) (short : length code ≤ 2 ^ 26) (c : Context
     writes_comes : (op : BulkOp) (mid : Types) (memory : List ℕ) (most : ℕ) → effect store locals cap (Bulk op) (n ∷ v ∷ d ∷ below) ≡ Gives (record store { memory = memory }) locals below → types_of_values below ≡ mid → WrittenOver store.memory memory
         → most ≤ most_steps + 128 * n.number → Writes code most (length (words w (declarations c) labels (suc (suc (suc (length below)))) here (Bulk op))) s memory → Comes op mid
     writes_comes op mid memory most gives types over le x =
-        let d' = x.does in
-        let there' = ap (λ (l : List ℕ). written_at l over.place over.bytes) holds.memory ∙ over.is in
-        let now = written_stands s.bytes pages over.place over.bytes memory holds.regions.whole there' in
-        inl (record {
-          store_after = record store { memory = memory };
-          after = below;
-          gives = gives;
-          types_are = types;
-          calls_stay = refl;
-          replies_stay = refl;
-          globals_stay = refl;
-          segments_stay = refl;
-          steps = x.steps;
-          some = x.some;
-          short = omega (arith, x.within, le);
-          end = d'.end;
-          reaches = d'.reaches;
-          pc_is = d'.pc_is;
-          others = d'.others;
-          matches = beside_matches (with_memory s.bytes memory) refl (memory_fits s.bytes memory (subst (λ (k : ℕ). k ≤ window) (sym now.size) (m.frame.windows Memory)) m.frame.windows) m below m.live.1.1.1 d';
-          table_stays = ap (λ (y : Bytes). y.table) d'.bytes_are;
-          stands = store_stored code store pages cap x.steps (length (words w (declarations c) labels (suc (suc (suc (length below)))) here (Bulk op))) memory s holds over d';
-        })
+        inl (written_changes code c labels w base there b store cap locals here s i at pages holds (n ∷ v ∷ d ∷ below) below (Bulk op) mid memory x.steps gives types x.some (omega (arith, x.within, le)) over m m.live.1.1.1 x.does)
 
     -- or a trap
     traps_comes : (op : BulkOp) (mid : Types) (steps count word : ℕ) → effect store locals cap (Bulk op) (n ∷ v ∷ d ∷ below) ≡ Traps MemoryBounds → steps ≤ 128 → word + 1 ≡ count → IsIn word (bulk_places op) → TrapsAt code steps count 4 s → Comes op mid
@@ -232,7 +193,7 @@ module _ (code : List (Option Op)) (short : length code ≤ 2 ^ 26) (c : Context
       let d = drop_law_does code s i base y pages has' at m.frame holds.regions inside in
       let bytes = with_global s.bytes y 0 in
       let size : length bytes.globals ≡ length s.bytes.globals = length-put 8 (8 * y) s.bytes.globals (le_bytes 8 0) (omega arith) (length-le_bytes 8 0) in
-      record {
+      let change : Change store cap locals operands (DataDrop x) mid = record {
         store_after = record store { segments = slice_set store.segments x [] };
         after = operands;
         gives = rw (lt-ltb x (length store.segments) less) refl;
@@ -244,11 +205,6 @@ module _ (code : List (Option Op)) (short : length code ≤ 2 ^ 26) (c : Context
         steps = 3;
         some = omega arith;
         short = omega arith;
-        end = d.end;
-        reaches = d.reaches;
-        pc_is = d.pc_is;
-        others = d.others;
-        matches = beside_matches bytes refl (globals_fit s.bytes bytes.globals (subst (λ (k : ℕ). k ≤ window) (sym size) (m.frame.windows Globals)) m.frame.windows) m operands m.live d;
-        table_stays = ap (λ (z : Bytes). z.table) d.bytes_are;
-        stands = store_dropped code store pages cap 3 3 x found.0 s holds found.1 d;
-      }
+      } in
+      changed code c labels w base there b store cap locals here s i at pages holds operands (DataDrop x) mid change bytes refl refl (globals_fit s.bytes bytes.globals (subst (λ (k : ℕ). k ≤ window) (sym size) (m.frame.windows Globals)) m.frame.windows) m m.live d
+      (store_dropped code store pages cap 3 3 x found.0 s holds found.1 d)

@@ -30,6 +30,7 @@ use Rattle.frame_layout.specs.Laws.{slot_at, with_slot, is_scratch, Does}
 use Rattle.frame_layout.proofs.Steps.{does_with}
 use Rattle.simulation.specs.Regions.{with_global, with_memory}
 use Rattle.simulation.specs.MemoryLaws.{Loaded, Stored}
+use Rattle.simulation.specs.StoreLaws.{WrittenOver}
 use Rattle.simulation.specs.StoreStands.{StoreStands}
 use Rattle.simulation.proofs.Memory.Globals.{global_get_does, global_set_does}
 use Rattle.simulation.proofs.Memory.Growing.{size_does, pages_now}
@@ -125,8 +126,8 @@ module _ {code : List (Option Op)} {l : Layout} {base there : ℕ} {b : Bytes} {
         low = record { by = λ k less. ap (λ (c : Bytes). slot_at c k) is ∙ slot_kept s.bytes bytes same k ∙ m.low.by k less };
       }
 
-pub record Changes (code : List (Option Op)) (c : Context) (labels : List Label) (w : EmitContext) (base there : ℕ) (b : Bytes) (store : Store) (cap pages : ℕ) (locals operands : List Value) (p : Plain)
-    (mid : Types) (here : ℕ) (s : State) : Type 0 where
+-- what an instruction that changes the store comes to, within so many steps
+pub record Change (store : Store) (cap : ℕ) (locals operands : List Value) (p : Plain) (mid : Types) : Type 0 where
   pub store_after : Store
   pub after : List Value
   pub gives : effect store locals cap p operands ≡ Gives store_after locals after
@@ -138,16 +139,71 @@ pub record Changes (code : List (Option Op)) (c : Context) (labels : List Label)
   pub steps : ℕ
   pub some : 0 < steps
   pub short : steps ≤ most_steps + 128 * bytes_written p operands
+
+pub record Changes (code : List (Option Op)) (c : Context) (labels : List Label) (w : EmitContext) (base there : ℕ) (b : Bytes) (store : Store) (cap pages : ℕ) (locals operands : List Value) (p : Plain)
+    (mid : Types) (here : ℕ) (s : State) : Type 0 where
+  pub change : Change store cap locals operands p mid
   pub end : State
-  pub reaches : Reaches code steps s end
+  pub reaches : Reaches code change.steps s end
   pub pc_is : end.pc ≡ s.pc + 4 * length (words w (declarations c) labels (length operands) here p)
   pub others : (r : ℕ) → is_scratch r ≡ false → reg end.registers r ≡ reg s.registers r
-  pub matches : Matches w.layout base there (record end.bytes { stack = b.stack }) locals after end
+  pub matches : Matches w.layout base there (record end.bytes { stack = b.stack }) locals change.after end
   pub table_stays : end.bytes.table ≡ s.bytes.table
-  pub stands : StoreStands store_after pages cap end
+  pub stands : StoreStands change.store_after pages cap end
+
+pub globals_fit : (b : Bytes) (globals : List ℕ) → length globals ≤ window → FitWindows b → FitWindows (record b { globals = globals })
+globals_fit b globals small fit Stack = fit Stack
+globals_fit b globals small fit Globals = small
+globals_fit b globals small fit Table = fit Table
+globals_fit b globals small fit Memory = fit Memory
+globals_fit b globals small fit Passive = fit Passive
+
+memory_fits : (b : Bytes) (memory : List ℕ) → length (with_memory b memory).memory ≤ window → FitWindows b → FitWindows (with_memory b memory)
+memory_fits b memory small fit Stack = fit Stack
+memory_fits b memory small fit Globals = fit Globals
+memory_fits b memory small fit Table = fit Table
+memory_fits b memory small fit Memory = small
+memory_fits b memory small fit Passive = fit Passive
 
 module _ (code : List (Option Op)) (c : Context) (labels : List Label) (w : EmitContext) (base there : ℕ) (b : Bytes) (store : Store)
     (cap : ℕ) (locals : List Value) (here : ℕ) (s : State) (i : ℕ) (at : s.pc ≡ place i) (pages : ℕ) (holds : StoreStands store pages cap s) where
+  -- words that write the regions beside the stack
+  pub changed : (operands : List Value) (p : Plain) (mid : Types) (x : Change store cap locals operands p mid) (bytes : Bytes) → bytes.stack ≡ s.bytes.stack → bytes.table ≡ s.bytes.table → FitWindows bytes → Matches w.layout base there b locals operands s
+      → Operands s.bytes (base + operand w.layout 0) x.after → (d : Does code x.steps (length (words w (declarations c) labels (length operands) here p)) s bytes) → StoreStands x.store_after pages cap d.end → Changes code c labels w base there b store cap pages locals operands p mid here s
+  changed operands p mid x bytes stack table fit m live d stands = record {
+    change = x;
+    end = d.end;
+    reaches = d.reaches;
+    pc_is = d.pc_is;
+    others = d.others;
+    matches = beside_matches bytes stack fit m x.after live d;
+    table_stays = ap (λ (y : Bytes). y.table) d.bytes_are ∙ table;
+    stands = stands;
+  }
+
+  -- words that write bytes of the memory
+  pub written_changes : (operands below : List Value) (p : Plain) (mid : Types) (memory : List ℕ) (steps : ℕ) → effect store locals cap p operands ≡ Gives (record store { memory = memory }) locals below → types_of_values below ≡ mid → 0 < steps → steps ≤ most_steps + 128 * bytes_written p operands
+      → WrittenOver store.memory memory → Matches w.layout base there b locals operands s → Operands s.bytes (base + operand w.layout 0) below → Does code steps (length (words w (declarations c) labels (length operands) here p)) s (with_memory s.bytes memory)
+      → Changes code c labels w base there b store cap pages locals operands p mid here s
+  written_changes operands below p mid memory steps gives types some short over m live d =
+      let is = ap (λ (l : List ℕ). written_at l over.place over.bytes) holds.memory ∙ over.is in
+      let now = written_stands s.bytes pages over.place over.bytes memory holds.regions.whole is in
+      let x : Change store cap locals operands p mid = record {
+        store_after = record store { memory = memory };
+        after = below;
+        gives = gives;
+        types_are = types;
+        calls_stay = refl;
+        replies_stay = refl;
+        globals_stay = refl;
+        segments_stay = refl;
+        steps = steps;
+        some = some;
+        short = short;
+      } in
+      changed operands p mid x (with_memory s.bytes memory) refl refl (memory_fits s.bytes memory (subst (λ (n : ℕ). n ≤ window) (sym now.size) (m.frame.windows Memory)) m.frame.windows) m live d
+      (store_stored code store pages cap steps (length (words w (declarations c) labels (length operands) here p)) memory s holds over d)
+
   -- a global of the value's type
   pub global_set_changes : (v u : Value) (below : List Value) (mid : Types) (x : ℕ) → slice_get store.globals x ≡ Some u → v.ty ≡ u.ty → types_of_values below ≡ mid → suc (length below) ≤ w.layout.greatest
       → HasAt code i (global_set_words w (suc (length below)) x) → Matches w.layout base there b locals (v ∷ below) s → Changes code c labels w base there b store cap pages locals (v ∷ below) (GlobalSet x) mid here s
@@ -160,7 +216,7 @@ module _ (code : List (Option Op)) (c : Context) (labels : List Label) (w : Emit
       let d = does_with (ap (with_global s.bytes x) word_is) (global_set_does w code s i base (suc (length below)) x pages has at m.frame holds.regions inside (omega arith)) in
       let bytes = with_global s.bytes x (word_of v) in
       let size : length bytes.globals ≡ length s.bytes.globals = length-put 8 (8 * x) s.bytes.globals (le_bytes 8 (word_of v)) (omega arith) (length-le_bytes 8 (word_of v)) in
-      record {
+      let change : Change store cap locals (v ∷ below) (GlobalSet x) mid = record {
         store_after = record store { globals = slice_set store.globals x v };
         after = below;
         gives = rw (lt-ltb x (length store.globals) within) refl;
@@ -172,58 +228,19 @@ module _ (code : List (Option Op)) (c : Context) (labels : List Label) (w : Emit
         steps = 6;
         some = omega arith;
         short = omega arith;
-        end = d.end;
-        reaches = d.reaches;
-        pc_is = d.pc_is;
-        others = d.others;
-        matches = beside_matches bytes refl (fits bytes (subst (λ (n : ℕ). n ≤ window) (sym size) (m.frame.windows Globals)) m.frame.windows) m below m.live.1 d;
-        table_stays = ap (λ (c : Bytes). c.table) d.bytes_are;
-        stands = store_set code store pages cap 6 6 x v s holds within m.live.0.range d;
-      }
-    where
-      fits : (bytes : Bytes) → length bytes.globals ≤ window → FitWindows s.bytes → FitWindows (record s.bytes { globals = bytes.globals })
-      fits bytes small fit Stack = fit Stack
-      fits bytes small fit Globals = small
-      fits bytes small fit Table = fit Table
-      fits bytes small fit Memory = fit Memory
-      fits bytes small fit Passive = fit Passive
+      } in
+      changed (v ∷ below) (GlobalSet x) mid change bytes refl refl (globals_fit s.bytes bytes.globals (subst (λ (n : ℕ). n ≤ window) (sym size) (m.frame.windows Globals)) m.frame.windows) m m.live.1 d
+      (store_set code store pages cap 6 6 x v s holds within m.live.0.range d)
 
   module _ (y x : Value) (below : List Value) (o : StoreOp) (mem : MemArg) (y_ty : y.ty ≡ store_type o) (x_ty : x.ty ≡ I32) (high : suc (suc (length below)) ≤ w.layout.greatest) (m : Matches w.layout base there b locals (y ∷ x ∷ below) s) where
     abbrev Comes : Types → Type 0
     Comes mid = Changes code c labels w base there b store cap pages locals (y ∷ x ∷ below) (plain.Store o mem) mid here s ⊎ Halts code store cap locals (y ∷ x ∷ below) (plain.Store o mem) s
 
-    fits : (memory : List ℕ) → length (with_memory s.bytes memory).memory ≤ window → FitWindows s.bytes → FitWindows (with_memory s.bytes memory)
-    fits memory small fit Stack = fit Stack
-    fits memory small fit Globals = fit Globals
-    fits memory small fit Table = fit Table
-    fits memory small fit Memory = small
-    fits memory small fit Passive = fit Passive
-
     stored_comes : (mid : Types) (r : Option (List ℕ)) → types_of_values below ≡ mid → written_at store.memory (x.number + mem.offset) (bytes_of (store_count o) y.number) ≡ r → Stored code s r → Comes mid
     stored_comes mid None types e traps = inr (record { kind = MemoryBounds; gives = ap (stored store locals below) e; steps = 16; short = omega arith; behind = 16; traps = traps; word = 15; ends = refl; among = inl refl })
     stored_comes mid (Some memory) types e d =
-        let there = ap (λ (l : List ℕ). written_at l (x.number + mem.offset) (bytes_of (store_count o) y.number)) holds.memory ∙ e in
-        let now = written_stands s.bytes pages (x.number + mem.offset) (bytes_of (store_count o) y.number) memory holds.regions.whole there in
-        inl (record {
-          store_after = record store { memory = memory };
-          after = below;
-          gives = ap (stored store locals below) e;
-          types_are = types;
-          calls_stay = refl;
-          replies_stay = refl;
-          globals_stay = refl;
-          segments_stay = refl;
-          steps = 18;
-          some = omega arith;
-          short = omega arith;
-          end = d.end;
-          reaches = d.reaches;
-          pc_is = d.pc_is;
-          others = d.others;
-          matches = beside_matches (with_memory s.bytes memory) refl (fits memory (subst (λ (n : ℕ). n ≤ window) (sym now.size) (m.frame.windows Memory)) m.frame.windows) m below m.live.1.1 d;
-          table_stays = ap (λ (c : Bytes). c.table) d.bytes_are;
-          stands = store_stored code store pages cap 18 21 memory s holds (record { place = x.number + mem.offset; bytes = bytes_of (store_count o) y.number; sound = bytes_of_are (store_count o) y.number; is = e }) d;
-        })
+        let over : WrittenOver store.memory memory = record { place = x.number + mem.offset; bytes = bytes_of (store_count o) y.number; sound = bytes_of_are (store_count o) y.number; is = e } in
+        inl (written_changes (y ∷ x ∷ below) below (plain.Store o mem) mid memory 18 (ap (stored store locals below) e) types (omega arith) (omega arith) over m m.live.1.1 d)
 
     pub store_comes : (mid : Types) → types_of_values below ≡ mid → mem.offset < 2 ^ 32 → HasAt code i (store_words w (suc (suc (length below))) o mem.offset) → length code ≤ 2 ^ 26 → Comes mid
     store_comes mid types small has short =
