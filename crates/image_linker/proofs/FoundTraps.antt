@@ -12,7 +12,7 @@ use Rattle.wasm_defs.specs.declared.token.Plain.{Plain}
 use Rattle.wasm_defs.specs.declared.token.Plain.TheVariants.{Br, BrIf, BrTable, Return, Bulk, Const, Numeric}
 use Rattle.wasm_defs.specs.Configurations.{Origin}
 use Rattle.wasm_defs.specs.Trees.{Seq, Nothing, Simple, Block, Loop, If, IfElse, tokens_in}
-use Rattle.wasm_defs.specs.Typing.{Context, inside, rule_of}
+use Rattle.wasm_defs.specs.Typing.{Types, Context, inside, rule_of}
 use Rattle.wasm_defs.specs.Places.{Place, after_rule, shape, after_block, after_if, end_of}
 use Rattle.wasm_defs.proofs.EachOperation.{each_same}
 use Rattle.frame_layout.specs.declared.layout.Layout.{Layout}
@@ -172,6 +172,22 @@ module _ (w : EmitContext) (distance_to : ℕ → ℕ → ℕ) where
   abbrev away : EmitContext
   away = record w { distance_to = distance_to }
 
+  -- a block, whose label takes these and leads to this place, and what is behind it
+  block_found : (c : Context) (labels others : List Label) → taken_by labels ≡ taken_by others → (takes : Types) (base place end : ℕ) (next : Place) (body rest : Seq) (h here n behind : ℕ)
+      → ((inner counted : List Label) → taken_by inner ≡ taken_by counted → (left : ℕ) → Finds n (code w (inside c takes) inner (Some h) here body) (places_of (traps away (inside c takes) counted (Some h) n left body)))
+      → ((there : ℕ) → Finds there (code w c labels next end rest) (places_of (traps away c others next there behind rest)))
+      → Finds n (code w (inside c takes) (label base (length takes) place ∷ labels) (Some h) here body ++ code w c labels next end rest)
+      (places_of (traps away (inside c takes) (label base (length takes) 0 ∷ others) (Some h) n (1 + tokens_in rest + behind) body ++ traps away c others next (n + size away (inside c takes) (label base (length takes) 0 ∷ others) (Some h) body) behind rest))
+  block_found c labels others same takes base place end next body rest h here n behind own later =
+      let within = inside c takes in
+      let inner = label base (length takes) place ∷ labels in
+      let counted = label base (length takes) 0 ∷ others in
+      let alike = ap (λ (ns : List ℕ). length takes ∷ ns) same in
+      let there = n + size away within counted (Some h) body in
+      let left = 1 + tokens_in rest + behind in
+      both_traps n there (code w within inner (Some h) here body) (code w c labels next end rest) (traps away within counted (Some h) n left body) (traps away c others next there behind rest)
+      (ap (λ (k : ℕ). n + k) (code_size w distance_to within inner counted alike body (Some h) here)) (own inner counted alike left) (later there)
+
   tree_found : (c : Context) (labels others : List Label) → taken_by labels ≡ taken_by others → (tree : Seq) (place : Place) (here n behind : ℕ)
       → Finds n (code w c labels place here tree) (places_of (traps away c others place n behind tree))
   tree_found c labels others same tree None here n behind = record { found_is = refl; ends = refl }
@@ -186,52 +202,23 @@ module _ (w : EmitContext) (distance_to : ℕ → ℕ → ℕ) where
       (ap (λ (k : ℕ). n + k) (words_size w distance_to (declarations c) labels others same h here p)) own (tree_found c labels others same rest next (here + length first) there behind)
   tree_found c labels others same (Block type body rest) (Some h) here n behind =
       let s = shape c type in
-      let within = inside c s.results in
       let base = h - length s.params in
-      let k = length s.results in
-      let end = here + size w within (label base k 0 ∷ labels) (Some h) body in
-      let inner = label base k end ∷ labels in
-      let counted = label base k 0 ∷ others in
-      let alike = ap (λ (ns : List ℕ). k ∷ ns) same in
-      let there = n + size away within counted (Some h) body in
-      let left = 1 + tokens_in rest + behind in
-      both_traps n there (code w within inner (Some h) here body) (code w c labels (after_block s (Some h)) end rest)
-      (traps away within counted (Some h) n left body) (traps away c others (after_block s (Some h)) there behind rest)
-      (ap (λ (k : ℕ). n + k) (code_size w distance_to within inner counted alike body (Some h) here))
-      (tree_found within inner counted alike body (Some h) here n left) (tree_found c labels others same rest (after_block s (Some h)) end there behind)
+      let end = here + size w (inside c s.results) (label base (length s.results) 0 ∷ labels) (Some h) body in
+      block_found c labels others same s.results base end end (after_block s (Some h)) body rest h here n behind
+      (λ inner counted alike left. tree_found (inside c s.results) inner counted alike body (Some h) here n left) (λ there. tree_found c labels others same rest (after_block s (Some h)) end there behind)
   tree_found c labels others same (Loop type body rest) (Some h) here n behind =
       let s = shape c type in
-      let within = inside c s.params in
       let base = h - length s.params in
-      let k = length s.params in
-      let inner = label base k here ∷ labels in
-      let end = here + size w within inner (Some h) body in
-      let counted = label base k 0 ∷ others in
-      let alike = ap (λ (ns : List ℕ). k ∷ ns) same in
-      let there = n + size away within counted (Some h) body in
-      let left = 1 + tokens_in rest + behind in
-      both_traps n there (code w within inner (Some h) here body) (code w c labels (after_block s (Some h)) end rest)
-      (traps away within counted (Some h) n left body) (traps away c others (after_block s (Some h)) there behind rest)
-      (ap (λ (k : ℕ). n + k) (code_size w distance_to within inner counted alike body (Some h) here))
-      (tree_found within inner counted alike body (Some h) here n left) (tree_found c labels others same rest (after_block s (Some h)) end there behind)
+      let end = here + size w (inside c s.params) (label base (length s.params) here ∷ labels) (Some h) body in
+      block_found c labels others same s.params base here end (after_block s (Some h)) body rest h here n behind
+      (λ inner counted alike left. tree_found (inside c s.params) inner counted alike body (Some h) here n left) (λ there. tree_found c labels others same rest (after_block s (Some h)) end there behind)
   tree_found c labels others same (If type body rest) (Some h) here n behind =
       let s = shape c type in
-      let within = inside c s.results in
       let base = h - 1 - length s.params in
-      let k = length s.results in
-      let end = here + 6 + size w within (label base k 0 ∷ labels) (Some (h - 1)) body in
-      let inner = label base k end ∷ labels in
-      let counted = label base k 0 ∷ others in
-      let alike = ap (λ (ns : List ℕ). k ∷ ns) same in
-      let there = n + 6 + size away within counted (Some (h - 1)) body in
-      let left = 1 + tokens_in rest + behind in
-      let first = code w within inner (Some (h - 1)) (here + 6) body in
-      let more = code w c labels (after_if s (Some h)) end rest in
-      let own = traps away within counted (Some (h - 1)) (n + 6) left body in
-      let later = traps away c others (after_if s (Some h)) there behind rest in
-      both_traps n (n + 6) (test_words w h here end) (first ++ more) [] (own ++ later) refl (test_silent w h here end n)
-      (both_traps (n + 6) there first more own later (ap (λ (k : ℕ). n + 6 + k) (code_size w distance_to within inner counted alike body (Some (h - 1)) (here + 6)))
-      (tree_found within inner counted alike body (Some (h - 1)) (here + 6) (n + 6) left) (tree_found c labels others same rest (after_if s (Some h)) end there behind))
+      let end = here + 6 + size w (inside c s.results) (label base (length s.results) 0 ∷ labels) (Some (h - 1)) body in
+      both_traps n (n + 6) (test_words w h here end) _ [] _ refl (test_silent w h here end n)
+      (block_found c labels others same s.results base end end (after_if s (Some h)) body rest (h - 1) (here + 6) (n + 6) behind
+      (λ inner counted alike left. tree_found (inside c s.results) inner counted alike body (Some (h - 1)) (here + 6) (n + 6) left) (λ there. tree_found c labels others same rest (after_if s (Some h)) end there behind))
   tree_found c labels others same (IfElse type body other rest) (Some h) here n behind =
       let s = shape c type in
       let within = inside c s.results in
@@ -247,22 +234,16 @@ module _ (w : EmitContext) (distance_to : ℕ → ℕ → ℕ) where
       let alike = ap (λ (ns : List ℕ). k ∷ ns) same in
       let over_at = n + 6 + size away within counted (Some (h - 1)) body in
       let second_at = over_at + length (over live 0 0) in
-      let there = second_at + size away within counted (Some (h - 1)) other in
       let one_left = 2 + tokens_in other + tokens_in rest + behind in
-      let two_left = 1 + tokens_in rest + behind in
       let one = code w within inner (Some (h - 1)) (here + 6) body in
       let jump = over live first_end end in
-      let two = code w within inner (Some (h - 1)) second other in
-      let more = code w c labels (after_if s (Some h)) end rest in
       let one_traps = traps away within counted (Some (h - 1)) (n + 6) one_left body in
-      let two_traps = traps away within counted (Some (h - 1)) second_at two_left other in
-      let later = traps away c others (after_if s (Some h)) there behind rest in
-      both_traps n (n + 6) (test_words w h here second) (one ++ (jump ++ (two ++ more))) [] (one_traps ++ (two_traps ++ later)) refl (test_silent w h here second n)
-      (both_traps (n + 6) over_at one (jump ++ (two ++ more)) one_traps (two_traps ++ later) (ap (λ (k : ℕ). n + 6 + k) (code_size w distance_to within inner counted alike body (Some (h - 1)) (here + 6)))
+      both_traps n (n + 6) (test_words w h here second) _ [] _ refl (test_silent w h here second n)
+      (both_traps (n + 6) over_at one _ one_traps _ (ap (λ (k : ℕ). n + 6 + k) (code_size w distance_to within inner counted alike body (Some (h - 1)) (here + 6)))
       (tree_found within inner counted alike body (Some (h - 1)) (here + 6) (n + 6) one_left)
-      (both_traps over_at second_at jump (two ++ more) [] (two_traps ++ later) (ap (λ (k : ℕ). over_at + k) (over_size w distance_to live first_end end)) (over_silent w live first_end end over_at)
-      (both_traps second_at there two more two_traps later (ap (λ (k : ℕ). second_at + k) (code_size w distance_to within inner counted alike other (Some (h - 1)) second))
-      (tree_found within inner counted alike other (Some (h - 1)) second second_at two_left) (tree_found c labels others same rest (after_if s (Some h)) end there behind))))
+      (both_traps over_at second_at jump _ [] _ (ap (λ (k : ℕ). over_at + k) (over_size w distance_to live first_end end)) (over_silent w live first_end end over_at)
+      (block_found c labels others same s.results base end end (after_if s (Some h)) other rest (h - 1) second second_at behind
+      (λ inner counted alike left. tree_found within inner counted alike other (Some (h - 1)) second second_at left) (λ there. tree_found c labels others same rest (after_if s (Some h)) end there behind))))
 
 -- ---- functions and stubs
 
