@@ -149,6 +149,15 @@ module _ (i : Context) where
   end_up c (IfElse type body other rest) most p same few h up =
       up_more (most + max_lift + max_lift * tokens_in rest) (most + max_lift * (3 + tokens_in body + tokens_in other + tokens_in rest)) _ (omega arith) (end_up c rest (most + max_lift) (after_if (shape c type) p) same few h.3 (moved_up (suc (length (shape c type).params)) (length (shape c type).results) most p (taking c type same h.0).1 up))
 
+  -- the points of a block, whose label takes these, and those behind it
+  block_low : (c : Context) (takes : Types) → length takes ≤ max_lift → (body : Seq) (most k : ℕ) (p : Place) (behind : List Place) → c.types ≡ i.types → FewIn c → IsFew i body → IsUpTo most p → most + max_lift * tokens_in body ≤ k
+      → (FewIn (inside c takes) → (xs : List Place) → greatest xs ≤ k → greatest (places (inside c takes) body p xs) ≤ k) → greatest behind ≤ k
+      → greatest (places (inside c takes) body p (end_of (inside c takes) body p ∷ behind)) ≤ k
+  block_low c takes one body most k p behind same few h up le own below =
+      let within = inside c takes in
+      let few' = few_inside c takes one few in
+      own few' (end_of within body p ∷ behind) (higher_up_to (most + max_lift * tokens_in body) _ k (end_of within body p) (end_up within body most p same few' h up) le below)
+
   -- no point is higher than what comes before and after, and the tokens
   pub tree_low : (c : Context) (tree : Seq) (most k : ℕ) (p : Place) (xs : List Place) → c.types ≡ i.types → FewIn c → IsFew i tree → IsUpTo most p → most + max_lift * tokens_in tree ≤ k → greatest xs ≤ k → greatest (places c tree p xs) ≤ k
   tree_low c Nothing most k p xs same few h up le below = below
@@ -157,41 +166,32 @@ module _ (i : Context) where
   tree_low c (Block type body rest) most k p xs same few h up le below =
       let s = shape c type in
       let one = taking c type same h.0 in
-      let within = inside c s.results in
-      let few' = few_inside c s.results one.1 few in
-      let behind = tree_low c rest (most + max_lift) k (after_block s p) xs same few h.2 (moved_up (length s.params) (length s.results) most p one.1 up) (omega arith) below in
-      higher_up_to most _ k p up (omega arith) (tree_low within body most k p (end_of within body p ∷ places c rest (after_block s p) xs) same few' h.1 up (omega arith)
-      (higher_up_to (most + max_lift * tokens_in body) _ k (end_of within body p) (end_up within body most p same few' h.1 up) (omega arith) behind))
+      higher_up_to most _ k p up (omega arith)
+      (block_low c s.results one.1 body most k p _ same few h.1 up (omega arith) (λ few' ys. tree_low (inside c s.results) body most k p ys same few' h.1 up (omega arith))
+      (tree_low c rest (most + max_lift) k (after_block s p) xs same few h.2 (moved_up (length s.params) (length s.results) most p one.1 up) (omega arith) below))
   tree_low c (Loop type body rest) most k p xs same few h up le below =
       let s = shape c type in
       let one = taking c type same h.0 in
-      let within = inside c s.params in
-      let few' = few_inside c s.params one.0 few in
-      let behind = tree_low c rest (most + max_lift) k (after_block s p) xs same few h.2 (moved_up (length s.params) (length s.results) most p one.1 up) (omega arith) below in
-      higher_up_to most _ k p up (omega arith) (tree_low within body most k p (end_of within body p ∷ places c rest (after_block s p) xs) same few' h.1 up (omega arith)
-      (higher_up_to (most + max_lift * tokens_in body) _ k (end_of within body p) (end_up within body most p same few' h.1 up) (omega arith) behind))
+      higher_up_to most _ k p up (omega arith)
+      (block_low c s.params one.0 body most k p _ same few h.1 up (omega arith) (λ few' ys. tree_low (inside c s.params) body most k p ys same few' h.1 up (omega arith))
+      (tree_low c rest (most + max_lift) k (after_block s p) xs same few h.2 (moved_up (length s.params) (length s.results) most p one.1 up) (omega arith) below))
   tree_low c (If type body rest) most k p xs same few h up le below =
       let s = shape c type in
       let one = taking c type same h.0 in
-      let within = inside c s.results in
-      let few' = few_inside c s.results one.1 few in
       let first = moved 1 0 p in
       let up' = moved_up 1 0 most p (omega arith) up in
-      let behind = tree_low c rest (most + max_lift) k (after_if s p) xs same few h.2 (moved_up (suc (length s.params)) (length s.results) most p one.1 up) (omega arith) below in
-      higher_up_to most _ k p up (omega arith) (tree_low within body (most + max_lift) k first (end_of within body first ∷ places c rest (after_if s p) xs) same few' h.1 up' (omega arith)
-      (higher_up_to (most + max_lift + max_lift * tokens_in body) _ k (end_of within body first) (end_up within body (most + max_lift) first same few' h.1 up') (omega arith) behind))
+      higher_up_to most _ k p up (omega arith)
+      (block_low c s.results one.1 body (most + max_lift) k first _ same few h.1 up' (omega arith) (λ few' ys. tree_low (inside c s.results) body (most + max_lift) k first ys same few' h.1 up' (omega arith))
+      (tree_low c rest (most + max_lift) k (after_if s p) xs same few h.2 (moved_up (suc (length s.params)) (length s.results) most p one.1 up) (omega arith) below))
   tree_low c (IfElse type body other rest) most k p xs same few h up le below =
       let s = shape c type in
       let one = taking c type same h.0 in
-      let within = inside c s.results in
-      let few' = few_inside c s.results one.1 few in
       let first = moved 1 0 p in
       let up' = moved_up 1 0 most p (omega arith) up in
-      let behind = tree_low c rest (most + max_lift) k (after_if s p) xs same few h.3 (moved_up (suc (length s.params)) (length s.results) most p one.1 up) (omega arith) below in
-      let second = tree_low within other (most + max_lift) k first (end_of within other first ∷ places c rest (after_if s p) xs) same few' h.2 up' (omega arith)
-      (higher_up_to (most + max_lift + max_lift * tokens_in other) _ k (end_of within other first) (end_up within other (most + max_lift) first same few' h.2 up') (omega arith) behind) in
-      higher_up_to most _ k p up (omega arith) (tree_low within body (most + max_lift) k first (end_of within body first ∷ places within other first (end_of within other first ∷ places c rest (after_if s p) xs)) same few' h.1 up' (omega arith)
-      (higher_up_to (most + max_lift + max_lift * tokens_in body) _ k (end_of within body first) (end_up within body (most + max_lift) first same few' h.1 up') (omega arith) second))
+      higher_up_to most _ k p up (omega arith)
+      (block_low c s.results one.1 body (most + max_lift) k first _ same few h.1 up' (omega arith) (λ few' ys. tree_low (inside c s.results) body (most + max_lift) k first ys same few' h.1 up' (omega arith))
+      (block_low c s.results one.1 other (most + max_lift) k first _ same few h.2 up' (omega arith) (λ few' ys. tree_low (inside c s.results) other (most + max_lift) k first ys same few' h.2 up' (omega arith))
+      (tree_low c rest (most + max_lift) k (after_if s p) xs same few h.3 (moved_up (suc (length s.params)) (length s.results) most p one.1 up) (omega arith) below)))
 
   -- so is a body
   pub body_low : (c : Context) (tree : Seq) → c.types ≡ i.types → FewIn (inside c c.results) → IsFew i tree → greatest (places_of c tree) ≤ max_lift * tokens_in tree
