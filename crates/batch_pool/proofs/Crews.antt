@@ -1,5 +1,5 @@
 -- Seats of several lanes, parts of which are split off and joined.
-use Rattle.std.proofs.Common.{◌≡◌, ◌≢◌, ◌<◌, ◌≤◌, ◌+◌, ◌-◌, ◌⊎◌, inl, inr, ℕ, zero, suc, Bool, false, List, [], ◌∷◌, ◌++◌, length, get_or, All, Some, None, slice_get, refl, sym, ap, ◌∙◌, subst, arith, length-append}
+use Rattle.std.proofs.Common.{◌≡◌, ◌≢◌, ◌<◌, ◌≤◌, ◌+◌, ◌-◌, ◌⊎◌, inl, inr, ℕ, Bool, false, List, [], ◌∷◌, ◌++◌, length, get_or, All, Some, None, slice_get, refl, sym, ap, ◌∙◌, subst, arith, length-append}
 use mathlib.Core.Logic.{dite}
 use native.Mathlib.Decide.{ℕ_discrete}
 use Rattle.std.proofs.Math.ListN.{set, length-set}
@@ -18,30 +18,9 @@ use Rattle.batch_pool.specs.Gathering.{IsFresh, Gathers}
 use Rattle.batch_pool.specs.Working.{IsWorked, Grows}
 use Rattle.batch_pool.specs.Lanes.{AreSeated, AreFresh, Each, Works, Runs, IsWorkedMany, GathersIn, HaveParts, HaveRoom, IsFed}
 use Rattle.batch_pool.specs.Crews.{Splits, IsOfCrew}
+use Rattle.batch_pool.proofs.Elements.{some_one, element_at, slice_set_same, slice_set_other, slice_front, slice_next, slice_push}
 use Rattle.batch_pool.proofs.GatheringLaws.{gathers_same, gathers_trans, gathers_split}
-use Rattle.batch_pool.proofs.Seats.{slice_set_same, slice_set_other, some_one, element_at, each_same, each_trans, seated_on}
-
--- ---- lists
-
--- an element of a list with one more
-slice_push : {X : Type 0} (xs : List X) (x y : X) (i : ℕ) → slice_get (xs ++ x ∷ []) i ≡ Some y → (slice_get xs i ≡ Some y) ⊎ ((i ≡ length xs) × (x ≡ y))
-slice_push [] x y zero at = inr (refl, cc)
-slice_push [] x y (suc i) at = absurd cc
-slice_push (z ∷ xs) x y zero at = inl at
-slice_push (z ∷ xs) x y (suc i) at = of (slice_push xs x y i at)
-  where
-    of : (slice_get xs i ≡ Some y) ⊎ ((i ≡ length xs) × (x ≡ y)) → (slice_get xs i ≡ Some y) ⊎ ((suc i ≡ suc (length xs)) × (x ≡ y))
-    of (inl h) = inl h
-    of (inr h) = inr (ap suc h.0, h.1)
-
-slice_front : {X : Type 0} (xs ys : List X) (x : X) (i : ℕ) → slice_get xs i ≡ Some x → slice_get (xs ++ ys) i ≡ Some x
-slice_front [] ys x i at = absurd cc
-slice_front (z ∷ xs) ys x zero at = at
-slice_front (z ∷ xs) ys x (suc i) at = slice_front xs ys x i at
-
-slice_last : {X : Type 0} (xs : List X) (x : X) → slice_get (xs ++ x ∷ []) (length xs) ≡ Some x
-slice_last [] x = refl
-slice_last (z ∷ xs) x = slice_last xs x
+use Rattle.batch_pool.proofs.Seats.{each_same, each_trans, seated_on}
 
 -- ---- one lane
 
@@ -232,7 +211,7 @@ module _ (lanes : List Lane) where
       let few = h.few in record {
         lane = slice_get_read lanes (length lanes) k l refl (omega arith) lane;
         was = partly_at (GathersIn 1) (λ i. length left ≤ i) k old new s h.partly (λ over. absurd (omega arith)) (omega arith) is;
-        other = h.are k t (ap (λ (x : List LaneSeat). slice_get x k) last ∙ subst (λ (j : ℕ). slice_get (left' ++ t ∷ []) j ≡ Some t) (sym same) (slice_last left' t));
+        other = h.are k t (ap (λ (x : List LaneSeat). slice_get x k) last ∙ subst (λ (j : ℕ). slice_get (left' ++ t ∷ []) j ≡ Some t) (sym same) (slice_next left' [] t));
       }
 
   pub taken_steps : (left left' others old new new' : List LaneSeat) (s s' t : LaneSeat) (l : Lane) (k : ℕ) → HasTaken left others old new → left ≡ left' ++ t ∷ [] → k ≡ length left' → IsNextIn k others old l s t → GathersIn 1 l s s' → new' ≡ set new k s'

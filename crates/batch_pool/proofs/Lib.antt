@@ -1,6 +1,7 @@
 pub mod AfterReading
 pub mod Complete
 pub mod Crews
+pub mod Elements
 pub mod GatheringLaws
 pub mod Handing
 pub mod Moves

@@ -1,5 +1,5 @@
 -- What serving a ticket of one lane does at its seat, and to the others.
-use Rattle.std.proofs.Common.{◌≡◌, ◌≢◌, ◌<◌, ◌+◌, inl, inr, ℕ, zero, suc, List, [], ◌∷◌, ◌++◌, length, All, Some, slice_get, Result, Ok, Err, refl, sym, ap, ◌∙◌, subst, arith, append_assoc}
+use Rattle.std.proofs.Common.{◌≡◌, ◌≢◌, ◌+◌, inl, inr, ℕ, zero, suc, List, [], ◌∷◌, ◌++◌, length, All, Some, slice_get, Result, Ok, Err, refl, sym, ap, ◌∙◌, subst, arith, append_assoc}
 use Rattle.std.specs.Prelude.{OnOk}
 use mathlib.Core.Logic.{dite}
 use native.Mathlib.Decide.{ℕ_discrete}
@@ -14,30 +14,9 @@ use Rattle.batch_pool.specs.declared.lanes.lane.LaneSeat.{LaneSeat}
 use Rattle.batch_pool.specs.Hands.{Holder, queues}
 use Rattle.batch_pool.specs.Working.{Took}
 use Rattle.batch_pool.specs.Lanes.{AreSeated, AreApart, Each, Works, Runs, Serves, AddsIn, AddsOf, IsOfModule}
+use Rattle.batch_pool.proofs.Elements.{some_one, element_at, slice_set_same, slice_set_other}
 use Rattle.batch_pool.proofs.Served.{grows_same, grows_trans, served_stays, served_later}
 use Rattle.batch_pool.proofs.Turns.{Gives, CountsStay, took_more, later_counts}
-
--- ---- lists
-
-pub slice_set_same : {X : Type 0} (xs : List X) (k : ℕ) (x : X) → k < length xs → slice_get (set xs k x) k ≡ Some x
-slice_set_same [] k x in' = absurd (omega arith)
-slice_set_same (y ∷ xs) zero x in' = refl
-slice_set_same (y ∷ xs) (suc k) x in' = slice_set_same xs k x (omega arith)
-
-pub slice_set_other : {X : Type 0} (xs : List X) (j k : ℕ) (x : X) → j ≢ k → slice_get (set xs k x) j ≡ slice_get xs j
-slice_set_other [] j k x other = refl
-slice_set_other (y ∷ xs) zero zero x other = absurd (other refl)
-slice_set_other (y ∷ xs) zero (suc k) x other = refl
-slice_set_other (y ∷ xs) (suc j) zero x other = refl
-slice_set_other (y ∷ xs) (suc j) (suc k) x other = slice_set_other xs j k x (λ e. other (ap suc e))
-
-pub some_one : {X : Type 0} (xs : List X) (k : ℕ) (x y : X) → slice_get xs k ≡ Some x → slice_get xs k ≡ Some y → x ≡ y
-some_one xs k x y a b = cc
-
-pub element_at : {X : Type 0} (xs : List X) (k : ℕ) → k < length xs → (x : X) × (slice_get xs k ≡ Some x)
-element_at [] k in' = absurd (omega arith)
-element_at (x ∷ xs) zero in' = (x, refl)
-element_at (x ∷ xs) (suc k) in' = element_at xs k (omega arith)
 
 pub on_ok : {X Y : Type 0} (r : Result X Y) (P Q : Type 0) → (P → Q) → OnOk r P → OnOk r Q
 on_ok (Ok x) P Q f p = f p

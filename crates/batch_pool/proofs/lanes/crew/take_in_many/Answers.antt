@@ -1,6 +1,6 @@
 use Rattle.std.proofs.Common.{rules, ◌≡◌, ◌∙◌, length, refl, sym, arith}
 use Rattle.batch_pool.specs.declared.lanes.lane.LaneSeat.{LaneSeat}
-use Rattle.batch_pool.proofs.Seats.{element_at}
+use Rattle.batch_pool.proofs.Elements.{element_at}
 use Rattle.batch_pool.proofs.Crews.{worked_at, taken_begins, taken_next, taken_steps, taken_each, taken_seated}
 use Rattle.std.proofs.lemmas.Option.{slice_get_within}
 use Rattle.batch_pool.proofs.lanes.crew.take_in_many.Goals as goal

@@ -4,7 +4,8 @@ use Rattle.std.proofs.lemmas.Option.{slice_get_within, slice_get_read}
 use Rattle.batch_pool.specs.declared.lanes.lane.Lane.{Lane}
 use Rattle.batch_pool.specs.declared.lanes.lane.LaneSeat.{LaneSeat}
 use Rattle.batch_pool.specs.Lanes.{IsOfLane, Each, Works, Runs, Serves, AddsIn}
-use Rattle.batch_pool.proofs.Seats.{some_one, on_ok, none_of, works_same, each_same, each_set, seated_on, apart_from}
+use Rattle.batch_pool.proofs.Elements.{some_one}
+use Rattle.batch_pool.proofs.Seats.{on_ok, none_of, works_same, each_same, each_set, seated_on, apart_from}
 use Rattle.batch_pool.proofs.lanes.many.serve_lane.Goals as goal
 
 -- the lane that was found, and its seat
