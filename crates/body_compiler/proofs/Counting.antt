@@ -7,7 +7,7 @@ use Rattle.wasm_defs.specs.declared.token.Plain.{Plain}
 use Rattle.wasm_defs.specs.declared.token.Token.{Token}
 use Rattle.wasm_defs.specs.declared.token.Token.TheVariants as token
 use Rattle.wasm_defs.specs.Places.{Place, moved, shape, after_rule, after_block, after_if, end_of, places, places_of}
-use Rattle.wasm_defs.specs.Trees.{Seq, Nothing, Simple, Block, Loop, If, IfElse, Tree, spelled}
+use Rattle.wasm_defs.specs.Trees.{Seq, Nothing, Simple, Block, Loop, If, Else, Tree, spelled}
 use Rattle.wasm_defs.specs.Typing.{Types, Context, inside, rule_of}
 use Rattle.frame_layout.specs.Templates.{Label, EmitContext, declarations, label_at, last_label, jump_words, unless_words, jump_if_words, jumps, table_front, jump_table_words, words}
 use Rattle.frame_layout.specs.Functions.{label, over, size, body_size}
@@ -60,11 +60,11 @@ module _ (w : EmitContext) (c : Context) where
       let s = shape d type in
       dead_closed d (inside d s.params) body rest q (after_block s q) (length (shape c type).params) 0 refl
       (dead (inside d s.params) body q e) (dead d rest (after_block s q) (ap (after_block s) e)) more behind n
-  dead d (If type body rest) q e more behind n =
+  dead d (If type body Nothing rest) q e more behind n =
       let s = shape d type in
       dead_closed d (inside d s.results) body rest (moved 1 0 q) (after_if s q) (length (shape c type).results) (test_size q) (ap test_size e)
       (dead (inside d s.results) body (moved 1 0 q) (ap (moved 1 0) e)) (dead d rest (after_if s q) (ap (after_if s) e)) more behind n
-  dead d (IfElse type body other rest) q e more behind n =
+  dead d (If type body (Else other) rest) q e more behind n =
       let s = shape d type in
       let within = inside d s.results in
       let next = after_if s q in
@@ -130,7 +130,7 @@ module _ (w : EmitContext) (c : Context) where
       let inner : List Label = label (h - length s.params) (length s.params) 0 ∷ labels in
       live_closed ls s.params body rest (Some h) next (h - length s.params) (length (shape c type).params) 0 (ap (λ (x : _). length x.params) (shape_labelled c ls type))
       (live (s.params ∷ ls) body (Some h)) (live ls rest next) labels more behind n (size w (inside d s.params) inner (Some h) body + size w d labels next rest) e (omega arith)
-  live ls (If type body rest) (Some h) labels more behind n e =
+  live ls (If type body Nothing rest) (Some h) labels more behind n e =
       let d = labelled c ls in
       let s = shape d type in
       let next = after_if s (Some h) in
@@ -139,8 +139,8 @@ module _ (w : EmitContext) (c : Context) where
       let inner : List Label = label (h - 1 - length s.params) (length s.results) 0 ∷ labels in
       let there = ap (λ (r : Place). size w (inside d s.results) inner r body) (sym below) in
       live_closed ls s.results body rest first next (h - 1 - length s.params) (length (shape c type).results) 6 (ap (λ (x : _). length x.results) (shape_labelled c ls type))
-      (live (s.results ∷ ls) body first) (live ls rest next) labels more behind n _ e (ap (λ (k : ℕ). 6 + k + size w d labels next rest) there)
-  live ls (IfElse type body other rest) (Some h) labels more behind n e =
+      (live (s.results ∷ ls) body first) (live ls rest next) labels more behind n _ e (omega (arith, there))
+  live ls (If type body (Else other) rest) (Some h) labels more behind n e =
       let d = labelled c ls in
       let s = shape d type in
       let within = inside d s.results in

@@ -16,7 +16,7 @@ use Rattle.wasm_defs.specs.Items.{Spelling, ◌then◌, exactly, each_is, listed
 use Rattle.wasm_defs.specs.Bodies.{Group, group, groups, local_groups, Spelled, closed, after_token, goes_on, spelled_from, instruction, depth_after, body_cursor, last_of, BodyRead, read_code, body_read}
 use Rattle.wasm_defs.specs.Codes.{listed_vector_is, plain_is, instruction_is, token_is, group_is, Code}
 use Rattle.wasm_defs.specs.Faults.{tokens_of}
-use Rattle.wasm_defs.specs.Trees.{Seq, Nothing, Simple, Block, Loop, If, IfElse, spelled, Tree}
+use Rattle.wasm_defs.specs.Trees.{Sort, Part, Seq, Nothing, Simple, Block, Loop, If, Else, spelled, Tree}
 use Rattle.wasm_laws.specs.Kept.{LocalsAreFew}
 use Rattle.wasm_laws.specs.Steadiness as steady
 use Rattle.wasm_laws.proofs.Steady.{IfGot, always}
@@ -34,15 +34,15 @@ use Rattle.body_laws.proofs.SpeltTokens.{reads_past, reads_only, index_reads, in
 end_closes : (depth : ℕ) (ts : List Token) → Closes depth ts → Closes (suc depth) (token.End ∷ ts)
 end_closes depth ts h = subst (λ (k : ℕ). Closes k ts) (let e : depth ≡ suc depth - 1 = omega arith in e) h
 
-spelled_closes : (tree : Seq) (depth : ℕ) (after : List Token) → Closes (suc depth) after → Closes (suc depth) (spelled tree after)
+spelled_closes : {sort : Sort} (tree : Part sort) (depth : ℕ) (after : List Token) → Closes (suc depth) after → Closes (suc depth) (spelled tree after)
 spelled_closes Nothing depth after h = h
 spelled_closes (Simple p rest) depth after h = spelled_closes rest depth after h
 spelled_closes (Block type body rest) depth after h = spelled_closes body (suc depth) (token.End ∷ spelled rest after) (end_closes (suc depth) (spelled rest after) (spelled_closes rest depth after h))
 spelled_closes (Loop type body rest) depth after h = spelled_closes body (suc depth) (token.End ∷ spelled rest after) (end_closes (suc depth) (spelled rest after) (spelled_closes rest depth after h))
-spelled_closes (If type body rest) depth after h = spelled_closes body (suc depth) (token.End ∷ spelled rest after) (end_closes (suc depth) (spelled rest after) (spelled_closes rest depth after h))
-spelled_closes (IfElse type body other rest) depth after h =
-    spelled_closes body (suc depth) (token.Else ∷ spelled other (token.End ∷ spelled rest after))
+spelled_closes (If type body other rest) depth after h =
+    spelled_closes body (suc depth) (spelled other (token.End ∷ spelled rest after))
     (spelled_closes other (suc depth) (token.End ∷ spelled rest after) (end_closes (suc depth) (spelled rest after) (spelled_closes rest depth after h)))
+spelled_closes (Else other) depth after h = spelled_closes other depth after h
 
 tree_closes : (ts : List Token) (tree : Seq) → Tree ts tree → Closes 1 ts
 tree_closes ts tree e = subst (Closes 1) (sym e) (spelled_closes tree 0 (token.End ∷ []) (end_closes 0 [] tt))

@@ -4,7 +4,7 @@ use Rattle.wasm_defs.specs.declared.types.ValType.TheVariants.{I32}
 use Rattle.wasm_defs.specs.declared.token.BlockType.{BlockType}
 use Rattle.wasm_defs.specs.declared.token.Token.{Token}
 use Rattle.wasm_defs.specs.declared.token.Token.TheVariants as token
-use Rattle.wasm_defs.specs.Trees.{Seq, Nothing, Simple, Block, Loop, If, IfElse, spelled}
+use Rattle.wasm_defs.specs.Trees.{Seq, Nothing, Simple, Block, Loop, If, Else, spelled}
 use Rattle.wasm_defs.specs.Typing.{Types, Signature, Context, inside, Typed, IsBody, rule_of, block_type}
 use Rattle.wasm_defs.specs.Places.{Place, moved, or_empty, shape, end_of, places, places_of}
 use Rattle.body_validator.specs.declared.stack.Opening.{Opening}
@@ -207,20 +207,20 @@ passes c (Loop type body rest) f fs from to h fit k =
     (λ own took. inner_of c Loops s body place (with_own f own) fs refl (params_stay f.operands.live f.operands.unknown s.params f.operands.own own (height fs) k took)
     (passes c body (opened Loops s f.operands.live) (with_own f own ∷ fs) s.params s.results h.4 (known-fit s.params) (fresh_known f.operands.live)))
     (λ own g. passes c rest (with_own f own) fs (s.results ++ h.1) to h.5 g k)
-passes c (If type body rest) f fs from to h fit k =
+passes c (If type body Nothing rest) f fs from to h fit k =
     let s = h.0 in
     let place = moved 1 0 (place_of (f ∷ fs)) in
     passes_around c Ifs type (λ x. I32 ∷ x.params) (λ more. spelled body (token.End ∷ more)) (λ x. body_places (at c (f ∷ fs)) x.results body place)
-    rest (If type body rest) f fs s h.1 from to (record { read = λ more. refl; placed = λ ps. refl; ended = refl }) h.2 h.3 fit k
-    (λ own took. inner_of c Ifs s body place (with_own f own) fs (same_types-of s.params s.results h.4) (condition_goes f.operands.live f.operands.unknown s.params f.operands.own own (height fs) k took)
-    (passes c body (opened Ifs s f.operands.live) (with_own f own ∷ fs) s.params s.results h.5 (known-fit s.params) (fresh_known f.operands.live)))
+    rest (If type body Nothing rest) f fs s h.1 from to (record { read = λ more. refl; placed = λ ps. refl; ended = refl }) h.2 h.3 fit k
+    (λ own took. inner_of c Ifs s body place (with_own f own) fs (same_types-of s.params s.results h.5) (condition_goes f.operands.live f.operands.unknown s.params f.operands.own own (height fs) k took)
+    (passes c body (opened Ifs s f.operands.live) (with_own f own ∷ fs) s.params s.results h.4 (known-fit s.params) (fresh_known f.operands.live)))
     (λ own g. passes c rest (with_own f own) fs (s.results ++ h.1) to h.6 g k)
-passes c (IfElse type body other rest) f fs from to h fit k =
+passes c (If type body (Else other) rest) f fs from to h fit k =
     let s = h.0 in
     let place = moved 1 0 (place_of (f ∷ fs)) in
     passes_around c Ifs type (λ x. I32 ∷ x.params) (λ more. spelled body (token.Else ∷ spelled other (token.End ∷ more)))
     (λ x ps. body_places (at c (f ∷ fs)) x.results body place (body_places (at c (f ∷ fs)) x.results other place ps))
-    rest (IfElse type body other rest) f fs s h.1 from to (record { read = λ more. refl; placed = λ ps. refl; ended = refl }) h.2 h.3 fit k
+    rest (If type body (Else other) rest) f fs s h.1 from to (record { read = λ more. refl; placed = λ ps. refl; ended = refl }) h.2 h.3 fit k
     (λ own took. inner_of_two c s body other place (with_own f own) fs (condition_goes f.operands.live f.operands.unknown s.params f.operands.own own (height fs) k took)
     (passes c body (opened Ifs s f.operands.live) (with_own f own ∷ fs) s.params s.results h.4 (known-fit s.params) (fresh_known f.operands.live))
     (passes c other (opened Elses s f.operands.live) (with_own f own ∷ fs) s.params s.results h.5 (known-fit s.params) (fresh_known f.operands.live)))

@@ -2,7 +2,7 @@
 use Rattle.std.proofs.Common.{◌≡◌, true, List, [], ◌∷◌, ◌++◌, Option, None, Some, refl, sym, ap, ◌∙◌}
 use Rattle.wasm_defs.specs.declared.token.Token.{Token}
 use Rattle.wasm_defs.specs.declared.token.Token.TheVariants as token
-use Rattle.wasm_defs.specs.Trees.{Seq, Nothing, Simple, Block, Loop, If, IfElse, spelled}
+use Rattle.wasm_defs.specs.Trees.{Seq, Nothing, Simple, Block, Loop, If, Else, spelled}
 use Rattle.wasm_defs.specs.Viable.{IsGrammatical}
 use Rattle.body_validator.specs.declared.stack.Opening.{Opening}
 use Rattle.body_validator.specs.declared.stack.Opening.TheVariants.{Block as Blocks, Loop as Loops, If as Ifs, Else as Elses}
@@ -17,9 +17,9 @@ spelled-nests (Block type body rest) o os more =
     spelled-nests body Blocks (o ∷ os) (token.End ∷ spelled rest more) ∙ spelled-nests rest o os more
 spelled-nests (Loop type body rest) o os more =
     spelled-nests body Loops (o ∷ os) (token.End ∷ spelled rest more) ∙ spelled-nests rest o os more
-spelled-nests (If type body rest) o os more =
+spelled-nests (If type body Nothing rest) o os more =
     spelled-nests body Ifs (o ∷ os) (token.End ∷ spelled rest more) ∙ spelled-nests rest o os more
-spelled-nests (IfElse type body other rest) o os more =
+spelled-nests (If type body (Else other) rest) o os more =
     spelled-nests body Ifs (o ∷ os) (token.Else ∷ spelled other (token.End ∷ spelled rest more))
     ∙ spelled-nests other Elses (o ∷ os) (token.End ∷ spelled rest more) ∙ spelled-nests rest o os more
 
@@ -87,8 +87,8 @@ goes (token.If type ∷ tokens) o os e =
     let g = goes tokens Ifs (o ∷ os) e in
     let t = token.If type in
     elim g.ending [
-      | ends f ↦ goes_on o (Closes os) (λ k. t ∷ spelled g.tree (token.End ∷ k)) (If type g.tree) g.rest (t ∷ tokens) (λ tree k. refl) (ap (λ (k : List Token). t ∷ k) f) g.then
-      | turns_over other is f ↦ goes_on o (Closes os) (λ k. t ∷ spelled g.tree (token.Else ∷ spelled other (token.End ∷ k))) (IfElse type g.tree other) g.rest (t ∷ tokens)
+      | ends f ↦ goes_on o (Closes os) (λ k. t ∷ spelled g.tree (token.End ∷ k)) (If type g.tree Nothing) g.rest (t ∷ tokens) (λ tree k. refl) (ap (λ (k : List Token). t ∷ k) f) g.then
+      | turns_over other is f ↦ goes_on o (Closes os) (λ k. t ∷ spelled g.tree (token.Else ∷ spelled other (token.End ∷ k))) (If type g.tree (Else other)) g.rest (t ∷ tokens)
           (λ tree k. refl) (ap (λ (k : List Token). t ∷ k) f) g.then
     ]
 goes (token.Else ∷ tokens) o os e =

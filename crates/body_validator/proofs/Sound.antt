@@ -6,7 +6,7 @@ use Rattle.wasm_defs.specs.declared.token.Plain.{Plain}
 use Rattle.wasm_defs.specs.declared.token.Plain.TheVariants.{Unreachable}
 use Rattle.wasm_defs.specs.declared.token.Token.{Token}
 use Rattle.wasm_defs.specs.declared.token.Token.TheVariants as token
-use Rattle.wasm_defs.specs.Trees.{Seq, Nothing, Simple, Block, Loop, If, IfElse, spelled, Tree}
+use Rattle.wasm_defs.specs.Trees.{Seq, Nothing, Simple, Block, Loop, If, Else, spelled, Tree}
 use Rattle.wasm_defs.specs.Typing.{Types, Signature, Context, inside, Typed, IsBody, rule_of, block_type}
 use Rattle.wasm_defs.specs.Viable.{IsViable}
 use Rattle.body_validator.specs.declared.stack.Opening.{Opening}
@@ -160,12 +160,12 @@ goes_if c type s f fs P own tokens e took g = by_ending g.ending
     by_ending : Ending (at c (f ∷ fs)) Ifs s g.tree g.rest tokens → Goes c f fs P (token.If type ∷ tokens)
     by_ending (ends is m) =
         let around = surrounds c s (I32 ∷ s.params) f fs P own g.rest took g.then in
-        goes_around c s (I32 ∷ s.params) f fs P (λ k. token.If type ∷ spelled g.tree (token.End ∷ k)) (If type g.tree around.tree) g.rest (token.If type ∷ tokens) around
+        goes_around c s (I32 ∷ s.params) f fs P (λ k. token.If type ∷ spelled g.tree (token.End ∷ k)) (If type g.tree Nothing around.tree) g.rest (token.If type ∷ tokens) around
         (λ k. refl) (ap (λ (x : List Token). token.If type ∷ x) is)
-        (s, around.below, e, refl, same_types-true s.params s.results m, inside_typed (inside (at c (f ∷ fs)) s.results) s g.tree g.from g.fits g.typed, around.typed)
+        (s, around.below, e, refl, inside_typed (inside (at c (f ∷ fs)) s.results) s g.tree g.from g.fits g.typed, same_types-true s.params s.results m, around.typed)
     by_ending (turns_over other o is t) =
         let around = surrounds c s (I32 ∷ s.params) f fs P own g.rest took g.then in
-        goes_around c s (I32 ∷ s.params) f fs P (λ k. token.If type ∷ spelled g.tree (token.Else ∷ spelled other (token.End ∷ k))) (IfElse type g.tree other around.tree) g.rest (token.If type ∷ tokens) around
+        goes_around c s (I32 ∷ s.params) f fs P (λ k. token.If type ∷ spelled g.tree (token.Else ∷ spelled other (token.End ∷ k))) (If type g.tree (Else other) around.tree) g.rest (token.If type ∷ tokens) around
         (λ k. refl) (ap (λ (x : List Token). token.If type ∷ x) is)
         (s, around.below, e, refl, inside_typed (inside (at c (f ∷ fs)) s.results) s g.tree g.from g.fits g.typed, t, around.typed)
 

@@ -7,7 +7,7 @@ use Rattle.wasm_defs.specs.declared.token.Plain.{Plain}
 use Rattle.wasm_defs.specs.declared.token.Token.{Token}
 use Rattle.wasm_defs.specs.declared.token.Token.TheVariants as token
 use Rattle.wasm_defs.specs.Places.{Place, shape, after_rule, after_block, after_if, end_of, places, places_of}
-use Rattle.wasm_defs.specs.Trees.{Seq, Nothing, Simple, Block, Loop, If, IfElse, Tree, spelled}
+use Rattle.wasm_defs.specs.Trees.{Seq, Nothing, Simple, Block, Loop, If, Else, Tree, spelled}
 use Rattle.wasm_defs.specs.Typing.{Types, Signature, Context, inside, rule_of}
 use Rattle.frame_layout.specs.Templates.{EmitContext, declarations, words}
 use Rattle.frame_layout.specs.Functions.{label, over, test_words, size, body_place, body_size, body_code}
@@ -182,10 +182,10 @@ dead w c d (Block type body rest) =
 dead w c d (Loop type body rest) =
     let within = inside d (shape d type).params in
     stays-enclosed w c (token.Loop type) (end_of within body None) (spelled body) (spelled rest) (places within body None) (places d rest None) (λ x most le. le) (λ a b step. step) (dead w c within body) (dead w c d rest)
-dead w c d (If type body rest) =
+dead w c d (If type body Nothing rest) =
     let within = inside d (shape d type).results in
     stays-enclosed w c (token.If type) (end_of within body None) (spelled body) (spelled rest) (places within body None) (places d rest None) (λ x most le. le) (λ a b step. step) (dead w c within body) (dead w c d rest)
-dead w c d (IfElse type body other rest) = λ k more after old new most le go x.
+dead w c d (If type body (Else other) rest) = λ k more after old new most le go x.
     let within = inside d (shape d type).results in
     let last = token.End ∷ spelled rest more in
     let following = end_of within other None ∷ places d rest None after in
@@ -315,7 +315,7 @@ live w c ls (Loop type body rest) (Some h) ss = λ k more after old new most e l
     let opens : Opens a b (sh a) (λ e. []) = subst (λ (y : Signature). Opens a b (start_shape (h - length y.params) (length y.params) (length a.words)) (λ e. [])) (sym (shape_labelled c ls type)) step in
     record { shapes_are = opens.shapes_are; words = let n = opens-none a b (sh a) opens in omega arith })
     (λ a. live w c (s.params ∷ ls) body (Some h) (sh a ∷ ss)) (live w c ls rest next ss) k more after old new most e (omega (arith, le)) (λ mid j sm sn. go mid j sm (omega (arith, sn))) x
-live w c ls (If type body rest) (Some h) ss = λ k more after old new most e le go x.
+live w c ls (If type body Nothing rest) (Some h) ss = λ k more after old new most e le go x.
     let d = labelled c ls in
     let s = shape d type in
     let within = labelled c (s.results ∷ ls) in
@@ -333,8 +333,8 @@ live w c ls (If type body rest) (Some h) ss = λ k more after old new most e le 
     (λ a b step.
     let opens : Opens a b sh (first a) = subst (λ (y : Signature). Opens a b (end_shape (h - 1 - length y.params) (length y.results)) (first a)) (sym (shape_labelled c ls type)) step in
     record { shapes_are = opens.shapes_are; words = opens-size a b sh (first a) opens (ends_there 0) })
-    (λ a. live w c (s.results ∷ ls) body below (sh ∷ ss)) (live w c ls rest next ss) k more after old new most e le go there
-live w c ls (IfElse type body other rest) (Some h) ss = λ k more after old new most e le go x.
+    (λ a. live w c (s.results ∷ ls) body below (sh ∷ ss)) (live w c ls rest next ss) k more after old new most e (omega (arith, le)) (λ mid j sm sn. go mid j sm (omega (arith, sn))) there
+live w c ls (If type body (Else other) rest) (Some h) ss = λ k more after old new most e le go x.
     let d = labelled c ls in
     let s = shape d type in
     let within = labelled c (s.results ∷ ls) in

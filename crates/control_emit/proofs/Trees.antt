@@ -10,7 +10,7 @@ use Rattle.wasm_defs.specs.declared.token.Token.TheVariants as token
 use Rattle.wasm_defs.specs.declared.token.BlockType.{BlockType}
 use Rattle.wasm_defs.specs.declared.token.BlockType.TheVariants.{Empty, Value, Index}
 use Rattle.wasm_defs.specs.Places.{Place, moved, shape, after_rule, after_block, after_if, end_of, places, places_of}
-use Rattle.wasm_defs.specs.Trees.{Seq, Nothing, Simple, Block, Loop, If, IfElse, Tree, spelled, tokens_in}
+use Rattle.wasm_defs.specs.Trees.{Sort, Branch, Part, Seq, Nothing, Simple, Block, Loop, If, Else, Tree, spelled, tokens_in}
 use Rattle.wasm_defs.specs.Typing.{Types, Signature, Context, Rule, Untyped, inside, rule_of}
 use Rattle.frame_layout.specs.Templates.{Label, EmitContext, declarations, words}
 use Rattle.frame_layout.specs.Functions.{label, over, test_words, size, code, call_of, calls, Trap, traps_of, traps, body_place, body_size, body_traps}
@@ -40,8 +40,7 @@ end_dead c Nothing = refl
 end_dead c (Simple p rest) = ap (end_of c rest) (after_dead (rule_of c p)) ∙ end_dead c rest
 end_dead c (Block type body rest) = end_dead c rest
 end_dead c (Loop type body rest) = end_dead c rest
-end_dead c (If type body rest) = end_dead c rest
-end_dead c (IfElse type body other rest) = end_dead c rest
+end_dead c (If type body other rest) = end_dead c rest
 
 -- ---- labels where only lengths are counted
 
@@ -88,25 +87,24 @@ traps_at : (w : EmitContext) (c : Context) (q : Place) (t : Seq) (ls ms : List L
 traps_at w c q t ls ms i j m n e f g = ap (λ (l : List Label). traps w c l q i m t) e ∙ ap (λ (k : ℕ). traps w c ms q k m t) f ∙ ap (λ (k : ℕ). traps w c ms q j k t) g
 
 -- how many tokens there are with others after them
-pub spelled_length : (t : Seq) (more : List Token) → length (spelled t more) ≡ tokens_in t + length more
+pub spelled_length : {sort : Sort} (t : Part sort) (more : List Token) → length (spelled t more) ≡ tokens_in t + length more
 spelled_length Nothing more = omega arith
 spelled_length (Simple p rest) more = omega (arith, spelled_length rest more)
 spelled_length (Block type body rest) more =
     omega (arith, spelled_length body (token.End ∷ spelled rest more), spelled_length rest more, spelled_length body (token.End ∷ spelled rest []))
 spelled_length (Loop type body rest) more =
     omega (arith, spelled_length body (token.End ∷ spelled rest more), spelled_length rest more, spelled_length body (token.End ∷ spelled rest []))
-spelled_length (If type body rest) more =
-    omega (arith, spelled_length body (token.End ∷ spelled rest more), spelled_length rest more, spelled_length body (token.End ∷ spelled rest []))
-spelled_length (IfElse type body other rest) more =
+spelled_length (If type body other rest) more =
     let behind = token.End ∷ spelled rest more in
     let alone : List Token = token.End ∷ spelled rest [] in
-    omega (arith, spelled_length body (token.Else ∷ spelled other behind), spelled_length other behind, spelled_length rest more, spelled_length body (token.Else ∷ spelled other alone), spelled_length other alone)
+    omega (arith, spelled_length body (spelled other behind), spelled_length other behind, spelled_length rest more, spelled_length body (spelled other alone), spelled_length other alone)
+spelled_length (Else other) more = omega (arith, spelled_length other more)
 
--- after a block's body its `end`, and after the first branch of an `if` also `else` and the second one
+-- after a block's body its `end`, and after the first branch of an `if` also the second one
 behind_body : (rest : Seq) (more : List Token) → length (token.End ∷ spelled rest more) ≡ 1 + tokens_in rest + length more
 behind_body rest more = omega (arith, spelled_length rest more)
 
-behind_first : (other rest : Seq) (more : List Token) → length (token.Else ∷ spelled other (token.End ∷ spelled rest more)) ≡ 2 + tokens_in other + tokens_in rest + length more
+behind_first : (other : Part Branch) (rest : Seq) (more : List Token) → length (spelled other (token.End ∷ spelled rest more)) ≡ 1 + tokens_in other + tokens_in rest + length more
 behind_first other rest more = omega (arith, spelled_length other (token.End ∷ spelled rest more), spelled_length rest more)
 
 -- the tokens of a sequence, whose calls and traps and all after them are given, lead through a draft in the middle
@@ -175,14 +173,14 @@ dead w c d (Loop type body rest) q none more after old new held x =
     let i = dead w c within body q none (token.End ∷ spelled rest more) (end_of within body q ∷ places d rest (after_block s q) after) x.0 new opens.opens.held x.2 in
     let r = dead w c d rest (after_block s q) (ap (after_block s) none) more after i.walk.0 new i.walk.1.held i.walk.2 in
     record { mid = r.mid; emits = none_both old i.walk.0 r.mid (none_enclosed old x.0 i.mid i.walk.0 opens.shape opens.opens i.emits i.walk.1) r.emits; walk = r.walk; noted = (i.noted.0 ∙ r.noted.0, i.noted.1 ∙ r.noted.1) }
-dead w c d (If type body rest) q none more after old new held x =
+dead w c d (If type body Nothing rest) q none more after old new held x =
     let s = shape d type in
     let within = inside d s.results in
     let opens : OpensDead old x.0 = subst (λ (r : Place). Step w c (token.If type) r old x.0) none x.1 in
     let i = dead w c within body (moved 1 0 q) (ap (moved 1 0) none) (token.End ∷ spelled rest more) (end_of within body (moved 1 0 q) ∷ places d rest (after_if s q) after) x.0 new opens.opens.held x.2 in
     let r = dead w c d rest (after_if s q) (ap (after_if s) none) more after i.walk.0 new i.walk.1.held i.walk.2 in
     record { mid = r.mid; emits = none_both old i.walk.0 r.mid (none_enclosed old x.0 i.mid i.walk.0 opens.shape opens.opens i.emits i.walk.1) r.emits; walk = r.walk; noted = (i.noted.0 ∙ r.noted.0, i.noted.1 ∙ r.noted.1) }
-dead w c d (IfElse type body other rest) q none more after old new held x =
+dead w c d (If type body (Else other) rest) q none more after old new held x =
     let s = shape d type in
     let within = inside d s.results in
     let first = moved 1 0 q in
@@ -206,7 +204,7 @@ behind a b d f g k rest x y same =
 
 -- a sequence that has a label of its own, from what begins it up to its `end`, and the sequence after it
 closed_live : (w : EmitContext) (c d within : Context) (body rest : Seq) (q place next : Place) (more : List Token) (after : List Place) (old opened new : FunctionBuilder) (sh : Shape) (sized : Label)
-    (first : Ends → List Op) (front begin : ℕ) (all : List Relocation) (all_traps : List Trap) → q ≡ place → sized.takes ≡ sh.takes → ((e : Ends) → length (first e) ≡ front) → begin ≡ length old.words + front
+    (first : Ends → List Op) (front begin : ℕ) (all : List Relocation) (all_traps : List Trap) (second end : ℕ → ℕ) → ((n : ℕ) → second n ≡ n) → ((n : ℕ) → end n ≡ n) → q ≡ place → sized.takes ≡ sh.takes → ((e : Ends) → length (first e) ≡ front) → begin ≡ length old.words + front
     → Opens old opened sh first
     → (i : Through w c (token.End ∷ spelled rest more) (end_of within body q ∷ places d rest next after) opened new (λ es. code w within (named (shapes opened.labels) es) q (length opened.words) body)
     all (calls w within (counted (shapes opened.labels)) q (length opened.words) body)
@@ -215,15 +213,16 @@ closed_live : (w : EmitContext) (c d within : Context) (body rest : Seq) (q plac
     (walk_calls w c (spelled rest more) (places d rest next after) i.walk.0 new i.walk.2) (calls w d (counted (shapes i.walk.0.labels)) next (length i.walk.0.words) rest)
     (walk_traps w c (spelled rest more) (places d rest next after) i.walk.0 new i.walk.2) (traps w d (counted (shapes i.walk.0.labels)) next (length i.walk.0.words) (length more) rest)
     → let inner = label sh.base sh.takes 0 ∷ counted (shapes old.labels) in
-    let behind = begin + size w within inner place body in
+    let behind = end (begin + size w within inner place body) in
     Through w c more after old new
     (λ es.
     let labels = named (shapes old.labels) es in
     let there = begin + size w within (sized ∷ labels) place body in
-    first (ends_there there) ++ (code w within (label_of sh (ends_there there) ∷ labels) place begin body ++ code w d labels next there rest))
+    let e : Ends = record { other = second there; end = end there } in
+    first e ++ (code w within (label_of sh e ∷ labels) place begin body ++ code w d labels next (end there) rest))
     all (calls w within inner place begin body ++ calls w d (counted (shapes old.labels)) next behind rest)
     all_traps (traps w within inner place begin (1 + tokens_in rest + length more) body ++ traps w d (counted (shapes old.labels)) next behind (length more) rest)
-closed_live w c d within body rest q place next more after old opened new sh sized first front begin all all_traps from takes fronts begin_is step i r =
+closed_live w c d within body rest q place next more after old opened new sh sized first front begin all all_traps second end_at second_is end_is from takes fronts begin_is step i r =
     let here = length old.words in
     let f : List Label → ℕ → List Op = λ labels k. code w within labels place k body in
     let emits : Emits opened i.mid (λ es. f (named (shapes opened.labels) es) (length opened.words)) = subst (λ (p : Place). Emits opened i.mid (λ es. code w within (named (shapes opened.labels) es) p (length opened.words) body)) from i.emits in
@@ -244,7 +243,9 @@ closed_live w c d within body rest q place next more after old opened new sh siz
           ap (λ (m : ℕ). (first e ++ f (label_at n) m) ++ code w d labels next (length i.walk.0.words) rest) begins
           ∙ ap (λ (m : ℕ). (first (ends_there m) ++ f (label_at m) begin) ++ code w d labels next (length i.walk.0.words) rest) end
           ∙ ap (λ (m : ℕ). (first (ends_there there) ++ f (label_at there) begin) ++ code w d labels next m rest) out
-          ∙ append_assoc (first (ends_there there)) (f (label_at there) begin) (code w d labels next there rest));
+          ∙ append_assoc (first (ends_there there)) (f (label_at there) begin) (code w d labels next there rest)
+          ∙ ap (λ (m : ℕ). first (record { other = m; end = there }) ++ (f (label_at there) begin ++ code w d labels next there rest)) (sym (second_is there))
+          ∙ ap (λ (m : ℕ). first (record { other = second there; end = m }) ++ (f (label_at m) begin ++ code w d labels next m rest)) (sym (end_is there)));
       walk = r.walk;
       noted =
           let labels = counted (shapes old.labels) in
@@ -253,7 +254,7 @@ closed_live w c d within body rest q place next more after old opened new sh siz
           let opens : length opened.words ≡ begin = longer-opens old opened sh first step e es (ends_count old.labels) ∙ begins in
           let k = enclosed-size old opened i.mid sh first f step emits e es (ends_count old.labels) in
           let z = size_is w within inner (label_of sh e ∷ named (shapes old.labels) es) place (here + length (first e)) body (refl, counted_alike (shapes old.labels)) in
-          let out : length i.walk.0.words ≡ begin + size w within inner place body = omega (arith, i.walk.1.size, k, z, begins) in
+          let out : length i.walk.0.words ≡ end_at (begin + size w within inner place body) = omega (arith, i.walk.1.size, k, z, begins, end_is (begin + size w within inner place body)) in
           let same = closed-shapes old opened i.mid i.walk.0 sh i.walk.1.shape step.shapes_are i.emits.shapes_are i.walk.1.shapes_are in
           let left = 1 + tokens_in rest + length more in
           let own = calls_at w within q body _ inner _ begin (ap counted step.shapes_are) opens ∙ ap (λ (p : Place). calls w within inner p begin body) from in
@@ -313,7 +314,7 @@ live w c ls (Block type body rest) (Some h) more after old new held x =
     let next = after_block s (Some h) in
     let step : Opens old x.0 (end_shape base takes) (λ e. []) = subst (λ (y : Signature). Opens old x.0 (end_shape (h - length y.params) (length y.results)) (λ e. [])) (sym (shape_labelled c ls type)) x.1 in
     let i = live w c (s.results ∷ ls) body (Some h) (token.End ∷ spelled rest more) (end_of within body (Some h) ∷ places d rest next after) x.0 new step.held x.2 in
-    closed_live w c d within body rest (Some h) (Some h) next more after old x.0 new (end_shape base takes) (label base takes 0) (λ e. []) 0 (length old.words) _ _ refl refl (λ e. refl) (omega arith) step i
+    closed_live w c d within body rest (Some h) (Some h) next more after old x.0 new (end_shape base takes) (label base takes 0) (λ e. []) 0 (length old.words) _ _ (λ n. n) (λ n. n) (λ n. refl) (λ n. refl) refl refl (λ e. refl) (omega arith) step i
     (live w c ls rest next more after i.walk.0 new i.walk.1.held i.walk.2)
 live w c ls (Loop type body rest) (Some h) more after old new held x =
     let d = labelled c ls in
@@ -325,9 +326,9 @@ live w c ls (Loop type body rest) (Some h) more after old new held x =
     let next = after_block s (Some h) in
     let step : Opens old x.0 (start_shape base takes here) (λ e. []) = subst (λ (y : Signature). Opens old x.0 (start_shape (h - length y.params) (length y.params) here) (λ e. [])) (sym (shape_labelled c ls type)) x.1 in
     let i = live w c (s.params ∷ ls) body (Some h) (token.End ∷ spelled rest more) (end_of within body (Some h) ∷ places d rest next after) x.0 new step.held x.2 in
-    closed_live w c d within body rest (Some h) (Some h) next more after old x.0 new (start_shape base takes here) (label base takes here) (λ e. []) 0 here _ _ refl refl (λ e. refl) (omega arith) step i
+    closed_live w c d within body rest (Some h) (Some h) next more after old x.0 new (start_shape base takes here) (label base takes here) (λ e. []) 0 here _ _ (λ n. n) (λ n. n) (λ n. refl) (λ n. refl) refl refl (λ e. refl) (omega arith) step i
     (live w c ls rest next more after i.walk.0 new i.walk.1.held i.walk.2)
-live w c ls (If type body rest) (Some h) more after old new held x =
+live w c ls (If type body Nothing rest) (Some h) more after old new held x =
     let d = labelled c ls in
     let s = shape d type in
     let within = inside d s.results in
@@ -340,9 +341,9 @@ live w c ls (If type body rest) (Some h) more after old new held x =
     let q : Place = Some (h - 1 + 0) in
     let from : q ≡ Some (h - 1) = ap (λ (m : ℕ). Some m) (let m : h - 1 + 0 ≡ h - 1 = omega arith in m) in
     let i = live w c (s.results ∷ ls) body q (token.End ∷ spelled rest more) (end_of within body q ∷ places d rest next after) x.0 new step.held x.2 in
-    closed_live w c d within body rest q (Some (h - 1)) next more after old x.0 new (end_shape base takes) (label base takes 0) first 6 (here + 6) _ _ from refl (λ e. refl) refl step i
+    closed_live w c d within body rest q (Some (h - 1)) next more after old x.0 new (end_shape base takes) (label base takes 0) first 6 (here + 6) _ _ (λ n. n + 0) (λ n. n + 0 + 0) (λ n. omega arith) (λ n. omega arith) from refl (λ e. refl) refl step i
     (live w c ls rest next more after i.walk.0 new i.walk.1.held i.walk.2)
-live w c ls (IfElse type body other rest) (Some h) more after old new held x =
+live w c ls (If type body (Else other) rest) (Some h) more after old new held x =
     let d = labelled c ls in
     let s = shape d type in
     let within = inside d s.results in
@@ -433,9 +434,9 @@ live w c ls (IfElse type body other rest) (Some h) more after old new held x =
           let own_other = calls_at w within q other _ inner _ second (ap counted shapes_same) at.2 ∙ ap (λ (r : Place). calls w within inner r second other) from in
           let last = calls_at w d next rest _ labels _ _ (ap counted same) out in
           let behind = walk_calls w c more after r.mid new r.walk in
-          let left = 2 + tokens_in other + tokens_in rest + length more in
+          let left = 1 + tokens_in (Else other) + tokens_in rest + length more in
           let left_other = 1 + tokens_in rest + length more in
-          let own_traps = traps_at w within q body _ inner _ (here + 6) _ left (ap counted step.shapes_are) at.0 (behind_first other rest more) ∙ ap (λ (r : Place). traps w within inner r (here + 6) left body) from in
+          let own_traps = traps_at w within q body _ inner _ (here + 6) _ left (ap counted step.shapes_are) at.0 (behind_first (Else other) rest more) ∙ ap (λ (r : Place). traps w within inner r (here + 6) left body) from in
           let other_traps = traps_at w within q other _ inner _ second _ left_other (ap counted shapes_same) at.2 (behind_body rest more) ∙ ap (λ (r : Place). traps w within inner r second left_other other) from in
           let last_traps = traps_at w d next rest _ labels _ _ (length more) (length more) (ap counted same) out refl in
           let traps_behind = walk_traps w c more after r.mid new r.walk in (

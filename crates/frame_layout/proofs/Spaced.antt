@@ -12,12 +12,12 @@ use Rattle.wasm_defs.specs.declared.token.BulkOp.TheVariants.{Fill, Copy, Init}
 use Rattle.wasm_defs.specs.declared.token.Plain.{Plain}
 use Rattle.wasm_defs.specs.declared.token.Plain.TheVariants.{Unreachable, CallIndirect, Load, Store, Bulk, Numeric}
 use Rattle.wasm_defs.specs.Configurations.{Origin}
-use Rattle.wasm_defs.specs.Trees.{Seq, Nothing, Simple, Block, Loop, If, IfElse, tokens_in}
+use Rattle.wasm_defs.specs.Trees.{Sort, Part, Seq, Nothing, Simple, Block, Loop, If, Else, tokens_in}
 use Rattle.wasm_defs.specs.Typing.{Context, inside, rule_of}
 use Rattle.wasm_defs.specs.Places.{Place, after_rule, shape, after_block, after_if, end_of}
 use Rattle.frame_layout.specs.declared.layout.Layout.{Layout}
 use Rattle.frame_layout.specs.Templates.{Declarations, Label, EmitContext, operate_words, declarations, words, prologue}
-use Rattle.frame_layout.specs.Functions.{label, over, size, Trap, trap_at, traps_of, site_of, traps, body_place, body_size, body_traps, function_size}
+use Rattle.frame_layout.specs.Functions.{label, over, over_from, size, Trap, trap_at, traps_of, site_of, traps, body_place, body_size, body_traps, function_size}
 use Rattle.frame_layout.specs.Traps.{trap_places, operation_places, division_places, AreSpaced}
 use Rattle.frame_layout.specs.Laws.{SpacedLaw}
 
@@ -77,7 +77,7 @@ module _ (w : EmitContext) where
 
   -- ---- sequences
 
-  abbrev TreeSpaced : Context → List Label → Place → (here behind : ℕ) → Seq → Type 0
+  abbrev TreeSpaced : {sort : Sort} → Context → List Label → Place → (here behind : ℕ) → Part sort → Type 0
   TreeSpaced c labels place here behind tree = AreSpaced here (places_of (traps w c labels place here behind tree)) (here + size w c labels place tree)
 
   ends_at : (from to end : ℕ) (ps : List ℕ) → to ≡ end → AreSpaced from ps to → AreSpaced from ps end
@@ -97,7 +97,7 @@ module _ (w : EmitContext) where
       let n = size w within inner (Some h) body in
       then_spaced here n (size w c labels next rest) (traps w within inner (Some h) here (1 + tokens_in rest + behind) body) (traps w c labels next (here + n) behind rest) own (more (here + n))
 
-  tree_spaced : (c : Context) (labels : List Label) (place : Place) (here behind : ℕ) (tree : Seq) → TreeSpaced c labels place here behind tree
+  tree_spaced : {sort : Sort} (c : Context) (labels : List Label) (place : Place) (here behind : ℕ) (tree : Part sort) → TreeSpaced c labels place here behind tree
   tree_spaced c labels None here behind tree = omega arith
   tree_spaced c labels (Some h) here behind Nothing = omega arith
   tree_spaced c labels (Some h) here behind (Simple p rest) =
@@ -116,36 +116,25 @@ module _ (w : EmitContext) where
       nested c labels (inside c s.params) (label (h - length s.params) (length s.params) 0 ∷ labels) h (after_block s (Some h)) here behind body rest
       (tree_spaced (inside c s.params) (label (h - length s.params) (length s.params) 0 ∷ labels) (Some h) here (1 + tokens_in rest + behind) body)
       (λ after. tree_spaced c labels (after_block s (Some h)) after behind rest)
-  tree_spaced c labels (Some h) here behind (If type body rest) =
+  tree_spaced c labels (Some h) here behind (If type body other rest) =
       let s = shape c type in
       let within = inside c s.results in
       let inner = label (h - 1 - length s.params) (length s.results) 0 ∷ labels in
       let next = after_if s (Some h) in
       let n = size w within inner (Some (h - 1)) body in
-      let m = size w c labels next rest in
-      let own = traps w within inner (Some (h - 1)) (here + 6) (1 + tokens_in rest + behind) body in
-      let others = traps w c labels next (here + 6 + n) behind rest in
-      let first = spaced-less here (here + 6) (here + 6 + n) (places_of own) (omega arith) (tree_spaced within inner (Some (h - 1)) (here + 6) (1 + tokens_in rest + behind) body) in
-      let more = ends_at (here + 6 + n) (here + 6 + n + m) (here + (6 + n + m)) (places_of others) (omega arith) (tree_spaced c labels next (here + 6 + n) behind rest) in
-      traps-both here (here + 6 + n) (here + (6 + n + m)) own others first more
-  tree_spaced c labels (Some h) here behind (IfElse type body other rest) =
-      let s = shape c type in
-      let within = inside c s.results in
-      let inner = label (h - 1 - length s.params) (length s.results) 0 ∷ labels in
-      let next = after_if s (Some h) in
-      let n = size w within inner (Some (h - 1)) body in
-      let j = length (over (end_of within body (Some (h - 1))) 0 0) in
+      let j = length (over (over_from other (end_of within body (Some (h - 1)))) 0 0) in
       let k = size w within inner (Some (h - 1)) other in
       let m = size w c labels next rest in
       let second = here + 6 + n + j in
       let to = here + (6 + n + j + k + m) in
-      let one = traps w within inner (Some (h - 1)) (here + 6) (2 + tokens_in other + tokens_in rest + behind) body in
+      let one = traps w within inner (Some (h - 1)) (here + 6) (1 + tokens_in other + tokens_in rest + behind) body in
       let two = traps w within inner (Some (h - 1)) second (1 + tokens_in rest + behind) other in
       let others = traps w c labels next (second + k) behind rest in
-      let first = spaced-less here (here + 6) (here + 6 + n) (places_of one) (omega arith) (tree_spaced within inner (Some (h - 1)) (here + 6) (2 + tokens_in other + tokens_in rest + behind) body) in
+      let first = spaced-less here (here + 6) (here + 6 + n) (places_of one) (omega arith) (tree_spaced within inner (Some (h - 1)) (here + 6) (1 + tokens_in other + tokens_in rest + behind) body) in
       let last = ends_at (second + k) (second + k + m) to (places_of others) (omega arith) (tree_spaced c labels next (second + k) behind rest) in
       let both = traps-both second (second + k) to two others (tree_spaced within inner (Some (h - 1)) second (1 + tokens_in rest + behind) other) last in
       traps-both here (here + 6 + n) to one (two ++ others) first (spaced-less (here + 6 + n) second to (places_of (two ++ others)) (omega arith) both)
+  tree_spaced c labels (Some h) here behind (Else other) = tree_spaced c labels (Some h) here behind other
 
   -- ---- functions
 

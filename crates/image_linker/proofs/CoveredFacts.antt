@@ -8,7 +8,7 @@ use Rattle.wasm_defs.specs.declared.token.Plain.TheVariants.{Load, Store, Const}
 use Rattle.wasm_defs.specs.Context.{type_or_empty, type_of_function, context_of, import_count, declared_count, data_count_of, types_of, functions_of}
 use Rattle.wasm_defs.specs.Entries.{or_zero}
 use Rattle.wasm_defs.specs.Outside.{Body, module_read}
-use Rattle.wasm_defs.specs.Trees.{Seq, Nothing, Simple, Block, Loop, If, IfElse}
+use Rattle.wasm_defs.specs.Trees.{Sort, Part, Seq, Nothing, Simple, Block, Loop, If, Else}
 use Rattle.wasm_defs.specs.Faults.{tokens_of, read_of, context_at, IsValidCode, Module, IsModule}
 use Rattle.wasm_defs.specs.Instances.{rows_of, elements_of, data_of, segments_of, instance_of, exports_of, named, start_of}
 use Rattle.wasm_laws.specs.Behind.{AreValidIn}
@@ -98,7 +98,7 @@ takes_few c types Empty = (omega arith, omega arith)
 takes_few c types (Value t) = (omega arith, omega arith)
 takes_few c types (Index x) = few_of (slice_get c.types x) (type_at c.types types x)
 
-covered_tree : (c : Context) → TypesAreSmall c.types → (tree : Seq) → TreeIsInRange tree → IsCovered tree × IsFew c tree
+covered_tree : {sort : Sort} (c : Context) → TypesAreSmall c.types → (tree : Part sort) → TreeIsInRange tree → IsCovered tree × IsFew c tree
 covered_tree c types Nothing range = (tt, tt)
 covered_tree c types (Simple p rest) range =
     let step = covered_step p range.0 in
@@ -112,15 +112,12 @@ covered_tree c types (Loop type body rest) range =
     let first = covered_tree c types body range.1 in
     let more = covered_tree c types rest range.2 in
     ((first.0, more.0), (takes_few c types type, first.1, more.1))
-covered_tree c types (If type body rest) range =
-    let first = covered_tree c types body range.1 in
-    let more = covered_tree c types rest range.2 in
-    ((first.0, more.0), (takes_few c types type, first.1, more.1))
-covered_tree c types (IfElse type body other rest) range =
+covered_tree c types (If type body other rest) range =
     let first = covered_tree c types body range.1 in
     let second = covered_tree c types other range.2 in
     let more = covered_tree c types rest range.3 in
     ((first.0, second.0, more.0), (takes_few c types type, first.1, second.1, more.1))
+covered_tree c types (Else other) range = covered_tree c types other range
 
 tokens_length : (ts : List (ℕ × Token)) → length (tokens_of ts) ≡ length ts
 tokens_length [] = refl

@@ -11,14 +11,14 @@ use Rattle.wasm_defs.specs.declared.token.BulkOp.TheVariants.{Fill, Copy, Init}
 use Rattle.wasm_defs.specs.declared.token.Plain.{Plain}
 use Rattle.wasm_defs.specs.declared.token.Plain.TheVariants.{Br, BrIf, BrTable, Return, Bulk, Const, Numeric}
 use Rattle.wasm_defs.specs.Configurations.{Origin}
-use Rattle.wasm_defs.specs.Trees.{Seq, Nothing, Simple, Block, Loop, If, IfElse, tokens_in}
+use Rattle.wasm_defs.specs.Trees.{Sort, Part, Seq, Nothing, Simple, Block, Loop, If, Else, tokens_in}
 use Rattle.wasm_defs.specs.Typing.{Types, Context, inside, rule_of}
 use Rattle.wasm_defs.specs.Places.{Place, after_rule, shape, after_block, after_if, end_of}
 use Rattle.wasm_defs.proofs.EachOperation.{each_same}
 use Rattle.frame_layout.specs.declared.layout.Layout.{Layout}
 use Rattle.frame_layout.specs.Macros.{x0, ra, distance, far}
 use Rattle.frame_layout.specs.Templates.{Declarations, Label, EmitContext, label_at, last_label, move_words, jump_words, unless_words, jump_if_words, jumps, table_front, jump_table_words, operate_words, declarations, words, zero_locals, prologue, result_words, epilogue, import_stub, exit_stub}
-use Rattle.frame_layout.specs.Functions.{label, over, size, code, test_words, Trap, trap_at, traps_of, site_of, traps, body_place, body_size, body_code, function_code, body_traps, sites_of}
+use Rattle.frame_layout.specs.Functions.{label, over, over_from, size, code, test_words, Trap, trap_at, traps_of, site_of, traps, body_place, body_size, body_code, function_code, body_traps, sites_of}
 use Rattle.frame_layout.specs.Traps.{is_number, is_call, found, trap_places, room_trap}
 use Rattle.frame_layout.proofs.TrapWords.{traps_are_found}
 use Rattle.frame_layout.proofs.Sizes.{taken_by, words_size, over_size, code_size}
@@ -173,7 +173,7 @@ module _ (w : EmitContext) (distance_to : ℕ → ℕ → ℕ) where
   away = record w { distance_to = distance_to }
 
   -- a block, whose label takes these and leads to this place, and what is behind it
-  block_found : (c : Context) (labels others : List Label) → taken_by labels ≡ taken_by others → (takes : Types) (base place end : ℕ) (next : Place) (body rest : Seq) (h here n behind : ℕ)
+  block_found : {sort : Sort} (c : Context) (labels others : List Label) → taken_by labels ≡ taken_by others → (takes : Types) (base place end : ℕ) (next : Place) (body : Part sort) (rest : Seq) (h here n behind : ℕ)
       → ((inner counted : List Label) → taken_by inner ≡ taken_by counted → (left : ℕ) → Finds n (code w (inside c takes) inner (Some h) here body) (places_of (traps away (inside c takes) counted (Some h) n left body)))
       → ((there : ℕ) → Finds there (code w c labels next end rest) (places_of (traps away c others next there behind rest)))
       → Finds n (code w (inside c takes) (label base (length takes) place ∷ labels) (Some h) here body ++ code w c labels next end rest)
@@ -188,7 +188,7 @@ module _ (w : EmitContext) (distance_to : ℕ → ℕ → ℕ) where
       both_traps n there (code w within inner (Some h) here body) (code w c labels next end rest) (traps away within counted (Some h) n left body) (traps away c others next there behind rest)
       (ap (λ (k : ℕ). n + k) (code_size w distance_to within inner counted alike body (Some h) here)) (own inner counted alike left) (later there)
 
-  tree_found : (c : Context) (labels others : List Label) → taken_by labels ≡ taken_by others → (tree : Seq) (place : Place) (here n behind : ℕ)
+  tree_found : {sort : Sort} (c : Context) (labels others : List Label) → taken_by labels ≡ taken_by others → (tree : Part sort) (place : Place) (here n behind : ℕ)
       → Finds n (code w c labels place here tree) (places_of (traps away c others place n behind tree))
   tree_found c labels others same tree None here n behind = record { found_is = refl; ends = refl }
   tree_found c labels others same Nothing (Some h) here n behind = record { found_is = refl; ends = refl }
@@ -212,21 +212,14 @@ module _ (w : EmitContext) (distance_to : ℕ → ℕ → ℕ) where
       let end = here + size w (inside c s.params) (label base (length s.params) here ∷ labels) (Some h) body in
       block_found c labels others same s.params base here end (after_block s (Some h)) body rest h here n behind
       (λ inner counted alike left. tree_found (inside c s.params) inner counted alike body (Some h) here n left) (λ there. tree_found c labels others same rest (after_block s (Some h)) end there behind)
-  tree_found c labels others same (If type body rest) (Some h) here n behind =
-      let s = shape c type in
-      let base = h - 1 - length s.params in
-      let end = here + 6 + size w (inside c s.results) (label base (length s.results) 0 ∷ labels) (Some (h - 1)) body in
-      both_traps n (n + 6) (test_words w h here end) _ [] _ refl (test_silent w h here end n)
-      (block_found c labels others same s.results base end end (after_if s (Some h)) body rest (h - 1) (here + 6) (n + 6) behind
-      (λ inner counted alike left. tree_found (inside c s.results) inner counted alike body (Some (h - 1)) (here + 6) (n + 6) left) (λ there. tree_found c labels others same rest (after_if s (Some h)) end there behind))
-  tree_found c labels others same (IfElse type body other rest) (Some h) here n behind =
+  tree_found c labels others same (If type body other rest) (Some h) here n behind =
       let s = shape c type in
       let within = inside c s.results in
       let base = h - 1 - length s.params in
       let k = length s.results in
       let before = label base k 0 ∷ labels in
       let first_end = here + 6 + size w within before (Some (h - 1)) body in
-      let live = end_of within body (Some (h - 1)) in
+      let live = over_from other (end_of within body (Some (h - 1))) in
       let second = first_end + length (over live 0 0) in
       let end = second + size w within before (Some (h - 1)) other in
       let inner = label base k end ∷ labels in
@@ -234,7 +227,7 @@ module _ (w : EmitContext) (distance_to : ℕ → ℕ → ℕ) where
       let alike = ap (λ (ns : List ℕ). k ∷ ns) same in
       let over_at = n + 6 + size away within counted (Some (h - 1)) body in
       let second_at = over_at + length (over live 0 0) in
-      let one_left = 2 + tokens_in other + tokens_in rest + behind in
+      let one_left = 1 + tokens_in other + tokens_in rest + behind in
       let one = code w within inner (Some (h - 1)) (here + 6) body in
       let jump = over live first_end end in
       let one_traps = traps away within counted (Some (h - 1)) (n + 6) one_left body in
@@ -244,6 +237,7 @@ module _ (w : EmitContext) (distance_to : ℕ → ℕ → ℕ) where
       (both_traps over_at second_at jump _ [] _ (ap (λ (k : ℕ). over_at + k) (over_size w distance_to live first_end end)) (over_silent w live first_end end over_at)
       (block_found c labels others same s.results base end end (after_if s (Some h)) other rest (h - 1) second second_at behind
       (λ inner counted alike left. tree_found within inner counted alike other (Some (h - 1)) second second_at left) (λ there. tree_found c labels others same rest (after_if s (Some h)) end there behind))))
+  tree_found c labels others same (Else other) (Some h) here n behind = tree_found c labels others same other (Some h) here n behind
 
 -- ---- functions and stubs
 

@@ -2,7 +2,7 @@
 use Rattle.std.specs.Prelude.{◌^◌, ◌<◌}
 use Rattle.wasm_defs.specs.declared.token.Plain.{Plain}
 use Rattle.wasm_defs.specs.declared.token.Plain.TheVariants.{Unreachable, Br, BrIf, BrTable, Return, Call, CallIndirect, Load, Store, Const}
-use Rattle.wasm_defs.specs.Trees.{Seq, Nothing, Simple, Block, Loop, If, IfElse}
+use Rattle.wasm_defs.specs.Trees.{Sort, Part, Nothing, Simple, Block, Loop, If, Else}
 use Rattle.wasm_defs.specs.Values.{modulus, unsigned}
 
 -- instructions that neither branch nor call: numeric, parametric, variable and memory ones, and `nop`; a constant is one of its
@@ -26,10 +26,10 @@ IsCoveredStep (Store op m) = m.offset < 2 ^ 32
 IsCoveredStep (Const t n) = unsigned t n < modulus t
 IsCoveredStep p = Unit {0}
 
-abbrev pub IsCovered : Seq → Type 0
+abbrev pub IsCovered : {sort : Sort} → Part sort → Type 0
 IsCovered Nothing = Unit {0}
 IsCovered (Simple p rest) = IsCoveredStep p × IsCovered rest
 IsCovered (Block type body rest) = IsCovered body × IsCovered rest
 IsCovered (Loop type body rest) = IsCovered body × IsCovered rest
-IsCovered (If type body rest) = IsCovered body × IsCovered rest
-IsCovered (IfElse type body other rest) = IsCovered body × IsCovered other × IsCovered rest
+IsCovered (If type body other rest) = IsCovered body × IsCovered other × IsCovered rest
+IsCovered (Else other) = IsCovered other

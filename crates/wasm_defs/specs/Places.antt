@@ -2,7 +2,7 @@
 use Rattle.std.specs.Prelude.{ℕ, ◌+◌, ◌-◌, List, [], ◌∷◌, length, max, Option, None, Some}
 use Rattle.wasm_defs.specs.declared.types.ValType.TheVariants.{I32}
 use Rattle.wasm_defs.specs.declared.token.BlockType.{BlockType}
-use Rattle.wasm_defs.specs.Trees.{Seq, Nothing, Simple, Block, Loop, If, IfElse}
+use Rattle.wasm_defs.specs.Trees.{Sort, Part, Seq, Nothing, Simple, Block, Loop, If, Else}
 use Rattle.wasm_defs.specs.Typing.{Signature, Context, inside, Rule, Untyped, Fixed, Stops, Discards, Selects, rule_of, block_type}
 
 -- the number of operands, the enclosing blocks' too, where the point is reachable
@@ -42,11 +42,10 @@ end_of c Nothing place = place
 end_of c (Simple p rest) place = end_of c rest (after_rule (rule_of c p) place)
 end_of c (Block type body rest) place = end_of c rest (after_block (shape c type) place)
 end_of c (Loop type body rest) place = end_of c rest (after_block (shape c type) place)
-end_of c (If type body rest) place = end_of c rest (after_if (shape c type) place)
-end_of c (IfElse type body other rest) place = end_of c rest (after_if (shape c type) place)
+end_of c (If type body other rest) place = end_of c rest (after_if (shape c type) place)
 
--- the points before a sequence's tokens, and then others
-abbrev pub places : Context → Seq → Place → List Place → List Place
+-- the points before a sequence's tokens, and after a branch's, and then others
+abbrev pub places : {sort : Sort} → Context → Part sort → Place → List Place → List Place
 places c Nothing place after = after
 places c (Simple p rest) place after = place ∷ places c rest (after_rule (rule_of c p) place) after
 places c (Block type body rest) place after =
@@ -57,16 +56,12 @@ places c (Loop type body rest) place after =
     let s = shape c type in
     let within = inside c s.params in
     place ∷ places within body place (end_of within body place ∷ places c rest (after_block s place) after)
-places c (If type body rest) place after =
+places c (If type body other rest) place after =
     let s = shape c type in
     let within = inside c s.results in
     let first = moved 1 0 place in
-    place ∷ places within body first (end_of within body first ∷ places c rest (after_if s place) after)
-places c (IfElse type body other rest) place after =
-    let s = shape c type in
-    let within = inside c s.results in
-    let first = moved 1 0 place in
-    place ∷ places within body first (end_of within body first ∷ places within other first (end_of within other first ∷ places c rest (after_if s place) after))
+    place ∷ places within body first (end_of within body first ∷ places within other first (places c rest (after_if s place) after))
+places c (Else other) place after = places c other place (end_of c other place ∷ after)
 
 -- the points before a body's tokens, its own `end` among them
 abbrev pub places_of : Context → Seq → List Place

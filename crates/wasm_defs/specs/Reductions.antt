@@ -13,7 +13,7 @@ use Rattle.wasm_defs.specs.declared.value.TrapKind.TheVariants as trap
 use Rattle.wasm_defs.specs.declared.place.Place.{Place}
 use Rattle.wasm_defs.specs.declared.token.Plain.{Plain}
 use Rattle.wasm_defs.specs.declared.token.Plain.TheVariants.{Unreachable, Br, BrIf, BrTable, Return, Call, CallIndirect}
-use Rattle.wasm_defs.specs.Trees.{Seq, Nothing, Simple, Block, Loop, If, IfElse, tokens_in}
+use Rattle.wasm_defs.specs.Trees.{Part, Branch, Seq, Nothing, Simple, Block, Loop, If, Else, tokens_in}
 use Rattle.wasm_defs.specs.Typing.{Types, Signature, same_function_types}
 use Rattle.wasm_defs.specs.Places.{shape}
 use Rattle.wasm_defs.specs.Values.{Value, zero_of}
@@ -148,14 +148,19 @@ within c operands s arity target body between rest =
     goes_on c c.store c.frame.locals (take count operands) body
     (record { arity = arity; target = target; below = drop count operands; after = rest; between = between } ∷ c.frame.labels)
 
--- between the first branch and what follows the `if` are so many tokens, and after the second one its `end`
-abbrev pub choose : Config → Signature → (body : Seq) → (between : ℕ) → (other rest : Seq) → List Value → Step
-choose c s body between other rest [] = Stuck
-choose c s body between other rest (x ∷ below) = choose_by x.number
+-- without its `else`
+abbrev pub branch_of : Part Branch → Seq
+branch_of Nothing = Nothing
+branch_of (Else other) = other
+
+-- between the first branch and what follows the `if` are the second one and its `end`
+abbrev pub choose : Config → Signature → (body : Seq) (other : Part Branch) (rest : Seq) → List Value → Step
+choose c s body other rest [] = Stuck
+choose c s body other rest (x ∷ below) = choose_by x.number
   where
     choose_by : ℕ → Step
-    choose_by zero = within c below s (length s.results) rest other 1 rest
-    choose_by (suc n) = within c below s (length s.results) rest body between rest
+    choose_by zero = within c below s (length s.results) rest (branch_of other) 1 rest
+    choose_by (suc n) = within c below s (length s.results) rest body (1 + tokens_in other) rest
 
 module _ (i : Instance) where
   -- an indirect call (4.4.5.11) by a row of the table, of which there is one at most
@@ -188,9 +193,7 @@ module _ (i : Instance) where
   reduce c (Loop type body rest) =
       let s = shape i.context type in
       within c c.frame.operands s (length s.params) (Loop type body rest) body 1 rest
-  reduce c (If type body rest) = choose c (shape i.context type) body 1 Nothing rest c.frame.operands
-  -- `else`, the second branch, and `end`
-  reduce c (IfElse type body other rest) = choose c (shape i.context type) body (2 + tokens_in other) other rest c.frame.operands
+  reduce c (If type body other rest) = choose c (shape i.context type) body other rest c.frame.operands
 
   -- ---- one weight
 

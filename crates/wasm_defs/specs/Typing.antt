@@ -21,7 +21,7 @@ use Rattle.wasm_defs.specs.declared.token.BulkOp.TheVariants.{Fill, Copy, Init}
 use Rattle.wasm_defs.specs.declared.token.Plain.{Plain}
 use Rattle.wasm_defs.specs.declared.token.Plain.TheVariants.{Unreachable, Nop, Br, BrIf, BrTable, Return, Call, CallIndirect, Drop, Select, LocalGet, LocalSet, LocalTee, GlobalGet, GlobalSet, Load, Store, MemorySize, MemoryGrow, Bulk, DataDrop, Const, Numeric}
 use Rattle.wasm_defs.specs.Opcodes.{row_type, row_access}
-use Rattle.wasm_defs.specs.Trees.{Seq, Nothing, Simple, Block, Loop, If, IfElse}
+use Rattle.wasm_defs.specs.Trees.{Sort, Part, Seq, Nothing, Simple, Block, Loop, If, Else}
 
 abbrev pub Types : Type 0
 Types = List ValType
@@ -219,8 +219,8 @@ block_type c Empty = Some (record { params = []; results = [] })
 block_type c (Value t) = Some (record { params = []; results = t ∷ [] })
 block_type c (Index i) = option_signature (slice_get c.types i)
 
--- the sequence takes the operands `from` to the operands `to`
-abbrev pub Typed : Context → Seq → Types → Types → Type 0
+-- a sequence takes the operands `from` to the operands `to`; without a second branch they stay
+abbrev pub Typed : {sort : Sort} → Context → Part sort → Types → Types → Type 0
 Typed c Nothing from to = from ≡ to
 Typed c (Simple p rest) from to = (mid : Types) × Moves (rule_of c p) from mid × Typed c rest mid to
 Typed c (Block type body rest) from to =
@@ -229,13 +229,11 @@ Typed c (Block type body rest) from to =
 Typed c (Loop type body rest) from to =
     (f : Signature) × (below : Types) × (block_type c type ≡ Some f) × (from ≡ f.params ++ below)
     × Typed (inside c f.params) body f.params f.results × Typed c rest (f.results ++ below) to
-Typed c (If type body rest) from to =
-    (f : Signature) × (below : Types) × (block_type c type ≡ Some f) × (from ≡ I32 ∷ f.params ++ below)
-    × (f.params ≡ f.results) × Typed (inside c f.results) body f.params f.results × Typed c rest (f.results ++ below) to
-Typed c (IfElse type body other rest) from to =
+Typed c (If type body other rest) from to =
     (f : Signature) × (below : Types) × (block_type c type ≡ Some f) × (from ≡ I32 ∷ f.params ++ below)
     × Typed (inside c f.results) body f.params f.results × Typed (inside c f.results) other f.params f.results
     × Typed c rest (f.results ++ below) to
+Typed c (Else other) from to = Typed c other from to
 
 -- a function's body: its label and its results are the function's (Core 3.4.1)
 abbrev pub IsBody : Context → Seq → Type 0

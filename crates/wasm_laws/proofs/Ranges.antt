@@ -11,7 +11,7 @@ use Rattle.wasm_defs.specs.Faults.{tokens_of}
 use Rattle.wasm_defs.specs.Fields.{Cursor, nat_of, window, room_of, from_reading, number, here, u32, vector, repeated, Read, Got, Fault, Wants}
 use Rattle.wasm_defs.specs.Bodies.{with_index, constant, instruction, body_read, type_by, block_type, with_type, branch_table, label, indirect, with_zero, copying, by_number, prefixed, with_mem_arg, mem_arg, zero_byte, initializing, control, variable, memory, accessed_at, operated_at, numeric}
 use Rattle.wasm_defs.specs.Opcodes.{operations, accesses}
-use Rattle.wasm_defs.specs.Trees.{Seq, Nothing, Simple, Block, Loop, If, IfElse, spelled, Tree}
+use Rattle.wasm_defs.specs.Trees.{Sort, Part, Seq, Nothing, Simple, Block, Loop, If, Else, spelled, Tree}
 use Rattle.wasm_defs.specs.declared.token.Plain.{Plain}
 use Rattle.wasm_defs.specs.declared.token.BulkOp.TheVariants.{Fill}
 use Rattle.wasm_defs.specs.declared.token.Plain.TheVariants.{LocalGet, LocalSet, LocalTee, Br, BrIf, Call, GlobalGet, GlobalSet, MemorySize, MemoryGrow, Bulk, DataDrop}
@@ -298,7 +298,7 @@ tokens_are_in_range counted first bytes fits =
     (each_token HasBytes (λ c d p known. bytes_behind p.taken d.rest (subst AreBytes p.parts known)) TokenIsInRange counted (instruction_in_range counted) first bytes fits)
 
 -- of the tokens that encode a sequence, and those after
-both_in_range : (tree : Seq) (after : List Token) → TokensAreInRange (spelled tree after) → TreeIsInRange tree × TokensAreInRange after
+both_in_range : {sort : Sort} (tree : Part sort) (after : List Token) → TokensAreInRange (spelled tree after) → TreeIsInRange tree × TokensAreInRange after
 both_in_range Nothing after h = (tt, h)
 both_in_range (Simple p rest) after h = let more = both_in_range rest after h.1 in ((h.0, more.0), more.1)
 both_in_range (Block type body rest) after h =
@@ -309,15 +309,12 @@ both_in_range (Loop type body rest) after h =
     let first = both_in_range body (token.End ∷ spelled rest after) h.1 in
     let more = both_in_range rest after first.1.1 in
     ((h.0, first.0, more.0), more.1)
-both_in_range (If type body rest) after h =
-    let first = both_in_range body (token.End ∷ spelled rest after) h.1 in
-    let more = both_in_range rest after first.1.1 in
-    ((h.0, first.0, more.0), more.1)
-both_in_range (IfElse type body other rest) after h =
-    let first = both_in_range body (token.Else ∷ spelled other (token.End ∷ spelled rest after)) h.1 in
-    let second = both_in_range other (token.End ∷ spelled rest after) first.1.1 in
+both_in_range (If type body other rest) after h =
+    let first = both_in_range body (spelled other (token.End ∷ spelled rest after)) h.1 in
+    let second = both_in_range other (token.End ∷ spelled rest after) first.1 in
     let more = both_in_range rest after second.1.1 in
     ((h.0, first.0, second.0, more.0), more.1)
+both_in_range (Else other) after h = both_in_range other after h.1
 
 pub tree_is_in_range : (counted : Bool) (first : ℕ) (bytes : List ℕ) (tree : Seq) → AreBytes bytes → Tree (tokens_of (body_read counted first bytes).code.tokens) tree → TreeIsInRange tree
 tree_is_in_range counted first bytes tree fits e = (both_in_range tree (token.End ∷ []) (subst TokensAreInRange e (tokens_are_in_range counted first bytes fits))).0

@@ -10,7 +10,7 @@ use Rattle.wasm_defs.specs.declared.token.Plain.{Plain}
 use Rattle.wasm_defs.specs.declared.token.Plain.TheVariants.{Br, BrIf, BrTable, Call, CallIndirect, LocalGet, LocalSet, LocalTee, GlobalGet, GlobalSet, Load, Store, Bulk, DataDrop, Const}
 use Rattle.wasm_defs.specs.declared.token.Token.{Token}
 use Rattle.wasm_defs.specs.declared.token.Token.TheVariants as token
-use Rattle.wasm_defs.specs.Trees.{Seq, Nothing, Simple, Block, Loop, If, IfElse}
+use Rattle.wasm_defs.specs.Trees.{Sort, Part, Nothing, Simple, Block, Loop, If, Else}
 
 -- a block's type that bytes encode: where it is one of the module's types, its index has 32 bits
 abbrev pub IsSpelledType : BlockType → Type 0
@@ -52,10 +52,10 @@ abbrev pub TokensAreInRange : List Token → Type 0
 TokensAreInRange [] = Unit {0}
 TokensAreInRange (t ∷ ts) = TokenIsInRange t × TokensAreInRange ts
 
-abbrev pub TreeIsInRange : Seq → Type 0
+abbrev pub TreeIsInRange : {sort : Sort} → Part sort → Type 0
 TreeIsInRange Nothing = Unit {0}
 TreeIsInRange (Simple p rest) = IsInRange p × TreeIsInRange rest
 TreeIsInRange (Block type body rest) = IsSpelledType type × TreeIsInRange body × TreeIsInRange rest
 TreeIsInRange (Loop type body rest) = IsSpelledType type × TreeIsInRange body × TreeIsInRange rest
-TreeIsInRange (If type body rest) = IsSpelledType type × TreeIsInRange body × TreeIsInRange rest
-TreeIsInRange (IfElse type body other rest) = IsSpelledType type × TreeIsInRange body × TreeIsInRange other × TreeIsInRange rest
+TreeIsInRange (If type body other rest) = IsSpelledType type × TreeIsInRange body × TreeIsInRange other × TreeIsInRange rest
+TreeIsInRange (Else other) = TreeIsInRange other

@@ -5,33 +5,34 @@ use Rattle.rv_isa.specs.declared.operations.Op.{Op}
 use Rattle.rv_isa.specs.Runs.{HasAt}
 use Rattle.wasm_defs.specs.declared.token.BlockType.{BlockType}
 use Rattle.wasm_defs.specs.declared.types.ValType.TheVariants.{I32}
-use Rattle.wasm_defs.specs.Trees.{Seq, Nothing, If, IfElse, tokens_in}
+use Rattle.wasm_defs.specs.Trees.{Branch, Part, Seq, Nothing, If, Else, tokens_in}
 use Rattle.wasm_defs.specs.Typing.{Types, Context, Signature, Typed, inside}
 use Rattle.wasm_defs.specs.Places.{Place, end_of, shape, after_if}
 use Rattle.wasm_defs.specs.Configurations.{Func, Instance}
+use Rattle.wasm_defs.specs.Reductions.{branch_of}
 use Rattle.frame_layout.specs.Templates.{Label}
-use Rattle.frame_layout.specs.Functions.{label, size, code, over, test_words, traps}
+use Rattle.frame_layout.specs.Functions.{label, size, code, over, over_from, test_words, traps}
 use Rattle.frame_layout.proofs.Standing.{has_first, has_rest}
 use Rattle.simulation.specs.Functions.{TextPlaces}
 use Rattle.simulation.specs.Covered.{IsCovered}
 use Rattle.simulation.proofs.Frames.Frames.{Open, labels_of, behind_of, under, AreSited, Compiled, Ending, SitsAt}
-use Rattle.simulation.proofs.Frames.Heights.{peak, peak_nothing, peak_here, peak_if, peak_if_else, of_if, of_if_else}
+use Rattle.simulation.proofs.Frames.Heights.{peak, peak_if, of_if}
 use Rattle.simulation.proofs.Frames.Sited.{sited_first, sited_rest, traps_alike}
 use Rattle.simulation.proofs.Frames.Sitting.{has_at, ending_at}
 use Rattle.frame_layout.proofs.Sizes.{code_size, over_size}
 use Rattle.simulation.proofs.Control.Blocks.{Pieces, ending_falls}
 
 module _ (text : List (Option Op)) (inst : Instance) (places : TextPlaces) {f : Func} (k : Compiled text inst places f) (os : List Open) where
-  -- a test leads on to the first sequence, which so many tokens are between and what follows, or to the second one at its index
-  pub record Choice (s : Signature) (h : ℕ) (below : Types) (here : ℕ) (body other rest : Seq) (between : ℕ) (to : Types) (there : ℕ) : Type 0 where
+  -- a test leads on to the first sequence, or to the second one at its index
+  pub record Choice (s : Signature) (h : ℕ) (below : Types) (here : ℕ) (body : Seq) (other : Part Branch) (rest : Seq) (to : Types) (there : ℕ) : Type 0 where
     pub second : ℕ
     pub stop : ℕ
     pub test : HasAt text (k.begin + here) (test_words k.around h here second)
     pub test_inside : k.begin + (here + 6) ≤ length text
     pub second_near : k.begin + second ≤ length text
     pub near : k.begin + stop ≤ length text
-    pub first_pieces : Pieces text inst places k os s s.results (h - 1) below (here + 6) body rest stop stop between to there
-    pub second_pieces : Pieces text inst places k os s s.results (h - 1) below second other rest stop stop 1 to there
+    pub first_pieces : Pieces text inst places k os s s.results (h - 1) below (here + 6) body rest stop stop (1 + tokens_in other) to there
+    pub second_pieces : Pieces text inst places k os s s.results (h - 1) below second (branch_of other) rest stop stop 1 to there
 
   abbrev at : Context
   at = under k.context os
@@ -93,64 +94,25 @@ module _ (text : List (Option Op)) (inst : Instance) (places : TextPlaces) {f : 
       after = after;
     }
 
-    pub if_choice : 1 ≤ h → (x : SitsAt text inst places k os (Some h) from here (If type body rest) to there) → (below : Types) × (from ≡ I32 ∷ (shape (under k.context os) type).params ++ below) × Choice (shape (under k.context os) type) h below here body Nothing rest 1 to there
-    if_choice one x =
-        let b = of_if at type body rest from to x.typed in
-        let low = peak_if at type body rest (Some h) in
-        let end = here + 6 + size k.around within (label base n 0 ∷ labels) (Some (h - 1)) body in
-        let inner = code k.around within (label base n end ∷ labels) (Some (h - 1)) (here + 6) body in
-        let behind = code k.around at labels (after_if s (Some h)) end rest in
-        let count : length inner ≡ size k.around within (label base n 0 ∷ labels) (Some (h - 1)) body = code_size k.around k.around.distance_to within (label base n end ∷ labels) (label base n 0 ∷ labels) refl body (Some (h - 1)) (here + 6) in
-        let split = length-append inner behind in
-        let all = x.inside in
-        let test = test_words k.around h here end in
-        let held = 1 + tokens_in rest + behind_of os in
-        let one_traps = traps k.around within (label base n 0 ∷ labels) (Some (h - 1)) (here + 6) held body in
-        let more_traps = traps k.around at labels (after_if s (Some h)) end (behind_of os) rest in
-        let has_both = has_rest text (k.begin + here) test (inner ++ behind) x.has in
-        let after = behind_sits b.below end x.covered.1 b.outer (omega (arith, low.1, x.low))
-        (has_at text (k.begin + here + 6 + length inner) (k.begin + end) behind (omega arith) (has_rest text (k.begin + here + 6) inner behind has_both)) (omega arith)
-        (ending_at text inst places k os (end_of at rest (after_if s (Some h))) (here + length (test ++ (inner ++ behind))) (end + length behind) there (omega arith) x.ending)
-        (sited_rest places.trap k.begin f.origin one_traps more_traps x.sited) in
-        let near : k.begin + end ≤ length text = omega arith in (
-          b.below,
-          b.before,
-          record {
-            second = end;
-            stop = end;
-            test = has_first text (k.begin + here) test (inner ++ behind) x.has;
-            test_inside = omega arith;
-            second_near = near;
-            near = near;
-            first_pieces = pieces body b.below (here + 6) end 1 near after x.covered.0 b.inner (omega (arith, low.0, x.low))
-                (has_first text (k.begin + (here + 6)) inner behind (has_at text (k.begin + here + 6) (k.begin + (here + 6)) (inner ++ behind) (omega arith) has_both)) (omega arith)
-                (ending_falls text inst places k (end_of within body (Some (h - 1))) (here + 6 + length inner) end (omega arith)) (sited_first places.trap k.begin f.origin one_traps more_traps x.sited);
-            second_pieces = record {
-              base = base;
-              base_is = refl;
-              near = near;
-              inner = record {
-                covered = tt;
-                typed = b.same;
-                low = peak_nothing within (h - 1) k.around.layout.greatest (omega (arith, x.low, peak_here at (If type body rest) h));
-                has = tt;
-                inside = omega arith;
-                ending = inl (omega arith);
-                sited = tt;
-              };
-              after = after;
-            };
-          },
-        )
+    -- and of a second branch
+    branch_pieces : (other : Part Branch) (below : Types) (i end : ℕ) → k.begin + end ≤ length text → SitsAt text inst places k os (Some (h - 1 - length s.params + length s.results)) (s.results ++ below) end rest to there
+        → IsCovered other → Typed within other s.params s.results → peak within (branch_of other) (Some (h - 1 + 0)) ≤ k.around.layout.greatest → HasAt text (k.begin + i) (code k.around within (label base n end ∷ labels) (Some (h - 1)) i other)
+        → k.begin + end ≤ length text → i + length (code k.around within (label base n end ∷ labels) (Some (h - 1)) i other) ≡ end
+        → AreSited places.trap k.begin f.origin (traps k.around within (label base n 0 ∷ labels) (Some (h - 1)) i (1 + tokens_in rest + behind_of os) other)
+        → Pieces text inst places k os s s.results (h - 1) below i (branch_of other) rest end end 1 to there
+    branch_pieces Nothing below i end near after covered typed low has inside_text ends sited =
+        pieces Nothing below i end 1 near after covered typed low has (omega (arith, ends)) (ending_falls text inst places k (Some (h - 1)) (i + 0) end ends) sited
+    branch_pieces (Else other) below i end near after covered typed low has inside_text ends sited =
+        pieces other below i end 1 near after covered typed low has (omega (arith, ends)) (ending_falls text inst places k (end_of within other (Some (h - 1))) _ end ends) sited
 
-    module _ (other : Seq) where
-      pub if_else_choice : (x : SitsAt text inst places k os (Some h) from here (IfElse type body other rest) to there) → (below : Types) × (from ≡ I32 ∷ (shape (under k.context os) type).params ++ below) × Choice (shape (under k.context os) type) h below here body other rest (2 + tokens_in other) to there
-      if_else_choice x =
-          let b = of_if_else at type body rest from to other x.typed in
-          let low = peak_if_else at type body rest (Some h) other in
+    module _ (other : Part Branch) where
+      pub if_choice : (x : SitsAt text inst places k os (Some h) from here (If type body other rest) to there) → (below : Types) × (from ≡ I32 ∷ (shape (under k.context os) type).params ++ below) × Choice (shape (under k.context os) type) h below here body other rest to there
+      if_choice x =
+          let b = of_if at type body rest from to other x.typed in
+          let low = peak_if at type body rest (Some h) other in
           let counted = label base n 0 ∷ labels in
           let first_end = here + 6 + size k.around within counted (Some (h - 1)) body in
-          let live = end_of within body (Some (h - 1)) in
+          let live = over_from other (end_of within body (Some (h - 1))) in
           let second = first_end + length (over live 0 0) in
           let end = second + size k.around within counted (Some (h - 1)) other in
           let inner = label base n end ∷ labels in
@@ -166,7 +128,7 @@ module _ (text : List (Option Op)) (inst : Instance) (places : TextPlaces) {f : 
           let split_jump = length-append jump (two ++ behind) in
           let split_two = length-append two behind in
           let all = x.inside in
-          let held = 2 + tokens_in other + tokens_in rest + behind_of os in
+          let held = 1 + tokens_in other + tokens_in rest + behind_of os in
           let held' = 1 + tokens_in rest + behind_of os in
           let one_traps = traps k.around within counted (Some (h - 1)) (here + 6) held body in
           let two_traps = traps k.around within counted (Some (h - 1)) second held' other in
@@ -189,15 +151,17 @@ module _ (text : List (Option Op)) (inst : Instance) (places : TextPlaces) {f : 
               test_inside = omega arith;
               second_near = omega arith;
               near = near;
-              first_pieces = pieces body b.below (here + 6) end (2 + tokens_in other) near after x.covered.0 b.inner (omega (arith, low.0, x.low)) (has_first text (k.begin + (here + 6)) one (jump ++ (two ++ behind)) has_one)
+              first_pieces = pieces body b.below (here + 6) end (1 + tokens_in other) near after x.covered.0 b.inner (omega (arith, low.0, x.low)) (has_first text (k.begin + (here + 6)) one (jump ++ (two ++ behind)) has_one)
                   (omega arith)
-                  (ending_at text inst places k os live first_end (here + 6 + length one) end (omega arith) (over_leads live first_end end (has_first text (k.begin + first_end) jump (two ++ behind) has_jump)))
+                  (ending_at text inst places k os (end_of within body (Some (h - 1))) first_end (here + 6 + length one) end (omega arith) (over_leads other (end_of within body (Some (h - 1))) first_end (has_first text (k.begin + first_end) jump (two ++ behind) has_jump)))
                   (sited_first places.trap k.begin f.origin one_traps (two_traps ++ more_traps) x.sited);
-              second_pieces = pieces other b.below second end 1 near after x.covered.1 b.second (omega (arith, low.1, x.low)) (has_first text (k.begin + second) two behind has_two) (omega arith)
-                  (ending_falls text inst places k (end_of within other (Some (h - 1))) (second + length two) end (omega arith)) (sited_first places.trap k.begin f.origin two_traps more_traps sited_more);
+              second_pieces = branch_pieces other b.below second end near after x.covered.1 b.second (omega (arith, low.1, x.low)) (has_first text (k.begin + second) two behind has_two) near (omega arith)
+                  (sited_first places.trap k.begin f.origin two_traps more_traps sited_more);
             },
           )
         where
-          over_leads : (p : Place) (here there : ℕ) → HasAt text (k.begin + here) (over p here there) → Ending text inst places k p here there
-          over_leads None here there has = tt
-          over_leads (Some i) here there has = inr has
+          over_leads : (b : Part Branch) (p : Place) (here : ℕ) → let there = here + length (over (over_from b p) 0 0) + size k.around within (label base n 0 ∷ labels) (Some (h - 1)) b in
+              HasAt text (k.begin + here) (over (over_from b p) here there) → Ending text inst places k p here there
+          over_leads Nothing p here has = ending_falls text inst places k p here (here + 0 + 0) (omega arith)
+          over_leads (Else o) None here has = tt
+          over_leads (Else o) (Some i) here has = inr has

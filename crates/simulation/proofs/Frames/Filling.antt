@@ -11,12 +11,12 @@ use Rattle.wasm_defs.specs.declared.operation.Operation.{Operation}
 use Rattle.wasm_defs.specs.declared.operation.Operation.TheVariants.{Unary}
 use Rattle.wasm_defs.specs.declared.token.Plain.{Plain}
 use Rattle.wasm_defs.specs.declared.token.Plain.TheVariants.{Br, BrIf, BrTable, Return, Call, Numeric}
-use Rattle.wasm_defs.specs.Trees.{Seq, Nothing, Simple, Block, Loop, If, IfElse}
+use Rattle.wasm_defs.specs.Trees.{Sort, Part, Seq, Nothing, Simple, Block, Loop, If, Else}
 use Rattle.wasm_defs.specs.Typing.{Context, rule_of, inside}
 use Rattle.wasm_defs.specs.Places.{Place, after_rule, shape, after_block, after_if, end_of}
 use Rattle.frame_layout.specs.Macros.{ra, t0, distance, far}
 use Rattle.frame_layout.specs.Templates.{Declarations, Label, EmitContext, load_operand, operate_words, prologue, epilogue, move_words, jump_words, unless_words, jumps, table_front, label_at, last_label, call_words, declarations, words}
-use Rattle.frame_layout.specs.Functions.{label, over, test_words, size, code, no_distance, near, with_distance, with_distances, call_of, calls, body_place, body_size, body_code, calls_of, function_code}
+use Rattle.frame_layout.specs.Functions.{label, over, over_from, test_words, size, code, no_distance, near, with_distance, with_distances, call_of, calls, body_place, body_size, body_code, calls_of, function_code}
 use Rattle.frame_layout.proofs.Sizes.{taken_by, words_size, over_size, code_size}
 
 -- ---- lists
@@ -118,12 +118,12 @@ module _ (w : EmitContext) where
   words_near : (d : Declarations) (labels others : List Label) → taken_by labels ≡ taken_by others → (h here : ℕ) (p : Plain) → length (words w d labels h here p) ≡ length (words (near w) d others h 0 p)
   words_near d labels others same h here p = words_size w no_distance d labels others same h here p
 
-  size_near : (c : Context) (labels others : List Label) → taken_by labels ≡ taken_by others → (tree : Seq) (place : Place) → size w c labels place tree ≡ size (near w) c others place tree
+  size_near : {sort : Sort} (c : Context) (labels others : List Label) → taken_by labels ≡ taken_by others → (tree : Part sort) (place : Place) → size w c labels place tree ≡ size (near w) c others place tree
   size_near c labels others same tree place = sym (code_size w w.distance_to c labels labels refl tree place 0) ∙ code_size w no_distance c labels others same tree place 0
 
   -- ---- sequences
 
-  code_fills : (c : Context) (labels counted : List Label) → taken_by labels ≡ taken_by counted → (tree : Seq) (place : Place) (here : ℕ)
+  code_fills : {sort : Sort} (c : Context) (labels counted : List Label) → taken_by labels ≡ taken_by counted → (tree : Part sort) (place : Place) (here : ℕ)
       → Fills w.distance_to here (calls (near w) c counted place here tree) (code (near w) c labels place here tree) (code w c labels place here tree)
   code_fills c labels counted same tree None here = fills_none w.distance_to here [] [] refl
   code_fills c labels counted same Nothing (Some h) here = fills_none w.distance_to here [] [] refl
@@ -183,34 +183,7 @@ module _ (w : EmitContext) where
       (code (near w) c labels after there rest) (code w c labels after there rest)
       (omega (arith, counts)) (code_fills within opened inner more body (Some h) here) (code_fills c labels counted same rest after there))
       (size_near within opened inner more body (Some h)) (size_near within opened opened refl body (Some h))
-  code_fills c labels counted same (If type body rest) (Some h) here =
-      let s = shape c type in
-      let within = inside c s.results in
-      let base = h - 1 - length s.params in
-      let n = length s.results in
-      let after = after_if s (Some h) in
-      let more = ap (λ (ns : List ℕ). n ∷ ns) same in
-      let inner = label base n 0 ∷ counted in
-      let count = size w within (label base n 0 ∷ labels) (Some (h - 1)) body in
-      let there = here + 6 + count in
-      let counts : length (code w within (label base n there ∷ labels) (Some (h - 1)) (here + 6) body) ≡ count =
-      code_size w w.distance_to within (label base n there ∷ labels) (label base n 0 ∷ labels) refl body (Some (h - 1)) (here + 6) in
-      at_one
-      (λ a b. Fills w.distance_to here (calls (near w) within inner (Some (h - 1)) (here + 6) body ++ calls (near w) c counted after (here + 6 + a) rest)
-      (test_words (near w) h here (here + 6 + b) ++ (code (near w) within (label base n (here + 6 + b) ∷ labels) (Some (h - 1)) (here + 6) body ++ code (near w) c labels after (here + 6 + b) rest))
-      (test_words w h here there ++ (code w within (label base n there ∷ labels) (Some (h - 1)) (here + 6) body ++ code w c labels after there rest)))
-      count (size (near w) within inner (Some (h - 1)) body) (size (near w) within (label base n 0 ∷ labels) (Some (h - 1)) body)
-      (fills_both w.distance_to here (here + 6) [] (calls (near w) within inner (Some (h - 1)) (here + 6) body ++ calls (near w) c counted after there rest)
-      (test_words (near w) h here there) (test_words w h here there)
-      (code (near w) within (label base n there ∷ labels) (Some (h - 1)) (here + 6) body ++ code (near w) c labels after there rest)
-      (code w within (label base n there ∷ labels) (Some (h - 1)) (here + 6) body ++ code w c labels after there rest)
-      refl (fills_none w.distance_to here (test_words (near w) h here there) (test_words w h here there) refl)
-      (fills_both w.distance_to (here + 6) there (calls (near w) within inner (Some (h - 1)) (here + 6) body) (calls (near w) c counted after there rest)
-      (code (near w) within (label base n there ∷ labels) (Some (h - 1)) (here + 6) body) (code w within (label base n there ∷ labels) (Some (h - 1)) (here + 6) body)
-      (code (near w) c labels after there rest) (code w c labels after there rest)
-      (omega (arith, counts)) (code_fills within (label base n there ∷ labels) inner more body (Some (h - 1)) (here + 6)) (code_fills c labels counted same rest after there)))
-      (size_near within (label base n 0 ∷ labels) inner more body (Some (h - 1))) (size_near within (label base n 0 ∷ labels) (label base n 0 ∷ labels) refl body (Some (h - 1)))
-  code_fills c labels counted same (IfElse type body other rest) (Some h) here =
+  code_fills c labels counted same (If type body other rest) (Some h) here =
       let s = shape c type in
       let within = inside c s.results in
       let base = h - 1 - length s.params in
@@ -219,7 +192,7 @@ module _ (w : EmitContext) where
       let more = ap (λ (ns : List ℕ). n ∷ ns) same in
       let inner = label base n 0 ∷ counted in
       let plain = label base n 0 ∷ labels in
-      let live = end_of within body (Some (h - 1)) in
+      let live = over_from other (end_of within body (Some (h - 1))) in
       let jump = length (over live 0 0) in
       let one = size w within plain (Some (h - 1)) body in
       let two = size w within plain (Some (h - 1)) other in
@@ -257,6 +230,7 @@ module _ (w : EmitContext) where
       whole
       (size_near within plain inner more body (Some (h - 1))) (size_near within plain plain refl body (Some (h - 1)))
       (size_near within plain inner more other (Some (h - 1))) (size_near within plain plain refl other (Some (h - 1)))
+  code_fills c labels counted same (Else other) (Some h) here = code_fills c labels counted same other (Some h) here
 
   -- ---- functions
 

@@ -6,7 +6,7 @@ use Rattle.rv_isa.specs.Runs.{place, Reaches, FitWindows}
 use Rattle.rv_isa.proofs.RunLaws.{Reaches-none, Reaches-then}
 use Rattle.wasm_defs.specs.declared.place.Place.{Place}
 use Rattle.wasm_defs.specs.declared.value.TrapKind.{TrapKind}
-use Rattle.wasm_defs.specs.Trees.{Seq, Nothing, Simple, Block, Loop, If, IfElse}
+use Rattle.wasm_defs.specs.Trees.{Sort, Part, Seq, Nothing, Simple, Block, Loop, If, Else}
 use Rattle.wasm_defs.specs.Typing.{Types}
 use Rattle.wasm_defs.specs.Values.{Value, types_of_values, trap_number}
 use Rattle.wasm_defs.specs.Configurations.{Instance, Store, Invocation, Frame, Config, Outside, Inside, Carrying, Step, To, Returned, Trapped, Stopped, Waiting, Stuck, belows, whole, part, used, max_slots}
@@ -155,13 +155,13 @@ module _ (text : List (Option Op)) (inst : Instance) (places : TextPlaces) where
 -- ---- what a rule comes to
 
 -- how many rules without a word may follow one another at most
-abbrev pub ahead : Seq → ℕ
+abbrev pub ahead : {sort : Sort} → Part sort → ℕ
 ahead Nothing = 0
 ahead (Simple p rest) = 1 + ahead rest
 ahead (Block type body rest) = 2 + ahead body + ahead rest
 ahead (Loop type body rest) = 2 + ahead body + ahead rest
-ahead (If type body rest) = 2 + ahead body + ahead rest
-ahead (IfElse type body other rest) = 2 + ahead body + ahead other + ahead rest
+ahead (If type body other rest) = 2 + ahead body + ahead other + ahead rest
+ahead (Else other) = ahead other
 
 abbrev pub labels_ahead : List config.Label → ℕ
 labels_ahead [] = 0

@@ -9,7 +9,7 @@ use Rattle.wasm_defs.specs.declared.context.GlobalType.{GlobalType}
 use Rattle.wasm_defs.specs.declared.token.BlockType.{BlockType}
 use Rattle.wasm_defs.specs.declared.token.Plain.{Plain}
 use Rattle.wasm_defs.specs.declared.token.Plain.TheVariants.{Unreachable, Br, BrIf, BrTable, Return, Call, CallIndirect, Nop, Drop, Select, LocalGet, LocalSet, LocalTee, GlobalGet, GlobalSet, Const, Numeric}
-use Rattle.wasm_defs.specs.Trees.{Seq, Nothing, Simple, Block, Loop, If, IfElse, spelled}
+use Rattle.wasm_defs.specs.Trees.{Sort, Part, Seq, Nothing, Simple, Block, Loop, If, Else, spelled}
 use Rattle.wasm_defs.specs.declared.token.Token.{Token}
 use Rattle.wasm_defs.specs.declared.token.Token.TheVariants as token
 use Rattle.wasm_defs.proofs.EachOperation.{leaves_one}
@@ -27,22 +27,22 @@ max_lift = 1000
 abbrev pub TakesFew : Context → BlockType → Type 0
 TakesFew c type = (length (shape c type).params ≤ max_lift) × (length (shape c type).results ≤ max_lift)
 
-abbrev pub IsFew : Context → Seq → Type 0
+abbrev pub IsFew : {sort : Sort} → Context → Part sort → Type 0
 IsFew c Nothing = Unit {0}
 IsFew c (Simple p rest) = IsCoveredStep p × IsFew c rest
 IsFew c (Block type body rest) = TakesFew c type × IsFew c body × IsFew c rest
 IsFew c (Loop type body rest) = TakesFew c type × IsFew c body × IsFew c rest
-IsFew c (If type body rest) = TakesFew c type × IsFew c body × IsFew c rest
-IsFew c (IfElse type body other rest) = TakesFew c type × IsFew c body × IsFew c other × IsFew c rest
+IsFew c (If type body other rest) = TakesFew c type × IsFew c body × IsFew c other × IsFew c rest
+IsFew c (Else other) = IsFew c other
 
 -- the tokens of a sequence
-abbrev pub tokens_in : Seq → ℕ
+abbrev pub tokens_in : {sort : Sort} → Part sort → ℕ
 tokens_in Nothing = 0
 tokens_in (Simple p rest) = 1 + tokens_in rest
 tokens_in (Block type body rest) = 2 + tokens_in body + tokens_in rest
 tokens_in (Loop type body rest) = 2 + tokens_in body + tokens_in rest
-tokens_in (If type body rest) = 2 + tokens_in body + tokens_in rest
-tokens_in (IfElse type body other rest) = 3 + tokens_in body + tokens_in other + tokens_in rest
+tokens_in (If type body other rest) = 2 + tokens_in body + tokens_in other + tokens_in rest
+tokens_in (Else other) = 1 + tokens_in other
 
 -- a reachable point has so many operands at most
 abbrev pub IsUpTo : ℕ → Place → Type 0
@@ -144,10 +144,8 @@ module _ (i : Context) where
       up_more (most + max_lift + max_lift * tokens_in rest) (most + max_lift * (2 + tokens_in body + tokens_in rest)) _ (omega arith) (end_up c rest (most + max_lift) (after_block (shape c type) p) same few h.2 (moved_up (length (shape c type).params) (length (shape c type).results) most p (taking c type same h.0).1 up))
   end_up c (Loop type body rest) most p same few h up =
       up_more (most + max_lift + max_lift * tokens_in rest) (most + max_lift * (2 + tokens_in body + tokens_in rest)) _ (omega arith) (end_up c rest (most + max_lift) (after_block (shape c type) p) same few h.2 (moved_up (length (shape c type).params) (length (shape c type).results) most p (taking c type same h.0).1 up))
-  end_up c (If type body rest) most p same few h up =
-      up_more (most + max_lift + max_lift * tokens_in rest) (most + max_lift * (2 + tokens_in body + tokens_in rest)) _ (omega arith) (end_up c rest (most + max_lift) (after_if (shape c type) p) same few h.2 (moved_up (suc (length (shape c type).params)) (length (shape c type).results) most p (taking c type same h.0).1 up))
-  end_up c (IfElse type body other rest) most p same few h up =
-      up_more (most + max_lift + max_lift * tokens_in rest) (most + max_lift * (3 + tokens_in body + tokens_in other + tokens_in rest)) _ (omega arith) (end_up c rest (most + max_lift) (after_if (shape c type) p) same few h.3 (moved_up (suc (length (shape c type).params)) (length (shape c type).results) most p (taking c type same h.0).1 up))
+  end_up c (If type body other rest) most p same few h up =
+      up_more (most + max_lift + max_lift * tokens_in rest) (most + max_lift * (2 + tokens_in body + tokens_in other + tokens_in rest)) _ (omega arith) (end_up c rest (most + max_lift) (after_if (shape c type) p) same few h.3 (moved_up (suc (length (shape c type).params)) (length (shape c type).results) most p (taking c type same h.0).1 up))
 
   -- the points of a block, whose label takes these, and those behind it
   block_low : (c : Context) (takes : Types) → length takes ≤ max_lift → (body : Seq) (most k : ℕ) (p : Place) (behind : List Place) → c.types ≡ i.types → FewIn c → IsFew i body → IsUpTo most p → most + max_lift * tokens_in body ≤ k
@@ -159,7 +157,7 @@ module _ (i : Context) where
       own few' (end_of within body p ∷ behind) (higher_up_to (most + max_lift * tokens_in body) _ k (end_of within body p) (end_up within body most p same few' h up) le below)
 
   -- no point is higher than what comes before and after, and the tokens
-  pub tree_low : (c : Context) (tree : Seq) (most k : ℕ) (p : Place) (xs : List Place) → c.types ≡ i.types → FewIn c → IsFew i tree → IsUpTo most p → most + max_lift * tokens_in tree ≤ k → greatest xs ≤ k → greatest (places c tree p xs) ≤ k
+  pub tree_low : {sort : Sort} (c : Context) (tree : Part sort) (most k : ℕ) (p : Place) (xs : List Place) → c.types ≡ i.types → FewIn c → IsFew i tree → IsUpTo most p → most + max_lift * tokens_in tree ≤ k → greatest xs ≤ k → greatest (places c tree p xs) ≤ k
   tree_low c Nothing most k p xs same few h up le below = below
   tree_low c (Simple q rest) most k p xs same few h up le below =
       higher_up_to most _ k p up (omega arith) (tree_low c rest (most + max_lift) k (after_rule (rule_of c q) p) xs same few h.1 (rule_up (rule_of c q) most p (step_leaves c q few h.0) up) (omega arith) below)
@@ -175,23 +173,17 @@ module _ (i : Context) where
       higher_up_to most _ k p up (omega arith)
       (block_low c s.params one.0 body most k p _ same few h.1 up (omega arith) (λ few' ys. tree_low (inside c s.params) body most k p ys same few' h.1 up (omega arith))
       (tree_low c rest (most + max_lift) k (after_block s p) xs same few h.2 (moved_up (length s.params) (length s.results) most p one.1 up) (omega arith) below))
-  tree_low c (If type body rest) most k p xs same few h up le below =
+  tree_low c (If type body other rest) most k p xs same few h up le below =
       let s = shape c type in
       let one = taking c type same h.0 in
       let first = moved 1 0 p in
       let up' = moved_up 1 0 most p (omega arith) up in
       higher_up_to most _ k p up (omega arith)
       (block_low c s.results one.1 body (most + max_lift) k first _ same few h.1 up' (omega arith) (λ few' ys. tree_low (inside c s.results) body (most + max_lift) k first ys same few' h.1 up' (omega arith))
-      (tree_low c rest (most + max_lift) k (after_if s p) xs same few h.2 (moved_up (suc (length s.params)) (length s.results) most p one.1 up) (omega arith) below))
-  tree_low c (IfElse type body other rest) most k p xs same few h up le below =
-      let s = shape c type in
-      let one = taking c type same h.0 in
-      let first = moved 1 0 p in
-      let up' = moved_up 1 0 most p (omega arith) up in
-      higher_up_to most _ k p up (omega arith)
-      (block_low c s.results one.1 body (most + max_lift) k first _ same few h.1 up' (omega arith) (λ few' ys. tree_low (inside c s.results) body (most + max_lift) k first ys same few' h.1 up' (omega arith))
-      (block_low c s.results one.1 other (most + max_lift) k first _ same few h.2 up' (omega arith) (λ few' ys. tree_low (inside c s.results) other (most + max_lift) k first ys same few' h.2 up' (omega arith))
+      (tree_low (inside c s.results) other (most + max_lift) k first _ same (few_inside c s.results one.1 few) h.2 up' (omega arith)
       (tree_low c rest (most + max_lift) k (after_if s p) xs same few h.3 (moved_up (suc (length s.params)) (length s.results) most p one.1 up) (omega arith) below)))
+  tree_low c (Else other) most k p xs same few h up le below =
+      tree_low c other most k p (end_of c other p ∷ xs) same few h up (omega arith) (higher_up_to (most + max_lift * tokens_in other) _ k (end_of c other p) (end_up c other most p same few h up) (omega arith) below)
 
   -- so is a body
   pub body_low : (c : Context) (tree : Seq) → c.types ≡ i.types → FewIn (inside c c.results) → IsFew i tree → greatest (places_of c tree) ≤ max_lift * tokens_in tree
@@ -203,11 +195,11 @@ module _ (i : Context) where
       tree_low within tree 0 (max_lift * tokens_in tree) (Some 0) (end ∷ []) same few h (omega arith) (omega arith) (higher_up_to (0 + max_lift * tokens_in tree) 0 (max_lift * tokens_in tree) end up (omega arith) (omega arith))
 
 -- the tokens that encode it
-pub tokens_spelled : (tree : Seq) (after : List Token) → length (spelled tree after) ≡ tokens_in tree + length after
+pub tokens_spelled : {sort : Sort} (tree : Part sort) (after : List Token) → length (spelled tree after) ≡ tokens_in tree + length after
 tokens_spelled Nothing after = omega arith
 tokens_spelled (Simple p rest) after = omega (arith, tokens_spelled rest after)
 tokens_spelled (Block type body rest) after = omega (arith, tokens_spelled body (token.End ∷ spelled rest after), tokens_spelled rest after)
 tokens_spelled (Loop type body rest) after = omega (arith, tokens_spelled body (token.End ∷ spelled rest after), tokens_spelled rest after)
-tokens_spelled (If type body rest) after = omega (arith, tokens_spelled body (token.End ∷ spelled rest after), tokens_spelled rest after)
-tokens_spelled (IfElse type body other rest) after =
-    omega (arith, tokens_spelled body (token.Else ∷ spelled other (token.End ∷ spelled rest after)), tokens_spelled other (token.End ∷ spelled rest after), tokens_spelled rest after)
+tokens_spelled (If type body other rest) after =
+    omega (arith, tokens_spelled body (spelled other (token.End ∷ spelled rest after)), tokens_spelled other (token.End ∷ spelled rest after), tokens_spelled rest after)
+tokens_spelled (Else other) after = omega (arith, tokens_spelled other after)

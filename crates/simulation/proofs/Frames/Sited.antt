@@ -2,13 +2,13 @@
 use Rattle.std.proofs.Common.{◌≡◌, ℕ, ◌+◌, ◌-◌, ◌⊎◌, ⊎_elim, List, [], ◌∷◌, ◌++◌, length, map, Option, Some, None, refl, sym, ap, ◌∙◌, subst}
 use Rattle.wasm_defs.specs.declared.place.Place as told
 use Rattle.wasm_defs.specs.declared.token.Plain.{Plain}
-use Rattle.wasm_defs.specs.Trees.{Seq, Nothing, Simple, Block, Loop, If, IfElse, tokens_in}
+use Rattle.wasm_defs.specs.Trees.{Sort, Part, Seq, Nothing, Simple, Block, Loop, If, Else, tokens_in}
 use Rattle.wasm_defs.specs.Typing.{Context, rule_of, inside}
 use Rattle.wasm_defs.specs.Places.{Place, after_rule, shape, after_block, after_if, end_of}
 use Rattle.wasm_defs.specs.Configurations.{Origin, place_left}
 use Rattle.frame_layout.specs.Templates.{Label, EmitContext, declarations, words}
 use Rattle.frame_layout.specs.Traps.{trap_places}
-use Rattle.frame_layout.specs.Functions.{label, over, size, Trap, trap_at, traps_of, traps, body_traps, body_place}
+use Rattle.frame_layout.specs.Functions.{label, over, over_from, size, Trap, trap_at, traps_of, traps, body_traps, body_place}
 use Rattle.simulation.specs.Functions.{AreSited}
 use Rattle.frame_layout.proofs.Sizes.{taken_by, words_size, code_size}
 
@@ -48,14 +48,14 @@ module _ (w : EmitContext) (distance_to : ℕ → ℕ → ℕ) where
   abbrev away : EmitContext
   away = record w { distance_to = distance_to }
 
-  size_alike : (c : Context) (labels others : List Label) → taken_by labels ≡ taken_by others → (tree : Seq) (place : Place) → size w c labels place tree ≡ size away c others place tree
+  size_alike : {sort : Sort} (c : Context) (labels others : List Label) → taken_by labels ≡ taken_by others → (tree : Part sort) (place : Place) → size w c labels place tree ≡ size away c others place tree
   size_alike c labels others same tree place = sym (code_size w w.distance_to c labels labels refl tree place 0) ∙ code_size w distance_to c labels others same tree place 0
 
-  abbrev AreAlike : Context → Seq → Type 0
+  abbrev AreAlike : {sort : Sort} → Context → Part sort → Type 0
   AreAlike c tree = (labels others : List Label) → taken_by labels ≡ taken_by others → (place : Place) (here behind : ℕ) → traps w c labels place here behind tree ≡ traps away c others place here behind tree
 
   -- a sequence that has a label of its own, and the one after it
-  closed_alike : (c within : Context) (labels others : List Label) → taken_by labels ≡ taken_by others → (base takes : ℕ) (body rest : Seq) (first next : Place) (here held behind : ℕ)
+  closed_alike : {sort : Sort} (c within : Context) (labels others : List Label) → taken_by labels ≡ taken_by others → (base takes : ℕ) (body : Part sort) (rest : Seq) (first next : Place) (here held behind : ℕ)
       → AreAlike within body → AreAlike c rest
       → traps w within (label base takes 0 ∷ labels) first here held body ++ traps w c labels next (here + size w within (label base takes 0 ∷ labels) first body) behind rest
       ≡ traps away within (label base takes 0 ∷ others) first here held body ++ traps away c others next (here + size away within (label base takes 0 ∷ others) first body) behind rest
@@ -69,7 +69,7 @@ module _ (w : EmitContext) (distance_to : ℕ → ℕ → ℕ) where
       (after_alike labels others same next (here + size w within inner first body) behind
       ∙ ap (λ (m : ℕ). traps away c others next (here + m) behind rest) (size_alike within inner inner' alike body first))
 
-  pub traps_alike : (c : Context) (labels others : List Label) → taken_by labels ≡ taken_by others → (tree : Seq) (place : Place) (here behind : ℕ)
+  pub traps_alike : {sort : Sort} (c : Context) (labels others : List Label) → taken_by labels ≡ taken_by others → (tree : Part sort) (place : Place) (here behind : ℕ)
       → traps w c labels place here behind tree ≡ traps (record w { distance_to = distance_to }) c others place here behind tree
   traps_alike c labels others same tree None here behind = refl
   traps_alike c labels others same Nothing (Some h) here behind = refl
@@ -86,11 +86,7 @@ module _ (w : EmitContext) (distance_to : ℕ → ℕ → ℕ) where
       let s = shape c type in
       closed_alike c (inside c s.params) labels others same (h - length s.params) (length s.params) body rest (Some h) (after_block s (Some h)) here (1 + tokens_in rest + behind) behind
       (λ ls os e. traps_alike (inside c s.params) ls os e body) (λ ls os e. traps_alike c ls os e rest)
-  traps_alike c labels others same (If type body rest) (Some h) here behind =
-      let s = shape c type in
-      closed_alike c (inside c s.results) labels others same (h - 1 - length s.params) (length s.results) body rest (Some (h - 1)) (after_if s (Some h)) (here + 6) (1 + tokens_in rest + behind) behind
-      (λ ls os e. traps_alike (inside c s.results) ls os e body) (λ ls os e. traps_alike c ls os e rest)
-  traps_alike c labels others same (IfElse type body other rest) (Some h) here behind =
+  traps_alike c labels others same (If type body other rest) (Some h) here behind =
       let s = shape c type in
       let within = inside c s.results in
       let n = length s.results in
@@ -98,8 +94,8 @@ module _ (w : EmitContext) (distance_to : ℕ → ℕ → ℕ) where
       let inner' = label (h - 1 - length s.params) n 0 ∷ others in
       let alike = ap (λ (ns : List ℕ). n ∷ ns) same in
       let next = after_if s (Some h) in
-      let jump = length (over (end_of within body (Some (h - 1))) 0 0) in
-      let held = 2 + tokens_in other + tokens_in rest + behind in
+      let jump = length (over (over_from other (end_of within body (Some (h - 1)))) 0 0) in
+      let held = 1 + tokens_in other + tokens_in rest + behind in
       let held' = 1 + tokens_in rest + behind in
       let one = size w within inner (Some (h - 1)) body in
       let one' = size away within inner' (Some (h - 1)) body in
@@ -113,6 +109,7 @@ module _ (w : EmitContext) (distance_to : ℕ → ℕ → ℕ) where
       (λ ls os e. traps_alike within ls os e other) (λ ls os e. traps_alike c ls os e rest)
       ∙ ap (λ (m : ℕ). traps away within inner' (Some (h - 1)) (here + 6 + m + jump) held' other ++ traps away c others next (here + 6 + m + jump + two') behind rest)
       (size_alike within inner inner' alike body (Some (h - 1))))
+  traps_alike c labels others same (Else other) (Some h) here behind = traps_alike c labels others same other (Some h) here behind
 
   -- those of a function
   pub body_traps_alike : (c : Context) (tree : Seq) → body_traps w c tree ≡ body_traps (record w { distance_to = distance_to }) c tree
