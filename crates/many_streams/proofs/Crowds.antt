@@ -9,6 +9,7 @@ use Rattle.std.proofs.lemmas.List.{append-nil, take-append-drop, take_all, lengt
 use Rattle.std.proofs.lemmas.List.Elements.{All-head, All-tail}
 use Rattle.std.specs.declared.vec.Vec.{Vec}
 use Rattle.std.specs.declared.alloc.Global.{Global}
+use Rattle.batch_pool.proofs.Elements.{element_at, slice_set_same, slice_set_other, slice_next, slice_push}
 use Rattle.many_streams.specs.declared.member.Member.{Member}
 use Rattle.many_streams.specs.declared.reader.Taken.{Taken}
 use Rattle.many_streams.specs.declared.reader.Taken.TheVariants as taken
@@ -20,83 +21,43 @@ use Rattle.many_streams.specs.Reading.{Progress, IsReading, Takes, Ends, SetsFla
 use Rattle.many_streams.specs.Members.{IsMember, IsEnded}
 use Rattle.many_streams.specs.Many.{StandsSo, AreMembers, AreEach, IsStreaming, TakesSome, TakesAll, ComesToEnd, IsFront}
 
--- ---- lists
-
-pub slice_set_same : {X : Type 0} (xs : List X) (k : ℕ) (x : X) → k < length xs → slice_get (set xs k x) k ≡ Some x
-slice_set_same [] k x in' = absurd (omega arith)
-slice_set_same (y ∷ xs) zero x in' = refl
-slice_set_same (y ∷ xs) (suc k) x in' = slice_set_same xs k x (omega arith)
-
-pub slice_set_other : {X : Type 0} (xs : List X) (j k : ℕ) (x : X) → j ≢ k → slice_get (set xs k x) j ≡ slice_get xs j
-slice_set_other [] j k x other = refl
-slice_set_other (y ∷ xs) zero zero x other = absurd (other refl)
-slice_set_other (y ∷ xs) zero (suc k) x other = refl
-slice_set_other (y ∷ xs) (suc j) zero x other = refl
-slice_set_other (y ∷ xs) (suc j) (suc k) x other = slice_set_other xs j k x (λ e. other (ap suc e))
-
--- an element of a list with one more
-pub slice_push : {X : Type 0} (xs : List X) (x y : X) (i : ℕ) → slice_get (xs ++ x ∷ []) i ≡ Some y → (slice_get xs i ≡ Some y) ⊎ ((i ≡ length xs) × (x ≡ y))
-slice_push [] x y zero at = inr (refl, cc)
-slice_push [] x y (suc i) at = absurd cc
-slice_push (z ∷ xs) x y zero at = inl at
-slice_push (z ∷ xs) x y (suc i) at = of (slice_push xs x y i at)
-  where
-    of : (slice_get xs i ≡ Some y) ⊎ ((i ≡ length xs) × (x ≡ y)) → (slice_get xs i ≡ Some y) ⊎ ((suc i ≡ suc (length xs)) × (x ≡ y))
-    of (inl h) = inl h
-    of (inr h) = inr (ap suc h.0, h.1)
-
-slice_all : {X : Type 0} (P : X → Type 0) (xs : List X) (i : ℕ) (x : X) → All P xs → slice_get xs i ≡ Some x → P x
-slice_all P [] i x all at = absurd cc
-slice_all P (y ∷ xs) zero x all at = subst P (let e : y ≡ x = cc in e) (All-head P y xs all)
-slice_all P (y ∷ xs) (suc i) x all at = slice_all P xs i x (All-tail P y xs all) at
-
 -- ---- what each comes to
 
--- an element at an index below the length
-pub at_index : {X : Type 0} (xs : List X) (i : ℕ) → i < length xs → (x : X) × (slice_get xs i ≡ Some x)
-at_index [] i in' = absurd (omega arith)
-at_index (x ∷ xs) zero in' = (x, refl)
-at_index (x ∷ xs) (suc i) in' = at_index xs i (omega arith)
-
--- the element after some
-pub at_next : {X : Type 0} (done rest : List X) (x : X) → slice_get (done ++ x ∷ rest) (length done) ≡ Some x
-at_next [] rest x = refl
-at_next (y ∷ done) rest x = at_next done rest x
-
--- the members from some on
-pub record AreAfter (all rest : List Member) (count : ℕ) : Type 0 where
-  pub done : List Member
+-- the elements from some on
+pub record AreFrom {X : Type 0} (all rest : List X) (count : ℕ) : Type 0 where
+  pub done : List X
   pub are : all ≡ done ++ rest
   pub length_is : length done ≡ count
 
-pub after_none : (all rest : List Member) (count : ℕ) → rest ≡ all → count ≡ 0 → AreAfter all rest count
-after_none all rest count same none = record { done = []; are = sym same; length_is = sym none }
+pub from_none : {X : Type 0} (all rest : List X) (count : ℕ) → rest ≡ all → count ≡ 0 → AreFrom all rest count
+from_none all rest count same none = record { done = []; are = sym same; length_is = sym none }
 
-module _ (P : List ℕ → Member → Type 0) (all rest rest' : List Member) (count : ℕ) (m : Member) (next : rest ≡ m ∷ rest') (a : AreAfter all rest count) where
-  pub after_one : AreAfter all rest' (count + 1)
-  after_one = record {
-    done = a.done ++ m ∷ [];
-    are = a.are ∙ (ap (λ (l : List Member). a.done ++ l) next ∙ sym (append_assoc a.done (m ∷ []) rest'));
-    length_is = let n = a.length_is in omega (arith, length-append a.done (m ∷ []));
+pub from_all : {X : Type 0} (all rest : List X) (count : ℕ) → length rest ≡ 0 → AreFrom all rest count → length all ≡ count
+from_all all rest count none a = let e = ap length a.are in let n = a.length_is in omega (arith, length-append a.done rest)
+
+module _ {X : Type 0} (all rest rest' : List X) (count : ℕ) (x : X) (next : rest ≡ x ∷ rest') (a : AreFrom all rest count) where
+  pub from_one : AreFrom all rest' (count + 1)
+  from_one = record {
+    done = a.done ++ x ∷ [];
+    are = a.are ∙ (ap (λ (l : List X). a.done ++ l) next ∙ sym (append_assoc a.done (x ∷ []) rest'));
+    length_is = let n = a.length_is in omega (arith, length-append a.done (x ∷ []));
   }
 
-  pub next_at : slice_get all count ≡ Some m
-  next_at =
-      ap (λ (l : List Member). slice_get l count) (a.are ∙ ap (λ (l : List Member). a.done ++ l) next)
-      ∙ (ap (λ (n : ℕ). slice_get (a.done ++ m ∷ rest') n) (sym a.length_is) ∙ at_next a.done rest' m)
+  pub from_at : slice_get all count ≡ Some x
+  from_at =
+      ap (λ (l : List X). slice_get l count) (a.are ∙ ap (λ (l : List X). a.done ++ l) next)
+      ∙ (ap (λ (n : ℕ). slice_get (a.done ++ x ∷ rest') n) (sym a.length_is) ∙ slice_next a.done rest' x)
 
+module _ (P : List ℕ → Member → Type 0) (all rest rest' : List Member) (count : ℕ) (m : Member) (next : rest ≡ m ∷ rest') (a : AreFrom all rest count) where
   pub next_so : (list : List (List ℕ)) → AreEach P list all → (bytes : List ℕ) → slice_get list count ≡ Some bytes → P bytes m
-  next_so list are bytes at = are.1 count bytes m at next_at
+  next_so list are bytes at = are.1 count bytes m at (from_at all rest rest' count m next a)
 
   pub next_is : (list : List (List ℕ)) → AreEach P list all → (bytes : List ℕ) × P bytes m
   next_is list are =
       let n = are.0 in
-      let w = slice_get_within all count m next_at in
-      let x = at_index list count (omega arith) in
+      let w = slice_get_within all count m (from_at all rest rest' count m next a) in
+      let x = element_at list count (omega arith) in
       (x.0, next_so list are x.0 x.1)
-
-pub after_all : (all rest : List Member) (count : ℕ) → length rest ≡ 0 → AreAfter all rest count → length all ≡ count
-after_all all rest count none a = let e = ap length a.are in let n = a.length_is in omega (arith, length-append a.done rest)
 
 module _ {E : Type 0} (Comes : List ℕ → E → Type 0) where
   -- so many of a list come to these
@@ -159,6 +120,11 @@ module _ (keeps : Bool) (flags : List Bool) (of : ℕ → List ℕ) (members mem
       (subst (λ (y : Member). IsEnded keeps (of i) y) (set_at members members' i k x m' in' now same at) (subst (λ (j : ℕ). IsEnded keeps (of j) m') (sym same) (ends was_open))))
       (λ other.
       subst (λ (b : Bool). StandsSo b keeps (of i) x) (sym (get_or-set_other flags k i true false other)) (are i x (set_apart members members' i k x m' now other at)))
+
+slice_all : {X : Type 0} (P : X → Type 0) (xs : List X) (i : ℕ) (x : X) → All P xs → slice_get xs i ≡ Some x → P x
+slice_all P [] i x all at = absurd cc
+slice_all P (y ∷ xs) zero x all at = subst P (let e : y ≡ x = cc in e) (All-head P y xs all)
+slice_all P (y ∷ xs) (suc i) x all at = slice_all P xs i x (All-tail P y xs all) at
 
 pub members_new : (keeps : Bool) (flags : List Bool) (of : ℕ → List ℕ) (members : List Member) → length members ≤ 64 → ((i : ℕ) → i < 64 → get_or flags i false ≡ false) → All (IsMember keeps []) members → ((i : ℕ) → of i ≡ [])
     → AreMembers keeps flags of members

@@ -1,5 +1,5 @@
 -- What workers make of the bodies that modules kept.
-use Rattle.std.proofs.Common.{◌≡◌, ◌⊎◌, inl, inr, ◌<◌, ◌+◌, ◌^◌, ℕ, zero, suc, List, [], ◌∷◌, ◌++◌, length, All, Some, None, slice_get, refl, sym, ap, ◌∙◌, subst, arith, append_assoc, length-append}
+use Rattle.std.proofs.Common.{◌≡◌, ◌⊎◌, inl, inr, ◌<◌, ◌+◌, ◌^◌, ℕ, List, [], ◌∷◌, ◌++◌, length, All, Some, None, slice_get, refl, sym, ap, ◌∙◌, subst, arith, length-append}
 use mathlib.Core.Logic.{dite}
 use native.Mathlib.Decide.{ℕ_discrete}
 use Rattle.std.proofs.Math.ListN.{set, length-set}
@@ -12,6 +12,7 @@ use Rattle.batch_pool.specs.declared.lanes.lane.Lane.{Lane}
 use Rattle.batch_pool.specs.declared.lanes.lane.LaneSeat.{LaneSeat}
 use Rattle.batch_pool.specs.Lanes.{AreSeated, AreApart, Each, GathersIn, HaveParts, IsFed}
 use Rattle.batch_pool.proofs.Crews.{fed_on}
+use Rattle.batch_pool.proofs.Elements.{some_one, element_at, slice_set_same, slice_set_other, slice_front, slice_next, slice_push}
 use Rattle.many_streams.specs.declared.member.Part.{Part}
 use Rattle.many_streams.specs.declared.member.Member.{Member}
 use Rattle.many_streams.specs.declared.member.Member.TheVariants as member
@@ -19,12 +20,8 @@ use Rattle.many_streams.specs.declared.working.Made.{Made}
 use Rattle.many_streams.specs.Members.{AreRowsOf}
 use Rattle.many_streams.specs.Workers.{IsLaneOf, AreFed, AreOpened, AreMade}
 use Rattle.many_streams.proofs.Feeding.{no_rows}
-use Rattle.many_streams.proofs.Crowds.{slice_set_same, slice_set_other, slice_push, at_index, at_next}
 
 -- ---- lists
-
-some_one : {X : Type 0} (xs : List X) (k : ℕ) (x y : X) → slice_get xs k ≡ Some x → slice_get xs k ≡ Some y → x ≡ y
-some_one xs k x y a b = cc
 
 none_at : {X : Type 0} (xs : List X) (k : ℕ) (x : X) → xs ≡ [] → slice_get xs k ≡ Some x → ⊥
 none_at xs k x none at = absurd (let e : slice_get xs k ≡ None = ap (λ (l : List _). slice_get l k) none in cc)
@@ -33,38 +30,11 @@ none_at xs k x none at = absurd (let e : slice_get xs k ≡ None = ap (λ (l : L
 abbrev pub IsFrontOf : {X : Type 0} → List X → List X → Type 0
 IsFrontOf {X} front all = (i : ℕ) (x : X) → slice_get front i ≡ Some x → slice_get all i ≡ Some x
 
-slice_front : {X : Type 0} (xs ys : List X) (x : X) (i : ℕ) → slice_get xs i ≡ Some x → slice_get (xs ++ ys) i ≡ Some x
-slice_front [] ys x i at = absurd cc
-slice_front (z ∷ xs) ys x zero at = at
-slice_front (z ∷ xs) ys x (suc i) at = slice_front xs ys x i at
-
 front_less : {X : Type 0} (front front' all : List X) (x : X) → front ≡ front' ++ x ∷ [] → IsFrontOf front all → IsFrontOf front' all
 front_less front front' all x last is i y at = is i y (ap (λ (l : List _). slice_get l i) last ∙ slice_front front' (x ∷ []) y i at)
 
 front_last : {X : Type 0} (front front' all : List X) (x : X) (k : ℕ) → k ≡ length front' → front ≡ front' ++ x ∷ [] → IsFrontOf front all → slice_get all k ≡ Some x
-front_last front front' all x k same last is = is k x (ap (λ (l : List _). slice_get l k) last ∙ (ap (λ (j : ℕ). slice_get (front' ++ x ∷ []) j) same ∙ at_next front' [] x))
-
--- the elements from some on
-pub record AreFrom (X : Type 0) (all rest : List X) (count : ℕ) : Type 0 where
-  pub done : List X
-  pub are : all ≡ done ++ rest
-  pub length_is : length done ≡ count
-
-pub from_none : (X : Type 0) (all rest : List X) (count : ℕ) → rest ≡ all → count ≡ 0 → AreFrom X all rest count
-from_none X all rest count same none = record { done = []; are = sym same; length_is = sym none }
-
-module _ (X : Type 0) (all rest rest' : List X) (count : ℕ) (x : X) (next : rest ≡ x ∷ rest') (a : AreFrom X all rest count) where
-  pub from_one : AreFrom X all rest' (count + 1)
-  from_one = record {
-    done = a.done ++ x ∷ [];
-    are = a.are ∙ (ap (λ (l : List X). a.done ++ l) next ∙ sym (append_assoc a.done (x ∷ []) rest'));
-    length_is = let n = a.length_is in omega (arith, length-append a.done (x ∷ []));
-  }
-
-  pub from_at : slice_get all count ≡ Some x
-  from_at =
-      ap (λ (l : List X). slice_get l count) (a.are ∙ ap (λ (l : List X). a.done ++ l) next)
-      ∙ (ap (λ (n : ℕ). slice_get (a.done ++ x ∷ rest') n) (sym a.length_is) ∙ at_next a.done rest' x)
+front_last front front' all x k same last is = is k x (ap (λ (l : List _). slice_get l k) last ∙ (ap (λ (j : ℕ). slice_get (front' ++ x ∷ []) j) same ∙ slice_next front' [] x))
 
 -- ---- what was handed over
 
@@ -142,7 +112,7 @@ module _ (workers : ℕ) (members : List Member) (n : ℕ) (lanes : List Lane) (
     tables = λ k l s lane seat.
         let w = slice_get_within lanes k l lane in
         let c = o.are.kept_count in
-        let t = at_index kept k (omega arith) in
+        let t = element_at kept k (omega arith) in
         (o.are.fed k l s t.0 lane seat t.1).table;
   }
 
@@ -151,8 +121,8 @@ module _ (workers : ℕ) (members : List Member) (n : ℕ) (lanes : List Lane) (
       let w = slice_get_within seats k s seat in
       let d = o.are.seats_count in
       let c = o.are.kept_count in
-      let l = at_index lanes k (omega arith) in
-      let t = at_index kept k (omega arith) in
+      let l = element_at lanes k (omega arith) in
+      let t = element_at kept k (omega arith) in
       let p = (o.are.fed k l.0 s t.0 l.1 seat t.1).parts in
       let q = o.parts k l.0 l.1 in (omega arith, omega arith)
 
@@ -165,7 +135,7 @@ fed_after members lanes seats seats' kept f are each = record {
   fed = λ k l t ts lane seat tickets.
       let w = slice_get_within lanes k l lane in
       let c = f.seats_count in
-      let s = at_index seats k (omega arith) in
+      let s = element_at seats k (omega arith) in
       fed_on l s.0 t ts.items (f.fed k l s.0 ts lane s.1 tickets) (each k l s.0 t lane s.1 seat);
 }
 

@@ -1,9 +1,7 @@
 use Rattle.std.proofs.Common.{◌≡◌, ◌∙◌, ℕ, [], ◌∷◌, length-append, length, sym, ap, subst, refl, rules}
 use Rattle.std.specs.Vec.Iter.{into_iter_items}
-use Rattle.many_streams.specs.declared.working.Made.{Made}
 use Rattle.many_streams.specs.Members.{IsEnded, IsJudged}
-use Rattle.many_streams.proofs.Crowds.{AreAfter, after_none, after_one, after_all, next_at, next_is, next_so, some_none, some_push}
-use Rattle.many_streams.proofs.Workers.{AreFrom, from_none, from_one, from_at}
+use Rattle.many_streams.proofs.Crowds.{AreFrom, from_none, from_one, from_at, from_all, next_is, next_so, some_none, some_push}
 use Rattle.many_streams.proofs.judging.settle_members.Goals as goal
 
 pub settle-requires : goal.settle-requires
@@ -16,14 +14,14 @@ settle-requires c =
     let n = next_is (IsEnded r.0) c.args.members.items all rest count c.in-Some.member c.in-Some.ensures.steps.0 l.invariant.after r.1 r.2 in
     record {
       ended = (r.0, n.0, n.1);
-      rows = c.requires.made.1 count c.in-Some.member c.in-Some-next.part (next_at (IsEnded r.0) c.args.members.items all rest count c.in-Some.member c.in-Some.ensures.steps.0 l.invariant.after)
-          (from_at Made c.args.made.items (into_iter_items l.rest) (into_iter_items c.next-in-loop-member.new.self) count c.in-Some-next.part c.in-Some-next.ensures.items l.invariant.made);
+      rows = c.requires.made.1 count c.in-Some.member c.in-Some-next.part (from_at c.args.members.items all rest count c.in-Some.member c.in-Some.ensures.steps.0 l.invariant.after)
+          (from_at c.args.made.items (into_iter_items l.rest) (into_iter_items c.next-in-loop-member.new.self) count c.in-Some-next.part c.in-Some-next.ensures.items l.invariant.made);
     }
 
 pub loop-member-init : goal.loop-member-init
 loop-member-init c = record {
-  after = after_none _ _ _ (search rules) (search rules);
-  made = from_none Made _ _ _ (search rules) (search rules);
+  after = from_none _ _ _ (search rules) (search rules);
+  made = from_none _ _ _ (search rules) (search rules);
   some = λ keeps list are. some_none (IsJudged keeps) list _ (search rules);
   few = search rules;
 }
@@ -37,9 +35,9 @@ loop-member-preserved c =
     let one = c.in_ok-one in
     let longer = sym (ap length c.in_ok-push.ensures.items ∙ length-append l.judged.items (one.one ∷ [])) in
     record {
-      after = subst (λ (n : ℕ). AreAfter c.args.members.items rest n) longer (after_one (IsEnded c.requires.ended.0) c.args.members.items all rest count c.in-Some.member c.in-Some.ensures.steps.0 l.invariant.after);
-      made = subst (λ (n : ℕ). AreFrom Made c.args.made.items (into_iter_items c.next-in-loop-member.new.self) n) longer
-          (from_one Made c.args.made.items (into_iter_items l.rest) (into_iter_items c.next-in-loop-member.new.self) count c.in-Some-next.part c.in-Some-next.ensures.items l.invariant.made);
+      after = subst (λ (n : ℕ). AreFrom c.args.members.items rest n) longer (from_one c.args.members.items all rest count c.in-Some.member c.in-Some.ensures.steps.0 l.invariant.after);
+      made = subst (λ (n : ℕ). AreFrom c.args.made.items (into_iter_items c.next-in-loop-member.new.self) n) longer
+          (from_one c.args.made.items (into_iter_items l.rest) (into_iter_items c.next-in-loop-member.new.self) count c.in-Some-next.part c.in-Some-next.ensures.items l.invariant.made);
       some = λ keeps list are. some_push (IsJudged keeps) list l.judged.items c.push.new.self.items one.one count refl c.in_ok-push.ensures.items (l.invariant.some keeps list are)
           (λ bytes at. one.ensures keeps bytes (next_so (IsEnded keeps) c.args.members.items all rest count c.in-Some.member c.in-Some.ensures.steps.0 l.invariant.after list are bytes at));
       few = search rules;
@@ -49,4 +47,4 @@ pub returns : goal.returns
 returns c = λ keeps list are.
     let l = c.loop-member in
     let none : length (into_iter_items l.member-iterator) ≡ 0 = search rules in
-    (sym (after_all c.args.members.items (into_iter_items l.member-iterator) (length l.judged.items) none l.invariant.after) ∙ are.0, l.invariant.some keeps list are)
+    (sym (from_all c.args.members.items (into_iter_items l.member-iterator) (length l.judged.items) none l.invariant.after) ∙ are.0, l.invariant.some keeps list are)
