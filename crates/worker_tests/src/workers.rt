@@ -9,7 +9,7 @@ use body_compiler::{Row, Stored};
 use body_cutter::{Batch, Bodies, Body, BodyBytes};
 use cancel_drain::{Board, Closed};
 use index_spaces::{Context, ContextBuilder};
-use io_edges::OpenGate;
+use io_edges::{Gate, OpenGate};
 use result_cells::Cells;
 use std::alloc::{AllocError, Global};
 use std::collections::LinkedList;
@@ -140,6 +140,21 @@ fn outcome(alloc: Global, starved: bool, rows: &[Row], closed: &Closed) -> Resul
     Ok(text)
 }
 
+// What bodies are compiled with.
+fn compiler<'a, G: Gate>(
+    alloc: Global,
+    context: &'a Context,
+    cells: &'a Cells,
+    gate: &'a G,
+) -> BatchCompiler<'a, G> {
+    BatchCompiler {
+        alloc,
+        context,
+        cells,
+        gate,
+    }
+}
+
 // What one worker makes of two batches of one body each, where the codes have room for so many words.
 fn told<R: Threads + Wait + Sync>(
     rt: &R,
@@ -159,12 +174,7 @@ fn told<R: Threads + Wait + Sync>(
     };
     board.publish(&mut seat, 0, 23);
     board.publish(&mut seat, 1, 27);
-    let compiler = BatchCompiler {
-        alloc,
-        context: &context,
-        cells: &cells,
-        gate: &OpenGate,
-    };
+    let compiler = compiler(alloc, &context, &cells, &OpenGate);
     let worked = work(rt, &mut hand, &board, seat, &compiler);
     let closed = board.close(worked.seat);
     outcome(alloc, worked.starved, worked.rows.as_slice(), &closed)
@@ -230,28 +240,12 @@ fn told_of_two<R: Threads + Wait + Sync>(
             requires table { seat.table ≡ b.now.table }
             ensures table { result.seat.table ≡ seat.table }
             ensures parts { result.seat.view.parts ≡ seat.view.parts }
-        {
-            let compiler = BatchCompiler {
-                alloc,
-                context: x,
-                cells: c,
-                gate,
-            };
-            work(rt, &mut one, b, seat, &compiler)
-        },
+        { work(rt, &mut one, b, seat, &compiler(alloc, x, c, gate)) },
         move || -> Worked
             requires table { other.table ≡ b.now.table }
             ensures table { result.seat.table ≡ other.table }
             ensures parts { result.seat.view.parts ≡ other.view.parts }
-        {
-            let compiler = BatchCompiler {
-                alloc,
-                context: x,
-                cells: c,
-                gate,
-            };
-            work(rt, &mut two, b, other, &compiler)
-        },
+        { work(rt, &mut two, b, other, &compiler(alloc, x, c, gate)) },
     );
     let Worked {
         mut seat,
