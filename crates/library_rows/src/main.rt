@@ -14,6 +14,7 @@ use images::{image_answer, place_answer};
 use runs::{call_answer, checks_answer, export_answer};
 use std::alloc::Global;
 use std::test::Fail;
+use test_rows::{difference, row_of};
 
 /// The answer to a question. The bytes are those of the lines before it.
 fn answer(alloc: Global, bytes: &[u8], question: &str) -> Result<String, Fail> {
@@ -31,32 +32,21 @@ fn answer(alloc: Global, bytes: &[u8], question: &str) -> Result<String, Fail> {
     }
 }
 
-/// What a row prints: nothing where its answer is the wanted one.
-fn difference(alloc: Global, bytes: &[u8], row: &str) -> Result<String, Fail> {
-    let (question, wanted) = row.split_once(" = ").unwrap_or((row, ""));
-    let told = answer(alloc, bytes, question)?;
-    if told.as_str() == wanted {
-        return Ok(String::new(alloc));
-    }
-    Ok(format!(in alloc; "{question} = {told}, and not {wanted}\n")?)
-}
-
-/// Whether a line is a row: others are empty, comments, or about the bytes.
-fn is_row(line: &str) -> bool {
-    !line.is_empty() && !line.starts_with('#')
-}
-
 fn main(rt: HostRuntime) -> Result<(), Fail> {
     let alloc = rt.alloc();
     let mut bytes = Vec::new(alloc);
     let mut rows = 0u64;
     for line in rt.lines(alloc) {
         let line = line?;
-        if !is_row(line.as_str()) || base::is_read(&mut bytes, line.as_str())? {
+        let Some((question, wanted)) = row_of(line.as_str()) else {
+            continue;
+        };
+        if base::is_read(&mut bytes, line.as_str())? {
             continue;
         }
         rows = rows.saturating_add(1);
-        print!(rt; "{}", difference(alloc, &bytes, line.as_str())?)?;
+        let told = answer(alloc, &bytes, question)?;
+        print!(rt; "{}", difference(alloc, question, told.as_str(), wanted)?)?;
     }
     println!(rt; "{rows} rows")?;
     Ok(())

@@ -14,31 +14,8 @@ mod gates;
 mod rows;
 
 use rows::{answer, is_read};
-use std::alloc::Global;
-use std::sync::Wait;
 use std::test::Fail;
-use std::thread::Threads;
-
-/// What a row prints: nothing where its answer is the wanted one.
-fn difference<R: Threads + Wait + Sync>(
-    rt: &R,
-    alloc: Global,
-    bytes: &[u8],
-    row: &str,
-) -> Result<String, Fail> {
-    let (question, wanted) = row.split_once(" = ").unwrap_or((row, ""));
-    let told = answer(rt, alloc, bytes, question)?;
-    let shown = format!(in alloc; "{told:?}")?;
-    if shown.as_str() == wanted {
-        return Ok(String::new(alloc));
-    }
-    Ok(format!(in alloc; "{question} = {shown}, and not {wanted}\n")?)
-}
-
-/// Whether a line is a row or about the bytes: others are empty or comments.
-fn is_meant(line: &str) -> bool {
-    !line.is_empty() && !line.starts_with('#')
-}
+use test_rows::{difference, row_of};
 
 fn main(rt: HostRuntime) -> Result<(), Fail> {
     let alloc = rt.alloc();
@@ -46,11 +23,16 @@ fn main(rt: HostRuntime) -> Result<(), Fail> {
     let mut rows = 0u64;
     for line in rt.lines(alloc) {
         let line = line?;
-        if !is_meant(line.as_str()) || is_read(alloc, &mut bytes, line.as_str())? {
+        let Some((question, wanted)) = row_of(line.as_str()) else {
+            continue;
+        };
+        if is_read(alloc, &mut bytes, line.as_str())? {
             continue;
         }
         rows = rows.saturating_add(1);
-        print!(rt; "{}", difference(&rt, alloc, &bytes, line.as_str())?)?;
+        let told = answer(&rt, alloc, &bytes, question)?;
+        let shown = format!(in alloc; "{told:?}")?;
+        print!(rt; "{}", difference(alloc, question, shown.as_str(), wanted)?)?;
     }
     println!(rt; "{rows} rows")?;
     Ok(())

@@ -1,0 +1,26 @@
+//! Rows of a table: a question, and the answer that is wanted, as `argument i32:5 = Some(I32(5))`.
+#![tactic(auto)]
+
+use std::alloc::{AllocError, Global};
+
+/// What a line asks, and the answer that is wanted; `None` where it is empty or a comment.
+pub fn row_of(line: &str) -> Option<(&str, &str)> {
+    if line.is_empty() || line.starts_with('#') {
+        None
+    } else {
+        Some(line.split_once(" = ").unwrap_or((line, "")))
+    }
+}
+
+/// What is printed of a row: nothing where its answer is the wanted one.
+pub fn difference(
+    alloc: Global,
+    question: &str,
+    told: &str,
+    wanted: &str,
+) -> Result<String, AllocError> {
+    if told == wanted {
+        return Ok(String::new(alloc));
+    }
+    format!(in alloc; "{question} = {told}, and not {wanted}\n")
+}
