@@ -5,13 +5,14 @@ use Rattle.std.proofs.lemmas.Bool.{cases_Bool, cases_eq, ne_eqb}
 use Rattle.std.proofs.lemmas.List.Elements.{All-nil, All-cons}
 use Rattle.wasm_defs.specs.declared.item.Item.{Item}
 use Rattle.wasm_defs.specs.declared.item.Item.TheVariants.{Start, DataCount, Code}
-use Rattle.wasm_defs.specs.Limits.{max_module, max_body}
+use Rattle.wasm_defs.specs.Limits.{max_module, max_entries, max_body}
 use Rattle.wasm_defs.specs.Fields.{Cursor, Reader, room_of}
 use Rattle.wasm_defs.specs.Entries.{Seen, note, code, data_count, start}
 use Rattle.wasm_defs.specs.Outside as outside
-use Rattle.wasm_defs.specs.Outside.{Body, Part, Listed, Coded, listed, body, custom_name, code_entry, Row, entries_of, row, position_of, header, entered, noted, inside, no_end, section_end, ends, after_part, Next, finish, entries, contents, section, owes, at_the_end, or_section, sections_up_to}
-use Rattle.wasm_defs.specs.Items.{Spelling, exactly, each_is, u32_is, body_is, listed_index_is, item_is, section_of, AllOf, Custom, Vector, Starting, Counting, Bodies, HoldsVector, payload_is}
-use Rattle.wasm_defs.specs.Rules.{AllKeep, all_noted}
+use Rattle.wasm_defs.specs.Outside.{Body, Part, Listed, Coded, listed, body, custom_name, code_entry, Row, entries_of, row, position_of, header, entered, noted, inside, no_end, section_end, after_part, Next, finish, entries, contents, section, owes, at_the_end, or_section, sections_up_to}
+use Rattle.wasm_defs.specs.Items.{Spelling, exactly, each_is, u32_is, body_is, listed_index_is, item_is, section_of, AllOf, Payload, Custom, Vector, Starting, Counting, Bodies, HoldsVector, payload_position, payload_is, payload_items}
+use Rattle.wasm_defs.specs.Rules.{AllKeep, all_noted, IsSmall}
+use Rattle.wasm_laws.specs.Sections.{parts_of}
 use Rattle.wasm_laws.proofs.Steady.{IfGot}
 use Rattle.wasm_laws.proofs.Parts.{then_got, got_both, either_got}
 use Rattle.wasm_laws.proofs.Headers.{Follows, header_tells}
@@ -156,56 +157,41 @@ custom_content next describes seen c ready short uncounted =
       rest = f.rest;
     }
 
--- ---- the start function
+-- ---- the start function, and the data count
+
+-- a section of one item
+one_content : (id : ℕ) (payload : Payload) (item : Item) (K : Type 0) (next : Next) → Describes next → (seen : Seen) (c d : Cursor) → Ready c → c.end ≤ max_module → Uncounted (note seen item) → Found (payload_is payload) K c d
+    → payload_position payload ≡ id → IsSmall seen payload → AllKeep seen (payload_items payload) → parts_of payload ≡ Listed item ∷ [] → all_noted seen (payload_items payload) ≡ note seen item
+    → IfWhole (Content seen id c) (after_part (Listed item) (finish (row id) next (note seen item) d))
+one_content id payload item K next describes seen c d ready short uncounted found id_is small kept parts after s e =
+    let f = finish_found (row id) (exactly []) nothing_found next describes (note seen item) d (later c d found ready) (omega (arith, found.end)) uncounted s e in
+    let tail = (finish (row id) next (note seen item) d).parts in
+    record {
+      payload = payload;
+      stop = f.stop;
+      found = found_alone (Unit {0}) c d f.stop found f.found tt;
+      over = f.over;
+      id_is = id_is;
+      small = small;
+      kept = kept;
+      tail = tail;
+      is = ap (λ (parts : List Part). parts ++ tail) (sym parts);
+      rest = subst (λ (x : Seen). Rest x (inside f.stop no_end) tail) (sym after) f.rest;
+    }
 
 start_content : (next : Next) → Describes next → (seen : Seen) (c : Cursor) → Ready c → c.end ≤ max_module → Uncounted seen → IfWhole (Content seen 8 c) (contents (row 8) next seen c)
 start_content next describes seen c ready short uncounted =
     whole_on (λ y d. StartFound seen c d y) (Content seen 8 c) (listed (start seen) c) _ (start_found seen c ready)
     (λ y d x.
     subst (λ (z : Part). IfWhole (Content seen 8 c) (after_part z (finish (row 8) next (noted seen z) d))) (sym x.is)
-    (one d y x (finish_found (row 8) (exactly []) nothing_found next describes seen d (later c d x.found ready) (omega (arith, x.found.end)) uncounted)))
-  where
-    one : (d : Cursor) (y : Part) (x : StartFound seen c d y) → IfWhole (Finished (exactly []) seen d) (finish (row 8) next seen d) → IfWhole (Content seen 8 c) (after_part (Listed (Start x.index)) (finish (row 8) next seen d))
-    one d y x h s e =
-        let f = h s e in
-        record {
-          payload = Starting x.index;
-          stop = f.stop;
-          found = found_alone (Unit {0}) c d f.stop x.found f.found tt;
-          over = f.over;
-          id_is = refl;
-          small = tt;
-          kept = (x.found.kept, tt);
-          tail = (finish (row 8) next seen d).parts;
-          is = refl;
-          rest = f.rest;
-        }
-
--- ---- the data count
+    (one_content 8 (Starting x.index) (Start x.index) (x.index.1 < seen.functions) next describes seen c d ready short uncounted x.found refl tt (x.found.kept, tt) refl refl))
 
 count_content : (next : Next) → Describes next → (seen : Seen) (c : Cursor) → Ready c → c.end ≤ max_module → Uncounted seen → IfWhole (Content seen 10 c) (contents (row 10) next seen c)
 count_content next describes seen c ready short uncounted =
     whole_on (λ y d. CountFound c d y) (Content seen 10 c) (listed (data_count seen) c) _ (data_count_found seen c ready)
     (λ y d x.
     subst (λ (z : Part). IfWhole (Content seen 10 c) (after_part z (finish (row 10) next (noted seen z) d))) (sym x.is)
-    (one d y x (finish_found (row 10) (exactly []) nothing_found next describes (note seen (DataCount x.number)) d (later c d x.found ready) (omega (arith, x.found.end)) uncounted)))
-  where
-    one : (d : Cursor) (y : Part) (x : CountFound c d y) → IfWhole (Finished (exactly []) (note seen (DataCount x.number)) d) (finish (row 10) next (note seen (DataCount x.number)) d)
-        → IfWhole (Content seen 10 c) (after_part (Listed (DataCount x.number)) (finish (row 10) next (note seen (DataCount x.number)) d))
-    one d y x h s e =
-        let f = h s e in
-        record {
-          payload = Counting x.number;
-          stop = f.stop;
-          found = found_alone (Unit {0}) c d f.stop x.found f.found tt;
-          over = f.over;
-          id_is = refl;
-          small = tt;
-          kept = (x.found.kept, tt);
-          tail = (finish (row 10) next (note seen (DataCount x.number)) d).parts;
-          is = refl;
-          rest = f.rest;
-        }
+    (one_content 10 (Counting x.number) (DataCount x.number) (x.number.1 ≤ max_entries) next describes seen c d ready short uncounted x.found refl tt (x.found.kept, tt) refl refl))
 
 -- ---- the code section
 
