@@ -79,6 +79,10 @@ with_import s i = record s { functions = s.functions ++ i.type_index ∷ []; imp
 abbrev pub with_function : Spaces → ℕ → Spaces
 with_function s type_index = record s { functions = s.functions ++ type_index ∷ []; declared = s.declared + 1 }
 
+-- many of them
+abbrev pub with_functions : Spaces → List ℕ → Spaces
+with_functions s type_indices = record s { functions = s.functions ++ type_indices; declared = s.declared + length type_indices }
+
 abbrev pub with_table : Spaces → Limits → Spaces
 with_table s limits = record s { tables = s.tables ++ limits ∷ [] }
 

@@ -17,7 +17,7 @@ ghost use Rattle.std.specs.Option.{option_or};
 ghost use Rattle.wasm_defs.specs.Faults.{Starts, Imports, may_start, may_import, use_of, UsesRight, IsUseFault};
 ghost use Rattle.wasm_defs.specs.Instances.{i32_value};
 ghost use Rattle.index_spaces.specs.ItemLimits.{HasSmallType};
-ghost use Rattle.index_spaces.specs.Spaces.{context_in, spaces_of, with_import, with_item};
+ghost use Rattle.index_spaces.specs.Spaces.{context_in, spaces_of, with_functions, with_import, with_item};
 ghost use Rattle.wasm_defs.specs.declared.fault.Refusal.{Refusal as Refused};
 
 use crate::add_stop::AddStop;
@@ -254,6 +254,15 @@ impl ContextBuilder {
             Item::Code { .. } => Ok(()),
         }?;
         Ok(())
+    }
+
+    /// Adds functions of the types of these indices, as if their items were added one after the other. After an `Err` the context is
+    /// as before.
+    pub fn add_functions(&mut self, type_indices: &[u32]) -> Result<(), AllocError>
+        ensures ok { OnOk result (self.new ≡ with_functions self.old type_indices.now) }
+        ensures err { OnErr result (self.new ≡ self.old) }
+    {
+        self.context.add_functions(type_indices)
     }
 
     /// The context of the items that were added so far.

@@ -4,7 +4,7 @@ ghost use Rattle.std.specs.Prelude.{◌≡◌, ◌^◌, ◌<◌, ◌↔◌, [], 
 ghost use Rattle.wasm_defs.specs.Typing.{function_type};
 ghost use Rattle.wasm_defs.specs.Context.{like};
 ghost use Rattle.wasm_defs.specs.SmallTypes.{TypeIsSmall, TypesAreSmall};
-ghost use Rattle.index_spaces.specs.Spaces.{context_in, spaces_of, with_type, with_import, with_function, with_table, with_memory, with_global, with_export};
+ghost use Rattle.index_spaces.specs.Spaces.{context_in, spaces_of, with_type, with_import, with_function, with_functions, with_table, with_memory, with_global, with_export};
 ghost use Rattle.index_spaces.specs.Spaces.{with_elements, with_segment, with_data_count, with_start};
 
 use crate::entries::{DataRow, ElementRow, Export, Import};
@@ -110,6 +110,13 @@ impl Context {
     {
         self.functions.push(type_index)?;
         Ok(())
+    }
+
+    pub(crate) fn add_functions(&mut self, type_indices: &[u32]) -> Result<(), AllocError>
+        ensures ok { OnOk result (self.new ≡ with_functions self.old type_indices.now) }
+        ensures err { OnErr result (self.new ≡ self.old) }
+    {
+        self.functions.extend_from_slice(type_indices)
     }
 
     pub(crate) fn add_table(&mut self, limits: Limits) -> Result<(), AllocError>
