@@ -79,7 +79,7 @@ module _ (old : Front) (bytes all : List ℕ) (waiting : old.waiting ≡ None) (
   abbrev there : Cursor
   there = record { at = old.at; rest = all; end = old.end }
 
-  onward_joined : (more : List ℕ) → remaining_parts old (bytes ++ more) ≡ onward old.steps.stage old.steps.seen (with_more there more)
+  pub onward_joined : (more : List ℕ) → remaining_parts old (bytes ++ more) ≡ onward old.steps.stage old.steps.seen (with_more there more)
   onward_joined more =
       ap (λ (x : Option Item). prepend x (from_there old.refusal (onward old.steps.stage old.steps.seen (with_more (cursor_of old) (bytes ++ more))))) waiting
       ∙ ap (λ (x : Option Refusal). from_there x (onward old.steps.stage old.steps.seen (with_more (cursor_of old) (bytes ++ more)))) refusal

@@ -17,3 +17,5 @@ pub mod OnwardSilence
 pub mod Outlining
 pub mod Prompts
 pub mod Near
+pub mod Declaring
+pub mod FunctionsTaken

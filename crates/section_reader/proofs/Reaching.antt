@@ -130,7 +130,7 @@ module _ (old : Front) (bytes all : List ℕ) (waiting : old.waiting ≡ None) (
       ap (λ (x : Option Item). prepend x (from_there old.refusal (proceed old.steps.stage old.steps.seen (with_more (cursor_of old) more)))) waiting
       ∙ ap (λ (x : Option Refusal). from_there x (proceed old.steps.stage old.steps.seen (with_more (cursor_of old) more))) refusal
 
-  left_joined : (more : List ℕ) → left old (bytes ++ more) ≡ proceed old.steps.stage old.steps.seen (with_more there more)
+  pub left_joined : (more : List ℕ) → left old (bytes ++ more) ≡ proceed old.steps.stage old.steps.seen (with_more there more)
   left_joined more =
       left_is (bytes ++ more)
       ∙ ap (λ (l : List ℕ). proceed old.steps.stage old.steps.seen (record { at = old.at; rest = l; end = old.end })) (sym (append_assoc old.kept.items bytes more) ∙ ap (λ (l : List ℕ). l ++ more) (sym joined))

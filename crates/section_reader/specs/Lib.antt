@@ -10,3 +10,4 @@ pub mod Waits
 pub mod Keeps
 pub mod Outlining
 pub mod Near
+pub mod Functions

@@ -17,6 +17,7 @@
 //! The code section's count is an item too. After it the bodies may go elsewhere, and the reader skips them (`skip_to`).
 
 ghost use Rattle.std.specs.Prelude.{◌≡◌, ◌≤◌, ◌<◌, ◌+◌, ◌^◌, ℕ, List, ◌++◌, length, [], true, false, None, Ok, Err, IfSome, IsSome, OnOk, is_some};
+ghost use Rattle.std.specs.Bool.{OnTrue};
 ghost use Rattle.std.proofs.Props.{props};
 ghost use Rattle.wasm_defs.specs.Faults.{ending_fault};
 ghost use Rattle.wasm_defs.specs.Outside.{module_read, sections, no_end};
@@ -26,6 +27,8 @@ ghost use Rattle.section_reader.specs.Outline.{outline};
 ghost use Rattle.section_reader.specs.Stages.{IsOwed, is_at_bodies, prepend};
 ghost use Rattle.section_reader.specs.Waits.{IsFree, IsPlaced};
 
+use crate::functions::{Functions, section_bytes};
+use crate::sections::FUNCTIONS;
 use crate::seen::Seen;
 use crate::stage::Stage;
 use crate::steps::Steps;
@@ -71,6 +74,7 @@ impl Front {
     ghost use Rattle.section_reader.specs.FrontLeft.{left, total, refusal_of, can_skip, Feeds};
     ghost use Rattle.section_reader.specs.FrontOnward.{remaining_parts, Follows, FeedsOnward, EndsOnward};
     ghost use Rattle.section_reader.specs.Keeps.{Keeps};
+    ghost use Rattle.section_reader.specs.Functions.{IsAtFunctions, TakesFunctions};
 
     /// Reads from a module's first byte on. Memory is taken from `alloc`.
     pub fn new(alloc: Global) -> Front
@@ -150,6 +154,45 @@ impl Front {
             return Err(FrontStop::NoMemory);
         }
         self.take(&all, bytes)
+    }
+
+    /// Whether the function section's entries come next, so that `take_functions` may take some.
+    pub fn is_at_functions(&self) -> bool {
+        self.functions_owed() != 0
+    }
+
+    /// How many functions come next, if nothing is kept, waits or is refused.
+    fn functions_owed(&self) -> u64
+        ensures { 0 < result → IsAtFunctions self.now result }
+    {
+        match self.steps.stage {
+            Stage::Entries(FUNCTIONS, owed)
+                if self.kept.is_empty() && self.waiting.is_none() && self.refusal.is_none() => {
+                owed
+            }
+            _ => 0,
+        }
+    }
+
+    /// Takes functions that these bytes begin with, as `feed` and `take_item` do one by one, and writes their type indices: as many as
+    /// are whole and right, and as there is room for. None may be taken, also where some come next: then `feed` says why.
+    pub fn take_functions(&mut self, bytes: &[u8], types: &mut [u32]) -> Functions
+        ensures takes { TakesFunctions self.old bytes.now result types.new self.new }
+        ensures len { length types.new ≡ length types.old }
+    {
+        let owed = self.functions_owed();
+        if owed == 0 {
+            return Functions { count: 0, bytes: 0 };
+        }
+        let Some(fields) = self.fields(bytes) else {
+            return Functions { count: 0, bytes: 0 };
+        };
+        let read = self
+            .steps
+            .read_functions(section_bytes(&fields), owed, types);
+        self.at = fields.offset() + read.bytes as u64;
+        self.wait = Wait::Nothing;
+        read
     }
 
     /// Keeps bytes that complete nothing, if they are such. Else all is as it was.

@@ -6,6 +6,7 @@ mod entries;
 mod entry_fields;
 mod entry_waits;
 mod front;
+mod functions;
 mod items;
 mod laws;
 mod rows;
@@ -16,4 +17,5 @@ mod steps;
 mod wait;
 
 pub use front::Front;
+pub use functions::Functions;
 pub use laws::outlines_have_the_items;

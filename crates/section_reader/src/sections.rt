@@ -9,6 +9,9 @@ use crate::seen::Seen;
 use leb_feed::{Fields, Stop};
 use wasm_defs::{Kind, MAX_MODULE};
 
+/// The function section's position in the order.
+pub const FUNCTIONS: u8 = 3;
+
 /// The code section's position in the order.
 pub const CODE: u8 = 11;
 

@@ -1,17 +1,19 @@
 //! Reading step by step: up to the next stage, or to the next item.
 
-ghost use Rattle.std.specs.Prelude.{◌≡◌, ◌<◌, ◌≤◌, ℕ, length, true, false, None, Some, IfOk, IfSome, IfNone};
+ghost use Rattle.std.specs.Prelude.{◌≡◌, ◌<◌, ◌≤◌, ◌+◌, ◌-◌, ◌^◌, ℕ, length, true, false, None, Some, IfOk, IfSome, IfNone};
 ghost use Rattle.leb_feed.specs.Reads.{NeedsNoMemory};
 ghost use Rattle.section_reader.specs.Counts.{IsSound};
+ghost use Rattle.section_reader.specs.Functions.{AreRead, declares};
 ghost use Rattle.section_reader.specs.Near.{IsNear};
 ghost use Rattle.section_reader.specs.Stages.{passes, cut_there, due, silent, is_at_bodies};
 ghost use Rattle.section_reader.specs.Stepped.{Stepped, Reaches};
 ghost use Rattle.section_reader.specs.Waits.{IsFree, IsPlaced};
 
 use crate::entry_waits::{entry_wait, name_wait};
+use crate::functions::{Functions, read_functions};
 use crate::items::{is_passed_over, next_item};
 use crate::rows::{entry_count, rest_of_section};
-use crate::sections::{CODE, header, preamble, section_end};
+use crate::sections::{CODE, FUNCTIONS, header, preamble, section_end};
 use crate::seen::Seen;
 use crate::stage::Stage;
 use crate::wait::Wait;
@@ -124,6 +126,34 @@ impl Steps {
     {
         self.stage = mark.stage;
         self.seen.last = mark.last;
+    }
+
+    /// Of the functions that are owed reads those that the bytes of the section begin with, many at once: as many as are whole and
+    /// right, and as there is room for.
+    pub fn read_functions(&mut self, bytes: &[u8], owed: u64, types: &mut [u32]) -> Functions
+        requires functions { self.old.seen.functions + length bytes.now < 2 ^ 64 }
+        requires declared { self.old.seen.declared + length bytes.now < 2 ^ 64 }
+        ensures read { AreRead self.old.seen.types bytes.now result types.new }
+        ensures few { result.count ≤ owed }
+        ensures steps { self.new ≡ record { stage = Stage.Entries 3 (owed - result.count); seen = declares self.old.seen result.count } }
+        ensures len { length types.new ≡ length types.old }
+    {
+        let most = owed.min(types.len() as u64) as usize;
+        let read = read_functions(bytes, &self.seen, &mut types[..most]);
+        self.declare(owed, read.count as u64);
+        read
+    }
+
+    /// So many of the functions that are owed were read.
+    fn declare(&mut self, owed: u64, count: u64)
+        requires some { count ≤ owed }
+        requires functions { self.old.seen.functions + count < 2 ^ 64 }
+        requires declared { self.old.seen.declared + count < 2 ^ 64 }
+        ensures { self.new ≡ record { stage = Stage.Entries 3 (owed - count); seen = declares self.old.seen count } }
+    {
+        self.stage = Stage::Entries(FUNCTIONS, owed - count);
+        self.seen.functions += count;
+        self.seen.declared += count;
     }
 
     /// Reads one item, or up to the next stage. Where reading stops, all is as it was.
