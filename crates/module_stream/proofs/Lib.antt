@@ -8,6 +8,7 @@ pub mod OpenBatches
 pub mod Cutting
 pub mod CodeEnds
 pub mod Streaming
+pub mod Declaring
 pub mod Wholes
 pub mod ValidPrefixes
 pub mod NoErrors

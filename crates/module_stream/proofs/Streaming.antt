@@ -101,7 +101,7 @@ reading_begins bytes f spaces codes few is none apart idle empty uncoded = recor
 
 -- ---- bytes outside the bodies
 
-length_left : (n : ℕ) (xs : List ℕ) → n ≤ length xs → n + length (drop n xs) ≡ length xs
+pub length_left : (n : ℕ) (xs : List ℕ) → n ≤ length xs → n + length (drop n xs) ≡ length xs
 length_left n xs h = omega (arith, length-drop n xs)
 
 module _ (bytes : List ℕ) (f g h : Front) (spaces : Spaces) (codes : Coding) (piece more : List ℕ) (taken : ℕ) (few : taken ≤ length piece) (fed : FedOnward f piece taken g) (item : Option Item)
@@ -237,7 +237,7 @@ may_begin bytes s count end more t later starts is =
 pub shorter : (taken : ℕ) (piece : List ℕ) → taken ≤ length piece → length (drop taken piece) ≤ length piece
 shorter taken piece few = omega (arith, length-drop taken piece)
 
-parts_told : (told : List Part) (r : Run) → length (after_parts told r).parts ≡ length told + length r.parts
+pub parts_told : (told : List Part) (r : Run) → length (after_parts told r).parts ≡ length told + length r.parts
 parts_told [] r = omega arith
 parts_told (x ∷ told) r = omega (arith, parts_told told r)
 

@@ -18,7 +18,7 @@
 //! compilation.build()?;                 // its image
 //! ```
 
-ghost use Rattle.std.specs.Prelude.{◌≡◌, ◌<◌, ◌≤◌, ◌++◌, ◌&&◌, ℕ, Bool, List, [], All, length, false, None, Err, IsSome, is_some, OnOk, IfOk};
+ghost use Rattle.std.specs.Prelude.{◌≡◌, ◌<◌, ◌≤◌, ◌+◌, ◌++◌, ◌&&◌, ℕ, Bool, List, [], All, length, drop, false, None, Err, IsSome, is_some, OnOk, IfOk};
 ghost use Rattle.wasm_defs.specs.Outside.{Run as RunGiven};
 ghost use Rattle.section_reader.specs.FrontLeft.{total};
 ghost use Rattle.section_reader.specs.Onward.{after_parts};
@@ -31,7 +31,7 @@ ghost use Rattle.module_stream.specs.Kept.{kept_bodies};
 ghost use Rattle.module_stream.specs.Progress.{IsJudging, CanTakeAll, TakesPart};
 ghost use Rattle.module_stream.specs.Done.{IsDone, Decides, IsBuilt};
 ghost use Rattle.module_stream.specs.Done.{checked_of};
-ghost use Rattle.module_stream.specs.Streaming.{IsGoing, IsErrorFree, IsUnread, MayGo, MayEnd, GoesOn, Advances, Lessens, IsWaiting, AllWait, WaitsAfter};
+ghost use Rattle.module_stream.specs.Streaming.{IsGoing, IsErrorFree, IsUnread, MayGo, MayEnd, GoesOn, Advances, Lessens, work_left, IsWaiting, AllWait, WaitsAfter};
 ghost use Rattle.module_stream.specs.Streaming.{with_cutter, KeepsRest, IsTaking, MayTake, MayBegin, TakesItem};
 ghost use Rattle.module_stream.specs.Limits.{max_read};
 
@@ -48,6 +48,9 @@ use section_reader::Front;
 use std::alloc::{AllocError, Global};
 use std::sync::Arc;
 use wasm_defs::{FrontStop, Item};
+
+/// How many functions are taken at once, at most.
+const FUNCTIONS: usize = 256;
 
 /// What came of a module, and how far it was compiled.
 #[derive(Drop)]
@@ -243,8 +246,46 @@ impl Compilation {
         take_kept(self.alloc, &self.spaces, &mut self.codes, cells, kept, rows)
     }
 
-    /// Outside the bodies: takes the bytes up to the end of an item.
+    /// Outside the bodies: takes functions, many at once, or the bytes up to the end of an item.
     fn read(&mut self, piece: &[u8]) -> Result<usize, FrontStop>
+        requires none { self.old.cutter ≡ None }
+        requires goes { MayGo self.old piece.now }
+        ensures goes { (bytes more : List ℕ) → IsGoing bytes self.old (piece.now ++ more) → Advances bytes piece.now result self.new more }
+        ensures less { Lessens self.old piece.now result self.new }
+        ensures no_error { piece.now ≡ [] → OnOk result (IsErrorFree self.new) }
+        ensures waits { piece.now ≡ [] → OnOk result (AllWait self.new.cutter) }
+        ensures batch { self.new.batch ≡ self.old.batch }
+        ensures kept { KeepsAlike self.old.codes self.new.codes }
+    {
+        if self.front.is_at_functions() {
+            match self.take_functions(piece) {
+                Ok(0) => {}
+                Ok(taken) => return Ok(taken),
+                Err(AllocError) => return Err(FrontStop::NoMemory),
+            }
+        }
+        self.read_item(piece)
+    }
+
+    /// Takes functions that the bytes begin with, where the function section's entries come next.
+    fn take_functions(&mut self, piece: &[u8]) -> Result<usize, AllocError>
+        requires none { self.old.cutter ≡ None }
+        ensures goes { (bytes more : List ℕ) → IsGoing bytes self.old (piece.now ++ more)
+            → IfOk result (λ taken. IsGoing bytes self.new (drop taken piece.now ++ more)) }
+        ensures few { IfOk result (λ taken. taken ≤ length piece.now) }
+        ensures less { IfOk result (λ taken. work_left self.new (drop taken piece.now) + taken ≤ work_left self.old piece.now) }
+        ensures none { self.new.cutter ≡ None }
+        ensures batch { self.new.batch ≡ self.old.batch }
+        ensures kept { self.new.codes ≡ self.old.codes }
+    {
+        let mut types = [0; FUNCTIONS];
+        let read = self.front.take_functions(piece, &mut types);
+        self.spaces.add_functions(&types[..read.count])?;
+        Ok(read.bytes)
+    }
+
+    /// Takes the bytes up to the end of an item.
+    fn read_item(&mut self, piece: &[u8]) -> Result<usize, FrontStop>
         requires none { self.old.cutter ≡ None }
         requires goes { MayGo self.old piece.now }
         ensures goes { (bytes more : List ℕ) → IsGoing bytes self.old (piece.now ++ more) → Advances bytes piece.now result self.new more }
