@@ -14,7 +14,7 @@ pub cut : (bytes : List ℕ) (of : ℕ → List ℕ) (f : Progress) → IsReadin
 cut bytes of f r other short = on f.next other r.stands
   where
     on : (p : Next) → p ≢ next.Nothing → StandsAt p f bytes of → IsCut bytes
-    on next.Count other (are, known, flags, each) = let e = ap length are in inl (omega arith)
+    on next.Count other (are, known, flags, each, none) = let e = ap length are in inl (omega arith)
     on next.Index other (cs, among, are, each) =
         inr (record { count = f.modules; chunks = cs; rest = f.number; begins = record { formed = among.formed; are = are }; owes = among.owes; cut = inl short })
     on (next.Length m) other (cs, among, going, are, each) =

@@ -191,7 +191,7 @@ number_on bytes of f f' b is r room same = subst (λ (g : Progress). IsReading (
 )
   where
     on : (p : Next) → IsNumberNext p → StandsAt p f bytes of → StandsAt p (record f { at = f.at + 1; number = f.number ++ b ∷ [] }) (bytes ++ b ∷ []) of
-    on next.Count u (are, known, flags, each) = (ap (λ (l : List ℕ). l ++ b ∷ []) are, known, flags, each)
+    on next.Count u (are, known, flags, each, none) = (ap (λ (l : List ℕ). l ++ b ∷ []) are, known, flags, each, none)
     on next.Index u (cs, among, are, each) = (cs, among, ap (λ (l : List ℕ). l ++ b ∷ []) are ∙ append_assoc (encoding f.modules cs) f.number (b ∷ []), each)
     on (next.Length m) u (cs, among, going, are, each) = (
       cs,
@@ -219,11 +219,12 @@ pub count_known : (bytes : List ℕ) (of : ℕ → List ℕ) (f f' : Progress) (
 count_known bytes of f f' b n at r room known same = on (subst (λ (p : Next). StandsAt p f bytes of) at r.stands)
   where
     on : StandsAt next.Count f bytes of → HasCount (bytes ++ b ∷ []) of f' n
-    on (are, count, flags, each) = subst (λ (g : Progress). HasCount (bytes ++ b ∷ []) of g n) (sym same) (record {
+    on (are, count, flags, each, none) = subst (λ (g : Progress). HasCount (bytes ++ b ∷ []) of g n) (sym same) (record {
       between = whole_now bytes of f b r room;
       are = ap (λ (l : List ℕ). l ++ b ∷ []) are ∙ sym known;
       flags = (count, flags);
       each = each;
+      none = none;
     })
 
 pub index_known : (bytes : List ℕ) (of : ℕ → List ℕ) (f f' : Progress) (b n : ℕ) → f.next ≡ next.Index → IsReading bytes of f → f.at < MAX_INPUT
@@ -269,7 +270,7 @@ parts bytes piece more n =
 pub taken_number : (bytes : List ℕ) (of : ℕ → List ℕ) (piece : List ℕ) (t : Result Taken ℕ) (f f' f'' : Progress) → f'.modules ≡ f.modules
     → TakesNumber (bytes ++ take 1 piece) of t f' f'' → Takes bytes of piece t f f''
 taken_number bytes of piece (Ok taken.Number) f f' f'' same t = (t.0, t.1 ∙ same)
-taken_number bytes of piece (Ok taken.Count) f f' f'' same t = t
+taken_number bytes of piece (Ok taken.Count) f f' f'' same t = (t.0, t.1, sym same ∙ t.2)
 taken_number bytes of piece (Ok (taken.End m)) f f' f'' same t = (t.0, t.1 ∙ same, let below = t.2 in omega arith)
 taken_number bytes of piece (Ok (taken.Bytes m n)) f f' f'' same t = absurd t
 taken_number bytes of piece (Err at) f f' f'' same t = λ more. subst (λ (l : List ℕ). IsBadFrame l at) (parts bytes piece more 1) (t (drop 1 piece ++ more))

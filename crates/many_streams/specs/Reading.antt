@@ -41,6 +41,7 @@ AreOfWith of cs m came = (i : ℕ) → of i ≡ bytes_of i cs ++ (if m == i then
 abbrev pub StandsAt : Next → Progress → List ℕ → (ℕ → List ℕ) → Type 0
 StandsAt next.Count p bytes of =
     (bytes ≡ p.number) × (length p.ended ≡ 64) × ((i : ℕ) → i < 64 → slice_index_or p.ended i false ≡ false) × ((i : ℕ) → of i ≡ [])
+    × (p.modules ≡ 0)
 StandsAt next.Index p bytes of = (cs : List Chunk) × IsAmong p.modules p.ended cs × (bytes ≡ encoding p.modules cs ++ p.number) × AreOf of cs
 StandsAt (next.Length m) p bytes of =
     (cs : List Chunk) × IsAmong p.modules p.ended cs × IsOpen p.modules cs m × (bytes ≡ encoding p.modules cs ++ (u32 m ++ p.number)) × AreOf of cs
@@ -85,6 +86,7 @@ pub record HasCount (bytes : List ℕ) (of : ℕ → List ℕ) (p : Progress) (n
   pub are : bytes ≡ u32 n
   pub flags : (length p.ended ≡ 64) × ((i : ℕ) → i < 64 → slice_index_or p.ended i false ≡ false)
   pub each : (i : ℕ) → of i ≡ []
+  pub none : p.modules ≡ 0
 
 -- it is a chunk's index
 pub record HasIndex (bytes : List ℕ) (of : ℕ → List ℕ) (p : Progress) (n : ℕ) : Type 0 where
@@ -106,7 +108,7 @@ pub record HasLength (bytes : List ℕ) (of : ℕ → List ℕ) (p : Progress) (
 -- it was taken, or is an error
 abbrev pub TakesNumber : List ℕ → (ℕ → List ℕ) → Result Taken ℕ → Progress → Progress → Type 0
 TakesNumber bytes of (Ok taken.Number) p p' = IsReading bytes of p' × (p'.modules ≡ p.modules)
-TakesNumber bytes of (Ok taken.Count) p p' = IsReading bytes of p' × ((i : ℕ) → of i ≡ [])
+TakesNumber bytes of (Ok taken.Count) p p' = IsReading bytes of p' × ((i : ℕ) → of i ≡ []) × (p.modules ≡ 0)
 TakesNumber bytes of (Ok (taken.End m)) p p' = IsReading bytes of p' × (p'.modules ≡ p.modules) × (m < p.modules)
 TakesNumber bytes of (Ok (taken.Bytes m n)) p p' = ⊥
 TakesNumber bytes of (Err at) p p' = (more : List ℕ) → IsBadFrame (bytes ++ more) at
@@ -136,7 +138,7 @@ TakesDigit bytes of piece (Err at) p p' = (more : List ℕ) → IsBadFrame (byte
 -- some bytes of a piece were taken; or with the piece there is a bad frame, whatever follows
 abbrev pub Takes : List ℕ → (ℕ → List ℕ) → List ℕ → Result Taken ℕ → Progress → Progress → Type 0
 Takes bytes of piece (Ok taken.Number) p p' = IsReading (bytes ++ take 1 piece) of p' × (p'.modules ≡ p.modules)
-Takes bytes of piece (Ok taken.Count) p p' = IsReading (bytes ++ take 1 piece) of p' × ((i : ℕ) → of i ≡ [])
+Takes bytes of piece (Ok taken.Count) p p' = IsReading (bytes ++ take 1 piece) of p' × ((i : ℕ) → of i ≡ []) × (p.modules ≡ 0)
 Takes bytes of piece (Ok (taken.End m)) p p' = IsReading (bytes ++ take 1 piece) of p' × (p'.modules ≡ p.modules) × (m < p.modules)
 Takes bytes of piece (Ok (taken.Bytes m n)) p p' =
     IsReading (bytes ++ take n piece) (with_more of m (take n piece)) p' × (p'.modules ≡ p.modules) × (m < p.modules) × (0 < n) × (n ≤ length piece)
