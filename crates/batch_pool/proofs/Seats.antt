@@ -57,27 +57,27 @@ adds_more ts u l a b c (more, are, all) adds = of adds
 module _ (lanes : List Lane) where
   -- ---- each lane
 
-  pub each_same : (P : Lane → LaneSeat → LaneSeat → Type 0) (seats : List LaneSeat) → ((k : ℕ) (l : Lane) (s : LaneSeat) → slice_get lanes k ≡ Some l → P l s s) → Each P lanes seats seats
+  pub each_same : {S : Type 0} (P : Lane → S → S → Type 0) (seats : List S) → ((k : ℕ) (l : Lane) (s : S) → slice_get lanes k ≡ Some l → P l s s) → Each P lanes seats seats
   each_same P seats same k l s t lane before after = subst (P l s) (some_one seats k s t before after) (same k l s lane)
 
-  pub each_trans : (P Q R : Lane → LaneSeat → LaneSeat → Type 0) (xs ys zs : List LaneSeat) → length ys ≡ length lanes → ((l : Lane) (s t u : LaneSeat) → P l s t → Q l t u → R l s u) → Each P lanes xs ys → Each Q lanes ys zs → Each R lanes xs zs
+  pub each_trans : {S : Type 0} (P Q R : Lane → S → S → Type 0) (xs ys zs : List S) → length ys ≡ length lanes → ((l : Lane) (s t u : S) → P l s t → Q l t u → R l s u) → Each P lanes xs ys → Each Q lanes ys zs → Each R lanes xs zs
   each_trans P Q R xs ys zs count both a b k l s u lane before after =
       let w = slice_get_within lanes k l lane in
       let m = element_at ys k (omega arith) in
       both l s m.0 u (a k l s m.0 lane before m.1) (b k l m.0 u lane m.1 after)
 
-  pub each_weaker : (P Q : Lane → LaneSeat → LaneSeat → Type 0) (xs ys : List LaneSeat) → ((l : Lane) (s t : LaneSeat) → P l s t → Q l s t) → Each P lanes xs ys → Each Q lanes xs ys
+  pub each_weaker : {S : Type 0} (P Q : Lane → S → S → Type 0) (xs ys : List S) → ((l : Lane) (s t : S) → P l s t → Q l s t) → Each P lanes xs ys → Each Q lanes xs ys
   each_weaker P Q xs ys of a k l s t lane before after = of l s t (a k l s t lane before after)
 
   -- one lane's seat has changed
-  pub each_set : (P : Lane → LaneSeat → LaneSeat → Type 0) (n : ℕ) (seats : List LaneSeat) (s s' : LaneSeat) (here : Lane) → slice_get lanes n ≡ Some here → slice_get seats n ≡ Some s → P here s s'
-      → ((k : ℕ) (l : Lane) (u : LaneSeat) → k ≢ n → slice_get lanes k ≡ Some l → P l u u) → Each P lanes seats (set seats n s')
-  each_set P n seats s s' here at was is rest k l u w lane before after = dite (ℕ_discrete k n)
+  pub each_set : {S : Type 0} (P : Lane → S → S → Type 0) (n : ℕ) (seats : List S) (s s' : S) (here : Lane) → slice_get lanes n ≡ Some here → slice_get seats n ≡ Some s → P here s s'
+      → ((k : ℕ) (l : Lane) (u : S) → k ≢ n → slice_get lanes k ≡ Some l → P l u u) → Each P lanes seats (set seats n s')
+  each_set {S = S} P n seats s s' here at was is rest k l u w lane before after = dite (ℕ_discrete k n)
       (λ same.
       let e : here ≡ l = some_one lanes n here l at (subst (λ (i : ℕ). slice_get lanes i ≡ Some l) same lane) in
       let f : s ≡ u = some_one seats n s u was (subst (λ (i : ℕ). slice_get seats i ≡ Some u) same before) in
       let g : s' ≡ w = some_one (set seats n s') n s' w (slice_set_same seats n s' (slice_get_within seats n s was)) (subst (λ (i : ℕ). slice_get (set seats n s') i ≡ Some w) same after) in
-      subst (λ (z : Lane × (LaneSeat × LaneSeat)). P z.0 z.1.0 z.1.1) (λ i. (e i, (f i, g i))) is)
+      subst (λ (z : Lane × (S × S)). P z.0 z.1.0 z.1.1) (λ i. (e i, (f i, g i))) is)
       (λ other.
       let f : u ≡ w = some_one seats k u w before (sym (slice_set_other seats k n s' other) ∙ after) in
       subst (P l u) f (rest k l u other lane))

@@ -2,13 +2,13 @@
 use Rattle.std.specs.Prelude.{◌≡◌, List}
 use Rattle.cancel_drain.specs.Views.{split_from}
 use Rattle.batch_pool.specs.declared.lanes.lane.Lane.{Lane}
-use Rattle.batch_pool.specs.declared.lanes.lane.LaneSeat.{LaneSeat}
+use Rattle.batch_pool.specs.declared.lanes.lane.LaneDesk.{LaneDesk}
 use Rattle.batch_pool.specs.declared.lanes.crew.Crew.{Crew}
 use Rattle.batch_pool.specs.Lanes.{AreFresh}
 
--- one part of a lane's seat was split off
-abbrev pub Splits : Lane → LaneSeat → LaneSeat → Type 0
-Splits l s t = (t.seat ≡ record s.seat { view = split_from s.seat.view }) × (t.rows.items ≡ s.rows.items)
+-- one part of the seat at a lane's desk was split off
+abbrev pub Splits : Lane → LaneDesk → LaneDesk → Type 0
+Splits l d e = (e.desk ≡ record d.desk { seat = record d.desk.seat { view = split_from d.desk.seat.view } }) × (e.rows.items ≡ d.rows.items)
 
 -- a promise for these lanes, of seats that were split off
 abbrev pub IsOfCrew : {L : Type 0} → (L → List Lane) → List Lane → Crew L → Type 0

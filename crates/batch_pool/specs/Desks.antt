@@ -39,25 +39,25 @@ abbrev pub PutsIn : ℕ → Feeding → Batch → Feeding → Type 0
 PutsIn m f b f' = ((t : Ticket) × (arc_value t.batch ≡ b) × (t.module ≡ m) × (f' ≡ record f { view = puts f.view (t ∷ []) })) ⊎ ((f' ≡ f) × (f.room ≤ length f.view.put))
 
 -- the batch was published after the others, its ticket was kept after theirs, and one was put into the queue where it has room
-pub record Hands (d : Desk) (b : Batch) (d' : Desk) : Type 0 where
+pub record Hands (d : Desk) (f : Feeding) (b : Batch) (d' : Desk) (f' : Feeding) : Type 0 where
   pub of : d'.module ≡ d.module
   pub seat : d'.seat ≡ record d.seat { view = publishes d.seat.view b.start }
   pub ticket : Ticket
   pub batch : arc_value ticket.batch ≡ b
   pub kept : d'.kept.items ≡ d.kept.items ++ ticket ∷ []
   pub last : d'.last ≡ b.start
-  pub feeder : PutsIn d.module d.feeder b d'.feeder
+  pub feeder : PutsIn d.module f b f'
 
 -- nothing was done or reported at the desk
 pub record IsIdle (d d' : Desk) : Type 0 where
   pub done : d'.seat.view.done ≡ d.seat.view.done
   pub reported : d'.seat.view.reported ≡ d.seat.view.reported
 
--- nothing of the desk has changed
-pub record IsAsBefore (d d' : Desk) : Type 0 where
+-- nothing of the desk and of the queue has changed
+pub record IsAsBefore (d : Desk) (f : Feeding) (d' : Desk) (f' : Feeding) : Type 0 where
   pub of : d'.module ≡ d.module
   pub seat : d'.seat ≡ d.seat
-  pub feeder : d'.feeder ≡ d.feeder
+  pub feeder : f' ≡ f
   pub kept : d'.kept.items ≡ d.kept.items
   pub last : d'.last ≡ d.last
 

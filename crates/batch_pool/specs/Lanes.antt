@@ -1,13 +1,13 @@
 -- What a worker makes of the tickets of several modules.
-use Rattle.std.specs.Prelude.{◌≡◌, ◌⊎◌, ◌<◌, ℕ, ◌+◌, Bool, true, false, List, [], ◌++◌, length, slice_get, Some, All, Contains}
+use Rattle.std.specs.Prelude.{◌≡◌, ◌⊎◌, ◌<◌, ℕ, ◌+◌, Bool, false, List, [], ◌++◌, length, slice_get, Some, All, Contains}
 use Rattle.std.specs.Arc.{arc_value}
 use Rattle.body_compiler.specs.declared.batch.row.Row.{Row}
-use Rattle.body_compiler.specs.BatchRows.{IsRowOf}
 use Rattle.batch_pool.specs.declared.ticket.Ticket.{Ticket}
 use Rattle.batch_pool.specs.declared.lanes.lane.Lane.{Lane}
 use Rattle.batch_pool.specs.declared.lanes.lane.LaneSeat.{LaneSeat}
+use Rattle.batch_pool.specs.declared.lanes.lane.LaneDesk.{LaneDesk}
+use Rattle.batch_pool.specs.Desks.{IsDesk, IsIdle, HasRead}
 use Rattle.batch_pool.specs.Gathering.{IsFresh, Gathers}
-use Rattle.batch_pool.specs.Settling.{AreKept}
 use Rattle.batch_pool.specs.Working.{Grows, Fits, IsServed, AddsRowOf}
 
 -- a seat at each lane's board
@@ -23,9 +23,9 @@ AreApart lanes = (j k : ℕ) (l m : Lane) → slice_get lanes j ≡ Some l → s
 abbrev pub IsOfLane : List Lane → ℕ → ℕ → Type 0
 IsOfLane lanes m k = (l : Lane) × (slice_get lanes k ≡ Some l) × (l.module ≡ m)
 
--- of each lane, and its seat before and after
-abbrev pub Each : (Lane → LaneSeat → LaneSeat → Type 0) → List Lane → List LaneSeat → List LaneSeat → Type 0
-Each P lanes old new = (k : ℕ) (l : Lane) (s t : LaneSeat) → slice_get lanes k ≡ Some l → slice_get old k ≡ Some s → slice_get new k ≡ Some t → P l s t
+-- of each lane, and its seat or desk before and after
+abbrev pub Each : {S : Type 0} → (Lane → S → S → Type 0) → List Lane → List S → List S → Type 0
+Each {S} P lanes old new = (k : ℕ) (l : Lane) (s t : S) → slice_get lanes k ≡ Some l → slice_get old k ≡ Some s → slice_get new k ≡ Some t → P l s t
 
 -- at one lane's seat rows were made under its context and cells, as a worker on that lane alone makes them
 pub record Works (l : Lane) (s t : LaneSeat) : Type 0 where
@@ -63,26 +63,44 @@ pub record AreFresh (lanes : List Lane) (seats : List LaneSeat) : Type 0 where
   pub seated : AreSeated lanes seats
   pub fresh : (k : ℕ) (l : Lane) (s : LaneSeat) → slice_get lanes k ≡ Some l → slice_get seats k ≡ Some s → IsFresh l.board.table s.seat × (s.rows.items ≡ [])
 
--- at one lane's seat the rows of some workers were gathered, so many of whose parts were joined
-pub record GathersIn (n : ℕ) (l : Lane) (s t : LaneSeat) : Type 0 where
-  pub table : t.seat.table ≡ s.seat.table
-  pub parts : t.seat.view.parts ≡ s.seat.view.parts + n
-  pub gathers : Gathers l.context.now l.cells s.seat.view t.seat.view s.rows.items t.rows.items
+-- a desk at the lane's board, of its module
+abbrev pub IsDeskOf : Lane → LaneDesk → Type 0
+IsDeskOf l d = IsDesk l.context.now l.board d.desk × (d.desk.module ≡ l.module)
 
--- each seat has more parts than so many, and their number is one of 64 bits
-abbrev pub HaveParts : ℕ → List LaneSeat → Type 0
-HaveParts n seats = (k : ℕ) (s : LaneSeat) → slice_get seats k ≡ Some s → (n < s.seat.view.parts) × (s.seat.view.parts < 18446744073709551616)
+-- a desk at each lane's board
+pub record AreDesks (lanes : List Lane) (desks : List LaneDesk) : Type 0 where
+  pub count : length desks ≡ length lanes
+  pub each : (k : ℕ) (l : Lane) (d : LaneDesk) → slice_get lanes k ≡ Some l → slice_get desks k ≡ Some d → IsDeskOf l d
+
+-- no row was gathered there
+abbrev pub HaveNoRows : List LaneDesk → Type 0
+HaveNoRows desks = (k : ℕ) (d : LaneDesk) → slice_get desks k ≡ Some d → d.rows.items ≡ []
+
+-- nothing of the desk has changed but its seat
+abbrev pub IsAt : LaneDesk → LaneDesk → Type 0
+IsAt d e = e.desk ≡ record d.desk { seat = e.desk.seat }
+
+-- at one lane's desk the rows of some workers were gathered, so many of whose parts were joined
+pub record GathersIn (n : ℕ) (l : Lane) (d e : LaneDesk) : Type 0 where
+  pub at : IsAt d e
+  pub table : e.desk.seat.table ≡ d.desk.seat.table
+  pub parts : e.desk.seat.view.parts ≡ d.desk.seat.view.parts + n
+  pub gathers : Gathers l.context.now l.cells d.desk.seat.view e.desk.seat.view d.rows.items e.rows.items
+
+-- while batches are handed over nothing is done or reported at a desk, no row is gathered, and no part is split off or joined
+pub record Reads (l : Lane) (d e : LaneDesk) : Type 0 where
+  pub idle : IsIdle d.desk e.desk
+  pub parts : e.desk.seat.view.parts ≡ d.desk.seat.view.parts
+  pub rows : e.rows.items ≡ d.rows.items
+
+-- of one lane what the thread that reads one module has once it joined the workers
+abbrev pub HasReadIn : Lane → LaneDesk → LaneDesk → Type 0
+HasReadIn l d e = HasRead l.context.now l.cells l.board d.desk.seat.view e.desk.seat e.desk.kept.items e.rows.items
+
+-- each desk's seat has more parts than so many, and their number is one of 64 bits
+abbrev pub HaveParts : ℕ → List LaneDesk → Type 0
+HaveParts n desks = (k : ℕ) (d : LaneDesk) → slice_get desks k ≡ Some d → (n < d.desk.seat.view.parts) × (d.desk.seat.view.parts < 18446744073709551616)
 
 -- with so many more parts each seat's number of parts is one of 64 bits
-abbrev pub HaveRoom : ℕ → List LaneSeat → Type 0
-HaveRoom n seats = (k : ℕ) (s : LaneSeat) → slice_get seats k ≡ Some s → s.seat.view.parts + n < 18446744073709551616
-
--- a lane's seat that fed its board, where nothing runs and all parts are joined, the tickets of all batches that were published there,
--- and right rows
-pub record IsFed (l : Lane) (s : LaneSeat) (tickets : List Ticket) : Type 0 where
-  pub table : s.seat.table ≡ l.board.table
-  pub feeder : s.seat.view.feeder ≡ true
-  pub running : s.seat.view.running ≡ []
-  pub parts : s.seat.view.parts ≡ l.board.seats
-  pub kept : AreKept l.context.now l.board.functions s.seat.view.published tickets
-  pub right : All (IsRowOf l.context.now l.cells) s.rows.items
+abbrev pub HaveRoom : ℕ → List LaneDesk → Type 0
+HaveRoom n desks = (k : ℕ) (d : LaneDesk) → slice_get desks k ≡ Some d → d.desk.seat.view.parts + n < 18446744073709551616

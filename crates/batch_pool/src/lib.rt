@@ -24,7 +24,10 @@ mod worker;
 pub use batch_compiler::BatchCompiler;
 pub use feeder::Feeder;
 pub use hand::Hand;
-pub use lanes::{Crew, Lane, LaneSeat, Lending, Seats, WorkedMany, run_many, work_many};
+pub use lanes::{
+    Crew, Desks, JoinedMany, Lane, LaneDesk, LaneSeat, Lending, ReadingMany, Seats, WorkedMany,
+    hand_over_at, run_many, work_many,
+};
 pub use laws::row_law;
 pub use pool::Pool;
 pub use scope::{

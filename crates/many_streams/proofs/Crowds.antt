@@ -19,7 +19,7 @@ use Rattle.many_streams.specs.declared.streams.ManyStop.TheVariants as stop
 use Rattle.many_streams.specs.Frames.{IsBadFrame}
 use Rattle.many_streams.specs.Reading.{Progress, IsReading, Takes, Ends, SetsFlags, AreAllSet, with_more}
 use Rattle.many_streams.specs.Members.{IsMember, IsEnded}
-use Rattle.many_streams.specs.Many.{StandsSo, AreMembers, AreEach, IsStreaming, TakesSome, TakesAll, ComesToEnd, IsFront}
+use Rattle.many_streams.specs.Many.{StandsSo, AreMembers, AreEach, AreStreaming, IsStreaming, TakesSomeSo, TakesSome, TakesAllSo, ComesToEnd, IsFront}
 
 -- ---- what each comes to
 
@@ -221,18 +221,18 @@ take-add (suc a) b (x ∷ xs) = ap (λ (n : ℕ). take n (x ∷ xs)) (more a b) 
     more : (a b : ℕ) → suc a + b ≡ suc (a + b)
     more a b = omega arith
 
-pub taken_on : (bytes piece : List ℕ) (from n : ℕ) (s : Streams) → IsStreaming ((bytes ++ take from piece) ++ take n (drop from piece)) s → IsStreaming (bytes ++ take (from + n) piece) s
-taken_on bytes piece from n s = subst (λ (l : List ℕ). IsStreaming l s) (append_assoc bytes (take from piece) (take n (drop from piece)) ∙ ap (λ (l : List ℕ). bytes ++ l) (sym (take-add from n piece)))
+pub taken_on : (Came : List ℕ → Type 0) (bytes piece : List ℕ) (from n : ℕ) → Came ((bytes ++ take from piece) ++ take n (drop from piece)) → Came (bytes ++ take (from + n) piece)
+taken_on Came bytes piece from n = subst Came (append_assoc bytes (take from piece) (take n (drop from piece)) ∙ ap (λ (l : List ℕ). bytes ++ l) (sym (take-add from n piece)))
 
-pub fault_on : (bytes piece : List ℕ) (from : ℕ) (e : ManyStop) (s : Streams) → TakesSome (bytes ++ take from piece) (drop from piece) (Err e) s → TakesAll bytes piece (Err e) s
-fault_on bytes piece from (stop.Frame at) s t =
+pub fault_on : (Came Come : List ℕ → Type 0) (bytes piece : List ℕ) (from : ℕ) (e : ManyStop) → TakesSomeSo Came (bytes ++ take from piece) (drop from piece) (Err e) → TakesAllSo Come bytes piece (Err e)
+fault_on Came Come bytes piece from (stop.Frame at) t =
     subst (λ (l : List ℕ). IsBadFrame l at) (append_assoc bytes (take from piece) (drop from piece ++ []) ∙ ap (λ (l : List ℕ). bytes ++ l) (ap (λ (l : List ℕ). take from piece ++ l) (append-nil (drop from piece)) ∙ take-append-drop from piece)) (t [])
-fault_on bytes piece from stop.ReadFault s t = t
-fault_on bytes piece from stop.NoMemory s t = tt
+fault_on Came Come bytes piece from stop.ReadFault t = t
+fault_on Came Come bytes piece from stop.NoMemory t = tt
 
 -- what is left of a piece
-pub some_rest : (bytes piece : List ℕ) (from : ℕ) (r : Result ℕ ManyStop) (s : Streams) → TakesSome bytes (take (length piece - from) (drop from piece)) r s → TakesSome bytes (drop from piece) r s
-some_rest bytes piece from r s = subst (λ (l : List ℕ). TakesSome bytes l r s) (take_all (length piece - from) (drop from piece) (omega (arith, length-drop from piece)))
+pub some_rest : (Came : List ℕ → Type 0) (bytes piece : List ℕ) (from : ℕ) (r : Result ℕ ManyStop) → TakesSomeSo Came bytes (take (length piece - from) (drop from piece)) r → TakesSomeSo Came bytes (drop from piece) r
+some_rest Came bytes piece from r = subst (λ (l : List ℕ). TakesSomeSo Came bytes l r) (take_all (length piece - from) (drop from piece) (omega (arith, length-drop from piece)))
 
 -- ---- the end
 
@@ -251,9 +251,9 @@ tab_at zero of i in' = absurd (omega arith)
 tab_at (suc n) of zero in' = refl
 tab_at (suc n) of (suc i) in' = tab_at n (λ k. of (suc k)) i (omega arith)
 
-pub judged_end : (bytes : List ℕ) (s : Streams) → (i : IsStreaming bytes s) → Ends bytes i.of (Ok tt) s.reader → AreAllSet s.reader.modules s.reader.ended → ComesToEnd (IsEnded s.keeps) bytes (Ok s.members.items)
-judged_end bytes s i ends set =
-    let n = s.reader.modules in
+pub judged_end : (bytes : List ℕ) (keeps : Bool) (p : Progress) (members : List Member) → (i : AreStreaming bytes keeps p members) → Ends bytes i.of (Ok tt) p → AreAllSet p.modules p.ended → ComesToEnd (IsEnded keeps) bytes (Ok members)
+judged_end bytes keeps p members i ends set =
+    let n = p.modules in
     let list = tab n i.of in (
       list,
       ends list (length-tab n i.of) (tab_at n i.of),
@@ -264,10 +264,10 @@ judged_end bytes s i ends set =
             let l = length-tab n i.of in
             let here : slice_get list k ≡ Some (i.of k) = tab_at n i.of k (omega arith) in
             let same : i.of k ≡ b = cc in
-            subst (λ (x : List ℕ). IsEnded s.keeps x m) same (subst (λ (b : Bool). StandsSo b s.keeps (i.of k) m) (set k (omega arith)) (i.members k m is)),
+            subst (λ (x : List ℕ). IsEnded keeps x m) same (subst (λ (b : Bool). StandsSo b keeps (i.of k) m) (set k (omega arith)) (i.members k m is)),
       ),
     )
 
-pub front_stands : (bytes : List ℕ) (s : Streams) (r : Result (Unit {0}) ℕ) → (i : IsStreaming bytes s) → Ends bytes i.of r s.reader → IsFront bytes
-front_stands bytes s (Ok u) i ends = let n = s.reader.modules in inr (tab n i.of, ends (tab n i.of) (length-tab n i.of) (tab_at n i.of))
-front_stands bytes s (Err at) i ends = inl ends.0
+pub front_stands : (bytes : List ℕ) (keeps : Bool) (p : Progress) (members : List Member) (r : Result (Unit {0}) ℕ) → (i : AreStreaming bytes keeps p members) → Ends bytes i.of r p → IsFront bytes
+front_stands bytes keeps p members (Ok u) i ends = let n = p.modules in inr (tab n i.of, ends (tab n i.of) (length-tab n i.of) (tab_at n i.of))
+front_stands bytes keeps p members (Err at) i ends = inl ends.0

@@ -11,7 +11,7 @@ use Rattle.many_streams.specs.declared.streams.ManyStop.{ManyStop}
 use Rattle.many_streams.specs.declared.streams.ManyStop.TheVariants as stop
 use Rattle.many_streams.specs.Frames.{Frames, IsCutOff, IsBadFrame}
 use Rattle.many_streams.specs.Members.{IsMember, IsEnded, IsEach, IsEachChecked}
-use Rattle.many_streams.specs.Reading.{IsReading}
+use Rattle.many_streams.specs.Reading.{Progress, IsReading}
 
 -- of a module these bytes came, by whether it has ended
 abbrev pub StandsSo : (ended keeps : Bool) → List ℕ → Member → Type 0
@@ -22,28 +22,38 @@ StandsSo true keeps came m = IsEnded keeps came m
 abbrev pub AreMembers : Bool → List Bool → (ℕ → List ℕ) → List Member → Type 0
 AreMembers keeps flags of members = (i : ℕ) (m : Member) → slice_get members i ≡ Some m → StandsSo (slice_index_or flags i false) keeps (of i) m
 
--- these bytes came
-pub record IsStreaming (bytes : List ℕ) (s : Streams) : Type 0 where
+-- of these modules these bytes came
+pub record AreStreaming (bytes : List ℕ) (keeps : Bool) (p : Progress) (members : List Member) : Type 0 where
   pub of : ℕ → List ℕ
-  pub reading : IsReading bytes of s.reader
-  pub count : length s.members.items ≡ s.reader.modules
-  pub members : AreMembers s.keeps s.reader.ended of s.members.items
+  pub reading : IsReading bytes of p
+  pub count : length members ≡ p.modules
+  pub members : AreMembers keeps p.ended of members
+
+abbrev pub IsStreaming : List ℕ → Streams → Type 0
+IsStreaming bytes s = AreStreaming bytes s.keeps s.reader s.members.items
 
 abbrev pub MayStream : Streams → Type 0
 MayStream s = (bytes : List ℕ) × IsStreaming bytes s
 
--- so many bytes of a piece were taken; or they are no frames, whatever follows
+-- so many bytes of a piece were taken, and this holds of all bytes that came; or they are no frames, whatever follows
+abbrev pub TakesSomeSo : (List ℕ → Type 0) → List ℕ → List ℕ → Result ℕ ManyStop → Type 0
+TakesSomeSo Came bytes piece (Ok n) = Came (bytes ++ take n piece) × (0 < n) × (n ≤ length piece)
+TakesSomeSo Came bytes piece (Err (stop.Frame at)) = (more : List ℕ) → IsBadFrame (bytes ++ (piece ++ more)) at
+TakesSomeSo Came bytes piece (Err stop.ReadFault) = ⊥
+TakesSomeSo Came bytes piece (Err stop.NoMemory) = Unit {0}
+
 abbrev pub TakesSome : List ℕ → List ℕ → Result ℕ ManyStop → Streams → Type 0
-TakesSome bytes piece (Ok n) s = IsStreaming (bytes ++ take n piece) s × (0 < n) × (n ≤ length piece)
-TakesSome bytes piece (Err (stop.Frame at)) s = (more : List ℕ) → IsBadFrame (bytes ++ (piece ++ more)) at
-TakesSome bytes piece (Err stop.ReadFault) s = ⊥
-TakesSome bytes piece (Err stop.NoMemory) s = Unit {0}
+TakesSome bytes piece r s = TakesSomeSo (λ came. IsStreaming came s) bytes piece r
+
+-- the piece was taken, or with it the bytes are no frames
+abbrev pub TakesAllSo : (List ℕ → Type 0) → List ℕ → List ℕ → Result (Unit {0}) ManyStop → Type 0
+TakesAllSo Came bytes piece (Ok done) = Came (bytes ++ piece)
+TakesAllSo Came bytes piece (Err (stop.Frame at)) = IsBadFrame (bytes ++ piece) at
+TakesAllSo Came bytes piece (Err stop.ReadFault) = ⊥
+TakesAllSo Came bytes piece (Err stop.NoMemory) = Unit {0}
 
 abbrev pub TakesAll : List ℕ → List ℕ → Result (Unit {0}) ManyStop → Streams → Type 0
-TakesAll bytes piece (Ok done) s = IsStreaming (bytes ++ piece) s
-TakesAll bytes piece (Err (stop.Frame at)) s = IsBadFrame (bytes ++ piece) at
-TakesAll bytes piece (Err stop.ReadFault) s = ⊥
-TakesAll bytes piece (Err stop.NoMemory) s = Unit {0}
+TakesAll bytes piece r s = TakesAllSo (λ came. IsStreaming came s) bytes piece r
 
 -- the list that a vector holds
 abbrev pub view : {E : Type 0} → Result (Vec E Global) ManyStop → Result (List E) ManyStop

@@ -1,13 +1,19 @@
 //! Judges modules that have ended.
 
-ghost use Rattle.std.specs.Prelude.{◌≡◌, ℕ, Bool, List, IfOk};
-ghost use Rattle.many_streams.specs.Many.{AreEach};
+ghost use Rattle.std.specs.Prelude.{◌≡◌, ◌<◌, ℕ, Bool, List, Option, length, nat_lt, IfOk};
+ghost use Rattle.io_edges.specs.Streams.{TookFront};
+ghost use Rattle.many_streams.specs.Flows.{members_with, AreLent, AreWaiting};
+ghost use Rattle.many_streams.specs.Many.{AreEach, ComesToMany, view};
 ghost use Rattle.many_streams.specs.Members.{IsEnded, IsJudged};
+ghost use Rattle.many_streams.specs.Rests.{IsPaused};
 ghost use Rattle.many_streams.specs.Workers.{AreMade};
 
+use crate::flow::Flow;
 use crate::member::Member;
-use crate::working::{Made, work_off};
-use io_edges::Gate;
+use crate::rest::{Pause, Rest};
+use crate::streams::{ManyStop, Streams};
+use crate::working::{Done, Made, nothing_made, work_beside};
+use io_edges::{Gate, Source};
 use std::alloc::{AllocError, Global};
 use std::sync::Wait;
 use std::thread::Threads;
@@ -36,19 +42,84 @@ fn settle_members(
     Ok(judged)
 }
 
-/// Judges modules that have ended: so many workers compile the bodies that were kept of all of them, from one pool. Err where memory ran
-/// out.
-pub fn judge_all<R: Threads + Wait + Sync, G: Gate>(
-    rt: &R,
-    alloc: Global,
-    gate: &G,
-    workers: u32,
-    members: Vec<Member>,
-) -> Result<Vec<Member>, AllocError>
+/// Judges modules that have ended, on the caller's thread. Err where memory ran out.
+pub fn judge_ended(alloc: Global, members: Vec<Member>) -> Result<Vec<Member>, AllocError>
     requires { (keeps : Bool) × (list : List (List ℕ)) × AreEach (IsEnded keeps) list members.items }
     ensures { IfOk result (λ v. (keeps : Bool) (list : List (List ℕ)) → AreEach (IsEnded keeps) list members.items
         → AreEach (IsJudged keeps) list v.items) }
 {
-    let made = work_off(rt, alloc, gate, workers, members.as_slice())?;
+    let made = nothing_made(alloc, members.as_slice())?;
     settle_members(alloc, members, made)
+}
+
+/// Takes out what came of each module, so that their compilations may be lent. Err where memory ran out.
+fn take_flows(alloc: Global, members: &mut Vec<Member>) -> Result<Vec<Option<Flow>>, AllocError>
+    requires { AreWaiting members.old.items }
+    ensures count { IfOk result (λ v. length v.items ≡ length members.new.items) }
+    ensures lent { IfOk result (λ v. AreLent members.new.items v.items) }
+    ensures whole { IfOk result (λ v. members_with members.new.items v.items ≡ members.old.items) }
+{
+    let mut flows = Vec::new(alloc);
+    for k in 0..members.len() {
+        let flow = members[k].take_flow();
+        flows.push(flow)?;
+    }
+    Ok(flows)
+}
+
+/// Puts back what came of each module while its compilation was lent.
+fn put_flows(members: &mut Vec<Member>, flows: Vec<Option<Flow>>)
+    requires { length flows.items ≡ length members.old.items }
+    ensures { members.new.items ≡ members_with members.old.items flows.items }
+{
+    let mut flows = flows;
+    while let Some(flow) = flows.pop() {
+        members[flows.len()].put_flow(flow);
+    }
+}
+
+/// Reads the rest of the input while so many workers compile the bodies of all its modules, from one pool, and judges the modules.
+#[tactic(auto, using(crate::proofs::Sources::took_nothing))]
+pub fn judge_beside<R: Threads + Wait + Sync, S: Source, G: Gate>(
+    rt: &R,
+    alloc: Global,
+    source: &mut S,
+    gate: &G,
+    workers: u32,
+    streams: Streams,
+    buffer: Vec<u8>,
+) -> Result<Vec<Member>, ManyStop>
+    requires room { 0 < length buffer.items }
+    requires paused { (first : Option (List ℕ)) × (before : ℕ)
+        × IsPaused first before (S.left source.old) (S.faults source.old) (S.is_open source.old) streams }
+    ensures answer { (first : Option (List ℕ)) (before : ℕ)
+        → IsPaused first before (S.left source.old) (S.faults source.old) (S.is_open source.old) streams
+        → ComesToMany (IsJudged streams.keeps) (nat_lt before (S.faults source.new)) first (S.left source.new) (view result) }
+    ensures front { TookFront (S.left source.old) (S.faults source.old) (S.left source.new) (S.faults source.new) }
+{
+    let Streams {
+        alloc: _,
+        batch: _,
+        keeps: _,
+        waits: _,
+        reader,
+        members,
+    } = streams;
+    let mut members = members;
+    let Ok(flows) = take_flows(alloc, &mut members) else {
+        return Err(ManyStop::NoMemory);
+    };
+    let rest = Rest { reader, flows };
+    let pause = Pause { rest, buffer };
+    match work_beside(rt, alloc, source, gate, workers, members.as_slice(), pause) {
+        Ok(done) => {
+            let Done { made, flows } = done;
+            put_flows(&mut members, flows);
+            match settle_members(alloc, members, made) {
+                Ok(judged) => Ok(judged),
+                Err(_) => Err(ManyStop::NoMemory),
+            }
+        }
+        Err(stop) => Err(stop),
+    }
 }

@@ -1,13 +1,15 @@
 //! One of several modules, whose bytes come among those of the others.
 
-ghost use Rattle.std.specs.Prelude.{◌≡◌, ◌<◌, ◌++◌, ℕ, Bool, List, [], true, false, None, All, take, is_some, OnOk, IfOk};
+ghost use Rattle.std.specs.Prelude.{◌≡◌, ◌<◌, ◌++◌, ℕ, Bool, List, [], true, false, None, All, take, is_some, OnOk, IfOk, IfSome};
 ghost use Rattle.module_stream.specs.Codes.{AreAll, KeepsAlike};
 ghost use Rattle.module_stream.specs.Done.{IsDone, Decides};
 ghost use Rattle.module_stream.specs.Streaming.{IsGoing, MayGo};
 ghost use Rattle.body_compiler.specs.BatchRows.{IsRowIf};
+ghost use Rattle.many_streams.specs.Flows.{member_with, IsLent, IsWaiting};
 ghost use Rattle.many_streams.specs.Intakes.{Goes};
 ghost use Rattle.many_streams.specs.Members.{KeepsCodes, IsFed, FeedsOn, TakesOn, ResumesOn, IsMember, IsEnded, IsJudged, AreRowsOf, IsEach, IsEachChecked};
 
+use crate::flow::Flow;
 use crate::intake::Intake;
 use body_compiler::Row;
 use module_stream::{Built, Checked, Codes, Compilation, MAX_READ};
@@ -76,7 +78,7 @@ pub enum Member {
 }
 
 /// So many bytes, or all of them where there are fewer.
-fn front_of(bytes: &[u8], most: usize) -> &[u8]
+pub fn front_of(bytes: &[u8], most: usize) -> &[u8]
     ensures front { result.now ≡ take most bytes.now }
     ensures fit { All (λ b. b < 256) result.now }
 {
@@ -305,6 +307,51 @@ impl Member {
             }
             Member::Refused(_) => Ok(()),
             Member::Image(_) | Member::Valid(_) => unreachable!(),
+        }
+    }
+
+    /// How many batches of its bodies are closed and kept, where its bodies are kept or it isn't open.
+    pub fn kept_batches(&self) -> Option<usize>
+        ensures { IfSome result (λ _. IsWaiting self.now) }
+    {
+        match self {
+            Member::Open(part) => match &part.intake {
+                Some(intake) => Some(intake.kept.len()),
+                None => None,
+            },
+            Member::Image(_) | Member::Valid(_) | Member::Refused(_) => Some(0),
+        }
+    }
+
+    /// Takes out what came of a module whose bodies are kept, so that its compilation may be lent. None where it isn't open.
+    pub fn take_flow(&mut self) -> Option<Flow>
+        requires { IsWaiting self.old }
+        ensures lent { IsLent self.new result }
+        ensures whole { member_with self.new result ≡ self.old }
+    {
+        match self {
+            Member::Open(part) => {
+                let fed = part.fed;
+                let intake = part.intake.take()?;
+                Some(Flow { fed, intake })
+            }
+            Member::Image(_) | Member::Valid(_) | Member::Refused(_) => None,
+        }
+    }
+
+    /// Puts back what came of a module while its compilation was lent, if anything may come of it.
+    pub fn put_flow(&mut self, flow: Option<Flow>)
+        ensures { self.new ≡ member_with self.old flow }
+    {
+        let Some(flow) = flow else {
+            return;
+        };
+        match self {
+            Member::Open(part) => {
+                part.fed = flow.fed;
+                part.intake = Some(flow.intake);
+            }
+            Member::Image(_) | Member::Valid(_) | Member::Refused(_) => {}
         }
     }
 

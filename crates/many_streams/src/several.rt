@@ -5,8 +5,8 @@ ghost use Rattle.io_edges.specs.Streams.{TookFront};
 ghost use Rattle.many_streams.specs.Many.{AreEach, ComesToMany, AnswersMany, ChecksMany, view};
 ghost use Rattle.many_streams.specs.Members.{IsJudged, IsEach, IsEachChecked};
 
-use crate::alone::judge_alone;
-use crate::judging::judge_all;
+use crate::alone::{Front, read_front};
+use crate::judging::{judge_beside, judge_ended};
 use crate::member::{Each, EachChecked, Member};
 use crate::streams::ManyStop;
 use io_edges::{Gate, Source};
@@ -69,7 +69,7 @@ fn each_of<E: Comes>(alloc: Global, members: Vec<Member>) -> Result<Vec<E>, Allo
 }
 
 /// Compiles the modules whose bytes the source gives in frames, each by itself, and judges them. Their codes are kept or only counted. Where
-/// there are workers, bodies are kept while the input is read, and the workers compile them once it has ended.
+/// there are workers, bodies are kept until each module has reached its own, and workers compile them while the rest of the input is read.
 fn judge_many<R: Threads + Wait + Sync, S: Source, G: Gate>(
     rt: &R,
     alloc: Global,
@@ -83,11 +83,15 @@ fn judge_many<R: Threads + Wait + Sync, S: Source, G: Gate>(
     ensures answer { ComesToMany (IsJudged keeps) (nat_lt (S.faults source.old) (S.faults source.new)) (S.left source.old) (S.left source.new) (view result) }
     ensures front { TookFront (S.left source.old) (S.faults source.old) (S.left source.new) (S.faults source.new) }
 {
-    match judge_alone(alloc, source, settings.batch, keeps, settings.workers > 0) {
-        Ok(members) => match judge_all(rt, alloc, gate, settings.workers, members) {
+    let workers = settings.workers;
+    match read_front(alloc, source, settings.batch, keeps, workers > 0) {
+        Ok(Front::Ended(members)) => match judge_ended(alloc, members) {
             Ok(judged) => Ok(judged),
             Err(_) => Err(ManyStop::NoMemory),
         },
+        Ok(Front::Paused(streams, buffer)) => {
+            judge_beside(rt, alloc, source, gate, workers, streams, buffer)
+        }
         Err(stop) => Err(stop),
     }
 }
@@ -117,8 +121,9 @@ fn come_to<R: Threads + Wait + Sync, S: Source, G: Gate, E: Comes>(
 /// Compiles the modules whose bytes the source gives in frames, each by itself: its one image, or its error of least offset. The input is
 /// read to its end, to the source's error, or to where it is no frames.
 ///
-/// With `settings.workers` the bodies are kept while the input is read, and then those of all modules are compiled by so many threads, from
-/// one pool. Without them all of it is done on the caller's thread while the input is read.
+/// With `settings.workers` bodies are kept until each module has reached its code section, has ended or is refused; then those of all
+/// modules are compiled by so many threads, from one pool, while the rest of the input is read. Without them all of it is done on the
+/// caller's thread.
 pub fn many<R: Threads + Wait + Sync, S: Source, G: Gate>(
     rt: &R,
     alloc: Global,

@@ -1,6 +1,7 @@
 //! Several modules whose bytes come in one input.
 
-ghost use Rattle.std.specs.Prelude.{◌≡◌, ◌<◌, List, ℕ, [], All, length, IfOk};
+ghost use Rattle.std.specs.Prelude.{◌≡◌, ◌<◌, List, ℕ, [], All, length, IfOk, IsTrue};
+ghost use Rattle.many_streams.specs.Flows.{AreWaiting};
 ghost use Rattle.many_streams.specs.Many.{IsStreaming, MayStream, TakesSome, TakesAll, ComesToEnd, IsFront, view};
 ghost use Rattle.many_streams.specs.Members.{IsMember, IsEnded};
 
@@ -117,6 +118,23 @@ impl Streams {
             }
         }
         Ok(())
+    }
+
+    /// Whether workers may start: each module's bodies are kept, or it isn't open, and there are batches for two workers at least.
+    pub fn may_start(&self) -> bool
+        ensures { IsTrue result → AreWaiting self.now.members.items × (0 < length self.now.members.items) }
+    {
+        if !self.waits || self.members.is_empty() {
+            return false;
+        }
+        let mut batches = 0usize;
+        for k in 0..self.members.len() {
+            let Some(count) = self.members[k].kept_batches() else {
+                return false;
+            };
+            batches = batches.saturating_add(count);
+        }
+        batches >= 2
     }
 
     /// The input has ended: the modules, each with what it comes to, or with its bodies where they were kept.

@@ -1,26 +1,25 @@
-//! Workers compile the bodies that modules kept, all from one pool.
+//! Workers compile the bodies of modules, all from one pool, while the rest of the input is read.
 
-ghost use Rattle.std.specs.Prelude.{◌≡◌, ◌<◌, ◌+◌, ℕ, [], All, length, IfOk, IfSome};
-ghost use Rattle.batch_pool.specs.Desks.{IsDesk};
-ghost use Rattle.batch_pool.specs.Lanes.{IsFed};
+ghost use Rattle.std.specs.Prelude.{◌≡◌, ◌<◌, ◌+◌, ℕ, Bool, [], List, Option, All, length, IfOk, IfSome};
+ghost use Rattle.io_edges.specs.Streams.{TookFront};
+ghost use Rattle.batch_pool.specs.Lanes.{IsDeskOf, HasReadIn};
 ghost use Rattle.body_compiler.specs.BatchRows.{IsRowIf};
 ghost use Rattle.many_streams.specs.declared.member.Member.TheVariants as state;
-ghost use Rattle.many_streams.specs.Workers.{AreFed, AreOpened, AreMade};
+ghost use Rattle.many_streams.specs.Rests.{IsArriving, HasArrived};
+ghost use Rattle.many_streams.specs.Workers.{AreRead, AreOpened, AreMade, IsRead, ComesBeside};
 
-use crate::intake::Intake;
+use crate::flow::Flow;
 use crate::member::{Member, Part};
-use batch_pool::{
-    BatchCompiler, Desk, Feeder, Lane, LaneSeat, Pool, Seats, Ticket, by_number, run_many, settle,
-};
+use crate::rest::{Pause, Rest, RestReader};
+use crate::streams::ManyStop;
+use batch_pool::{BatchCompiler, Desk, Desks, Lane, LaneDesk, Pool, by_number, run_many, settle};
 use body_compiler::Row;
-use body_cutter::Batch;
 use cancel_drain::Board;
-use index_spaces::Context;
-use io_edges::Gate;
+use io_edges::{Gate, Source};
 use module_stream::Compilation;
 use result_cells::Cells;
 use std::alloc::{AllocError, Global};
-use std::sync::{Arc, Wait};
+use std::sync::Wait;
 use std::thread::Threads;
 use wasm_defs::MAX_TEXT;
 
@@ -46,73 +45,40 @@ impl Made {
     }
 }
 
-/// The lanes of modules whose bodies were kept, in the modules' order, each with a seat at its board and the tickets of the batches that
-/// were handed over there.
+/// The lanes of open modules, in the modules' order, each with a desk at its board.
 #[derive(Drop)]
 struct Work<'a> {
     lanes: Vec<Lane<'a>>,
-    seats: Seats,
-    kept: Vec<Vec<Ticket>>,
+    desks: Desks,
 }
 
-/// The lane of a module whose bodies were handed over, and the queue into which its tickets were put.
+/// The lane of an open module, with a desk.
 struct Opened<'a> {
     lane: Lane<'a>,
-    seat: LaneSeat,
-    kept: Vec<Ticket>,
-    feeder: Feeder,
+    desk: LaneDesk,
 }
 
-/// A module whose bodies are kept.
-fn waiting(member: &Member) -> Option<(&Part, &Intake)>
-    ensures { IfSome result (λ r. member.now ≡ state.Open r.0.now) }
+/// A module that is open.
+fn open_part(member: &Member) -> Option<&Part>
+    ensures { IfSome result (λ r. member.now ≡ state.Open r.now) }
 {
-    let Member::Open(part) = member else {
-        return None;
-    };
-    let Some(intake) = &part.intake else {
-        return None;
-    };
-    Some((part, intake))
-}
-
-/// How many batches all modules kept.
-fn count_batches(members: &[Member]) -> usize {
-    let mut count = 0usize;
-    for member in members {
-        if let Some((_, intake)) = waiting(member) {
-            count = count.saturating_add(intake.kept.len());
-        }
-    }
-    count
-}
-
-/// Hands batches over in order. Those for which no memory is left are left out: the caller compiles what no worker did.
-fn hand_over_all(board: &Board, context: &Context, desk: &mut Desk, kept: &[Arc<Batch, Global>])
-    requires desk { IsDesk context.now board.now desk.old }
-    ensures desk { IsDesk context.now board.now desk.new }
-    ensures parts { desk.new.seat.view.parts ≡ desk.old.seat.view.parts }
-{
-    for batch in kept {
-        if desk.hand_over(board, context, batch).is_err() {
-            return;
-        }
+    match member {
+        Member::Open(part) => Some(part),
+        Member::Image(_) | Member::Valid(_) | Member::Refused(_) => None,
     }
 }
 
-/// Hands the batches that a module kept over, at a board of its own. Err where memory ran out.
+/// A lane of a module, and a desk at its board, where nothing was handed over. Err where memory ran out.
 fn open_lane<'a>(
     alloc: Global,
     workers: u32,
     module: u32,
     compilation: &'a Compilation,
-    kept: &[Arc<Batch, Global>],
-    feeder: Feeder,
 ) -> Result<Opened<'a>, AllocError>
     ensures module { IfOk result (λ o. o.lane.module ≡ «module») }
     ensures context { IfOk result (λ o. o.lane.context.now ≡ compilation.now.spaces) }
-    ensures parts { IfOk result (λ o. o.lane.board.seats ≡ workers + 1) }
-    ensures fed { IfOk result (λ o. IsFed o.lane o.seat o.kept.items) }
+    ensures parts { IfOk result (λ o. (o.lane.board.seats ≡ workers + 1) × (o.desk.desk.seat.view.parts ≡ workers + 1)) }
+    ensures desk { IfOk result (λ o. IsDeskOf o.lane o.desk × (o.desk.rows.items ≡ [])) }
 {
     let context = compilation.context();
     let functions = context.type_indices().len().min(u32::MAX as usize) as u32;
@@ -124,16 +90,7 @@ fn open_lane<'a>(
     // Codes that are linked have no more instruction words together than a text may have.
     let cells = Cells::new(alloc, stored, u64::from(MAX_TEXT) / 4)?;
     let (board, seat) = Board::new(alloc, functions, u64::from(workers) + 1)?;
-    let rows = Vec::new(alloc);
-    let mut desk = Desk::new(alloc, module, &board, context, seat, feeder);
-    hand_over_all(&board, context, &mut desk, kept);
-    let Desk {
-        module: _,
-        seat,
-        feeder,
-        kept: tickets,
-        last: _,
-    } = desk;
+    let desk = Desk::new(alloc, module, &board, context, seat);
     Ok(Opened {
         lane: Lane {
             module,
@@ -141,70 +98,49 @@ fn open_lane<'a>(
             cells,
             context,
         },
-        seat: LaneSeat { seat, rows },
-        kept: tickets,
-        feeder,
+        desk: LaneDesk {
+            desk,
+            rows: Vec::new(alloc),
+        },
     })
 }
 
-/// Hands over what the next module kept, if its bodies are kept. Err where memory ran out.
+/// A lane of the next module, if it is open. Err where memory ran out.
 fn open_next<'a>(
     alloc: Global,
     workers: u32,
     members: &'a [Member],
     module: u32,
     work: &mut Work<'a>,
-    feeder: Feeder,
-) -> Result<Feeder, AllocError>
+) -> Result<(), AllocError>
     requires module { «module» < length members.now }
-    requires opened { AreOpened workers members.now «module» work.old.lanes.items work.old.seats.items work.old.kept.items }
-    ensures { IfOk result (λ _. AreOpened workers members.now («module» + 1) work.new.lanes.items work.new.seats.items work.new.kept.items) }
+    requires opened { AreOpened workers members.now «module» work.old.lanes.items work.old.desks.items }
+    ensures { IfOk result (λ _. AreOpened workers members.now («module» + 1) work.new.lanes.items work.new.desks.items) }
 {
     let k = module as usize;
     let member = &members[k];
-    let Some((part, intake)) = waiting(member) else {
-        return Ok(feeder);
+    let Some(part) = open_part(member) else {
+        return Ok(());
     };
-    let opened = open_lane(
-        alloc,
-        workers,
-        module,
-        &part.compilation,
-        intake.kept.as_slice(),
-        feeder,
-    )?;
-    let Opened {
-        lane,
-        seat,
-        kept,
-        feeder,
-    } = opened;
+    let opened = open_lane(alloc, workers, module, &part.compilation)?;
+    let Opened { lane, desk } = opened;
     work.lanes.push(lane)?;
-    work.seats.push(seat)?;
-    work.kept.push(kept)?;
-    Ok(feeder)
+    work.desks.push(desk)?;
+    Ok(())
 }
 
-/// Hands over what all modules kept. Err where memory ran out.
-fn open_all<'a>(
-    alloc: Global,
-    workers: u32,
-    members: &'a [Member],
-    feeder: Feeder,
-) -> Result<Work<'a>, AllocError>
-    ensures { IfOk result (λ w. (count : ℕ) × AreOpened workers members.now count w.lanes.items w.seats.items w.kept.items) }
+/// A lane of each open module. Err where memory ran out.
+fn open_all<'a>(alloc: Global, workers: u32, members: &'a [Member]) -> Result<Work<'a>, AllocError>
+    ensures { IfOk result (λ w. (count : ℕ) × AreOpened workers members.now count w.lanes.items w.desks.items) }
 {
     let mut work = Work {
         lanes: Vec::new(alloc),
-        seats: Vec::new(alloc),
-        kept: Vec::new(alloc),
+        desks: Vec::new(alloc),
     };
-    let mut feeder = feeder;
     let count = members.len().min(u32::MAX as usize) as u32;
     for number in 0..count {
-        feeder = open_next(alloc, workers, members, number, &mut work, feeder)?;
+        open_next(alloc, workers, members, number, &mut work)?;
     }
-    feeder.close();
     Ok(work)
 }
 
@@ -213,10 +149,9 @@ fn settle_lane<G: Gate>(
     alloc: Global,
     gate: &G,
     lane: Lane<'_>,
-    seat: LaneSeat,
-    kept: Vec<Ticket>,
+    desk: LaneDesk,
 ) -> Result<Made, AllocError>
-    requires { IsFed lane seat kept.items }
+    requires { IsRead lane desk }
     ensures { IfOk result (λ m. All (IsRowIf lane.entry.context.now m.cells) m.rows.items) }
 {
     let Lane {
@@ -225,7 +160,13 @@ fn settle_lane<G: Gate>(
         cells,
         context,
     } = lane;
-    let LaneSeat { seat, rows } = seat;
+    let LaneDesk { desk, rows } = desk;
+    let Desk {
+        module: _,
+        seat,
+        kept,
+        last: _,
+    } = desk;
     let compiler = BatchCompiler {
         alloc,
         context,
@@ -241,7 +182,7 @@ fn settle_lane<G: Gate>(
 }
 
 /// For each module that nothing was made of its bodies. Err where memory ran out.
-fn nothing_made(alloc: Global, members: &[Member]) -> Result<Vec<Made>, AllocError>
+pub fn nothing_made(alloc: Global, members: &[Member]) -> Result<Vec<Made>, AllocError>
     ensures { IfOk result (λ v. AreMade members.now v.items) }
 {
     let mut made = Vec::new(alloc);
@@ -259,48 +200,125 @@ fn settle_all<G: Gate>(
     members: &[Member],
     work: Work<'_>,
 ) -> Result<Vec<Made>, AllocError>
-    requires { AreFed members.now work.lanes.items work.seats.items work.kept.items }
+    requires { AreRead members.now work.lanes.items work.desks.items }
     ensures { IfOk result (λ v. AreMade members.now v.items) }
 {
     let Work {
         mut lanes,
-        mut seats,
-        mut kept,
+        mut desks,
     } = work;
     let mut made = nothing_made(alloc, members)?;
     while let Some(lane) = lanes.pop() {
-        let Some(seat) = seats.pop() else {
-            return Err(AllocError);
-        };
-        let Some(tickets) = kept.pop() else {
+        let Some(desk) = desks.pop() else {
             return Err(AllocError);
         };
         let module = lane.module as usize;
-        let one = settle_lane(alloc, gate, lane, seat, tickets)?;
+        let one = settle_lane(alloc, gate, lane, desk)?;
         made[module] = one;
     }
     Ok(made)
 }
 
-/// Compiles the batches that modules kept in parallel with so many workers, from one pool: for each module the rows in the order of its
-/// batches, where they are at hand. One batch alone is left to the caller. Err where memory ran out.
-pub fn work_off<R: Threads + Wait + Sync, G: Gate>(
+/// What was read, and what is to be settled.
+#[derive(Drop)]
+struct Unsettled<'a> {
+    work: Work<'a>,
+    rest: Rest,
+    /// How the reading ended.
+    read: Result<(), ManyStop>,
+}
+
+/// Reads the rest of the input while so many workers, as far as threads can be started, compile the bodies of open modules. None where
+/// memory ran out.
+#[tactic(auto, using(crate::proofs::Sources::took_nothing))]
+fn read_in_scope<'a, R: Threads + Wait + Sync, S: Source, G: Gate>(
     rt: &R,
     alloc: Global,
+    source: &mut S,
+    gate: &G,
+    workers: u32,
+    members: &'a [Member],
+    pause: Pause,
+) -> Option<Unsettled<'a>>
+    requires room { 0 < length pause.buffer.items }
+    requires arrives { (first : Option (List ℕ)) × (before : ℕ) × (keeps : Bool)
+        × IsArriving first before (S.left source.old) (S.faults source.old) (S.is_open source.old) keeps members.now pause.rest }
+    ensures read { IfSome result (λ u. AreRead members.now u.work.lanes.items u.work.desks.items) }
+    ensures arrived { IfSome result (λ u. (first : Option (List ℕ)) (before : ℕ) (keeps : Bool)
+        → IsArriving first before (S.left source.old) (S.faults source.old) (S.is_open source.old) keeps members.now pause.rest
+        → HasArrived first before (S.left source.new) (S.faults source.new) keeps members.now u.read u.rest) }
+    ensures front { TookFront (S.left source.old) (S.faults source.old) (S.left source.new) (S.faults source.new) }
+{
+    let Ok((feeder, hands)) = Pool::new(alloc, workers) else {
+        return None;
+    };
+    let Ok(work) = open_all(alloc, workers, members) else {
+        return None;
+    };
+    let Work { lanes, desks } = work;
+    let reader = RestReader::new(source, pause);
+    match run_many(rt, lanes.as_slice(), desks, gate, hands, feeder, reader) {
+        Ok(joined) => {
+            let desks = joined.desks;
+            let reader = joined.reader;
+            let pause = reader.pause;
+            let read = reader.read;
+            let _source = reader.source;
+            let rest = pause.rest;
+            Some(Unsettled {
+                work: Work { lanes, desks },
+                rest,
+                read,
+            })
+        }
+        Err(reader) => {
+            let _pause = reader.pause;
+            let _read = reader.read;
+            let _source = reader.source;
+            None
+        }
+    }
+}
+
+/// What was made of modules while the rest of the input was read.
+#[derive(Drop)]
+pub struct Done {
+    /// For each module what workers made of its bodies.
+    pub made: Vec<Made>,
+    /// What came of each module.
+    pub flows: Vec<Option<Flow>>,
+}
+
+/// Reads the rest of the input while so many workers compile the bodies of its modules, from one pool, and does what these left over.
+pub fn work_beside<R: Threads + Wait + Sync, S: Source, G: Gate>(
+    rt: &R,
+    alloc: Global,
+    source: &mut S,
     gate: &G,
     workers: u32,
     members: &[Member],
-) -> Result<Vec<Made>, AllocError>
-    ensures { IfOk result (λ v. AreMade members.now v.items) }
+    pause: Pause,
+) -> Result<Done, ManyStop>
+    requires room { 0 < length pause.buffer.items }
+    requires arrives { (first : Option (List ℕ)) × (before : ℕ) × (keeps : Bool)
+        × IsArriving first before (S.left source.old) (S.faults source.old) (S.is_open source.old) keeps members.now pause.rest }
+    ensures made { IfOk result (λ d. AreMade members.now d.made.items) }
+    ensures comes { (first : Option (List ℕ)) (before : ℕ) (keeps : Bool)
+        → IsArriving first before (S.left source.old) (S.faults source.old) (S.is_open source.old) keeps members.now pause.rest
+        → ComesBeside first before (S.left source.new) (S.faults source.new) keeps members.now result }
+    ensures front { TookFront (S.left source.old) (S.faults source.old) (S.left source.new) (S.faults source.new) }
 {
-    if count_batches(members) < 2 {
-        return nothing_made(alloc, members);
-    }
-    let (feeder, hands) = Pool::new(alloc, workers)?;
-    let work = open_all(alloc, workers, members, feeder)?;
-    let Work { lanes, seats, kept } = work;
-    let Some(seats) = run_many(rt, alloc, lanes.as_slice(), seats, gate, hands) else {
-        return Err(AllocError);
+    let Some(unsettled) = read_in_scope(rt, alloc, source, gate, workers, members, pause) else {
+        return Err(ManyStop::NoMemory);
     };
-    settle_all(alloc, gate, members, Work { lanes, seats, kept })
+    let Unsettled { work, rest, read } = unsettled;
+    match read {
+        Ok(()) => {}
+        Err(stop) => return Err(stop),
+    }
+    let Rest { reader: _, flows } = rest;
+    match settle_all(alloc, gate, members, work) {
+        Ok(made) => Ok(Done { made, flows }),
+        Err(_) => Err(ManyStop::NoMemory),
+    }
 }

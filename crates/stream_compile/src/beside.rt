@@ -11,7 +11,9 @@ ghost use Rattle.stream_compile.specs.Keeping.{keeping, Keeps, HasRightRows, Res
 use crate::chunk::Chunk;
 use crate::intake::{Intake, read_bodies};
 use crate::reading::Ending;
-use batch_pool::{BatchCompiler, Desk, Pool, Reading, Ticket, by_number, run_beside, settle};
+use batch_pool::{
+    BatchCompiler, Desk, Feeder, Pool, Reading, Ticket, by_number, run_beside, settle,
+};
 use body_compiler::Row;
 use cancel_drain::{Board, BoardSeat};
 use index_spaces::Context;
@@ -59,13 +61,14 @@ impl<'a, S: Source> Reading for BodyReader<'a, S> {
         → IsArriving None first before (S.left r.source.now) (S.faults r.source.now) (S.is_open r.source.now) (keeping s r.intake) r.intake.chunk
         → Keeps t.read first before (S.left t.source.now) (S.faults t.source.now) (S.is_open t.source.now) s t.intake) };
 
-    fn read(&mut self, board: &Board, context: &Context, desk: &mut Desk) {
+    fn read(&mut self, board: &Board, context: &Context, desk: &mut Desk, feeder: &mut Feeder) {
         self.read = read_bodies(
             self.alloc,
             self.source,
             board,
             context,
             desk,
+            feeder,
             &mut self.intake,
         );
     }

@@ -10,7 +10,7 @@ ghost use Rattle.module_stream.specs.Streaming.{IsErrorFree};
 ghost use Rattle.stream_compile.specs.Keeping.{keeping, Keeps};
 
 use crate::chunk::{Chunk, ReadStatus};
-use batch_pool::Desk;
+use batch_pool::{Desk, Feeder};
 use body_cutter::{Batch, Cutter};
 use cancel_drain::Board;
 use index_spaces::Context;
@@ -51,6 +51,7 @@ fn hand_over(
     board: &Board,
     context: &Context,
     desk: &mut Desk,
+    feeder: &mut Feeder,
     intake: &mut Intake,
 ) -> Result<(), AllocError>
     requires desk { IsDesk context.now board.now desk.old }
@@ -66,7 +67,7 @@ fn hand_over(
 {
     while let Some(batch) = intake.cutter.take_batch() {
         let batch = Arc::new(alloc, batch)?;
-        desk.hand_over(board, context, &batch)?;
+        desk.hand_over(board, context, feeder, &batch)?;
         intake.kept.push(batch)?;
     }
     Ok(())
@@ -78,6 +79,7 @@ fn take_piece(
     board: &Board,
     context: &Context,
     desk: &mut Desk,
+    feeder: &mut Feeder,
     intake: &mut Intake,
 ) -> Result<(), FrontStop>
     requires desk { IsDesk context.now board.now desk.old }
@@ -94,13 +96,13 @@ fn take_piece(
     match intake.cutter.feed(intake.chunk.pending()) {
         Ok(taken) => {
             intake.chunk.skip(taken);
-            match hand_over(alloc, board, context, desk, intake) {
+            match hand_over(alloc, board, context, desk, feeder, intake) {
                 Ok(()) => Ok(()),
                 Err(_) => Err(FrontStop::NoMemory),
             }
         }
         Err(FrontStop::Refused(refusal)) => {
-            match hand_over(alloc, board, context, desk, intake) {
+            match hand_over(alloc, board, context, desk, feeder, intake) {
                 Ok(()) => Err(FrontStop::Refused(refusal)),
                 Err(_) => Err(FrontStop::NoMemory),
             }
@@ -117,6 +119,7 @@ pub fn read_bodies<S: Source>(
     board: &Board,
     context: &Context,
     desk: &mut Desk,
+    feeder: &mut Feeder,
     intake: &mut Intake,
 ) -> Result<(), FrontStop>
     requires desk { IsDesk context.now board.now desk.old }
@@ -131,7 +134,7 @@ pub fn read_bodies<S: Source>(
     ensures front { TookFront (S.left source.old) (S.faults source.old) (S.left source.new) (S.faults source.new) }
 {
     loop {
-        match take_piece(alloc, board, context, desk, intake) {
+        match take_piece(alloc, board, context, desk, feeder, intake) {
             Ok(()) => {}
             Err(stop) => return Err(stop),
         }

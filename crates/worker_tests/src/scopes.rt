@@ -2,7 +2,7 @@
 ghost use Rattle.std.specs.Prelude.{◌≡◌, ⊤, length, IfOk};
 ghost use Rattle.batch_pool.specs.Desks.{IsDesk, IsIdle};
 
-use batch_pool::{BatchCompiler, Desk, Pool, Reading, by_number, run_beside, settle};
+use batch_pool::{BatchCompiler, Desk, Feeder, Pool, Reading, by_number, run_beside, settle};
 use body_compiler::Row;
 use body_cutter::{Batch, Bodies, Body, BodyBytes};
 use cancel_drain::{Board, Closed};
@@ -64,6 +64,7 @@ fn hand_all(
     board: &Board,
     context: &Context,
     desk: &mut Desk,
+    feeder: &mut Feeder,
 ) -> Result<bool, AllocError>
     requires desk { IsDesk context.now board.now desk.old }
     ensures desk { IsDesk context.now board.now desk.new }
@@ -72,7 +73,7 @@ fn hand_all(
 {
     for number in 0..BATCHES {
         let batch = Arc::new(alloc, batch(alloc, number)?)?;
-        desk.hand_over(board, context, &batch)?;
+        desk.hand_over(board, context, feeder, &batch)?;
     }
     Ok(desk.sees_fault(board, context))
 }
@@ -89,8 +90,8 @@ impl Reading for HandsAll {
 
     ghost reads = { λ _ _. ⊤ };
 
-    fn read(&mut self, board: &Board, context: &Context, desk: &mut Desk) {
-        self.saw = hand_all(self.alloc, board, context, desk);
+    fn read(&mut self, board: &Board, context: &Context, desk: &mut Desk, feeder: &mut Feeder) {
+        self.saw = hand_all(self.alloc, board, context, desk, feeder);
     }
 }
 

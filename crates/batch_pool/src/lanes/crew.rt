@@ -1,13 +1,15 @@
 //! Workers for several modules, in threads of their own.
-ghost use Rattle.std.specs.Prelude.{◌≡◌, ◌<◌, ◌+◌, ℕ, List, All, [], length, vec_len, IfOk, IfSome, false};
+ghost use Rattle.std.specs.Prelude.{◌≡◌, ◌<◌, ◌+◌, ◌⊎◌, ℕ, List, All, [], length, vec_len, IfOk, IfErr, IfSome, false};
 ghost use Rattle.batch_pool.specs.declared.lanes.lane.Lane.{Lane as Way};
 ghost use Rattle.batch_pool.specs.declared.lanes.lane.LaneSeat.{LaneSeat as Seat};
-ghost use Rattle.batch_pool.specs.Lanes.{AreSeated, AreApart, AreFresh, Each, IsWorkedMany, GathersIn, HaveParts, HaveRoom};
+ghost use Rattle.batch_pool.specs.Lanes.{AreSeated, AreApart, AreFresh, AreDesks, Each, IsWorkedMany, GathersIn, HasReadIn, HaveNoRows, HaveParts, HaveRoom};
 ghost use Rattle.batch_pool.specs.Crews.{Splits, IsOfCrew};
 
+use crate::feeder::Feeder;
 use crate::hand::Hand;
-use crate::lanes::lane::{Lane, LaneSeat, Seats, WorkedMany};
+use crate::lanes::lane::{Desks, Lane, LaneDesk, LaneSeat, Seats, WorkedMany};
 use crate::lanes::many::work_many;
+use crate::lanes::reading::ReadingMany;
 use crate::scope::take_in;
 use crate::worked::Worked;
 use body_compiler::Rows;
@@ -58,22 +60,22 @@ impl<'a, L: Lending> Promise<WorkedMany> for Crew<'a, L> {
     ghost kept_by = { λ p r. IsWorkedMany (L.all p.lanes.now) p.seats.value.items r.seats.items r.starved };
 }
 
-/// Splits a part of each lane's seat off. Err where memory ran out.
+/// Splits a part of the seat at each lane's desk off. Err where memory ran out.
 fn split_all(
     alloc: Global,
     lanes: &[Lane<'_>],
-    seats: &mut Vec<LaneSeat>,
+    desks: &mut Vec<LaneDesk>,
 ) -> Result<Vec<LaneSeat>, AllocError>
-    requires seats { AreSeated lanes.now seats.old.items }
-    requires parts { HaveParts 1 seats.old.items }
+    requires desks { AreDesks lanes.now desks.old.items }
+    requires parts { HaveParts 1 desks.old.items }
     ensures fresh { IfOk result (λ v. AreFresh lanes.now v.items) }
-    ensures seats { IfOk result (λ _. AreSeated lanes.now seats.new.items) }
-    ensures left { IfOk result (λ _. Each Splits lanes.now seats.old.items seats.new.items) }
+    ensures desks { IfOk result (λ _. AreDesks lanes.now desks.new.items) }
+    ensures left { IfOk result (λ _. Each Splits lanes.now desks.old.items desks.new.items) }
 {
     let mut parts = Vec::new(alloc);
     for k in 0..lanes.len() {
-        let here = &mut seats[k];
-        let part = lanes[k].board.split(&mut here.seat);
+        let here = &mut desks[k];
+        let part = lanes[k].board.split(&mut here.desk.seat);
         parts.push(LaneSeat {
             seat: part,
             rows: Vec::new(alloc),
@@ -82,13 +84,13 @@ fn split_all(
     Ok(parts)
 }
 
-/// Takes in what a worker gave back, for each lane at its seat. None where memory ran out.
-fn take_in_many(lanes: &[Lane<'_>], seats: &mut Vec<LaneSeat>, worked: WorkedMany) -> Option<()>
-    requires seats { AreSeated lanes.now seats.old.items }
-    requires room { HaveRoom 1 seats.old.items }
+/// Takes in what a worker gave back, for each lane at its desk. None where memory ran out.
+fn take_in_many(lanes: &[Lane<'_>], desks: &mut Vec<LaneDesk>, worked: WorkedMany) -> Option<()>
+    requires desks { AreDesks lanes.now desks.old.items }
+    requires room { HaveRoom 1 desks.old.items }
     requires worked { (s : List Seat) × AreFresh lanes.now s × IsWorkedMany lanes.now s worked.seats.items worked.starved }
-    ensures seats { IfSome result (λ _. AreSeated lanes.now seats.new.items) }
-    ensures gathers { IfSome result (λ _. Each (GathersIn 1) lanes.now seats.old.items seats.new.items) }
+    ensures desks { IfSome result (λ _. AreDesks lanes.now desks.new.items) }
+    ensures gathers { IfSome result (λ _. Each (GathersIn 1) lanes.now desks.old.items desks.new.items) }
 {
     let WorkedMany {
         seats: others,
@@ -98,7 +100,7 @@ fn take_in_many(lanes: &[Lane<'_>], seats: &mut Vec<LaneSeat>, worked: WorkedMan
     while let Some(other) = others.pop() {
         let k = others.len();
         let lane = &lanes[k];
-        let here = &mut seats[k];
+        let here = &mut desks[k];
         let worked = Worked {
             seat: other.seat,
             rows: Rows::new(other.rows),
@@ -108,7 +110,7 @@ fn take_in_many(lanes: &[Lane<'_>], seats: &mut Vec<LaneSeat>, worked: WorkedMan
             &lane.board,
             lane.context,
             &lane.cells,
-            &mut here.seat,
+            &mut here.desk.seat,
             &mut here.rows,
             worked,
         )?;
@@ -120,17 +122,17 @@ fn take_in_many(lanes: &[Lane<'_>], seats: &mut Vec<LaneSeat>, worked: WorkedMan
 fn join_all_many<'a, R: Threads, L: Lending>(
     rt: &R,
     lanes: &[Lane<'_>],
-    seats: &mut Vec<LaneSeat>,
+    desks: &mut Vec<LaneDesk>,
     handles: Vec<PromisedHandle<WorkedMany, Crew<'a, L>>>,
 ) -> Option<()>
-    requires seats { AreSeated lanes.now seats.old.items }
-    requires room { HaveRoom (vec_len handles) seats.old.items }
+    requires desks { AreDesks lanes.now desks.old.items }
+    requires room { HaveRoom (vec_len handles) desks.old.items }
     requires each { All (λ h. IsOfCrew L.all lanes.now h.promise) handles.items }
-    ensures seats { IfSome result (λ _. AreSeated lanes.now seats.new.items) }
-    ensures gathers { IfSome result (λ _. Each (GathersIn (vec_len handles.entry)) lanes.now seats.old.items seats.new.items) }
+    ensures desks { IfSome result (λ _. AreDesks lanes.now desks.new.items) }
+    ensures gathers { IfSome result (λ _. Each (GathersIn (vec_len handles.entry)) lanes.now desks.old.items desks.new.items) }
 {
     for handle in handles {
-        take_in_many(lanes, seats, handle.join(rt))?;
+        take_in_many(lanes, desks, handle.join(rt))?;
     }
     Some(())
 }
@@ -159,40 +161,59 @@ fn crew_at<R: Threads + Wait + Sync, G: Gate>(
     work_many(rt, alloc, &mut hand, lanes, seats, gate)
 }
 
+/// What the thread that reads several modules has once it joined the workers.
+#[derive(Drop)]
+pub struct JoinedMany<T> {
+    /// The reader, after its reading.
+    pub reader: T,
+    /// The desks, each with the last seat at its board, the tickets of all batches that were handed over there, and what the workers made.
+    pub desks: Desks,
+}
+
 /// `run_many`, where the lanes are lent.
-fn run_lent<R: Threads + Wait + Sync, G: Gate, L: Lending>(
+fn run_lent<R: Threads + Wait + Sync, G: Gate, L: Lending, T: ReadingMany + Drop>(
     rt: &R,
-    alloc: Global,
     lanes: &L,
-    seats: Seats,
+    desks: Desks,
     gate: &G,
     hands: Vec<Hand>,
-) -> Option<Seats>
-    requires seats { AreSeated (L.all lanes.now) seats.items }
+    feeder: Feeder,
+    reading: T,
+) -> Result<JoinedMany<T>, T>
+    requires desks { AreDesks (L.all lanes.now) desks.items }
+    requires rows { HaveNoRows desks.items }
     requires apart { AreApart (L.all lanes.now) }
-    requires parts { HaveParts (length hands.items) seats.items }
-    ensures seats { IfSome result (λ s. AreSeated (L.all lanes.now) s.items) }
-    ensures gathers { IfSome result (λ s. Each (GathersIn 0) (L.all lanes.now) seats.items s.items) }
+    requires parts { HaveParts (length hands.items) desks.items }
+    requires can { T.can_read reading }
+    ensures read { IfOk result (λ j. Each HasReadIn (L.all lanes.now) desks.items j.desks.items) }
+    ensures desks { IfOk result (λ j. AreDesks (L.all lanes.now) j.desks.items) }
+    ensures made { IfOk result (λ j. T.reads reading j.reader) }
+    ensures back { IfErr result (λ r. T.reads reading r ⊎ (r ≡ reading)) }
 {
+    let alloc = *desks.allocator();
     let refused = AtomicU64::new(u64::MAX);
     let told = &refused;
     thread::scope(
         thread::scope_env(),
         rt,
-        |scope| -> Option<Seats>
-            requires seats { AreSeated (L.all lanes.now) seats.items }
+        |scope| -> Result<JoinedMany<T>, T>
+            requires desks { AreDesks (L.all lanes.now) desks.items }
+            requires rows { HaveNoRows desks.items }
             requires apart { AreApart (L.all lanes.now) }
-            requires parts { HaveParts (length hands.items) seats.items }
-            ensures seats { IfSome result (λ s. AreSeated (L.all lanes.entry.now) s.items) }
-            ensures gathers { IfSome result (λ s. Each (GathersIn 0) (L.all lanes.entry.now) seats.items s.items) }
+            requires parts { HaveParts (length hands.items) desks.items }
+            requires can { T.can_read reading }
+            ensures read { IfOk result (λ j. Each HasReadIn (L.all lanes.entry.now) desks.items j.desks.items) }
+            ensures desks { IfOk result (λ j. AreDesks (L.all lanes.entry.now) j.desks.items) }
+            ensures made { IfOk result (λ j. T.reads reading j.reader) }
+            ensures back { IfErr result (λ r. T.reads reading r ⊎ (r ≡ reading)) }
         {
             let list = lanes.lanes();
-            let mut seats = seats;
+            let mut desks = desks;
             let mut handles: Vec<PromisedHandle<WorkedMany, Crew<'_, L>>> = Vec::new(alloc);
             let mut number = 0u64;
             for hand in hands {
-                let Ok(parts) = split_all(alloc, list, &mut seats) else {
-                    return None;
+                let Ok(parts) = split_all(alloc, list, &mut desks) else {
+                    return Err(reading);
                 };
                 let promise = Crew {
                     lanes,
@@ -219,44 +240,53 @@ fn run_lent<R: Threads + Wait + Sync, G: Gate, L: Lending>(
                 ) {
                     Ok(handle) => {
                         let Ok(()) = handles.push(handle) else {
-                            return None;
+                            return Err(reading);
                         };
                     }
                     Err(refusal) => {
                         // Why: docs/DECISIONS.md, "A thread that couldn't be started hands its closure back"
                         told.store(mine, SeqCst);
                         let worked = (refusal.value)();
-                        let Some(()) = take_in_many(list, &mut seats, worked) else {
-                            return None;
+                        let Some(()) = take_in_many(list, &mut desks, worked) else {
+                            return Err(reading);
                         };
                     }
                 }
                 number = number.wrapping_add(1);
             }
-            let Some(()) = join_all_many(rt, list, &mut seats, handles) else {
-                return None;
+            let mut feeder = feeder;
+            let mut reader = reading;
+            reader.read(list, &mut desks, &mut feeder);
+            feeder.close();
+            let Some(()) = join_all_many(rt, list, &mut desks, handles) else {
+                return Err(reader);
             };
-            Some(seats)
+            Ok(JoinedMany { reader, desks })
         },
     )
 }
 
-/// A worker for each hand, as far as threads can be started, works off the tickets that were put into the pool, of whichever of the
-/// lanes' modules they are, until no more come. None where memory ran out.
-pub fn run_many<R: Threads + Wait + Sync, G: Gate>(
+/// Reads while a worker for each hand, as far as threads can be started, works off what was handed over and what is handed over
+/// meanwhile, of whichever of the lanes' modules it is. Err where memory ran out, with the reader as it is after its reading, or as it was.
+pub fn run_many<R: Threads + Wait + Sync, G: Gate, T: ReadingMany + Drop>(
     rt: &R,
-    alloc: Global,
     lanes: &[Lane<'_>],
-    seats: Seats,
+    desks: Desks,
     gate: &G,
     hands: Vec<Hand>,
-) -> Option<Seats>
-    requires seats { AreSeated lanes.now seats.items }
+    feeder: Feeder,
+    reading: T,
+) -> Result<JoinedMany<T>, T>
+    requires desks { AreDesks lanes.now desks.items }
+    requires rows { HaveNoRows desks.items }
     requires apart { AreApart lanes.now }
-    requires parts { HaveParts (length hands.items) seats.items }
-    ensures seats { IfSome result (λ s. AreSeated lanes.now s.items) }
-    ensures gathers { IfSome result (λ s. Each (GathersIn 0) lanes.now seats.items s.items) }
+    requires parts { HaveParts (length hands.items) desks.items }
+    requires can { T.can_read reading }
+    ensures read { IfOk result (λ j. Each HasReadIn lanes.now desks.items j.desks.items) }
+    ensures desks { IfOk result (λ j. AreDesks lanes.now j.desks.items) }
+    ensures made { IfOk result (λ j. T.reads reading j.reader) }
+    ensures back { IfErr result (λ r. T.reads reading r ⊎ (r ≡ reading)) }
 {
     let lent = Lent { lanes };
-    run_lent(rt, alloc, &lent, seats, gate, hands)
+    run_lent(rt, &lent, desks, gate, hands, feeder, reading)
 }

@@ -1,4 +1,5 @@
 //! What a worker is lent of several modules.
+use crate::scope::Desk;
 use body_compiler::Row;
 use cancel_drain::{Board, BoardSeat};
 use index_spaces::Context;
@@ -26,6 +27,16 @@ pub struct LaneSeat {
 
 /// A seat at the board of each lane, in the order of the lanes.
 pub type Seats = Vec<LaneSeat>;
+
+/// Where the thread that reads hands batches over at a lane's board, and the rows that were gathered there.
+#[derive(Drop)]
+pub struct LaneDesk {
+    pub desk: Desk,
+    pub rows: Vec<Row>,
+}
+
+/// A desk at the board of each lane, in the order of the lanes.
+pub type Desks = Vec<LaneDesk>;
 
 /// What a worker did for several modules until no more tickets came, or memory ran out.
 #[derive(Drop)]

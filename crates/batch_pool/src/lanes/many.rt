@@ -17,7 +17,7 @@ use std::sync::Wait;
 use std::thread::Threads;
 
 /// The index of a module's lane, if there is one.
-fn lane_of(lanes: &[Lane<'_>], module: u32) -> Option<usize>
+pub fn lane_of(lanes: &[Lane<'_>], module: u32) -> Option<usize>
     ensures { MatchOption result (All (λ l. l.module ≢ «module») lanes.now) (λ k. IsOfLane lanes.now «module» k) }
 {
     for k in 0..lanes.len() {

@@ -3,7 +3,9 @@
 mod crew;
 mod lane;
 mod many;
+mod reading;
 
-pub use crew::{Crew, Lending, run_many};
-pub use lane::{Lane, LaneSeat, Seats, WorkedMany};
+pub use crew::{Crew, JoinedMany, Lending, run_many};
+pub use lane::{Desks, Lane, LaneDesk, LaneSeat, Seats, WorkedMany};
 pub use many::work_many;
+pub use reading::{ReadingMany, hand_over_at};

@@ -31,7 +31,7 @@ pub trait Reading {
     ghost reads: { Self → Self → Type 0 };
 
     /// Reads, and hands batches over at the desk.
-    fn read(&mut self, board: &Board, context: &Context, desk: &mut Desk)
+    fn read(&mut self, board: &Board, context: &Context, desk: &mut Desk, feeder: &mut Feeder)
         requires desk { IsDesk context.now board.now desk.old }
         requires can { can_read self.old }
         ensures desk { IsDesk context.now board.now desk.new }
@@ -134,13 +134,13 @@ pub fn run_beside<R: Threads + Wait + Sync, G: Gate, T: Reading + Drop>(
                 }
                 number = number.wrapping_add(1);
             }
-            let mut desk = Desk::new(alloc, 0, board, context, seat, feeder);
+            let mut desk = Desk::new(alloc, 0, board, context, seat);
+            let mut feeder = feeder;
             let mut reader = reading;
-            reader.read(board, context, &mut desk);
+            reader.read(board, context, &mut desk, &mut feeder);
             let Desk {
                 module: _,
                 mut seat,
-                feeder,
                 kept,
                 last: _,
             } = desk;

@@ -16,13 +16,12 @@ use std::alloc::{AllocError, Global};
 use std::sync::Arc;
 
 /// What the thread that reads hands the batches of a module over with.
+#[derive(Drop)]
 pub struct Desk {
     /// The module's number.
     pub module: u32,
     /// Its handle on the board, which it feeds.
     pub seat: BoardSeat,
-    /// The queue from which workers take.
-    pub feeder: Feeder,
     /// The tickets of all batches that were handed over, in order.
     pub kept: Vec<Ticket>,
     /// The start of the last one of them.
@@ -37,7 +36,6 @@ impl Desk {
         board: &Board,
         context: &Context,
         seat: BoardSeat,
-        feeder: Feeder,
     ) -> Desk
         requires table { seat.table ≡ board.now.table }
         requires feeder { seat.view.feeder ≡ true }
@@ -51,7 +49,6 @@ impl Desk {
         Desk {
             module,
             seat,
-            feeder,
             kept: Vec::new(alloc),
             last: 0,
         }
@@ -63,15 +60,18 @@ impl Desk {
         &mut self,
         board: &Board,
         context: &Context,
+        feeder: &mut Feeder,
         batch: &Arc<Batch, Global>,
     ) -> Result<(), AllocError>
         requires desk { IsDesk context.now board.now self.old }
         ensures desk { IsDesk context.now board.now self.new }
         ensures parts { self.new.seat.view.parts ≡ self.old.seat.view.parts }
         ensures idle { IsIdle self.old self.new }
-        ensures handed { OnOk result ((IsNext context.now board.now.functions self.old (arc_value batch.now) × Hands self.old (arc_value batch.now) self.new)
-            ⊎ ((¬ IsNext context.now board.now.functions self.old (arc_value batch.now)) × IsAsBefore self.old self.new)) }
-        ensures err { OnErr result (IsAsBefore self.old self.new) }
+        ensures of_module { self.new.module ≡ self.old.module }
+        ensures handed { OnOk result ((IsNext context.now board.now.functions self.old (arc_value batch.now)
+            × Hands self.old feeder.old (arc_value batch.now) self.new feeder.new)
+            ⊎ ((¬ IsNext context.now board.now.functions self.old (arc_value batch.now)) × IsAsBefore self.old feeder.old self.new feeder.new)) }
+        ensures err { OnErr result (IsAsBefore self.old feeder.old self.new feeder.new) }
     {
         let Some(ticket) = Ticket::of(self.module, Arc::try_clone(batch)?) else {
             return Ok(());
@@ -87,7 +87,7 @@ impl Desk {
         let start = ticket.start;
         keep(board, &mut self.seat, context, &mut self.kept, ticket)?;
         self.last = start;
-        let _ = self.feeder.put(other);
+        let _ = feeder.put(other);
         Ok(())
     }
 

@@ -14,4 +14,4 @@ settle-requires-clause-kept g c = λ κs lives. c.requires.kept
 pub by_number-requires : goal.by_number-requires
 by_number-requires g c =
     let grows = c.in-Some.ensures.1.adds in
-    rows_grown (IsRowOf c.args.lane.context.now c.args.lane.cells) c.args.seat.rows.items grows.more _ grows.are c.requires.right grows.right
+    rows_grown (IsRowOf c.args.lane.context.now c.args.lane.cells) c.args.desk.rows.items grows.more _ grows.are c.requires.right grows.right

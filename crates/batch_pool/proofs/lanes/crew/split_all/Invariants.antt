@@ -2,4 +2,4 @@ use Rattle.batch_pool.proofs.Crews.{HasSplit}
 use Rattle.batch_pool.proofs.lanes.crew.split_all.Given as goal
 
 abbrev pub invariant-loop-k : goal.invariant-loop-k
-invariant-loop-k l = HasSplit l.lanes l.k l.initial.seats.items l.seats.items l.parts.items
+invariant-loop-k l = HasSplit l.lanes l.k l.initial.desks.items l.desks.items l.parts.items

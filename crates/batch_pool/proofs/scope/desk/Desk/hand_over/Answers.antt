@@ -20,6 +20,6 @@ returns-clause-handed c =
         batch = same;
         kept = c.in_ok-keep.ensures.pushed;
         last = start;
-        feeder = puts_in d.module d.feeder c.put.new.self b c.new-other.result c.put.result (c.new-other.ensures.batch ∙ c.in_ok-try_clone-2.ensures) c.new-other.ensures.of_module c.put.ensures;
+        feeder = puts_in d.module c.args.feeder.now c.put.new.self b c.new-other.result c.put.result (c.new-other.ensures.batch ∙ c.in_ok-try_clone-2.ensures) c.new-other.ensures.of_module c.put.ensures;
       },
     )

@@ -6,14 +6,15 @@ use Rattle.std.specs.declared.alloc.Global.{Global}
 use Rattle.body_compiler.proofs.Rests.{all_pushed, all_same}
 use Rattle.batch_pool.specs.declared.lanes.lane.Lane.{Lane}
 use Rattle.batch_pool.specs.declared.lanes.lane.LaneSeat.{LaneSeat}
-use Rattle.batch_pool.specs.Lanes.{AreSeated, AreApart, Each, IsWorkedMany, GathersIn}
+use Rattle.batch_pool.specs.declared.lanes.lane.LaneDesk.{LaneDesk}
+use Rattle.batch_pool.specs.Lanes.{AreSeated, AreApart, AreDesks, Each, IsWorkedMany, HasReadIn}
 use Rattle.batch_pool.specs.Crews.{IsOfCrew}
-use Rattle.batch_pool.proofs.Crews.{HasStarted, started_begins, have_one, started_one, taken_back, room_mid, room_all, all_joined, crew_of}
+use Rattle.batch_pool.proofs.Crews.{HasStarted, started_begins, have_one, started_one, taken_back, room_mid, room_read, all_joined, crew_of}
 use Rattle.batch_pool.proofs.lanes.crew.fn.run_lent.scope.Goals.{in-Ok-spawn_with+in-Ok-push, in-Err+in-Some-take_in_many}
 use Rattle.batch_pool.proofs.lanes.crew.fn.run_lent.scope.Goals as goal
 
-first_seated : {lanes list : List Lane} {seats : List LaneSeat} → AreSeated lanes seats → list ≡ lanes → AreSeated list seats
-first_seated {lanes} {list} {seats} are same = subst (λ (ls : List Lane). AreSeated ls seats) (sym same) are
+first_desks : {lanes list : List Lane} {desks : List LaneDesk} → AreDesks lanes desks → list ≡ lanes → AreDesks list desks
+first_desks {lanes} {list} {desks} are same = subst (λ (ls : List Lane). AreDesks ls desks) (sym same) are
 
 pub loop-hand-init : goal.loop-hand-init
 loop-hand-init g c =
@@ -22,8 +23,8 @@ loop-hand-init g c =
     let rest : into_iter_len c.into_iter-hand-iterator.result ≡ length c.captures.hands.items = search rules in (
       search rules,
       search rules,
-      first_seated c.requires.seats c.lanes-list.ensures,
-      subst (λ (z : ℕ × ℕ). Each (HasStarted z.0 z.1) list c.captures.seats.items c.captures.seats.items) (λ i. (sym none i, sym rest i)) (started_begins list (length c.captures.hands.items) c.captures.seats.items c.requires.parts),
+      first_desks c.requires.desks c.lanes-list.ensures,
+      subst (λ (z : ℕ × ℕ). Each (HasStarted z.0 z.1) list c.captures.desks.items c.captures.desks.items) (λ i. (sym none i, sym rest i)) (started_begins list (length c.captures.hands.items) c.captures.desks.items c.requires.parts),
       subst (All (λ h. IsOfCrew g.L.Lending.all list h.promise)) (sym c.new-handles.ensures.items) (λ k d in'. absurd (omega arith)),
     )
 
@@ -31,8 +32,8 @@ pub split_all-requires : goal.split_all-requires
 split_all-requires g c =
     let i = c.loop-hand.invariant in
     record {
-      seats = i.2;
-      parts = have_one c.lanes-list.result.now (vec_len c.loop-hand.handles) (into_iter_len c.loop-hand.hand-iterator) (into_iter_len c.next.new.self) c.captures.seats.items c.loop-hand.seats.items (first_seated c.requires.seats c.lanes-list.ensures) i.2 i.3 c.in-Some.ensures.steps.1;
+      desks = i.2;
+      parts = have_one c.lanes-list.result.now (vec_len c.loop-hand.handles) (into_iter_len c.loop-hand.hand-iterator) (into_iter_len c.next.new.self) c.captures.desks.items c.loop-hand.desks.items (first_desks c.requires.desks c.lanes-list.ensures) i.2 i.3 c.in-Some.ensures.steps.1;
     }
 
 pub spawn_with-worked-requires-clause-seats : goal.spawn_with-worked-requires-clause-seats
@@ -52,12 +53,12 @@ take_in_many-requires g c =
     let list = c.lanes-list.result.now in
     let n = vec_len c.loop-hand.handles in
     let m = into_iter_len c.next.new.self in
-    let mid = c.split_all.new.seats.items in
-    let first = first_seated c.requires.seats c.lanes-list.ensures in
+    let mid = c.split_all.new.desks.items in
+    let first = first_desks c.requires.desks c.lanes-list.ensures in
     record {
-      seats = c.in-Ok.ensures.seats;
-      room = room_mid list n m c.captures.seats.items mid first c.in-Ok.ensures.seats
-          (started_one list n (into_iter_len c.loop-hand.hand-iterator) m c.captures.seats.items c.loop-hand.seats.items mid c.in-Some.ensures.steps.1 i.2 i.3 c.in-Ok.ensures.left);
+      desks = c.in-Ok.ensures.desks;
+      room = room_mid list n m c.captures.desks.items mid first c.in-Ok.ensures.desks
+          (started_one list n (into_iter_len c.loop-hand.hand-iterator) m c.captures.desks.items c.loop-hand.desks.items mid c.in-Some.ensures.steps.1 i.2 i.3 c.in-Ok.ensures.left);
       worked = (
         c.in-Ok.parts.items,
         c.in-Ok.ensures.fresh,
@@ -73,29 +74,29 @@ loop-hand-preserved g c =
     let lanes = c.lanes-list.result.now in
     let n = vec_len c.loop-hand.handles in
     let m = into_iter_len c.next.new.self in
-    let first = c.captures.seats.items in
-    let mid = c.split_all.new.seats.items in
-    let started = started_one lanes n (into_iter_len c.loop-hand.hand-iterator) m first c.loop-hand.seats.items mid c.in-Some.ensures.steps.1 i.2 i.3 c.in-Ok.ensures.left in
+    let first = c.captures.desks.items in
+    let mid = c.split_all.new.desks.items in
+    let started = started_one lanes n (into_iter_len c.loop-hand.hand-iterator) m first c.loop-hand.desks.items mid c.in-Some.ensures.steps.1 i.2 i.3 c.in-Ok.ensures.left in
     elim c.match-spawn_with.branch [
       | in-Ok-spawn_with+in-Ok-push w ↦
-          let seats : c.match-spawn_with.seats.items ≡ mid = ap (λ (v : Vec LaneSeat Global). v.items) w.seats-is in
+          let desks : c.match-spawn_with.desks.items ≡ mid = ap (λ (v : Vec LaneDesk Global). v.items) w.desks-is in
           let count : vec_len c.match-spawn_with.handles ≡ n + 1 = search rules in (
             tt,
             tt,
-            subst (AreSeated lanes) (sym seats) c.in-Ok.ensures.seats,
-            subst (λ (z : ℕ × List LaneSeat). Each (HasStarted z.0 m) lanes first z.1) (λ j. (sym count j, sym seats j)) started,
+            subst (AreDesks lanes) (sym desks) c.in-Ok.ensures.desks,
+            subst (λ (z : ℕ × List LaneDesk). Each (HasStarted z.0 m) lanes first z.1) (λ j. (sym count j, sym desks j)) started,
             all_pushed (λ h. IsOfCrew g.L.Lending.all lanes h.promise) w.in-Ok-spawn_with.handle c.loop-hand.handles.items c.match-spawn_with.handles.items (ap (λ (v : _). v.items) w.handles-is ∙ w.in-Ok-push.ensures.items) i.4
                 (crew_of lanes g.L.Lending.all w.in-Ok-spawn_with.handle.promise _ c.in-Ok.parts.items w.in-Ok-spawn_with.ensures.ok (sym c.lanes-list.ensures) (ap (λ (v : Vec LaneSeat Global). v.items) c.of.ensures) c.in-Ok.ensures.fresh),
           )
       | in-Err+in-Some-take_in_many w ↦
-          let next = w.take_in_many.new.seats.items in
-          let seats : c.match-spawn_with.seats.items ≡ next = ap (λ (v : Vec LaneSeat Global). v.items) w.seats-is in
+          let next = w.take_in_many.new.desks.items in
+          let desks : c.match-spawn_with.desks.items ≡ next = ap (λ (v : Vec LaneDesk Global). v.items) w.desks-is in
           let count : vec_len c.match-spawn_with.handles ≡ n = search rules in (
             tt,
             tt,
-            subst (AreSeated lanes) (sym seats) w.in-Some-take_in_many.ensures.seats,
-            subst (λ (z : ℕ × List LaneSeat). Each (HasStarted z.0 m) lanes first z.1) (λ j. (sym count j, sym seats j))
-                (taken_back lanes n m first mid next c.in-Ok.ensures.seats started w.in-Some-take_in_many.ensures.gathers),
+            subst (AreDesks lanes) (sym desks) w.in-Some-take_in_many.ensures.desks,
+            subst (λ (z : ℕ × List LaneDesk). Each (HasStarted z.0 m) lanes first z.1) (λ j. (sym count j, sym desks j))
+                (taken_back lanes n m first mid next c.in-Ok.ensures.desks started w.in-Some-take_in_many.ensures.gathers),
             all_same (λ h. IsOfCrew g.L.Lending.all lanes h.promise) c.loop-hand.handles.items c.match-spawn_with.handles.items (search rules) i.4,
           )
     ]
@@ -103,14 +104,16 @@ loop-hand-preserved g c =
 pub join_all_many-requires-clause-room : goal.join_all_many-requires-clause-room
 join_all_many-requires-clause-room g c = λ κs lives.
     let i = c.loop-hand.invariant in
-    room_all c.lanes-list.result.now (vec_len c.loop-hand.handles) (into_iter_len c.loop-hand.hand-iterator) c.captures.seats.items c.loop-hand.seats.items (first_seated c.requires.seats c.lanes-list.ensures) i.2 i.3
+    room_read c.lanes-list.result.now (vec_len c.loop-hand.handles) (into_iter_len c.loop-hand.hand-iterator) c.captures.desks.items c.loop-hand.desks.items c.read.new.desks.items (first_desks c.requires.desks c.lanes-list.ensures) i.2 c.read.ensures.desks i.3 c.read.ensures.each
 
 pub returns : goal.returns
 returns g c =
     let i = c.loop-hand.invariant in
     let list = c.lanes-list.result.now in
     record {
-      seats = subst (λ (ls : List Lane). AreSeated ls c.join_all_many.new.seats.items) c.lanes-list.ensures c.in-Some-join_all_many.ensures.seats;
-      gathers = subst (λ (ls : List Lane). Each (GathersIn 0) ls c.captures.seats.items c.join_all_many.new.seats.items) c.lanes-list.ensures
-          (all_joined list (vec_len c.loop-hand.handles) (into_iter_len c.loop-hand.hand-iterator) c.captures.seats.items c.loop-hand.seats.items c.join_all_many.new.seats.items i.2 i.3 c.in-Some-join_all_many.ensures.gathers);
+      read = subst (λ (ls : List Lane). Each HasReadIn ls c.captures.desks.items c.join_all_many.new.desks.items) c.lanes-list.ensures
+          (all_joined list (vec_len c.loop-hand.handles) (into_iter_len c.loop-hand.hand-iterator) c.captures.desks.items c.loop-hand.desks.items c.read.new.desks.items c.join_all_many.new.desks.items c.requires.rows i.2 c.read.ensures.desks i.3 c.read.ensures.each c.in-Some-join_all_many.ensures.gathers);
+      desks = subst (λ (ls : List Lane). AreDesks ls c.join_all_many.new.desks.items) c.lanes-list.ensures c.in-Some-join_all_many.ensures.desks;
+      made = c.read.ensures.reads;
+      back = tt;
     }
