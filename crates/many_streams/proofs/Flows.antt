@@ -17,7 +17,7 @@ use Rattle.many_streams.specs.Flows.{part_with, member_with, members_with, IsWai
 use Rattle.many_streams.specs.Members.{IsMember, IsEnded, AreRowsOf}
 use Rattle.many_streams.specs.Workers.{AreMade}
 use Rattle.many_streams.proofs.Feeding.{refused_more, refused_whole}
-use Rattle.many_streams.proofs.Crowds.{slice_set_same, slice_set_other, slice_push, at_index}
+use Rattle.batch_pool.proofs.Elements.{element_at, slice_set_same, slice_set_other, slice_push}
 
 -- ---- lists
 
@@ -174,8 +174,8 @@ made_with ms os made same are = (
   λ k m x at in'.
       let w = slice_get_within made k x in' in
       let c = are.0 in
-      let a = at_index ms k (omega arith) in
-      let b = at_index os k (omega arith) in
+      let a = element_at ms k (omega arith) in
+      let b = element_at os k (omega arith) in
       let e : m ≡ member_with a.0 b.0 = some_one (members_with ms os) k m (member_with a.0 b.0) at (with_at ms os k a.0 b.0 a.1 b.1) in
       subst (AreRowsOf x.cells x.rows.items) (sym e) (rows_with x.cells x.rows.items a.0 b.0 (are.1 k a.0 x a.1 in')),
 )

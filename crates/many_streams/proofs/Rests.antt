@@ -23,7 +23,8 @@ use Rattle.many_streams.specs.Members.{IsFed, IsMember, IsEnded}
 use Rattle.many_streams.specs.declared.working.Made.{Made}
 use Rattle.many_streams.specs.Workers.{AreMade}
 use Rattle.many_streams.specs.Rests.{IsRest, HaveCome, IsArriving, HasArrived, IsPaused, members_of}
-use Rattle.many_streams.proofs.Crowds.{slice_set_same, slice_set_other, at_index, members_fed, members_ended, judged_end, front_stands}
+use Rattle.batch_pool.proofs.Elements.{element_at, slice_set_same, slice_set_other}
+use Rattle.many_streams.proofs.Crowds.{members_fed, members_ended, judged_end, front_stands}
 use Rattle.many_streams.proofs.Flows.{some_one, length-with, with_at, with_set, set_same, member_ends, closed_passes, made_with}
 use Rattle.many_streams.proofs.Sources.{took_more, ended, broken, failed, rest_is}
 
@@ -41,7 +42,7 @@ module _ (bytes : List ℕ) (keeps : Bool) (members : List Member) (r : Rest) (i
     flow_at = slice_get_read r.flows.items (length r.flows.items) k o refl (flow_in k in') is
 
     here : (m : Member) × (slice_get members k ≡ Some m)
-    here = at_index members k (index_in k in')
+    here = element_at members k (index_in k in')
 
     with_here : slice_get (members_with members r.flows.items) k ≡ Some (member_with here.0 o)
     with_here = with_at members r.flows.items k here.0 o here.1 flow_at
@@ -147,7 +148,7 @@ module _ (bytes : List ℕ) (keeps : Bool) (members : List Member) (r : Rest) (i
         let l = length-with members r.flows.items in
         let c = i.streaming.count in
         let below = t.2 in
-        let m = at_index all k (omega arith) in (
+        let m = element_at all k (omega arith) in (
           subst (IsRest (bytes ++ take 1 piece) keeps members) (sym now) (record {
             count = i.count;
             some = let e = t.1 in let z = i.some in omega arith;
