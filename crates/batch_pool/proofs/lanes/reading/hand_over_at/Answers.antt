@@ -18,7 +18,7 @@ hand_over-requires c =
     let desks = c.args.desks.now.items in
     let at = slice_get_read lanes (length lanes) c.in-Some.k c.index-lanes-k.result refl (slice_get_within lanes c.in-Some.k o.0 o.1) c.index-lanes-k.is in
     let was = slice_get_read desks (length desks) c.in-Some.k c.index_mut-here.result.now refl (desk_in lanes desks c.args.«module» c.in-Some.k c.requires.count o) c.index_mut-here.ensures.value in
-    (c.requires.each c.in-Some.k c.index-lanes-k.result c.index_mut-here.result.now at was).0
+    record { desk = (c.requires.each c.in-Some.k c.index-lanes-k.result c.index_mut-here.result.now at was).0 }
 
 pub returns : goal.returns
 returns c =
