@@ -159,12 +159,13 @@ custom_content next describes seen c ready short uncounted =
 
 -- ---- the start function, and the data count
 
--- a section of one item
-one_content : (id : ℕ) (payload : Payload) (item : Item) (K : Type 0) (next : Next) → Describes next → (seen : Seen) (c d : Cursor) → Ready c → c.end ≤ max_module → Uncounted (note seen item) → Found (payload_is payload) K c d
+-- a section of one item, with nothing behind it
+one_content : (id : ℕ) → ((c : Cursor) → Ready c → IfGot (λ x d. Found (exactly []) (Unit {0}) c d) ((row id).back c)) → (payload : Payload) (item : Item) (K : Type 0) (next : Next) → Describes next
+    → (seen : Seen) (c d : Cursor) → Ready c → c.end ≤ max_module → Uncounted (note seen item) → Found (payload_is payload) K c d
     → payload_position payload ≡ id → IsSmall seen payload → AllKeep seen (payload_items payload) → parts_of payload ≡ Listed item ∷ [] → all_noted seen (payload_items payload) ≡ note seen item
     → IfWhole (Content seen id c) (after_part (Listed item) (finish (row id) next (note seen item) d))
-one_content id payload item K next describes seen c d ready short uncounted found id_is small kept parts after s e =
-    let f = finish_found (row id) (exactly []) nothing_found next describes (note seen item) d (later c d found ready) (omega (arith, found.end)) uncounted s e in
+one_content id back payload item K next describes seen c d ready short uncounted found id_is small kept parts after s e =
+    let f = finish_found (row id) (exactly []) back next describes (note seen item) d (later c d found ready) (omega (arith, found.end)) uncounted s e in
     let tail = (finish (row id) next (note seen item) d).parts in
     record {
       payload = payload;
@@ -184,14 +185,14 @@ start_content next describes seen c ready short uncounted =
     whole_on (λ y d. StartFound seen c d y) (Content seen 8 c) (listed (start seen) c) _ (start_found seen c ready)
     (λ y d x.
     subst (λ (z : Part). IfWhole (Content seen 8 c) (after_part z (finish (row 8) next (noted seen z) d))) (sym x.is)
-    (one_content 8 (Starting x.index) (Start x.index) (x.index.1 < seen.functions) next describes seen c d ready short uncounted x.found refl tt (x.found.kept, tt) refl refl))
+    (one_content 8 nothing_found (Starting x.index) (Start x.index) (x.index.1 < seen.functions) next describes seen c d ready short uncounted x.found refl tt (x.found.kept, tt) refl refl))
 
 count_content : (next : Next) → Describes next → (seen : Seen) (c : Cursor) → Ready c → c.end ≤ max_module → Uncounted seen → IfWhole (Content seen 10 c) (contents (row 10) next seen c)
 count_content next describes seen c ready short uncounted =
     whole_on (λ y d. CountFound c d y) (Content seen 10 c) (listed (data_count seen) c) _ (data_count_found seen c ready)
     (λ y d x.
     subst (λ (z : Part). IfWhole (Content seen 10 c) (after_part z (finish (row 10) next (noted seen z) d))) (sym x.is)
-    (one_content 10 (Counting x.number) (DataCount x.number) (x.number.1 ≤ max_entries) next describes seen c d ready short uncounted x.found refl tt (x.found.kept, tt) refl refl))
+    (one_content 10 nothing_found (Counting x.number) (DataCount x.number) (x.number.1 ≤ max_entries) next describes seen c d ready short uncounted x.found refl tt (x.found.kept, tt) refl refl))
 
 -- ---- the code section
 
