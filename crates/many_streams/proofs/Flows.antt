@@ -17,7 +17,7 @@ use Rattle.many_streams.specs.Flows.{part_with, member_with, members_with, IsWai
 use Rattle.many_streams.specs.Members.{IsMember, IsEnded, AreRowsOf}
 use Rattle.many_streams.specs.Workers.{AreMade}
 use Rattle.many_streams.proofs.Feeding.{refused_more, refused_whole}
-use Rattle.batch_pool.proofs.Elements.{element_at, slice_set_same, slice_set_other, slice_push}
+use Rattle.batch_pool.proofs.Elements.{some_one, element_at, slice_set_same, slice_set_other, slice_push}
 
 -- ---- lists
 
@@ -63,9 +63,6 @@ with_pop [] [] m o at = absurd cc
 with_pop (y ∷ now) [] m o at = let e : y ≡ m = cc in λ i. member_with (sym e i) o ∷ sym (with_none now) i
 with_pop [] (x ∷ os) m o at = absurd cc
 with_pop (y ∷ now) (x ∷ os) m o at = ap (λ (l : List Member). member_with y x ∷ l) (with_pop now os m o at)
-
-pub some_one : {X : Type 0} (xs : List X) (k : ℕ) (x y : X) → slice_get xs k ≡ Some x → slice_get xs k ≡ Some y → x ≡ y
-some_one xs k x y a b = cc
 
 -- ---- taking out
 

@@ -23,9 +23,9 @@ use Rattle.many_streams.specs.Members.{IsFed, IsMember, IsEnded}
 use Rattle.many_streams.specs.declared.working.Made.{Made}
 use Rattle.many_streams.specs.Workers.{AreMade}
 use Rattle.many_streams.specs.Rests.{IsRest, HaveCome, IsArriving, HasArrived, IsPaused, members_of}
-use Rattle.batch_pool.proofs.Elements.{element_at, slice_set_same, slice_set_other}
+use Rattle.batch_pool.proofs.Elements.{some_one, element_at, slice_set_same, slice_set_other}
 use Rattle.many_streams.proofs.Crowds.{members_fed, members_ended, judged_end, front_stands}
-use Rattle.many_streams.proofs.Flows.{some_one, length-with, with_at, with_set, set_same, member_ends, closed_passes, made_with}
+use Rattle.many_streams.proofs.Flows.{length-with, with_at, with_set, set_same, member_ends, closed_passes, made_with}
 use Rattle.many_streams.proofs.Sources.{took_more, ended, broken, failed, rest_is}
 
 module _ (bytes : List ℕ) (keeps : Bool) (members : List Member) (r : Rest) (i : IsRest bytes keeps members r) where
@@ -46,6 +46,10 @@ module _ (bytes : List ℕ) (keeps : Bool) (members : List Member) (r : Rest) (i
 
     with_here : slice_get (members_with members r.flows.items) k ≡ Some (member_with here.0 o)
     with_here = with_at members r.flows.items k here.0 o here.1 flow_at
+
+    -- it is as it was
+    pub set_here : set r.flows.items k o ≡ r.flows.items
+    set_here = set_same r.flows.items k o flow_at
 
     lent_here : IsLent here.0 o
     lent_here = i.lent k here.0 o here.1 flow_at

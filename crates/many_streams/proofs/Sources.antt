@@ -20,6 +20,9 @@ took_more first left last bytes more a b = a ∙ (ap (prepend_known bytes) b ∙
 pub took_nothing : (left : Option (List ℕ)) (count : ℕ) → TookFront left count left count
 took_nothing left count = record { came = []; took = sym (prepend_nothing left); counts = omega arith }
 
+pub took_none : (left last : Option (List ℕ)) (before now : ℕ) → last ≡ left → before ≤ now → TookFront left before last now
+took_none left last before now same counts = record { came = []; took = sym (prepend_nothing left) ∙ ap (prepend_known []) (sym same); counts = counts }
+
 -- what two calls took, one after the other
 pub took_both : (first left last : Option (List ℕ)) (before now then : ℕ) → TookFront first before left now → TookFront left now last then → TookFront first before last then
 took_both first left last before now then one two = record {

@@ -23,11 +23,11 @@ abbrev pub AreMembers : Bool → List Bool → (ℕ → List ℕ) → List Membe
 AreMembers keeps flags of members = (i : ℕ) (m : Member) → slice_get members i ≡ Some m → StandsSo (slice_index_or flags i false) keeps (of i) m
 
 -- of these modules these bytes came
-pub record AreStreaming (bytes : List ℕ) (keeps : Bool) (p : Progress) (members : List Member) : Type 0 where
+pub record AreStreaming (bytes : List ℕ) (keeps : Bool) (p : Progress) (ms : List Member) : Type 0 where
   pub of : ℕ → List ℕ
   pub reading : IsReading bytes of p
-  pub count : length members ≡ p.modules
-  pub members : AreMembers keeps p.ended of members
+  pub count : length ms ≡ p.modules
+  pub members : AreMembers keeps p.ended of ms
 
 abbrev pub IsStreaming : List ℕ → Streams → Type 0
 IsStreaming bytes s = AreStreaming bytes s.keeps s.reader s.members.items

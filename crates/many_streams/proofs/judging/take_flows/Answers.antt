@@ -9,8 +9,8 @@ loop-k-init c = out_begins c.args.members.now.items c.new-flows.result.items c.n
 pub index_mut-requires : goal.index_mut-requires
 index_mut-requires c = let all = c.loop-k.invariant.all in omega arith
 
-pub take_flow-requires : goal.take_flow-requires
-take_flow-requires c =
+pub take_flow-flow-requires : goal.take_flow-flow-requires
+take_flow-flow-requires c =
     let h = c.loop-k.invariant in
     let all = h.all in
     let m = c.index_mut.result.now in

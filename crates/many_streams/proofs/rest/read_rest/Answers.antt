@@ -2,7 +2,7 @@ use Rattle.std.proofs.Common.{rules, ◌≤◌, ◌<◌, ◌∙◌, ◌++◌, �
 use Rattle.std.proofs.lemmas.List.{length-take}
 use Rattle.batch_pool.proofs.Crews.{reads_more}
 use Rattle.many_streams.specs.Flows.{members_with}
-use Rattle.many_streams.proofs.Sources.{moves_on, took, took_nothing, took_both, rest_is}
+use Rattle.many_streams.proofs.Sources.{moves_on, took, took_nothing, took_none, took_both}
 use Rattle.many_streams.proofs.Rests.{arrives_on, arrived_end, arrived_err, arrived_fail}
 use Rattle.many_streams.proofs.rest.read_rest.Goals as goal
 
@@ -18,6 +18,10 @@ loop-count-init g c = record {
   desks = c.hand_over_kept.ensures.desks;
   each = c.hand_over_kept.ensures.each;
 }
+
+pub read-requires-clause-open : goal.read-requires-clause-open
+read-requires-clause-open g c =
+    let r = c.requires.arrives in (c.loop-count.invariant.arrives r.0 r.1 r.2 r.3 r.4).1.open_now
 
 pub feed-requires-clause-may : goal.feed-requires-clause-may
 feed-requires-clause-may g c =
@@ -92,7 +96,7 @@ returns-in-End g c =
     record {
       arrived = λ first before keeps members a.
           arrived_end first before left last now then (g.S.Source.is_open c.loop-count.source) keeps members c.loop-count.rest (i.arrives first before keeps members a) c.end.result e.cause e.bytes.1 e.bytes.0 (λ bytes is. c.end.ensures bytes keeps members is);
-      front = took_both _ left last _ now then i.front (took left last _ now then (rest_is _ left left last (sym (Rattle.io_edges.proofs.Known.prepend_nothing left)) e.bytes.1) (omega (arith, e.cause)));
+      front = took_both _ left last _ now then i.front (took_none left last now then e.bytes.1 (omega (arith, e.cause)));
       desks = i.desks;
       each = i.each;
     }
@@ -108,7 +112,7 @@ returns-in-Failed g c =
     record {
       arrived = λ first before keeps members a.
           arrived_fail first before left last now then (g.S.Source.is_open c.loop-count.source) keeps members c.loop-count.rest (i.arrives first before keeps members a) c.stop.result e.cause e.bytes (λ bytes is. c.stop.ensures.front bytes keeps members is) c.stop.ensures.fault;
-      front = took_both _ left last _ now then i.front (took left last _ now then (rest_is _ left left last (sym (Rattle.io_edges.proofs.Known.prepend_nothing left)) e.bytes) e.never_falls);
+      front = took_both _ left last _ now then i.front (took_none left last now then e.bytes e.never_falls);
       desks = i.desks;
       each = i.each;
     }

@@ -13,7 +13,7 @@ invariant-loop-count g l = record {
       → IsArriving first before (g.S.Source.left l.source) (g.S.Source.faults l.source) (g.S.Source.is_open l.source) keeps members l.rest;
   front : TookFront (g.S.Source.left l.initial.source) (g.S.Source.faults l.initial.source) (g.S.Source.left l.source) (g.S.Source.faults l.source);
   desks : AreDesks l.lanes l.desks.items;
-  each : Each Reads l.lanes l.initial.desks.items l.desks.items;
+  each : Each Reads l.lanes l.fn.desks.items l.desks.items;
 }
 
 abbrev pub decreases-loop-count : goal.decreases-loop-count

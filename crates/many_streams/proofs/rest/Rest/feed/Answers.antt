@@ -1,5 +1,5 @@
-use Rattle.std.proofs.Common.{◌∙◌, ◌++◌, ℕ, List, Ok, Err, take, arith}
-use Rattle.std.proofs.lemmas.List.{length-drop}
+use Rattle.std.proofs.Common.{◌++◌, ℕ, List, Ok, Err, take, subst, arith}
+use Rattle.std.proofs.lemmas.List.{length-drop, take_all}
 use Rattle.batch_pool.proofs.Crews.{reads_more}
 use Rattle.many_streams.specs.Rests.{IsRest}
 use Rattle.many_streams.proofs.Crowds.{taken_on, fault_on, some_rest}
@@ -47,3 +47,7 @@ returns-in-Err-clause-takes c = λ bytes keeps members i.
 
 pub returns-in-Err-clause-each : goal.returns-in-Err-clause-each
 returns-in-Err-clause-each c = reads_more c.args.lanes.now c.args.desks.now.items c.loop-from.desks.items c.take.new.desks.items c.loop-from.invariant.desks c.loop-from.invariant.each c.take.ensures.each
+
+pub returns-clause-takes : goal.returns-clause-takes
+returns-clause-takes c = λ bytes keeps members i.
+    subst (λ (l : List ℕ). IsRest (bytes ++ l) keeps members c.loop-from.self) (take_all c.loop-from.from c.args.piece.now (let over = c.loop-from-test.false in omega arith)) (c.loop-from.invariant.goes bytes keeps members i)

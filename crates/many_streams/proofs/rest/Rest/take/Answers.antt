@@ -1,8 +1,8 @@
-use Rattle.std.proofs.Common.{◌≤◌, ◌<◌, ℕ, refl, subst}
+use Rattle.std.proofs.Common.{◌<◌, ℕ, refl, sym, subst}
 use Rattle.many_streams.specs.declared.reader.Taken.TheVariants as taken
 use Rattle.batch_pool.proofs.Crews.{reads_begin}
 use Rattle.many_streams.proofs.Crowds.{taken_so, flags_so}
-use Rattle.many_streams.proofs.Rests.{flow_in, may_feed, rest_passed, rest_fed, rest_number, rest_ended, never_counted}
+use Rattle.many_streams.proofs.Rests.{flow_in, set_here, may_feed, rest_passed, rest_fed, rest_number, rest_ended, never_counted}
 use Rattle.many_streams.proofs.rest.Rest.take.Goals as goal
 
 pub index_mut-requires : goal.index_mut-requires
@@ -12,7 +12,7 @@ index_mut-requires c =
     let now = c.args.self.now.reader in
     let at = taken.Bytes c.in-Ok-Bytes.index c.in-Ok-Bytes.count in
     let t = taken_so m.0 i.streaming.of c.args.piece.now c.in-Ok-Bytes.field-0 at now c.take.new.self c.in-Ok-Bytes.field-0-is (c.in-Ok-Bytes.ensures.taken m.0 i.streaming.of i.streaming.reading) in
-    flow_in m.0 m.1 m.2 c.args.self.now i c.in-Ok-Bytes.index t.2
+    subst (λ (n : ℕ). c.in-Ok-Bytes.index < n) (sym c.args.self.now.flows.ok.0) (flow_in m.0 m.1 m.2 c.args.self.now i c.in-Ok-Bytes.index t.2)
 
 pub feed-requires-clause-fed : goal.feed-requires-clause-fed
 feed-requires-clause-fed c =
@@ -34,10 +34,10 @@ returns-in-Ok-Number-clause-takes c = λ bytes keeps members i.
 pub returns-in-Ok-End-clause-takes : goal.returns-in-Ok-End-clause-takes
 returns-in-Ok-End-clause-takes c = λ bytes keeps members i.
     let now = c.args.self.now.reader in
-    let at = taken.End c.in-Ok-End.index in
+    let at = taken.End c.in-Ok-End._index in
     let t = taken_so bytes i.streaming.of c.args.piece.now c.in-Ok-End.field-0 at now c.take.new.self c.in-Ok-End.field-0-is (c.in-Ok-End.ensures.taken bytes i.streaming.of i.streaming.reading) in
     let f = flags_so c.in-Ok-End.field-0 at now.ended c.take.new.self.ended c.in-Ok-End.field-0-is c.in-Ok-End.ensures.flags in
-    rest_ended bytes keeps members c.args.self.now i c.args.piece.now _ c.take.new.self refl c.requires.some c.in-Ok-End.index t f
+    rest_ended bytes keeps members c.args.self.now i c.args.piece.now _ c.take.new.self refl c.requires.some c.in-Ok-End._index t f
 
 pub returns-in_default-clause-takes : goal.returns-in_default-clause-takes
 returns-in_default-clause-takes c = λ bytes keeps members i.
@@ -45,7 +45,8 @@ returns-in_default-clause-takes c = λ bytes keeps members i.
     let at = taken.Bytes c.in-Ok-Bytes.index c.in-Ok-Bytes.count in
     let t = taken_so bytes i.streaming.of c.args.piece.now c.in-Ok-Bytes.field-0 at now c.take.new.self c.in-Ok-Bytes.field-0-is (c.in-Ok-Bytes.ensures.taken bytes i.streaming.of i.streaming.reading) in
     let f = flags_so c.in-Ok-Bytes.field-0 at now.ended c.take.new.self.ended c.in-Ok-Bytes.field-0-is c.in-Ok-Bytes.ensures.flags in
-    rest_passed bytes keeps members c.args.self.now i c.in-Ok-Bytes.index t.2 c.index_mut.result.now c.index_mut.ensures.value c.args.piece.now c.in-Ok-Bytes.count _ c.take.new.self refl t f c.in_default.is refl
+    rest_passed bytes keeps members c.args.self.now i c.in-Ok-Bytes.index t.2 c.index_mut.result.now c.index_mut.ensures.value c.args.piece.now c.in-Ok-Bytes.count _ c.take.new.self refl t f c.in_default.is
+    (set_here bytes keeps members c.args.self.now i c.in-Ok-Bytes.index t.2 c.index_mut.result.now c.index_mut.ensures.value)
 
 pub returns-in-Ok-clause-takes : goal.returns-in-Ok-clause-takes
 returns-in-Ok-clause-takes c = λ bytes keeps members i.

@@ -4,7 +4,7 @@ use native.Mathlib.Decide.{ℕ_discrete}
 use Rattle.std.proofs.lemmas.Option.{slice_get_read}
 use Rattle.many_streams.specs.declared.member.Member.{Member}
 use Rattle.many_streams.specs.Flows.{IsWaiting}
-use Rattle.many_streams.proofs.Flows.{some_one}
+use Rattle.batch_pool.proofs.Elements.{some_one}
 use Rattle.many_streams.proofs.streams.Streams.may_start.Goals as goal
 
 pub loop-k-preserved : goal.loop-k-preserved
