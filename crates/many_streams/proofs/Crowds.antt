@@ -170,36 +170,36 @@ pub member_fits : (bytes : List ℕ) (s : Streams) (i : IsStreaming bytes s) (k 
 member_fits bytes s i k m in' going is =
     let c = i.count in open_here s.keeps s.reader.ended i.of s.members.items k m (omega arith) going is i.members
 
-pub streams_bytes : (bytes piece : List ℕ) (s s' : Streams) (f : Progress) (k n : ℕ) (m m' : Member) (members : Vec Member Global) → (i : IsStreaming bytes s) → s' ≡ record s { reader = f; members = members } → members.items ≡ set s.members.items k m'
+pub streams_bytes : (bytes piece : List ℕ) (s : Streams) (f : Progress) (k n : ℕ) (m m' : Member) (members : List Member) → (i : IsStreaming bytes s) → members ≡ set s.members.items k m'
     → Takes bytes i.of piece (Ok (taken.Bytes k n)) s.reader f → SetsFlags (Ok (taken.Bytes k n)) s.reader.ended f.ended → m ≡ get_or s.members.items k m → ((keeps : Bool) (came : List ℕ) → IsMember keeps came m → IsMember keeps (came ++ take n piece) m')
-    → TakesSome bytes piece (Ok n) s'
-streams_bytes bytes piece s s' f k n m m' members i now items t sets is feeds =
+    → TakesSomeSo (λ came. AreStreaming came s.keeps f members) bytes piece (Ok n)
+streams_bytes bytes piece s f k n m m' members i items t sets is feeds =
     let c = i.count in
     let below = t.2 in (
-      subst (IsStreaming (bytes ++ take n piece)) (sym now) (record {
+      record {
         of = with_more i.of k (take n piece);
         reading = t.0;
         count = ap length items ∙ (length-set s.members.items k m' ∙ (i.count ∙ sym t.1));
-        members = subst (λ (l : List Bool). AreMembers s.keeps l (with_more i.of k (take n piece)) members.items) (sym sets.1)
-            (members_fed s.keeps s.reader.ended i.of s.members.items members.items k m m' (omega arith) sets.0 is items i.members (take n piece) (feeds s.keeps (i.of k)));
-      }),
+        members = subst (λ (l : List Bool). AreMembers s.keeps l (with_more i.of k (take n piece)) members) (sym sets.1)
+            (members_fed s.keeps s.reader.ended i.of s.members.items members k m m' (omega arith) sets.0 is items i.members (take n piece) (feeds s.keeps (i.of k)));
+      },
       t.3,
       t.4,
     )
 
-pub streams_ended : (bytes piece : List ℕ) (s s' : Streams) (f : Progress) (k : ℕ) (m m' : Member) (members : Vec Member Global) → (i : IsStreaming bytes s) → s' ≡ record s { reader = f; members = members } → members.items ≡ set s.members.items k m'
+pub streams_ended : (bytes piece : List ℕ) (s : Streams) (f : Progress) (k : ℕ) (m m' : Member) (members : List Member) → (i : IsStreaming bytes s) → members ≡ set s.members.items k m'
     → 0 < length piece → Takes bytes i.of piece (Ok (taken.End k)) s.reader f → SetsFlags (Ok (taken.End k)) s.reader.ended f.ended → m ≡ get_or s.members.items k m → ((keeps : Bool) (came : List ℕ) → IsMember keeps came m → IsEnded keeps came m')
-    → TakesSome bytes piece (Ok 1) s'
-streams_ended bytes piece s s' f k m m' members i now items some t sets is ends =
+    → TakesSomeSo (λ came. AreStreaming came s.keeps f members) bytes piece (Ok 1)
+streams_ended bytes piece s f k m m' members i items some t sets is ends =
     let c = i.count in
     let below = t.2 in (
-      subst (IsStreaming (bytes ++ take 1 piece)) (sym now) (record {
+      record {
         of = i.of;
         reading = t.0;
         count = ap length items ∙ (length-set s.members.items k m' ∙ (i.count ∙ sym t.1));
-        members = subst (λ (l : List Bool). AreMembers s.keeps l i.of members.items) (sym sets.2)
-            (members_ended s.keeps s.reader.ended i.of s.members.items members.items k m m' (omega arith) sets.0 is items i.members sets.1 (ends s.keeps (i.of k)));
-      }),
+        members = subst (λ (l : List Bool). AreMembers s.keeps l i.of members) (sym sets.2)
+            (members_ended s.keeps s.reader.ended i.of s.members.items members k m m' (omega arith) sets.0 is items i.members sets.1 (ends s.keeps (i.of k)));
+      },
       omega arith,
       omega arith,
     )

@@ -53,12 +53,10 @@ pub fn read_front<S: Source>(
                 Ok(()) => {}
                 Err(stop) => return Err(stop),
             },
-            Got::End => {
-                return match streams.end() {
-                    Ok(members) => Ok(Front::Ended(members)),
-                    Err(stop) => Err(stop),
-                };
-            }
+            Got::End => match streams.end() {
+                Ok(members) => return Ok(Front::Ended(members)),
+                Err(stop) => return Err(stop),
+            },
             Got::Failed => return Err(streams.stop()),
         }
         if streams.may_start() {

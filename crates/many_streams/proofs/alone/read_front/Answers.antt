@@ -1,6 +1,6 @@
-use Rattle.std.proofs.Common.{rules, ◌≤◌, ◌<◌, ◌∙◌, ◌++◌, ℕ, Bool, List, Ok, Err, length, take, sym, subst, arith}
+use Rattle.std.proofs.Common.{◌≡◌, ◌≤◌, ◌<◌, ◌∙◌, ◌++◌, ℕ, Bool, List, Ok, Err, length, take, drop, sym, subst, arith, length-append}
 use Rattle.std.specs.Io.KnownBytes.{IsAtEnd}
-use Rattle.std.proofs.lemmas.List.{length-take}
+use Rattle.std.proofs.lemmas.List.{length-take, length-drop}
 use Rattle.many_streams.specs.Many.{IsStreaming, ComesToEnd}
 use Rattle.many_streams.specs.Members.{IsEnded}
 use Rattle.many_streams.proofs.Sources.{moves_on, took, took_more, ended, broken, failed, rest_is}
@@ -9,6 +9,10 @@ use Rattle.many_streams.proofs.alone.read_front.Goals as goal
 -- bytes came
 some_came : (n : ℕ) (buf : List ℕ) → 0 < n → n ≤ length buf → 0 < length (take n buf)
 some_came n buf some fits = omega (arith, length-take n buf)
+
+-- the buffer is as long as it was
+room_stays : (len : ℕ) (given items : List ℕ) → len ≡ length items → 0 < length items → 0 < length (take len (given ++ drop (length given) items))
+room_stays len given items is some = omega (arith, length-take len (given ++ drop (length given) items), length-append given (drop (length given) items), length-drop (length given) items)
 
 pub loop-count-smaller : goal.loop-count-smaller
 loop-count-smaller g c =
@@ -23,7 +27,7 @@ loop-count-preserved g c =
     let i = c.loop-count.invariant.came in
     let r = c.in-Bytes.ensures.bytes in
     record {
-      room = search rules;
+      room = room_stays c.loop-count.buffer.len c.buffer-in-Bytes-1.given c.loop-count.buffer.items c.loop-count.buffer.ok.0 c.loop-count.invariant.room;
       came = (
         i.0 ++ take c.in-Bytes.count c.read.new.buf,
         c.in-Ok-feed.ensures.takes i.0 i.1,
@@ -98,5 +102,13 @@ returns-then-may_start-clause-answer g c =
         waiting = start.0;
       },
       c.feed.ensures.keeps ∙ c.loop-count.invariant.keeps,
-      search rules,
+      room_stays c.loop-count.buffer.len c.buffer-in-Bytes-1.given c.loop-count.buffer.items c.loop-count.buffer.ok.0 c.loop-count.invariant.room,
     )
+
+pub returns-then-may_start-clause-front : goal.returns-then-may_start-clause-front
+returns-then-may_start-clause-front g c =
+    let i = c.loop-count.invariant.came in
+    let r = c.in-Bytes.ensures.bytes in
+    let same = c.in-Bytes.ensures.cause ∙ c.loop-count.invariant.same in
+    took (g.S.Source.left c.args.source.now) (g.S.Source.left c.read.new.self) (i.0 ++ take c.in-Bytes.count c.read.new.buf) (g.S.Source.faults c.args.source.now) (g.S.Source.faults c.read.new.self)
+    (took_more (g.S.Source.left c.args.source.now) (g.S.Source.left c.loop-count.source) (g.S.Source.left c.read.new.self) i.0 (take c.in-Bytes.count c.read.new.buf) i.2 r.2) (omega (arith, same))

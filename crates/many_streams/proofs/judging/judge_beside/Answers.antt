@@ -1,4 +1,5 @@
-use Rattle.std.proofs.Common.{◌≡◌, ◌<◌, ℕ, Bool, List, length, refl, ap, ◌∙◌}
+use Rattle.std.proofs.Common.{length, refl, ap, ◌∙◌}
+use Rattle.many_streams.specs.declared.rest.Rest.{Rest}
 use Rattle.many_streams.specs.Members.{IsEnded, IsJudged}
 use Rattle.many_streams.proofs.Rests.{paused_lent, together, together_made}
 use Rattle.many_streams.proofs.Sources.{comes_on, stops_on}
@@ -8,17 +9,17 @@ pub take_flows-requires : goal.take_flows-requires
 take_flows-requires g c = c.requires.paused.2.waiting
 
 pub work_beside-requires-clause-arrives : goal.work_beside-requires-clause-arrives
-work_beside-requires-clause-arrives g c =
+work_beside-requires-clause-arrives g c κs lives =
     let p = c.requires.paused in
     let o = c.in-Ok.ensures in
-    let r = record { reader = c.args.streams.reader; flows = c.in-Ok.flows } in
+    let r : Rest = record { reader = c.args.streams.reader; flows = c.in-Ok.flows } in
     (p.0, p.1, c.args.streams.keeps, paused_lent p.0 p.1 _ _ _ c.args.streams c.take_flows.new.members.items c.as_slice.result.now r c.as_slice.ensures.value p.2 refl o.count o.lent o.whole)
 
 pub put_flows-requires : goal.put_flows-requires
 put_flows-requires g c =
     let p = c.requires.paused in
     let o = c.in-Ok.ensures in
-    let r = record { reader = c.args.streams.reader; flows = c.in-Ok.flows } in
+    let r : Rest = record { reader = c.args.streams.reader; flows = c.in-Ok.flows } in
     let d = c.in-Ok-work_beside.ensures.comes p.0 p.1 c.args.streams.keeps (paused_lent p.0 p.1 _ _ _ c.args.streams c.take_flows.new.members.items c.as_slice.result.now r c.as_slice.ensures.value p.2 refl o.count o.lent o.whole) in
     d.0 ∙ ap length c.as_slice.ensures.value
 
@@ -26,7 +27,7 @@ pub settle_members-requires : goal.settle_members-requires
 settle_members-requires g c =
     let p = c.requires.paused in
     let o = c.in-Ok.ensures in
-    let r = record { reader = c.args.streams.reader; flows = c.in-Ok.flows } in
+    let r : Rest = record { reader = c.args.streams.reader; flows = c.in-Ok.flows } in
     let members = c.take_flows.new.members.items in
     let flows = c.in-Ok-work_beside.done.flows.items in
     let d = c.in-Ok-work_beside.ensures.comes p.0 p.1 c.args.streams.keeps (paused_lent p.0 p.1 _ _ _ c.args.streams members c.as_slice.result.now r c.as_slice.ensures.value p.2 refl o.count o.lent o.whole) in
@@ -39,7 +40,7 @@ settle_members-requires g c =
 pub returns-in-Ok-settle_members-clause-answer : goal.returns-in-Ok-settle_members-clause-answer
 returns-in-Ok-settle_members-clause-answer g c = λ first before p.
     let o = c.in-Ok.ensures in
-    let r = record { reader = c.args.streams.reader; flows = c.in-Ok.flows } in
+    let r : Rest = record { reader = c.args.streams.reader; flows = c.in-Ok.flows } in
     let keeps = c.args.streams.keeps in
     let members = c.take_flows.new.members.items in
     let d = c.in-Ok-work_beside.ensures.comes first before keeps (paused_lent first before _ _ _ c.args.streams members c.as_slice.result.now r c.as_slice.ensures.value p refl o.count o.lent o.whole) in
@@ -49,7 +50,7 @@ returns-in-Ok-settle_members-clause-answer g c = λ first before p.
 pub returns-in-Err-clause-answer : goal.returns-in-Err-clause-answer
 returns-in-Err-clause-answer g c = λ first before p.
     let o = c.in-Ok.ensures in
-    let r = record { reader = c.args.streams.reader; flows = c.in-Ok.flows } in
+    let r : Rest = record { reader = c.args.streams.reader; flows = c.in-Ok.flows } in
     let keeps = c.args.streams.keeps in
     stops_on (IsEnded keeps) (IsJudged keeps) _ _ _ c.in-Err.stop
     (c.in-Err.ensures.comes first before keeps (paused_lent first before _ _ _ c.args.streams c.take_flows.new.members.items c.as_slice.result.now r c.as_slice.ensures.value p refl o.count o.lent o.whole))

@@ -1,4 +1,5 @@
 use Rattle.std.proofs.Common.{◌≡◌, ℕ, Bool, List, Option, Ok, subst}
+use Rattle.std.specs.Prelude.{nat_lt}
 use Rattle.many_streams.specs.declared.alone.Front.{Front}
 use Rattle.many_streams.specs.declared.alone.Front.TheVariants as front
 use Rattle.many_streams.specs.Fronts.{ReachesFront}
@@ -21,18 +22,21 @@ returns-in-Ok-clause-answer g c =
     comes_on (IsEnded c.args.keeps) (IsJudged c.args.keeps) _ _ _ c.in-Ok-Ended.members.items c.in-Ok.judged.items e (λ list are. c.in-Ok.ensures c.args.keeps list are)
 
 pub judge_beside-requires-clause-room : goal.judge_beside-requires-clause-room
-judge_beside-requires-clause-room g c =
+judge_beside-requires-clause-room g c κs lives =
     (front_so c.args.keeps _ _ _ _ _ c.in-Ok-Paused.field-0 (front.Paused c.in-Ok-Paused.streams c.in-Ok-Paused.buffer) c.in-Ok-Paused.field-0-is c.in-Ok-Paused.ensures.answer).2
 
 pub judge_beside-requires-clause-paused : goal.judge_beside-requires-clause-paused
-judge_beside-requires-clause-paused g c =
+judge_beside-requires-clause-paused g c κs lives =
     let e = front_so c.args.keeps _ _ _ _ _ c.in-Ok-Paused.field-0 (front.Paused c.in-Ok-Paused.streams c.in-Ok-Paused.buffer) c.in-Ok-Paused.field-0-is c.in-Ok-Paused.ensures.answer in
     (g.S.Source.left c.args.source.now, g.S.Source.faults c.args.source.now, e.0)
 
 pub returns-in-Ok-Paused-clause-answer : goal.returns-in-Ok-Paused-clause-answer
 returns-in-Ok-Paused-clause-answer g c =
     let e = front_so c.args.keeps _ _ _ _ _ c.in-Ok-Paused.field-0 (front.Paused c.in-Ok-Paused.streams c.in-Ok-Paused.buffer) c.in-Ok-Paused.field-0-is c.in-Ok-Paused.ensures.answer in
-    subst (λ (k : Bool). ComesToMany (IsJudged k) _ _ _ (view c.judge_beside.result)) e.1 (c.judge_beside.ensures.answer _ _ e.0)
+    let first = g.S.Source.left c.args.source.now in
+    let before = g.S.Source.faults c.args.source.now in
+    subst (λ (k : Bool). ComesToMany (IsJudged k) (nat_lt before (g.S.Source.faults c.judge_beside.new.source)) first (g.S.Source.left c.judge_beside.new.source) (view c.judge_beside.result)) e.1
+    (c.judge_beside.ensures.answer first before e.0)
 
 pub returns-in-Ok-Paused-clause-front : goal.returns-in-Ok-Paused-clause-front
 returns-in-Ok-Paused-clause-front g c = took_both _ _ _ _ _ _ c.in-Ok-Paused.ensures.front c.judge_beside.ensures.front

@@ -49,8 +49,17 @@ returns-in-Ok-run_many-clause-read g c =
     read_after c.args.workers c.args.members.now o.0 w.lanes.items w.desks.items o.1 j.desks.items (subst (λ (l : List Lane). AreDesks l j.desks.items) c.as_slice.ensures.value c.in-Ok-run_many.ensures.desks)
     (subst (λ (l : List Lane). Each HasReadIn l w.desks.items j.desks.items) c.as_slice.ensures.value c.in-Ok-run_many.ensures.read)
 
-pub returns-in-Err-clause-front : goal.returns-in-Err-clause-front
-returns-in-Err-clause-front g c =
+pub returns-in-Ok-run_many-clause-arrived : goal.returns-in-Ok-run_many-clause-arrived
+returns-in-Ok-run_many-clause-arrived g c = λ first before keeps a.
+    let made = c.in-Ok-run_many.ensures.made in
+    let new = c.new-reader.result.source.now in
+    rw (c.source-in-Ok-run_many-1.given.1 (sym c.new-reader.ensures.same_reference ∙ sym made.0))
+    (made.2 first before keeps c.args.members.now
+    (subst (λ (p : Pause). IsArriving first before (g.S.Source.left new) (g.S.Source.faults new) (g.S.Source.is_open new) keeps c.args.members.now p.rest) (sym c.new-reader.ensures.pause)
+    (subst (λ (s : g.row.S.Denot). IsArriving first before (g.S.Source.left s) (g.S.Source.faults s) (g.S.Source.is_open s) keeps c.args.members.now c.args.pause.rest) (sym c.new-reader.ensures.source) a)))
+
+pub returns-clause-front : goal.returns-clause-front
+returns-clause-front g c =
     let r = c.in-Err.reader in
     elim c.in-Err.ensures.back [
       | inl reads ↦

@@ -1,4 +1,5 @@
 use Rattle.std.proofs.Common.{◌≤◌, ◌∙◌, ℕ, refl, subst}
+use Rattle.std.proofs.Math.ListN.{set}
 use Rattle.many_streams.specs.declared.reader.Taken.TheVariants as taken
 use Rattle.many_streams.proofs.Crowds.{member_fits, streams_number, streams_counted, streams_bytes, streams_ended, taken_so, flags_so}
 use Rattle.many_streams.proofs.streams.Streams.take.Goals as goal
@@ -36,7 +37,7 @@ returns-in-Ok-clause-takes c = λ bytes i.
     let at = taken.End c.in-Ok-End.index in
     let t = taken_so bytes i.of c.args.piece.now c.in-Ok-End.field-0 at now c.take.new.self c.in-Ok-End.field-0-is (c.in-Ok-End.ensures.taken bytes i.of i.reading) in
     let f = flags_so c.in-Ok-End.field-0 at now.ended c.take.new.self.ended c.in-Ok-End.field-0-is c.in-Ok-End.ensures.flags in
-    streams_ended bytes c.args.piece.now c.args.self.now _ c.take.new.self c.in-Ok-End.index c.index_mut.result.now c.end.new.self _ i refl refl c.requires.some t f c.index_mut.ensures.value c.in-Ok.ensures
+    streams_ended bytes c.args.piece.now c.args.self.now c.take.new.self c.in-Ok-End.index c.index_mut.result.now c.end.new.self (set c.args.self.now.members.items c.in-Ok-End.index c.end.new.self) i refl c.requires.some t f c.index_mut.ensures.value c.in-Ok.ensures
 
 pub returns-in-Ok-new_members-clause-takes : goal.returns-in-Ok-new_members-clause-takes
 returns-in-Ok-new_members-clause-takes c = λ bytes i.
@@ -51,7 +52,7 @@ returns-in-Ok-feed-clause-takes c = λ bytes i.
     let at = taken.Bytes c.in-Ok-Bytes.index c.in-Ok-Bytes.count in
     let t = taken_so bytes i.of c.args.piece.now c.in-Ok-Bytes.field-0 at now c.take.new.self c.in-Ok-Bytes.field-0-is (c.in-Ok-Bytes.ensures.taken bytes i.of i.reading) in
     let f = flags_so c.in-Ok-Bytes.field-0 at now.ended c.take.new.self.ended c.in-Ok-Bytes.field-0-is c.in-Ok-Bytes.ensures.flags in
-    streams_bytes bytes c.args.piece.now c.args.self.now _ c.take.new.self c.in-Ok-Bytes.index c.in-Ok-Bytes.count c.index_mut-in-Ok-Bytes.result.now c.feed.new.self _ i refl refl t f c.index_mut-in-Ok-Bytes.ensures.value c.in-Ok-feed.ensures
+    streams_bytes bytes c.args.piece.now c.args.self.now c.take.new.self c.in-Ok-Bytes.index c.in-Ok-Bytes.count c.index_mut-in-Ok-Bytes.result.now c.feed.new.self (set c.args.self.now.members.items c.in-Ok-Bytes.index c.feed.new.self) i refl t f c.index_mut-in-Ok-Bytes.ensures.value c.in-Ok-feed.ensures
 
 pub returns-in-Err-clause-takes : goal.returns-in-Err-clause-takes
 returns-in-Err-clause-takes c = λ bytes i. c.in-Err.ensures.taken bytes i.of i.reading
