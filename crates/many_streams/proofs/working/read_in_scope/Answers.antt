@@ -53,7 +53,7 @@ pub returns-in-Ok-run_many-clause-arrived : goal.returns-in-Ok-run_many-clause-a
 returns-in-Ok-run_many-clause-arrived g c = λ first before keeps a.
     let made = c.in-Ok-run_many.ensures.made in
     let new = c.new-reader.result.source.now in
-    rw (c.source-in-Ok-run_many-1.given.1 (sym c.new-reader.ensures.same_reference ∙ sym made.0))
+    rw (c.source-1.given.1 (sym c.new-reader.ensures.same_reference ∙ sym made.0))
     (made.2 first before keeps c.args.members.now
     (subst (λ (p : Pause). IsArriving first before (g.S.Source.left new) (g.S.Source.faults new) (g.S.Source.is_open new) keeps c.args.members.now p.rest) (sym c.new-reader.ensures.pause)
     (subst (λ (s : g.row.S.Denot). IsArriving first before (g.S.Source.left s) (g.S.Source.faults s) (g.S.Source.is_open s) keeps c.args.members.now c.args.pause.rest) (sym c.new-reader.ensures.source) a)))
