@@ -1,8 +1,6 @@
 -- What came of modules whose compilations are lent.
-use Rattle.std.proofs.Common.{◌≡◌, ◌≢◌, ◌⊎◌, inl, inr, ◌<◌, ◌≤◌, ◌+◌, ℕ, zero, suc, Bool, true, false, List, [], ◌∷◌, ◌++◌, length, All, Option, Some, None, Result, Ok, Err, slice_get, refl, sym, ap, ◌∙◌, subst, arith, length-append}
+use Rattle.std.proofs.Common.{◌≡◌, ◌⊎◌, inl, inr, ◌<◌, ◌≤◌, ◌+◌, ℕ, zero, suc, Bool, List, [], ◌∷◌, ◌++◌, length, Option, Some, None, Result, Ok, Err, slice_get, refl, sym, ap, ◌∙◌, subst, arith, length-append}
 use Rattle.std.specs.Prelude.{is_some, OnOk}
-use mathlib.Core.Logic.{dite}
-use native.Mathlib.Decide.{ℕ_discrete}
 use Rattle.std.proofs.Math.ListN.{set, length-set}
 use Rattle.std.proofs.lemmas.Option.{slice_get_within}
 use Rattle.result_cells.specs.Rooms.{Store}
@@ -13,7 +11,7 @@ use Rattle.many_streams.specs.declared.member.Part.{Part}
 use Rattle.many_streams.specs.declared.member.Member.{Member}
 use Rattle.many_streams.specs.declared.member.Member.TheVariants as member
 use Rattle.many_streams.specs.declared.working.Made.{Made}
-use Rattle.many_streams.specs.Flows.{part_with, member_with, members_with, IsWaiting, IsLent, AreLent}
+use Rattle.many_streams.specs.Flows.{member_with, members_with, IsWaiting, IsLent, AreLent}
 use Rattle.many_streams.specs.Members.{IsMember, IsEnded, AreRowsOf}
 use Rattle.many_streams.specs.Workers.{AreMade}
 use Rattle.many_streams.proofs.Feeding.{refused_more, refused_whole}

@@ -1,6 +1,6 @@
 -- The rest of the input, while the compilations of its modules are lent.
-use Rattle.std.proofs.Common.{◌≡◌, ◌<◌, ◌≤◌, ◌-◌, ◌+◌, ℕ, Bool, true, false, List, [], ◌∷◌, ◌++◌, length, take, get_or, Option, Some, None, Result, Ok, Err, slice_get, refl, sym, ap, ◌∙◌, subst, arith}
-use Rattle.std.specs.Prelude.{nat_lt, OnOk}
+use Rattle.std.proofs.Common.{◌≡◌, ◌<◌, ◌-◌, ◌+◌, ℕ, Bool, true, false, List, ◌++◌, length, take, get_or, Option, Some, None, Result, Ok, Err, slice_get, refl, sym, ap, ◌∙◌, subst, arith}
+use Rattle.std.specs.Prelude.{OnOk}
 use Rattle.std.specs.Io.KnownBytes.{prepend_known, IsAtEnd}
 use mathlib.Core.Logic.{dite}
 use native.Mathlib.Decide.{ℕ_discrete}
@@ -16,7 +16,7 @@ use Rattle.many_streams.specs.declared.reader.Taken.TheVariants as taken
 use Rattle.many_streams.specs.declared.streams.Streams.{Streams}
 use Rattle.many_streams.specs.declared.streams.ManyStop.{ManyStop}
 use Rattle.many_streams.specs.declared.streams.ManyStop.TheVariants as stop
-use Rattle.many_streams.specs.Reading.{Progress, IsReading, Takes, Ends, SetsFlags, AreAllSet, with_more}
+use Rattle.many_streams.specs.Reading.{Progress, Takes, Ends, SetsFlags, AreAllSet, with_more}
 use Rattle.many_streams.specs.Flows.{part_with, member_with, members_with, IsLent, AreLent}
 use Rattle.many_streams.specs.Many.{StandsSo, AreMembers, AreStreaming, TakesSomeSo, TakesAllSo, ComesToEnd, ComesToMany, IsFront}
 use Rattle.many_streams.specs.Members.{IsFed, IsMember, IsEnded}

@@ -1,4 +1,4 @@
-use Rattle.std.proofs.Common.{rules, ◌≡◌, ◌<◌, ℕ, length, get_or, refl, subst, arith}
+use Rattle.std.proofs.Common.{rules, ◌≡◌, ℕ, length, get_or, refl, subst, arith}
 use Rattle.std.proofs.Math.ListN.{set}
 use Rattle.std.proofs.lemmas.Option.{slice_get_read}
 use Rattle.many_streams.proofs.Flows.{put_begins, put_in, put_steps, put_all}

@@ -1,4 +1,4 @@
-use Rattle.std.proofs.Common.{◌<◌, ◌+◌, length, refl, ◌∙◌, arith}
+use Rattle.std.proofs.Common.{length, refl, arith}
 use Rattle.std.proofs.lemmas.Option.{slice_get_read}
 use Rattle.many_streams.proofs.Flows.{out_begins, out_next, out_steps}
 use Rattle.many_streams.proofs.judging.take_flows.Goals as goal

@@ -1,4 +1,4 @@
-use Rattle.std.proofs.Common.{rules, ◌≤◌, ◌<◌, ℕ, Bool, List, Err, length, take, arith}
+use Rattle.std.proofs.Common.{rules, ◌≤◌, ◌<◌, ℕ, List, length, take, arith}
 use Rattle.std.proofs.lemmas.List.{length-take}
 use Rattle.batch_pool.proofs.Crews.{reads_more}
 use Rattle.many_streams.specs.Flows.{members_with}

@@ -1,4 +1,4 @@
-use Rattle.std.proofs.Common.{◌≡◌, ◌<◌, ◌-◌, ℕ, Bool, List, Option, true, length}
+use Rattle.std.proofs.Common.{◌<◌, ◌-◌, ℕ, Bool, List, Option, length}
 use Rattle.io_edges.specs.Streams.{TookFront}
 use Rattle.batch_pool.specs.Lanes.{AreDesks, Each, Reads}
 use Rattle.many_streams.specs.declared.member.Member.{Member}

@@ -1,4 +1,4 @@
-use Rattle.std.proofs.Common.{◌+◌, ◌≤◌, ℕ, length, refl, arith}
+use Rattle.std.proofs.Common.{refl, arith}
 use Rattle.many_streams.specs.Flows.{part_with}
 use Rattle.many_streams.proofs.Feeding.{room_is, fed_on}
 use Rattle.many_streams.proofs.flow.Flow.take.Goals as goal

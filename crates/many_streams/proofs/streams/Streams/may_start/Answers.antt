@@ -1,8 +1,7 @@
-use Rattle.std.proofs.Common.{◌≡◌, ◌<◌, ℕ, Some, slice_get, length, refl, subst, ◌∙◌, arith}
+use Rattle.std.proofs.Common.{◌≡◌, ℕ, Some, slice_get, length, refl, subst, arith}
 use mathlib.Core.Logic.{dite}
 use native.Mathlib.Decide.{ℕ_discrete}
 use Rattle.std.proofs.lemmas.Option.{slice_get_read}
-use Rattle.many_streams.specs.declared.member.Member.{Member}
 use Rattle.many_streams.specs.Flows.{IsWaiting}
 use Rattle.batch_pool.proofs.Elements.{some_one}
 use Rattle.many_streams.proofs.streams.Streams.may_start.Goals as goal
