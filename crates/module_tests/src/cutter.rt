@@ -1,9 +1,9 @@
 //! Sections that were cut by hand.
 
-use crate::rows::bytes_of;
 use body_cutter::{Batch, Cutter};
 use std::alloc::Global;
 use std::test::Fail;
+use test_rows::bytes_of;
 use wasm_defs::{FrontStop, Refusal};
 
 /// A batch's number, its start, and how many bodies it has.

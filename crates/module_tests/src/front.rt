@@ -1,9 +1,9 @@
 //! Modules that come in pieces, whose items and errors were worked out by hand.
 
-use crate::rows::bytes_of;
 use section_reader::Front;
 use std::alloc::Global;
 use std::test::Fail;
+use test_rows::bytes_of;
 use wasm_defs::{FrontStop, Item, Kind, Refusal};
 
 /// The magic bytes and the version.

@@ -18,6 +18,4 @@ mod numbers;
 #[cfg(test)]
 mod opcodes;
 #[cfg(test)]
-mod rows;
-#[cfg(test)]
 mod spaces;

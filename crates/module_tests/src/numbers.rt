@@ -1,9 +1,9 @@
 //! Numbers and names that were worked out by hand.
 
-use crate::rows::bytes_of;
 use leb_feed::{Fed, Fields, Leb, read_at};
 use std::alloc::Global;
 use std::test::Fail;
+use test_rows::bytes_of;
 
 /// Numbers (Core 1.0, 5.2.2): the bytes, of how many bits at most and with or without a sign; what is read at once, and what is answered
 /// to the last byte where they come one by one.

@@ -15,19 +15,6 @@ pub const HEADER: &str = "00 61 73 6D 01 00 00 00";
 /// How many bytes a sink takes that is large enough for each line, and for the images of small modules.
 const ROOM: usize = 65_536;
 
-/// The bytes that the texts have in hexadecimal digits, one after the other.
-pub fn bytes_of(alloc: Global, texts: &[&str]) -> Result<Vec<u8>, Fail> {
-    let mut bytes = Vec::new(alloc);
-    for text in texts {
-        for digits in text.split(' ') {
-            if !digits.is_empty() {
-                bytes.push(u8::from_str_radix(digits, 16)?)?;
-            }
-        }
-    }
-    Ok(bytes)
-}
-
 /// Each text as a word of a command line.
 pub fn words_of(alloc: Global, texts: &[&str]) -> Result<Vec<String>, AllocError> {
     let mut words = Vec::new(alloc);

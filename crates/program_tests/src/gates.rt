@@ -2,7 +2,7 @@
 
 ghost use Rattle.std.specs.Prelude.{◌≡◌, ◌<◌, ◌^◌, ◌-◌, None, true};
 
-use crate::calling::{HEADER, bytes_of};
+use crate::calling::HEADER;
 use io_edges::{Flat, Gate, Go, Got, Source};
 use std::alloc::Global;
 use std::sync::Wait;
@@ -13,6 +13,7 @@ use std::thread;
 use std::thread::Threads;
 use stream_compile::{Answer, CheckAnswer, Settings, stream_check, stream_compile};
 use test_gates::SecondFirst;
+use test_rows::bytes_of;
 
 /// What follows the header of a module: two functions without parameters and results, whose bodies do nothing.
 const TWO_BODIES: &str = "01 04 01 60 00 00 03 03 02 00 00 0A 0B 02 04 00 01 01 0B 04 00 01 01 0B";

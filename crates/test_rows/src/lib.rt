@@ -1,6 +1,10 @@
-//! Rows of a table: a question, and the answer that is wanted, as `argument i32:5 = Some(I32(5))`.
+//! What tests have as text: rows of a table, with a question and the answer that is wanted, as `argument i32:5 = Some(I32(5))`; and
+//! bytes.
 #![tactic(auto)]
 
+mod bytes;
+
+pub use bytes::bytes_of;
 use std::alloc::{AllocError, Global};
 
 /// What a line asks, and the answer that is wanted; `None` where it is empty or a comment.

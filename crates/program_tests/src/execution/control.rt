@@ -5,13 +5,14 @@ mod generator;
 mod interpreter;
 mod tokens;
 
-use crate::calling::{HEADER, answer_to_line, bytes_of};
+use crate::calling::{HEADER, answer_to_line};
 use generator::body_of;
 use interpreter::{End, run_of};
 use std::alloc::{AllocError, Global};
 use std::sync::Wait;
 use std::test::Fail;
 use std::thread::Threads;
+use test_rows::bytes_of;
 use tokens::{Token, push_token};
 
 /// How many bodies are tried, each with every argument.

@@ -1,11 +1,12 @@
 //! Every numeric operation on edge values and on scattered ones, against Rust's own integers. The rules are those of WebAssembly
 //! Core 1.0, 4.3.2 and 4.3.4, and of Core 2.0, 4.3.2, for sign extension.
 
-use crate::calling::{HEADER, answer_to_line, bytes_of};
+use crate::calling::{HEADER, answer_to_line};
 use std::alloc::{AllocError, Global};
 use std::sync::Wait;
 use std::test::Fail;
 use std::thread::Threads;
+use test_rows::bytes_of;
 use wasm_defs::{OPERATION_NAMES, OPERATION_TYPES, Operands, ValType};
 
 /// What the run of an operation comes to.

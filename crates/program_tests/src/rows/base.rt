@@ -1,9 +1,10 @@
 //! The bytes that rows are about.
 
-use crate::calling::{HEADER, bytes_of};
+use crate::calling::HEADER;
 use crate::rows::numbers::number_of;
 use std::alloc::Global;
 use std::test::Fail;
+use test_rows::bytes_of;
 
 /// Appends so many times the bytes of the text.
 fn fill(alloc: Global, bytes: &mut Vec<u8>, count: usize, text: &str) -> Result<(), Fail> {
