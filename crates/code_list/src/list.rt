@@ -1,0 +1,172 @@
+//! Codes that lie one after the other.
+
+ghost use Rattle.std.specs.Prelude.{◌≡◌, ◌<◌, ◌≤◌, ◌++◌, ◌∷◌, [], length, OnOk, OnErr};
+ghost use Rattle.std.specs.List.{between};
+ghost use Rattle.code_list.specs.CodeLists.{code_at, end_before, IsParts};
+
+use rv_isa::{Code, Relocation, TrapSite};
+use std::alloc::{AllocError, Global};
+use std::marker::Model;
+
+/// Where a code ends among the instruction words, the calls and the traps of all codes, and how many slots of the stack it needs.
+#[derive(Clone, Copy, Debug, PartialEq, Eq)]
+pub struct CodeEnd {
+    pub words: usize,
+    pub calls: usize,
+    pub sites: usize,
+    pub need: u32,
+}
+
+/// Codes, one after the other. Contracts see the list of them.
+///
+/// The first code may begin behind instruction words that are no code's:
+///
+/// ```text
+/// text      | before the first code | code 0 | code 1 |
+///                                   ^        ^        ^
+///                                 begin   ends[0]  ends[1]
+/// ```
+#[derive(Drop)]
+pub struct CodeList {
+    text: Vec<u32>,
+    calls: Vec<Relocation>,
+    sites: Vec<TrapSite>,
+    /// Where the first code begins.
+    begin: CodeEnd,
+    ends: Vec<CodeEnd>,
+}
+
+impl Model for CodeList {
+    ghost use Rattle.std.specs.Prelude.{List, length};
+    ghost use Rattle.rv_isa.specs.declared.compiled.Code.{Code};
+    ghost use Rattle.code_list.specs.CodeLists.{codes_from, AreEnds};
+
+    ghost Value = { List Code };
+
+    ghost view = { λ l. codes_from l.text.items l.calls.items l.sites.items l.begin l.ends.items };
+
+    ghost invariant = { λ l. AreEnds (length l.text.items) (length l.calls.items) (length l.sites.items) l.begin l.ends.items };
+}
+
+/// Codes as their parts: the instruction words and the calls of all of them, and where each ends.
+#[derive(Drop)]
+pub struct CodeParts {
+    pub text: Vec<u32>,
+    pub calls: Vec<Relocation>,
+    /// Where the first code begins.
+    pub begin: CodeEnd,
+    pub ends: Vec<CodeEnd>,
+}
+
+/// Where the code of an index begins.
+fn end_before(begin: CodeEnd, ends: &[CodeEnd], index: usize) -> CodeEnd
+    requires { index ≤ length ends.now }
+    ensures { result ≡ end_before begin ends.now index }
+{
+    match index {
+        0 => begin,
+        _ => ends[index - 1],
+    }
+}
+
+/// The items between two indices.
+fn part<T>(items: &[T], begin: usize, end: usize) -> &[T]
+    requires rises { begin ≤ end }
+    requires within { end ≤ length items.now }
+    ensures { result.now ≡ between begin end items.now }
+{
+    &items[begin..end]
+}
+
+impl CodeList {
+    /// No codes.
+    pub fn new(alloc: Global) -> CodeList
+        ensures { result ≡ [] }
+    {
+        CodeList {
+            text: Vec::new(alloc),
+            calls: Vec::new(alloc),
+            sites: Vec::new(alloc),
+            begin: CodeEnd {
+                words: 0,
+                calls: 0,
+                sites: 0,
+                need: 0,
+            },
+            ends: Vec::new(alloc),
+        }
+    }
+
+    /// Leaves so many instruction words free before the first code, where there is none so far.
+    pub fn begin(&mut self, words: usize) -> Result<(), AllocError>
+        ensures { self.new ≡ self.old }
+    {
+        if self.ends.is_empty() {
+            self.text.resize(words, 0)?;
+            self.begin.words = words;
+        }
+        Ok(())
+    }
+
+    /// One code more, after the others.
+    pub fn push(&mut self, code: &Code) -> Result<(), AllocError>
+        ensures ok { OnOk result (self.new ≡ self.old ++ code.now ∷ []) }
+        ensures err { OnErr result (self.new ≡ self.old) }
+    {
+        let words = code.words.as_slice();
+        let calls = code.relocations.as_slice();
+        let sites = code.traps.as_slice();
+        self.ends.reserve(1)?;
+        self.calls.reserve(calls.len())?;
+        self.sites.reserve(sites.len())?;
+        self.text.extend_from_slice(words)?;
+        self.calls.extend_from_slice(calls)?;
+        self.sites.extend_from_slice(sites)?;
+        self.ends.push(CodeEnd {
+            words: self.text.len(),
+            calls: self.calls.len(),
+            sites: self.sites.len(),
+            need: code.need,
+        })?;
+        Ok(())
+    }
+
+    /// How many there are.
+    pub fn count(&self) -> usize
+        ensures { result ≡ length self.now }
+    {
+        self.ends.len()
+    }
+
+    /// The instruction words of the code of an index.
+    pub fn words(&self, index: usize) -> &[u32]
+        requires { index < length self.now }
+        ensures { result.now ≡ (code_at self.now index).words }
+    {
+        let begin = end_before(self.begin, &self.ends, index);
+        let end = self.ends[index];
+        part(&self.text, begin.words, end.words)
+    }
+
+    /// The traps of the code of an index.
+    pub fn traps(&self, index: usize) -> &[TrapSite]
+        requires { index < length self.now }
+        ensures { result.now ≡ (code_at self.now index).traps }
+    {
+        let begin = end_before(self.begin, &self.ends, index);
+        let end = self.ends[index];
+        part(&self.sites, begin.sites, end.sites)
+    }
+
+    /// Their parts, without the traps.
+    pub fn into_parts(self) -> CodeParts
+        ensures { IsParts self result }
+    {
+        CodeParts {
+            text: self.text,
+            calls: self.calls,
+            begin: self.begin,
+            ends: self.ends,
+        }
+    }
+}
