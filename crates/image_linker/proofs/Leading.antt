@@ -1,7 +1,7 @@
 -- Calls that are led to their functions.
-use Rattle.std.proofs.Common.{◌≡◌, ◌≤◌, ◌<◌, ℕ, zero, suc, ◌+◌, List, [], ◌∷◌, ◌++◌, take, drop, length, refl, sym, ap, ◌∙◌, arith, append_assoc, length-append}
+use Rattle.std.proofs.Common.{◌≡◌, ◌≤◌, ◌<◌, ℕ, zero, suc, ◌+◌, List, [], ◌∷◌, ◌++◌, take, length, refl, sym, ap, ◌∙◌, arith, append_assoc, length-append}
 use Rattle.std.specs.Prelude.{slice_set, slice_index_or}
-use Rattle.std.proofs.lemmas.List.{append-nil, length-set, take_at, take_all, drop_at, drop_all}
+use Rattle.std.proofs.lemmas.List.{append-nil, length-set}
 use Rattle.rv_isa.specs.declared.compiled.Relocation.{Relocation}
 use Rattle.rv_isa.specs.declared.compiled.Code.{Code}
 use Rattle.rv_isa.specs.declared.operations.Op.TheVariants.{Auipc, Jalr}
@@ -9,7 +9,7 @@ use Rattle.rv_isa.specs.Runs.{hi, lo}
 use Rattle.rv_isa.specs.Words.{word_of}
 use Rattle.frame_layout.specs.Macros.{ra}
 use Rattle.frame_layout.specs.Functions.{with_distance, with_distances}
-use Rattle.image_linker.specs.ImageOf.{front_of, distances}
+use Rattle.image_linker.specs.ImageOf.{distances}
 use Rattle.image_linker.specs.Linking.{words_of, words_at, words_from}
 
 -- ---- one call
@@ -47,7 +47,7 @@ lead_taken d rs i old new words lt is before =
     let k : suc i ≡ i + 1 = omega arith in
     is ∙ ap (led d (call_at rs i)) before ∙ sym (lead_suc d rs i words lt) ∙ ap (λ (n : ℕ). with_distances d (take n rs) words) k
 
-length-lead : (d : ℕ → ℕ → ℕ) (rs : List Relocation) (words : List ℕ) → length (with_distances d rs words) ≡ length words
+pub length-lead : (d : ℕ → ℕ → ℕ) (rs : List Relocation) (words : List ℕ) → length (with_distances d rs words) ≡ length words
 length-lead d [] words = refl
 length-lead d (r ∷ rs) words = length-lead d rs (with_distance (d r.place r.function) r.place words) ∙ length-set _ _ _ ∙ length-set _ _ _
 
@@ -74,38 +74,3 @@ words_suc places here (x ∷ xs) (suc i) c lt e =
 pub words_from-taken : (places : List ℕ) (here : ℕ) (codes : List Code) (i : ℕ) (c : Code) → i < length codes → c ≡ slice_index_or codes i c
     → words_from places here (take (i + 1) codes) ≡ words_from places here (take i codes) ++ words_at places (here + length (words_of (take i codes))) c
 words_from-taken places here codes i c lt e = let k : i + 1 ≡ suc i = omega arith in rw k (words_suc places here codes i c lt e)
-
--- ---- a text
-
--- the calls of the code that is last in it
-pub text_led : (places : List ℕ) (rs calls : List Relocation) (old own given all led : List ℕ) (here n : ℕ) → all ≡ old ++ own → given ≡ all → here ≡ length old → calls ≡ rs
-    → led ≡ take here given ++ with_distances (distances places here) calls (drop here given) → n ≡ length all
-    → take n (led ++ drop (length led) all) ≡ old ++ with_distances (distances places (length old)) rs own
-text_led places rs calls old own given all led here n all_is given_is here_is calls_are led_is n_is =
-    let whole : given ≡ old ++ own = given_is ∙ all_is in
-    let front : take here given ≡ old = ap (take here) whole ∙ take_at old own here (sym here_is) in
-    let back : drop here given ≡ own = ap (drop here) whole ∙ drop_at old own here (sym here_is) in
-    let is : led ≡ old ++ with_distances (distances places here) calls own =
-    led_is ∙ ap (λ (l : List ℕ). l ++ with_distances (distances places here) calls (drop here given)) front ∙ ap (λ (l : List ℕ). old ++ with_distances (distances places here) calls l) back in
-    let same : led ≡ old ++ with_distances (distances places (length old)) rs own =
-    is ∙ ap (λ (k : ℕ). old ++ with_distances (distances places k) calls own) here_is ∙ ap (λ (l : List Relocation). old ++ with_distances (distances places (length old)) l own) calls_are in
-    let long : length led ≡ length all =
-    ap length is ∙ omega (arith, length-append old (with_distances (distances places here) calls own), length-lead (distances places here) calls own, length-append old own, ap length all_is) in
-    ap (λ (l : List ℕ). take n (led ++ l)) (drop_all (length led) all (omega (arith, long)))
-    ∙ ap (take n) (append-nil led)
-    ∙ take_all n led (omega (arith, long, n_is))
-    ∙ same
-
--- one code more, after the words before the functions
-pub text_more : (front : List ℕ) (imported : ℕ) (places : List ℕ) (codes : List Code) (i : ℕ) (c : Code) (old new : List ℕ) → length front ≡ front_of imported → i < length codes → c ≡ slice_index_or codes i c
-    → old ≡ front ++ words_from places (front_of imported) (take i codes) → new ≡ old ++ with_distances (distances places (length old)) c.relocations c.words
-    → new ≡ front ++ words_from places (front_of imported) (take (i + 1) codes)
-text_more front imported places codes i c old new size lt e before is =
-    let words = words_from places (front_of imported) (take i codes) in
-    let here : length old ≡ front_of imported + length (words_of (take i codes)) =
-    ap length before ∙ omega (arith, size, length-append front words, length-words places (front_of imported) (take i codes)) in
-    is
-    ∙ ap (λ (n : ℕ). old ++ words_at places n c) here
-    ∙ ap (λ (l : List ℕ). l ++ words_at places (front_of imported + length (words_of (take i codes))) c) before
-    ∙ append_assoc front words (words_at places (front_of imported + length (words_of (take i codes))) c)
-    ∙ ap (λ (l : List ℕ). front ++ l) (sym (words_from-taken places (front_of imported) codes i c lt e))

@@ -2,6 +2,7 @@ pub mod Linked
 pub mod Loops
 pub mod Coded
 pub mod Leading
+pub mod LedTexts
 pub mod Fronts
 pub mod Fields
 pub mod Offsets

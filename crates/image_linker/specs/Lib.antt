@@ -5,5 +5,4 @@ pub mod Laws
 pub mod Codes
 pub mod Whole
 pub mod Linking
-pub mod Bodies
 pub mod Signatures

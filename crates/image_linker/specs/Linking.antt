@@ -3,6 +3,10 @@ use Rattle.std.specs.Prelude.{ℕ, ℤ, ◌+◌, ◌*◌, ◌^◌, ◌<◌, ◌&
 use Rattle.std.specs.List.{All}
 use Rattle.rv_isa.specs.Words.{word_of}
 use Rattle.rv_isa.specs.declared.compiled.Code.{Code}
+use Rattle.rv_isa.specs.declared.compiled.Relocation.{Relocation}
+use Rattle.rv_isa.specs.declared.compiled.TrapSite.{TrapSite}
+use Rattle.code_list.specs.declared.list.CodeEnd.{CodeEnd}
+use Rattle.code_list.specs.CodeLists.{codes_from}
 use Rattle.wasm_defs.specs.declared.context.GlobalType.{GlobalType}
 use Rattle.rv_isa.specs.Steps.{text_base}
 use Rattle.wasm_defs.specs.declared.types.FuncType.{FuncType}
@@ -62,6 +66,10 @@ words_at places here c = with_distances (distances places here) c.relocations c.
 abbrev pub words_from : (places : List ℕ) (here : ℕ) → List Code → List ℕ
 words_from places here [] = []
 words_from places here (c ∷ cs) = words_at places here c ++ words_from places (here + length c.words) cs
+
+-- a text of codes that have these ends, once their calls lead to the functions: what is before the first code stays
+abbrev pub led_text : (places : List ℕ) → List Relocation → List TrapSite → (text : List ℕ) → (here : ℕ) → CodeEnd → List CodeEnd → List ℕ
+led_text places calls sites text here first ends = take first.words text ++ words_from places here (codes_from text calls sites first ends)
 
 -- where the traps of imports' stubs come from, of which so many came before
 abbrev pub import_traps : (here number : ℕ) → List Import → List TrapPlace

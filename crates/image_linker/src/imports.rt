@@ -45,6 +45,13 @@ pub(crate) fn front_of(imported: usize) -> u32
     EXIT_WORDS + STUB_WORDS * imported as u32
 }
 
+/// How many instruction words a text has before the codes, where so many functions are imported: the exit stub, and a stub for each.
+pub fn words_before(imported: u32) -> usize
+    ensures { result ≡ front_of imported }
+{
+    EXIT_WORDS as usize + STUB_WORDS as usize * imported as usize
+}
+
 /// The indices of so many stubs, in instruction words.
 pub(crate) fn stub_places(alloc: Global, imported: usize) -> Result<Vec<u32>, AllocError>
     requires { front_of imported < 2 ^ 32 }

@@ -3,9 +3,9 @@
 //! and that images keep their bounds.
 #![tactic(auto)]
 
-mod codes;
 mod imports;
 pub mod laws;
+mod limit;
 mod linking;
 mod segments;
 mod signatures;
@@ -13,5 +13,6 @@ mod spaces;
 mod tables;
 mod trap_places;
 
-pub use codes::{BodyCode, passes_limit, text_limit};
+pub use imports::words_before;
+pub use limit::passes_limit;
 pub use linking::link;

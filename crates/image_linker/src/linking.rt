@@ -12,29 +12,31 @@
 //! ```
 //!
 //! Codes come without distances. A call of function 2 that is word 6 of function 1 gets that from index 26 to index 50, which
-//! is 96 bytes: its two words (AUIPC, JALR) are written again. Rows of the table and exports get the functions' offsets.
+//! is 96 bytes: its two words (AUIPC, JALR) are written again, in place. Rows of the table and exports get the functions' offsets.
 
 ghost use Rattle.std.specs.Prelude.{◌≡◌, ◌≤◌, ◌<◌, ◌+◌, ◌*◌, ◌++◌, ◌^◌, ℕ, List, length, map, take, drop, slice_index, slice_set, IfOk};
+ghost use Rattle.std.specs.List.{between};
+ghost use Rattle.rv_isa.specs.declared.compiled.TrapSite.{TrapSite};
+ghost use Rattle.code_list.specs.CodeLists.{AreEnds};
 ghost use Rattle.frame_layout.specs.Functions.{with_distance, with_distances};
 ghost use Rattle.wasm_defs.specs.Faults.{Module};
 ghost use Rattle.image_format.specs.Bounds.{AreImports};
 ghost use Rattle.image_format.specs.Contents.{IsImage};
 ghost use Rattle.index_spaces.specs.Entries.{function_exports};
-ghost use Rattle.image_linker.specs.Bodies.{codes_of};
 ghost use Rattle.image_linker.specs.ImageOf.{front_of, distances, image_of, version_for};
 ghost use Rattle.image_linker.specs.Same.{Same};
 ghost use Rattle.image_linker.specs.Whole.{IsWhole};
 ghost use Rattle.image_linker.specs.Signatures.{AreOf};
-ghost use Rattle.image_linker.specs.Linking.{NumbersFit, words_of, words_from, starts_behind, front_words, has_room, with_segments};
+ghost use Rattle.image_linker.specs.Linking.{NumbersFit, words_of, words_from, led_text, starts_behind, front_words, has_room, with_segments};
 ghost use Rattle.image_linker.specs.Linking.{linked, linked_export, linked_import, linked_start};
 
-use crate::codes::BodyCode;
 use crate::imports::{front, front_of, imports_of, stub_places};
 use crate::segments::{have_room, named_rows, passive_bytes, placed_segments};
 use crate::signatures::{no_copies, signature_of};
 use crate::spaces::{all_words, first_cap, first_minimum};
 use crate::tables::{have_rows, rows_of};
 use crate::trap_places::places_of;
+use code_list::{CodeEnd, CodeList, CodeParts};
 use frame_layout::macros::{call, distance};
 use image_format::{
     Export, Exports, Globals, Image, Imports, Segments, SharedType, Table, Text, TrapPlaces,
@@ -91,45 +93,103 @@ fn lead_all(words: &mut [u32], calls: &[Relocation], starts: &[u32], here: usize
     }
 }
 
-/// Lets the calls of the code whose instruction words are in a text from an index on, to its end, lead to their functions.
-fn lead_from(text: &mut [u32], calls: &[Relocation], starts: &[u32], here: usize)
-    requires within { here ≤ length text.old }
+/// Lets the calls of a code of a text lead to their functions: of the one between two ends, which the image's text has from an index on.
+fn lead_between(
+    text: &mut [u32],
+    calls: &[Relocation],
+    begin: CodeEnd,
+    end: CodeEnd,
+    starts: &[u32],
+    here: usize,
+)
+    requires words { begin.words ≤ end.words }
+    requires text { end.words ≤ length text.old }
+    requires rise { begin.calls ≤ end.calls }
+    requires calls { end.calls ≤ length calls.now }
     requires few { here < 2 ^ 62 }
-    ensures { text.new ≡ take here text.old ++ with_distances (distances starts.now here) calls.now (drop here text.old) }
+    ensures { text.new ≡ take begin.words text.old ++ (with_distances (distances starts.now here) (between begin.calls end.calls calls.now)
+        (between begin.words end.words text.old) ++ drop end.words text.old) }
 {
-    lead_all(&mut text[here..], calls, starts, here);
+    let own = &calls[begin.calls..end.calls];
+    lead_all(&mut text[begin.words..end.words], own, starts, here);
+}
+
+/// Lets the calls of all codes of a text lead to their functions, where the image's text has the first code from an index on.
+fn lead_codes(
+    text: &mut [u32],
+    calls: &[Relocation],
+    first: CodeEnd,
+    ends: &[CodeEnd],
+    starts: &[u32],
+    front: usize,
+)
+    requires ends { (sites : ℕ) × AreEnds (length text.old) (length calls.now) sites first ends.now }
+    requires few { front + length text.old < 2 ^ 62 }
+    ensures words { (sites : List TrapSite) → text.new ≡ led_text starts.now calls.now sites text.old front first ends.now }
+    ensures length { length text.new ≡ length text.old }
+{
+    let mut here = front;
+    let mut begin = first;
+    for end in ends {
+        lead_between(text, calls, begin, *end, starts, here);
+        here += end.words - begin.words;
+        begin = *end;
+    }
+}
+
+/// Writes words over the first ones of a text.
+fn put_front(text: &mut [u32], words: &[u32])
+    requires { length words.now ≤ length text.old }
+    ensures { text.new ≡ words.now ++ drop (length words.now) text.old }
+{
+    text[..words.len()].copy_from_slice(words);
+}
+
+/// A text in which stubs come before what is in another one from an index on. That one is it, where the stubs fit before the index.
+fn with_stubs(mut text: Vec<u32>, mut stubs: Vec<u32>, begin: usize) -> Result<Vec<u32>, AllocError>
+    requires { begin ≤ length text.items }
+    ensures { IfOk result (λ whole. whole.items ≡ stubs.items ++ drop begin text.items) }
+{
+    if stubs.len() == begin {
+        put_front(&mut text, &stubs);
+        return Ok(text);
+    }
+    stubs.extend_from_slice(&text[begin..])?;
+    Ok(stubs)
 }
 
 /// The instruction words of a text with the stubs and these codes, in order, where functions begin at these indices.
 fn text_of(
     alloc: Global,
     context: &Context,
-    codes: &[BodyCode],
+    codes: CodeList,
     starts: &[u32],
 ) -> Result<Vec<u32>, AllocError>
     requires { AreImports (map (linked_import context.now.types) context.now.imports) }
-    ensures { IfOk result (λ text. text.items ≡ front_words context.now ++ words_from starts.now (front_of (length context.now.imports)) (codes_of codes.now)) }
+    ensures { IfOk result (λ text. text.items ≡ front_words context.now ++ words_from starts.now (front_of (length context.now.imports)) codes) }
 {
-    let mut text = front(alloc, context)?;
-    for body in codes {
-        let code = body.code();
-        let here = text.len();
-        text.extend_from_slice(code.words.as_slice())?;
-        lead_from(&mut text, code.relocations.as_slice(), starts, here);
-    }
-    Ok(text)
+    // Why: docs/DECISIONS.md, "The image's instruction words are those of the codes"
+    let stubs = front(alloc, context)?;
+    let CodeParts {
+        mut text,
+        calls,
+        begin,
+        ends,
+    } = codes.into_parts();
+    lead_codes(&mut text, &calls, begin, &ends, starts, stubs.len());
+    with_stubs(text, stubs, begin.words)
 }
 
 /// Where all functions begin in their text, in instruction words: so many that are imported, and those of the codes.
-fn starts_of(alloc: Global, imported: usize, codes: &[BodyCode]) -> Result<Vec<u32>, AllocError>
-    requires { front_of imported + length (words_of (codes_of codes.now)) < 2 ^ 32 }
-    ensures { IfOk result (λ starts. starts.items ≡ starts_behind imported (codes_of codes.now)) }
+fn starts_of(alloc: Global, imported: usize, codes: &CodeList) -> Result<Vec<u32>, AllocError>
+    requires { front_of imported + length (words_of codes.now) < 2 ^ 32 }
+    ensures { IfOk result (λ starts. starts.items ≡ starts_behind imported codes.now) }
 {
     let mut starts = stub_places(alloc, imported)?;
     let mut here = front_of(imported);
-    for body in codes {
+    for index in 0..codes.count() {
         starts.push(here)?;
-        here += body.code().words.as_slice().len() as u32;
+        here += codes.words(index).len() as u32;
     }
     Ok(starts)
 }
@@ -193,15 +253,14 @@ fn version_for(count: u32) -> Version
 fn assemble(
     alloc: Global,
     context: &Context,
-    codes: &[BodyCode],
+    codes: CodeList,
     segments: &[DataRow],
 ) -> Result<Image, AllocError>
-    requires bounded { IsImage (linked (with_segments context.now segments.now) (codes_of codes.now)) }
+    requires bounded { IsImage (linked (with_segments context.now segments.now) codes) }
     requires numbers { NumbersFit context.now.globals context.now.initials }
-    ensures { IfOk result (λ i. i ≡ linked (with_segments context.now segments.now) (codes_of codes.now)) }
+    ensures { IfOk result (λ i. i ≡ linked (with_segments context.now segments.now) codes) }
 {
-    let starts = starts_of(alloc, context.imports().len(), codes)?;
-    let text = text_of(alloc, context, codes, &starts)?;
+    let starts = starts_of(alloc, context.imports().len(), &codes)?;
     let mut copies = no_copies(alloc, context.types())?;
     let exports = exports_of(alloc, context, &starts, &mut copies)?;
     let imports = imports_of(alloc, context, &mut copies)?;
@@ -211,7 +270,8 @@ fn assemble(
     let linkable = is_linkable(context, segments);
     let table = rows_of(alloc, context, &starts, linkable)?;
     let placed = placed_segments(alloc, linkable, segments)?;
-    let traps = places_of(alloc, context, codes)?;
+    let traps = places_of(alloc, context, &codes)?;
+    let text = text_of(alloc, context, codes, &starts)?;
     Ok(Image {
         version: version_for(context.segment_count()),
         text: Text::new(text),
@@ -240,16 +300,16 @@ fn assemble(
 /// The words of the globals are followed by two for each data segment that instructions may name, whose bytes the image has
 /// too: where there are such segments, it has version 3, and else version 2.
 ///
-/// The context and the data segments are those of a module whose text has at most 268,435,456 bytes (`text_limit` of its codes is
-/// `None`), and each declared function has its code (`IsWhole`). Out of memory is the one error.
+/// The context and the data segments are those of a module whose text has at most 268,435,456 bytes (`passes_limit`), and each declared
+/// function has its code (`IsWhole`). Out of memory is the one error.
 pub fn link(
     alloc: Global,
     context: &Context,
-    codes: &[BodyCode],
+    codes: CodeList,
     segments: &[DataRow],
 ) -> Result<Image, AllocError>
-    requires whole { (bytes : List ℕ) × (m : Module) × IsWhole bytes m (with_segments context.now segments.now) (codes_of codes.now) }
-    ensures image { (bytes : List ℕ) (m : Module) → IsWhole bytes m (with_segments context.now segments.now) (codes_of codes.now)
+    requires whole { (bytes : List ℕ) × (m : Module) × IsWhole bytes m (with_segments context.now segments.now) codes }
+    ensures image { (bytes : List ℕ) (m : Module) → IsWhole bytes m (with_segments context.now segments.now) codes
         → IfOk result (λ i. (i ≡ image_of m) × Same m i) }
 {
     assemble(alloc, context, codes, segments)

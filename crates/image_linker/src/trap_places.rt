@@ -3,12 +3,11 @@
 ghost use Rattle.std.specs.Prelude.{◌≡◌, ◌<◌, ◌+◌, ◌*◌, ◌^◌, ◌++◌, length, map, IfOk, OnOk};
 ghost use Rattle.std.specs.List.{All};
 ghost use Rattle.frame_layout.specs.Templates.{exit_stub};
-ghost use Rattle.image_linker.specs.Bodies.{codes_of};
 ghost use Rattle.image_linker.specs.ImageOf.{front_of, place_at};
 ghost use Rattle.image_linker.specs.Linking.{words_of, import_traps, linked_traps, IsShort};
 
-use crate::codes::BodyCode;
 use crate::imports::front_of;
+use code_list::CodeList;
 use image_format::TrapPlace;
 use index_spaces::{Context, Import};
 use rv_isa::TrapSite;
@@ -68,21 +67,20 @@ fn put_stubs(places: &mut Vec<TrapPlace>, imports: &[Import]) -> Result<(), Allo
 pub(crate) fn places_of(
     alloc: Global,
     context: &Context,
-    codes: &[BodyCode],
+    codes: &CodeList,
 ) -> Result<Vec<TrapPlace>, AllocError>
-    requires words { front_of (length context.now.imports) + length (words_of (codes_of codes.now)) < 2 ^ 32 }
-    requires places { All IsShort (linked_traps context.now (codes_of codes.now)) }
-    ensures { IfOk result (λ places. places.items ≡ linked_traps context.now (codes_of codes.now)) }
+    requires words { front_of (length context.now.imports) + length (words_of codes.now) < 2 ^ 32 }
+    requires places { All IsShort (linked_traps context.now codes.now) }
+    ensures { IfOk result (λ places. places.items ≡ linked_traps context.now codes.now) }
 {
     let imports = context.imports();
     let mut places = Vec::new(alloc);
     put_stubs(&mut places, imports)?;
     let mut here = front_of(imports.len());
     let mut function = imports.len() as u32;
-    for body in codes {
-        let code = body.code();
-        put_sites(&mut places, here, function, code.traps.as_slice())?;
-        here += code.words.as_slice().len() as u32;
+    for index in 0..codes.count() {
+        put_sites(&mut places, here, function, codes.traps(index))?;
+        here += codes.words(index).len() as u32;
         function = function.saturating_add(1);
     }
     Ok(places)

@@ -218,9 +218,9 @@ impl Part {
     }
 
     /// What a module that is done comes to.
-    fn answer(&self) -> Result<Member, AllocError>
-        requires { (came : List ℕ) × IsDone came self.now.compilation }
-        ensures { IfOk result (λ m. (keeps : Bool) (came : List ℕ) → IsDone came self.now.compilation → KeepsCodes keeps self.now.compilation
+    fn answer(&mut self) -> Result<Member, AllocError>
+        requires { (came : List ℕ) × IsDone came self.old.compilation }
+        ensures { IfOk result (λ m. (keeps : Bool) (came : List ℕ) → IsDone came self.old.compilation → KeepsCodes keeps self.old.compilation
             → IsJudged keeps came m) }
     {
         if self.compilation.keeps_codes() {

@@ -1,7 +1,6 @@
 //! Compiles bodies: each is validated, and its instruction words are counted.
 
 ghost use Rattle.std.specs.Prelude.{◌≡◌, ◌≤◌, ◌<◌, ◌+◌, ◌*◌, ◌^◌, OnOk, Ok, None, ℕ, Bool, List, [], length};
-ghost use Rattle.std.specs.Arc.{arc_value};
 ghost use Rattle.rv_isa.specs.declared.compiled.Code.{Code as GivenCode};
 ghost use Rattle.wasm_defs.specs.Outside.{Run as RunGiven};
 ghost use Rattle.section_reader.specs.Onward.{after_parts};
@@ -18,7 +17,6 @@ use image_linker::passes_limit;
 use index_spaces::ContextBuilder;
 use rv_isa::Code;
 use std::alloc::Global;
-use std::sync::Arc;
 use wasm_defs::{FrontStop, Kind, MAX_TEXT, Refusal};
 
 /// The error of a body with whose instruction words the text passes its limit.
@@ -91,14 +89,13 @@ fn keep_limit(
 
 /// Takes the next body, whose code this is.
 pub fn add_code(
-    alloc: Global,
     spaces: &ContextBuilder,
     codes: &mut Codes,
     body: &Body,
-    code: Code,
+    code: &Code,
 ) -> Result<(), FrontStop>
     requires can { CanTakeNext spaces.now codes.old body.now }
-    requires code { TakesBody spaces.now codes.old.count body.now (Ok code) }
+    requires code { TakesBody spaces.now codes.old.count body.now (Ok code.now) }
     ensures takes { TakesCode spaces.now codes.old body.now result codes.new }
     ensures kept { KeepsAlike codes.old codes.new }
 {
@@ -106,29 +103,7 @@ pub fn add_code(
         Ok(()) => {}
         Err(stop) => return Err(stop),
     }
-    match codes.add(alloc, body.size, code) {
-        Ok(()) => Ok(()),
-        Err(_) => Err(FrontStop::NoMemory),
-    }
-}
-
-/// Takes the next body, whose code this is, which a worker made.
-pub fn share_code(
-    spaces: &ContextBuilder,
-    codes: &mut Codes,
-    body: &Body,
-    code: Arc<Code, Global>,
-) -> Result<(), FrontStop>
-    requires can { CanTakeNext spaces.now codes.old body.now }
-    requires code { TakesBody spaces.now codes.old.count body.now (Ok (arc_value code)) }
-    ensures takes { TakesCode spaces.now codes.old body.now result codes.new }
-    ensures kept { KeepsAlike codes.old codes.new }
-{
-    match keep_limit(spaces, codes, body, code.words.as_slice().len() as u64) {
-        Ok(()) => {}
-        Err(stop) => return Err(stop),
-    }
-    match codes.share(body.size, code) {
+    match codes.add(spaces.context().imported(), code) {
         Ok(()) => Ok(()),
         Err(_) => Err(FrontStop::NoMemory),
     }
@@ -146,7 +121,7 @@ fn keep_code(
     ensures kept { KeepsAlike codes.old codes.new }
 {
     match take_body(alloc, spaces, codes.count(), body) {
-        Ok(code) => add_code(alloc, spaces, codes, body, code),
+        Ok(code) => add_code(spaces, codes, body, &code),
         Err(stop) => Err(stop_at(body, stop)),
     }
 }

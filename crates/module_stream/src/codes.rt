@@ -1,35 +1,30 @@
 //! The codes of bodies, which are kept to be linked or are only counted.
 
 ghost use Rattle.std.specs.Prelude.{◌≡◌, ◌<◌, ◌-◌, ◌+◌, ◌^◌, [], length, Some, None, IsSome, is_some, OnOk, OnErr};
-ghost use Rattle.std.specs.Arc.{arc_value};
-ghost use Rattle.image_linker.specs.Bodies.{codes_of};
 ghost use Rattle.module_stream.specs.Codes.{no_code, with_code};
 
-use body_compiler::fitted;
-use image_linker::BodyCode;
+use code_list::CodeList;
+use image_linker::words_before;
 use rv_isa::Code;
 use std::alloc::{AllocError, Global};
 use std::marker::Model;
-use std::sync::Arc;
 
 /// The codes of the bodies that were compiled, in order: how many, and how many instruction words they have; they are kept where
 /// they will be linked.
 #[derive(Drop)]
 pub struct Codes {
     // Why: docs/DECISIONS.md, "Codes are kept or counted by one type"
-    kept: Option<Vec<BodyCode>>,
+    kept: Option<CodeList>,
     count: u32,
     words: u64,
 }
 
 impl Model for Codes {
-    ghost use Rattle.std.specs.Prelude.{option_map};
-    ghost use Rattle.image_linker.specs.Bodies.{codes_of};
     ghost use Rattle.module_stream.specs.Codes.{Coding};
 
     ghost Value = { Coding };
 
-    ghost view = { λ c. record { count = c.count; words = c.words; kept = option_map (λ codes. codes_of codes.items) c.kept } };
+    ghost view = { λ c. record { count = c.count; words = c.words; kept = c.kept } };
 }
 
 impl Codes {
@@ -38,7 +33,7 @@ impl Codes {
         ensures { result ≡ no_code (Some []) }
     {
         Codes {
-            kept: Some(Vec::new(alloc)),
+            kept: Some(CodeList::new(alloc)),
             count: 0,
             words: 0,
         }
@@ -55,36 +50,19 @@ impl Codes {
         }
     }
 
-    /// One code more, of the body whose size has this offset. It is let go where codes aren't kept.
-    pub fn add(&mut self, alloc: Global, size_offset: u64, code: Code) -> Result<(), AllocError>
+    /// One code more, of a module with so many imported functions. It is only counted where codes aren't kept.
+    pub fn add(&mut self, imported: u32, code: &Code) -> Result<(), AllocError>
         requires count { self.old.count < 2 ^ 32 - 1 }
-        requires words { self.old.words + length code.words < 2 ^ 64 }
-        ensures ok { OnOk result (self.new ≡ with_code self.old code) }
+        requires words { self.old.words + length code.now.words < 2 ^ 64 }
+        ensures ok { OnOk result (self.new ≡ with_code self.old code.now) }
         ensures err { OnErr result (self.new ≡ self.old) }
     {
-        let words = code.words.as_slice().len() as u64;
         if let Some(codes) = &mut self.kept {
-            let code = Arc::new(alloc, fitted(code))?;
-            codes.push(BodyCode { size_offset, code })?;
+            codes.begin(words_before(imported))?;
+            codes.push(code)?;
         }
         self.count += 1;
-        self.words += words;
-        Ok(())
-    }
-
-    /// One code more, which others have too, of the body whose size has this offset. It is let go where codes aren't kept.
-    pub fn share(&mut self, size_offset: u64, code: Arc<Code, Global>) -> Result<(), AllocError>
-        requires count { self.old.count < 2 ^ 32 - 1 }
-        requires words { self.old.words + length (arc_value code).words < 2 ^ 64 }
-        ensures ok { OnOk result (self.new ≡ with_code self.old (arc_value code)) }
-        ensures err { OnErr result (self.new ≡ self.old) }
-    {
-        let words = code.words.as_slice().len() as u64;
-        if let Some(codes) = &mut self.kept {
-            codes.push(BodyCode { size_offset, code })?;
-        }
-        self.count += 1;
-        self.words += words;
+        self.words += code.words.as_slice().len() as u64;
         Ok(())
     }
 
@@ -120,13 +98,14 @@ impl Codes {
         self.words
     }
 
-    /// The codes, which are kept.
-    pub fn as_slice(&self) -> &[BodyCode]
-        requires { IsSome self.now.kept }
-        ensures { Some (codes_of result.now) ≡ self.now.kept }
+    /// Takes the codes, which are kept.
+    pub fn take(&mut self) -> CodeList
+        requires { IsSome self.old.kept }
+        ensures codes { Some result ≡ self.old.kept }
+        ensures rest { self.new ≡ record self.old { kept = None } }
     {
-        match &self.kept {
-            Some(codes) => codes.as_slice(),
+        match self.kept.take() {
+            Some(codes) => codes,
             None => unreachable!(),
         }
     }

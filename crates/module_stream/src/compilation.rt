@@ -418,19 +418,15 @@ impl Compilation {
         }
     }
 
-    /// Links the codes, which were kept, of a module that is done.
-    pub fn build(&self) -> Result<Built, AllocError>
-        requires done { (bytes : List ℕ) × IsDone bytes self.now }
-        requires kept { IsSome self.now.codes.kept }
-        ensures { IfOk result (λ built. (bytes : List ℕ) → IsDone bytes self.now → IsBuilt bytes built) }
+    /// Links the codes, which were kept, of a module that is done. They aren't kept any longer.
+    pub fn build(&mut self) -> Result<Built, AllocError>
+        requires done { (bytes : List ℕ) × IsDone bytes self.old }
+        requires kept { IsSome self.old.codes.kept }
+        ensures { IfOk result (λ built. (bytes : List ℕ) → IsDone bytes self.old → IsBuilt bytes built) }
     {
+        let codes = self.codes.take();
         let context = self.spaces.context();
-        let image = link(
-            self.alloc,
-            context,
-            self.codes.as_slice(),
-            context.segments(),
-        )?;
+        let image = link(self.alloc, context, codes, context.segments())?;
         let Checked { functions, bytes } = self.checked();
         Ok(Built {
             image,

@@ -12,7 +12,7 @@ ghost use Rattle.module_stream.specs.Kept.{kept_bodies, AreFront};
 ghost use Rattle.module_stream.specs.Progress.{IsJudging, CanTakeNext, CanTakeAll, TakesBody, TakesCode, TakesPart};
 ghost use Rattle.module_stream.specs.Limits.{max_read};
 
-use crate::bodies::{limit_at, share_code, take_code, take_counted};
+use crate::bodies::{add_code, limit_at, take_code, take_counted};
 use crate::codes::Codes;
 use body_compiler::{Row, RowCode, Stored};
 use body_cutter::{Batch, Body};
@@ -69,12 +69,9 @@ fn take_stored(
     match stored {
         Stored::Judged(words) => take_counted(alloc, spaces, codes, body, words),
         Stored::NoRoom(words, _) => take_counted(alloc, spaces, codes, body, words),
-        Stored::Apart(_, _, code) => share_code(spaces, codes, body, code),
+        Stored::Apart(_, _, code) => add_code(spaces, codes, body, &code),
         Stored::Cell(mut note, _) => match cells.get(index, &mut note) {
-            Some(code) => match Arc::try_clone(code) {
-                Ok(code) => share_code(spaces, codes, body, code),
-                Err(_) => Err(FrontStop::NoMemory),
-            },
+            Some(code) => add_code(spaces, codes, body, code),
             None => unreachable!(),
         },
         Stored::TooLong => Err(FrontStop::Refused(limit_at(body))),

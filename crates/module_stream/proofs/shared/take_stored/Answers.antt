@@ -1,4 +1,4 @@
-use Rattle.std.proofs.Common.{Ok, sym, subst, ◌∙◌}
+use Rattle.std.proofs.Common.{◌≡◌, Ok, sym, subst, ◌∙◌, rules}
 use Rattle.std.specs.Arc.{arc_value}
 use Rattle.rv_isa.specs.declared.compiled.Code.{Code}
 use Rattle.body_compiler.specs.declared.batch.row.Stored.{Stored}
@@ -20,11 +20,12 @@ take_counted-requires-in-NoRoom-clause-code c =
     let here = subst (λ (s : Stored). Stores c.args.cells.now c.args.index s r.0) c.in-NoRoom.is r.1 in
     (r.0, here.1, r.2)
 
-pub share_code-requires-clause-code : goal.share_code-requires-clause-code
-share_code-requires-clause-code c =
+pub add_code-requires-clause-code : goal.add_code-requires-clause-code
+add_code-requires-clause-code c =
     let r = c.requires.code in
     let same = subst (λ (s : Stored). Stores c.args.cells.now c.args.index s r.0) c.in-Apart.is r.1 in
-    subst (λ (k : Code). TakesBody c.args.spaces.now c.args.codes.now.count c.args.body.now (Ok k)) (sym same.3) r.2
+    let is : c.deref.result.now ≡ arc_value c.in-Apart.code = search rules in
+    subst (λ (k : Code). TakesBody c.args.spaces.now c.args.codes.now.count c.args.body.now (Ok k)) (sym (is ∙ same.3)) r.2
 
 pub get-requires-clause-index : goal.get-requires-clause-index
 get-requires-clause-index c =
@@ -36,12 +37,13 @@ get-requires-clause-cell c =
     let r = c.requires.code in
     (subst (λ (s : Stored). Stores c.args.cells.now c.args.index s r.0) c.in-Cell.is r.1).1
 
-pub share_code-requires-in-Ok-clause-code : goal.share_code-requires-in-Ok-clause-code
-share_code-requires-in-Ok-clause-code c =
+pub add_code-requires-in-Some-clause-code : goal.add_code-requires-in-Some-clause-code
+add_code-requires-in-Some-clause-code c =
     let r = c.requires.code in
     let here = subst (λ (s : Stored). Stores c.args.cells.now c.args.index s r.0) c.in-Cell.is r.1 in
     let found = known_code c.in-Cell.note.known (arc_value c.in-Some.code.now) r.0 here.2 c.in-Some.ensures.value.1 in
-    subst (λ (k : Code). TakesBody c.args.spaces.now c.args.codes.now.count c.args.body.now (Ok k)) (sym (c.in-Ok.ensures ∙ found)) r.2
+    let is : c.deref-in-Some.result.now ≡ arc_value c.in-Some.code.now = search rules in
+    subst (λ (k : Code). TakesBody c.args.spaces.now c.args.codes.now.count c.args.body.now (Ok k)) (sym (is ∙ found)) r.2
 
 pub unreachable-requires : goal.unreachable-requires
 unreachable-requires c =

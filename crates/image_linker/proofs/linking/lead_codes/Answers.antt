@@ -1,0 +1,76 @@
+use Rattle.std.proofs.Common.{◌∙◌, ◌<◌, ◌+◌, ℕ, length, drop, sym, subst, arith}
+use Rattle.code_list.specs.CodeLists.{AreEnds}
+use Rattle.code_list.proofs.Ends.{within}
+use Rattle.image_linker.proofs.LedTexts.{end_at, opened, led_length, led_more, led_next, led_all}
+use Rattle.image_linker.proofs.linking.lead_codes.Goals as goal
+
+pub lead_between-requires-clause-words : goal.lead_between-requires-clause-words
+lead_between-requires-clause-words c =
+    let l = c.loop-end in
+    let o = opened (length l.text) (length c.args.calls.now) l.invariant.ends.0 l.begin c.args.ends.now l.end-index (omega (arith, c.loop-end-test.true)) l.invariant.ends.1 in
+    o.rises.words
+
+pub lead_between-requires-clause-text : goal.lead_between-requires-clause-text
+lead_between-requires-clause-text c =
+    let l = c.loop-end in
+    let o = opened (length l.text) (length c.args.calls.now) l.invariant.ends.0 l.begin c.args.ends.now l.end-index (omega (arith, c.loop-end-test.true)) l.invariant.ends.1 in
+    o.within.words
+
+pub lead_between-requires-clause-rise : goal.lead_between-requires-clause-rise
+lead_between-requires-clause-rise c =
+    let l = c.loop-end in
+    let o = opened (length l.text) (length c.args.calls.now) l.invariant.ends.0 l.begin c.args.ends.now l.end-index (omega (arith, c.loop-end-test.true)) l.invariant.ends.1 in
+    o.rises.calls
+
+pub lead_between-requires-clause-calls : goal.lead_between-requires-clause-calls
+lead_between-requires-clause-calls c =
+    let l = c.loop-end in
+    let o = opened (length l.text) (length c.args.calls.now) l.invariant.ends.0 l.begin c.args.ends.now l.end-index (omega (arith, c.loop-end-test.true)) l.invariant.ends.1 in
+    o.within.calls
+
+pub lead_between-requires-clause-few : goal.lead_between-requires-clause-few
+lead_between-requires-clause-few c =
+    let l = c.loop-end in
+    let w = within (length l.text) (length c.args.calls.now) l.invariant.ends.0 l.begin (drop l.end-index c.args.ends.now) l.invariant.ends.1 in
+    omega (arith, w.words, l.invariant.here, l.invariant.length, c.requires.few)
+
+pub overflow_sub-here : goal.overflow_sub-here
+overflow_sub-here c =
+    let l = c.loop-end in
+    let o = opened (length l.text) (length c.args.calls.now) l.invariant.ends.0 l.begin c.args.ends.now l.end-index (omega (arith, c.loop-end-test.true)) l.invariant.ends.1 in
+    omega (arith, o.rises.words)
+
+pub overflow_add-here : goal.overflow_add-here
+overflow_add-here c =
+    let l = c.loop-end in
+    let o = opened (length l.text) (length c.args.calls.now) l.invariant.ends.0 l.begin c.args.ends.now l.end-index (omega (arith, c.loop-end-test.true)) l.invariant.ends.1 in
+    omega (arith, o.rises.words, o.within.words, l.invariant.here, l.invariant.length, c.requires.few)
+
+pub loop-end-preserved : goal.loop-end-preserved
+loop-end-preserved c =
+    let l = c.loop-end in
+    let sites = l.invariant.ends.0 in
+    let starts = c.args.starts.now in
+    let calls = c.args.calls.now in
+    let ends = c.args.ends.now in
+    let i = l.end-index in
+    let end = end_at ends i in
+    let next = c.lead_between.new.text in
+    let lt : i < length ends = omega (arith, c.loop-end-test.true) in
+    let o = opened (length l.text) (length calls) sites l.begin ends i lt l.invariant.ends.1 in
+    let same = led_length starts calls l.text next l.here l.begin end o.rises.words o.within.words c.lead_between.ensures in
+    record {
+      words = λ traps.
+          led_more starts calls l.text next l.here l.begin end o.rises.words o.within.words c.lead_between.ensures traps (length l.text) (length calls) sites (drop (i + 1) ends) o.ends
+          ∙ led_next starts calls traps l.text l.here l.begin ends i lt
+          ∙ l.invariant.words traps;
+      ends = (sites, subst (λ (n : ℕ). AreEnds n (length calls) sites end (drop (i + 1) ends)) (sym same) o.ends);
+      here = omega (arith, l.invariant.here, o.rises.words);
+      length = same ∙ l.invariant.length;
+    }
+
+pub returns-clause-words : goal.returns-clause-words
+returns-clause-words c = λ sites.
+    let l = c.loop-end in
+    let h = l.invariant.ends in
+    led_all c.args.starts.now c.args.calls.now sites l.text l.here (length c.args.calls.now) h.0 l.begin c.args.ends.now l.end-index (omega (arith, c.loop-end-test.false)) h.1 ∙ l.invariant.words sites
