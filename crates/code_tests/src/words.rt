@@ -1,4 +1,5 @@
 //! Words of the GNU assembler and linker for RISC-V (binutils 2.40, `-march=rv64im`), and words that none of RV64IM has.
+use code_list::CodeList;
 use rv_isa::{
     BranchOp, Code, Imm12, Imm20, ImmOp, LoadOp, Op, RegOp, RegOpW, Register, Relocation,
     Relocations, Shamt5, Shamt6, ShiftOp, ShiftOpW, StoreOp, TrapSite, TrapSites, WordBuffer,
@@ -387,6 +388,30 @@ fn coded(alloc: Global) -> Result<Code, AllocError> {
         traps: TrapSites::from_vec(Vec::from_slice(alloc, &[trap])?),
         need: 2,
     })
+}
+
+/// This code twice, behind three words.
+fn listed(alloc: Global) -> Result<CodeList, AllocError> {
+    let code = coded(alloc)?;
+    let mut codes = CodeList::new(alloc);
+    codes.begin(3)?;
+    codes.push(&code)?;
+    codes.push(&code)?;
+    Ok(codes)
+}
+
+#[test]
+fn lists_codes(rt: HostRuntime) -> Result<(), Fail> {
+    let codes = listed(rt.alloc())?;
+    assert_eq!(rt; codes.count(), 2);
+    if 1 < codes.count() {
+        assert_eq!(rt; codes.words(1), &[7, 5, 9]);
+        assert_eq!(rt; codes.traps(1).len(), 1);
+    }
+    let parts = codes.into_parts();
+    assert_eq!(rt; (parts.text.len(), parts.calls.len()), (9, 2));
+    assert_eq!(rt; (parts.begin.words, parts.ends.len()), (3, 2));
+    Ok(())
 }
 
 #[test]
