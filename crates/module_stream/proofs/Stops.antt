@@ -1,5 +1,5 @@
 -- Pieces of which some bytes were taken.
-use Rattle.std.proofs.Common.{◌≡◌, ◌-◌, ℕ, Bool, true, false, List, [], length, take, drop, Option, Some, None, Err, refl, sym, arith, true≢false}
+use Rattle.std.proofs.Common.{◌≡◌, ◌-◌, ℕ, Bool, true, false, List, length, take, drop, Option, Some, None, Err, refl, sym, arith, true≢false}
 use Rattle.std.specs.Prelude.{◌&&◌, is_some}
 use Rattle.std.proofs.lemmas.List.{length-drop, take_all}
 use Rattle.wasm_defs.specs.declared.front_stop.FrontStop.{FrontStop}
