@@ -1,5 +1,5 @@
 -- How operations on two operands are computed.
-use Rattle.std.specs.Prelude.{List, [], ◌∷◌, ◌++◌, Option, None, Some}
+use Rattle.std.specs.Prelude.{List, [], ◌∷◌, ◌++◌}
 use Rattle.rv_isa.specs.declared.operations.Op.{Op}
 use Rattle.rv_isa.specs.declared.operations.Op.TheVariants.{Reg}
 use Rattle.rv_isa.specs.declared.operations.RegOpW.TheVariants.{Divw}

@@ -1,7 +1,6 @@
 -- What a push reader has left after it took functions many at once.
 use Rattle.std.proofs.Common.{◌≡◌, ℕ, ◌+◌, ◌-◌, ◌≤◌, List, [], ◌++◌, length, take, drop, map, refl, sym, ap, ◌∙◌, arith, length-take}
 use Rattle.wasm_defs.specs.Fields.{Cursor, past}
-use Rattle.wasm_defs.specs.Entries.{Seen}
 use Rattle.wasm_defs.specs.Outside.{row, entries, sections}
 use Rattle.wasm_laws.specs.Steadiness.{with_more}
 use Rattle.section_reader.specs.declared.front.Front.{Front}
@@ -9,11 +8,10 @@ use Rattle.section_reader.specs.declared.functions.Functions.{Functions}
 use Rattle.section_reader.specs.declared.stage.Stage.{Stage}
 use Rattle.section_reader.specs.declared.stage.Stage.TheVariants.{Entries}
 use Rattle.section_reader.specs.declared.steps.Steps.{Steps}
-use Rattle.section_reader.specs.Counts.{IsWithin}
 use Rattle.section_reader.specs.FrontLeft.{left}
 use Rattle.section_reader.specs.FrontOnward.{remaining_parts}
 use Rattle.section_reader.specs.Functions.{AreRead, declares, function_part, IsAtFunctions, TakesFunctions}
-use Rattle.section_reader.specs.Onward.{onward, after_parts, IsOrdered}
+use Rattle.section_reader.specs.Onward.{onward, after_parts}
 use Rattle.section_reader.specs.Outline.{outline_sections}
 use Rattle.section_reader.specs.Stages.{proceed, is_at_bodies}
 use Rattle.section_reader.proofs.Declaring.{read_of, functions_are}
@@ -32,12 +30,6 @@ none_taken f bytes types = record {
   waiting = refl;
   apart = λ h. h;
 }
-
-pub ordered_declared : (owed left : ℕ) (seen : Seen) (count : ℕ) → IsOrdered (Entries 3 owed) seen → IsOrdered (Entries 3 left) (declares seen count)
-ordered_declared owed left seen count o = record { late = o.late; code = λ e. absurd cc }
-
-pub within_declared : (seen : Seen) (at count bytes : ℕ) → IsWithin seen at → count ≤ bytes → IsWithin (declares seen count) (at + bytes)
-within_declared seen at count bytes w few = search arith
 
 module _ (old : Front) (bytes there : List ℕ) (owed : ℕ) (read : Functions) (at : IsAtFunctions old owed) (few : read.count ≤ owed) (is : take (old.end - old.at) bytes ≡ there) where
   abbrev begun : Cursor

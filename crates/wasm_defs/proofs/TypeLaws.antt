@@ -1,5 +1,5 @@
 -- Lists of types are compared type by type.
-use Rattle.std.proofs.Common.{◌≡◌, true, List, [], ◌∷◌, refl, ap}
+use Rattle.std.proofs.Common.{◌≡◌, true, [], ◌∷◌, refl, ap}
 use Rattle.wasm_defs.specs.declared.types.ValType.TheVariants.{I32, I64}
 use Rattle.wasm_defs.specs.Typing.{Types, same_types}
 

@@ -1,4 +1,4 @@
-use Rattle.std.proofs.Common.{◌+◌, Bool, true, List, ℕ, length, take, refl, sym, ap, subst, arith, length-drop}
+use Rattle.std.proofs.Common.{◌+◌, Bool, true, List, length, take, refl, sym, ap, subst, arith, length-drop}
 use Rattle.std.specs.List.{flat_map}
 use Rattle.std.proofs.lemmas.List.{take_all, take_rest}
 use Rattle.io_edges.proofs.Known.{append_nothing}
