@@ -3,4 +3,4 @@
 
 mod list;
 
-pub use list::{CodeEnd, CodeList, CodeParts};
+pub use list::{CodeEnd, CodeList, CodeParts, CodeView};

@@ -48,6 +48,13 @@ impl Model for CodeList {
     ghost invariant = { λ l. AreEnds (length l.text.items) (length l.calls.items) (length l.sites.items) l.begin l.ends.items };
 }
 
+/// The instruction words of a code, and its traps.
+#[derive(Clone, Copy)]
+pub struct CodeView<'a> {
+    pub words: &'a [u32],
+    pub traps: &'a [TrapSite],
+}
+
 /// Codes as their parts: the instruction words and the calls of all of them, and where each ends.
 #[derive(Drop)]
 pub struct CodeParts {
@@ -138,24 +145,17 @@ impl CodeList {
         self.ends.len()
     }
 
-    /// The instruction words of the code of an index.
-    pub fn words(&self, index: usize) -> &[u32]
+    /// The code of an index.
+    pub fn get(&self, index: usize) -> CodeView<'_>
         requires { index < length self.now }
-        ensures { result.now ≡ (code_at self.now index).words }
+        ensures words { result.words.now ≡ (code_at self.now index).words }
+        ensures traps { result.traps.now ≡ (code_at self.now index).traps }
     {
         let begin = end_before(self.begin, &self.ends, index);
         let end = self.ends[index];
-        part(&self.text, begin.words, end.words)
-    }
-
-    /// The traps of the code of an index.
-    pub fn traps(&self, index: usize) -> &[TrapSite]
-        requires { index < length self.now }
-        ensures { result.now ≡ (code_at self.now index).traps }
-    {
-        let begin = end_before(self.begin, &self.ends, index);
-        let end = self.ends[index];
-        part(&self.sites, begin.sites, end.sites)
+        let words = part(&self.text, begin.words, end.words);
+        let traps = part(&self.sites, begin.sites, end.sites);
+        CodeView { words, traps }
     }
 
     /// Their parts, without the traps.

@@ -405,8 +405,9 @@ fn lists_codes(rt: HostRuntime) -> Result<(), Fail> {
     let codes = listed(rt.alloc())?;
     assert_eq!(rt; codes.count(), 2);
     if 1 < codes.count() {
-        assert_eq!(rt; codes.words(1), &[7, 5, 9]);
-        assert_eq!(rt; codes.traps(1).len(), 1);
+        let code = codes.get(1);
+        assert_eq!(rt; code.words, &[7, 5, 9]);
+        assert_eq!(rt; code.traps.len(), 1);
     }
     let parts = codes.into_parts();
     assert_eq!(rt; (parts.text.len(), parts.calls.len()), (9, 2));

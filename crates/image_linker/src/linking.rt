@@ -189,7 +189,7 @@ fn starts_of(alloc: Global, imported: usize, codes: &CodeList) -> Result<Vec<u32
     let mut here = front_of(imported);
     for index in 0..codes.count() {
         starts.push(here)?;
-        here += codes.words(index).len() as u32;
+        here += codes.get(index).words.len() as u32;
     }
     Ok(starts)
 }

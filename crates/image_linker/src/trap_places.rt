@@ -79,8 +79,9 @@ pub(crate) fn places_of(
     let mut here = front_of(imports.len());
     let mut function = imports.len() as u32;
     for index in 0..codes.count() {
-        put_sites(&mut places, here, function, codes.traps(index))?;
-        here += codes.words(index).len() as u32;
+        let code = codes.get(index);
+        put_sites(&mut places, here, function, code.traps)?;
+        here += code.words.len() as u32;
         function = function.saturating_add(1);
     }
     Ok(places)
