@@ -24,12 +24,12 @@ front_of-here-requires c = omega (arith, c.requires.words, ap (λ imports. lengt
 -- the words with one more code are no more than all
 pub overflow_add-here : goal.overflow_add-here
 overflow_add-here c =
-    let at = words_at c.args.codes.now c.loop-index.index c.get.result.words.now (omega (arith, c.loop-index-test.true, c.count-index-end.ensures)) c.get.ensures.words in
+    let at = words_at c.args.codes.now c.loop-index.index c.get-code.result.words.now (omega (arith, c.loop-index-test.true, c.count-index-end.ensures)) c.get-code.ensures.words in
     omega (arith, c.requires.words, at.next, at.within, c.loop-index.invariant.0)
 
 pub overflow_cast-here : goal.overflow_cast-here
 overflow_cast-here c =
-    let at = words_at c.args.codes.now c.loop-index.index c.get.result.words.now (omega (arith, c.loop-index-test.true, c.count-index-end.ensures)) c.get.ensures.words in
+    let at = words_at c.args.codes.now c.loop-index.index c.get-code.result.words.now (omega (arith, c.loop-index-test.true, c.count-index-end.ensures)) c.get-code.ensures.words in
     omega (arith, c.requires.words, at.next, at.within)
 
 pub put_sites-requires : goal.put_sites-requires
@@ -43,7 +43,7 @@ put_sites-requires c =
     let all = all_right (import_traps (length exit_stub) 0 imports) (code_traps (front_of (length imports)) (length imports) codes) c.requires.places in
     let short = code_short (front_of (length imports)) (length imports) codes i here (length imports + i) code c.loop-index.invariant.0 refl less (is_at codes i less) all in
     let same = same_function here c.loop-index.function (length imports + i) code.traps c.loop-index.invariant.1 short in
-    subst (λ (ss : List TrapSite). All IsShort (map (place_at here c.loop-index.function) ss)) (sym c.get.ensures.traps)
+    subst (λ (ss : List TrapSite). All IsShort (map (place_at here c.loop-index.function) ss)) (sym c.get-code.ensures.traps)
     (subst (λ (l : List TrapPlace). All IsShort l) (sym same) short)
 
 pub loop-index-preserved : goal.loop-index-preserved
@@ -56,7 +56,7 @@ loop-index-preserved c =
     let function = c.loop-index.function in
     let less : i < length codes = omega (arith, c.loop-index-test.true, c.count-index-end.ensures) in
     let is = is_at codes i less in
-    let at = words_at codes i c.get.result.words.now less c.get.ensures.words in
+    let at = words_at codes i c.get-code.result.words.now less c.get-code.ensures.words in
     let front = import_traps (length exit_stub) 0 imports in
     let all = all_right front (code_traps (front_of (length imports)) (length imports) codes) c.requires.places in
     let short = code_short (front_of (length imports)) (length imports) codes i here (length imports + i) code c.loop-index.invariant.0 refl less is all in
@@ -64,7 +64,7 @@ loop-index-preserved c =
       omega (arith, at.next, c.loop-index.invariant.0),
       (λ (few : length imports + (i + 1) < 2 ^ 32). let before = c.loop-index.invariant.1 (omega (arith, few)) in omega (arith, before, few, c.saturating_add-function.ensures)),
       c.in_ok-put_sites.ensures
-          ∙ ap (λ (ss : List TrapSite). c.loop-index.places.items ++ map (place_at here function) ss) c.get.ensures.traps
+          ∙ ap (λ (ss : List TrapSite). c.loop-index.places.items ++ map (place_at here function) ss) c.get-code.ensures.traps
           ∙ ap (λ (l : List TrapPlace). c.loop-index.places.items ++ l) same
           ∙ ap (λ (l : List TrapPlace). l ++ map (place_at here (length imports + i)) code.traps) c.loop-index.invariant.2
           ∙ append_assoc front _ (map (place_at here (length imports + i)) code.traps)
