@@ -406,7 +406,7 @@ fn lists_codes(rt: HostRuntime) -> Result<(), Fail> {
     assert_eq!(rt; codes.count(), 2);
     if 1 < codes.count() {
         let code = codes.get(1);
-        assert_eq!(rt; code.words, &[7, 5, 9]);
+        assert_eq!(rt; code.words, [7, 5, 9].as_slice());
         assert_eq!(rt; code.traps.len(), 1);
     }
     let parts = codes.into_parts();
