@@ -1,11 +1,15 @@
 -- Bodies that are kept: what is left while none of them is validated.
-use Rattle.std.proofs.Common.{◌≡◌, ◌≤◌, ◌<◌, ◌-◌, ◌^◌, ℕ, Bool, List, [], ◌++◌, length, drop, Option, Some, None, Ok, Err, refl, sym, ap, subst, arith}
+use Rattle.std.proofs.Common.{◌≡◌, ◌≤◌, ◌<◌, ◌-◌, ◌^◌, ℕ, Bool, List, [], ◌∷◌, ◌++◌, length, drop, Option, Some, None, Ok, Err, refl, sym, ap, subst, ◌∙◌, arith, append_assoc}
 use Rattle.std.proofs.lemmas.List.{append-nil}
+use Rattle.std.specs.Arc.{arc_value}
+use Rattle.std.specs.declared.alloc.Global.{Global}
+use Rattle.std.specs.declared.sync.Arc.{Arc}
 use Rattle.wasm_defs.specs.declared.fault.Refusal.{Refusal}
 use Rattle.wasm_defs.specs.declared.front_stop.FrontStop.{FrontStop}
 use Rattle.wasm_defs.specs.declared.front_stop.FrontStop.TheVariants as stop
+use Rattle.body_cutter.specs.declared.batch.Batch.{Batch}
 use Rattle.body_cutter.specs.declared.body.Body.{Body}
-use Rattle.body_cutter.specs.Cuttings.{Cutting, IsFed, IsRefused}
+use Rattle.body_cutter.specs.Cuttings.{Cutting, IsFed, IsRefused, Takes}
 use Rattle.module_stream.specs.Limits.{max_read}
 use Rattle.module_stream.specs.declared.compilation.Compilation.{Compilation}
 use Rattle.stream_compile.specs.declared.intake.Intake.{Intake}
@@ -18,10 +22,26 @@ use Rattle.module_stream.specs.Progress.{CanTakeAll}
 use Rattle.stream_compile.specs.Reading.{Settled}
 use Rattle.module_stream.specs.Streaming.{IsGoing, GoesOn, with_cutter}
 use Rattle.stream_compile.proofs.Arriving.{goes_on, few_all, stops_there}
+use Rattle.module_stream.proofs.Cutting.{closed_taken}
 use Rattle.module_stream.proofs.Keeping.{JudgesAll, keeping_fed, keeping_refused, keeping_can, keeping_judged, keeping_stops, faulty_can, faulty_body, section_refused}
 use Rattle.module_stream.proofs.Streaming.{reading_of, going_reading, taken_out}
 
 -- ---- bodies that are read
+
+kept_push : (kept : List (Arc Batch Global)) (b : Arc Batch Global) → kept_bodies (kept ++ b ∷ []) ≡ kept_bodies kept ++ (arc_value b).bodies
+kept_push [] b = append-nil (arc_value b).bodies
+kept_push (x ∷ kept) b = ap (λ (l : List Body). (arc_value x).bodies ++ l) (kept_push kept b) ∙ sym (append_assoc (arc_value x).bodies (kept_bodies kept) (arc_value b).bodies)
+
+-- a batch was taken out of the cutter, and its bodies are kept
+pub kept_taken : (kept kept' : List (Arc Batch Global)) (b : Arc Batch Global) (batch : Batch) (old new : Cutting) (all : List Body) → kept' ≡ kept ++ b ∷ [] → (arc_value b).bodies ≡ batch.bodies
+    → Takes old (Some batch) new → kept_bodies kept ++ old.queue.closed ≡ all → kept_bodies kept' ++ new.queue.closed ≡ all
+kept_taken kept kept' b batch old new all more same takes e =
+    ap (λ (l : List (Arc Batch Global)). kept_bodies l ++ new.queue.closed) more
+    ∙ ap (λ (l : List Body). l ++ new.queue.closed) (kept_push kept b)
+    ∙ append_assoc (kept_bodies kept) (arc_value b).bodies new.queue.closed
+    ∙ ap (λ (l : List Body). kept_bodies kept ++ (l ++ new.queue.closed)) same
+    ∙ sym (ap (λ (l : List Body). kept_bodies kept ++ l) (closed_taken old new batch takes))
+    ∙ e
 
 module _ (first : Option (List ℕ)) (before : ℕ) (left_now : Option (List ℕ)) (now : ℕ) (may_read : Bool) (s : Compilation) (i j : Intake) (mid : Cutting)
     (kept : kept_bodies j.kept.items ≡ kept_bodies i.kept.items ++ mid.queue.closed) (a : IsArriving None first before left_now now may_read (keeping s i) i.chunk) where
@@ -48,6 +68,12 @@ module _ (first : Option (List ℕ)) (before : ℕ) (left_now : Option (List ℕ
   pub none_kept : (s t : Compilation) (c : Chunked) → s.cutter ≡ None → t ≡ record s { cutter = None } → IsArriving None first before left_now now may_read s c → IsArriving None first before left_now now may_read t c
   none_kept s t c none is a = subst (λ (x : Compilation). IsArriving None first before left_now now may_read x c) (sym is)
       (goes_on None first before left_now now may_read s c a (record s { cutter = None }) c refl refl refl (λ bytes more g. going_reading bytes (record s { cutter = None }) (c.pending ++ more) refl (reading_of bytes s (c.pending ++ more) none g)))
+
+  -- the cutter was taken out, and put back
+  pub put_back : (s t u : Compilation) (k : Cutting) (c : Chunked) → s.cutter ≡ Some k → t ≡ record s { cutter = None } → u ≡ with_cutter t k → IsArriving None first before left_now now may_read s c
+      → IsArriving None first before left_now now may_read u c
+  put_back s t u k c some out back a =
+      subst (λ (x : Compilation). IsArriving None first before left_now now may_read x c) (sym (back ∙ ap (λ (x : Compilation). with_cutter x k) out ∙ (λ i. record s { cutter = sym some i }))) a
 
   pub keeping_begins : (s t : Compilation) (i : Intake) → s.cutter ≡ Some i.cutter → t ≡ record s { cutter = None } → i.kept.items ≡ [] → IsArriving None first before left_now now may_read s i.chunk → IsArriving None first before left_now now may_read (keeping t i) i.chunk
   keeping_begins s t i some is none a = subst (λ (x : Compilation). IsArriving None first before left_now now may_read (keeping x i) i.chunk) (sym is)

@@ -9,7 +9,7 @@ ghost use Rattle.module_stream.specs.Codes.{KeepsAlike};
 ghost use Rattle.stream_compile.specs.Keeping.{keeping, Keeps, HasRightRows, Resumes};
 
 use crate::chunk::Chunk;
-use crate::intake::{Intake, read_bodies};
+use crate::intake::{Intake, Round, read_bodies};
 use crate::reading::Ending;
 use batch_pool::{
     BatchCompiler, Desk, Feeder, Pool, Reading, Ticket, by_number, run_beside, settle,
@@ -24,6 +24,15 @@ use std::alloc::{AllocError, Global};
 use std::sync::Wait;
 use std::thread::Threads;
 use wasm_defs::{FrontStop, MAX_TEXT};
+
+/// How many bytes of a round there are for each worker.
+const WORKER_BYTES: usize = 262_144;
+
+/// How many batches of a round there are for each worker.
+const WORKER_BATCHES: usize = 16;
+
+/// How many bytes of a round there are for each function.
+const FUNCTION_BYTES: usize = 16;
 
 /// Reads the bodies of a source.
 #[derive(Drop)]
@@ -198,7 +207,7 @@ fn read_with_workers<R: Threads + Wait + Sync, S: Source, G: Gate>(
         tickets,
         rows,
     } = unsettled;
-    // Why: docs/DECISIONS.md, "Workers compile the code section's bodies, and are joined at its end"
+    // Why: docs/DECISIONS.md, "Workers compile the code section's bodies, and are joined by its end"
     let Some(settled) = settle(board, seat, &compiler, rows, tickets) else {
         return Err(AllocError);
     };
@@ -211,10 +220,30 @@ fn read_with_workers<R: Threads + Wait + Sync, S: Source, G: Gate>(
     })
 }
 
-/// Where bodies come next, reads them in parallel with so many workers, and validates them, so that the compilation can go on
-/// after them; or says what the bytes come to.
+/// How long a round is: so long that starting the workers, and making a cell for each function, costs little beside it.
+fn round_of(workers: u32, compilation: &Compilation) -> Round {
+    // Codes that are only counted take no memory, so all bodies are read in one round.
+    if !compilation.keeps_codes() {
+        return Round {
+            bytes: usize::MAX,
+            batches: 0,
+        };
+    }
+    let workers = workers as usize;
+    let functions = compilation.context().type_indices().len();
+    let for_functions = functions.saturating_mul(FUNCTION_BYTES);
+    Round {
+        bytes: workers
+            .saturating_mul(WORKER_BYTES)
+            .saturating_add(for_functions),
+        batches: workers.saturating_mul(WORKER_BATCHES),
+    }
+}
+
+/// Where bodies come next, reads those of a round in parallel with so many workers, and validates them, so that the compilation can go
+/// on after them; or says what the bytes come to.
 #[tactic(auto, using(crate::proofs::Fronts::took_nothing))]
-pub fn read_beside<R: Threads + Wait + Sync, S: Source, G: Gate>(
+fn read_round<R: Threads + Wait + Sync, S: Source, G: Gate>(
     rt: &R,
     alloc: Global,
     source: &mut S,
@@ -234,7 +263,12 @@ pub fn read_beside<R: Threads + Wait + Sync, S: Source, G: Gate>(
     let Some(cutter) = compilation.take_cutter() else {
         return Ok(chunk);
     };
-    let intake = Intake::new(alloc, cutter, chunk);
+    if cutter.is_whole() {
+        compilation.put_cutter(cutter);
+        return Ok(chunk);
+    }
+    let round = round_of(workers, compilation);
+    let intake = Intake::new(alloc, cutter, chunk, round);
     let Ok(section) = read_with_workers(rt, alloc, source, gate, workers, compilation, intake)
     else {
         return Err(Ending {
@@ -243,6 +277,45 @@ pub fn read_beside<R: Threads + Wait + Sync, S: Source, G: Gate>(
         });
     };
     judge_section(compilation, section)
+}
+
+/// Where bodies come next, reads them in parallel with so many workers, round by round, and validates them, so that the compilation can
+/// go on after them; or says what the bytes come to.
+#[tactic(auto, using(crate::proofs::Fronts::took_nothing))]
+pub fn read_beside<R: Threads + Wait + Sync, S: Source, G: Gate>(
+    rt: &R,
+    alloc: Global,
+    source: &mut S,
+    gate: &G,
+    workers: u32,
+    chunk: Chunk,
+    compilation: &mut Compilation,
+) -> Result<Chunk, Ending>
+    requires arrives { (first : Option (List ℕ)) × (before : ℕ)
+        × IsArriving None first before (S.left source.old) (S.faults source.old) (S.is_open source.old) compilation.old chunk }
+    ensures resumes { (first : Option (List ℕ)) (before : ℕ)
+        → IsArriving None first before (S.left source.old) (S.faults source.old) (S.is_open source.old) compilation.old chunk
+        → Resumes result first before (S.left source.new) (S.faults source.new) (S.is_open source.new) compilation.new }
+    ensures kept { KeepsAlike compilation.old.codes compilation.new.codes }
+    ensures front { TookFront (S.left source.old) (S.faults source.old) (S.left source.new) (S.faults source.new) }
+{
+    // Why: docs/DECISIONS.md, "Bodies are read in rounds"
+    let mut chunk = chunk;
+    loop {
+        let before = chunk.count();
+        match read_round(rt, alloc, source, gate, workers, chunk, compilation) {
+            Ok(rest) => chunk = rest,
+            Err(ending) => return Err(ending),
+        }
+        // A round that ends before the section leaves bytes that it read and that are still to be taken.
+        if chunk.pending().is_empty() {
+            return Ok(chunk);
+        }
+        let read = chunk.count();
+        if read <= before {
+            return Ok(chunk);
+        }
+    }
 }
 
 /// Validates what was read in parallel with workers.
@@ -265,6 +338,8 @@ fn judge_section(compilation: &mut Compilation, section: ReadSection) -> Result<
         cutter,
         kept,
         chunk,
+        limit: _,
+        batches: _,
     } = intake;
     let failed = chunk.has_failed();
     match read {

@@ -94,6 +94,13 @@ impl Chunk {
         &rest[..self.len]
     }
 
+    /// How many bytes were read in all.
+    pub fn count(&self) -> usize
+        ensures { result ≡ self.now.count }
+    {
+        self.count
+    }
+
     /// Whether the source failed.
     pub fn has_failed(&self) -> bool
         ensures { result ≡ has_failed self.now.came }

@@ -19,7 +19,16 @@ use std::alloc::{AllocError, Global};
 use std::sync::Arc;
 use wasm_defs::FrontStop;
 
-/// The bodies that were read, none of which is validated so far.
+/// How long a round is, in which bodies are read.
+#[derive(Clone, Copy)]
+pub struct Round {
+    /// It has so many bytes of the source,
+    pub bytes: usize,
+    /// and so many batches.
+    pub batches: usize,
+}
+
+/// The bodies of a round that were read, none of which is validated so far.
 #[derive(Drop)]
 pub struct Intake {
     /// Cuts the bodies.
@@ -28,24 +37,36 @@ pub struct Intake {
     pub kept: Vec<Arc<Batch, Global>>,
     /// The bytes that were read last.
     pub chunk: Chunk,
+    /// The round ends once so many bytes of the source were read in all,
+    pub limit: usize,
+    /// and so many batches were closed.
+    pub batches: usize,
 }
 
 impl Intake {
-    /// Before the first body.
-    pub fn new(alloc: Global, cutter: Cutter, chunk: Chunk) -> Intake
+    /// Before the first body of a round.
+    pub fn new(alloc: Global, cutter: Cutter, chunk: Chunk, round: Round) -> Intake
         ensures cutter { result.cutter ≡ cutter }
         ensures kept { result.kept.items ≡ [] }
         ensures chunk { result.chunk ≡ chunk }
     {
+        let limit = chunk.count().saturating_add(round.bytes);
         Intake {
             cutter,
             kept: Vec::new(alloc),
             chunk,
+            limit,
+            batches: round.batches,
         }
+    }
+
+    /// Whether the round is over, however many bodies are to come.
+    fn round_is_over(&self) -> bool {
+        self.limit <= self.chunk.count() && self.batches <= self.kept.len()
     }
 }
 
-/// Hands over the batches that are closed, and keeps them.
+/// Hands over the batches that are closed, and keeps them. Their numbers are those in the round.
 fn hand_over(
     alloc: Global,
     board: &Board,
@@ -66,6 +87,8 @@ fn hand_over(
     ensures kept { OnOk result (kept_bodies intake.new.kept.items ≡ kept_bodies intake.old.kept.items ++ intake.old.cutter.queue.closed) }
 {
     while let Some(batch) = intake.cutter.take_batch() {
+        let mut batch = batch;
+        batch.number = intake.kept.len().min(u32::MAX as usize) as u32;
         let batch = Arc::new(alloc, batch)?;
         desk.hand_over(board, context, feeder, &batch)?;
         intake.kept.push(batch)?;
@@ -111,7 +134,8 @@ fn take_piece(
     }
 }
 
-/// Reads bodies, and hands their batches over, until their section is whole, an error was reported, or no more bytes come.
+/// Reads bodies, and hands their batches over, until their section is whole, an error was reported, no more bytes come, or the round
+/// is over.
 #[tactic(auto, using(crate::proofs::Fronts::took_nothing))]
 pub fn read_bodies<S: Source>(
     alloc: Global,
@@ -147,6 +171,9 @@ pub fn read_bodies<S: Source>(
         }
         let came = intake.chunk.read(source);
         if came != ReadStatus::Bytes {
+            return Ok(());
+        }
+        if intake.round_is_over() {
             return Ok(());
         }
     }

@@ -1,56 +1,59 @@
-use Rattle.std.proofs.Common.{None, Some, sym, ap, subst, ◌∙◌, rules}
-use Rattle.std.specs.Prelude.{is_some}
-use Rattle.body_cutter.specs.Cuttings.{Cutting}
-use Rattle.module_stream.specs.declared.compilation.Compilation.{Compilation}
-use Rattle.stream_compile.specs.Arriving.{IsArriving}
-use Rattle.stream_compile.specs.Chunks.{Chunked}
-use Rattle.stream_compile.proofs.Keeping.{none_kept, keeping_begins}
+use Rattle.std.proofs.Common.{◌∙◌, refl, arith}
+use Rattle.stream_compile.proofs.Fronts.{took_nothing, took_more}
 use Rattle.stream_compile.proofs.beside.read_beside.Goals as goal
 
-pub returns-in_default-clause-resumes : goal.returns-in_default-clause-resumes
-returns-in_default-clause-resumes g c = λ first before a.
-    none_kept first before (g.S.Source.left c.args.source.now) (g.S.Source.faults c.args.source.now) (g.S.Source.is_open c.args.source.now) c.args.compilation.now c.take_cutter.new.self c.args.chunk (search rules) c.take_cutter.ensures.rest a
+pub loop-rest-init : goal.loop-rest-init
+loop-rest-init g c = record { arrives = λ first before a. a; few = c.requires.arrives.2.few; front = took_nothing _ _; kept = refl }
 
-pub read_with_workers-requires-clause-arrives : goal.read_with_workers-requires-clause-arrives
-read_with_workers-requires-clause-arrives g c κs within =
+pub read_round-requires-clause-arrives : goal.read_round-requires-clause-arrives
+read_round-requires-clause-arrives g c κs within = let r = c.requires.arrives in (r.0, r.1, c.loop-rest.invariant.arrives r.0 r.1 r.2)
+
+pub returns-in-Err-clause-resumes : goal.returns-in-Err-clause-resumes
+returns-in-Err-clause-resumes g c = λ first before a. c.in-Err.ensures.resumes first before (c.loop-rest.invariant.arrives first before a)
+
+pub returns-in-Err-clause-kept : goal.returns-in-Err-clause-kept
+returns-in-Err-clause-kept g c = c.in-Err.ensures.kept ∙ c.loop-rest.invariant.kept
+
+pub returns-in-Err-clause-front : goal.returns-in-Err-clause-front
+returns-in-Err-clause-front g c =
+    let l = c.loop-rest in
+    took_more (g.S.Source.left c.args.source.now) (g.S.Source.left l.source) (g.S.Source.left c.read_round.new.source) (g.S.Source.faults c.args.source.now) (g.S.Source.faults l.source) (g.S.Source.faults c.read_round.new.source) l.invariant.front c.in-Err.ensures.front
+
+pub returns-then-is_empty-clause-resumes : goal.returns-then-is_empty-clause-resumes
+returns-then-is_empty-clause-resumes g c = λ first before a. c.in-Ok.ensures.resumes first before (c.loop-rest.invariant.arrives first before a)
+
+pub returns-then-is_empty-clause-kept : goal.returns-then-is_empty-clause-kept
+returns-then-is_empty-clause-kept g c = c.in-Ok.ensures.kept ∙ c.loop-rest.invariant.kept
+
+pub returns-then-is_empty-clause-front : goal.returns-then-is_empty-clause-front
+returns-then-is_empty-clause-front g c =
+    let l = c.loop-rest in
+    took_more (g.S.Source.left c.args.source.now) (g.S.Source.left l.source) (g.S.Source.left c.read_round.new.source) (g.S.Source.faults c.args.source.now) (g.S.Source.faults l.source) (g.S.Source.faults c.read_round.new.source) l.invariant.front c.in-Ok.ensures.front
+
+pub returns-then-read-before-clause-resumes : goal.returns-then-read-before-clause-resumes
+returns-then-read-before-clause-resumes g c = λ first before a. c.in-Ok.ensures.resumes first before (c.loop-rest.invariant.arrives first before a)
+
+pub returns-then-read-before-clause-kept : goal.returns-then-read-before-clause-kept
+returns-then-read-before-clause-kept g c = c.in-Ok.ensures.kept ∙ c.loop-rest.invariant.kept
+
+pub returns-then-read-before-clause-front : goal.returns-then-read-before-clause-front
+returns-then-read-before-clause-front g c =
+    let l = c.loop-rest in
+    took_more (g.S.Source.left c.args.source.now) (g.S.Source.left l.source) (g.S.Source.left c.read_round.new.source) (g.S.Source.faults c.args.source.now) (g.S.Source.faults l.source) (g.S.Source.faults c.read_round.new.source) l.invariant.front c.in-Ok.ensures.front
+
+pub loop-rest-preserved : goal.loop-rest-preserved
+loop-rest-preserved g c =
+    let l = c.loop-rest in
     let r = c.requires.arrives in
-    let old = c.args.source.now in
-    let i = c.new-intake.result in
-    let some = sym c.take_cutter.ensures.cutter ∙ c.in-Some.is ∙ ap (λ (k : Cutting). Some k) (sym c.new-intake.ensures.cutter) in (
-      r.0,
-      r.1,
-      c.take_cutter.new.self,
-      keeping_begins r.0 r.1 (g.S.Source.left old) (g.S.Source.faults old) (g.S.Source.is_open old) c.args.compilation.now c.take_cutter.new.self i some c.take_cutter.ensures.rest c.new-intake.ensures.kept
-          (subst (λ (k : Chunked). IsArriving None r.0 r.1 (g.S.Source.left old) (g.S.Source.faults old) (g.S.Source.is_open old) c.args.compilation.now k) (sym c.new-intake.ensures.chunk) r.2),
-    )
+    record {
+      arrives = λ first before a. c.in-Ok.ensures.resumes first before (l.invariant.arrives first before a);
+      few = (c.in-Ok.ensures.resumes r.0 r.1 (l.invariant.arrives r.0 r.1 r.2)).few;
+      front = took_more (g.S.Source.left c.args.source.now) (g.S.Source.left l.source) (g.S.Source.left c.read_round.new.source) (g.S.Source.faults c.args.source.now) (g.S.Source.faults l.source) (g.S.Source.faults c.read_round.new.source) l.invariant.front c.in-Ok.ensures.front;
+      kept = c.in-Ok.ensures.kept ∙ l.invariant.kept;
+    }
 
-pub judge_section-requires-clause-rows : goal.judge_section-requires-clause-rows
-judge_section-requires-clause-rows g c = c.in-Ok.ensures.rows
-
-pub judge_section-requires-clause-keeps : goal.judge_section-requires-clause-keeps
-judge_section-requires-clause-keeps g c =
+pub loop-rest-smaller : goal.loop-rest-smaller
+loop-rest-smaller g c =
     let r = c.requires.arrives in
-    let new = c.read_with_workers.new.source in
-    let old = c.args.source.now in
-    let i = c.new-intake.result in
-    let some = sym c.take_cutter.ensures.cutter ∙ c.in-Some.is ∙ ap (λ (k : Cutting). Some k) (sym c.new-intake.ensures.cutter) in (
-      r.0,
-      r.1,
-      g.S.Source.left new,
-      g.S.Source.faults new,
-      g.S.Source.is_open new,
-      c.in-Ok.ensures.keeps r.0 r.1 c.take_cutter.new.self (keeping_begins r.0 r.1 (g.S.Source.left old) (g.S.Source.faults old) (g.S.Source.is_open old) c.args.compilation.now c.take_cutter.new.self i some c.take_cutter.ensures.rest c.new-intake.ensures.kept
-          (subst (λ (k : Chunked). IsArriving None r.0 r.1 (g.S.Source.left old) (g.S.Source.faults old) (g.S.Source.is_open old) c.args.compilation.now k) (sym c.new-intake.ensures.chunk) r.2)),
-    )
-
-pub returns-clause-resumes : goal.returns-clause-resumes
-returns-clause-resumes g c = λ first before a.
-    let new = c.read_with_workers.new.source in
-    let old = c.args.source.now in
-    let i = c.new-intake.result in
-    let some = sym c.take_cutter.ensures.cutter ∙ c.in-Some.is ∙ ap (λ (k : Cutting). Some k) (sym c.new-intake.ensures.cutter) in
-    c.judge_section.ensures.resumes first before (g.S.Source.left new) (g.S.Source.faults new) (g.S.Source.is_open new) (c.in-Ok.ensures.keeps first before c.take_cutter.new.self (keeping_begins first before (g.S.Source.left old) (g.S.Source.faults old) (g.S.Source.is_open old) c.args.compilation.now c.take_cutter.new.self i some c.take_cutter.ensures.rest c.new-intake.ensures.kept
-    (subst (λ (k : Chunked). IsArriving None first before (g.S.Source.left old) (g.S.Source.faults old) (g.S.Source.is_open old) c.args.compilation.now k) (sym c.new-intake.ensures.chunk) a)))
-
-pub returns-clause-kept : goal.returns-clause-kept
-returns-clause-kept g c = c.judge_section.ensures.kept ∙ ap (λ (s : Compilation). is_some s.codes.kept) c.take_cutter.ensures.rest
+    let few = (c.in-Ok.ensures.resumes r.0 r.1 (c.loop-rest.invariant.arrives r.0 r.1 r.2)).few in
+    omega (arith, few, c.count-before.ensures, c.count-read.ensures, c.if-read-before.false)

@@ -1,7 +1,9 @@
 use Rattle.std.proofs.Common.{ap, ◌∙◌}
+use Rattle.body_cutter.specs.declared.batch.Batch.{Batch}
 use Rattle.body_cutter.specs.Cuttings.{Cutting}
 use Rattle.module_stream.specs.Kept.{kept_bodies}
-use Rattle.module_stream.proofs.Sharing.{kept_more, kept_all}
+use Rattle.module_stream.proofs.Sharing.{kept_all}
+use Rattle.stream_compile.proofs.Keeping.{kept_taken}
 use Rattle.stream_compile.proofs.intake.hand_over.Goals as goal
 
 pub loop-batch-preserved : goal.loop-batch-preserved
@@ -16,7 +18,7 @@ loop-batch-preserved c =
       place = ap (λ (k : Cutting). k.place) is ∙ l.invariant.place;
       begun = ap (λ (k : Cutting). k.queue.begun) is ∙ l.invariant.begun;
       least = ap (λ (k : Cutting). k.queue.least) is ∙ l.invariant.least;
-      kept = kept_more l.intake.kept.items c.push.new.self.items c.in_ok-batch.batch c.in-Some.batch l.intake.cutter c.take_batch.new.self _ c.in_ok-push.ensures.items c.in_ok-batch.ensures.ok c.in-Some.ensures l.invariant.kept;
+      kept = kept_taken l.intake.kept.items c.push.new.self.items c.in_ok-batch.batch c.in-Some.batch l.intake.cutter c.take_batch.new.self _ c.in_ok-push.ensures.items (ap (λ (b : Batch). b.bodies) c.in_ok-batch.ensures.ok) c.in-Some.ensures l.invariant.kept;
     }
 
 pub returns-clause-kept : goal.returns-clause-kept

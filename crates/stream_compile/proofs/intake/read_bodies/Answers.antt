@@ -36,6 +36,12 @@ returns-then-ne-clause-keeps g c = λ first before s a.
     c.read-came.ensures.arrives None first before (keeping s c.take_piece.new.intake) (c.in-Ok.ensures.no_error s) tt
     (c.in-Ok.ensures.keeps first before (g.S.Source.left l.source) (g.S.Source.faults l.source) (g.S.Source.is_open l.source) s (l.invariant.arrives first before s a))
 
+pub returns-then-round_is_over-clause-keeps : goal.returns-then-round_is_over-clause-keeps
+returns-then-round_is_over-clause-keeps g c = λ first before s a.
+    let l = c.loop-stop in
+    c.read-came.ensures.arrives None first before (keeping s c.take_piece.new.intake) (c.in-Ok.ensures.no_error s) tt
+    (c.in-Ok.ensures.keeps first before (g.S.Source.left l.source) (g.S.Source.faults l.source) (g.S.Source.is_open l.source) s (l.invariant.arrives first before s a))
+
 pub loop-stop-preserved : goal.loop-stop-preserved
 loop-stop-preserved g c =
     let l = c.loop-stop in
@@ -55,5 +61,10 @@ loop-stop-preserved g c =
 
 pub returns-then-ne-clause-front : goal.returns-then-ne-clause-front
 returns-then-ne-clause-front g c =
+    let l = c.loop-stop in
+    took_more (g.S.Source.left c.args.source.now) (g.S.Source.left l.source) (g.S.Source.left c.read-came.new.source) (g.S.Source.faults c.args.source.now) (g.S.Source.faults l.source) (g.S.Source.faults c.read-came.new.source) l.invariant.front c.read-came.ensures.front
+
+pub returns-then-round_is_over-clause-front : goal.returns-then-round_is_over-clause-front
+returns-then-round_is_over-clause-front g c =
     let l = c.loop-stop in
     took_more (g.S.Source.left c.args.source.now) (g.S.Source.left l.source) (g.S.Source.left c.read-came.new.source) (g.S.Source.faults c.args.source.now) (g.S.Source.faults l.source) (g.S.Source.faults c.read-came.new.source) l.invariant.front c.read-came.ensures.front
