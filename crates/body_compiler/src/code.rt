@@ -150,6 +150,16 @@ impl TokenSink for BodyBuilder {
     }
 
     #[inline(always)]
+    fn take_plain_read(
+        &mut self,
+        check: &mut Check<'_>,
+        at: u64,
+        plain: Plain,
+    ) -> Result<(), BodyStop> {
+        self.take_read(check, at, &Token::Plain(plain))
+    }
+
+    #[inline(always)]
     fn take_common(
         &mut self,
         check: &mut Check<'_>,
@@ -160,7 +170,7 @@ impl TokenSink for BodyBuilder {
             Some(Ok(step)) => take_checked(check, self, at, &step, &Token::Plain(plain)),
             Some(Err(TokenStop::Refused(refusal))) => Err(BodyStop::Refused(refusal)),
             Some(Err(TokenStop::NoMemory)) => Err(BodyStop::NoMemory),
-            None => self.take_read(check, at, &Token::Plain(plain)),
+            None => self.take_plain_read(check, at, plain),
         }
     }
 }

@@ -277,6 +277,16 @@ impl TokenSink for WordCounter {
     }
 
     #[inline(always)]
+    fn take_plain_read(
+        &mut self,
+        check: &mut Check<'_>,
+        at: u64,
+        plain: Plain,
+    ) -> Result<(), BodyStop> {
+        self.take_read(check, at, &Token::Plain(plain))
+    }
+
+    #[inline(always)]
     fn take_common(
         &mut self,
         check: &mut Check<'_>,
@@ -293,7 +303,7 @@ impl TokenSink for WordCounter {
             }
             Some(Err(TokenStop::Refused(refusal))) => Err(BodyStop::Refused(refusal)),
             Some(Err(TokenStop::NoMemory)) => Err(BodyStop::NoMemory),
-            None => self.take_read(check, at, &Token::Plain(plain)),
+            None => self.take_plain_read(check, at, plain),
         }
     }
 }

@@ -12,7 +12,7 @@ ghost use Rattle.wasm_laws.specs.Immediates.{TokenIsInRange};
 ghost use Rattle.wasm_laws.specs.Sections.{AreBytes};
 ghost use Rattle.body_validator.specs.Checks.{Checked as CheckedGiven};
 ghost use Rattle.body_compiler.specs.Going.{IsGoing, StopsReading};
-ghost use Rattle.body_compiler.specs.Indexed.{indexed};
+ghost use Rattle.body_compiler.specs.Indexed.{indexed, closing};
 
 use crate::code::{BodyStop, malformed, stop_of};
 use crate::immediates::{accessed_place, named_index, value};
@@ -44,6 +44,22 @@ pub trait TokenSink {
         ensures fits { (left later : ℕ) → Fits check.old (left + 1) self.old → later ≤ left → OnOk result (Fits check.new later self.new) }
         ensures goes { (counted : Bool) (c : ContextGiven) (last b : ℕ) (code : SpelledGiven) (before mid after : CursorGiven) (front : Front)
             → Tracks counted c last before check.old code front self.old → byte before ≡ Got (at, b) mid → instruction counted at b mid ≡ Got token.now after
+            → OnOk result (Tracks counted c last after check.new code front self.new) × IfErr result (StopsReading c code) };
+
+    /// Does so with a plain instruction. The call of `take_read` has a function of its own, as in `take_closing`.
+    fn take_plain_read(
+        &mut self,
+        check: &mut Check<'_>,
+        at: u64,
+        plain: Plain,
+    ) -> Result<(), BodyStop>
+        requires range { TokenIsInRange (PlainGiven plain) }
+        requires fits { (left : ℕ) × Fits check.old (left + 1) self.old }
+        requires more { check.old.checker.frames ≢ [] }
+        ensures fits { (left later : ℕ) → Fits check.old (left + 1) self.old → later ≤ left → OnOk result (Fits check.new later self.new) }
+        ensures goes { (counted : Bool) (c : ContextGiven) (last b : ℕ) (code : SpelledGiven) (before mid after : CursorGiven) (front : Front)
+            → Tracks counted c last before check.old code front self.old → byte before ≡ Got (at, b) mid
+            → instruction counted at b mid ≡ Got (PlainGiven plain) after
             → OnOk result (Tracks counted c last after check.new code front self.new) × IfErr result (StopsReading c code) };
 
     /// Does as `take_read` does with one of the commonest instructions.
@@ -93,6 +109,45 @@ impl Indexed {
             Indexed::GlobalSet => Plain::GlobalSet(x),
         }
     }
+}
+
+/// A token that ends a part of a block.
+#[derive(Clone, Copy)]
+enum Closing {
+    Else,
+    End,
+}
+
+impl Closing {
+    /// It as a token.
+    fn token(self) -> Token
+        ensures { result ≡ closing self }
+    {
+        match self {
+            Closing::Else => Token::Else,
+            Closing::End => Token::End,
+        }
+    }
+}
+
+/// Checks and takes an `else` or an `end` that was read at an offset. The call has a function of its own, since a function zeroes the
+/// room of its calls' arguments and results when it begins: so that is only done where the call is made.
+#[inline(always)]
+fn take_closing<T: TokenSink>(
+    check: &mut Check<'_>,
+    sink: &mut T,
+    at: u64,
+    token: Closing,
+) -> Result<(), BodyStop>
+    requires fits { (left : ℕ) × T.Fits check.old (left + 1) sink.old }
+    requires more { check.old.checker.frames ≢ [] }
+    ensures fits { (left later : ℕ) → T.Fits check.old (left + 1) sink.old → later ≤ left → OnOk result (T.Fits check.new later sink.new) }
+    ensures goes { (counted : Bool) (c : ContextGiven) (last b : ℕ) (code : SpelledGiven) (before mid after : CursorGiven) (front : T.Front)
+        → T.Tracks counted c last before check.old code front sink.old → byte before ≡ Got (at, b) mid
+        → instruction counted at b mid ≡ Got (closing token) after
+        → OnOk result (T.Tracks counted c last after check.new code front sink.new) × IfErr result (StopsReading c code) }
+{
+    sink.take_read(check, at, &token.token())
 }
 
 /// Reads, checks and takes an instruction with an index, whose opcode was read at an offset.
@@ -208,6 +263,29 @@ fn take_other<T: TokenSink>(
     }
 }
 
+/// Does so. The call has a function of its own, as in `take_closing`.
+#[inline(always)]
+fn take_other_apart<T: TokenSink>(
+    fields: &mut Fields<'_>,
+    check: &mut Check<'_>,
+    sink: &mut T,
+    reading: ReadContext,
+    at: u64,
+    opcode: u8,
+) -> Result<(), BodyStop>
+    requires bytes { AreBytes fields.old.rest }
+    requires fits { T.Fits check.old (length fields.old.rest + 1) sink.old }
+    requires more { check.old.checker.frames ≢ [] }
+    ensures shrinks { OnOk result (length fields.new.rest ≤ length fields.old.rest) }
+    ensures bytes { OnOk result (AreBytes fields.new.rest) }
+    ensures fits { OnOk result (T.Fits check.new (length fields.new.rest) sink.new) }
+    ensures goes { (c : ContextGiven) (code : SpelledGiven) (before : CursorGiven) (front : T.Front)
+        → T.Tracks reading.counted c reading.last before check.old code front sink.old → byte before ≡ Got (at, opcode) fields.old
+        → OnOk result (T.Tracks reading.counted c reading.last fields.new check.new code front sink.new) × IfErr result (StopsReading c code) }
+{
+    take_other(fields, check, sink, reading, at, opcode)
+}
+
 /// Reads, checks and takes the instruction of an opcode, which was read at an offset.
 #[inline(always)]
 fn take_instruction<T: TokenSink>(
@@ -230,8 +308,8 @@ fn take_instruction<T: TokenSink>(
 {
     // an arm for each opcode that is common: its immediate is read without the general reader, whose token would be copied
     match opcode {
-        0x05 => sink.take_read(check, at, &Token::Else),
-        0x0B => sink.take_read(check, at, &Token::End),
+        0x05 => take_closing(check, sink, at, Closing::Else),
+        0x0B => take_closing(check, sink, at, Closing::End),
         0x0D => take_indexed(fields, check, sink, reading.last, at, Indexed::BrIf),
         0x20 => take_indexed(fields, check, sink, reading.last, at, Indexed::LocalGet),
         0x21 => take_indexed(fields, check, sink, reading.last, at, Indexed::LocalSet),
@@ -242,13 +320,13 @@ fn take_instruction<T: TokenSink>(
         0x42 => take_constant(fields, check, sink, reading.last, at, ValType::I64),
         0x28..=0x3E => match access_of(opcode) {
             Some(access) => take_access(fields, check, sink, reading.last, at, access),
-            None => take_other(fields, check, sink, reading, at, opcode),
+            None => take_other_apart(fields, check, sink, reading, at, opcode),
         },
         0x45..=0xC4 => match operation_of(opcode) {
             Some(op) => sink.take_common(check, at, Plain::Numeric(op)),
-            None => take_other(fields, check, sink, reading, at, opcode),
+            None => take_other_apart(fields, check, sink, reading, at, opcode),
         },
-        _ => take_other(fields, check, sink, reading, at, opcode),
+        _ => take_other_apart(fields, check, sink, reading, at, opcode),
     }
 }
 

@@ -3,11 +3,11 @@ use Rattle.body_compiler.proofs.token_loop.take_instruction.Goals as goal
 
 pub returns-in-5-clause-goes : goal.returns-in-5-clause-goes
 returns-in-5-clause-goes g c =
-    λ c' code before front k h. c.take_read.ensures.goes c.args.reading.counted c' c.args.reading.last c.args.opcode code before c.args.fields.now c.args.fields.now front k h (else_read c.args.reading.counted c.args.at c.args.opcode c.args.fields.now c.in-5.is)
+    λ c' code before front k h. c.take_closing.ensures.goes c.args.reading.counted c' c.args.reading.last c.args.opcode code before c.args.fields.now c.args.fields.now front k h (else_read c.args.reading.counted c.args.at c.args.opcode c.args.fields.now c.in-5.is)
 
 pub returns-in-11-clause-goes : goal.returns-in-11-clause-goes
 returns-in-11-clause-goes g c =
-    λ c' code before front k h. c.take_read-in-11.ensures.goes c.args.reading.counted c' c.args.reading.last c.args.opcode code before c.args.fields.now c.args.fields.now front k h (end_read c.args.reading.counted c.args.at c.args.opcode c.args.fields.now c.in-11.is)
+    λ c' code before front k h. c.take_closing-in-11.ensures.goes c.args.reading.counted c' c.args.reading.last c.args.opcode code before c.args.fields.now c.args.fields.now front k h (end_read c.args.reading.counted c.args.at c.args.opcode c.args.fields.now c.in-11.is)
 
 pub take_indexed-requires-clause-reads : goal.take_indexed-requires-clause-reads
 take_indexed-requires-clause-reads g c =

@@ -42,11 +42,11 @@ returns-in-Some-Err-Refused-clause-goes c =
 
 pub returns-clause-fits : goal.returns-clause-fits
 returns-clause-fits c =
-    λ left later fits less. c.take_read.ensures.fits left later (subst (λ (x : Checked). AreTied c.args.self.now.function.labels x (left + 1)) (sym (c.in-None.ensures.left refl)) fits.0, fits.1, fits.2, fits.3) less
+    λ left later fits less. c.take_plain_read.ensures.fits left later (subst (λ (x : Checked). AreTied c.args.self.now.function.labels x (left + 1)) (sym (c.in-None.ensures.left refl)) fits.0, fits.1, fits.2, fits.3) less
 
 pub returns-clause-goes : goal.returns-clause-goes
 returns-clause-goes c =
     λ counted c' last b code before mid after front k h is.
     let old = c.args.self.now.function in
-    c.take_read.ensures.goes counted c' last b code before mid after front
+    c.take_plain_read.ensures.goes counted c' last b code before mid after front
     (k.0, k.1, subst (λ (x : Checked). IsTaking counted old.too_long c' last before x code front.layout front.words (calling old.labels old.words old.calls.items old.rows c.args.self.now.sites.items)) (sym (c.in-None.ensures.left refl)) k.2) h is

@@ -54,9 +54,9 @@ returns-in-Some-Ok-clause-goes c = λ counted c' last b code before mid after fr
     (counts_on counted c' last c.args.at b before mid after (Plain c.args.plain) c.args.check.now c.common.new.self code front old h c.requires.more is steps.0 steps.1 (guarded s.live s.height_before) c.args.self.now.too_long c.take_plain.new.self.too_long c.if-self.false k exact.0 (rw c.in-Some-Ok.field-0-is at (c.in-Some-Ok.ensures.places (tokens_of g.tokens) g.reached)) new (λ w. c.take_plain.ensures w c' s.height_before), tt)
 
 pub returns-clause-fits : goal.returns-clause-fits
-returns-clause-fits c = λ left later counts less. c.take_read.ensures.fits left later (subst (λ (x : Checked). AreCounted c.args.self.now.too_long c.args.self.now.takes.items x) (sym (c.in-None.ensures.left refl)) counts) less
+returns-clause-fits c = λ left later counts less. c.take_plain_read.ensures.fits left later (subst (λ (x : Checked). AreCounted c.args.self.now.too_long c.args.self.now.takes.items x) (sym (c.in-None.ensures.left refl)) counts) less
 
 pub returns-clause-goes : goal.returns-clause-goes
 returns-clause-goes c = λ counted c' last b code before mid after front k h is.
     let old = word_count c.args.self.now.takes.items c.args.self.now.words in
-    c.take_read.ensures.goes counted c' last b code before mid after front (subst (λ (x : Checked). IsCountingOn counted c.args.self.now.too_long c' last before x code front old) (sym (c.in-None.ensures.left refl)) k) h is
+    c.take_plain_read.ensures.goes counted c' last b code before mid after front (subst (λ (x : Checked). IsCountingOn counted c.args.self.now.too_long c' last before x code front old) (sym (c.in-None.ensures.left refl)) k) h is
