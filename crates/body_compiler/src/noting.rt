@@ -11,6 +11,7 @@ use wasm_defs::Token;
 
 /// Notes the traps of a token with this offset, whose instruction words follow these, at a point that is
 /// reachable or not.
+#[inline(always)]
 pub fn note_token(
     sites: &mut Vec<TrapSite>,
     words: &[u32],

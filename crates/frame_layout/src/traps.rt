@@ -8,6 +8,7 @@ use std::alloc::AllocError;
 use wasm_defs::{BinaryOp, BulkOp, Operation, Plain, ValType};
 
 /// Notes a trap.
+#[inline(never)]
 fn note(sites: &mut Vec<TrapSite>, place: usize, offset: u64) -> Result<(), AllocError>
     ensures { OnOk result (sites.new.items ≡ sites.old.items ++ record { place = place; offset = offset } ∷ []) }
 {
@@ -16,6 +17,7 @@ fn note(sites: &mut Vec<TrapSite>, place: usize, offset: u64) -> Result<(), Allo
 }
 
 /// Notes the traps of a division, or that other operations have none.
+#[inline(always)]
 fn note_division(
     sites: &mut Vec<TrapSite>,
     words: &[u32],
@@ -41,6 +43,7 @@ fn note_division(
 }
 
 /// Notes the traps of `memory.fill`, `memory.copy` or `memory.init`.
+#[inline(never)]
 fn note_bulk(
     sites: &mut Vec<TrapSite>,
     words: &[u32],
@@ -64,7 +67,8 @@ fn note_bulk(
 }
 
 /// Notes the traps of an instruction at a reachable point, whose instruction words follow these: the index of each one's ECALL, and
-/// the offset of the instruction in the module.
+/// the offset of the instruction in the module. It is inlined where the instruction is known: most have no trap.
+#[inline(always)]
 pub fn note_traps(
     sites: &mut Vec<TrapSite>,
     words: &[u32],
