@@ -6,7 +6,7 @@ use rv_isa::{Code, Relocations, TrapSites, Words};
 
 /// The same code, in no more room than its instruction words, its relocations and its traps need: for a code that is kept. What
 /// can't be moved, since memory runs out, stays where it is.
-pub fn fitted(code: Code) -> Code
+pub(crate) fn fitted(code: Code) -> Code
     ensures { result ≡ code }
 {
     let Code {

@@ -1,5 +1,5 @@
 -- How many bytes and words the regions of an image are.
-use Rattle.std.proofs.Common.{◌≡◌, ℕ, ◌*◌, ◌≤◌, List, [], ◌∷◌, ◌++◌, length, refl, arith, length-append}
+use Rattle.std.proofs.Common.{◌≡◌, ℕ, ◌*◌, ◌≤◌, List, [], ◌∷◌, length, refl, arith, length-append}
 use Rattle.rv_isa.specs.Steps.{le_bytes}
 use Rattle.rv_isa.proofs.ByteLaws.{length-le_bytes}
 use Rattle.image_format.specs.declared.version.Version.{Version}

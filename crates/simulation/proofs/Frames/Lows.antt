@@ -1,7 +1,7 @@
 -- Each token lifts the operands by no more than a type has parameters or results, so a body's heights are no more than its tokens can
 -- add.
 use Rattle.std.proofs.Common.{◌≡◌, ℕ, zero, suc, ◌+◌, ◌*◌, ◌≤◌, List, [], ◌∷◌, length, Option, Some, None, refl, sym, ap, subst, arith}
-use Rattle.std.specs.Prelude.{slice_get, nat_lt, Bool, true, false, ◌&&◌}
+use Rattle.std.specs.Prelude.{slice_get, nat_lt, Bool, true, false}
 use Rattle.wasm_defs.specs.declared.types.FuncType.{FuncType}
 use Rattle.wasm_defs.specs.declared.types.ValType.{ValType}
 use Rattle.wasm_defs.specs.declared.types.ValType.TheVariants.{I32}

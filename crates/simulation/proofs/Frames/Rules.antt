@@ -1,6 +1,6 @@
 -- What rules say of heights and types.
 use Rattle.std.proofs.Common.{◌≡◌, append_assoc, ℕ, ◌+◌, ◌-◌, ◌≤◌, List, [], ◌∷◌, ◌++◌, length, take, drop, Option, Some, None, refl, sym, ap, ◌∙◌, arith}
-use Rattle.std.specs.Prelude.{Bool, true, false, ◌&&◌, slice_get, option_map}
+use Rattle.std.specs.Prelude.{Bool, true, false, slice_get, option_map}
 use Rattle.std.proofs.lemmas.Option.{slice_get-map}
 use Rattle.std.proofs.lemmas.List.{length-map, length-append, map-append}
 use Rattle.wasm_defs.specs.declared.types.ValType.{ValType}

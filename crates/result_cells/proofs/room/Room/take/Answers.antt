@@ -1,4 +1,4 @@
-use Rattle.std.proofs.Common.{◌≡◌, ◌-◌, rules, arith, refl, ◌∙◌}
+use Rattle.std.proofs.Common.{◌-◌, rules, arith, refl, ◌∙◌}
 use Rattle.result_cells.specs.Views.{seen_view}
 use Rattle.result_cells.proofs.Kept.{looks_kept, tries_kept, empties_kept, missed, lowered, granted, short_of}
 use Rattle.result_cells.proofs.room.Room.take.Goals as goal
