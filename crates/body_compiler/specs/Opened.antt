@@ -6,17 +6,18 @@ use Rattle.wasm_defs.specs.Limits.{max_locals}
 use Rattle.wasm_defs.specs.SmallTypes.{TypeIsSmall}
 use Rattle.wasm_defs.specs.Typing.{Context}
 use Rattle.body_validator.specs.Checking.{start_checker}
+use Rattle.body_validator.specs.Checks.{Checked}
 use Rattle.body_compiler.specs.declared.opened.OpenedBody.{OpenedBody}
 use Rattle.body_compiler.specs.LocalGroups.{Declares}
 use Rattle.body_compiler.specs.Steps.{FunctionsAreSmall}
 
 -- the locals of a function's body were read and declared, in a module that counts its data segments or doesn't
-pub record IsOpened (counted : Bool) (c : Context) (index first : ℕ) (bytes : List ℕ) (body : OpenedBody) : Type 0 where
+pub record IsOpened (counted : Bool) (c : Context) (index first : ℕ) (bytes : List ℕ) (check : Checked) (body : OpenedBody) : Type 0 where
   pub counts : body.counted ≡ counted
   pub function : body.function.now ≡ type_of_function c index
   pub small : TypeIsSmall body.function.now
-  pub functions : FunctionsAreSmall body.check.context
-  pub declared : Declares c (type_of_function c index) local_groups (Ok body.locals) (body_cursor first bytes) body.fields body.check
-  pub begun : body.check.checker ≡ start_checker body.check.context
+  pub functions : FunctionsAreSmall check.context
+  pub declared : Declares c (type_of_function c index) local_groups (Ok body.locals) (body_cursor first bytes) body.fields check
+  pub begun : check.checker ≡ start_checker check.context
   pub few : body.locals ≤ max_locals
   pub last : body.last ≡ last_of first bytes

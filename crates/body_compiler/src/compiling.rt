@@ -18,6 +18,7 @@ ghost use Rattle.body_compiler.specs.Going.{IsGoing};
 use crate::code::{BodyBuilder, BodyStop, judge_code};
 use crate::function_builder::{begin, finish};
 use crate::opened::{OpenedBody, open_body};
+use crate::scratch::Scratch;
 use crate::token_loop::ReadContext;
 use body_validator::Check;
 use frame_layout::Layout;
@@ -43,20 +44,20 @@ fn no_sites(alloc: Global) -> Vec<TrapSite>
 
 /// Compiles the code of a body whose first byte has the offset `first`, in a module whose table has so many rows at first.
 fn compile_code(
-    alloc: Global,
+    scratch: &mut Scratch<'_>,
     rows: u32,
     first: u64,
-    body: OpenedBody<'_>,
+    body: OpenedBody<'_, '_>,
 ) -> Result<Code, BodyStop>
     requires small { TypeIsSmall body.function.now }
     requires locals { body.locals ≤ max_locals }
     requires bytes { AreBytes body.fields.rest }
     requires few { length body.fields.rest ≤ max_body }
-    requires begun { body.check.checker ≡ start_checker body.check.context }
-    requires unlabelled { body.check.context.labels ≡ [] }
-    requires functions { FunctionsAreSmall body.check.context }
-    requires results { length body.check.context.results ≡ length body.function.now.results }
-    ensures { (c : ContextGiven) (code : SpelledGiven) (g : IsGoing body.entry.counted c body.entry.last body.entry.fields body.entry.check code)
+    requires begun { scratch.old.check.checker ≡ start_checker scratch.old.check.context }
+    requires unlabelled { scratch.old.check.context.labels ≡ [] }
+    requires functions { FunctionsAreSmall scratch.old.check.context }
+    requires results { length scratch.old.check.context.results ≡ length body.function.now.results }
+    ensures { (c : ContextGiven) (code : SpelledGiven) (g : IsGoing body.entry.counted c body.entry.last body.entry.fields scratch.old.check code)
         → g.tokens ≡ [] → length c.results ≡ length body.entry.function.now.results → Makes rows first c code
         (record { params = length body.entry.function.now.params; locals = body.entry.locals; greatest = 0 }) (length body.entry.function.now.results) result }
 {
@@ -64,10 +65,10 @@ fn compile_code(
         function,
         locals,
         mut fields,
-        mut check,
         counted,
         last,
     } = body;
+    let alloc = scratch.alloc;
     let layout = Layout {
         params: function.params.as_slice().len() as u32,
         locals,
@@ -84,7 +85,7 @@ fn compile_code(
     };
     match judge_code(
         &mut fields,
-        &mut check,
+        &mut scratch.check,
         &mut draft,
         ReadContext {
             alloc,
@@ -95,7 +96,7 @@ fn compile_code(
         Ok(()) => {}
         Err(stop) => return Err(stop),
     }
-    let greatest = check.end().greatest;
+    let greatest = scratch.check.shape().greatest;
     match finish(
         alloc,
         draft.function,
@@ -126,9 +127,9 @@ fn rows_of(context: &Context) -> u32
 /// words of its function (`Functions` of `frame_layout`), whose calls have no distances yet, the indices of these calls, where its
 /// traps are and what of the module traps there, and the number of slots that it needs. Any other body is refused with its first
 /// error. Where memory runs out it is neither.
-pub fn compile(
-    alloc: Global,
-    context: &Context,
+pub fn compile<'a>(
+    scratch: &mut Scratch<'a>,
+    context: &'a Context,
     index: u32,
     bytes: &[u8],
     offset: u64,
@@ -139,8 +140,8 @@ pub fn compile(
     ensures { Compiles (first_minimum context.now.tables) offset (context_in context.now) index
         (body_read (is_some context.now.data_count) offset bytes.now) result }
 {
-    match open_body(alloc, context, index, bytes, offset) {
-        Ok(body) => compile_code(alloc, rows_of(context), offset, body),
+    match open_body(&mut scratch.check, context, index, bytes, offset) {
+        Ok(body) => compile_code(scratch, rows_of(context), offset, body),
         Err(stop) => Err(stop),
     }
 }

@@ -30,13 +30,15 @@ ghost use Rattle.body_compiler.specs.Steps.{branches_plain, FunctionsAreSmall, N
 
 use crate::code::BodyStop;
 use crate::opened::{OpenedBody, open_body};
+use crate::scratch::Scratch;
 use crate::steps::{params_of, results_of};
 use crate::token_loop::{ReadContext, TokenSink, read_code};
 use crate::word_counts::{frame_words, plain_words};
 use body_validator::{Check, TokenStop};
 use index_spaces::Context;
 use leb_feed::Fields;
-use std::alloc::{AllocError, Global};
+use std::alloc::AllocError;
+use std::mem::replace;
 use wasm_defs::{FuncType, MAX_TEXT, Plain, Token};
 
 /// Those of a jump that takes so many values along.
@@ -120,10 +122,10 @@ struct WordCounter {
 
 impl WordCounter {
     /// A function with so many results, of which so many words are counted already.
-    fn new(alloc: Global, words: u32, results: u32) -> Result<WordCounter, AllocError>
+    fn new(mut takes: Vec<u32>, words: u32, results: u32) -> Result<WordCounter, AllocError>
         ensures { IfOk result (λ n. (n.takes.items ≡ results ∷ []) × (n.words ≡ words) × (n.too_long ≡ false)) }
     {
-        let mut takes = Vec::new(alloc);
+        takes.clear();
         takes.push(results)?;
         Ok(WordCounter {
             takes,
@@ -334,13 +336,13 @@ fn count_code(
 }
 
 /// Counts the words of a body's code.
-fn measure_code(alloc: Global, body: OpenedBody<'_>) -> Result<u64, BodyStop>
+fn measure_code(scratch: &mut Scratch<'_>, body: OpenedBody<'_, '_>) -> Result<u64, BodyStop>
     requires bytes { AreBytes body.fields.rest }
-    requires begun { body.check.checker ≡ start_checker body.check.context }
-    requires unlabelled { body.check.context.labels ≡ [] }
-    requires functions { FunctionsAreSmall body.check.context }
+    requires begun { scratch.old.check.checker ≡ start_checker scratch.old.check.context }
+    requires unlabelled { scratch.old.check.context.labels ≡ [] }
+    requires functions { FunctionsAreSmall scratch.old.check.context }
     requires small { TypeIsSmall body.function.now }
-    ensures { (c : ContextGiven) (code : SpelledGiven) (g : IsGoing body.entry.counted c body.entry.last body.entry.fields body.entry.check code)
+    ensures { (c : ContextGiven) (code : SpelledGiven) (g : IsGoing body.entry.counted c body.entry.last body.entry.fields scratch.old.check code)
         → g.tokens ≡ [] → length c.results ≡ length body.entry.function.now.results → (rows first : ℕ) → Sizes rows first c code
         (record { params = length body.entry.function.now.params; locals = body.entry.locals; greatest = 0 }) (length body.entry.function.now.results) result }
 {
@@ -348,17 +350,18 @@ fn measure_code(alloc: Global, body: OpenedBody<'_>) -> Result<u64, BodyStop>
         function,
         locals,
         mut fields,
-        mut check,
         counted,
         last,
     } = body;
+    let alloc = scratch.alloc;
     let results = function.results.as_slice().len() as u32;
-    let Ok(mut counter) = WordCounter::new(alloc, frame_words(locals, results), results) else {
+    let takes = replace(&mut scratch.takes, Vec::new(alloc));
+    let Ok(mut counter) = WordCounter::new(takes, frame_words(locals, results), results) else {
         return Err(BodyStop::NoMemory);
     };
     match count_code(
         &mut fields,
-        &mut check,
+        &mut scratch.check,
         &mut counter,
         ReadContext {
             alloc,
@@ -366,15 +369,18 @@ fn measure_code(alloc: Global, body: OpenedBody<'_>) -> Result<u64, BodyStop>
             last,
         },
     ) {
-        Ok(()) => Ok(u64::from(counter.words)),
+        Ok(()) => {
+            scratch.takes = counter.takes;
+            Ok(u64::from(counter.words))
+        }
         Err(stop) => Err(stop),
     }
 }
 
 /// Validates the body of a function as `compile` does, and counts the instruction words of its code without making them.
-pub fn measure(
-    alloc: Global,
-    context: &Context,
+pub fn measure<'a>(
+    scratch: &mut Scratch<'a>,
+    context: &'a Context,
     index: u32,
     bytes: &[u8],
     offset: u64,
@@ -385,8 +391,8 @@ pub fn measure(
     ensures { Measures (first_minimum context.now.tables) offset (context_in context.now) index
         (body_read (is_some context.now.data_count) offset bytes.now) result }
 {
-    match open_body(alloc, context, index, bytes, offset) {
-        Ok(body) => measure_code(alloc, body),
+    match open_body(&mut scratch.check, context, index, bytes, offset) {
+        Ok(body) => measure_code(scratch, body),
         Err(stop) => Err(stop),
     }
 }

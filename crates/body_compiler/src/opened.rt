@@ -13,19 +13,17 @@ use crate::locals::declare_locals;
 use body_validator::Check;
 use index_spaces::Context;
 use leb_feed::Fields;
-use std::alloc::Global;
 use wasm_defs::FuncType;
 
 /// A body whose fields were read up to its code.
 #[derive(Drop)]
-pub(crate) struct OpenedBody<'a> {
+pub(crate) struct OpenedBody<'a, 'b> {
     /// The type of its function.
     pub(crate) function: &'a FuncType,
     /// How many locals it declares.
     pub(crate) locals: u32,
     /// What is left to read.
-    pub(crate) fields: Fields<'a>,
-    pub(crate) check: Check<'a>,
+    pub(crate) fields: Fields<'b>,
     /// Whether the module counts its data segments.
     pub(crate) counted: bool,
     /// The offset of the body's last byte.
@@ -33,17 +31,17 @@ pub(crate) struct OpenedBody<'a> {
 }
 
 /// Reads and declares the locals of a function's body, whose first byte has the offset.
-pub(crate) fn open_body<'a>(
-    alloc: Global,
+pub(crate) fn open_body<'a, 'b>(
+    check: &mut Check<'a>,
     context: &'a Context,
     index: u32,
-    bytes: &'a [u8],
+    bytes: &'b [u8],
     offset: u64,
-) -> Result<OpenedBody<'a>, BodyStop>
+) -> Result<OpenedBody<'a, 'b>, BodyStop>
     requires function { IsSome (function_type (context_in context.now) index) }
     requires most { length bytes.now ≤ max_body }
     requires fits { offset + length bytes.now < 2 ^ 63 }
-    ensures opened { IfOk result (λ body. IsOpened (is_some context.now.data_count) (context_in context.now) index offset bytes.now body) }
+    ensures opened { IfOk result (λ body. IsOpened (is_some context.now.data_count) (context_in context.now) index offset bytes.now check.new body) }
     ensures stops { IfErr result (λ stop. (rows : ℕ) → Compiles rows offset (context_in context.now) index
         (body_read (is_some context.now.data_count) offset bytes.now) (Err stop)) }
 {
@@ -51,15 +49,15 @@ pub(crate) fn open_body<'a>(
     let len = bytes.len() as u64;
     let last = offset + len.saturating_sub(1);
     let mut fields = Fields::new(bytes, offset, offset + len + 1);
-    let Ok(mut check) = Check::new(alloc, context, index) else {
-        return Err(BodyStop::NoMemory);
-    };
-    match declare_locals(&mut fields, &mut check) {
+    match check.begin(context, index) {
+        Ok(()) => {}
+        Err(_) => return Err(BodyStop::NoMemory),
+    }
+    match declare_locals(&mut fields, check) {
         Ok(locals) => Ok(OpenedBody {
             function: context.type_of_function(index),
             locals,
             fields,
-            check,
             counted: context.data_count().is_some(),
             last,
         }),

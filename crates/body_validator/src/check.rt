@@ -13,7 +13,7 @@
 //! check.token(36, i64.eqz)        Ok(Step { live: false, .. }): what isn't reachable may take anything
 //! ```
 
-ghost use Rattle.std.specs.Prelude.{◌≡◌, ◌↔◌, IsTrue, IsSome, List, [], ◌∷◌, ◌++◌, length, IfOk, IfSome, OnOk, None};
+ghost use Rattle.std.specs.Prelude.{◌≡◌, ◌↔◌, IsTrue, IsSome, List, [], ◌∷◌, ◌++◌, length, IfOk, IfSome, OnOk, OnErr, None};
 ghost use Rattle.wasm_defs.specs.declared.token.Token.{Token as TokenGiven};
 ghost use Rattle.wasm_defs.specs.declared.token.Token.TheVariants.{Plain as PlainGiven};
 ghost use Rattle.wasm_defs.specs.declared.types.FuncType.{FuncType as FuncTypeGiven};
@@ -111,28 +111,47 @@ impl<'a> Model for Check<'a> {
 }
 
 impl<'a> Check<'a> {
+    /// The check of no body: it is over.
+    pub fn idle(alloc: Global, context: &'a Context) -> Self {
+        Check {
+            scope: Scope {
+                context,
+                results: &[],
+                locals: Locals::new(alloc, &[]),
+            },
+            stack: Stack::idle(alloc),
+            params: 0,
+            greatest: 0,
+        }
+    }
+
     /// Begins the body of the function of that index, whose type the context has.
     pub fn new(alloc: Global, context: &'a Context, index: u32) -> Result<Self, AllocError>
         requires { IsSome (function_type (context_in context.now) index) }
         ensures { let c = context_in context.now in
             IfOk result (λ check. check ≡ before_code c (type_of_function c index) []) }
     {
+        let mut check = Check::idle(alloc, context);
+        check.begin(context, index)?;
+        Ok(check)
+    }
+
+    /// Begins the body of the function of that index, whose type the context has, in the room that other bodies took. Where memory runs
+    /// out the check is as before.
+    pub fn begin(&mut self, context: &'a Context, index: u32) -> Result<(), AllocError>
+        requires { IsSome (function_type (context_in context.now) index) }
+        ensures ok { let c = context_in context.now in
+            OnOk result (self.new ≡ before_code c (type_of_function c index) []) }
+        ensures err { OnErr result (self.new ≡ self.old) }
+    {
         let function = context.type_of_function(index);
-        let locals = Locals::new(alloc, function.params.as_slice());
-        let params = locals.len();
         let results = function.results.as_slice();
-        let stack = Stack::new(alloc, results)?;
-        let scope = Scope {
-            context,
-            results,
-            locals,
-        };
-        Ok(Check {
-            scope,
-            stack,
-            params,
-            greatest: 0,
-        })
+        self.stack.begin(results)?;
+        self.scope
+            .begin(context, function.params.as_slice(), results);
+        self.params = self.scope.local_count();
+        self.greatest = 0;
+        Ok(())
     }
 
     /// Takes a group of declared locals of one type, whose count is at the offset, before the first token. It is refused where
@@ -257,13 +276,13 @@ impl<'a> Check<'a> {
         !self.stack.is_open()
     }
 
-    /// Ends the check of a body whose last `end` was taken.
-    pub fn end(self) -> Shape
-        requires { self.checker.frames ≡ [] }
-        ensures counts { IsCounted result self.entry }
-        ensures measured { result.greatest ≡ self.entry.checker.greatest }
-        ensures greatest { (tokens : List TokenGiven) (tree : Seq) → IsReached tokens self.entry → Tree tokens tree
-            → IsBody self.entry.context tree → result.greatest ≡ greatest (places_of self.entry.context tree) }
+    /// What a body needs whose last `end` was taken.
+    pub fn shape(&self) -> Shape
+        requires { self.now.checker.frames ≡ [] }
+        ensures counts { IsCounted result self.now }
+        ensures measured { result.greatest ≡ self.now.checker.greatest }
+        ensures greatest { (tokens : List TokenGiven) (tree : Seq) → IsReached tokens self.now → Tree tokens tree
+            → IsBody self.now.context tree → result.greatest ≡ greatest (places_of self.now.context tree) }
     {
         Shape {
             greatest: self.greatest,

@@ -88,6 +88,18 @@ impl<'a> Operands<'a> {
         }
     }
 
+    /// Lets go of all, and keeps their room.
+    pub fn clear(&mut self)
+        ensures empty { flat self.new ≡ [] }
+        ensures seen { IsSeen 0 false self.new }
+    {
+        self.singles.clear();
+        self.lists.clear();
+        self.listed = 0;
+        self.start = 0;
+        self.unknown = false;
+    }
+
     /// How many there are.
     pub fn height(&self) -> usize
         requires { IsKept self.now }

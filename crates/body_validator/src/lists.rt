@@ -35,6 +35,14 @@ impl<'a> Lists<'a> {
         }
     }
 
+    /// Lets go of all lists, and keeps their room.
+    pub fn clear(&mut self)
+        ensures { spreads self.new ≡ [] }
+    {
+        self.types.clear();
+        self.below.clear();
+    }
+
     /// How many single operands are below the topmost list, or 0 where there is none.
     pub fn floor(&self) -> usize
         ensures { result ≡ floor_of (reverse (spreads self.now)) }

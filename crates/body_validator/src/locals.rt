@@ -93,6 +93,14 @@ impl<'a> Locals<'a> {
         }
     }
 
+    /// Begins with those of a function of these parameters that declares none so far.
+    pub fn begin(&mut self, params: &'a [ValType])
+        ensures { self.new ≡ params.now }
+    {
+        self.runs.clear();
+        self.params = params;
+    }
+
     /// How many there are.
     pub fn len(&self) -> usize
         ensures { result ≡ length self.now }

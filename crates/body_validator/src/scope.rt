@@ -1,7 +1,8 @@
 //! What the instructions of a body may name.
 
-ghost use Rattle.std.specs.Prelude.{◌≡◌, ◌++◌, length, replicate, nat_lt, None, Some, slice_get, MatchOption, OnOk, OnErr};
+ghost use Rattle.std.specs.Prelude.{◌≡◌, ◌++◌, length, replicate, reverse, nat_lt, None, Some, slice_get, MatchOption, OnOk, OnErr};
 ghost use Rattle.wasm_defs.specs.Typing.{accesses, function_type};
+ghost use Rattle.index_spaces.specs.Spaces.{context_in};
 ghost use Rattle.body_validator.specs.Scopes.{with_locals};
 
 use crate::locals::Locals;
@@ -32,6 +33,15 @@ impl<'a> Model for Scope<'a> {
 }
 
 impl<'a> Scope<'a> {
+    /// Begins with a function of these parameters and results, which declares no locals so far.
+    pub fn begin(&mut self, context: &'a Context, params: &'a [ValType], results: &'a [ValType])
+        ensures { self.new ≡ record (context_in context.now) { locals = params.now; results = reverse results.now } }
+    {
+        self.context = context;
+        self.results = results;
+        self.locals.begin(params);
+    }
+
     /// How many locals there are, the parameters among them.
     pub fn local_count(&self) -> usize
         ensures { result ≡ length self.now.locals }

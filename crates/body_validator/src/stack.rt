@@ -1,6 +1,7 @@
 //! The open frames of a body, and their operands.
 
-ghost use Rattle.std.specs.Prelude.{◌≡◌, ◌-◌, ◌<◌, [], ◌∷◌, ◌++◌, length, reverse, take, Some, None, slice_get, MatchOption, IfOk, vec_len, vec_capacity};
+ghost use Rattle.std.specs.Prelude.{◌≡◌, ◌-◌, ◌<◌, [], ◌∷◌, ◌++◌, length, reverse, take, Some, None, slice_get, MatchOption, vec_len, vec_capacity};
+ghost use Rattle.std.specs.Prelude.{OnOk, OnErr};
 ghost use Rattle.body_validator.specs.Checking.{height, body_frames, label_of, is_open, is_live, may_turn, labels, may_end, takes_else, applied, enter, turned};
 ghost use Rattle.body_validator.specs.Checking.{ended};
 ghost use Rattle.wasm_defs.specs.Typing.{Stops, Fixed, Discards, Selects};
@@ -130,16 +131,27 @@ impl<'a> Model for Stack<'a> {
 }
 
 impl<'a> Stack<'a> {
-    /// The frame of a body of these results.
-    pub fn new(alloc: Global, results: &'a [ValType]) -> Result<Self, AllocError>
-        ensures { IfOk result (λ s. s ≡ body_frames (reverse results.now)) }
+    /// No frames.
+    pub fn idle(alloc: Global) -> Self
+        ensures { result ≡ [] }
     {
-        let mut frames = Vec::new(alloc);
-        if frames.reserve(1).is_err() {
-            return Err(AllocError);
+        Stack {
+            frames: Vec::new(alloc),
+            operands: Operands::new(alloc),
+            live: false,
         }
+    }
+
+    /// Begins with the frame of a body of these results, in the room of the others. Where memory runs out they are as before.
+    pub fn begin(&mut self, results: &'a [ValType]) -> Result<(), AllocError>
+        ensures ok { OnOk result (self.new ≡ body_frames (reverse results.now)) }
+        ensures err { OnErr result (self.new ≡ self.old) }
+    {
+        self.frames.reserve(1)?;
+        self.frames.clear();
+        self.operands.clear();
         push_frame(
-            &mut frames,
+            &mut self.frames,
             Frame {
                 opening: Opening::Block,
                 params: &[],
@@ -149,11 +161,8 @@ impl<'a> Stack<'a> {
                 live: true,
             },
         );
-        Ok(Stack {
-            frames,
-            operands: Operands::new(alloc),
-            live: true,
-        })
+        self.live = true;
+        Ok(())
     }
 
     /// How many operands there are.

@@ -4,7 +4,7 @@ ghost use Rattle.std.specs.Prelude.{IfOk};
 ghost use Rattle.index_spaces.specs.ItemLimits.{HasSmallType};
 
 use crate::rows::{bytes_of, parts_of, text_of};
-use body_compiler::{BodyStop, compile, measure};
+use body_compiler::{BodyStop, Scratch, compile, measure};
 use index_spaces::{Context, ContextBuilder};
 use rv_isa::Code;
 use std::alloc::{AllocError, Global};
@@ -121,8 +121,9 @@ fn compiled(alloc: Global, has_two: bool, bytes: &[u8], offset: u32) -> Result<C
         return Err(BodyStop::TooLong);
     }
     let offset = u64::from(offset);
-    let code = compile(alloc, &context, 0, bytes, offset);
-    if !are_alike(measure(alloc, &context, 0, bytes, offset), &code) {
+    let mut scratch = Scratch::new(alloc, &context);
+    let code = compile(&mut scratch, &context, 0, bytes, offset);
+    if !are_alike(measure(&mut scratch, &context, 0, bytes, offset), &code) {
         return Err(BodyStop::TooLong);
     }
     code

@@ -11,7 +11,7 @@ ghost use Rattle.module_stream.specs.Progress.{IsJudging, CanTake, CanTakeNext, 
 ghost use Rattle.module_stream.specs.Limits.{max_read};
 
 use crate::codes::Codes;
-use body_compiler::{BodyStop, compile, may_be_longer, measure};
+use body_compiler::{BodyStop, Scratch, compile, may_be_longer, measure};
 use body_cutter::{Batch, Body, Cutter};
 use image_linker::passes_limit;
 use index_spaces::ContextBuilder;
@@ -41,9 +41,9 @@ fn stop_at(body: &Body, stop: BodyStop) -> FrontStop
 }
 
 /// Compiles a body, before which so many bodies come.
-fn take_body(
-    alloc: Global,
-    spaces: &ContextBuilder,
+fn take_body<'a>(
+    scratch: &mut Scratch<'a>,
+    spaces: &'a ContextBuilder,
     bodies: u32,
     body: &Body,
 ) -> Result<Code, BodyStop>
@@ -52,13 +52,13 @@ fn take_body(
 {
     let context = spaces.context();
     let index = context.imported() + bodies;
-    compile(alloc, context, index, body.bytes.as_slice(), body.first)
+    compile(scratch, context, index, body.bytes.as_slice(), body.first)
 }
 
 /// Counts the instruction words of a body's code, before which so many bodies come.
-fn measure_body(
-    alloc: Global,
-    spaces: &ContextBuilder,
+fn measure_body<'a>(
+    scratch: &mut Scratch<'a>,
+    spaces: &'a ContextBuilder,
     bodies: u32,
     body: &Body,
 ) -> Result<u64, BodyStop>
@@ -67,7 +67,7 @@ fn measure_body(
 {
     let context = spaces.context();
     let index = context.imported() + bodies;
-    measure(alloc, context, index, body.bytes.as_slice(), body.first)
+    measure(scratch, context, index, body.bytes.as_slice(), body.first)
 }
 
 /// Whether a code of so many instruction words can follow these codes.
@@ -110,9 +110,9 @@ pub fn add_code(
 }
 
 /// Takes the next body, and keeps its code.
-fn keep_code(
-    alloc: Global,
-    spaces: &ContextBuilder,
+fn keep_code<'a>(
+    scratch: &mut Scratch<'a>,
+    spaces: &'a ContextBuilder,
     codes: &mut Codes,
     body: &Body,
 ) -> Result<(), FrontStop>
@@ -120,7 +120,7 @@ fn keep_code(
     ensures takes { TakesCode spaces.now codes.old body.now result codes.new }
     ensures kept { KeepsAlike codes.old codes.new }
 {
-    match take_body(alloc, spaces, codes.count(), body) {
+    match take_body(scratch, spaces, codes.count(), body) {
         Ok(code) => add_code(spaces, codes, body, &code),
         Err(stop) => Err(stop_at(body, stop)),
     }
@@ -128,9 +128,9 @@ fn keep_code(
 
 /// Takes the next body, whose code has so many instruction words: where codes are kept, they are made if the text keeps its limit with
 /// them.
-pub fn take_counted(
-    alloc: Global,
-    spaces: &ContextBuilder,
+pub fn take_counted<'a>(
+    scratch: &mut Scratch<'a>,
+    spaces: &'a ContextBuilder,
     codes: &mut Codes,
     body: &Body,
     words: u64,
@@ -145,16 +145,16 @@ pub fn take_counted(
         Err(stop) => return Err(stop),
     }
     if codes.are_kept() {
-        return keep_code(alloc, spaces, codes, body);
+        return keep_code(scratch, spaces, codes, body);
     }
     codes.count_words(words);
     Ok(())
 }
 
 /// Takes the next body, once the instruction words of its code are counted.
-fn take_measured(
-    alloc: Global,
-    spaces: &ContextBuilder,
+fn take_measured<'a>(
+    scratch: &mut Scratch<'a>,
+    spaces: &'a ContextBuilder,
     codes: &mut Codes,
     body: &Body,
 ) -> Result<(), FrontStop>
@@ -162,8 +162,8 @@ fn take_measured(
     ensures takes { TakesCode spaces.now codes.old body.now result codes.new }
     ensures kept { KeepsAlike codes.old codes.new }
 {
-    match measure_body(alloc, spaces, codes.count(), body) {
-        Ok(words) => take_counted(alloc, spaces, codes, body, words),
+    match measure_body(scratch, spaces, codes.count(), body) {
+        Ok(words) => take_counted(scratch, spaces, codes, body, words),
         Err(stop) => Err(stop_at(body, stop)),
     }
 }
@@ -175,9 +175,9 @@ fn may_pass_limit(spaces: &ContextBuilder, codes: &Codes, body: &Body) -> bool {
 }
 
 /// Takes the next body, after those that have these codes.
-pub fn take_code(
-    alloc: Global,
-    spaces: &ContextBuilder,
+pub fn take_code<'a>(
+    scratch: &mut Scratch<'a>,
+    spaces: &'a ContextBuilder,
     codes: &mut Codes,
     body: &Body,
 ) -> Result<(), FrontStop>
@@ -187,9 +187,9 @@ pub fn take_code(
 {
     // Why: docs/DECISIONS.md, "A body that may be too long is counted first"
     if !codes.are_kept() || may_pass_limit(spaces, codes, body) {
-        take_measured(alloc, spaces, codes, body)
+        take_measured(scratch, spaces, codes, body)
     } else {
-        keep_code(alloc, spaces, codes, body)
+        keep_code(scratch, spaces, codes, body)
     }
 }
 
@@ -206,9 +206,10 @@ pub fn take_batch(
         → TakesPart bytes result left spaces.now codes.new }
     ensures kept { KeepsAlike codes.old codes.new }
 {
+    let mut scratch = Scratch::new(alloc, spaces.context());
     let mut bodies = batch.bodies.into_list();
     while let Some(body) = bodies.pop_front() {
-        match take_code(alloc, spaces, codes, &body) {
+        match take_code(&mut scratch, spaces, codes, &body) {
             Ok(()) => {}
             Err(stop) => return Err(stop),
         }

@@ -14,7 +14,7 @@ ghost use Rattle.module_stream.specs.Limits.{max_read};
 
 use crate::bodies::{add_code, limit_at, take_code, take_counted};
 use crate::codes::Codes;
-use body_compiler::{Row, RowCode, Stored};
+use body_compiler::{Row, RowCode, Scratch, Stored};
 use body_cutter::{Batch, Body};
 use index_spaces::ContextBuilder;
 use result_cells::Cells;
@@ -52,9 +52,9 @@ fn are_same(bodies: &LinkedList<Body>, others: &LinkedList<Body>) -> bool
 }
 
 /// Takes the next body, of which a worker stored the code.
-fn take_stored(
-    alloc: Global,
-    spaces: &ContextBuilder,
+fn take_stored<'a>(
+    scratch: &mut Scratch<'a>,
+    spaces: &'a ContextBuilder,
     codes: &mut Codes,
     cells: &Cells,
     body: &Body,
@@ -67,8 +67,8 @@ fn take_stored(
     ensures kept { KeepsAlike codes.old codes.new }
 {
     match stored {
-        Stored::Judged(words) => take_counted(alloc, spaces, codes, body, words),
-        Stored::NoRoom(words, _) => take_counted(alloc, spaces, codes, body, words),
+        Stored::Judged(words) => take_counted(scratch, spaces, codes, body, words),
+        Stored::NoRoom(words, _) => take_counted(scratch, spaces, codes, body, words),
         Stored::Apart(_, _, code) => add_code(spaces, codes, body, &code),
         Stored::Cell(mut note, _) => match cells.get(index, &mut note) {
             Some(code) => add_code(spaces, codes, body, code),
@@ -79,9 +79,9 @@ fn take_stored(
 }
 
 /// Takes the next body: with the code that a worker made, if it is at hand and of this function, and else by compiling it.
-fn take_next(
-    alloc: Global,
-    spaces: &ContextBuilder,
+fn take_next<'a>(
+    scratch: &mut Scratch<'a>,
+    spaces: &'a ContextBuilder,
     codes: &mut Codes,
     cells: &Cells,
     body: &Body,
@@ -93,13 +93,13 @@ fn take_next(
     ensures kept { KeepsAlike codes.old codes.new }
 {
     let Some(made) = made else {
-        return take_code(alloc, spaces, codes, body);
+        return take_code(scratch, spaces, codes, body);
     };
     let index = spaces.context().imported() + codes.count();
     if body.index == index {
-        take_stored(alloc, spaces, codes, cells, body, index, made.stored)
+        take_stored(scratch, spaces, codes, cells, body, index, made.stored)
     } else {
-        take_code(alloc, spaces, codes, body)
+        take_code(scratch, spaces, codes, body)
     }
 }
 
@@ -120,9 +120,10 @@ fn take_bodies(
         → TakesPart bytes result left spaces.now codes.new }
     ensures kept { KeepsAlike codes.old codes.new }
 {
+    let mut scratch = Scratch::new(alloc, spaces.context());
     // Why: docs/DECISIONS.md, "The answer is worked out in the order of the bodies"
     for body in bodies.iter() {
-        match take_next(alloc, spaces, codes, cells, body, made.pop()) {
+        match take_next(&mut scratch, spaces, codes, cells, body, made.pop()) {
             Ok(()) => {}
             Err(stop) => return Err(stop),
         }

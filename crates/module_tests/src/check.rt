@@ -191,7 +191,7 @@ fn take_all(alloc: Global, check: &mut Check<'_>, body: &str) -> Result<(), Toke
 /// The shape of a body that is over.
 fn shape_of(check: Check<'_>) -> Option<Shape> {
     if check.is_over() {
-        Some(check.end())
+        Some(check.shape())
     } else {
         None
     }

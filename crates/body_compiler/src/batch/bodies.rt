@@ -10,6 +10,7 @@ use crate::compiling::compile;
 use crate::fitting::fitted;
 use crate::longest::may_be_longer;
 use crate::measuring::measure;
+use crate::scratch::Scratch;
 use body_cutter::{Batch, Body};
 use index_spaces::Context;
 use result_cells::{Cells, Put, Reservation, Shortage};
@@ -72,10 +73,10 @@ fn too_long(cells: &Cells) -> Stored
 }
 
 /// Compiles a body whose function has a cell, and stores its code unless that is too long for any text.
-fn make_code(
-    alloc: Global,
+fn make_code<'a>(
+    scratch: &mut Scratch<'a>,
     cells: &Cells,
-    context: &Context,
+    context: &'a Context,
     body: &Body,
 ) -> Result<Made, AllocError>
     requires fits { FitsBody context.now body.now }
@@ -84,13 +85,13 @@ fn make_code(
     ensures { IfOk result (IsMade context.now cells.now body.now) }
 {
     let stored = match compile(
-        alloc,
+        scratch,
         context,
         body.index,
         body.bytes.as_slice(),
         body.first,
     ) {
-        Ok(code) => store(alloc, cells, body.index, code)?,
+        Ok(code) => store(scratch.alloc, cells, body.index, code)?,
         Err(BodyStop::TooLong) => too_long(cells),
         Err(BodyStop::Refused(refusal)) => return Ok(Made::Faulty(refusal)),
         Err(BodyStop::NoMemory) => return Err(AllocError),
@@ -103,10 +104,10 @@ fn make_code(
 
 /// Validates a body, and counts the instruction words of its code. Where they are more than a worker makes, or the function has no cell,
 /// they take room all the same, and else it is compiled.
-fn count_body(
-    alloc: Global,
+fn count_body<'a>(
+    scratch: &mut Scratch<'a>,
     cells: &Cells,
-    context: &Context,
+    context: &'a Context,
     body: &Body,
 ) -> Result<Made, AllocError>
     requires fits { FitsBody context.now body.now }
@@ -114,7 +115,7 @@ fn count_body(
     ensures { IfOk result (IsMade context.now cells.now body.now) }
 {
     let stored = match measure(
-        alloc,
+        scratch,
         context,
         body.index,
         body.bytes.as_slice(),
@@ -122,7 +123,7 @@ fn count_body(
     ) {
         Ok(words) => {
             if body.index < cells.count() && words <= MAX_DRAFT {
-                return make_code(alloc, cells, context, body);
+                return make_code(scratch, cells, context, body);
             }
             let _ = cells.take_room(words);
             Stored::Judged(words)
@@ -139,10 +140,10 @@ fn count_body(
 
 /// Compiles a body, and stores its code unless that is too long for any text; where its function has no cell, or its code is longer than a
 /// worker makes, the code is only counted. Where no room is left for any code, the body is left out.
-fn compile_body(
-    alloc: Global,
+fn compile_body<'a>(
+    scratch: &mut Scratch<'a>,
     cells: &Cells,
-    context: &Context,
+    context: &'a Context,
     body: &Body,
 ) -> Result<Made, AllocError>
     requires fits { FitsBody context.now body.now }
@@ -155,9 +156,9 @@ fn compile_body(
     }
     // Why: docs/DECISIONS.md, "A worker makes no long code"
     if body.index < cells.count() && !may_be_longer(context, body, MAX_DRAFT) {
-        make_code(alloc, cells, context, body)
+        make_code(scratch, cells, context, body)
     } else {
-        count_body(alloc, cells, context, body)
+        count_body(scratch, cells, context, body)
     }
 }
 
@@ -173,8 +174,9 @@ fn compile_bodies(
     ensures { IfOk result (λ made. IsRow context.now cells.now bodies.now made.0.items made.1 made.2) }
 {
     let mut codes = Vec::new(alloc);
+    let mut scratch = Scratch::new(alloc, context);
     for body in bodies.iter() {
-        match compile_body(alloc, cells, context, body)? {
+        match compile_body(&mut scratch, cells, context, body)? {
             Made::Coded(code) => codes.push(code)?,
             Made::Faulty(refusal) => return Ok((codes, Some(refusal), None)),
             Made::Cut(short) => return Ok((codes, None, Some(short))),

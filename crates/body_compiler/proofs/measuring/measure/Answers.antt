@@ -28,11 +28,11 @@ returns-in-Ok c =
     let rows = first_minimum c.args.context.now.tables in
     let f = type_of_function context c.args.index in
     let read = body_read body.counted c.args.offset c.args.bytes.now in
-    let begun = code_begins body.counted context f c.args.offset body.last body.locals c.args.bytes.now body.fields body.check is.last is.declared in
+    let begun = code_begins body.counted context f c.args.offset body.last body.locals c.args.bytes.now body.fields c.open_body.new.check is.last is.declared in
     let own = c.measure_code.ensures (body_context context f read.groups) read.code begun.going begun.none (length-reverse f.results ∙ ap (λ (t : FuncType). length t.results) (sym is.function)) rows c.args.offset in
     let sizes = subst (λ (t : FuncType). Sizes rows c.args.offset (body_context context f read.groups) read.code (record { params = length t.params; locals = body.locals; greatest = 0 }) (length t.results) c.measure_code.result) is.function own in
     subst (λ (b : Bool). Measures rows c.args.offset context c.args.index (body_read b c.args.offset c.args.bytes.now) c.measure_code.result) is.counts
-    (measured body.counted rows context c.args.index c.args.offset body.locals c.args.bytes.now c.measure_code.result (groups_are body.counted context f c.args.offset body.locals c.args.bytes.now body.fields body.check is.declared) sizes)
+    (measured body.counted rows context c.args.index c.args.offset body.locals c.args.bytes.now c.measure_code.result (groups_are body.counted context f c.args.offset body.locals c.args.bytes.now body.fields c.open_body.new.check is.declared) sizes)
 
 pub returns-in-Err : goal.returns-in-Err
 returns-in-Err c = c.in-Err.ensures.stops (first_minimum c.args.context.now.tables)

@@ -27,19 +27,19 @@ returns-in-Ok-count_code c = λ c' code g none same rows first.
     let slots : Layout = record { params = length c.args.body.function.now.params; locals = c.args.body.locals; greatest = 0 } in
     let n = word_count c.in-Ok.counter.takes.items c.in-Ok.counter.words in
     let is = begins c.in-Ok.counter.takes.items c.in-Ok.counter.words (length c.as_slice.result.now) front (length c'.results) c.in-Ok.ensures.0 c.in-Ok.ensures.1 (results ∙ sym same) in
-    let k = started c.args.body.counted c' c.args.body.last c.args.body.fields c.args.body.check code front n g none is in
+    let k = started c.args.body.counted c' c.args.body.last c.args.body.fields c.args.scratch.now.check code front n g none is in
     let frame : (l : Layout) → l.locals ≡ slots.locals → front ≡ length (prologue l) + length (epilogue l (length c.args.body.function.now.results)) = λ l e.
     c.frame_words.ensures l e ∙ ap (λ (m : ℕ). length (prologue l) + length (epilogue l m)) results in
     rw (sym c.from.ensures) at (counted_size rows first c' code slots (length c.args.body.function.now.results) front frame c.count_code.new.counter.words (c.in-Ok-count_code.ensures c' code front k))
 
-pub returns : goal.returns
-returns c = λ c' code g none same rows first.
+pub returns-in-Err : goal.returns-in-Err
+returns-in-Err c = λ c' code g none same rows first.
     let results = ap (λ (l : List ValType). length l) c.as_slice.ensures in
     let front = c.frame_words.result in
     let slots : Layout = record { params = length c.args.body.function.now.params; locals = c.args.body.locals; greatest = 0 } in
     let n = word_count c.in-Ok.counter.takes.items c.in-Ok.counter.words in
     let is = begins c.in-Ok.counter.takes.items c.in-Ok.counter.words (length c.as_slice.result.now) front (length c'.results) c.in-Ok.ensures.0 c.in-Ok.ensures.1 (results ∙ sym same) in
-    let k = started c.args.body.counted c' c.args.body.last c.args.body.fields c.args.body.check code front n g none is in
+    let k = started c.args.body.counted c' c.args.body.last c.args.body.fields c.args.scratch.now.check code front n g none is in
     let frame : (l : Layout) → l.locals ≡ slots.locals → front ≡ length (prologue l) + length (epilogue l (length c.args.body.function.now.results)) = λ l e.
     c.frame_words.ensures l e ∙ ap (λ (m : ℕ). length (prologue l) + length (epilogue l m)) results in
     uncounted_size rows first c' code slots (length c.args.body.function.now.results) front frame c.count_code.new.counter.words c.in-Err.stop (c.in-Err.ensures c' code front k)

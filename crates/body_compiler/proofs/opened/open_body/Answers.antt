@@ -15,7 +15,7 @@ returns-in-Ok-declare_locals-clause-opened c =
     let context = context_in c.args.context.now in
     let f = type_of_function context c.args.index in
     let type : f ≡ c.type_of_function.result.now = ap type_or_empty c.type_of_function.ensures in
-    let declared = rw c.new-fields.ensures at (c.in-Ok-declare_locals.ensures.groups context f c.in-Ok.ensures) in
+    let declared = rw c.new-fields.ensures at (c.in-Ok-declare_locals.ensures.groups context f c.in-Ok.ensures.ok) in
     record {
       counts = c.is_some.ensures ∙ ap is_some c.data_count.ensures;
       function = sym type;
@@ -27,11 +27,11 @@ returns-in-Ok-declare_locals-clause-opened c =
       last = omega (arith, c.saturating_sub.ensures);
     }
 
-pub returns-clause-stops : goal.returns-clause-stops
-returns-clause-stops c = λ rows.
+pub returns-in-Err-declare_locals-clause-stops : goal.returns-in-Err-declare_locals-clause-stops
+returns-in-Err-declare_locals-clause-stops c = λ rows.
     let context = context_in c.args.context.now in
     let f = type_of_function context c.args.index in
     let last = c.args.offset + c.saturating_sub.result in
     let same : last ≡ last_of c.args.offset c.args.bytes.now = omega (arith, c.saturating_sub.ensures) in
-    let declared = rw c.new-fields.ensures at (c.in-Err.ensures.groups context f c.in-Ok.ensures) in
-    rw c.stop_of.ensures (locals_stop (is_some c.args.context.now.data_count) rows context c.args.index c.args.offset last c.args.bytes.now c.declare_locals.new.fields c.declare_locals.new.check c.in-Err.stop same declared)
+    let declared = rw c.new-fields.ensures at (c.in-Err-declare_locals.ensures.groups context f c.in-Ok.ensures.ok) in
+    rw c.stop_of.ensures (locals_stop (is_some c.args.context.now.data_count) rows context c.args.index c.args.offset last c.args.bytes.now c.declare_locals.new.fields c.declare_locals.new.check c.in-Err-declare_locals.stop same declared)
