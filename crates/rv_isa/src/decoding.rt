@@ -2,7 +2,7 @@
 ghost use Rattle.std.specs.Prelude.{◌≡◌, ◌↔◌, ◌^◌, ◌<◌, ◌+◌, IsNone};
 ghost use Rattle.rv_isa.specs.declared.operations.Op.{Op};
 ghost use Rattle.rv_isa.specs.Words.{field, rd, rs1, rs2, funct3, r_code, shift_code, i_imm, s_imm, b_imm, u_imm, j_imm, jalr_of, branch_of, load_of, store_of};
-ghost use Rattle.rv_isa.specs.Words.{shift_of, imm_of, imm_w_of, reg_of, reg_w_of, fence_of, system_of, with_opcode, decoded, Encodes};
+ghost use Rattle.rv_isa.specs.Words.{funct, shift_op, shift_w_op, reg_op, reg_w_op, shift_of, imm_of, imm_w_of, reg_of, reg_w_of, fence_of, system_of, with_opcode, decoded, Encodes};
 
 use crate::fields::{Imm12, Imm20, Register, Shamt5, Shamt6};
 use crate::operations::{BranchOp, ImmOp, LoadOp, Op, RegOp, RegOpW, ShiftOp, ShiftOpW, StoreOp};
@@ -10,7 +10,7 @@ use crate::table::{ADDIW_FUNCT3, EBREAK, ECALL, FENCE_FUNCT3, JALR_FUNCT3, Opcod
 
 /// So many bits of an instruction word, from the bit `low` upward.
 #[inline(always)]
-fn field(word: u32, low: u32, width: u32) -> u32
+pub fn field(word: u32, low: u32, width: u32) -> u32
     requires low_is_a_bit { low < 32 }
     requires width_fits { width < 32 }
     ensures value { result ≡ field word low width }
@@ -19,22 +19,25 @@ fn field(word: u32, low: u32, width: u32) -> u32
     (word >> low) & ((1 << width) - 1)
 }
 
+/// The field rd.
 #[inline(always)]
-fn rd(word: u32) -> Register
+pub fn rd(word: u32) -> Register
     ensures { result ≡ rd word }
 {
     Register::new(field(word, 7, 5) as u8)
 }
 
+/// The field rs1.
 #[inline(always)]
-fn rs1(word: u32) -> Register
+pub fn rs1(word: u32) -> Register
     ensures { result ≡ rs1 word }
 {
     Register::new(field(word, 15, 5) as u8)
 }
 
+/// The field rs2.
 #[inline(always)]
-fn rs2(word: u32) -> Register
+pub fn rs2(word: u32) -> Register
     ensures { result ≡ rs2 word }
 {
     Register::new(field(word, 20, 5) as u8)
@@ -42,7 +45,8 @@ fn rs2(word: u32) -> Register
 
 #[inline(always)]
 fn funct3(word: u32) -> u32
-    ensures { result ≡ funct3 word }
+    ensures value { result ≡ funct3 word }
+    ensures small { result < 2 ^ 3 }
 {
     field(word, 12, 3)
 }
@@ -70,15 +74,17 @@ fn i_imm(word: u32) -> Imm12
     Imm12::new(field(word, 20, 12) as u16)
 }
 
+/// The immediate of the S format.
 #[inline(always)]
-fn s_imm(word: u32) -> Imm12
+pub fn s_imm(word: u32) -> Imm12
     ensures { result ≡ s_imm word }
 {
     Imm12::new((field(word, 25, 7) * 0x20 + field(word, 7, 5)) as u16)
 }
 
+/// The immediate of the B format.
 #[inline(always)]
-fn b_imm(word: u32) -> Imm12
+pub fn b_imm(word: u32) -> Imm12
     ensures { result ≡ b_imm word }
 {
     let sign = field(word, 31, 1) * 0x800;
@@ -87,15 +93,17 @@ fn b_imm(word: u32) -> Imm12
     )
 }
 
+/// The immediate of the U format.
 #[inline(always)]
-fn u_imm(word: u32) -> Imm20
+pub fn u_imm(word: u32) -> Imm20
     ensures { result ≡ u_imm word }
 {
     Imm20::new(field(word, 12, 20))
 }
 
+/// The immediate of the J format.
 #[inline(always)]
-fn j_imm(word: u32) -> Imm20
+pub fn j_imm(word: u32) -> Imm20
     ensures { result ≡ j_imm word }
 {
     let sign = field(word, 31, 1) * 0x8_0000;
@@ -156,16 +164,65 @@ fn store_of(word: u32) -> Option<Op>
     })
 }
 
+/// The amount of a shift of 64 bits.
+#[inline(always)]
+pub fn shamt6(word: u32) -> Shamt6
+    ensures { result ≡ field word 20 6 }
+{
+    Shamt6::new(field(word, 20, 6) as u8)
+}
+
+/// The amount of a shift of 32 bits.
+#[inline(always)]
+pub fn shamt5(word: u32) -> Shamt5
+    ensures { result ≡ rs2 word }
+{
+    Shamt5::new(field(word, 20, 5) as u8)
+}
+
+/// Which shift of 64 bits a word of OP-IMM is.
+#[inline(always)]
+pub fn shift_op(word: u32) -> Option<ShiftOp>
+    ensures { result ≡ shift_op (shift_code word) }
+{
+    ShiftOp::with_funct(shift_code(word))
+}
+
+/// Which shift of 32 bits a word of OP-IMM-32 is.
+#[inline(always)]
+pub fn shift_w_op(word: u32) -> Option<ShiftOpW>
+    ensures { result ≡ shift_w_op (r_code word) }
+{
+    ShiftOpW::with_funct(r_code(word))
+}
+
+/// Which operation of OP a word with this funct3 is.
+#[inline(always)]
+pub fn reg_op(word: u32, funct3: u32) -> Option<RegOp>
+    requires { funct3 < 2 ^ 3 }
+    ensures { result ≡ reg_op (funct (field word 25 7) funct3) }
+{
+    RegOp::with_funct(field(word, 25, 7) * 8 + funct3)
+}
+
+/// Which operation of OP-32 a word is.
+#[inline(always)]
+pub fn reg_w_op(word: u32) -> Option<RegOpW>
+    ensures { result ≡ reg_w_op (r_code word) }
+{
+    RegOpW::with_funct(r_code(word))
+}
+
 #[inline(always)]
 fn shift_of(word: u32) -> Option<Op>
     ensures { result ≡ shift_of word }
 {
-    let op = ShiftOp::with_funct(shift_code(word))?;
+    let op = shift_op(word)?;
     Some(Op::Shift {
         op,
         rd: rd(word),
         rs1: rs1(word),
-        amount: Shamt6::new(field(word, 20, 6) as u8),
+        amount: shamt6(word),
     })
 }
 
@@ -195,12 +252,12 @@ fn imm_w_of(word: u32) -> Option<Op>
             imm: i_imm(word),
         });
     }
-    let op = ShiftOpW::with_funct(r_code(word))?;
+    let op = shift_w_op(word)?;
     Some(Op::ShiftW {
         op,
         rd: rd(word),
         rs1: rs1(word),
-        amount: Shamt5::new(field(word, 20, 5) as u8),
+        amount: shamt5(word),
     })
 }
 
@@ -208,7 +265,7 @@ fn imm_w_of(word: u32) -> Option<Op>
 fn reg_of(word: u32) -> Option<Op>
     ensures { result ≡ reg_of word }
 {
-    let op = RegOp::with_funct(r_code(word))?;
+    let op = reg_op(word, funct3(word))?;
     Some(Op::Reg {
         op,
         rd: rd(word),
@@ -221,7 +278,7 @@ fn reg_of(word: u32) -> Option<Op>
 fn reg_w_of(word: u32) -> Option<Op>
     ensures { result ≡ reg_w_of word }
 {
-    let op = RegOpW::with_funct(r_code(word))?;
+    let op = reg_w_op(word)?;
     Some(Op::RegW {
         op,
         rd: rd(word),

@@ -10,7 +10,7 @@
 
 mod buffer;
 mod compiled;
-mod decoding;
+pub mod decoding;
 mod encoding;
 mod fields;
 pub mod laws;
