@@ -11,9 +11,13 @@ use std::marker::Model;
 /// Where a code ends among the instruction words, the calls and the traps of all codes, and how many slots of the stack it needs.
 #[derive(Clone, Copy, Debug, PartialEq, Eq)]
 pub struct CodeEnd {
+    /// The number of instruction words up to the code's end, those before the first code among them.
     pub words: usize,
+    /// The number of calls up to there.
     pub calls: usize,
+    /// The number of traps up to there.
     pub sites: usize,
+    /// The slots of the stack that the code needs, of 8 bytes each.
     pub need: u32,
 }
 
@@ -51,17 +55,22 @@ impl Model for CodeList {
 /// The instruction words of a code, and its traps.
 #[derive(Clone, Copy)]
 pub struct CodeView<'a> {
+    /// Its instruction words, in which calls have no distance yet.
     pub words: &'a [u32],
+    /// Its traps, in the order of their instruction words; indices count from the code's first word.
     pub traps: &'a [TrapSite],
 }
 
 /// Codes as their parts: the instruction words and the calls of all of them, and where each ends.
 #[derive(Drop)]
 pub struct CodeParts {
+    /// The instruction words of all codes, behind those that are no code's.
     pub text: Vec<u32>,
+    /// The calls of all codes, in order; their indices count from the first word of the code that each is in.
     pub calls: Vec<Relocation>,
     /// Where the first code begins.
     pub begin: CodeEnd,
+    /// Where each code ends, in order.
     pub ends: Vec<CodeEnd>,
 }
 
