@@ -6,3 +6,4 @@ pub mod Codes
 pub mod Whole
 pub mod Linking
 pub mod Signatures
+pub mod TextLimits

@@ -17,10 +17,10 @@ use std::alloc::{AllocError, Global};
 use table_calls::emit_import_stub;
 
 /// Instruction words of the exit stub.
-pub(crate) const EXIT_WORDS: u32 = 2;
+const EXIT_WORDS: u32 = 2;
 
 /// Instruction words of an import's stub.
-pub(crate) const STUB_WORDS: u32 = 18;
+const STUB_WORDS: u32 = 18;
 
 /// The exit stub: a7 becomes 0, and the environment is called.
 fn exit_stub() -> [u32; 2]
@@ -37,19 +37,26 @@ fn exit_stub() -> [u32; 2]
     ]
 }
 
-/// The number of instruction words before the functions' codes, where so many functions are imported.
+/// How many instruction words a text has before the codes, where so many functions are imported: the exit stub, and a stub for each.
+pub(crate) fn stub_words(imported: u64) -> u128
+    ensures { result ≡ front_of imported }
+{
+    u128::from(EXIT_WORDS) + u128::from(STUB_WORDS) * u128::from(imported)
+}
+
+/// The same number, where an index has room for it.
 pub(crate) fn front_of(imported: usize) -> u32
     requires { front_of imported < 2 ^ 32 }
     ensures { result ≡ front_of imported }
 {
-    EXIT_WORDS + STUB_WORDS * imported as u32
+    stub_words(imported as u64) as u32
 }
 
 /// How many instruction words a text has before the codes, where so many functions are imported: the exit stub, and a stub for each.
 pub fn words_before(imported: u32) -> usize
     ensures { result ≡ front_of imported }
 {
-    EXIT_WORDS as usize + STUB_WORDS as usize * imported as usize
+    stub_words(u64::from(imported)) as usize
 }
 
 /// The indices of so many stubs, in instruction words.

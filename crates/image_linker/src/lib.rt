@@ -14,5 +14,5 @@ mod tables;
 mod trap_places;
 
 pub use imports::words_before;
-pub use limit::passes_limit;
+pub use limit::{passes_limit, text_limit};
 pub use linking::link;
